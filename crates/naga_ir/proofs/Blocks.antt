@@ -1,5 +1,5 @@
 -- Blocks made of lists of statements.
-use Rattle.std.proofs.Common.{◌≡◌, ℕ, List, [], ◌∷◌, ◌++◌, length, refl, ap, arith, nat_eq, rules}
+use Rattle.std.proofs.Common.{◌≡◌, List, [], ◌∷◌, ◌++◌, length, refl, ap, arith, nat_eq, rules}
 use Rattle.naga_ir.specs.declared.statement.Statement.{Statement}
 use Rattle.naga_ir.specs.StatementTree.{statement, with_statement, statement_count, has_no_statements}
 use Rattle.naga_ir.specs.StatementViews.{tree_of, block_of}

@@ -1,5 +1,5 @@
 -- A tree of numbers for each block, from which the block can be told.
-use Rattle.std.specs.Prelude.{◌≡◌, ℕ, List, Option, Bool, refl}
+use Rattle.std.specs.Prelude.{◌≡◌, ℕ, Option, Bool, refl}
 use Rattle.std.proofs.Common.{ap}
 use Rattle.std.specs.Coded.{Coded, codes}
 use base.Stored.{Gv, gnil, gnum, gcons, num}
