@@ -2,3 +2,4 @@ pub mod StatementTree
 pub mod StatementCode
 pub mod StatementViews
 pub mod StatementSizes
+pub mod Empty

@@ -2,12 +2,9 @@
 
 ghost use Rattle.std.specs.Prelude.{◌≡◌, ℕ, ◌<◌, ◌==◌, List, [], ◌∷◌, ◌++◌, length, drop, OnErr, IfOk, slice_get, Some};
 ghost use Rattle.std.specs.Iterator.{YieldsFirstBy, item_count};
-ghost use Rattle.std.specs.List.{enumerate_from, position_or_len};
-ghost use Rattle.indexmap.specs.IndexSet.{insert_key};
+ghost use Rattle.std.specs.List.{enumerate_from};
 
-use indexmap::IndexSet;
 use std::alloc::{AllocError, Global};
-use std::hash::Hash;
 use std::marker::{Model, PhantomData};
 use std::ops::Index;
 
@@ -18,7 +15,7 @@ pub trait Item {
     type Mark;
 }
 
-/// The place of an item in an [`Arena<T>`] or a [`UniqueArena<T>`], counted from zero.
+/// The place of an item in an [`Arena<T>`] or a [`UniqueArena<T>`](crate::UniqueArena), counted from zero.
 pub type Handle<T> = Place<<T as Item>::Mark>;
 
 /// What [`Handle`] stands for: an index, with the mark of the items that it is an index of.
@@ -110,10 +107,7 @@ impl<T: Item + Drop> Arena<T> {
     pub fn iter(&self) -> Iter<'_, T>
         ensures { result ≡ enumerate_from 0 self.now }
     {
-        Iter {
-            items: &self.items,
-            index: 0,
-        }
+        Iter::new(&self.items)
     }
 }
 
@@ -129,76 +123,6 @@ impl<T: Item> Index<Handle<T>> for Arena<T> {
     }
 }
 
-/// A list of distinct items, found by their handles.
-#[derive(Debug, Drop)]
-pub struct UniqueArena<T: Eq + Hash> {
-    items: IndexSet<T>,
-}
-
-impl<T: Eq + Hash> Model for UniqueArena<T> {
-    ghost Value = { List T };
-
-    ghost view = { λ a. a.items.keys };
-}
-
-impl<T: Item + Eq + Hash + Drop> UniqueArena<T> {
-    /// An arena without items. It takes no memory.
-    pub fn new(alloc: Global) -> Self
-        ensures { result ≡ [] }
-    {
-        UniqueArena {
-            items: IndexSet::new(alloc),
-        }
-    }
-
-    /// How many items there are.
-    pub fn len(&self) -> usize
-        ensures { result ≡ length self.now }
-    {
-        self.items.len()
-    }
-
-    /// Whether there are no items.
-    pub fn is_empty(&self) -> bool
-        ensures { result ≡ (length self.now == 0) }
-    {
-        self.items.is_empty()
-    }
-
-    /// The handle of the item that equals `item`; where there is none, `item` is added at the end.
-    /// Where memory is refused, the arena stays as it was and the item is dropped.
-    pub fn insert(&mut self, item: T) -> Result<Handle<T>, AllocError>
-        ensures handle { IfOk result (λ h. h ≡ position_or_len (T.eq item) self.old) }
-        ensures items { IfOk result (λ _. self.new ≡ insert_key T.eq self.old item) }
-        ensures err { OnErr result (self.new ≡ self.old) }
-    {
-        let (index, _) = self.items.insert_full(item)?;
-        Ok(Place::from_index(index))
-    }
-
-    /// The handles with their items, in order.
-    pub fn iter(&self) -> Iter<'_, T>
-        ensures { result ≡ enumerate_from 0 self.now }
-    {
-        Iter {
-            items: self.items.as_slice(),
-            index: 0,
-        }
-    }
-}
-
-impl<T: Item + Eq + Hash> Index<Handle<T>> for UniqueArena<T> {
-    type Output = T;
-
-    ghost can_index = { λ a h. h < length a };
-
-    ghost index_gives = { λ a h x. slice_get a h ≡ Some x };
-
-    fn index(&self, handle: Handle<T>) -> &T {
-        &self.items.as_slice()[handle.index]
-    }
-}
-
 /// The handles of an arena's items, each with its item, in order.
 #[derive(Drop)]
 pub struct Iter<'a, T> {
@@ -210,6 +134,14 @@ impl<'a, T> Model for Iter<'a, T> {
     ghost Value = { List (ℕ × T) };
 
     ghost view = { λ s. enumerate_from s.index (drop s.index s.items.now) };
+}
+
+impl<'a, T> Iter<'a, T> {
+    pub(crate) fn new(items: &'a [T]) -> Self
+        ensures { result ≡ enumerate_from 0 items.now }
+    {
+        Iter { items, index: 0 }
+    }
 }
 
 impl<'a, T: Item> Iterator for Iter<'a, T> {

@@ -20,8 +20,9 @@ pub mod module;
 pub mod operators;
 pub mod statement;
 pub mod types;
+pub mod unique_arena;
 
-pub use arena::{Arena, Handle, Item, Place, UniqueArena};
+pub use arena::{Arena, Handle, Item, Place};
 pub use binding::{Binding, BuiltIn, Interpolation, ResourceBinding, Sampling};
 pub use diagnostics::{FilterableTriggeringRule, Severity, StandardFilterableTriggeringRule};
 pub use expression::{

@@ -1,11 +1,12 @@
 //! Modules: what a shader declares.
 
-use crate::arena::{Arena, Handle, Item, UniqueArena};
+use crate::arena::{Arena, Handle, Item};
 use crate::binding::{Binding, ResourceBinding};
 use crate::expression::Expression;
 use crate::flags::MemoryDecorations;
 use crate::statement::Block;
 use crate::types::{AddressSpace, PredeclaredType, Type_};
+use crate::unique_arena::UniqueArena;
 use indexmap::IndexMap;
 use std::alloc::Global;
 
@@ -138,9 +139,13 @@ pub struct Function {
 }
 
 impl Function {
+    ghost use Rattle.naga_ir.specs.Empty.{IsEmptyFunction};
+
     /// A function without a name, arguments, a result, variables, expressions or statements. It
     /// takes no memory.
-    pub fn new(alloc: Global) -> Self {
+    pub fn new(alloc: Global) -> Self
+        ensures { IsEmptyFunction result }
+    {
         Function {
             name: None,
             arguments: Vec::new(alloc),
@@ -235,8 +240,12 @@ pub struct Module {
 }
 
 impl Module {
+    ghost use Rattle.naga_ir.specs.Empty.{IsEmptyModule};
+
     /// The empty module. It takes no memory.
-    pub fn new(alloc: Global) -> Self {
+    pub fn new(alloc: Global) -> Self
+        ensures { IsEmptyModule result }
+    {
         Module {
             types: UniqueArena::new(alloc),
             special_types: SpecialTypes {
