@@ -43,3 +43,4 @@ pub use types::{
     AddressSpace, ArraySize, CooperativeRole, CooperativeSize, PredeclaredType, Scalar, ScalarKind,
     StructMember, Type_, TypeInner, VectorSize,
 };
+pub use unique_arena::UniqueArena;
