@@ -5,11 +5,11 @@
 
 pub mod error;
 pub mod flags;
-// pub mod function;
+pub mod function;
 pub mod literal;
 pub mod part;
 
 pub use error::Error;
 pub use flags::WriterFlags;
-// pub use function::write_function;
+pub use function::write_function;
 pub use part::is_written_so_far;

@@ -12,3 +12,4 @@ mod writer;
 
 pub use naga_info as info;
 pub use naga_ir as ir;
+pub use naga_names::{keyword_set, keywords, namer};

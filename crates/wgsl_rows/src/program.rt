@@ -2,11 +2,15 @@
 
 use crate::rows::Row;
 use crate::sample::Sample;
+use bitflags::Flags;
 use naga_wgsl_out::info::{accepts, count};
 use naga_wgsl_out::wgsl::{WriterFlags, write_string};
 use std::alloc::Global;
 use std::fmt::Display;
 use std::io::Write;
+
+#[cfg(test)]
+mod tests;
 
 /// Prints the text of the row that `words` name to `out`, and gives the status: 0, or 1 for a
 /// module that is refused, with the reason on `err`, or 2 for words that name no row. It compares
@@ -26,7 +30,7 @@ pub fn run<O: Write, E: Write>(alloc: Global, words: &[String], out: &mut O, err
 /// The row and the flags that the words name.
 fn request(words: &[String]) -> Option<(Row, WriterFlags)> {
     match words {
-        [row] => Some((Row::from_name(row.as_str())?, WriterFlags::from_bits_retain(0))),
+        [row] => Some((Row::from_name(row.as_str())?, WriterFlags::empty())),
         [row, second] => {
             if second.as_str() != "explicit" {
                 return None;
