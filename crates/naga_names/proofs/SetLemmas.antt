@@ -1,5 +1,5 @@
 -- A hash set of keys that are read as texts, seen as the finite set of those texts.
-use Rattle.std.proofs.Common.{◌≡◌, ℕ, Bool, true, false, not, ◌&&◌, ◌||◌, List, [], ◌∷◌, ◌++◌, map, refl, sym, ap, ◌∙◌, subst}
+use Rattle.std.proofs.Common.{◌≡◌, ℕ, Bool, true, false, not, ◌&&◌, ◌||◌, List, [], ◌∷◌, ◌++◌, map, length, take, get_or, ◌+◌, ◌<◌, refl, sym, ap, ◌∙◌}
 use Rattle.std.specs.FinSet as set
 use Rattle.std.specs.Bool.{MatchBool}
 use Rattle.std.specs.Cmp.{both_ways}
@@ -9,6 +9,7 @@ use Rattle.std.specs.List.Sorted.{IsPermutation}
 use Rattle.std.specs.Ordering.{nat_cmp, eq_by_cmp}
 use Rattle.std.specs.Str.{bytes_eq}
 use Rattle.std.proofs.lemmas.List.Sorted.{list_any-IsPermutation}
+use Rattle.std.proofs.lemmas.List.{take_more}
 use Rattle.std.proofs.lemmas.Map.Text.{is_eq-slice_cmp}
 use Rattle.naga_names.specs.Words.{Words, same_words, same_words_itself, equal_from_same_words, alike_words}
 
@@ -140,3 +141,8 @@ union-insert s t word = alike_words (set.insert (set.union s t) word) (set.union
 pub union-push : {K : Type 0} (read : K → List ℕ) (old before after : Words) (ks : List K) (k : K) → before ≡ set.union old (texts_of read ks) → after ≡ set.insert before (read k) → after ≡ set.union old (texts_of read (ks ++ k ∷ []))
 union-push read old before after ks k so_far is =
     is ∙ ap (λ s. set.insert s (read k)) so_far ∙ union-insert old (texts_of read ks) (read k) ∙ ap (set.union old) (sym (texts_of-push read ks k))
+
+-- what the set holds after one more word of a slice
+pub texts_of-take : {K : Type 0} (read : K → List ℕ) (before after : Words) (ks : List K) (i : ℕ) (d : K) → i < length ks → before ≡ texts_of read (take i ks) → after ≡ set.insert before (read (get_or ks i d)) → after ≡ texts_of read (take (i + 1) ks)
+texts_of-take read before after ks i d lt so_far is =
+    is ∙ ap (λ s. set.insert s (read (get_or ks i d))) so_far ∙ sym (ap (texts_of read) (take_more ks i d lt) ∙ texts_of-push read (take i ks) (get_or ks i d))
