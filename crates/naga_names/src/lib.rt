@@ -5,3 +5,4 @@
 #![tactic(auto)]
 
 pub mod keyword_set;
+pub mod keywords;
