@@ -1,2 +1,3 @@
+mod Examples
 pub mod Plains
 pub mod SetLemmas

@@ -1,2 +1,3 @@
+pub mod Label
 pub mod Plain
 pub mod Words
