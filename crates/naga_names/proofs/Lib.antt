@@ -1,3 +1,4 @@
 mod Examples
 pub mod Plains
 pub mod SetLemmas
+pub mod Spellings

@@ -30,9 +30,13 @@ is_foreign c = not (is_mark c) && not (is_identifier_char c)
 unfoldable pub hexadecimal : ℕ → List ℕ
 hexadecimal n = replicate (4 - length (digits 16 false n)) 48 ++ digits 16 false n
 
+-- a foreign character by its number
+abbrev pub by_number : ℕ → List ℕ
+by_number c = codes "u" ++ hexadecimal c ++ codes "_"
+
 -- a mark is spelled `_`, a foreign character `_uXXXX_` by its number, and any other one as it is
 abbrev pub spelled : ℕ → List ℕ
-spelled c = if is_mark c then codes "_" else (if is_identifier_char c then c ∷ [] else codes "_u" ++ hexadecimal c ++ codes "_")
+spelled c = if is_mark c then codes "_" else (if is_identifier_char c then c ∷ [] else codes "_" ++ by_number c)
 
 -- the text begins with a `_`
 abbrev pub begins_separated : List ℕ → Bool
@@ -54,10 +58,25 @@ spelling characters =
     let text = squeezed (flat_map spelled characters) in
     if begins_foreign characters then drop 1 text else text
 
+-- the text ends in a `_`
+abbrev pub ends_separated : List ℕ → Bool
+ends_separated [] = false
+ends_separated (c ∷ []) = c == 95
+ends_separated (c ∷ d ∷ cs) = ends_separated (d ∷ cs)
+
+-- the text with a `_` at its end
+abbrev pub with_separator : List ℕ → List ℕ
+with_separator text = if ends_separated text then text else text ++ codes "_"
+
+-- the character and then the rest, but nothing for a `_` with no rest
+abbrev pub kept_before : ℕ → List ℕ → List ℕ
+kept_before c [] = if c == 95 then [] else c ∷ []
+kept_before c (d ∷ rest) = c ∷ d ∷ rest
+
 -- the text without the `_` at its end
 abbrev pub without_last_separators : List ℕ → List ℕ
 without_last_separators [] = []
-without_last_separators (c ∷ cs) = let rest = without_last_separators cs in if c == 95 && length rest == 0 then [] else c ∷ rest
+without_last_separators (c ∷ cs) = kept_before c (without_last_separators cs)
 
 -- an empty text is named `unnamed`
 abbrev pub or_unnamed : List ℕ → List ℕ

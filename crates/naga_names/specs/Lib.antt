@@ -1,3 +1,5 @@
 pub mod Label
+pub mod Naming
 pub mod Plain
+pub mod Refusal
 pub mod Words

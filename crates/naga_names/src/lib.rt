@@ -6,3 +6,4 @@
 
 pub mod keyword_set;
 pub mod keywords;
+pub mod namer;
