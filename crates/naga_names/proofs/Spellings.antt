@@ -1,9 +1,9 @@
 -- How a spelling grows at its end, one character after another.
-use Rattle.std.proofs.Common.{◌≡◌, ℕ, ◌+◌, ◌-◌, ◌<◌, Bool, true, false, not, ◌&&◌, ◌||◌, ◌==◌, cond, List, [], ◌∷◌, ◌++◌, length, get_or, drop, take, codes, refl, sym, ap, subst, ◌∙◌, arith, one-add, zero, suc, replicate, ◌/◌, ◌%◌, ◌^◌, append_assoc, append-nil}
+use Rattle.std.proofs.Common.{◌≡◌, ℕ, ◌+◌, ◌-◌, ◌<◌, Bool, true, false, not, ◌&&◌, ◌||◌, ◌==◌, cond, List, [], ◌∷◌, ◌++◌, length, get_or, drop, take, codes, refl, sym, ap, subst, ◌∙◌, arith, length-append, one-add, add-one, drop-cons, map, Bor, zero, suc, replicate, ◌/◌, ◌%◌, ◌^◌, append_assoc, append-nil}
 use Rattle.std.specs.Result.{is_ok, OnOk}
 use Rattle.std.specs.declared.result.Result.{Result}
 use Rattle.std.specs.declared.result.Result.TheVariants.{Ok, Err}
-use Rattle.std.specs.List.{flat_map, list_all, prefix_len}
+use Rattle.std.specs.List.{flat_map, list_all, list_any, prefix_len}
 use Rattle.std.specs.Fmt.{digits, digits_onto, digit_glyph, padded_integral, format_spec, char_count, digits_output, styled_digits_output, AppendsText, ◌++?◌}
 use Rattle.std.specs.Option.{option_map}
 use Rattle.std.specs.declared.option.Option.TheVariants.{Some}
@@ -294,3 +294,29 @@ number_written r old new c d s number options written =
 pub nothing_there : (text : List ℕ) → length text ≡ 0 → text ≡ []
 nothing_there [] e = refl
 nothing_there (c ∷ text) e = absurd (omega arith)
+
+-- the same of a `push` of an ASCII character
+pub pushed_char : {T E : Type 0} (r : Result T E) (old new encoded : List ℕ) (c : ℕ) → encoded ≡ c ∷ [] → new ≡ cond (is_ok r) (old ++ encoded) old → is_ok r ≡ true → new ≡ old ++ c ∷ []
+pushed_char r old new encoded c one is ok = pushed r old new encoded is ok ∙ ap (λ t. old ++ t) one
+
+pub alphanumeric_is_ascii : (c : ℕ) → is_ascii_alphanumeric c ≡ true → c < 128
+alphanumeric_is_ascii c e = grind (arith, nat_tests)
+
+-- ---- prefixes
+-- what a test says of the prefixes from the one at i on
+pub any_from : (test : List ℕ → Bool) (prefixes : List (Bor (List ℕ))) (i : ℕ) (d : Bor (List ℕ)) → i < length prefixes → list_any test (map (λ p. p.now) (drop i prefixes)) ≡ (test (get_or prefixes i d).now || list_any test (map (λ p. p.now) (drop (i + 1) prefixes)))
+any_from test prefixes i d lt =
+    let split : drop i prefixes ≡ get_or prefixes i d ∷ drop (i + 1) prefixes = rw add-one (drop-cons prefixes i d lt) in
+    ap (λ ps. list_any test (map (λ p. p.now) ps)) split
+
+pub same_items : (xs : List ℕ) → map (λ c. c) xs ≡ xs
+same_items [] = refl
+same_items (x ∷ xs) = ap (λ t. x ∷ t) (same_items xs)
+
+-- what `pop` leaves of a text that ends in `_`
+pub without_last-pop : (text shorter : List ℕ) (n : ℕ) → n ≡ length text → (get_or text (length text - 1) 0 == 95) ≡ true → text ≡ take (length text - 1) text ++ 95 ∷ [] → (0 < n → get_or text (n - 1) 0 < 128 → shorter ≡ take (n - 1) text) → without_last_separators shorter ≡ without_last_separators text
+without_last-pop text shorter n long last split cut =
+    let some : 0 < n = omega (arith, ap length split ∙ length-append (take (length text - 1) text) (95 ∷ [])) in
+    let same : get_or text (n - 1) 0 ≡ 95 = ap (λ m. get_or text (m - 1) 0) long ∙ eqb-true _ 95 last in
+    let front = cut some (omega (arith, same)) ∙ ap (λ m. take (m - 1) text) long in
+    ap without_last_separators front ∙ sym (ap without_last_separators split ∙ without_last-push (take (length text - 1) text))

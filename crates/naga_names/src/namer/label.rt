@@ -3,7 +3,7 @@ ghost use Rattle.std.specs.Prelude.{◌≡◌, ℕ, true, List, ◌∷◌, [], �
 ghost use Rattle.std.specs.List.{list_any, starts_with};
 ghost use Rattle.std.specs.Bool.{nat_eq};
 ghost use Rattle.std.specs.Str.{chars};
-ghost use Rattle.naga_names.specs.Label.{is_numeric, is_mark, is_foreign, by_number, after_numerics, spelling, with_separator, without_last_separators, base_of};
+ghost use Rattle.naga_names.specs.Label.{is_numeric, is_mark, is_foreign, by_number, after_numerics, spelling, with_separator, without_last_separators, or_unnamed, base_of};
 ghost use Rattle.naga_names.specs.Naming.{ends_in_digit};
 
 use std::alloc::{AllocError, Global};
@@ -11,6 +11,7 @@ use std::fmt::Write;
 use ucd_category::{GeneralCategory, GeneralCategoryGroup};
 
 /// The base of the label, where identifiers keep off the prefixes.
+#[tactic(auto, unfolding(crate::specs::Label::base_of))]
 pub fn base(
     alloc: Global,
     prefixes: &[&'static str],
@@ -18,15 +19,23 @@ pub fn base(
 ) -> Result<String, AllocError>
     ensures { IfOk result (λ base. string_bytes base ≡ base_of (map (λ p. p.now) prefixes.now) (chars label.now)) }
 {
-    let mut base = spell(alloc, label)?;
-    drop_last_separators(&mut base);
-    if base.is_empty() {
-        base.push_str("unnamed")?;
-    }
+    let base = finished(spell(alloc, label)?)?;
     if begins_reserved(base.as_str(), prefixes) {
         return format!(in alloc; "gen_{base}");
     }
     Ok(base)
+}
+
+/// The text without the `_` at its end, or `unnamed` where nothing is left of it.
+fn finished(mut text: String) -> Result<String, AllocError>
+    ensures { IfOk result (λ finished. string_bytes finished ≡ or_unnamed (without_last_separators (string_bytes text))) }
+{
+    drop_last_separators(&mut text);
+    if !text.as_str().is_empty() {
+        return Ok(text);
+    }
+    text.push_str("unnamed")?;
+    Ok(text)
 }
 
 /// Whether the text, which isn't empty, ends in an ASCII digit.
@@ -44,7 +53,7 @@ fn spell(alloc: Global, label: &str) -> Result<String, AllocError>
     ensures { IfOk result (λ text. string_bytes text ≡ spelling (after_numerics (chars label.now))) }
 {
     let mut text = String::new(alloc);
-    for c in label.chars().skip_while(|c| is_numeric(*c)) {
+    for c in label.chars().skip_while(is_numeric) {
         push_spelled(&mut text, c)?;
     }
     Ok(text)
@@ -52,10 +61,10 @@ fn spell(alloc: Global, label: &str) -> Result<String, AllocError>
 
 /// Whether the general category is Nd, Nl or No.
 #[tactic(auto, unfolding(crate::specs::Label::is_numeric))]
-fn is_numeric(c: char) -> bool
-    ensures { result ≡ is_numeric c }
+fn is_numeric(c: &char) -> bool
+    ensures { result ≡ is_numeric c.now }
 {
-    GeneralCategoryGroup::Number.contains(GeneralCategory::for_char(c))
+    GeneralCategoryGroup::Number.contains(GeneralCategory::for_char(*c))
 }
 
 /// One more character on a text that spells some.
@@ -83,7 +92,7 @@ fn push_foreign(text: &mut String, c: char) -> Result<(), AllocError>
     requires { is_foreign c ≡ true }
     ensures { OnOk result ((before : List ℕ) → string_bytes text.old ≡ spelling before → string_bytes text.new ≡ spelling (before ++ c ∷ [])) }
 {
-    if text.is_empty() {
+    if text.as_str().is_empty() {
         return push_number(text, c);
     }
     push_separator(text)?;
