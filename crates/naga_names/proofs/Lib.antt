@@ -1,4 +1,5 @@
 mod Examples
+pub mod NamerLemmas
 pub mod Plains
 pub mod SetLemmas
 pub mod Spellings
