@@ -1,0 +1,4 @@
+pub mod StatementTree
+pub mod StatementCode
+pub mod StatementViews
+pub mod StatementSizes
