@@ -49,9 +49,9 @@ pub has_named-push : (names : Names) (earlier : List (List ℕ)) (label : List �
 unfolding with_use
 has_named-push names earlier label has = record {
   uses_are = λ base.
-    ap (λ u. unwrap_or u 0) (map.get-insert nat_list_cmp_total names.uses b (uses_of names.uses b + 1) base ∙ ap (λ t. cond t (Some (uses_of names.uses b + 1)) (map.get names.uses base)) (is_eq-slice_cmp base b ∙ nat_list_eq_equiv.symm base b))
-    ∙ either base (bytes_eq b base) refl
-    ∙ sym (sum_by_push (λ l. cond (bytes_eq (label_base names l) base) 1 0) earlier label);
+      ap (λ u. unwrap_or u 0) (map.get-insert nat_list_cmp_total names.uses b (uses_of names.uses b + 1) base ∙ ap (λ t. cond t (Some (uses_of names.uses b + 1)) (map.get names.uses base)) (is_eq-slice_cmp base b ∙ nat_list_eq_equiv.symm base b))
+      ∙ either base (bytes_eq b base) refl
+      ∙ sym (sum_by_push (λ l. cond (bytes_eq (label_base names l) base) 1 0) earlier label);
 }
   where
     b : List ℕ

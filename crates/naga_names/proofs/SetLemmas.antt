@@ -56,19 +56,19 @@ module _ {K : Type 0} (read : K → List ℕ) where
   texts_of-permuted : (old new : List K) (k : K) → IsPermutation (k ∷ old) new → texts_of read new ≡ set.insert (texts_of read old) (read k)
   texts_of-permuted old new k moved =
       alike_words (texts_of read new) (set.insert (texts_of read old) (read k)) (λ q.
-        contains-texts_of new q
-        ∙ sym (list_any-IsPermutation (λ x. bytes_eq q (read x)) (k ∷ old) new moved)
-        ∙ sym (set.contains-insert nat_list_cmp_total (texts_of read old) (read k) q
-          ∙ ap (λ b. b || set.contains (texts_of read old) q) (is_eq-slice_cmp q (read k))
-          ∙ ap (λ b. bytes_eq q (read k) || b) (contains-texts_of old q)))
+      contains-texts_of new q
+      ∙ sym (list_any-IsPermutation (λ x. bytes_eq q (read x)) (k ∷ old) new moved)
+      ∙ sym (set.contains-insert nat_list_cmp_total (texts_of read old) (read k) q
+      ∙ ap (λ b. b || set.contains (texts_of read old) q) (is_eq-slice_cmp q (read k))
+      ∙ ap (λ b. bytes_eq q (read k) || b) (contains-texts_of old q)))
 
   -- a text that is there already changes nothing
   texts_of-again : (ks : List K) (word : List ℕ) → set.contains (texts_of read ks) word ≡ true → texts_of read ks ≡ set.insert (texts_of read ks) word
   texts_of-again ks word had =
       alike_words (texts_of read ks) (set.insert (texts_of read ks) word) (λ q.
-        sym (set.contains-insert nat_list_cmp_total (texts_of read ks) word q
-          ∙ ap (λ b. b || set.contains (texts_of read ks) q) (is_eq-slice_cmp q word)
-          ∙ either q (bytes_eq q word) refl))
+      sym (set.contains-insert nat_list_cmp_total (texts_of read ks) word q
+      ∙ ap (λ b. b || set.contains (texts_of read ks) q) (is_eq-slice_cmp q word)
+      ∙ either q (bytes_eq q word) refl))
     where
       either : (q : List ℕ) (b : Bool) → bytes_eq q word ≡ b → (b || set.contains (texts_of read ks) q) ≡ set.contains (texts_of read ks) q
       either q true same = sym (ap (set.contains (texts_of read ks)) ((bytes_decides q word).0 same) ∙ had)
@@ -95,17 +95,17 @@ module _ {K : Type 0} (read : K → List ℕ) where
   same_words-texts_of xs ys =
       both_ways _ _
       (λ all. let parts = both_true (list_all (λ k. list_any (λ x. bytes_eq (read k) (read x)) ys) xs) (list_all (λ k. list_any (λ x. bytes_eq (read k) (read x)) xs) ys) all in
-        ap (λ b. b && set.is_subset (texts_of read ys) (texts_of read xs)) (subset xs ys parts.0) ∙ subset ys xs parts.1)
+      ap (λ b. b && set.is_subset (texts_of read ys) (texts_of read xs)) (subset xs ys parts.0) ∙ subset ys xs parts.1)
       (λ same. let equal = equal_from_same_words (texts_of read xs) (texts_of read ys) same in
-        ap (λ b. b && list_all (λ k. list_any (λ x. bytes_eq (read k) (read x)) xs) ys) (every xs ys equal) ∙ every ys xs (sym equal))
+      ap (λ b. b && list_all (λ k. list_any (λ x. bytes_eq (read k) (read x)) xs) ys) (every xs ys equal) ∙ every ys xs (sym equal))
     where
       subset : (xs ys : List K) → list_all (λ k. list_any (λ x. bytes_eq (read k) (read x)) ys) xs ≡ true → set.is_subset (texts_of read xs) (texts_of read ys) ≡ true
       subset xs ys all = set.contains-is_subset nat_list_cmp_total (texts_of read xs) (texts_of read ys) (λ q one.
-        contains-texts_of ys q ∙ member_of_all xs ys q all (sym (contains-texts_of xs q) ∙ one))
+          contains-texts_of ys q ∙ member_of_all xs ys q all (sym (contains-texts_of xs q) ∙ one))
 
       every : (xs ys : List K) → texts_of read xs ≡ texts_of read ys → list_all (λ k. list_any (λ x. bytes_eq (read k) (read x)) ys) xs ≡ true
       every xs ys equal = all_of_keys (λ k x. bytes_eq (read k) (read x)) (λ k. list_any (λ x. bytes_eq (read k) (read x)) ys) (λ k. nat_list_eq_equiv.refl (read k)) xs (λ k one.
-        sym (contains-texts_of ys (read k)) ∙ sym (ap (λ s. set.contains s (read k)) equal) ∙ contains-texts_of xs (read k) ∙ one)
+          sym (contains-texts_of ys (read k)) ∙ sym (ap (λ s. set.contains s (read k)) equal) ∙ contains-texts_of xs (read k) ∙ one)
 
 pub had_before : (added had : Bool) → added ≡ not had → added ≡ false → had ≡ true
 had_before added true is no_more = refl

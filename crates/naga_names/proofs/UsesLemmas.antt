@@ -35,12 +35,12 @@ module _ {Y : Type 0} where
   pub uses_in-insert : {S : Type 0} (key : String Y) (later : ℕ) (old new : HashMap (String Y) ℕ S) → UpdatesBy string_eq (λ k. bytes_eq (string_bytes key) (string_bytes k)) old new (Some later) → uses_in new.entries ≡ finite.insert (uses_in old.entries) (string_bytes key) (later + 1)
   uses_in-insert key later old new updates =
       finite.same_map nat_list_cmp_total (finite.slice_cmp-IsAntisymmetric finite.nat_cmp-IsAntisymmetric) _ _ (λ q.
-        get-uses_in new.entries q
-        ∙ ap (option_map one_more) (hash_map_updates_text (string_bytes key) old new (Some later) updates q)
-        ∙ ap (λ b. option_map one_more (cond b (Some later) (get_by_text old q))) (nat_list_eq_equiv.symm (string_bytes key) q)
-        ∙ either q (bytes_eq q (string_bytes key))
-        ∙ sym (finite.get-insert nat_list_cmp_total (uses_in old.entries) (string_bytes key) (later + 1) q
-          ∙ (λ i. cond (is_eq-slice_cmp q (string_bytes key) i) (Some (later + 1)) (get-uses_in old.entries q i))))
+      get-uses_in new.entries q
+      ∙ ap (option_map one_more) (hash_map_updates_text (string_bytes key) old new (Some later) updates q)
+      ∙ ap (λ b. option_map one_more (cond b (Some later) (get_by_text old q))) (nat_list_eq_equiv.symm (string_bytes key) q)
+      ∙ either q (bytes_eq q (string_bytes key))
+      ∙ sym (finite.get-insert nat_list_cmp_total (uses_in old.entries) (string_bytes key) (later + 1) q
+      ∙ (λ i. cond (is_eq-slice_cmp q (string_bytes key) i) (Some (later + 1)) (get-uses_in old.entries q i))))
     where
       either : (q : List ℕ) (b : Bool) → option_map one_more (cond b (Some later) (get_by_text old q)) ≡ cond b (Some (later + 1)) (option_map one_more (get_by_text old q))
       either q true = refl

@@ -495,5 +495,4 @@ pub const BUILTIN_IDENTIFIERS: &[&str] = &[
 pub fn words_are_plain()
     ensures reserved { All IsPlain (map (λ word. word.now) RESERVED.now) }
     ensures builtin { All IsPlain (map (λ word. word.now) BUILTIN_IDENTIFIERS.now) }
-{
-}
+{}

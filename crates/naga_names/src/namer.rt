@@ -11,6 +11,8 @@ use std::marker::Model;
 use thiserror::Error;
 
 mod label;
+#[cfg(test)]
+mod tests;
 mod uses;
 
 /// The place of an entry point in its module's list.

@@ -12,11 +12,7 @@ use ucd_category::{GeneralCategory, GeneralCategoryGroup};
 
 /// The base of the label, where identifiers keep off the prefixes.
 #[tactic(auto, unfolding(crate::specs::Label::base_of))]
-pub fn base(
-    alloc: Global,
-    prefixes: &[&'static str],
-    label: &str,
-) -> Result<String, AllocError>
+pub fn base(alloc: Global, prefixes: &[&'static str], label: &str) -> Result<String, AllocError>
     ensures { IfOk result (λ base. string_bytes base ≡ base_of (map (λ p. p.now) prefixes.now) (chars label.now)) }
 {
     let base = finished(spell(alloc, label)?)?;

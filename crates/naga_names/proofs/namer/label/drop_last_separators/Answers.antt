@@ -10,7 +10,7 @@ loop-text-preserved c =
     let last = sym (c.ends_with.ensures.byte (lit< tt) (lit< tt) (λ w o h. h)) ∙ c.loop-text-test.true in
     let split = (ends_char 95 text c.ends_with.result c.ends_with.ensures.cases (lit< tt)).0 c.loop-text-test.true in
     without_last-pop (string_bytes c.loop-text.text) (string_bytes c.pop.new.self) (string_len c.loop-text.text) c.loop-text.text.bytes.ok.0
-      (rw c.as_str.ensures.value at last) (rw c.as_str.ensures.value at split) c.pop.ensures.ascii_bytes
+    (rw c.as_str.ensures.value at last) (rw c.as_str.ensures.value at split) c.pop.ensures.ascii_bytes
     ∙ c.loop-text.invariant
 
 pub returns : goal.returns
