@@ -132,7 +132,7 @@ impl Eq for KeywordSet {
 /// Contracts see it as the finite set of its words' bytes, with the ASCII letters in lower case.
 #[derive(Drop)]
 pub struct CaseInsensitiveKeywordSet {
-    words: HashSet<AsciiUniCase<&'static str>>,
+    folded: HashSet<AsciiUniCase<&'static str>>,
 }
 
 impl Model for CaseInsensitiveKeywordSet {
@@ -140,7 +140,7 @@ impl Model for CaseInsensitiveKeywordSet {
 
     ghost coded = { set.code (coded_list coded_ℕ) };
 
-    ghost view = { λ s. set.from_list (map (λ w. lowered w.word.now) s.words.keys) };
+    ghost view = { λ s. set.from_list (map (λ w. lowered w.word.now) s.folded.keys) };
 }
 
 impl CaseInsensitiveKeywordSet {
@@ -149,7 +149,7 @@ impl CaseInsensitiveKeywordSet {
         ensures { result ≡ set.empty }
     {
         Self {
-            words: HashSet::new(alloc),
+            folded: HashSet::new(alloc),
         }
     }
 
@@ -157,7 +157,7 @@ impl CaseInsensitiveKeywordSet {
     pub fn contains(&self, identifier: &str) -> bool
         ensures { result ≡ set.contains self.now (lowered identifier.now) }
     {
-        self.words.contains(&AsciiUniCase { word: identifier })
+        self.folded.contains(&AsciiUniCase { word: identifier })
     }
 
     /// The set of the words that the iterator gives.
@@ -169,20 +169,20 @@ impl CaseInsensitiveKeywordSet {
         requires ends { IsFinite (I.remaining words) }
         ensures { IfOk result (AddsAll I.next_gives lowered words set.empty) }
     {
-        let mut set = Self::new(alloc);
-        set.extend(words)?;
-        Ok(set)
+        let mut caseless = Self::new(alloc);
+        caseless.extend(words)?;
+        Ok(caseless)
     }
 
     /// The set of the words of a slice.
     pub fn from_slice(alloc: Global, words: &[&'static str]) -> Result<Self, AllocError>
         ensures { IfOk result (λ s. s ≡ set.from_list (map (λ w. lowered w.now) words.now)) }
     {
-        let mut set = Self::new(alloc);
-        for word in words {
-            set.insert(word)?;
+        let mut caseless = Self::new(alloc);
+        for keyword in words {
+            caseless.insert(keyword)?;
         }
-        Ok(set)
+        Ok(caseless)
     }
 
     /// Adds the words that the iterator gives. Where memory runs out, the set has got the words of
@@ -196,8 +196,8 @@ impl CaseInsensitiveKeywordSet {
         ensures ok { OnOk result (AddsAll I.next_gives lowered words self.old self.new) }
         ensures err { OnErr result (AddsSome I.next_gives lowered words self.old self.new) }
     {
-        for word in words {
-            self.insert(word)?;
+        for keyword in words {
+            self.insert(keyword)?;
         }
         Ok(())
     }
@@ -206,7 +206,7 @@ impl CaseInsensitiveKeywordSet {
         ensures ok { OnOk result (self.new ≡ set.insert self.old (lowered word.now)) }
         ensures err { OnErr result (self.new ≡ self.old) }
     {
-        self.words.insert(AsciiUniCase { word })?;
+        self.folded.insert(AsciiUniCase { word })?;
         Ok(())
     }
 }
@@ -215,8 +215,8 @@ impl Clone for CaseInsensitiveKeywordSet {
     ghost is_clone = { λ s copy. copy ≡ s };
 
     fn clone(&self) -> Result<Self, AllocError> {
-        let words = self.words.clone()?;
-        Ok(Self { words })
+        let folded = self.folded.clone()?;
+        Ok(Self { folded })
     }
 }
 
@@ -230,7 +230,7 @@ impl PartialEq for CaseInsensitiveKeywordSet {
         ensures value { result ≡ same_words self.now other.now }
         ensures same { IsTrue result ↔ (self.now ≡ other.now) }
     {
-        self.words == other.words
+        self.folded == other.folded
     }
 }
 

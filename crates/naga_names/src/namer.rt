@@ -10,6 +10,9 @@ use std::alloc::{AllocError, AllocFailed, Global};
 use std::marker::Model;
 use thiserror::Error;
 
+pub use key::{ExternalTextureNameKey, NameKey};
+
+mod key;
 mod label;
 #[cfg(test)]
 mod tests;

@@ -64,31 +64,35 @@ fn words_and_prefixes_of_wgsl(rt: HostRuntime) -> Result<(), Fail> {
     Ok(())
 }
 
+/// Calls of a new `Namer` for WGSL.
+fn wgsl_gives(rt: &impl Abort, alloc: Global, rows: &[(&str, &str)]) -> Result<(), NamerError> {
+    gives(rt, &mut wgsl_namer(alloc)?, rows)
+}
+
+#[test]
+fn foreign_labels(rt: HostRuntime) -> Result<(), Fail> {
+    let alloc = rt.alloc();
+    wgsl_gives(&rt, alloc, &[("\u{1f600}", "u1f600_")])?;
+    wgsl_gives(&rt, alloc, &[("\u{3b1}\u{3b2}", "u03b1_u03b2_")])?;
+    wgsl_gives(&rt, alloc, &[("\u{663}k", "k"), ("\u{2167}v", "v"), ("\u{bd}h", "h")])?;
+    wgsl_gives(&rt, alloc, &[("v\u{2167}", "v_u2167_")])?;
+    wgsl_gives(&rt, alloc, &[("\u{e9}9", "u00e9_9_"), ("x\u{e9}\u{e9}y", "x_u00e9_u00e9_y")])?;
+    wgsl_gives(&rt, alloc, &[("\n", "u000a"), ("\0", "u0000_")])?;
+    wgsl_gives(&rt, alloc, &[("a b", "a_u0020_b"), ("a-b", "a_u002d_b")])?;
+    Ok(())
+}
+
 #[test]
 fn hostile_labels(rt: HostRuntime) -> Result<(), Fail> {
-    let long = long_label(rt.alloc())?;
-    let lines: [&[(&str, &str)]; 13] = [
-        &[("\u{1f600}", "u1f600_")],
-        &[("\u{3b1}\u{3b2}", "u03b1_u03b2_")],
-        &[("\u{663}k", "k"), ("\u{2167}v", "v"), ("\u{bd}h", "h")],
-        &[("v\u{2167}", "v_u2167_")],
-        &[("\u{e9}9", "u00e9_9_")],
-        &[("\n", "u000a"), ("\0", "u0000_")],
-        &[("a b", "a_u0020_b"), ("a-b", "a_u002d_b")],
-        &[
-            ("::", "unnamed"),
-            ("9_", "unnamed_1"),
-            (long.as_str(), "unnamed_2"),
-        ],
-        &[("_naga", "gen__naga"), ("__x", "_x"), ("_:x", "_x_1")],
-        &[("Self", "Self_"), ("self", "self_"), ("self", "self_1")],
-        &[("x_1", "x_1_"), ("x", "x"), ("x", "x_1")],
-        &[("\u{e9}", "u00e9_"), ("x\u{e9}\u{e9}y", "x_u00e9_u00e9_y")],
-        &[("<a,b>", "_a_b"), ("a_", "a"), ("a__b", "a_b")],
-    ];
-    for line in lines {
-        gives(&rt, &mut wgsl_namer(rt.alloc())?, line)?;
-    }
+    let alloc = rt.alloc();
+    let long = long_label(alloc)?;
+    let mut namer = wgsl_namer(alloc)?;
+    gives(&rt, &mut namer, &[("::", "unnamed"), ("9_", "unnamed_1")])?;
+    assert_eq!(rt; namer.call(long.as_str())?.as_str(), "unnamed_2");
+    wgsl_gives(&rt, alloc, &[("_naga", "gen__naga"), ("__x", "_x"), ("_:x", "_x_1")])?;
+    wgsl_gives(&rt, alloc, &[("Self", "Self_"), ("self", "self_"), ("self", "self_1")])?;
+    wgsl_gives(&rt, alloc, &[("x_1", "x_1_"), ("x", "x"), ("x", "x_1")])?;
+    wgsl_gives(&rt, alloc, &[("<a,b>", "_a_b"), ("a_", "a"), ("a__b", "a_b")])?;
     Ok(())
 }
 

@@ -7,4 +7,4 @@ use Rattle.naga_names.proofs.keyword_set.CaseInsensitiveKeywordSet.contains.Goal
 pub returns : goal.returns
 returns c =
     let word = (lowered c.args.identifier.now) in
-    c.contains.ensures ∙ sym (contains-texts_of (λ w. lowered w.word.now) c.self.inside.words.keys word) ∙ ap (λ s. set.contains s word) c.self.view_is
+    c.contains.ensures ∙ sym (contains-texts_of (λ w. lowered w.word.now) c.self.inside.folded.keys word) ∙ ap (λ s. set.contains s word) c.self.view_is

@@ -3,5 +3,5 @@ use Rattle.naga_names.specs.Words.{lowered}
 use Rattle.naga_names.proofs.SetLemmas.{texts_of}
 use Rattle.naga_names.proofs.keyword_set.CaseInsensitiveKeywordSet.from_slice.Given as goal
 
-abbrev pub invariant-loop-word : goal.invariant-loop-word
-invariant-loop-word l = l.set ≡ texts_of (λ w. lowered w.now) (take l.word-index l.words)
+abbrev pub invariant-loop-keyword : goal.invariant-loop-keyword
+invariant-loop-keyword l = l.caseless ≡ texts_of (λ w. lowered w.now) (take l.keyword-index l.words)

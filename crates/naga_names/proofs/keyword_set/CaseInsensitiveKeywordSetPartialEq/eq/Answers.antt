@@ -6,7 +6,7 @@ use Rattle.naga_names.proofs.keyword_set.CaseInsensitiveKeywordSetPartialEq.eq.G
 
 pub returns-clause-value : goal.returns-clause-value
 returns-clause-value c =
-    c.eq.ensures ∙ same_words-texts_of (λ w. lowered w.word.now) c.self.inside.words.keys c.other.inside.words.keys ∙ (λ i. same_words (c.self.view_is i) (c.other.view_is i))
+    c.eq.ensures ∙ same_words-texts_of (λ w. lowered w.word.now) c.self.inside.folded.keys c.other.inside.folded.keys ∙ (λ i. same_words (c.self.view_is i) (c.other.view_is i))
 
 pub returns-clause-same : goal.returns-clause-same
 returns-clause-same c = same_words_decides c.args.self.now c.args.other.now c.eq.result (returns-clause-value c)
