@@ -43,6 +43,10 @@ names_code =
 abbrev pub no_names : Names
 no_names = record { keywords = set.empty; builtin_identifiers = set.empty; caseless_keywords = set.empty; reserved_prefixes = []; uses = map.empty }
 
+-- these words and prefixes, and no uses
+abbrev pub new_names : Words → Words → Words → List (List ℕ) → Names
+new_names keywords builtins caseless prefixes = record { keywords = keywords; builtin_identifiers = builtins; caseless_keywords = caseless; reserved_prefixes = prefixes; uses = map.empty }
+
 -- the base of a label that has these bytes
 abbrev pub label_base : Names → List ℕ → List ℕ
 label_base names label = base_of names.reserved_prefixes (chars label)

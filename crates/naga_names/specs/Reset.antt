@@ -68,3 +68,11 @@ pub record PutsBeginning (equal : NameKey → NameKey → Bool) (start : Names) 
   pub left : List Labelled
   pub all : items ≡ named ++ left
   pub put : PutsInto equal before (named_items start named) now
+
+-- after any items that were named before, the `Namer` and the map also have the names of these
+pub record NamesItems (equal : NameKey → NameKey → Bool) (old : Names) (before : NameMap) (items : List Labelled) (new : Names) (now : NameMap) : Type 0 where
+  pub more : (start : Names) (first : NameMap) (earlier : List Labelled) → HasNamedItems equal start first earlier old before → HasNamedItems equal start first (earlier ++ items) new now
+
+-- the same of the map and some beginning of these items
+pub record NamesBeginning (equal : NameKey → NameKey → Bool) (old : Names) (before : NameMap) (items : List Labelled) (now : NameMap) : Type 0 where
+  pub some : (start : Names) (first : NameMap) (earlier : List Labelled) → HasNamedItems equal start first earlier old before → PutsBeginning equal start first (earlier ++ items) now
