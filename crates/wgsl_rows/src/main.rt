@@ -10,7 +10,6 @@ mod sample;
 mod words;
 
 pub use program::run;
-
 use std::process::ExitCode;
 
 /// Runs the program on the words behind its name, and ends with its status.

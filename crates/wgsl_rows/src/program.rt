@@ -22,7 +22,7 @@ pub fn run<O: Write, E: Write>(alloc: Global, words: &[String], out: &mut O, err
         return unknown_row(err);
     };
     match row.sample(alloc) {
-        Ok(sample) => answer(alloc, sample, flags, out, err),
+        Ok(mut sample) => answer(alloc, &mut sample, flags, out, err),
         Err(_) => refuse("out of memory", err),
     }
 }
@@ -44,7 +44,7 @@ fn request(words: &[String]) -> Option<(Row, WriterFlags)> {
 /// Prints the module's text, or why there is none.
 pub fn answer<O: Write, E: Write>(
     alloc: Global,
-    mut sample: Sample,
+    sample: &mut Sample,
     flags: WriterFlags,
     out: &mut O,
     err: &mut E,

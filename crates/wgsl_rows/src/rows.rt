@@ -1,6 +1,6 @@
 //! The rows: sample modules under their names.
 
-use crate::sample::{FunctionDraft, Sample};
+use crate::sample::Sample;
 use naga_wgsl_out::ir::{Expression, Literal, Scalar};
 use std::alloc::{AllocError, Global};
 
@@ -34,62 +34,60 @@ impl Row {
 
     /// The row's module, with what is known of it.
     pub fn sample(self, alloc: Global) -> Result<Sample, AllocError> {
+        let mut sample = Sample::new(alloc);
+        self.build(&mut sample)?;
+        Ok(sample)
+    }
+
+    fn build(self, sample: &mut Sample) -> Result<(), AllocError> {
         match self {
-            Row::Empty => Ok(Sample::new(alloc)),
-            Row::Identity => identity(alloc),
-            Row::Negative => negative(alloc),
-            Row::Same => same(alloc),
-            Row::Type_ => keyword_and_digit(alloc),
+            Row::Empty => Ok(()),
+            Row::Identity => build_identity(sample),
+            Row::Negative => build_negative(sample),
+            Row::Same => build_same(sample),
+            Row::Type_ => build_type(sample),
         }
     }
 }
 
-fn identity(alloc: Global) -> Result<Sample, AllocError> {
-    let mut sample = Sample::new(alloc);
+fn build_identity(sample: &mut Sample) -> Result<(), AllocError> {
     let i32_type = sample.scalar(Scalar::I32)?;
-    let mut f = FunctionDraft::new(alloc, "f")?;
-    f.argument("x", i32_type)?;
-    f.returns(i32_type);
-    let x = f.expression(Expression::FunctionArgument(0), i32_type)?;
-    f.return_value(x)?;
-    sample.add_function(f)?;
-    Ok(sample)
+    sample.label("f")?;
+    sample.argument("x", i32_type)?;
+    sample.returns(i32_type);
+    let x = sample.expression(Expression::FunctionArgument(0), i32_type)?;
+    sample.return_value(x)?;
+    sample.end_function()
 }
 
-fn negative(alloc: Global) -> Result<Sample, AllocError> {
-    let mut sample = Sample::new(alloc);
+fn build_negative(sample: &mut Sample) -> Result<(), AllocError> {
     let bool_type = sample.scalar(Scalar::BOOL)?;
     let i64_type = sample.scalar(Scalar::I64)?;
-    let mut r = FunctionDraft::new(alloc, "r")?;
-    r.argument("b", bool_type)?;
-    r.returns(i64_type);
-    let seven_below = r.literal(Literal::I64(-7), i64_type)?;
-    r.return_value(seven_below)?;
-    sample.add_function(r)?;
-    Ok(sample)
+    sample.label("r")?;
+    sample.argument("b", bool_type)?;
+    sample.returns(i64_type);
+    let minus_seven = sample.literal(Literal::I64(-7), i64_type)?;
+    sample.return_value(minus_seven)?;
+    sample.end_function()
 }
 
-fn same(alloc: Global) -> Result<Sample, AllocError> {
-    let mut sample = Sample::new(alloc);
+fn build_same(sample: &mut Sample) -> Result<(), AllocError> {
     let i32_type = sample.scalar(Scalar::I32)?;
-    let mut f = FunctionDraft::new(alloc, "f")?;
-    f.argument("x", i32_type)?;
-    f.argument("x", i32_type)?;
-    f.returns(i32_type);
-    let second = f.expression(Expression::FunctionArgument(1), i32_type)?;
-    f.return_value(second)?;
-    sample.add_function(f)?;
-    Ok(sample)
+    sample.label("f")?;
+    sample.argument("x", i32_type)?;
+    sample.argument("x", i32_type)?;
+    sample.returns(i32_type);
+    let second = sample.expression(Expression::FunctionArgument(1), i32_type)?;
+    sample.return_value(second)?;
+    sample.end_function()
 }
 
-fn keyword_and_digit(alloc: Global) -> Result<Sample, AllocError> {
-    let mut sample = Sample::new(alloc);
+fn build_type(sample: &mut Sample) -> Result<(), AllocError> {
     let i32_type = sample.scalar(Scalar::I32)?;
-    let mut f = FunctionDraft::new(alloc, "type")?;
-    f.argument("1x", i32_type)?;
-    f.returns(i32_type);
-    let x = f.expression(Expression::FunctionArgument(0), i32_type)?;
-    f.return_value(x)?;
-    sample.add_function(f)?;
-    Ok(sample)
+    sample.label("type")?;
+    sample.argument("1x", i32_type)?;
+    sample.returns(i32_type);
+    let x = sample.expression(Expression::FunctionArgument(0), i32_type)?;
+    sample.return_value(x)?;
+    sample.end_function()
 }

@@ -2,30 +2,37 @@
 
 use naga_wgsl_out::info::{ExpressionInfo, FunctionInfo, ModuleInfo, TypeResolution};
 use naga_wgsl_out::ir::{
-    Expression, Function, FunctionArgument, FunctionResult, Handle, Literal, Module, Scalar,
-    Statement, TypeInner, Type_,
+    Expression, Function, FunctionArgument, FunctionResult, Handle, Literal, LocalVariable, Module,
+    Scalar, Statement, Type_, TypeInner,
 };
 use std::alloc::{AllocError, Global};
+use std::mem;
 
-/// A module with what is known of it.
+/// A module with what is known of it, and the function that is being built for it.
 #[derive(Drop)]
 pub struct Sample {
+    alloc: Global,
     /// The module.
     pub module: Module,
     /// What is known of it.
     pub info: ModuleInfo,
+    function: Function,
+    expressions: Vec<ExpressionInfo>,
 }
 
 impl Sample {
     /// The empty module.
     pub fn new(alloc: Global) -> Self {
         Sample {
+            alloc,
             module: Module::new(alloc),
             info: ModuleInfo {
                 functions: Vec::new(alloc),
                 entry_points: Vec::new(alloc),
                 const_expression_types: Vec::new(alloc),
             },
+            function: Function::new(alloc),
+            expressions: Vec::new(alloc),
         }
     }
 
@@ -37,47 +44,20 @@ impl Sample {
         })
     }
 
-    /// Adds a function.
-    pub fn add_function(&mut self, draft: FunctionDraft) -> Result<(), AllocError> {
-        let FunctionDraft { function, info, .. } = draft;
-        self.module.functions.append(function)?;
-        self.info.functions.push(info)?;
+    /// Labels the function.
+    pub fn label(&mut self, label: &str) -> Result<(), AllocError> {
+        self.function.name = Some(String::from_str(self.alloc, label)?);
         Ok(())
     }
-}
 
-/// A function that is being built, with what is known of its expressions.
-#[derive(Drop)]
-pub struct FunctionDraft {
-    alloc: Global,
-    /// The function so far.
-    pub function: Function,
-    /// What is known of its expressions so far.
-    pub info: FunctionInfo,
-}
-
-impl FunctionDraft {
-    /// A function with this label, without anything else.
-    pub fn new(alloc: Global, label: &str) -> Result<Self, AllocError> {
-        let mut function = Function::new(alloc);
-        function.name = Some(String::from_str(alloc, label)?);
-        Ok(FunctionDraft {
-            alloc,
-            function,
-            info: FunctionInfo {
-                expressions: Vec::new(alloc),
-            },
-        })
-    }
-
-    /// Adds an argument.
+    /// Adds an argument to the function.
     pub fn argument(&mut self, label: &str, ty: Handle<Type_>) -> Result<(), AllocError> {
-        let argument = FunctionArgument {
-            name: Some(String::from_str(self.alloc, label)?),
+        let name = Some(String::from_str(self.alloc, label)?);
+        self.function.arguments.push(FunctionArgument {
+            name,
             ty,
             binding: None,
-        };
-        self.function.arguments.push(argument)?;
+        })?;
         Ok(())
     }
 
@@ -86,20 +66,33 @@ impl FunctionDraft {
         self.function.result = Some(FunctionResult { ty, binding: None });
     }
 
-    /// Adds an expression of this type.
+    /// Adds a local variable to the function.
+    pub fn local(
+        &mut self,
+        label: &str,
+        ty: Handle<Type_>,
+        init: Option<Handle<Expression>>,
+    ) -> Result<Handle<LocalVariable>, AllocError> {
+        let name = Some(String::from_str(self.alloc, label)?);
+        self.function
+            .local_variables
+            .append(LocalVariable { name, ty, init })
+    }
+
+    /// Adds an expression of this type to the function.
     pub fn expression(
         &mut self,
         expression: Expression,
         ty: Handle<Type_>,
     ) -> Result<Handle<Expression>, AllocError> {
-        self.info.expressions.push(ExpressionInfo {
+        self.expressions.push(ExpressionInfo {
             ref_count: 0,
             ty: TypeResolution::Handle(ty),
         })?;
         self.function.expressions.append(expression)
     }
 
-    /// Adds a literal of this type.
+    /// Adds a literal of this type to the function.
     pub fn literal(
         &mut self,
         literal: Literal,
@@ -108,13 +101,19 @@ impl FunctionDraft {
         self.expression(Expression::Literal(literal), ty)
     }
 
-    /// Adds a statement.
-    pub fn statement(&mut self, statement: Statement) -> Result<(), AllocError> {
-        self.function.body.push(statement)
+    /// Adds the return of a value to the function.
+    pub fn return_value(&mut self, value: Handle<Expression>) -> Result<(), AllocError> {
+        self.function
+            .body
+            .push(Statement::Return { value: Some(value) })
     }
 
-    /// Adds the return of a value.
-    pub fn return_value(&mut self, value: Handle<Expression>) -> Result<(), AllocError> {
-        self.statement(Statement::Return { value: Some(value) })
+    /// Puts the function behind the module's others, and begins with another.
+    pub fn end_function(&mut self) -> Result<(), AllocError> {
+        let function = mem::replace(&mut self.function, Function::new(self.alloc));
+        let expressions = mem::replace(&mut self.expressions, Vec::new(self.alloc));
+        self.module.functions.append(function)?;
+        self.info.functions.push(FunctionInfo { expressions })?;
+        Ok(())
     }
 }

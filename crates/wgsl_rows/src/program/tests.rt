@@ -1,37 +1,88 @@
 use super::{answer, run};
-use crate::sample::{FunctionDraft, Sample};
+use crate::rows::Row;
+use crate::sample::Sample;
 use bitflags::Flags;
-use naga_wgsl_out::ir::{Expression, Literal, LocalVariable, Scalar};
+use naga_wgsl_out::ir::{Expression, Literal, Scalar};
 use naga_wgsl_out::wgsl::WriterFlags;
 use std::alloc::{AllocError, Global};
 use std::io;
 use std::io::Write;
 use std::test::Fail;
 
-/// What the program gave: its output, its error output and its status.
-#[derive(Debug, Drop, PartialEq, Eq)]
-struct Given {
-    out: Vec<u8>,
-    err: Vec<u8>,
+/// Whether the words give this output, this error output and this status.
+fn gives(
+    alloc: Global,
+    words: &[&str],
+    text: &str,
+    told: &str,
     status: u8,
-}
-
-fn given_by(alloc: Global, words: &[&str]) -> Result<Given, AllocError> {
+) -> Result<bool, AllocError> {
     let mut texts = Vec::new(alloc);
     for word in words {
         texts.push(String::from_str(alloc, word)?)?;
     }
     let mut out = Vec::new(alloc);
     let mut err = Vec::new(alloc);
-    let status = run(alloc, &texts, &mut out, &mut err);
-    Ok(Given { out, err, status })
+    let given = run(alloc, &texts, &mut out, &mut err);
+    Ok(given == status && out.as_slice() == text.as_bytes() && err.as_slice() == told.as_bytes())
 }
 
-fn answered(alloc: Global, sample: Sample) -> Given {
-    let mut out = Vec::new(alloc);
-    let mut err = Vec::new(alloc);
-    let status = answer(alloc, sample, WriterFlags::empty(), &mut out, &mut err);
-    Given { out, err, status }
+/// Whether the row has this text, with either setting of the flags.
+fn has_text(alloc: Global, row: &str, text: &str) -> Result<bool, AllocError> {
+    Ok(gives(alloc, &[row], text, "", 0)? && gives(alloc, &[row, "explicit"], text, "", 0)?)
+}
+
+#[test]
+fn rows_are_written(rt: HostRuntime) -> Result<(), Fail> {
+    let alloc = rt.alloc();
+    assert!(rt; has_text(alloc, "empty", "")?);
+    assert!(rt;
+        has_text(
+            alloc,
+            "identity",
+            "fn f(x: i32) -> i32 {\n    return x;\n}\n\n"
+        )?
+    );
+    assert!(rt;
+        has_text(
+            alloc,
+            "negative",
+            "fn r(b: bool) -> i64 {\n    return -7li;\n}\n\n"
+        )?
+    );
+    assert!(rt;
+        has_text(
+            alloc,
+            "same",
+            "fn f(x: i32, x_1: i32) -> i32 {\n    return x_1;\n}\n\n"
+        )?
+    );
+    assert!(rt;
+        has_text(
+            alloc,
+            "type",
+            "fn type_1(x: i32) -> i32 {\n    return x;\n}\n\n"
+        )?
+    );
+    Ok(())
+}
+
+fn is_unknown(alloc: Global, words: &[&str]) -> Result<bool, AllocError> {
+    gives(alloc, words, "", "unknown row\n", 2)
+}
+
+#[test]
+fn unknown_words_are_refused(rt: HostRuntime) -> Result<(), Fail> {
+    let alloc = rt.alloc();
+    assert!(rt; is_unknown(alloc, &[])?);
+    assert!(rt; is_unknown(alloc, &[""])?);
+    assert!(rt; is_unknown(alloc, &["Identity"])?);
+    assert!(rt; is_unknown(alloc, &["identity "])?);
+    assert!(rt; is_unknown(alloc, &["store"])?);
+    assert!(rt; is_unknown(alloc, &["identity", "Explicit"])?);
+    assert!(rt; is_unknown(alloc, &["explicit", "identity"])?);
+    assert!(rt; is_unknown(alloc, &["identity", "explicit", "explicit"])?);
+    Ok(())
 }
 
 /// An output that takes nothing.
@@ -49,48 +100,6 @@ impl Write for Broken {
 }
 
 #[test]
-fn rows_are_written(rt: HostRuntime) -> Result<(), Fail> {
-    let rows = [
-        ("empty", ""),
-        ("identity", "fn f(x: i32) -> i32 {\n    return x;\n}\n\n"),
-        ("negative", "fn r(b: bool) -> i64 {\n    return -7li;\n}\n\n"),
-        ("same", "fn f(x: i32, x_1: i32) -> i32 {\n    return x_1;\n}\n\n"),
-        ("type", "fn type_1(x: i32) -> i32 {\n    return x;\n}\n\n"),
-    ];
-    for (row, text) in rows {
-        let plain = given_by(rt.alloc(), &[row])?;
-        assert_eq!(rt; plain.out.as_slice(), text.as_bytes(), "{row}");
-        assert_eq!(rt; plain.err.len(), 0, "{row}");
-        assert_eq!(rt; plain.status, 0, "{row}");
-        let explicit = given_by(rt.alloc(), &[row, "explicit"])?;
-        assert_eq!(rt; explicit.out.as_slice(), text.as_bytes(), "{row}");
-        assert_eq!(rt; explicit.err.len(), 0, "{row}");
-        assert_eq!(rt; explicit.status, 0, "{row}");
-    }
-    Ok(())
-}
-
-#[test]
-fn unknown_words_are_refused(rt: HostRuntime) -> Result<(), Fail> {
-    let faults = [
-        given_by(rt.alloc(), &[])?,
-        given_by(rt.alloc(), &[""])?,
-        given_by(rt.alloc(), &["Identity"])?,
-        given_by(rt.alloc(), &["identity "])?,
-        given_by(rt.alloc(), &["store"])?,
-        given_by(rt.alloc(), &["identity", "Explicit"])?,
-        given_by(rt.alloc(), &["explicit", "identity"])?,
-        given_by(rt.alloc(), &["identity", "explicit", "explicit"])?,
-    ];
-    for fault in &faults {
-        assert_eq!(rt; fault.out.len(), 0);
-        assert_eq!(rt; fault.err.as_slice(), b"unknown row\n".as_slice());
-        assert_eq!(rt; fault.status, 2);
-    }
-    Ok(())
-}
-
-#[test]
 fn broken_outputs_are_told(rt: HostRuntime) -> Result<(), Fail> {
     let alloc = rt.alloc();
     let mut words = Vec::new(alloc);
@@ -100,99 +109,99 @@ fn broken_outputs_are_told(rt: HostRuntime) -> Result<(), Fail> {
     assert_eq!(rt; err.as_slice(), b"refused: output\n".as_slice());
     assert_eq!(rt; run(alloc, &words, &mut Broken, &mut Broken), 1);
     words.push(String::from_str(alloc, "twice")?)?;
-    let mut out = Vec::new(alloc);
-    assert_eq!(rt; run(alloc, &words, &mut out, &mut Broken), 2);
-    assert_eq!(rt; out.len(), 0);
+    assert_eq!(rt; run(alloc, &words, &mut err, &mut Broken), 2);
     Ok(())
 }
 
-/// `g() -> i32`, with a local variable.
-fn with_local(alloc: Global) -> Result<Sample, AllocError> {
-    let mut sample = Sample::new(alloc);
-    let i32_type = sample.scalar(Scalar::I32)?;
-    let mut g = FunctionDraft::new(alloc, "g")?;
-    g.returns(i32_type);
-    let one = g.literal(Literal::I32(1), i32_type)?;
-    g.function.local_variables.append(LocalVariable {
-        name: Some(String::from_str(alloc, "a")?),
-        ty: i32_type,
-        init: Some(one),
-    })?;
-    g.return_value(one)?;
-    sample.add_function(g)?;
-    Ok(sample)
+/// Whether the module is refused with these words.
+fn is_refused(alloc: Global, sample: &mut Sample, told: &str) -> bool {
+    let mut out = Vec::new(alloc);
+    let mut err = Vec::new(alloc);
+    let status = answer(alloc, sample, WriterFlags::empty(), &mut out, &mut err);
+    status == 1 && out.is_empty() && err.as_slice() == told.as_bytes()
 }
 
-/// A function that returns its argument of this number, though it has one alone.
-fn with_argument_number(alloc: Global, number: u32) -> Result<Sample, AllocError> {
-    let mut sample = Sample::new(alloc);
+/// A function with a local variable.
+fn build_local(sample: &mut Sample) -> Result<(), AllocError> {
     let i32_type = sample.scalar(Scalar::I32)?;
-    let mut f = FunctionDraft::new(alloc, "f")?;
-    f.argument("x", i32_type)?;
-    f.returns(i32_type);
-    let x = f.expression(Expression::FunctionArgument(number), i32_type)?;
-    f.return_value(x)?;
-    sample.add_function(f)?;
-    Ok(sample)
-}
-
-/// A function with a result of type `i32` that returns a `u32`.
-fn with_wrong_return(alloc: Global) -> Result<Sample, AllocError> {
-    let mut sample = Sample::new(alloc);
-    let i32_type = sample.scalar(Scalar::I32)?;
-    let u32_type = sample.scalar(Scalar::U32)?;
-    let mut f = FunctionDraft::new(alloc, "f")?;
-    f.returns(i32_type);
-    let one = f.literal(Literal::U32(1), u32_type)?;
-    f.return_value(one)?;
-    sample.add_function(f)?;
-    Ok(sample)
-}
-
-/// A function whose literal has another type in what is known of it.
-fn with_wrong_literal(alloc: Global) -> Result<Sample, AllocError> {
-    let mut sample = Sample::new(alloc);
-    let i32_type = sample.scalar(Scalar::I32)?;
-    let mut f = FunctionDraft::new(alloc, "f")?;
-    f.returns(i32_type);
-    let one = f.literal(Literal::U32(1), i32_type)?;
-    f.return_value(one)?;
-    sample.add_function(f)?;
-    Ok(sample)
-}
-
-/// A function whose expressions are not all known.
-fn with_too_little_info(alloc: Global) -> Result<Sample, AllocError> {
-    let mut sample = with_argument_number(alloc, 0)?;
-    sample.info.functions.clear();
-    Ok(sample)
+    sample.label("g")?;
+    sample.returns(i32_type);
+    let one = sample.literal(Literal::I32(1), i32_type)?;
+    sample.local("a", i32_type, Some(one))?;
+    sample.return_value(one)?;
+    sample.end_function()
 }
 
 #[test]
 fn locals_are_not_yet_written(rt: HostRuntime) -> Result<(), Fail> {
-    let refused = answered(rt.alloc(), with_local(rt.alloc())?);
-    assert_eq!(rt; refused.out.len(), 0);
-    assert_eq!(rt; refused.err.as_slice(), b"refused: not yet written\n".as_slice());
-    assert_eq!(rt; refused.status, 1);
+    assert!(rt; is_not_yet_written(rt.alloc())?);
     Ok(())
 }
 
+fn is_not_yet_written(alloc: Global) -> Result<bool, AllocError> {
+    let mut sample = Sample::new(alloc);
+    build_local(&mut sample)?;
+    Ok(is_refused(alloc, &mut sample, "refused: not yet written\n"))
+}
+
+/// A function of one argument that returns its argument of this number.
+fn build_argument_number(sample: &mut Sample, number: u32) -> Result<(), AllocError> {
+    let i32_type = sample.scalar(Scalar::I32)?;
+    sample.label("f")?;
+    sample.argument("x", i32_type)?;
+    sample.returns(i32_type);
+    let x = sample.expression(Expression::FunctionArgument(number), i32_type)?;
+    sample.return_value(x)?;
+    sample.end_function()
+}
+
+fn argument_number_is_invalid(alloc: Global, number: u32) -> Result<bool, AllocError> {
+    let mut sample = Sample::new(alloc);
+    build_argument_number(&mut sample, number)?;
+    Ok(is_refused(alloc, &mut sample, "refused: invalid module\n"))
+}
+
 #[test]
-fn modules_that_do_not_fit_are_invalid(rt: HostRuntime) -> Result<(), Fail> {
-    let alloc = rt.alloc();
-    let whole = answered(alloc, with_argument_number(alloc, 0)?);
-    assert_eq!(rt; whole.status, 0);
-    let invalid = [
-        answered(alloc, with_argument_number(alloc, 1)?),
-        answered(alloc, with_argument_number(alloc, u32::MAX)?),
-        answered(alloc, with_wrong_return(alloc)?),
-        answered(alloc, with_wrong_literal(alloc)?),
-        answered(alloc, with_too_little_info(alloc)?),
-    ];
-    for refused in &invalid {
-        assert_eq!(rt; refused.out.len(), 0);
-        assert_eq!(rt; refused.err.as_slice(), b"refused: invalid module\n".as_slice());
-        assert_eq!(rt; refused.status, 1);
-    }
+fn arguments_past_the_list_are_invalid(rt: HostRuntime) -> Result<(), Fail> {
+    assert!(rt; !argument_number_is_invalid(rt.alloc(), 0)?);
+    assert!(rt; argument_number_is_invalid(rt.alloc(), 1)?);
+    assert!(rt; argument_number_is_invalid(rt.alloc(), u32::MAX)?);
+    Ok(())
+}
+
+/// A function with a result of type `i32` that returns this literal, as if it had that type.
+fn build_return(sample: &mut Sample, literal: Literal, scalar: Scalar) -> Result<(), AllocError> {
+    let i32_type = sample.scalar(Scalar::I32)?;
+    let literal_type = sample.scalar(scalar)?;
+    sample.label("f")?;
+    sample.returns(i32_type);
+    let value = sample.literal(literal, literal_type)?;
+    sample.return_value(value)?;
+    sample.end_function()
+}
+
+fn return_is_invalid(alloc: Global, literal: Literal, scalar: Scalar) -> Result<bool, AllocError> {
+    let mut sample = Sample::new(alloc);
+    build_return(&mut sample, literal, scalar)?;
+    Ok(is_refused(alloc, &mut sample, "refused: invalid module\n"))
+}
+
+#[test]
+fn values_of_wrong_types_are_invalid(rt: HostRuntime) -> Result<(), Fail> {
+    assert!(rt; !return_is_invalid(rt.alloc(), Literal::I32(1), Scalar::I32)?);
+    assert!(rt; return_is_invalid(rt.alloc(), Literal::U32(1), Scalar::U32)?);
+    assert!(rt; return_is_invalid(rt.alloc(), Literal::U32(1), Scalar::I32)?);
+    Ok(())
+}
+
+fn identity_without_info_is_invalid(alloc: Global) -> Result<bool, AllocError> {
+    let mut sample = Row::Identity.sample(alloc)?;
+    sample.info.functions.clear();
+    Ok(is_refused(alloc, &mut sample, "refused: invalid module\n"))
+}
+
+#[test]
+fn too_little_info_is_invalid(rt: HostRuntime) -> Result<(), Fail> {
+    assert!(rt; identity_without_info_is_invalid(rt.alloc())?);
     Ok(())
 }
