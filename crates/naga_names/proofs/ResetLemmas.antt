@@ -52,9 +52,9 @@ module _ (equal : NameKey → NameKey → Bool) where
       labels = subst (HasNamed new) (sym (labels_of-push earlier (key, label))) (subst (λ n. HasNamed n (labels_of earlier ++ label ∷ [])) (sym new_is) (has_named-push old (labels_of earlier) label has.labels));
       put = record {
         finds = λ q.
-          now_is q
-          ∙ (λ i. cond (equal key q) (Some ((name_is ∙ name_of-after old (labels_of earlier) label has.labels ∙ ap (λ n. name_after n (labels_of earlier) label) has.words) i)) (has.put.finds q i))
-          ∙ sym (ap (λ pairs. update_all equal first pairs q) (named_items-push start earlier (key, label))
+            now_is q
+            ∙ (λ i. cond (equal key q) (Some ((name_is ∙ name_of-after old (labels_of earlier) label has.labels ∙ ap (λ n. name_after n (labels_of earlier) label) has.words) i)) (has.put.finds q i))
+            ∙ sym (ap (λ pairs. update_all equal first pairs q) (named_items-push start earlier (key, label))
             ∙ ap (λ f. f q) (fold-push (λ f p. update equal f p.0 (Some p.1)) first (named_items start earlier) (key, name_after start (labels_of earlier) label)));
       };
     };
@@ -187,6 +187,6 @@ module _ (function : ℕ) where
   labelled_arguments-more arguments i index argument label lt index_is argument_is label_is =
       let long : 0 + length (take i arguments) ≡ i = omega (arith, length-take-le i arguments (omega arith)) in
       sym (ap (labelled_arguments function) (take_more arguments i argument lt ∙ ap (λ a. take i arguments ++ a ∷ []) (sym argument_is))
-        ∙ ap (map argument_item) (enumerate_from-append 0 (take i arguments) (argument ∷ []))
-        ∙ map-append argument_item (enumerate_from 0 (take i arguments)) ((0 + length (take i arguments), argument) ∷ [])
-        ∙ (λ j. labelled_arguments function (take i arguments) ++ (key.FunctionArgument function ((long ∙ sym index_is) j), sym label_is j) ∷ []))
+      ∙ ap (map argument_item) (enumerate_from-append 0 (take i arguments) (argument ∷ []))
+      ∙ map-append argument_item (enumerate_from 0 (take i arguments)) ((0 + length (take i arguments), argument) ∷ [])
+      ∙ (λ j. labelled_arguments function (take i arguments) ++ (key.FunctionArgument function ((long ∙ sym index_is) j), sym label_is j) ∷ []))

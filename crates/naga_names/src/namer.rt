@@ -8,13 +8,12 @@ ghost use Rattle.naga_names.specs.Reset.{labelled_types, labelled_arguments, lab
 
 use crate::keyword_set::{CaseInsensitiveKeywordSet, KeywordSet};
 use crate::namer::uses::Uses;
+pub use key::{ExternalTextureNameKey, NameKey};
 use naga_ir::{Arena, Function, FunctionArgument, Handle, Module, Type_, UniqueArena};
 use std::alloc::{AllocError, AllocFailed, Global};
 use std::collections::HashMap;
 use std::marker::Model;
 use thiserror::Error;
-
-pub use key::{ExternalTextureNameKey, NameKey};
 
 mod key;
 mod label;
@@ -246,7 +245,11 @@ impl Namer {
         ensures ok { OnOk result (NamesItems ⟦<NameKey as PartialEq>⟧.eq self.old (names_in ⟦<NameKey as PartialEq>⟧.eq output.old) (labelled_function handle function.now) self.new (names_in ⟦<NameKey as PartialEq>⟧.eq output.new)) }
         ensures err { OnErr result (NamesBeginning ⟦<NameKey as PartialEq>⟧.eq self.old (names_in ⟦<NameKey as PartialEq>⟧.eq output.old) (labelled_function handle function.now) (names_in ⟦<NameKey as PartialEq>⟧.eq output.new)) }
     {
-        self.name_item(NameKey::Function(handle), label_or(&function.name, "function"), output)?;
+        self.name_item(
+            NameKey::Function(handle),
+            label_or(&function.name, "function"),
+            output,
+        )?;
         self.name_arguments(handle, &function.arguments, output)
     }
 

@@ -11,13 +11,13 @@ use Rattle.naga_names.proofs.namer.Namer.name_arguments.Goals as goal
 pub returns-in_default-clause-err : goal.returns-in_default-clause-err
 returns-in_default-clause-err c =
     subst (λ items. NamesBeginning eq-value.it c.args.self.now (names_in eq-value.it c.args.output.now) items (names_in eq-value.it c.loop-index.output)) (sym (labelled_arguments_so_far c.args.function c.args.arguments.now c.loop-index.index))
-      (names_then_some eq-value.it _ _ _ _ _ _ _ c.loop-index.invariant (names_unchanged eq-value.it _ _ _ _ (λ q. refl)))
+    (names_then_some eq-value.it _ _ _ _ _ _ _ c.loop-index.invariant (names_unchanged eq-value.it _ _ _ _ (λ q. refl)))
 
 pub returns-in_err-name_item-clause-err : goal.returns-in_err-name_item-clause-err
 returns-in_err-name_item-clause-err c =
     on_err c.from_residual.result
     (subst (λ items. NamesBeginning eq-value.it c.args.self.now (names_in eq-value.it c.args.output.now) items (names_in eq-value.it c.name_item.new.output)) (sym (labelled_arguments_so_far c.args.function c.args.arguments.now c.loop-index.index))
-      (names_then_some eq-value.it _ _ _ _ _ _ _ c.loop-index.invariant (names_unchanged eq-value.it _ _ _ _ (names_in-unchanged eq-value.it c.loop-index.output c.name_item.new.output c.in_err-name_item.ensures.err))))
+    (names_then_some eq-value.it _ _ _ _ _ _ _ c.loop-index.invariant (names_unchanged eq-value.it _ _ _ _ (names_in-unchanged eq-value.it c.loop-index.output c.name_item.new.output c.in_err-name_item.ensures.err))))
 
 pub loop-index-preserved : goal.loop-index-preserved
 loop-index-preserved c =

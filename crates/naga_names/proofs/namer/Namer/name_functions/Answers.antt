@@ -16,7 +16,7 @@ returns-in_err-name_function-clause-err c =
     let all = enumerate_from 0 c.args.functions.now in
     on_err c.from_residual.result
     (subst (λ items. NamesBeginning eq-value.it c.args.self.now (names_in eq-value.it c.args.output.now) items (names_in eq-value.it c.name_function.new.output)) (sym (flat_map_at_turn (λ p. (p.0, p.1.now)) (λ p. labelled_function p.0 p.1) all c.loop-handle.yielded (c.in-Some.handle, c.in-Some.function.now) so_far turn.0 turn.1))
-      (names_then_some eq-value.it _ _ _ _ _ _ _ c.loop-handle.invariant (names_some_of_more eq-value.it _ _ _ _ _ c.in_err-name_function.ensures.err)))
+    (names_then_some eq-value.it _ _ _ _ _ _ _ c.loop-handle.invariant (names_some_of_more eq-value.it _ _ _ _ _ c.in_err-name_function.ensures.err)))
 
 pub returns-clause-ok : goal.returns-clause-ok
 returns-clause-ok c =

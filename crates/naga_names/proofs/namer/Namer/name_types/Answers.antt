@@ -14,7 +14,7 @@ returns-in_err-name_item-clause-err c =
     let so_far = YieldsList-so_far road c.loop-handle.yielded c.loop-handle.handle-iterator c.loop-handle.yielded_by in
     on_err c.from_residual.result
     (subst (λ items. NamesBeginning eq-value.it c.args.self.now (names_in eq-value.it c.args.output.now) items (names_in eq-value.it c.name_item.new.output)) (sym (map_so_far (λ p. (p.0, p.1.now)) (λ p. (key.Type_ p.0, option_map_or string_bytes p.1.name (codes "type"))) (enumerate_from 0 c.args.types.now) c.loop-handle.yielded so_far))
-      (names_then_some eq-value.it _ _ _ _ _ _ _ c.loop-handle.invariant (names_unchanged eq-value.it _ _ _ _ (names_in-unchanged eq-value.it c.loop-handle.output c.name_item.new.output c.in_err-name_item.ensures.err))))
+    (names_then_some eq-value.it _ _ _ _ _ _ _ c.loop-handle.invariant (names_unchanged eq-value.it _ _ _ _ (names_in-unchanged eq-value.it c.loop-handle.output c.name_item.new.output c.in_err-name_item.ensures.err))))
 
 pub returns-clause-ok : goal.returns-clause-ok
 returns-clause-ok c =
