@@ -167,9 +167,11 @@ impl Namer {
         reserved_prefixes: &[&'static str],
         output: &mut HashMap<NameKey, String>,
     ) -> Result<(), NamerError>
-        ensures ok { OnOk result (HasNamedItems ⟦<NameKey as PartialEq>⟧.eq (new_names reserved_keywords builtin_identifiers keywords_case_insensitive (map (λ p. p.now) reserved_prefixes.now)) (names_in ⟦<NameKey as PartialEq>⟧.eq output.old) (labelled_items module.now) self.new (names_in ⟦<NameKey as PartialEq>⟧.eq output.new)) }
+        ensures ok { let start = new_names reserved_keywords builtin_identifiers keywords_case_insensitive (map (λ p. p.now) reserved_prefixes.now) in
+            OnOk result (HasNamedItems start (names_in output.old) (labelled_items «module».now) self.new (names_in output.new)) }
         ensures err { OnErr result (self.new ≡ no_names) }
-        ensures beginning { OnErr result (PutsBeginning ⟦<NameKey as PartialEq>⟧.eq (new_names reserved_keywords builtin_identifiers keywords_case_insensitive (map (λ p. p.now) reserved_prefixes.now)) (names_in ⟦<NameKey as PartialEq>⟧.eq output.old) (labelled_items module.now) (names_in ⟦<NameKey as PartialEq>⟧.eq output.new)) }
+        ensures beginning { let start = new_names reserved_keywords builtin_identifiers keywords_case_insensitive (map (λ p. p.now) reserved_prefixes.now) in
+            OnErr result (PutsBeginning start (names_in output.old) (labelled_items «module».now) (names_in output.new)) }
     {
         let alloc = self.alloc;
         let prefixes = match Vec::from_slice(alloc, reserved_prefixes) {
@@ -201,8 +203,8 @@ impl Namer {
         module: &Module,
         output: &mut HashMap<NameKey, String>,
     ) -> Result<(), NamerError>
-        ensures ok { OnOk result (NamesItems ⟦<NameKey as PartialEq>⟧.eq self.old (names_in ⟦<NameKey as PartialEq>⟧.eq output.old) (labelled_items module.now) self.new (names_in ⟦<NameKey as PartialEq>⟧.eq output.new)) }
-        ensures err { OnErr result (NamesBeginning ⟦<NameKey as PartialEq>⟧.eq self.old (names_in ⟦<NameKey as PartialEq>⟧.eq output.old) (labelled_items module.now) (names_in ⟦<NameKey as PartialEq>⟧.eq output.new)) }
+        ensures ok { OnOk result (NamesItems self.old (names_in output.old) (labelled_items «module».now) self.new (names_in output.new)) }
+        ensures err { OnErr result (NamesBeginning self.old (names_in output.old) (labelled_items «module».now) (names_in output.new)) }
     {
         self.name_types(&module.types, output)?;
         self.name_functions(&module.functions, output)
@@ -213,8 +215,8 @@ impl Namer {
         types: &UniqueArena<Type_>,
         output: &mut HashMap<NameKey, String>,
     ) -> Result<(), NamerError>
-        ensures ok { OnOk result (NamesItems ⟦<NameKey as PartialEq>⟧.eq self.old (names_in ⟦<NameKey as PartialEq>⟧.eq output.old) (labelled_types types.now) self.new (names_in ⟦<NameKey as PartialEq>⟧.eq output.new)) }
-        ensures err { OnErr result (NamesBeginning ⟦<NameKey as PartialEq>⟧.eq self.old (names_in ⟦<NameKey as PartialEq>⟧.eq output.old) (labelled_types types.now) (names_in ⟦<NameKey as PartialEq>⟧.eq output.new)) }
+        ensures ok { OnOk result (NamesItems self.old (names_in output.old) (labelled_types types.now) self.new (names_in output.new)) }
+        ensures err { OnErr result (NamesBeginning self.old (names_in output.old) (labelled_types types.now) (names_in output.new)) }
     {
         for (handle, ty) in types.iter() {
             self.name_item(NameKey::Type_(handle), label_or(&ty.name, "type"), output)?;
@@ -227,8 +229,8 @@ impl Namer {
         functions: &Arena<Function>,
         output: &mut HashMap<NameKey, String>,
     ) -> Result<(), NamerError>
-        ensures ok { OnOk result (NamesItems ⟦<NameKey as PartialEq>⟧.eq self.old (names_in ⟦<NameKey as PartialEq>⟧.eq output.old) (labelled_functions functions.now) self.new (names_in ⟦<NameKey as PartialEq>⟧.eq output.new)) }
-        ensures err { OnErr result (NamesBeginning ⟦<NameKey as PartialEq>⟧.eq self.old (names_in ⟦<NameKey as PartialEq>⟧.eq output.old) (labelled_functions functions.now) (names_in ⟦<NameKey as PartialEq>⟧.eq output.new)) }
+        ensures ok { OnOk result (NamesItems self.old (names_in output.old) (labelled_functions functions.now) self.new (names_in output.new)) }
+        ensures err { OnErr result (NamesBeginning self.old (names_in output.old) (labelled_functions functions.now) (names_in output.new)) }
     {
         for (handle, function) in functions.iter() {
             self.name_function(handle, function, output)?;
@@ -242,8 +244,8 @@ impl Namer {
         function: &Function,
         output: &mut HashMap<NameKey, String>,
     ) -> Result<(), NamerError>
-        ensures ok { OnOk result (NamesItems ⟦<NameKey as PartialEq>⟧.eq self.old (names_in ⟦<NameKey as PartialEq>⟧.eq output.old) (labelled_function handle function.now) self.new (names_in ⟦<NameKey as PartialEq>⟧.eq output.new)) }
-        ensures err { OnErr result (NamesBeginning ⟦<NameKey as PartialEq>⟧.eq self.old (names_in ⟦<NameKey as PartialEq>⟧.eq output.old) (labelled_function handle function.now) (names_in ⟦<NameKey as PartialEq>⟧.eq output.new)) }
+        ensures ok { OnOk result (NamesItems self.old (names_in output.old) (labelled_function handle function.now) self.new (names_in output.new)) }
+        ensures err { OnErr result (NamesBeginning self.old (names_in output.old) (labelled_function handle function.now) (names_in output.new)) }
     {
         self.name_item(
             NameKey::Function(handle),
@@ -259,8 +261,8 @@ impl Namer {
         arguments: &[FunctionArgument],
         output: &mut HashMap<NameKey, String>,
     ) -> Result<(), NamerError>
-        ensures ok { OnOk result (NamesItems ⟦<NameKey as PartialEq>⟧.eq self.old (names_in ⟦<NameKey as PartialEq>⟧.eq output.old) (labelled_arguments function arguments.now) self.new (names_in ⟦<NameKey as PartialEq>⟧.eq output.new)) }
-        ensures err { OnErr result (NamesBeginning ⟦<NameKey as PartialEq>⟧.eq self.old (names_in ⟦<NameKey as PartialEq>⟧.eq output.old) (labelled_arguments function arguments.now) (names_in ⟦<NameKey as PartialEq>⟧.eq output.new)) }
+        ensures ok { OnOk result (NamesItems self.old (names_in output.old) (labelled_arguments function arguments.now) self.new (names_in output.new)) }
+        ensures err { OnErr result (NamesBeginning self.old (names_in output.old) (labelled_arguments function arguments.now) (names_in output.new)) }
     {
         for (index, argument) in arguments.iter().enumerate() {
             let Ok(index) = u32::try_from(index) else {
@@ -279,7 +281,7 @@ impl Namer {
         label: &str,
         output: &mut HashMap<NameKey, String>,
     ) -> Result<(), NamerError>
-        ensures ok { OnOk result (NamesItems ⟦<NameKey as PartialEq>⟧.eq self.old (names_in ⟦<NameKey as PartialEq>⟧.eq output.old) ((key, label.now) ∷ []) self.new (names_in ⟦<NameKey as PartialEq>⟧.eq output.new)) }
+        ensures ok { OnOk result (NamesItems self.old (names_in output.old) ((key, label.now) ∷ []) self.new (names_in output.new)) }
         ensures err { OnErr result (hash.IsUnchanged output.old output.new) }
     {
         let name = self.call(label)?;
