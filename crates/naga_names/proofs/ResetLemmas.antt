@@ -1,5 +1,5 @@
 -- Names given to one item after another.
-use Rattle.std.proofs.Common.{◌≡◌, ℕ, Bool, true, false, cond, List, [], ◌∷◌, ◌++◌, map, length, get_or, take, drop, ◌+◌, ◌<◌, codes, arith, add-zero, add-one, drop-cons, OnErr, Bor, Option, Some, String, HashMap, string_bytes, refl, sym, ap, subst, ◌∙◌, append_assoc, append-nil}
+use Rattle.std.proofs.Common.{◌≡◌, ℕ, Bool, true, false, cond, List, [], ◌∷◌, ◌++◌, map, length, get_or, take, drop, ◌+◌, ◌<◌, codes, arith, add-zero, add-one, drop-cons, OnErr, Bor, Some, String, HashMap, string_bytes, refl, sym, ap, subst, ◌∙◌, append_assoc, append-nil}
 use Rattle.std.specs.List.{scan, fold, flat_map, enumerate_from}
 use Rattle.std.specs.declared.result.Result.{Result}
 use Rattle.std.specs.declared.result.Result.TheVariants.{Ok, Err}
@@ -14,7 +14,7 @@ use Rattle.std.specs.FinMap as finite
 use Rattle.naga_names.specs.Words.{Words}
 use Rattle.naga_names.specs.declared.namer.key.NameKey.{NameKey}
 use Rattle.naga_names.specs.Naming.{Names, Uses, name_of, with_use, name_after, HasNamed, new_names}
-use Rattle.naga_names.specs.Reset.{Labelled, NameMap, labelled_arguments, labels_of, named_items, same_key, names_in, PutsInto, HasNamedItems, PutsBeginning, NamesItems, NamesBeginning}
+use Rattle.naga_names.specs.Reset.{Labelled, NameMap, labelled_arguments, labels_of, named_items, same_key, names_in, HasNamedItems, PutsBeginning, NamesItems, NamesBeginning}
 use Rattle.naga_names.proofs.NamerLemmas.{name_of-after, has_named-push, has_named_nothing}
 
 labels_of-push : (items : List Labelled) (item : Labelled) → labels_of (items ++ item ∷ []) ≡ labels_of items ++ item.1 ∷ []

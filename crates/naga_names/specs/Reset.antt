@@ -1,5 +1,5 @@
 -- What `reset` names, and in which order.
-use Rattle.std.specs.Prelude.{◌≡◌, ℕ, ◌+◌, List, [], ◌∷◌, ◌++◌, map, Option, Bool, codes, string_bytes}
+use Rattle.std.specs.Prelude.{◌≡◌, ℕ, List, [], ◌∷◌, ◌++◌, map, Option, Bool, codes, string_bytes}
 use Rattle.std.specs.declared.string.String.{String}
 use Rattle.std.specs.List.{scan, flat_map, enumerate_from}
 use Rattle.std.specs.Map.{update_all}
@@ -13,7 +13,6 @@ use Rattle.naga_names.specs.declared.namer.key.NameKey.{NameKey}
 use Rattle.naga_names.specs.declared.namer.key.NameKey.TheVariants as key
 use Rattle.naga_names.specs.contracts.namer.key.NameKeyPartialEq.TheImpl.{eq-value}
 use Rattle.naga_names.specs.Naming.{Names, name_after, HasNamed}
-use Rattle.naga_names.specs.Words.{Words}
 
 -- an item of a module, and the label that it is named by
 abbrev pub Labelled : Type 0

@@ -1,10 +1,8 @@
-use Rattle.std.proofs.Common.{◌≡◌, ◌++◌, [], ◌∷◌, map, take, drop, length, codes, string_bytes, refl, sym, ap, subst, ◌∙◌}
-use Rattle.std.specs.List.{enumerate_from, flat_map}
-use Rattle.std.specs.Option.{option_map_or}
+use Rattle.std.proofs.Common.{sym, subst}
+use Rattle.std.specs.List.{enumerate_from}
 use Rattle.std.proofs.lemmas.Iterator.Consumers.{YieldsList-from_first, YieldsList-at, YieldsList-so_far, YieldsList-turn, YieldsList-end}
-use Rattle.naga_names.specs.declared.namer.key.NameKey.TheVariants as key
 use Rattle.naga_names.specs.Reset.{NamesItems, NamesBeginning, names_in, labelled_function}
-use Rattle.naga_names.proofs.ResetLemmas.{on_err, names_then, names_then_some, names_some_of_more, names_unchanged, names_in-unchanged, map_so_far, map_at_end, flat_map_at_turn, flat_map_at_end, labelled_arguments_left, labelled_arguments_so_far, labelled_arguments-more}
+use Rattle.naga_names.proofs.ResetLemmas.{on_err, names_then_some, names_some_of_more, flat_map_at_turn, flat_map_at_end}
 use Rattle.naga_names.proofs.namer.Namer.name_functions.Goals as goal
 
 pub returns-in_err-name_function-clause-err : goal.returns-in_err-name_function-clause-err
