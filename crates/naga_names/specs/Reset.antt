@@ -4,7 +4,7 @@ use Rattle.std.specs.declared.string.String.{String}
 use Rattle.std.specs.List.{scan, flat_map, enumerate_from}
 use Rattle.std.specs.Map.{update_all}
 use Rattle.std.specs.HashMap as hash
-use Rattle.std.specs.Option.{option_map, option_map_or}
+use Rattle.std.specs.Option.{option_map}
 use Rattle.naga_ir.specs.declared.module.Module.{Module}
 use Rattle.naga_ir.specs.declared.module.Function.{Function}
 use Rattle.naga_ir.specs.declared.module.FunctionArgument.{FunctionArgument}
@@ -12,7 +12,7 @@ use Rattle.naga_ir.specs.declared.types.Type_.{Type_}
 use Rattle.naga_names.specs.declared.namer.key.NameKey.{NameKey}
 use Rattle.naga_names.specs.declared.namer.key.NameKey.TheVariants as key
 use Rattle.naga_names.specs.contracts.namer.key.NameKeyPartialEq.TheImpl.{eq-value}
-use Rattle.naga_names.specs.Naming.{Names, name_after, HasNamed}
+use Rattle.naga_names.specs.Naming.{Names, label_or, name_after, HasNamed}
 
 -- an item of a module, and the label that it is named by
 abbrev pub Labelled : Type 0
@@ -20,15 +20,15 @@ Labelled = NameKey × List ℕ
 
 -- the types, in their order
 abbrev pub labelled_types : List Type_ → List Labelled
-labelled_types types = map (λ p. (key.Type_ p.0, option_map_or string_bytes p.1.name (codes "type"))) (enumerate_from 0 types)
+labelled_types types = map (λ p. (key.Type_ p.0, label_or p.1.name (codes "type"))) (enumerate_from 0 types)
 
 -- the arguments of a function, in their order
 abbrev pub labelled_arguments : ℕ → List FunctionArgument → List Labelled
-labelled_arguments function arguments = map (λ p. (key.FunctionArgument function p.0, option_map_or string_bytes p.1.name (codes "param"))) (enumerate_from 0 arguments)
+labelled_arguments function arguments = map (λ p. (key.FunctionArgument function p.0, label_or p.1.name (codes "param"))) (enumerate_from 0 arguments)
 
 -- a function, and then its arguments
 abbrev pub labelled_function : ℕ → Function → List Labelled
-labelled_function handle function = (key.Function handle, option_map_or string_bytes function.name (codes "function")) ∷ labelled_arguments handle function.arguments.items
+labelled_function handle function = (key.Function handle, label_or function.name (codes "function")) ∷ labelled_arguments handle function.arguments.items
 
 abbrev pub labelled_functions : List Function → List Labelled
 labelled_functions functions = flat_map (λ p. labelled_function p.0 p.1) (enumerate_from 0 functions)

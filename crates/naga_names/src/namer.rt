@@ -1,7 +1,6 @@
 //! Identifiers from labels.
 ghost use Rattle.std.specs.Prelude.{◌≡◌, ◌∷◌, [], ◌++◌, List, ℕ, map, IfOk, IfErr, OnOk, OnErr, IsErr, string_bytes};
-ghost use Rattle.std.specs.Option.{option_map_or};
-ghost use Rattle.naga_names.specs.Naming.{Names, names_code, no_names, new_names, first_name, is_taken, name_of, with_use, IsFull, HasNamed, name_after};
+ghost use Rattle.naga_names.specs.Naming.{Names, names_code, no_names, new_names, label_or, first_name, is_taken, name_of, with_use, IsFull, HasNamed, name_after};
 ghost use Rattle.std.specs.HashMap as hash;
 ghost use Rattle.naga_names.specs.Refusal.{IsRefusalOf};
 ghost use Rattle.naga_names.specs.Reset.{labelled_types, labelled_arguments, labelled_function, labelled_functions, labelled_items, names_in, HasNamedItems, PutsBeginning, NamesItems, NamesBeginning};
@@ -139,13 +138,13 @@ impl Namer {
 
     /// `call` of the label, or of the fallback where there is none. An empty label is one.
     pub fn call_or(&mut self, label: &Option<String>, fallback: &str) -> Result<String, NamerError>
-        ensures name { IfOk result (λ name. string_bytes name ≡ name_of self.old (option_map_or string_bytes label.now fallback.now)) }
-        ensures used { OnOk result (self.new ≡ with_use self.old (option_map_or string_bytes label.now fallback.now)) }
-        ensures history { (earlier : List (List ℕ)) → HasNamed self.old earlier → IfOk result (λ name. string_bytes name ≡ name_after self.old earlier (option_map_or string_bytes label.now fallback.now)) }
-        ensures more_history { (earlier : List (List ℕ)) → HasNamed self.old earlier → OnOk result (HasNamed self.new (earlier ++ option_map_or string_bytes label.now fallback.now ∷ [])) }
+        ensures name { IfOk result (λ name. string_bytes name ≡ name_of self.old (label_or label.now fallback.now)) }
+        ensures used { OnOk result (self.new ≡ with_use self.old (label_or label.now fallback.now)) }
+        ensures history { (earlier : List (List ℕ)) → HasNamed self.old earlier → IfOk result (λ name. string_bytes name ≡ name_after self.old earlier (label_or label.now fallback.now)) }
+        ensures more_history { (earlier : List (List ℕ)) → HasNamed self.old earlier → OnOk result (HasNamed self.new (earlier ++ label_or label.now fallback.now ∷ [])) }
         ensures err { OnErr result (self.new ≡ self.old) }
-        ensures reason { IfErr result (IsRefusalOf self.old (option_map_or string_bytes label.now fallback.now)) }
-        ensures full { IsFull self.old (option_map_or string_bytes label.now fallback.now) → IsErr result }
+        ensures reason { IfErr result (IsRefusalOf self.old (label_or label.now fallback.now)) }
+        ensures full { IsFull self.old (label_or label.now fallback.now) → IsErr result }
     {
         self.call(label_or(label, fallback))
     }
@@ -310,7 +309,7 @@ impl Namer {
 
 /// The label, or the fallback where there is none.
 fn label_or<'a>(label: &'a Option<String>, fallback: &'a str) -> &'a str
-    ensures { result.now ≡ option_map_or string_bytes label.now fallback.now }
+    ensures { result.now ≡ label_or label.now fallback.now }
 {
     match label {
         Some(label) => label.as_str(),
