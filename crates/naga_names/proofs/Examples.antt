@@ -1,5 +1,5 @@
 -- The rule gives the texts that it is to give. Each label is a list of characters.
-use Rattle.std.proofs.Common.{◌≡◌, ℕ, List, [], ◌∷◌, ◌++◌, codes, refl}
+use Rattle.std.proofs.Common.{◌≡◌, [], ◌∷◌, ◌++◌, codes, refl}
 use Rattle.std.specs.Fmt.{digits}
 use Rattle.ucd_category.proofs.Computing.{ucd_category}
 use Rattle.naga_names.specs.Label.{base_of, is_numeric, hexadecimal, spelling}

@@ -1,15 +1,14 @@
 -- Names by the uses so far, and by the labels so far.
-use Rattle.std.proofs.Common.{◌≡◌, ℕ, ◌+◌, Bool, true, false, cond, List, [], ◌∷◌, ◌++◌, Option, Some, None, unwrap_or, count_by, refl, sym, ap, ◌∙◌, arith, add-zero, ◌==◌}
+use Rattle.std.proofs.Common.{◌≡◌, ℕ, ◌+◌, Bool, true, false, cond, List, [], ◌∷◌, ◌++◌, Option, Some, None, unwrap_or, refl, sym, ap, ◌∙◌, arith, add-zero, ◌==◌}
 use Rattle.std.proofs.lemmas.Bool.Decides.{nat_tests}
 use Rattle.std.specs.Cmp.Lexicographic.{slice_cmp, nat_list_cmp_total, nat_list_eq_equiv, bytes_decides}
 use Rattle.std.specs.FinMap as map
-use Rattle.std.specs.Ordering.{nat_cmp, eq_by_cmp}
-use Rattle.std.specs.Str.{bytes_eq, chars}
+use Rattle.std.specs.Ordering.{nat_cmp}
+use Rattle.std.specs.Str.{bytes_eq}
 use Rattle.std.specs.Option.{option_map}
 use Rattle.std.proofs.lemmas.List.Sums.{sum_by_push}
 use Rattle.std.proofs.lemmas.Map.Text.{is_eq-slice_cmp}
-use Rattle.naga_names.specs.Label.{base_of}
-use Rattle.naga_names.specs.Naming.{Uses, Names, no_names, uses_of, label_base, first_name, later_name, name_of_base, name_of, with_use, labels_with_base, name_after, HasNamed}
+use Rattle.naga_names.specs.Naming.{Uses, Names, uses_of, label_base, first_name, later_name, name_of_base, name_of, with_use, labels_with_base, name_after, HasNamed}
 
 pub uses_of-empty : (base : List ℕ) → uses_of map.empty base ≡ 0
 uses_of-empty base = ap (λ u. unwrap_or u 0) (map.get-empty (slice_cmp nat_cmp) base)

@@ -1,5 +1,5 @@
 -- Names given to one item after another.
-use Rattle.std.proofs.Common.{◌≡◌, ℕ, Bool, true, false, cond, List, [], ◌∷◌, ◌++◌, map, length, get_or, take, drop, ◌+◌, ◌<◌, codes, arith, add-zero, add-one, drop-cons, OnErr, Bor, Option, Some, String, HashMap, string_bytes, refl, sym, ap, subst, ◌∙◌, append_assoc, append-nil}
+use Rattle.std.proofs.Common.{◌≡◌, ℕ, Bool, true, false, cond, List, [], ◌∷◌, ◌++◌, map, length, get_or, take, drop, ◌+◌, ◌<◌, codes, arith, add-zero, add-one, drop-cons, OnErr, Bor, Some, String, HashMap, string_bytes, refl, sym, ap, subst, ◌∙◌, append_assoc, append-nil}
 use Rattle.std.specs.List.{scan, fold, flat_map, enumerate_from}
 use Rattle.std.specs.declared.result.Result.{Result}
 use Rattle.std.specs.declared.result.Result.TheVariants.{Ok, Err}
@@ -14,7 +14,7 @@ use Rattle.std.specs.FinMap as finite
 use Rattle.naga_names.specs.Words.{Words}
 use Rattle.naga_names.specs.declared.namer.key.NameKey.{NameKey}
 use Rattle.naga_names.specs.Naming.{Names, Uses, name_of, with_use, name_after, HasNamed, new_names}
-use Rattle.naga_names.specs.Reset.{Labelled, NameMap, labelled_arguments, labels_of, named_items, names_in, PutsInto, HasNamedItems, PutsBeginning, NamesItems, NamesBeginning}
+use Rattle.naga_names.specs.Reset.{Labelled, NameMap, labelled_arguments, labels_of, named_items, same_key, names_in, HasNamedItems, PutsBeginning, NamesItems, NamesBeginning}
 use Rattle.naga_names.proofs.NamerLemmas.{name_of-after, has_named-push, has_named_nothing}
 
 labels_of-push : (items : List Labelled) (item : Labelled) → labels_of (items ++ item ∷ []) ≡ labels_of items ++ item.1 ∷ []
@@ -43,38 +43,38 @@ with_use-words : (old start : Names) (label : List ℕ) → old ≡ record start
 unfolding with_use
 with_use-words old start label same = ap (λ (n : Names). record n { uses = (with_use old label).uses }) same
 
-module _ (equal : NameKey → NameKey → Bool) where
+module _ where
   -- one more item, after whatever was named before
-  pub names_one : (old : Names) (before now : NameMap) (key : NameKey) (label name : List ℕ) (new : Names) → name ≡ name_of old label → new ≡ with_use old label → ((q : NameKey) → now q ≡ cond (equal key q) (Some name) (before q)) → NamesItems equal old before ((key, label) ∷ []) new now
+  pub names_one : (old : Names) (before now : NameMap) (key : NameKey) (label name : List ℕ) (new : Names) → name ≡ name_of old label → new ≡ with_use old label → ((q : NameKey) → now q ≡ cond (same_key key q) (Some name) (before q)) → NamesItems old before ((key, label) ∷ []) new now
   names_one old before now key label name new name_is new_is now_is = record {
     more = λ start first earlier has. record {
       words = subst (λ n. n ≡ record start { uses = n.uses }) (sym new_is) (with_use-words old start label has.words);
       labels = subst (HasNamed new) (sym (labels_of-push earlier (key, label))) (subst (λ n. HasNamed n (labels_of earlier ++ label ∷ [])) (sym new_is) (has_named-push old (labels_of earlier) label has.labels));
       put = record {
         finds = λ q.
-          now_is q
-          ∙ (λ i. cond (equal key q) (Some ((name_is ∙ name_of-after old (labels_of earlier) label has.labels ∙ ap (λ n. name_after n (labels_of earlier) label) has.words) i)) (has.put.finds q i))
-          ∙ sym (ap (λ pairs. update_all equal first pairs q) (named_items-push start earlier (key, label))
-            ∙ ap (λ f. f q) (fold-push (λ f p. update equal f p.0 (Some p.1)) first (named_items start earlier) (key, name_after start (labels_of earlier) label)));
+            now_is q
+            ∙ (λ i. cond (same_key key q) (Some ((name_is ∙ name_of-after old (labels_of earlier) label has.labels ∙ ap (λ n. name_after n (labels_of earlier) label) has.words) i)) (has.put.finds q i))
+            ∙ sym (ap (λ pairs. update_all same_key first pairs q) (named_items-push start earlier (key, label))
+            ∙ ap (λ f. f q) (fold-push (λ f p. update same_key f p.0 (Some p.1)) first (named_items start earlier) (key, name_after start (labels_of earlier) label)));
       };
     };
   }
 
-  pub names_none : (old : Names) (before : NameMap) → NamesItems equal old before [] old before
-  names_none old before = record { more = λ start first earlier has. subst (λ items. HasNamedItems equal start first items old before) (sym (append-nil earlier)) has }
+  pub names_none : (old : Names) (before : NameMap) → NamesItems old before [] old before
+  names_none old before = record { more = λ start first earlier has. subst (λ items. HasNamedItems start first items old before) (sym (append-nil earlier)) has }
 
-  pub names_then : (old middle new : Names) (before between now : NameMap) (items others : List Labelled) → NamesItems equal old before items middle between → NamesItems equal middle between others new now → NamesItems equal old before (items ++ others) new now
+  pub names_then : (old middle new : Names) (before between now : NameMap) (items others : List Labelled) → NamesItems old before items middle between → NamesItems middle between others new now → NamesItems old before (items ++ others) new now
   names_then old middle new before between now items others first_part second_part = record {
-    more = λ start first earlier has. subst (λ all. HasNamedItems equal start first all new now) (append_assoc earlier items others) (second_part.more start first (earlier ++ items) (first_part.more start first earlier has));
+    more = λ start first earlier has. subst (λ all. HasNamedItems start first all new now) (append_assoc earlier items others) (second_part.more start first (earlier ++ items) (first_part.more start first earlier has));
   }
 
-  pub names_then_some : (old middle : Names) (before between now : NameMap) (items others : List Labelled) → NamesItems equal old before items middle between → NamesBeginning equal middle between others now → NamesBeginning equal old before (items ++ others) now
+  pub names_then_some : (old middle : Names) (before between now : NameMap) (items others : List Labelled) → NamesItems old before items middle between → NamesBeginning middle between others now → NamesBeginning old before (items ++ others) now
   names_then_some old middle before between now items others first_part second_part = record {
-    some = λ start first earlier has. subst (λ all. PutsBeginning equal start first all now) (append_assoc earlier items others) (second_part.some start first (earlier ++ items) (first_part.more start first earlier has));
+    some = λ start first earlier has. subst (λ all. PutsBeginning start first all now) (append_assoc earlier items others) (second_part.some start first (earlier ++ items) (first_part.more start first earlier has));
   }
 
   -- the beginning of some items is the beginning of more
-  pub names_some_of_more : (old : Names) (before now : NameMap) (items others : List Labelled) → NamesBeginning equal old before items now → NamesBeginning equal old before (items ++ others) now
+  pub names_some_of_more : (old : Names) (before now : NameMap) (items others : List Labelled) → NamesBeginning old before items now → NamesBeginning old before (items ++ others) now
   names_some_of_more old before now items others part = record {
     some = λ start first earlier has. let p = part.some start first earlier has in record {
       named = p.named;
@@ -85,7 +85,7 @@ module _ (equal : NameKey → NameKey → Bool) where
   }
 
   -- a map that stays as it was
-  pub names_unchanged : (old : Names) (before now : NameMap) (items : List Labelled) → ((q : NameKey) → now q ≡ before q) → NamesBeginning equal old before items now
+  pub names_unchanged : (old : Names) (before now : NameMap) (items : List Labelled) → ((q : NameKey) → now q ≡ before q) → NamesBeginning old before items now
   names_unchanged old before now items same = record {
     some = λ start first earlier has. record {
       named = earlier;
@@ -96,7 +96,7 @@ module _ (equal : NameKey → NameKey → Bool) where
   }
 
   -- a `Namer` that begins
-  pub begins : (start : Names) (before : NameMap) → HasNamed start [] → HasNamedItems equal start before [] start before
+  pub begins : (start : Names) (before : NameMap) → HasNamed start [] → HasNamedItems start before [] start before
   begins start before none = record { words = refl; labels = none; put = record { finds = λ q. refl } }
 
 -- these words and prefixes, with no uses
@@ -104,27 +104,27 @@ pub starts : (keywords builtins caseless : Words) (uses : Uses) (prefixes given 
 starts keywords builtins caseless uses prefixes given none same =
     λ i. record { keywords = keywords; builtin_identifiers = builtins; caseless_keywords = caseless; reserved_prefixes = map (λ p. p.now) (same i); uses = none i }
 
-module _ (equal : NameKey → NameKey → Bool) (start began : Names) (same : began ≡ start) (none : start.uses ≡ finite.empty) (before now : NameMap) (items : List Labelled) where
-  began_so : HasNamedItems equal start before [] began before
-  began_so = subst (λ names. HasNamedItems equal start before [] names before) (sym same) (begins equal start before (has_named_nothing start none))
+module _ (start began : Names) (same : began ≡ start) (none : start.uses ≡ finite.empty) (before now : NameMap) (items : List Labelled) where
+  began_so : HasNamedItems start before [] began before
+  began_so = subst (λ names. HasNamedItems start before [] names before) (sym same) (begins start before (has_named_nothing start none))
 
   -- all of the items were named
-  pub all_named : (new : Names) → NamesItems equal began before items new now → HasNamedItems equal start before items new now
+  pub all_named : (new : Names) → NamesItems began before items new now → HasNamedItems start before items new now
   all_named new named = named.more start before [] began_so
 
   -- some of them were
-  pub some_named : NamesBeginning equal began before items now → PutsBeginning equal start before items now
+  pub some_named : NamesBeginning began before items now → PutsBeginning start before items now
   some_named named = named.some start before [] began_so
 
 -- what a map says after `insert`, by the names that it has
-pub names_in-insert : {Y S : Type 0} (equal : NameKey → NameKey → Bool) (old new : HashMap NameKey (String Y) S) (key : NameKey) (name : String Y) → hash.Updates equal old new key (Some name) → (q : NameKey) → names_in equal new q ≡ cond (equal key q) (Some (string_bytes name)) (names_in equal old q)
-names_in-insert equal old new key name updates q = ap (option_map string_bytes) (updates.0 q) ∙ either (equal key q)
+pub names_in-insert : {Y S : Type 0} (old new : HashMap NameKey (String Y) S) (key : NameKey) (name : String Y) → hash.Updates same_key old new key (Some name) → (q : NameKey) → names_in new q ≡ cond (same_key key q) (Some (string_bytes name)) (names_in old q)
+names_in-insert old new key name updates q = ap (option_map string_bytes) (updates.0 q) ∙ either (same_key key q)
   where
-    either : (b : Bool) → option_map string_bytes (cond b (Some name) (hash.get equal old q)) ≡ cond b (Some (string_bytes name)) (names_in equal old q)
-    either b = elim b as (λ t. option_map string_bytes (cond t (Some name) (hash.get equal old q)) ≡ cond t (Some (string_bytes name)) (names_in equal old q)) [ true ↦ refl | false ↦ refl ]
+    either : (b : Bool) → option_map string_bytes (cond b (Some name) (hash.get same_key old q)) ≡ cond b (Some (string_bytes name)) (names_in old q)
+    either b = elim b as (λ t. option_map string_bytes (cond t (Some name) (hash.get same_key old q)) ≡ cond t (Some (string_bytes name)) (names_in old q)) [ true ↦ refl | false ↦ refl ]
 
-pub names_in-unchanged : {Y S : Type 0} (equal : NameKey → NameKey → Bool) (old new : HashMap NameKey (String Y) S) → hash.IsUnchanged old new → (q : NameKey) → names_in equal new q ≡ names_in equal old q
-names_in-unchanged equal old new same q = ap (λ es. option_map string_bytes (lookup (equal q) es)) same
+pub names_in-unchanged : {Y S : Type 0} (old new : HashMap NameKey (String Y) S) → hash.IsUnchanged old new → (q : NameKey) → names_in new q ≡ names_in old q
+names_in-unchanged old new same q = ap (λ es. option_map string_bytes (lookup (same_key q) es)) same
 
 -- ---- loops over items
 pub on_err : {T E P : Type 0} (r : Result T E) → P → OnErr r P
@@ -187,6 +187,6 @@ module _ (function : ℕ) where
   labelled_arguments-more arguments i index argument label lt index_is argument_is label_is =
       let long : 0 + length (take i arguments) ≡ i = omega (arith, length-take-le i arguments (omega arith)) in
       sym (ap (labelled_arguments function) (take_more arguments i argument lt ∙ ap (λ a. take i arguments ++ a ∷ []) (sym argument_is))
-        ∙ ap (map argument_item) (enumerate_from-append 0 (take i arguments) (argument ∷ []))
-        ∙ map-append argument_item (enumerate_from 0 (take i arguments)) ((0 + length (take i arguments), argument) ∷ [])
-        ∙ (λ j. labelled_arguments function (take i arguments) ++ (key.FunctionArgument function ((long ∙ sym index_is) j), sym label_is j) ∷ []))
+      ∙ ap (map argument_item) (enumerate_from-append 0 (take i arguments) (argument ∷ []))
+      ∙ map-append argument_item (enumerate_from 0 (take i arguments)) ((0 + length (take i arguments), argument) ∷ [])
+      ∙ (λ j. labelled_arguments function (take i arguments) ++ (key.FunctionArgument function ((long ∙ sym index_is) j), sym label_is j) ∷ []))

@@ -1,5 +1,8 @@
 -- The names that a `Namer` gives.
-use Rattle.std.specs.Prelude.{◌≡◌, ℕ, ◌+◌, ◌-◌, ◌^◌, Bool, ◌||◌, ◌==◌, if◌then◌else◌, List, ◌++◌, length, slice_index, [], codes, count_by, unwrap_or, decimal, refl}
+use Rattle.std.specs.Prelude.{◌≡◌, ℕ, ◌+◌, ◌-◌, ◌^◌, Bool, ◌||◌, ◌==◌, if◌then◌else◌, List, ◌++◌, length, slice_index, [], codes, count_by, unwrap_or, decimal, refl, string_bytes}
+use Rattle.std.specs.Option.{option_map_or}
+use Rattle.std.specs.declared.option.Option.{Option}
+use Rattle.std.specs.declared.string.String.{String}
 use Rattle.std.specs.Char.{is_ascii_digit}
 use Rattle.std.specs.Coded.{Coded, code_by, coded×, coded_list, coded_ℕ}
 use Rattle.std.specs.Cmp.Lexicographic.{slice_cmp}
@@ -46,6 +49,10 @@ no_names = record { keywords = set.empty; builtin_identifiers = set.empty; casel
 -- these words and prefixes, and no uses
 abbrev pub new_names : Words → Words → Words → List (List ℕ) → Names
 new_names keywords builtins caseless prefixes = record { keywords = keywords; builtin_identifiers = builtins; caseless_keywords = caseless; reserved_prefixes = prefixes; uses = map.empty }
+
+-- the label, or the fallback where there is none
+abbrev pub label_or : {Y : Type 0} → Option (String Y) → List ℕ → List ℕ
+label_or label fallback = option_map_or string_bytes label fallback
 
 -- the base of a label that has these bytes
 abbrev pub label_base : Names → List ℕ → List ℕ

@@ -1,20 +1,18 @@
 //! Identifiers from labels.
 ghost use Rattle.std.specs.Prelude.{◌≡◌, ◌∷◌, [], ◌++◌, List, ℕ, map, IfOk, IfErr, OnOk, OnErr, IsErr, string_bytes};
-ghost use Rattle.std.specs.Option.{option_map_or};
-ghost use Rattle.naga_names.specs.Naming.{Names, names_code, no_names, new_names, first_name, is_taken, name_of, with_use, IsFull, HasNamed, name_after};
+ghost use Rattle.naga_names.specs.Naming.{Names, names_code, no_names, new_names, label_or, first_name, is_taken, name_of, with_use, IsFull, HasNamed, name_after};
 ghost use Rattle.std.specs.HashMap as hash;
 ghost use Rattle.naga_names.specs.Refusal.{IsRefusalOf};
 ghost use Rattle.naga_names.specs.Reset.{labelled_types, labelled_arguments, labelled_function, labelled_functions, labelled_items, names_in, HasNamedItems, PutsBeginning, NamesItems, NamesBeginning};
 
 use crate::keyword_set::{CaseInsensitiveKeywordSet, KeywordSet};
 use crate::namer::uses::Uses;
+pub use key::{ExternalTextureNameKey, NameKey};
 use naga_ir::{Arena, Function, FunctionArgument, Handle, Module, Type_, UniqueArena};
 use std::alloc::{AllocError, AllocFailed, Global};
 use std::collections::HashMap;
 use std::marker::Model;
 use thiserror::Error;
-
-pub use key::{ExternalTextureNameKey, NameKey};
 
 mod key;
 mod label;
@@ -140,13 +138,13 @@ impl Namer {
 
     /// `call` of the label, or of the fallback where there is none. An empty label is one.
     pub fn call_or(&mut self, label: &Option<String>, fallback: &str) -> Result<String, NamerError>
-        ensures name { IfOk result (λ name. string_bytes name ≡ name_of self.old (option_map_or string_bytes label.now fallback.now)) }
-        ensures used { OnOk result (self.new ≡ with_use self.old (option_map_or string_bytes label.now fallback.now)) }
-        ensures history { (earlier : List (List ℕ)) → HasNamed self.old earlier → IfOk result (λ name. string_bytes name ≡ name_after self.old earlier (option_map_or string_bytes label.now fallback.now)) }
-        ensures more_history { (earlier : List (List ℕ)) → HasNamed self.old earlier → OnOk result (HasNamed self.new (earlier ++ option_map_or string_bytes label.now fallback.now ∷ [])) }
+        ensures name { IfOk result (λ name. string_bytes name ≡ name_of self.old (label_or label.now fallback.now)) }
+        ensures used { OnOk result (self.new ≡ with_use self.old (label_or label.now fallback.now)) }
+        ensures history { (earlier : List (List ℕ)) → HasNamed self.old earlier → IfOk result (λ name. string_bytes name ≡ name_after self.old earlier (label_or label.now fallback.now)) }
+        ensures more_history { (earlier : List (List ℕ)) → HasNamed self.old earlier → OnOk result (HasNamed self.new (earlier ++ label_or label.now fallback.now ∷ [])) }
         ensures err { OnErr result (self.new ≡ self.old) }
-        ensures reason { IfErr result (IsRefusalOf self.old (option_map_or string_bytes label.now fallback.now)) }
-        ensures full { IsFull self.old (option_map_or string_bytes label.now fallback.now) → IsErr result }
+        ensures reason { IfErr result (IsRefusalOf self.old (label_or label.now fallback.now)) }
+        ensures full { IsFull self.old (label_or label.now fallback.now) → IsErr result }
     {
         self.call(label_or(label, fallback))
     }
@@ -168,9 +166,11 @@ impl Namer {
         reserved_prefixes: &[&'static str],
         output: &mut HashMap<NameKey, String>,
     ) -> Result<(), NamerError>
-        ensures ok { OnOk result (HasNamedItems ⟦<NameKey as PartialEq>⟧.eq (new_names reserved_keywords builtin_identifiers keywords_case_insensitive (map (λ p. p.now) reserved_prefixes.now)) (names_in ⟦<NameKey as PartialEq>⟧.eq output.old) (labelled_items module.now) self.new (names_in ⟦<NameKey as PartialEq>⟧.eq output.new)) }
+        ensures ok { let start = new_names reserved_keywords builtin_identifiers keywords_case_insensitive (map (λ p. p.now) reserved_prefixes.now) in
+            OnOk result (HasNamedItems start (names_in output.old) (labelled_items «module».now) self.new (names_in output.new)) }
         ensures err { OnErr result (self.new ≡ no_names) }
-        ensures beginning { OnErr result (PutsBeginning ⟦<NameKey as PartialEq>⟧.eq (new_names reserved_keywords builtin_identifiers keywords_case_insensitive (map (λ p. p.now) reserved_prefixes.now)) (names_in ⟦<NameKey as PartialEq>⟧.eq output.old) (labelled_items module.now) (names_in ⟦<NameKey as PartialEq>⟧.eq output.new)) }
+        ensures beginning { let start = new_names reserved_keywords builtin_identifiers keywords_case_insensitive (map (λ p. p.now) reserved_prefixes.now) in
+            OnErr result (PutsBeginning start (names_in output.old) (labelled_items «module».now) (names_in output.new)) }
     {
         let alloc = self.alloc;
         let prefixes = match Vec::from_slice(alloc, reserved_prefixes) {
@@ -202,8 +202,8 @@ impl Namer {
         module: &Module,
         output: &mut HashMap<NameKey, String>,
     ) -> Result<(), NamerError>
-        ensures ok { OnOk result (NamesItems ⟦<NameKey as PartialEq>⟧.eq self.old (names_in ⟦<NameKey as PartialEq>⟧.eq output.old) (labelled_items module.now) self.new (names_in ⟦<NameKey as PartialEq>⟧.eq output.new)) }
-        ensures err { OnErr result (NamesBeginning ⟦<NameKey as PartialEq>⟧.eq self.old (names_in ⟦<NameKey as PartialEq>⟧.eq output.old) (labelled_items module.now) (names_in ⟦<NameKey as PartialEq>⟧.eq output.new)) }
+        ensures ok { OnOk result (NamesItems self.old (names_in output.old) (labelled_items «module».now) self.new (names_in output.new)) }
+        ensures err { OnErr result (NamesBeginning self.old (names_in output.old) (labelled_items «module».now) (names_in output.new)) }
     {
         self.name_types(&module.types, output)?;
         self.name_functions(&module.functions, output)
@@ -214,8 +214,8 @@ impl Namer {
         types: &UniqueArena<Type_>,
         output: &mut HashMap<NameKey, String>,
     ) -> Result<(), NamerError>
-        ensures ok { OnOk result (NamesItems ⟦<NameKey as PartialEq>⟧.eq self.old (names_in ⟦<NameKey as PartialEq>⟧.eq output.old) (labelled_types types.now) self.new (names_in ⟦<NameKey as PartialEq>⟧.eq output.new)) }
-        ensures err { OnErr result (NamesBeginning ⟦<NameKey as PartialEq>⟧.eq self.old (names_in ⟦<NameKey as PartialEq>⟧.eq output.old) (labelled_types types.now) (names_in ⟦<NameKey as PartialEq>⟧.eq output.new)) }
+        ensures ok { OnOk result (NamesItems self.old (names_in output.old) (labelled_types types.now) self.new (names_in output.new)) }
+        ensures err { OnErr result (NamesBeginning self.old (names_in output.old) (labelled_types types.now) (names_in output.new)) }
     {
         for (handle, ty) in types.iter() {
             self.name_item(NameKey::Type_(handle), label_or(&ty.name, "type"), output)?;
@@ -228,8 +228,8 @@ impl Namer {
         functions: &Arena<Function>,
         output: &mut HashMap<NameKey, String>,
     ) -> Result<(), NamerError>
-        ensures ok { OnOk result (NamesItems ⟦<NameKey as PartialEq>⟧.eq self.old (names_in ⟦<NameKey as PartialEq>⟧.eq output.old) (labelled_functions functions.now) self.new (names_in ⟦<NameKey as PartialEq>⟧.eq output.new)) }
-        ensures err { OnErr result (NamesBeginning ⟦<NameKey as PartialEq>⟧.eq self.old (names_in ⟦<NameKey as PartialEq>⟧.eq output.old) (labelled_functions functions.now) (names_in ⟦<NameKey as PartialEq>⟧.eq output.new)) }
+        ensures ok { OnOk result (NamesItems self.old (names_in output.old) (labelled_functions functions.now) self.new (names_in output.new)) }
+        ensures err { OnErr result (NamesBeginning self.old (names_in output.old) (labelled_functions functions.now) (names_in output.new)) }
     {
         for (handle, function) in functions.iter() {
             self.name_function(handle, function, output)?;
@@ -243,10 +243,14 @@ impl Namer {
         function: &Function,
         output: &mut HashMap<NameKey, String>,
     ) -> Result<(), NamerError>
-        ensures ok { OnOk result (NamesItems ⟦<NameKey as PartialEq>⟧.eq self.old (names_in ⟦<NameKey as PartialEq>⟧.eq output.old) (labelled_function handle function.now) self.new (names_in ⟦<NameKey as PartialEq>⟧.eq output.new)) }
-        ensures err { OnErr result (NamesBeginning ⟦<NameKey as PartialEq>⟧.eq self.old (names_in ⟦<NameKey as PartialEq>⟧.eq output.old) (labelled_function handle function.now) (names_in ⟦<NameKey as PartialEq>⟧.eq output.new)) }
+        ensures ok { OnOk result (NamesItems self.old (names_in output.old) (labelled_function handle function.now) self.new (names_in output.new)) }
+        ensures err { OnErr result (NamesBeginning self.old (names_in output.old) (labelled_function handle function.now) (names_in output.new)) }
     {
-        self.name_item(NameKey::Function(handle), label_or(&function.name, "function"), output)?;
+        self.name_item(
+            NameKey::Function(handle),
+            label_or(&function.name, "function"),
+            output,
+        )?;
         self.name_arguments(handle, &function.arguments, output)
     }
 
@@ -256,8 +260,8 @@ impl Namer {
         arguments: &[FunctionArgument],
         output: &mut HashMap<NameKey, String>,
     ) -> Result<(), NamerError>
-        ensures ok { OnOk result (NamesItems ⟦<NameKey as PartialEq>⟧.eq self.old (names_in ⟦<NameKey as PartialEq>⟧.eq output.old) (labelled_arguments function arguments.now) self.new (names_in ⟦<NameKey as PartialEq>⟧.eq output.new)) }
-        ensures err { OnErr result (NamesBeginning ⟦<NameKey as PartialEq>⟧.eq self.old (names_in ⟦<NameKey as PartialEq>⟧.eq output.old) (labelled_arguments function arguments.now) (names_in ⟦<NameKey as PartialEq>⟧.eq output.new)) }
+        ensures ok { OnOk result (NamesItems self.old (names_in output.old) (labelled_arguments function arguments.now) self.new (names_in output.new)) }
+        ensures err { OnErr result (NamesBeginning self.old (names_in output.old) (labelled_arguments function arguments.now) (names_in output.new)) }
     {
         for (index, argument) in arguments.iter().enumerate() {
             let Ok(index) = u32::try_from(index) else {
@@ -276,7 +280,7 @@ impl Namer {
         label: &str,
         output: &mut HashMap<NameKey, String>,
     ) -> Result<(), NamerError>
-        ensures ok { OnOk result (NamesItems ⟦<NameKey as PartialEq>⟧.eq self.old (names_in ⟦<NameKey as PartialEq>⟧.eq output.old) ((key, label.now) ∷ []) self.new (names_in ⟦<NameKey as PartialEq>⟧.eq output.new)) }
+        ensures ok { OnOk result (NamesItems self.old (names_in output.old) ((key, label.now) ∷ []) self.new (names_in output.new)) }
         ensures err { OnErr result (hash.IsUnchanged output.old output.new) }
     {
         let name = self.call(label)?;
@@ -305,7 +309,7 @@ impl Namer {
 
 /// The label, or the fallback where there is none.
 fn label_or<'a>(label: &'a Option<String>, fallback: &'a str) -> &'a str
-    ensures { result.now ≡ option_map_or string_bytes label.now fallback.now }
+    ensures { result.now ≡ label_or label.now fallback.now }
 {
     match label {
         Some(label) => label.as_str(),

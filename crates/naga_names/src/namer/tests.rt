@@ -1,15 +1,32 @@
 use super::*;
 use crate::keywords::{BUILTIN_IDENTIFIERS, RESERVED};
+use naga_ir::{Scalar, TypeInner};
 use std::process::Abort;
 use std::test::Fail;
 
-/// A `Namer` that keeps off the words of WGSL and the prefixes that its implementations reserve.
-fn wgsl_namer(alloc: Global) -> Result<Namer, AllocError> {
+/// A `Namer` after `reset` with the words of WGSL and the prefixes that its implementations reserve.
+fn reset_for_wgsl(
+    alloc: Global,
+    module: &Module,
+    output: &mut HashMap<NameKey, String>,
+) -> Result<Namer, NamerError> {
     let mut namer = Namer::default(alloc);
-    namer.keywords = KeywordSet::from_slice(alloc, RESERVED)?;
-    namer.builtin_identifiers = KeywordSet::from_slice(alloc, BUILTIN_IDENTIFIERS)?;
-    namer.reserved_prefixes = vec![in alloc; "__", "_naga"]?;
+    let keywords = KeywordSet::from_slice(alloc, RESERVED)?;
+    let builtin = KeywordSet::from_slice(alloc, BUILTIN_IDENTIFIERS)?;
+    let caseless = CaseInsensitiveKeywordSet::new(alloc);
+    namer.reset(
+        module,
+        keywords,
+        builtin,
+        caseless,
+        &["__", "_naga"],
+        output,
+    )?;
     Ok(namer)
+}
+
+fn wgsl_namer(alloc: Global) -> Result<Namer, NamerError> {
+    reset_for_wgsl(alloc, &Module::new(alloc), &mut HashMap::new(alloc))
 }
 
 /// Calls with these labels, in order, give these names.
@@ -74,9 +91,20 @@ fn foreign_labels(rt: HostRuntime) -> Result<(), Fail> {
     let alloc = rt.alloc();
     wgsl_gives(&rt, alloc, &[("\u{1f600}", "u1f600_")])?;
     wgsl_gives(&rt, alloc, &[("\u{3b1}\u{3b2}", "u03b1_u03b2_")])?;
-    wgsl_gives(&rt, alloc, &[("\u{663}k", "k"), ("\u{2167}v", "v"), ("\u{bd}h", "h")])?;
+    wgsl_gives(
+        &rt,
+        alloc,
+        &[("\u{663}k", "k"), ("\u{2167}v", "v"), ("\u{bd}h", "h")],
+    )?;
     wgsl_gives(&rt, alloc, &[("v\u{2167}", "v_u2167_")])?;
-    wgsl_gives(&rt, alloc, &[("\u{e9}9", "u00e9_9_"), ("x\u{e9}\u{e9}y", "x_u00e9_u00e9_y")])?;
+    wgsl_gives(
+        &rt,
+        alloc,
+        &[
+            ("\u{e9}9", "u00e9_9_"),
+            ("x\u{e9}\u{e9}y", "x_u00e9_u00e9_y"),
+        ],
+    )?;
     wgsl_gives(&rt, alloc, &[("\n", "u000a"), ("\0", "u0000_")])?;
     wgsl_gives(&rt, alloc, &[("a b", "a_u0020_b"), ("a-b", "a_u002d_b")])?;
     Ok(())
@@ -89,10 +117,22 @@ fn hostile_labels(rt: HostRuntime) -> Result<(), Fail> {
     let mut namer = wgsl_namer(alloc)?;
     gives(&rt, &mut namer, &[("::", "unnamed"), ("9_", "unnamed_1")])?;
     assert_eq!(rt; namer.call(long.as_str())?.as_str(), "unnamed_2");
-    wgsl_gives(&rt, alloc, &[("_naga", "gen__naga"), ("__x", "_x"), ("_:x", "_x_1")])?;
-    wgsl_gives(&rt, alloc, &[("Self", "Self_"), ("self", "self_"), ("self", "self_1")])?;
+    wgsl_gives(
+        &rt,
+        alloc,
+        &[("_naga", "gen__naga"), ("__x", "_x"), ("_:x", "_x_1")],
+    )?;
+    wgsl_gives(
+        &rt,
+        alloc,
+        &[("Self", "Self_"), ("self", "self_"), ("self", "self_1")],
+    )?;
     wgsl_gives(&rt, alloc, &[("x_1", "x_1_"), ("x", "x"), ("x", "x_1")])?;
-    wgsl_gives(&rt, alloc, &[("<a,b>", "_a_b"), ("a_", "a"), ("a__b", "a_b")])?;
+    wgsl_gives(
+        &rt,
+        alloc,
+        &[("<a,b>", "_a_b"), ("a_", "a"), ("a__b", "a_b")],
+    )?;
     Ok(())
 }
 
@@ -151,5 +191,72 @@ fn refusals_are_told(rt: HostRuntime) -> Result<(), Fail> {
     ] {
         assert_eq!(rt; refusal.to_string(rt.alloc())?.as_str(), want);
     }
+    Ok(())
+}
+
+fn argument(alloc: Global, label: &str, ty: Handle<Type_>) -> Result<FunctionArgument, AllocError> {
+    Ok(FunctionArgument {
+        name: Some(String::from_str(alloc, label)?),
+        ty,
+        binding: None,
+    })
+}
+
+/// A module with the unnamed type `i32`, and a function with two arguments of it.
+fn sample(alloc: Global, labels: &[&str; 3]) -> Result<Module, AllocError> {
+    let mut module = Module::new(alloc);
+    let [function_label, first, second] = labels;
+    let ty = module.types.insert(Type_ {
+        name: None,
+        inner: TypeInner::Scalar(Scalar::I32),
+    })?;
+    let mut function = Function::new(alloc);
+    function.name = Some(String::from_str(alloc, function_label)?);
+    function.arguments.push(argument(alloc, first, ty)?)?;
+    function.arguments.push(argument(alloc, second, ty)?)?;
+    module.functions.append(function)?;
+    Ok(module)
+}
+
+/// The names of that module's type, function and arguments after a reset. A key that the map has
+/// before stays in it.
+fn sample_names(
+    rt: &impl Abort,
+    alloc: Global,
+    labels: &[&str; 3],
+    want: &[&str; 4],
+) -> Result<(), NamerError> {
+    let module = sample(alloc, labels)?;
+    let mut names = HashMap::new(alloc);
+    names.insert(NameKey::EntryPoint(7), String::from_str(alloc, "kept")?)?;
+    let mut namer = reset_for_wgsl(alloc, &module, &mut names)?;
+    let function = Handle::<Function>::from_index(0);
+    let keys = [
+        NameKey::Type_(Handle::<Type_>::from_index(0)),
+        NameKey::Function(function),
+        NameKey::FunctionArgument(function, 0),
+        NameKey::FunctionArgument(function, 1),
+    ];
+    for (key, name) in keys.iter().zip(want) {
+        assert!(rt;
+            names.get(key).is_some_and(|found| found.as_str() == *name),
+            "{key:?}"
+        );
+    }
+    assert!(rt; names.contains_key(&NameKey::EntryPoint(7)) && names.len() == 5);
+    assert_eq!(rt; namer.call("type")?.as_str(), "type_1");
+    Ok(())
+}
+
+#[test]
+fn resets(rt: HostRuntime) -> Result<(), Fail> {
+    let alloc = rt.alloc();
+    sample_names(&rt, alloc, &["f", "x", "x"], &["type_", "f", "x", "x_1"])?;
+    sample_names(
+        &rt,
+        alloc,
+        &["_naga", "\u{e9}", "1x"],
+        &["type_", "gen__naga", "u00e9_", "x"],
+    )?;
     Ok(())
 }

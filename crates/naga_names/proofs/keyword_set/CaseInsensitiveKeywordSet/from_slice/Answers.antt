@@ -1,4 +1,4 @@
-use Rattle.std.proofs.Common.{[], Bor}
+use Rattle.std.proofs.Common.{[]}
 use Rattle.naga_names.specs.Words.{lowered}
 use Rattle.naga_names.proofs.SetLemmas.{texts_of-take}
 use Rattle.naga_names.proofs.keyword_set.CaseInsensitiveKeywordSet.from_slice.Goals as goal

@@ -1,4 +1,4 @@
-use Rattle.std.proofs.Common.{◌≡◌, ◌∙◌}
+use Rattle.std.proofs.Common.{◌∙◌}
 use Rattle.naga_names.specs.Words.{same_words}
 use Rattle.naga_names.proofs.SetLemmas.{same_words-texts_of, same_words_decides}
 use Rattle.naga_names.proofs.keyword_set.KeywordSetPartialEq.eq.Goals as goal

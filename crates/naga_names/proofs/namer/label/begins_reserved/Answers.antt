@@ -1,4 +1,4 @@
-use Rattle.std.proofs.Common.{◌≡◌, ◌||◌, [], Bor, sym, ap, ◌∙◌, ◌+◌, map, drop, get_or}
+use Rattle.std.proofs.Common.{◌||◌, [], sym, ap, ◌∙◌, ◌+◌, map, drop, get_or}
 use Rattle.std.specs.Bool.{nat_eq}
 use Rattle.std.specs.List.{list_any, starts_with}
 use Rattle.std.proofs.lemmas.Str.Pattern.{starts_text}

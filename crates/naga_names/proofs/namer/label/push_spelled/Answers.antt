@@ -1,4 +1,4 @@
-use Rattle.std.proofs.Common.{◌≡◌, [], ◌∷◌, ◌++◌, sym, ap, ◌∙◌, string_bytes}
+use Rattle.std.proofs.Common.{[], ◌∷◌, ◌++◌, sym, ap, ◌∙◌, string_bytes}
 use Rattle.std.specs.Char.{encode_utf8}
 use Rattle.naga_names.specs.Label.{with_separator}
 use Rattle.naga_names.proofs.Spellings.{spelling-separating, spelling-alphanumeric, alphanumeric_is_ascii, on_ok, on_ok_then, pushed_char}
