@@ -4,7 +4,7 @@ use Rattle.std.specs.Str.{bytes_eq}
 use Rattle.std.specs.Char.{is_ascii_digit}
 use Rattle.std.specs.Str.Parse.{digits_value}
 use Rattle.std.specs.Fmt.{decimal}
-use Rattle.wgsl_text.specs.Token.{Mark, OpenParen, CloseParen, OpenBracket, CloseBracket, OpenBrace, CloseBrace, Comma, Semicolon, Colon, Dot, At, Equals, Less, Greater, Plus, Minus, Star, Slash, Percent, And, Bar, Caret, Not, Tilde, EqualsEquals, NotEquals, LessEquals, AndAnd, BarBar, LessLess, WordTrue, WordFalse, WordLet, WordVar, WordIf, WordElse, WordLoop, WordContinuing, WordBreak, WordContinue, WordSwitch, WordCase, WordDefault, WordReturn, WordDiscard, WordFn, WordStruct, WordConst, WordEnable, WordOverride}
+use Rattle.wgsl_text.specs.Token.{Mark, OpenParen, CloseParen, OpenBracket, CloseBracket, OpenBrace, CloseBrace, Comma, Semicolon, Colon, Dot, At, Equals, LessThan, GreaterThan, Plus, Minus, Star, Slash, Percent, Ampersand, Bar, Caret, Not, Tilde, EqualsEquals, NotEquals, LessEquals, AndAnd, BarBar, LessLess, KeywordTrue, KeywordFalse, KeywordLet, KeywordVar, KeywordIf, KeywordElse, KeywordLoop, KeywordContinuing, KeywordBreak, KeywordContinue, KeywordSwitch, KeywordCase, KeywordDefault, KeywordReturn, KeywordDiscard, KeywordFn, KeywordStruct, KeywordConst, KeywordEnable, KeywordOverride}
 use Rattle.wgsl_text.specs.Token.{Suffix, NoSuffix, SuffixI, SuffixU, SuffixLi, SuffixLu, Token, Fixed, Word, Number, ZeroPointZero, Foreign, Piece, Tok, Blank, LineEnd, Indent}
 use Rattle.wgsl_text.specs.Words.{is_letter, is_word_byte, is_reserved}
 
@@ -21,14 +21,14 @@ mark_text Colon = codes ":"
 mark_text Dot = codes "."
 mark_text At = codes "@"
 mark_text Equals = codes "="
-mark_text Less = codes "<"
-mark_text Greater = codes ">"
+mark_text LessThan = codes "<"
+mark_text GreaterThan = codes ">"
 mark_text Plus = codes "+"
 mark_text Minus = codes "-"
 mark_text Star = codes "*"
 mark_text Slash = codes "/"
 mark_text Percent = codes "%"
-mark_text And = codes "&"
+mark_text Ampersand = codes "&"
 mark_text Bar = codes "|"
 mark_text Caret = codes "^"
 mark_text Not = codes "!"
@@ -39,26 +39,26 @@ mark_text LessEquals = codes "<="
 mark_text AndAnd = codes "&&"
 mark_text BarBar = codes "||"
 mark_text LessLess = codes "<<"
-mark_text WordTrue = codes "true"
-mark_text WordFalse = codes "false"
-mark_text WordLet = codes "let"
-mark_text WordVar = codes "var"
-mark_text WordIf = codes "if"
-mark_text WordElse = codes "else"
-mark_text WordLoop = codes "loop"
-mark_text WordContinuing = codes "continuing"
-mark_text WordBreak = codes "break"
-mark_text WordContinue = codes "continue"
-mark_text WordSwitch = codes "switch"
-mark_text WordCase = codes "case"
-mark_text WordDefault = codes "default"
-mark_text WordReturn = codes "return"
-mark_text WordDiscard = codes "discard"
-mark_text WordFn = codes "fn"
-mark_text WordStruct = codes "struct"
-mark_text WordConst = codes "const"
-mark_text WordEnable = codes "enable"
-mark_text WordOverride = codes "override"
+mark_text KeywordTrue = codes "true"
+mark_text KeywordFalse = codes "false"
+mark_text KeywordLet = codes "let"
+mark_text KeywordVar = codes "var"
+mark_text KeywordIf = codes "if"
+mark_text KeywordElse = codes "else"
+mark_text KeywordLoop = codes "loop"
+mark_text KeywordContinuing = codes "continuing"
+mark_text KeywordBreak = codes "break"
+mark_text KeywordContinue = codes "continue"
+mark_text KeywordSwitch = codes "switch"
+mark_text KeywordCase = codes "case"
+mark_text KeywordDefault = codes "default"
+mark_text KeywordReturn = codes "return"
+mark_text KeywordDiscard = codes "discard"
+mark_text KeywordFn = codes "fn"
+mark_text KeywordStruct = codes "struct"
+mark_text KeywordConst = codes "const"
+mark_text KeywordEnable = codes "enable"
+mark_text KeywordOverride = codes "override"
 
 abbrev pub suffix_text : Suffix → List ℕ
 suffix_text NoSuffix = []
@@ -113,7 +113,7 @@ keyword_among (m ∷ marks) w = if bytes_eq (mark_text m) w then Fixed m else ke
 abbrev pub word_token : List ℕ → Token
 word_token w =
     if is_reserved w
-    then keyword_among (WordTrue ∷ WordFalse ∷ WordLet ∷ WordVar ∷ WordIf ∷ WordElse ∷ WordLoop ∷ WordContinuing ∷ WordBreak ∷ WordContinue ∷ WordSwitch ∷ WordCase ∷ WordDefault ∷ WordReturn ∷ WordDiscard ∷ WordFn ∷ WordStruct ∷ WordConst ∷ WordEnable ∷ WordOverride ∷ []) w
+    then keyword_among (KeywordTrue ∷ KeywordFalse ∷ KeywordLet ∷ KeywordVar ∷ KeywordIf ∷ KeywordElse ∷ KeywordLoop ∷ KeywordContinuing ∷ KeywordBreak ∷ KeywordContinue ∷ KeywordSwitch ∷ KeywordCase ∷ KeywordDefault ∷ KeywordReturn ∷ KeywordDiscard ∷ KeywordFn ∷ KeywordStruct ∷ KeywordConst ∷ KeywordEnable ∷ KeywordOverride ∷ []) w
     else Word w
 
 abbrev pub word_lexeme : ℕ → List ℕ → Lexeme
@@ -167,10 +167,10 @@ abbrev pub sign_lexeme : ℕ → List ℕ → Lexeme
 sign_lexeme b bytes =
     if b == 61 then sign_or Equals (starts_with 61 bytes) EqualsEquals else (
     if b == 33 then sign_or Not (starts_with 61 bytes) NotEquals else (
-    if b == 38 then sign_or And (starts_with 38 bytes) AndAnd else (
+    if b == 38 then sign_or Ampersand (starts_with 38 bytes) AndAnd else (
     if b == 124 then sign_or Bar (starts_with 124 bytes) BarBar else (
-    if b == 60 then (if starts_with 61 bytes then Takes (Fixed LessEquals) 1 else sign_or Less (starts_with 60 bytes) LessLess) else
-    single b (OpenParen ∷ CloseParen ∷ OpenBracket ∷ CloseBracket ∷ OpenBrace ∷ CloseBrace ∷ Comma ∷ Semicolon ∷ Colon ∷ Dot ∷ At ∷ Greater ∷ Plus ∷ Star ∷ Slash ∷ Percent ∷ Caret ∷ Tilde ∷ [])))))
+    if b == 60 then (if starts_with 61 bytes then Takes (Fixed LessEquals) 1 else sign_or LessThan (starts_with 60 bytes) LessLess) else
+    single b (OpenParen ∷ CloseParen ∷ OpenBracket ∷ CloseBracket ∷ OpenBrace ∷ CloseBrace ∷ Comma ∷ Semicolon ∷ Colon ∷ Dot ∷ At ∷ GreaterThan ∷ Plus ∷ Star ∷ Slash ∷ Percent ∷ Caret ∷ Tilde ∷ [])))))
 
 -- the longest match at the front
 abbrev pub lexeme : ℕ → List ℕ → Lexeme

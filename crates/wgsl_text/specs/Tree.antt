@@ -1,51 +1,59 @@
--- The trees that a text is read as. A word is a list of bytes.
-use Rattle.std.specs.Prelude.{ℕ, Bool, List}
+-- The trees that a text is read as. A word is the list of its bytes.
+use Rattle.std.specs.Prelude.{ℕ, Bool, List, Option}
 use Rattle.wgsl_text.specs.Token.{Suffix}
 
-pub data BinaryOp : Type 0 where
-  Add Subtract Multiply Divide Modulo : BinaryOp
-  Equal NotEqual Less LessEqual Greater GreaterEqual : BinaryOp
-  And ExclusiveOr InclusiveOr LogicalAnd LogicalOr ShiftLeft ShiftRight : BinaryOp
+pub data BinaryOperator : Type 0 where
+  Add Subtract Multiply Divide Modulo : BinaryOperator
+  Equal NotEqual Less LessEqual Greater GreaterEqual : BinaryOperator
+  And ExclusiveOr InclusiveOr LogicalAnd LogicalOr ShiftLeft ShiftRight : BinaryOperator
 
-pub data UnaryOp : Type 0 where
-  Negate LogicalNot BitwiseNot : UnaryOp
+pub data UnaryOperator : Type 0 where
+  Negate LogicalNot BitwiseNot : UnaryOperator
 
+-- Each is one node, the wrapped and the least ones too.
 pub data Literal : Type 0 where
   Truth : Bool → Literal
+  -- a sign, a value and a suffix
   Suffixed : Bool → ℕ → Suffix → Literal
-  -- a word with a plain number in parentheses
-  Wrapped : List ℕ → Bool → ℕ → Literal
-  LeastLong : Literal
+  -- `i16(-5)` and `u16(5)`
+  SignedShort : Bool → ℕ → Literal
+  UnsignedShort : ℕ → Literal
+  -- the least `i32` and the least `i64`
+  LeastInteger LeastLong : Literal
 
 mutual
-  pub data Ty : Type 0 where
-    Named : List ℕ → Ty
-    Template : List ℕ → TyArgs → Ty
+  pub data TypeSpecifier : Type 0 where
+    Named : List ℕ → TypeSpecifier
+    Template : List ℕ → TypeParts → TypeSpecifier
 
-  pub data TyArgs : Type 0 where
-    NoTyArgs : TyArgs
-    TypeArg : Ty → TyArgs → TyArgs
-    SizeArg : ℕ → TyArgs → TyArgs
+  -- A size is a plain number. An address space, an access mode and the like are named parts.
+  pub data TypeParts : Type 0 where
+    NoParts : TypeParts
+    TypePart : TypeSpecifier → TypeParts → TypeParts
+    SizePart : ℕ → TypeParts → TypeParts
 
 mutual
-  pub data Expr : Type 0 where
-    Lit : Literal → Expr
-    Name : List ℕ → Expr
-    Binary : Expr → BinaryOp → Expr → Expr
-    Unary : UnaryOp → Expr → Expr
-    -- a word or type with its operands
-    Call : Ty → Args → Expr
-    Member : Expr → List ℕ → Expr
-    Index : Expr → Expr → Expr
-    IndexAt : Expr → ℕ → Expr
-    AddressOf : Expr → Expr
-    Deref : Expr → Expr
+  pub data Expression : Type 0 where
+    Constant : Literal → Expression
+    Name : List ℕ → Expression
+    Binary : Expression → BinaryOperator → Expression → Expression
+    Unary : UnaryOperator → Expression → Expression
+    -- a word or type with its operands: a call, a constructor or a built-in function
+    Call : TypeSpecifier → Arguments → Expression
+    -- a member, a component or a swizzle
+    Member : Expression → List ℕ → Expression
+    Index : Expression → Expression → Expression
+    IndexAt : Expression → ℕ → Expression
+    AddressOf : Expression → Expression
+    Dereference : Expression → Expression
 
-  pub data Args : Type 0 where
-    NoArgs : Args
-    Arg : Expr → Args → Args
-    NumberArg : ℕ → Args → Args
-    ZeroArg : Args → Args
+  pub data Arguments : Type 0 where
+    NoArguments : Arguments
+    Argument : Expression → Arguments → Arguments
+    -- the component of a gather
+    NumberArgument : ℕ → Arguments → Arguments
+    -- the level `0.0`
+    ZeroArgument : Arguments → Arguments
 
 pub data Label : Type 0 where
   DefaultLabel : Label
@@ -57,83 +65,114 @@ pub data Labels : Type 0 where
   MoreLabels : Label → Labels → Labels
 
 mutual
-  pub data Stmt : Type 0 where
-    Let : List ℕ → Expr → Stmt
-    TypedLet : List ℕ → Ty → Expr → Stmt
-    Assign : Expr → Expr → Stmt
-    CallStmt : Ty → Args → Stmt
-    Return : Stmt
-    ReturnValue : Expr → Stmt
-    Discard Break Continue : Stmt
-    If : Expr → Stmts → Stmts → Stmt
+  pub data Statement : Type 0 where
+    Let : List ℕ → Expression → Statement
+    TypedLet : List ℕ → TypeSpecifier → Expression → Statement
+    Assign : Expression → Expression → Statement
+    CallStatement : TypeSpecifier → Arguments → Statement
+    Return : Statement
+    ReturnValue : Expression → Statement
+    Discard Break Continue : Statement
+    If : Expression → Statements → Statements → Statement
     -- the body, and what stands in `continuing`
-    Loop : Stmts → Stmts → Stmt
-    LoopBreakIf : Stmts → Stmts → Expr → Stmt
-    Switch : Expr → Cases → Stmt
-    Block : Stmts → Stmt
+    Loop : Statements → Statements → Statement
+    LoopBreakIf : Statements → Statements → Expression → Statement
+    Switch : Expression → Cases → Statement
+    Block : Statements → Statement
 
-  pub data Stmts : Type 0 where
-    NoStmts : Stmts
-    Then : Stmt → Stmts → Stmts
+  pub data Statements : Type 0 where
+    NoStatements : Statements
+    Then : Statement → Statements → Statements
 
   pub data Cases : Type 0 where
     NoCases : Cases
-    Case : Labels → Stmts → Cases → Cases
+    Case : Labels → Statements → Cases → Cases
 
-pub data Params : Type 0 where
-  NoParams : Params
-  Param : List ℕ → Ty → Params → Params
+-- an attribute of a word alone
+pub data PlainAttribute : Type 0 where
+  Invariant PerPrimitive Coherent Volatile : PlainAttribute
+  Vertex Fragment Compute Task RayGeneration AnyHit ClosestHit Miss : PlainAttribute
+
+-- an attribute with a number
+pub data NumberedAttribute : Type 0 where
+  Location BlendSource Id Group Binding Size Align : NumberedAttribute
+
+-- an attribute with a word
+pub data WordedAttribute : Type 0 where
+  Builtin Interpolate Mesh Payload IncomingPayload : WordedAttribute
+
+pub data Attribute : Type 0 where
+  Plain : PlainAttribute → Attribute
+  Numbered : NumberedAttribute → ℕ → Attribute
+  Worded : WordedAttribute → List ℕ → Attribute
+  -- an interpolation and a sampling
+  Interpolated : List ℕ → List ℕ → Attribute
+  WorkgroupSize : ℕ → ℕ → ℕ → Attribute
+
+pub record Parameter : Type 0 where
+  pub attributes : List Attribute
+  pub name : List ℕ
+  pub type : TypeSpecifier
 
 pub data Result : Type 0 where
   NoResult : Result
-  ResultOf : Ty → Result
+  ResultOf : List Attribute → TypeSpecifier → Result
 
-pub data Locals : Type 0 where
-  NoLocals : Locals
-  Local : List ℕ → Ty → Locals → Locals
-  LocalValue : List ℕ → Ty → Expr → Locals → Locals
+pub record Local : Type 0 where
+  pub name : List ℕ
+  pub type : TypeSpecifier
+  pub value : Option Expression
 
-pub data Function : Type 0 where
-  Fn : List ℕ → Params → Result → Locals → Stmts → Function
+pub record Function : Type 0 where
+  pub name : List ℕ
+  pub parameters : List Parameter
+  pub result : Result
+  pub locals : List Local
+  pub body : Statements
 
-pub data AttrArg : Type 0 where
-  WordAttr : List ℕ → AttrArg
-  NumberAttr : ℕ → AttrArg
+pub record EntryPoint : Type 0 where
+  pub stage : List Attribute
+  pub function : Function
 
-pub data AttrArgs : Type 0 where
-  LastAttr : AttrArg → AttrArgs
-  MoreAttrs : AttrArg → AttrArgs → AttrArgs
+pub record StructMember : Type 0 where
+  pub attributes : List Attribute
+  pub name : List ℕ
+  pub type : TypeSpecifier
 
-pub data Attribute : Type 0 where
-  Plain : List ℕ → Attribute
-  Listed : List ℕ → AttrArgs → Attribute
+pub record Struct : Type 0 where
+  pub name : List ℕ
+  pub members : List StructMember
 
-pub data Attributes : Type 0 where
-  NoAttributes : Attributes
-  Attr : Attribute → Attributes → Attributes
+pub record NamedConstant : Type 0 where
+  pub name : List ℕ
+  pub type : TypeSpecifier
+  pub value : Expression
 
-pub data Members : Type 0 where
-  NoMembers : Members
-  MemberOf : Attributes → List ℕ → Ty → Members → Members
+pub record Override : Type 0 where
+  pub attributes : List Attribute
+  pub name : List ℕ
+  pub type : TypeSpecifier
+  pub value : Option Expression
 
 -- the address space of a global, and its access
 pub data Space : Type 0 where
   NoSpace : Space
-  OneSpace : List ℕ → Space
-  TwoSpaces : List ℕ → List ℕ → Space
+  SpaceAlone : List ℕ → Space
+  SpaceAndAccess : List ℕ → List ℕ → Space
 
-pub data Init : Type 0 where
-  NoInit : Init
-  InitWith : Expr → Init
+pub record Global : Type 0 where
+  pub attributes : List Attribute
+  pub space : Space
+  pub name : List ℕ
+  pub type : TypeSpecifier
+  pub value : Option Expression
 
-pub data Decl : Type 0 where
-  FunctionDecl : Attributes → Function → Decl
-  EnableDecl : List ℕ → Decl
-  StructDecl : List ℕ → Members → Decl
-  ConstDecl : List ℕ → Ty → Expr → Decl
-  OverrideDecl : Attributes → List ℕ → Ty → Init → Decl
-  GlobalDecl : Attributes → Space → List ℕ → Ty → Init → Decl
-
-pub data Decls : Type 0 where
-  NoDecls : Decls
-  AndDecl : Decl → Decls → Decls
+-- the declarations of a text, in their order
+pub record Program : Type 0 where
+  pub enables : List (List ℕ)
+  pub structs : List Struct
+  pub constants : List NamedConstant
+  pub overrides : List Override
+  pub globals : List Global
+  pub functions : List Function
+  pub entry_points : List EntryPoint
