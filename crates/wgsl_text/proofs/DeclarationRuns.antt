@@ -234,3 +234,13 @@ program_runs p is =
     overrides_run p.overrides is.overrides _ then group_end_runs p.overrides _ then
     globals_run p.globals is.globals _ then group_end_runs p.globals _ then
     functions_run p.functions is.functions _ then entry_points_run p.entry_points is.entry_points _
+
+pub newest_twice : (p : Program) → newest_first (newest_first p) ≡ p
+newest_twice p =
+    ap (λ v. record (newest_first (newest_first p)) { enables = v }) (turned_back p.enables [])
+    ∙ ap (λ v. record p { structs = v; constants = (newest_first (newest_first p)).constants; overrides = (newest_first (newest_first p)).overrides; globals = (newest_first (newest_first p)).globals; functions = (newest_first (newest_first p)).functions; entry_points = (newest_first (newest_first p)).entry_points }) (turned_back p.structs [])
+    ∙ ap (λ v. record p { constants = v; overrides = (newest_first (newest_first p)).overrides; globals = (newest_first (newest_first p)).globals; functions = (newest_first (newest_first p)).functions; entry_points = (newest_first (newest_first p)).entry_points }) (turned_back p.constants [])
+    ∙ ap (λ v. record p { overrides = v; globals = (newest_first (newest_first p)).globals; functions = (newest_first (newest_first p)).functions; entry_points = (newest_first (newest_first p)).entry_points }) (turned_back p.overrides [])
+    ∙ ap (λ v. record p { globals = v; functions = (newest_first (newest_first p)).functions; entry_points = (newest_first (newest_first p)).entry_points }) (turned_back p.globals [])
+    ∙ ap (λ v. record p { functions = v; entry_points = (newest_first (newest_first p)).entry_points }) (turned_back p.functions [])
+    ∙ ap (λ v. record p { entry_points = v }) (turned_back p.entry_points [])

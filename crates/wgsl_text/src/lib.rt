@@ -1,9 +1,28 @@
-//! What WGSL text is: its tokens, its trees, and the layout of a tree.
+//! What WGSL text is: its tokens, its trees, and the layout of a tree. The public functions are laws.
 #![tactic(auto)]
 
 ghost use Rattle.std.specs.Prelude.{◌≡◌, List, ◌++◌};
-ghost use Rattle.wgsl_text.specs.Token.{Piece};
+ghost use Rattle.wgsl_text.specs.Grammar.{IsType, IsExpression};
+ghost use Rattle.wgsl_text.specs.GrammarOfLines.{IsProgram};
+ghost use Rattle.wgsl_text.specs.Reading.{ReadsType, ReadsExpression, Reads, HasOneReading, type_layout, expression_layout, layout};
 ghost use Rattle.wgsl_text.specs.Text.{text};
+ghost use Rattle.wgsl_text.specs.Token.{Piece};
+ghost use Rattle.wgsl_text.specs.Tree.{TypeSpecifier, Expression, Program};
+
+/// The text of a type is read as that type and no other.
+pub fn one_reading_of_a_type()
+    ensures { (t : TypeSpecifier) → IsType t → HasOneReading ReadsType (type_layout t) t }
+{}
+
+/// The text of an expression is read as that expression and no other.
+pub fn one_reading_of_an_expression()
+    ensures { (e : Expression) → IsExpression e → HasOneReading ReadsExpression (expression_layout e) e }
+{}
+
+/// The text of a program is read as that program and no other.
+pub fn one_reading_of_a_program()
+    ensures { (program : Program) → IsProgram program → HasOneReading Reads (layout program) program }
+{}
 
 /// The text of appended pieces is the appended texts.
 pub fn text_of_appended()

@@ -1,5 +1,4 @@
 use Rattle.wgsl_text.proofs.RowText.{text-append}
-use Rattle.wgsl_text.proofs.DeclarationRuns.{program_runs}
 use Rattle.wgsl_text.proofs.text_of_appended.Goals as goal
 
 pub returns : goal.returns
