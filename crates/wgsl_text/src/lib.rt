@@ -6,22 +6,25 @@ ghost use Rattle.wgsl_text.specs.Grammar.{IsType, IsExpression};
 ghost use Rattle.wgsl_text.specs.GrammarOfLines.{IsProgram};
 ghost use Rattle.wgsl_text.specs.Reading.{ReadsType, ReadsExpression, Reads, HasOneReading, type_layout, expression_layout, layout};
 ghost use Rattle.wgsl_text.specs.Text.{text};
-ghost use Rattle.wgsl_text.specs.Token.{Piece};
+ghost use Rattle.wgsl_text.specs.Token.{Piece, Token};
 ghost use Rattle.wgsl_text.specs.Tree.{TypeSpecifier, Expression, Program};
 
-/// The text of a type is read as that type and no other.
+/// The text of a type is read as that type and no other, and no tokens are read as two types.
 pub fn one_reading_of_a_type()
-    ensures { (t : TypeSpecifier) → IsType t → HasOneReading ReadsType (type_layout t) t }
+    ensures layout { (t : TypeSpecifier) → IsType t → HasOneReading ReadsType (type_layout t) t }
+    ensures unique { (ts : List Token) (a b : TypeSpecifier) → ReadsType ts a → ReadsType ts b → a ≡ b }
 {}
 
-/// The text of an expression is read as that expression and no other.
+/// The text of an expression is read as that expression and no other, and no tokens are read as two expressions.
 pub fn one_reading_of_an_expression()
-    ensures { (e : Expression) → IsExpression e → HasOneReading ReadsExpression (expression_layout e) e }
+    ensures layout { (e : Expression) → IsExpression e → HasOneReading ReadsExpression (expression_layout e) e }
+    ensures unique { (ts : List Token) (a b : Expression) → ReadsExpression ts a → ReadsExpression ts b → a ≡ b }
 {}
 
-/// The text of a program is read as that program and no other.
+/// The text of a program is read as that program and no other, and no tokens are read as two programs.
 pub fn one_reading_of_a_program()
-    ensures { (program : Program) → IsProgram program → HasOneReading Reads (layout program) program }
+    ensures layout { (program : Program) → IsProgram program → HasOneReading Reads (layout program) program }
+    ensures unique { (ts : List Token) (a b : Program) → Reads ts a → Reads ts b → a ≡ b }
 {}
 
 /// The text of appended pieces is the appended texts.
