@@ -2,9 +2,11 @@
 #![tactic(auto)]
 
 ghost use Rattle.std.specs.Prelude.{◌≡◌, List, ◌++◌};
+ghost use Rattle.wgsl_text.specs.Examples.{WorkedPrograms};
 ghost use Rattle.wgsl_text.specs.Grammar.{IsType, IsExpression};
 ghost use Rattle.wgsl_text.specs.GrammarOfLines.{IsProgram};
 ghost use Rattle.wgsl_text.specs.Reading.{ReadsType, ReadsExpression, Reads, HasOneReading, type_layout, expression_layout, layout};
+ghost use Rattle.wgsl_text.specs.Rows.{TypeRows, OperatorRows, AccessRows, LineRows};
 ghost use Rattle.wgsl_text.specs.Text.{text};
 ghost use Rattle.wgsl_text.specs.Token.{Piece, Token};
 ghost use Rattle.wgsl_text.specs.Tree.{TypeSpecifier, Expression, Program};
@@ -30,4 +32,17 @@ pub fn one_reading_of_a_program()
 /// The text of appended pieces is the appended texts.
 pub fn text_of_appended()
     ensures { (first second : List Piece) → text (first ++ second) ≡ text first ++ text second }
+{}
+
+/// The texts of worked programs, byte for byte.
+pub fn worked_programs()
+    ensures { WorkedPrograms }
+{}
+
+/// A text for each row of the grammar, byte for byte.
+pub fn rows()
+    ensures types { TypeRows }
+    ensures operators { OperatorRows }
+    ensures accesses { AccessRows }
+    ensures lines { LineRows }
 {}
