@@ -109,7 +109,7 @@ IsToken (Foreign b) = ⊥
 
 -- words
 
-past : (xs rest : List ℕ) → scan (xs ++ rest) (length xs) ≡ scan rest 0
+pub past : (xs rest : List ℕ) → scan (xs ++ rest) (length xs) ≡ scan rest 0
 past [] rest = refl
 past (x ∷ xs) rest = past xs rest
 
@@ -126,7 +126,7 @@ word_whole (b ∷ w) rest is e =
     ap (λ c. cond c (suc (word_length (w ++ rest))) 0) h.0 ∙ ap suc (word_whole w rest h.1 e)
 
 -- any word, keywords too
-word_scans : (w rest : List ℕ) → is_word_text w ≡ true → ends_word rest ≡ true → scan (w ++ rest) 0 ≡ word_token w ∷ scan rest 0
+pub word_scans : (w rest : List ℕ) → is_word_text w ≡ true → ends_word rest ≡ true → scan (w ++ rest) 0 ≡ word_token w ∷ scan rest 0
 word_scans [] rest is e = absurd (false≢true is)
 word_scans (b ∷ w) rest is e =
     let h = both (is_letter b) (all_word_bytes w) is in
@@ -177,7 +177,7 @@ no_point SuffixU rest e = refl
 no_point SuffixLi rest e = refl
 no_point SuffixLu rest e = refl
 
-digits_scan : (negative : Bool) (b : ℕ) (ds : List ℕ) (suffix : Suffix) (rest : List ℕ) → all_ascii_digits ds ≡ true → ends_number suffix rest ≡ true → number_lexeme negative b (ds ++ (suffix_text suffix ++ rest)) ≡ Takes (Number negative (digits_value 10 (b ∷ ds)) suffix) (length (ds ++ suffix_text suffix))
+pub digits_scan : (negative : Bool) (b : ℕ) (ds : List ℕ) (suffix : Suffix) (rest : List ℕ) → all_ascii_digits ds ≡ true → ends_number suffix rest ≡ true → number_lexeme negative b (ds ++ (suffix_text suffix ++ rest)) ≡ Takes (Number negative (digits_value 10 (b ∷ ds)) suffix) (length (ds ++ suffix_text suffix))
 digits_scan negative b ds suffix rest is e =
     let after = suffix_text suffix ++ rest in
     let n = digits_whole ds after is (digits_end suffix rest e) in
@@ -192,7 +192,7 @@ number_left : (ds : List ℕ) (suffix : Suffix) (rest : List ℕ) → scan (ds +
 number_left ds suffix rest =
     ap (λ v. scan v (length (ds ++ suffix_text suffix))) (sym (append_assoc ds (suffix_text suffix) rest)) ∙ past (ds ++ suffix_text suffix) rest
 
-number_scans : (negative : Bool) (ds : List ℕ) (suffix : Suffix) (rest : List ℕ) → 0 < length ds → all_ascii_digits ds ≡ true → ends_number suffix rest ≡ true → scan (cond negative (codes "-") [] ++ (ds ++ (suffix_text suffix ++ rest))) 0 ≡ Number negative (digits_value 10 ds) suffix ∷ scan rest 0
+pub number_scans : (negative : Bool) (ds : List ℕ) (suffix : Suffix) (rest : List ℕ) → 0 < length ds → all_ascii_digits ds ≡ true → ends_number suffix rest ≡ true → scan (cond negative (codes "-") [] ++ (ds ++ (suffix_text suffix ++ rest))) 0 ≡ Number negative (digits_value 10 ds) suffix ∷ scan rest 0
 number_scans negative [] suffix rest some is e = absurd (omega arith)
 number_scans false (b ∷ ds) suffix rest some is e =
     let h = both (is_ascii_digit b) (all_ascii_digits ds) is in

@@ -106,15 +106,17 @@ digits_length [] = 0
 digits_length (b ∷ bytes) = if is_ascii_digit b then suc (digits_length bytes) else 0
 
 -- the words that the grammar uses; each of them is reserved
+abbrev pub keywords : List Mark
+keywords =
+    KeywordTrue ∷ KeywordFalse ∷ KeywordLet ∷ KeywordVar ∷ KeywordIf ∷ KeywordElse ∷ KeywordLoop ∷ KeywordContinuing ∷ KeywordBreak ∷ KeywordContinue ∷
+    KeywordSwitch ∷ KeywordCase ∷ KeywordDefault ∷ KeywordReturn ∷ KeywordDiscard ∷ KeywordFn ∷ KeywordStruct ∷ KeywordConst ∷ KeywordEnable ∷ KeywordOverride ∷ []
+
 abbrev pub keyword_among : List Mark → List ℕ → Token
 keyword_among [] w = Word w
 keyword_among (m ∷ marks) w = if bytes_eq (mark_text m) w then Fixed m else keyword_among marks w
 
 abbrev pub word_token : List ℕ → Token
-word_token w =
-    if is_reserved w
-    then keyword_among (KeywordTrue ∷ KeywordFalse ∷ KeywordLet ∷ KeywordVar ∷ KeywordIf ∷ KeywordElse ∷ KeywordLoop ∷ KeywordContinuing ∷ KeywordBreak ∷ KeywordContinue ∷ KeywordSwitch ∷ KeywordCase ∷ KeywordDefault ∷ KeywordReturn ∷ KeywordDiscard ∷ KeywordFn ∷ KeywordStruct ∷ KeywordConst ∷ KeywordEnable ∷ KeywordOverride ∷ []) w
-    else Word w
+word_token w = if is_reserved w then keyword_among keywords w else Word w
 
 abbrev pub word_lexeme : ℕ → List ℕ → Lexeme
 word_lexeme b bytes = Takes (word_token (b ∷ take (word_length bytes) bytes)) (word_length bytes)
@@ -162,7 +164,11 @@ abbrev pub single : ℕ → List Mark → Lexeme
 single b [] = Takes (Foreign b) 0
 single b (m ∷ marks) = if bytes_eq (mark_text m) (b ∷ []) then Takes (Fixed m) 0 else single b marks
 
--- `>` is always a token by itself
+-- the signs that no second byte makes longer; `>` is always a token by itself
+abbrev pub single_signs : List Mark
+single_signs =
+    OpenParen ∷ CloseParen ∷ OpenBracket ∷ CloseBracket ∷ OpenBrace ∷ CloseBrace ∷ Comma ∷ Semicolon ∷ Colon ∷ Dot ∷ At ∷ GreaterThan ∷ Plus ∷ Star ∷ Slash ∷ Percent ∷ Caret ∷ Tilde ∷ []
+
 abbrev pub sign_lexeme : ℕ → List ℕ → Lexeme
 sign_lexeme b bytes =
     if b == 61 then sign_or Equals (starts_with 61 bytes) EqualsEquals else (
@@ -170,7 +176,7 @@ sign_lexeme b bytes =
     if b == 38 then sign_or Ampersand (starts_with 38 bytes) AndAnd else (
     if b == 124 then sign_or Bar (starts_with 124 bytes) BarBar else (
     if b == 60 then (if starts_with 61 bytes then Takes (Fixed LessEquals) 1 else sign_or LessThan (starts_with 60 bytes) LessLess) else
-    single b (OpenParen ∷ CloseParen ∷ OpenBracket ∷ CloseBracket ∷ OpenBrace ∷ CloseBrace ∷ Comma ∷ Semicolon ∷ Colon ∷ Dot ∷ At ∷ GreaterThan ∷ Plus ∷ Star ∷ Slash ∷ Percent ∷ Caret ∷ Tilde ∷ [])))))
+    single b single_signs))))
 
 -- the longest match at the front
 abbrev pub lexeme : ℕ → List ℕ → Lexeme

@@ -1,15 +1,24 @@
 //! What WGSL text is: its tokens, its trees, and the layout of a tree. The public functions are laws.
 #![tactic(auto)]
 
-ghost use Rattle.std.specs.Prelude.{◌≡◌, List, ◌++◌};
+ghost use Rattle.std.specs.Prelude.{◌≡◌, ℕ, List, [], ◌∷◌, ◌++◌};
 ghost use Rattle.wgsl_text.specs.Examples.{WorkedPrograms};
 ghost use Rattle.wgsl_text.specs.Grammar.{IsType, IsExpression};
 ghost use Rattle.wgsl_text.specs.GrammarOfLines.{IsProgram};
 ghost use Rattle.wgsl_text.specs.Reading.{ReadsType, ReadsExpression, Reads, HasOneReading, type_layout, expression_layout, layout};
 ghost use Rattle.wgsl_text.specs.Rows.{TypeRows, OperatorRows, AccessRows, LineRows};
-ghost use Rattle.wgsl_text.specs.Text.{text};
+ghost use Rattle.wgsl_text.specs.Spelling.{Spells, Begins};
+ghost use Rattle.wgsl_text.specs.Text.{text, tokens};
 ghost use Rattle.wgsl_text.specs.Token.{Piece, Token};
 ghost use Rattle.wgsl_text.specs.Tree.{TypeSpecifier, Expression, Program};
+
+/// The tokens of a text are those of its front, and then those of what stands behind it. The front is a blank, or
+/// the longest that spells a token, or a byte that begins none.
+pub fn longest_token()
+    ensures nothing { tokens [] ≡ [] }
+    ensures front { (b : ℕ) (bytes : List ℕ) → Begins b bytes }
+    ensures alone { (bytes : List ℕ) (t : Token) → Spells bytes t → tokens bytes ≡ t ∷ [] }
+{}
 
 /// The text of a type is read as that type and no other, and no tokens are read as two types.
 pub fn one_reading_of_a_type()
