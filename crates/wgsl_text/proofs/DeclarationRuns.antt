@@ -8,6 +8,7 @@ use Rattle.wgsl_text.specs.Tree.{Expression, TypeSpecifier, Named, Template, NoS
 use Rattle.wgsl_text.specs.Pieces.{mark, word, type_pieces}
 use Rattle.wgsl_text.specs.Declarations.{plain_attribute_word, numbered_attribute_word, worded_attribute_word, attribute_pieces, attributes_pieces, value_pieces, parameter_pieces, parameters_pieces, more_parameters_pieces, result_pieces, locals_pieces, group_end, function_pieces, enables_pieces, members_pieces, structs_pieces, constants_pieces, overrides_pieces, behind_attribute, global_attributes_pieces, space_pieces, globals_pieces, functions_pieces, entry_point_pieces, more_entry_points_pieces, entry_points_pieces, program_pieces}
 use Rattle.wgsl_text.specs.GrammarOfLines.{is_stage, IsValue, IsParameter, IsResult, IsLocal, Each, IsFunction, IsEntryPoint, IsMember, IsStruct, IsNamedConstant, IsOverride, IsGlobal, IsProgram}
+use Rattle.wgsl_text.specs.Tree.{no_declarations}
 use Rattle.wgsl_text.proofs.Machine.{Stack, InProgram, InParameters, InParameterType, InResult, InLocals, InLocalType, InMembers, InOverrideType, InGlobalType, InStatements, State, Want, GotType, WantParameter, AfterParameters, WantResult, WantType, AttributeName, WantMemberName, AfterVar, AfterGlobalName, PlainKind, NumberedKind, WordedKind, kind_of, attribute_named, turned, add_attribute, add_local, add_global, add_override, function_added, close_struct, close_parameters, step}
 use Rattle.wgsl_text.proofs.Chain.{◌$◌}
 use Rattle.wgsl_text.proofs.Runs.{Runs, ◌then◌, tok, gap, line, indent, end, as_state, expression_runs, type_runs}
@@ -211,9 +212,6 @@ more_entry_points_run (e ∷ more) is p = line $ entry_point_runs e is.0 p then 
 entry_points_run : (list : List EntryPoint) → Each IsEntryPoint list → (p : Program) → Runs (entry_points_pieces list) (Want (InProgram [] p)) (Want (InProgram [] (record p { entry_points = turned list p.entry_points })))
 entry_points_run [] is p = end
 entry_points_run (e ∷ more) is p = entry_point_runs e is.0 p then more_entry_points_run more is.1 (record p { entry_points = e ∷ p.entry_points })
-
-abbrev pub no_declarations : Program
-no_declarations = record { enables = []; structs = []; constants = []; overrides = []; globals = []; functions = []; entry_points = [] }
 
 -- the declarations of each kind, the newest first
 abbrev pub newest_first : Program → Program

@@ -3,7 +3,7 @@ use Rattle.std.proofs.Common.{◌≡◌, true, List, [], ◌∷◌, ◌++◌, re
 use Rattle.std.proofs.lemmas.List.{append-nil}
 use Rattle.wgsl_text.specs.Token.{Token, Piece, Tok, Blank, LineEnd, Indent}
 use Rattle.wgsl_text.specs.Words.{is_builtin}
-use Rattle.wgsl_text.specs.Tree.{TypeSpecifier, Expression, Program}
+use Rattle.wgsl_text.specs.Tree.{TypeSpecifier, Expression, Program, no_declarations}
 use Rattle.wgsl_text.specs.Pieces.{type_pieces, expression_pieces}
 use Rattle.wgsl_text.specs.Declarations.{program_pieces}
 use Rattle.wgsl_text.specs.Grammar.{IsType, IsExpression}
@@ -12,7 +12,7 @@ use Rattle.wgsl_text.specs.Text.{text, tokens_in, tokens}
 use Rattle.wgsl_text.specs.Reading.{ReadsType, ReadsExpression, Reads, type_layout, expression_layout, layout, HasOneReading}
 use Rattle.wgsl_text.proofs.Machine.{State, Want, WantType, Got, GotType, Bottom, InProgram, step, run}
 use Rattle.wgsl_text.proofs.Runs.{Runs, type_runs, expression_runs}
-use Rattle.wgsl_text.proofs.DeclarationRuns.{no_declarations, newest_first, newest_twice, program_runs}
+use Rattle.wgsl_text.proofs.DeclarationRuns.{newest_first, newest_twice, program_runs}
 use Rattle.wgsl_text.proofs.Scans.{Apart, ends_word, pieces_scan}
 use Rattle.wgsl_text.proofs.Spacing.{Spaced, type_spaced, expression_spaced}
 use Rattle.wgsl_text.proofs.DeclarationSpacing.{program_closed}

@@ -2,7 +2,7 @@
 use Prim.Native.String.{String}
 use Rattle.std.specs.Prelude.{◌≡◌, ℕ, true, false, List, [], ◌∷◌, ◌++◌, codes, Option, None, Some}
 use Rattle.wgsl_text.specs.Token.{SuffixI, SuffixU, SuffixLi}
-use Rattle.wgsl_text.specs.Tree.{Truth, Suffixed, Add, Multiply, Negate, TypeSpecifier, Named, Template, NoParts, TypePart, SizePart, Expression, Constant, Name, Binary, Unary, Call, Member, IndexAt, AddressOf, Dereference, Arguments, NoArguments, Argument, ZeroArgument, DefaultLabel, SignedLabel, LastLabel, MoreLabels, Let, TypedLet, Assign, CallStatement, ReturnValue, Continue, If, LoopBreakIf, Switch, Statement, Statements, NoStatements, Then, NoCases, Case, Vertex, Fragment, Compute, Location, Id, Group, Binding, Size, Builtin, Interpolate, Plain, Numbered, Worded, WorkgroupSize, Parameter, Result, NoResult, ResultOf, Local, Function, SpaceAlone, SpaceAndAccess, Program}
+use Rattle.wgsl_text.specs.Tree.{Truth, Suffixed, Add, Multiply, Negate, TypeSpecifier, Named, Template, NoParts, TypePart, SizePart, Expression, Constant, Name, Binary, Unary, Call, Member, IndexAt, AddressOf, Dereference, Arguments, NoArguments, Argument, ZeroArgument, DefaultLabel, SignedLabel, LastLabel, MoreLabels, Let, TypedLet, Assign, CallStatement, ReturnValue, Continue, If, LoopBreakIf, Switch, Statement, Statements, NoStatements, Then, NoCases, Case, Vertex, Fragment, Compute, Location, Id, Group, Binding, Size, Builtin, Interpolate, Plain, Numbered, Worded, WorkgroupSize, Parameter, Result, NoResult, ResultOf, Local, Function, SpaceAlone, SpaceAndAccess, Program, no_declarations}
 use Rattle.wgsl_text.specs.GrammarOfLines.{IsProgram}
 use Rattle.wgsl_text.specs.Reading.{layout}
 
@@ -43,9 +43,6 @@ local w t value = record { name = codes w; type = t; value = value }
 
 abbrev pub function : String → List Parameter → Result → List Local → List Statement → Function
 function w parameters result locals body = record { name = codes w; parameters = parameters; result = result; locals = locals; body = statements body }
-
-abbrev pub no_declarations : Program
-no_declarations = record { enables = []; structs = []; constants = []; overrides = []; globals = []; functions = []; entry_points = [] }
 
 abbrev pub of_functions : List Function → Program
 of_functions functions = record no_declarations { functions = functions }

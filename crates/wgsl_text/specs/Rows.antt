@@ -1,10 +1,10 @@
 -- A tree for each row of the grammar, and beside it its text.
 use Rattle.std.specs.Prelude.{◌≡◌, ℕ, true, false, List, [], ◌∷◌, ◌++◌, codes, None, Some}
 use Rattle.wgsl_text.specs.Token.{SuffixI, SuffixLi, SuffixLu}
-use Rattle.wgsl_text.specs.Tree.{Truth, Suffixed, SignedShort, UnsignedShort, LeastInteger, LeastLong, Add, Subtract, Multiply, Divide, Modulo, Equal, NotEqual, Less, LessEqual, Greater, GreaterEqual, And, ExclusiveOr, InclusiveOr, LogicalAnd, LogicalOr, ShiftLeft, ShiftRight, Negate, LogicalNot, BitwiseNot, TypeSpecifier, Template, NoParts, TypePart, SizePart, Expression, Constant, Binary, Unary, Call, Member, Index, IndexAt, AddressOf, Dereference, NoArguments, Argument, NumberArgument, ZeroArgument, DefaultLabel, SignedLabel, UnsignedLabel, LastLabel, MoreLabels, Let, TypedLet, Assign, CallStatement, Return, ReturnValue, Discard, Break, If, Loop, Switch, Block, NoCases, Case, Invariant, PerPrimitive, Coherent, Volatile, Vertex, Fragment, Task, RayGeneration, AnyHit, ClosestHit, Miss, Location, BlendSource, Id, Group, Binding, Size, Align, Builtin, Interpolate, Mesh, Payload, IncomingPayload, Plain, Numbered, Worded, Interpolated, WorkgroupSize, NoResult, ResultOf, NoSpace, SpaceAlone, Program}
+use Rattle.wgsl_text.specs.Tree.{Truth, Suffixed, SignedShort, UnsignedShort, LeastInteger, LeastLong, Add, Subtract, Multiply, Divide, Modulo, Equal, NotEqual, Less, LessEqual, Greater, GreaterEqual, And, ExclusiveOr, InclusiveOr, LogicalAnd, LogicalOr, ShiftLeft, ShiftRight, Negate, LogicalNot, BitwiseNot, TypeSpecifier, Template, NoParts, TypePart, SizePart, Expression, Constant, Binary, Unary, Call, Member, Index, IndexAt, AddressOf, Dereference, NoArguments, Argument, NumberArgument, ZeroArgument, DefaultLabel, SignedLabel, UnsignedLabel, LastLabel, MoreLabels, Let, TypedLet, Assign, CallStatement, Return, ReturnValue, Discard, Break, If, Loop, Switch, Block, NoCases, Case, Invariant, PerPrimitive, Coherent, Volatile, Vertex, Fragment, Task, RayGeneration, AnyHit, ClosestHit, Miss, Location, BlendSource, Id, Group, Binding, Size, Align, Builtin, Interpolate, Mesh, Payload, IncomingPayload, Plain, Numbered, Worded, Interpolated, WorkgroupSize, NoResult, ResultOf, NoSpace, SpaceAlone, Program, no_declarations}
 use Rattle.wgsl_text.specs.Grammar.{IsType, IsExpression}
 use Rattle.wgsl_text.specs.Reading.{type_layout, expression_layout}
-use Rattle.wgsl_text.specs.Examples.{named, name, integer, unsigned, operands, call, statements, parameter, local, function, no_declarations, of_functions, IsText}
+use Rattle.wgsl_text.specs.Examples.{named, name, integer, unsigned, operands, call, statements, parameter, local, function, of_functions, IsText}
 
 -- The tree is a type, and these bytes are its layout.
 pub record IsTypeText (t : TypeSpecifier) (bytes : List ℕ) : Type 0 where

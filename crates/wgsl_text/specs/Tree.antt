@@ -1,5 +1,5 @@
 -- The trees that a text is read as. A word is the list of its bytes.
-use Rattle.std.specs.Prelude.{ℕ, Bool, List, Option}
+use Rattle.std.specs.Prelude.{ℕ, Bool, List, [], Option}
 use Rattle.wgsl_text.specs.Token.{Suffix}
 
 pub data BinaryOperator : Type 0 where
@@ -176,3 +176,6 @@ pub record Program : Type 0 where
   pub globals : List Global
   pub functions : List Function
   pub entry_points : List EntryPoint
+
+abbrev pub no_declarations : Program
+no_declarations = record { enables = []; structs = []; constants = []; overrides = []; globals = []; functions = []; entry_points = [] }

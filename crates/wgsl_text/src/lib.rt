@@ -6,6 +6,7 @@ ghost use Rattle.wgsl_text.specs.Examples.{WorkedPrograms};
 ghost use Rattle.wgsl_text.specs.Grammar.{IsType, IsExpression};
 ghost use Rattle.wgsl_text.specs.GrammarOfLines.{IsProgram};
 ghost use Rattle.wgsl_text.specs.Reading.{ReadsType, ReadsExpression, Reads, HasOneReading, type_layout, expression_layout, layout};
+ghost use Rattle.wgsl_text.specs.Refused.{Refused};
 ghost use Rattle.wgsl_text.specs.Rows.{TypeRows, OperatorRows, AccessRows, LineRows};
 ghost use Rattle.wgsl_text.specs.Spelling.{Spells, Begins};
 ghost use Rattle.wgsl_text.specs.Text.{text, tokens};
@@ -54,4 +55,9 @@ pub fn rows()
     ensures operators { OperatorRows }
     ensures accesses { AccessRows }
     ensures lines { LineRows }
+{}
+
+/// Texts that are no type, no expression or no program.
+pub fn refused_texts()
+    ensures { Refused }
 {}
