@@ -25,6 +25,11 @@ abbrev pub IsLabels : Labels → Type 0
 IsLabels (LastLabel l) = IsLabel l
 IsLabels (MoreLabels l more) = IsLabel l × IsLabels more
 
+-- a switch has a case
+abbrev pub has_case : Cases → Bool
+has_case NoCases = false
+has_case (Case labels body more) = true
+
 abbrev mutual
   pub IsStatement : Statement → Type 0
   IsStatement (Let w e) = IsIdentifier w × IsExpression e
@@ -35,7 +40,7 @@ abbrev mutual
   IsStatement (If e accept reject) = IsExpression e × IsStatements accept × IsStatements reject
   IsStatement (Loop body rest) = IsStatements body × IsStatements rest
   IsStatement (LoopBreakIf body rest e) = IsStatements body × IsStatements rest × IsExpression e
-  IsStatement (Switch e cases) = IsExpression e × IsCases cases
+  IsStatement (Switch e cases) = IsExpression e × IsCases cases × IsTrue (has_case cases)
   IsStatement (Block body) = IsStatements body
   IsStatement _ = ⊤
 

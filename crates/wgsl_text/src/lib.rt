@@ -5,6 +5,7 @@ ghost use Rattle.std.specs.Prelude.{◌≡◌, ℕ, List, [], ◌∷◌, ◌++�
 ghost use Rattle.wgsl_text.specs.Examples.{WorkedPrograms};
 ghost use Rattle.wgsl_text.specs.Grammar.{IsType, IsExpression};
 ghost use Rattle.wgsl_text.specs.GrammarOfLines.{IsProgram};
+ghost use Rattle.wgsl_text.specs.LargeExamples.{LargePrograms};
 ghost use Rattle.wgsl_text.specs.Reading.{ReadsType, ReadsExpression, Reads, HasOneReading, type_layout, expression_layout, layout};
 ghost use Rattle.wgsl_text.specs.Refused.{Refused};
 ghost use Rattle.wgsl_text.specs.Rows.{TypeRows, OperatorRows, AccessRows, LineRows};
@@ -46,7 +47,8 @@ pub fn text_of_appended()
 
 /// The texts of worked programs, byte for byte.
 pub fn worked_programs()
-    ensures { WorkedPrograms }
+    ensures written_out { WorkedPrograms }
+    ensures large { LargePrograms }
 {}
 
 /// A text for each row of the grammar, byte for byte.
