@@ -1,8 +1,8 @@
 -- In a declaration no token runs into the next.
 use Rattle.std.proofs.Common.{◌≡◌, ℕ, true, false, ◌||◌, List, [], ◌∷◌, ◌++◌, refl, sym, ap, subst, append_assoc}
-use Rattle.std.specs.Prelude.{Option, None, Some, IsTrue, ◌&&◌, codes}
+use Rattle.std.specs.Prelude.{Option, None, Some, IsTrue, codes}
 use Rattle.std.specs.Str.{bytes_eq}
-use Rattle.wgsl_text.specs.Token.{Colon, Piece, Blank, KeywordVar, Tok, Word}
+use Rattle.wgsl_text.specs.Token.{Colon, Piece, Blank, KeywordVar}
 use Rattle.wgsl_text.specs.Words.{stands_in, is_reserved, IsWord}
 use Rattle.wgsl_text.specs.Tables.{address_space_words, access_words, builtin_value_words, interpolation_words, sampling_words, enable_words}
 use Rattle.wgsl_text.specs.Tree.{Expression, TypeSpecifier, PlainAttribute, Invariant, PerPrimitive, Coherent, Volatile, Vertex, Fragment, Compute, Task, RayGeneration, AnyHit, ClosestHit, Miss, NumberedAttribute, Location, BlendSource, Id, Group, Binding, Size, Align, WordedAttribute, Builtin, Interpolate, Mesh, Payload, IncomingPayload, Attribute, Plain, Numbered, Worded, Interpolated, WorkgroupSize, Parameter, Result, NoResult, ResultOf, Local, Function, EntryPoint, StructMember, Struct, NamedConstant, Override, Space, NoSpace, SpaceAlone, SpaceAndAccess, Global, Program}
@@ -11,7 +11,7 @@ use Rattle.wgsl_text.specs.Declarations.{plain_attribute_word, numbered_attribut
 use Rattle.wgsl_text.specs.Grammar.{IsType}
 use Rattle.wgsl_text.specs.GrammarOfLines.{IsAttribute, IsAttributes, IsValue, IsParameter, IsResult, IsLocal, Each, IsFunction, IsEntryPoint, IsMember, IsStruct, IsNamedConstant, IsOverride, is_space, IsGlobal, IsEnable, IsProgram}
 use Rattle.wgsl_text.specs.Text.{text}
-use Rattle.wgsl_text.proofs.Scans.{IsWordToken, word_token_of, ends_word}
+use Rattle.wgsl_text.proofs.Scans.{IsWordToken, ends_word}
 use Rattle.wgsl_text.proofs.Chain.{◌$◌}
 use Rattle.wgsl_text.proofs.WordLemmas.{both, all_words, is_free, table_word, address_spaces_free, accesses_free, builtin_values_free, interpolations_free, samplings_free, enables_free}
 use Rattle.wgsl_text.proofs.Spacing.{expression_spaced, type_spaced, word_opens}

@@ -1,6 +1,6 @@
 -- What the tokenizer takes is spelled by the bytes that it takes.
-use Rattle.std.proofs.Common.{◌≡◌, ℕ, suc, zero, Bool, true, false, cond, not, ◌&&◌, ◌||◌, List, [], ◌∷◌, ◌++◌, length, take, drop, refl, sym, ap, subst, ◌∙◌, append_assoc, arith, eqb-true}
-use Rattle.std.specs.Prelude.{codes, ◌==◌}
+use Rattle.std.proofs.Common.{◌≡◌, ℕ, suc, Bool, true, false, cond, not, ◌&&◌, ◌||◌, List, [], ◌∷◌, ◌++◌, length, take, drop, refl, sym, ap, subst, ◌∙◌, append_assoc, arith, eqb-true}
+use Rattle.std.specs.Prelude.{◌==◌}
 use Rattle.std.specs.Char.{is_ascii_digit}
 use Rattle.std.specs.Str.{all_ascii_digits, bytes_eq}
 use Rattle.std.specs.Str.Parse.{digits_value}
@@ -8,13 +8,13 @@ use Rattle.std.proofs.lemmas.Bool.{false≢true}
 use Rattle.std.proofs.lemmas.Slice.Eq.{bytes_eq-Decides}
 use Rattle.std.proofs.Math.Seq.{take-append_seam, drop-append_seam}
 use Rattle.wgsl_text.specs.Token.{Mark, Equals, LessThan, Ampersand, Bar, Not, Minus, EqualsEquals, NotEquals, LessEquals, AndAnd, BarBar, LessLess}
-use Rattle.wgsl_text.specs.Token.{Suffix, NoSuffix, SuffixI, SuffixU, SuffixLi, SuffixLu, Token, Fixed, Number, ZeroPointZero, Foreign}
+use Rattle.wgsl_text.specs.Token.{Suffix, NoSuffix, Token, Fixed, Number, ZeroPointZero, Foreign}
 use Rattle.wgsl_text.specs.Words.{is_letter, is_word_byte, all_word_bytes}
-use Rattle.wgsl_text.specs.Text.{Lexeme, Takes, Skips, mark_text, suffix_text, starts_with, word_length, digits_length, word_token, word_lexeme, suffix_at, is_point_zero, is_empty, number_of, number_lexeme, one_more, minus_lexeme, sign_or, single, single_signs, sign_lexeme, lexeme, behind, scan, tokens}
+use Rattle.wgsl_text.specs.Text.{Lexeme, Takes, Skips, mark_text, suffix_text, starts_with, word_length, digits_length, word_token, word_lexeme, suffix_at, is_point_zero, is_empty, number_of, number_lexeme, one_more, minus_lexeme, sign_or, single, single_signs, sign_lexeme, lexeme, behind, scan}
 use Rattle.wgsl_text.specs.Spelling.{is_sign, Spells, SpellsWord, SpellsNumber, SpellsZeroPointZero, SpellsSign, is_blank, Begins, AtBlank, AtToken, AtForeign}
 use Rattle.wgsl_text.proofs.WordLemmas.{both}
 use Rattle.wgsl_text.proofs.Scans.{when_true, when_false, past}
-use Rattle.wgsl_text.proofs.Longest.{IsKnown, AtLeast, lexeme_of, longest}
+use Rattle.wgsl_text.proofs.Longest.{AtLeast, lexeme_of, longest}
 
 -- what the lexeme at the front of these bytes takes
 data Answer (b : ℕ) (bytes : List ℕ) (l : Lexeme) : Type 0 where
@@ -99,12 +99,12 @@ suffix_front [] = ([], refl)
 suffix_front (b ∷ bytes) =
     let none : SuffixFront (b ∷ bytes) NoSuffix = (b ∷ bytes, refl) in
     pick _ (is_letter b) _ _ (λ _.
-      pick _ (b == 105) _ _ (λ e. (bytes, ap (λ v. v ∷ bytes) (eqb-true b 105 e)))
-      (pick _ (b == 117) _ _ (λ e. (bytes, ap (λ v. v ∷ bytes) (eqb-true b 117 e)))
-      (pick _ (b == 108) _ _ (λ e.
-        pick _ (starts_with 105 bytes) _ _ (λ f. let s = starts 105 bytes f in (s.0, ap (λ v. v ∷ bytes) (eqb-true b 108 e) ∙ ap (λ v. 108 ∷ v) s.1))
-        (pick _ (starts_with 117 bytes) _ _ (λ f. let s = starts 117 bytes f in (s.0, ap (λ v. v ∷ bytes) (eqb-true b 108 e) ∙ ap (λ v. 108 ∷ v) s.1)) none))
-      none))) none
+    pick _ (b == 105) _ _ (λ e. (bytes, ap (λ v. v ∷ bytes) (eqb-true b 105 e)))
+    (pick _ (b == 117) _ _ (λ e. (bytes, ap (λ v. v ∷ bytes) (eqb-true b 117 e)))
+    (pick _ (b == 108) _ _ (λ e.
+    pick _ (starts_with 105 bytes) _ _ (λ f. let s = starts 105 bytes f in (s.0, ap (λ v. v ∷ bytes) (eqb-true b 108 e) ∙ ap (λ v. 108 ∷ v) s.1))
+    (pick _ (starts_with 117 bytes) _ _ (λ f. let s = starts 117 bytes f in (s.0, ap (λ v. v ∷ bytes) (eqb-true b 108 e) ∙ ap (λ v. 108 ∷ v) s.1)) none))
+    none))) none
 
 -- what a number that begins with the digit b is
 data NumberFront (negative : Bool) (b : ℕ) (bytes : List ℕ) (l : Lexeme) : Type 0 where
@@ -131,6 +131,7 @@ number_of_digits negative b bytes ds rest is whole = zero_or (is_point_zero rest
   where
     s : SuffixFront rest (suffix_at rest)
     s = suffix_front rest
+
     zero_or : (c : Bool) → (is_point_zero rest && (not negative && (b == 48 && is_empty ds))) ≡ c → NumberFront negative b bytes (cond c (Takes ZeroPointZero 2) (Takes (Number negative (digits_value 10 (b ∷ ds)) (suffix_at rest)) (length (ds ++ suffix_text (suffix_at rest)))))
     zero_or true e =
         let h = both (is_point_zero rest) (not negative && (b == 48 && is_empty ds)) e in
@@ -153,9 +154,10 @@ all_digits b ds digit is = ap (λ v. v && all_ascii_digits ds) digit ∙ is
 
 number_answer : (b : ℕ) (bytes : List ℕ) → is_ascii_digit b ≡ true → Answer b bytes (number_lexeme false b bytes)
 number_answer b bytes digit = elim (number_front false b bytes) [
-    PointZero positive zero_ rest whole l ↦ Spelled (46 ∷ 48 ∷ []) rest ZeroPointZero whole (subst (λ v. Spells (v ∷ 46 ∷ 48 ∷ []) ZeroPointZero) (sym zero_) SpellsZeroPointZero) l
+  | PointZero positive zero_ rest whole l ↦ Spelled (46 ∷ 48 ∷ []) rest ZeroPointZero whole (subst (λ v. Spells (v ∷ 46 ∷ 48 ∷ []) ZeroPointZero) (sym zero_) SpellsZeroPointZero) l
   | Digits ds rest suffix is whole l ↦
-      Spelled (ds ++ suffix_text suffix) rest (Number false (digits_value 10 (b ∷ ds)) suffix) whole (SpellsNumber false (b ∷ ds) suffix (omega arith) (all_digits b ds digit is)) l ]
+      Spelled (ds ++ suffix_text suffix) rest (Number false (digits_value 10 (b ∷ ds)) suffix) whole (SpellsNumber false (b ∷ ds) suffix (omega arith) (all_digits b ds digit is)) l
+]
 
 minus_sign : (bytes : List ℕ) → Answer 45 bytes (Takes (Fixed Minus) 0)
 minus_sign bytes = Spelled [] bytes (Fixed Minus) refl (SpellsSign Minus refl) refl
@@ -166,9 +168,10 @@ minus_answer (b ∷ bytes) = choose (is_ascii_digit b) _ _ (λ digit. negative_n
   where
     negative_number : is_ascii_digit b ≡ true → NumberFront true b bytes (number_lexeme true b bytes) → Answer 45 (b ∷ bytes) (one_more (number_lexeme true b bytes))
     negative_number digit f = elim f [
-        PointZero positive zero_ rest whole l ↦ absurd (false≢true (sym positive))
+      | PointZero positive zero_ rest whole l ↦ absurd (false≢true (sym positive))
       | Digits ds rest suffix is whole l ↦
-          Spelled (b ∷ (ds ++ suffix_text suffix)) rest (Number true (digits_value 10 (b ∷ ds)) suffix) (ap (λ v. b ∷ v) whole) (SpellsNumber true (b ∷ ds) suffix (omega arith) (all_digits b ds digit is)) (ap one_more l) ]
+          Spelled (b ∷ (ds ++ suffix_text suffix)) rest (Number true (digits_value 10 (b ∷ ds)) suffix) (ap (λ v. b ∷ v) whole) (SpellsNumber true (b ∷ ds) suffix (omega arith) (all_digits b ds digit is)) (ap one_more l)
+    ]
 
 -- signs
 
@@ -221,7 +224,7 @@ front_long b bytes other rest u s e = subst (λ v. AtLeast (length other) (lexem
 
 pub begins : (b : ℕ) (bytes : List ℕ) → Begins b bytes
 begins b bytes = elim (answer b bytes) [
-    Skipped blank l ↦ AtBlank blank (ap (λ v. behind v (scan bytes)) l)
+  | Skipped blank l ↦ AtBlank blank (ap (λ v. behind v (scan bytes)) l)
   | Spelled front rest t whole s l ↦
       AtToken (b ∷ front) rest t
       (record {
@@ -231,4 +234,5 @@ begins b bytes = elim (answer b bytes) [
       })
       (ap (λ v. behind v (scan bytes)) l ∙ ap (λ ts. t ∷ ts) (ap (λ v. scan v (length front)) whole ∙ past front rest))
   | Unknown plain l ↦
-      AtForeign plain (λ front rest t e s. (subst (AtLeast (length front)) l (front_long b bytes front rest t s e)).0) (ap (λ v. behind v (scan bytes)) l) ]
+      AtForeign plain (λ front rest t e s. (subst (AtLeast (length front)) l (front_long b bytes front rest t s e)).0) (ap (λ v. behind v (scan bytes)) l)
+]

@@ -1,18 +1,12 @@
 -- The large programs have their texts.
-use Rattle.std.proofs.Common.{◌≡◌, ℕ, zero, suc, ◌+◌, ◌*◌, List, [], ◌∷◌, ◌++◌, length, refl, sym, ap, ◌∙◌, append_assoc, rules, arith}
+use Rattle.std.proofs.Common.{ℕ, zero, suc, refl, rules}
 use Rattle.std.specs.Prelude.{codes}
-use Rattle.std.specs.Fmt.{digits}
-use Rattle.std.proofs.lemmas.List.{length-append}
 use Rattle.wgsl_text.specs.Words.{is_reserved, is_builtin, IsIdentifier}
 use Rattle.wgsl_text.specs.Tree.{Template, TypePart, NoParts}
-use Rattle.wgsl_text.specs.Pieces.{expression_pieces}
 use Rattle.wgsl_text.specs.Grammar.{IsType, IsExpression}
-use Rattle.wgsl_text.specs.GrammarOfLines.{IsProgram, IsFunction}
-use Rattle.wgsl_text.specs.Text.{text}
-use Rattle.wgsl_text.specs.Reading.{layout}
+use Rattle.wgsl_text.specs.GrammarOfLines.{IsProgram}
 use Rattle.wgsl_text.specs.Examples.{named}
-use Rattle.wgsl_text.specs.LargeExamples.{deep, deep_text, doubled, double, doubled_text, double_text, LargePrograms}
-use Rattle.wgsl_text.proofs.RowText.{text-append}
+use Rattle.wgsl_text.specs.LargeExamples.{deep, doubled, double, LargePrograms}
 
 deep_form : IsProgram deep
 unfolding is_reserved is_builtin
@@ -49,13 +43,16 @@ double_form = record {
   constants = tt;
   overrides = tt;
   globals = tt;
-  functions = (record {
-    name = is_d;
-    parameters = (record { attributes = tt; binding = refl; name = is_t; type = is_vector }, (record { attributes = tt; binding = refl; name = is_x; type = is_integer }, tt));
-    result = (tt, refl, is_integer);
-    locals = tt;
-    body = (doubled_form 12, tt);
-  }, tt);
+  functions = (
+    record {
+      name = is_d;
+      parameters = (record { attributes = tt; binding = refl; name = is_t; type = is_vector }, (record { attributes = tt; binding = refl; name = is_x; type = is_integer }, tt));
+      result = (tt, refl, is_integer);
+      locals = tt;
+      body = (doubled_form 12, tt);
+    },
+    tt,
+  );
   entry_points = tt;
 }
 

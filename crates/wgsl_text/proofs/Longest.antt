@@ -1,17 +1,17 @@
 -- The tokenizer takes the longest front that spells a token.
-use Rattle.std.proofs.Common.{◌≡◌, ℕ, ◌<◌, ◌≤◌, suc, zero, Bool, true, false, cond, not, ◌&&◌, ◌||◌, List, [], ◌∷◌, ◌++◌, length, take, drop, refl, sym, ap, subst, ◌∙◌, append_assoc, arith, eqb-true}
-use Rattle.std.specs.Prelude.{codes, ◌==◌, ◌+◌, ⊤}
+use Rattle.std.proofs.Common.{◌≡◌, ℕ, ◌<◌, ◌≤◌, suc, Bool, true, false, cond, not, ◌&&◌, List, [], ◌∷◌, ◌++◌, length, take, drop, refl, sym, ap, subst, ◌∙◌, append_assoc, arith}
+use Rattle.std.specs.Prelude.{◌==◌, ◌+◌, ⊤}
 use Rattle.std.specs.Char.{is_ascii_digit}
 use Rattle.std.specs.Str.{all_ascii_digits, bytes_eq}
 use Rattle.std.proofs.lemmas.Bool.{false≢true}
 use Rattle.std.proofs.lemmas.List.{append-nil, length-append}
-use Rattle.wgsl_text.specs.Token.{Mark, Equals, LessThan, Ampersand, Bar, Not, Minus, EqualsEquals, NotEquals, LessEquals, AndAnd, BarBar, LessLess, KeywordTrue, KeywordFalse, KeywordLet, KeywordVar, KeywordIf, KeywordElse, KeywordLoop, KeywordContinuing, KeywordBreak, KeywordContinue, KeywordSwitch, KeywordCase, KeywordDefault, KeywordReturn, KeywordDiscard, KeywordFn, KeywordStruct, KeywordConst, KeywordEnable, KeywordOverride}
-use Rattle.wgsl_text.specs.Token.{Suffix, NoSuffix, SuffixI, SuffixU, SuffixLi, SuffixLu, Token, Fixed, Word, Number, ZeroPointZero, Foreign}
+use Rattle.wgsl_text.specs.Token.{Mark, Equals, LessThan, Ampersand, Bar, Not, Minus, EqualsEquals, NotEquals, AndAnd, BarBar, LessLess, KeywordTrue, KeywordFalse, KeywordLet, KeywordVar, KeywordIf, KeywordElse, KeywordLoop, KeywordContinuing, KeywordBreak, KeywordContinue, KeywordSwitch, KeywordCase, KeywordDefault, KeywordReturn, KeywordDiscard, KeywordFn, KeywordStruct, KeywordConst, KeywordEnable, KeywordOverride}
+use Rattle.wgsl_text.specs.Token.{Suffix, NoSuffix, SuffixI, SuffixU, SuffixLi, SuffixLu, Token, Fixed, Word, Foreign}
 use Rattle.wgsl_text.specs.Words.{is_letter, is_word_byte, all_word_bytes, is_word_text, is_reserved}
-use Rattle.wgsl_text.specs.Text.{Lexeme, Takes, Skips, mark_text, suffix_text, starts_with, word_length, digits_length, keyword_among, keywords, word_token, word_lexeme, suffix_at, is_point_zero, is_empty, number_of, number_lexeme, one_more, minus_lexeme, sign_or, lexeme, behind, scan, tokens}
-use Rattle.wgsl_text.specs.Spelling.{is_sign, number_text, Spells, SpellsWord, SpellsNumber, SpellsZeroPointZero, SpellsSign, is_blank, IsLongest, Begins}
+use Rattle.wgsl_text.specs.Text.{Lexeme, Takes, Skips, mark_text, suffix_text, starts_with, word_length, digits_length, keyword_among, keywords, word_token, word_lexeme, suffix_at, is_point_zero, is_empty, number_of, number_lexeme, one_more, minus_lexeme, sign_or, lexeme}
+use Rattle.wgsl_text.specs.Spelling.{is_sign, number_text, Spells, SpellsWord, SpellsNumber, SpellsZeroPointZero, SpellsSign}
 use Rattle.wgsl_text.proofs.WordLemmas.{both}
-use Rattle.wgsl_text.proofs.Scans.{when_true, when_false, past, digits_scan, digit_no_letter}
+use Rattle.wgsl_text.proofs.Scans.{when_true, when_false, digits_scan, digit_no_letter}
 
 -- how many bytes after its first a lexeme has
 abbrev taken : Lexeme → ℕ
@@ -99,8 +99,8 @@ digits_at_least negative b (d ∷ ds) more bytes =
 number_at_least : (negative : Bool) (b : ℕ) (ds : List ℕ) (suffix : Suffix) (rest : List ℕ) → all_ascii_digits ds ≡ true → AtLeast (suc (length (ds ++ suffix_text suffix))) (number_lexeme negative b (ds ++ (suffix_text suffix ++ rest)))
 number_at_least negative b ds NoSuffix rest is =
     let found : number_lexeme negative b (ds ++ rest) ≡ number_of negative b (ds ++ take (digits_length rest) rest) (drop (digits_length rest) rest) =
-      ap (λ v. number_of negative b v (drop (digits_length (ds ++ rest)) (ds ++ rest))) (digits_taken ds rest is)
-      ∙ ap (λ v. number_of negative b (ds ++ take (digits_length rest) rest) v) (digits_dropped ds rest is) in
+    ap (λ v. number_of negative b v (drop (digits_length (ds ++ rest)) (ds ++ rest))) (digits_taken ds rest is)
+    ∙ ap (λ v. number_of negative b (ds ++ take (digits_length rest) rest) v) (digits_dropped ds rest is) in
     subst (λ v. AtLeast (suc (length v)) (number_lexeme negative b (ds ++ rest))) (sym (append-nil ds))
     (moved (suc (length ds)) found (digits_at_least negative b ds (take (digits_length rest) rest) (drop (digits_length rest) rest)))
 number_at_least negative b ds SuffixI rest is = moved (suc (length (ds ++ suffix_text SuffixI))) (digits_scan negative b ds SuffixI rest is refl) (tt, omega arith)

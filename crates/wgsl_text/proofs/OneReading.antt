@@ -1,5 +1,5 @@
 -- The text of a tree has one reading.
-use Rattle.std.proofs.Common.{◌≡◌, true, List, [], ◌∷◌, ◌++◌, refl, sym, ap, subst, ◌∙◌}
+use Rattle.std.proofs.Common.{◌≡◌, List, [], ◌∷◌, refl, sym, ap, subst, ◌∙◌}
 use Rattle.std.proofs.lemmas.List.{append-nil}
 use Rattle.wgsl_text.specs.Token.{Token, Piece, Tok, Blank, LineEnd, Indent}
 use Rattle.wgsl_text.specs.Words.{is_builtin}
@@ -13,7 +13,7 @@ use Rattle.wgsl_text.specs.Reading.{ReadsType, ReadsExpression, Reads, type_layo
 use Rattle.wgsl_text.proofs.Machine.{State, Want, WantType, Got, GotType, Bottom, InProgram, step, run}
 use Rattle.wgsl_text.proofs.Runs.{Runs, type_runs, expression_runs}
 use Rattle.wgsl_text.proofs.DeclarationRuns.{newest_first, newest_twice, program_runs}
-use Rattle.wgsl_text.proofs.Scans.{Apart, ends_word, pieces_scan}
+use Rattle.wgsl_text.proofs.Scans.{Apart, pieces_scan}
 use Rattle.wgsl_text.proofs.Spacing.{Spaced, type_spaced, expression_spaced}
 use Rattle.wgsl_text.proofs.DeclarationSpacing.{program_closed}
 

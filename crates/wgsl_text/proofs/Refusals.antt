@@ -1,5 +1,5 @@
 -- The machine shows which texts have no reading.
-use Rattle.std.proofs.Common.{◌≡◌, ℕ, Bool, true, false, not, List, [], ◌∷◌, length, refl, sym, ap, subst, ◌∙◌, arith}
+use Rattle.std.proofs.Common.{◌≡◌, Bool, true, false, List, [], ◌∷◌, length, refl, sym, ap, subst, ◌∙◌, arith}
 use Rattle.std.specs.Prelude.{codes, ◌==◌, ◌<◌, ◌^◌}
 use Rattle.std.proofs.lemmas.Bool.{false≢true}
 use Rattle.wgsl_text.specs.Token.{Token, SuffixI, SuffixU}
@@ -7,12 +7,10 @@ use Rattle.wgsl_text.specs.Words.{is_reserved, is_builtin}
 use Rattle.wgsl_text.specs.Tree.{TypeSpecifier, Expression, Program, Named, Template, TypePart, NoParts, Name, Call, Argument, NoArguments, NumberArgument, Member, Unary, Negate, Constant, Suffixed}
 use Rattle.wgsl_text.specs.Tree.{no_declarations, NoResult, Plain, Compute, Worded, Builtin}
 use Rattle.wgsl_text.specs.Examples.{named, parameter, function, of_functions}
-use Rattle.wgsl_text.specs.Pieces.{expression_pieces}
-use Rattle.wgsl_text.specs.Text.{tokens, tokens_in}
 use Rattle.wgsl_text.specs.Reading.{ReadsType, ReadsExpression, Reads}
-use Rattle.wgsl_text.specs.Refused.{Refused, IsNoType, IsNoExpression, IsNoProgram}
+use Rattle.wgsl_text.specs.Refused.{Refused, IsNoExpression}
 use Rattle.wgsl_text.proofs.Machine.{State, Want, WantType, Got, GotType, Bottom, InProgram}
-use Rattle.wgsl_text.proofs.DeclarationRuns.{ newest_first, newest_twice}
+use Rattle.wgsl_text.proofs.DeclarationRuns.{newest_first, newest_twice}
 use Rattle.wgsl_text.proofs.OneReading.{read, type_read, expression_read, program_read}
 
 abbrev is_type : State → Bool

@@ -1,6 +1,6 @@
 -- The machine reads back what the pieces of a type or an expression write.
 use Rattle.std.proofs.Common.{◌≡◌, ℕ, Bool, true, false, cond, List, [], ◌∷◌, ◌++◌, refl, ap, ◌∙◌}
-use Rattle.wgsl_text.specs.Token.{Mark, OpenParen, CloseParen, LessThan, Suffix, NoSuffix, SuffixI, SuffixU, SuffixLi, SuffixLu, Token, Fixed, Word, Number, ZeroPointZero, Foreign, Piece, Tok, Blank, LineEnd, Indent}
+use Rattle.wgsl_text.specs.Token.{OpenParen, LessThan, Suffix, NoSuffix, Token, Number, Piece, Tok, Blank, LineEnd, Indent}
 use Rattle.wgsl_text.specs.Words.{is_builtin}
 use Rattle.wgsl_text.specs.Tree.{BinaryOperator, Less, UnaryOperator, Negate, Literal, Truth, Suffixed, SignedShort, UnsignedShort, LeastInteger, LeastLong, TypeSpecifier, Named, Template, TypeParts, NoParts, TypePart, SizePart, Expression, Constant, Name, Binary, Unary, Call, Member, Index, IndexAt, AddressOf, Dereference, Arguments, NoArguments, Argument, NumberArgument, ZeroArgument}
 use Rattle.wgsl_text.specs.Pieces.{gap_if, has_gaps, binary_pieces, unary_mark, literal_pieces, type_pieces, parts_pieces, more_parts_pieces, base_pieces, expression_pieces, arguments_pieces, more_arguments_pieces, mark}

@@ -1,6 +1,6 @@
 -- In the pieces of a type or an expression no token runs into the next.
 use Rattle.std.proofs.Common.{◌≡◌, ℕ, Bool, true, false, ◌||◌, List, [], ◌∷◌, ◌++◌, refl, sym, ap, subst, ◌∙◌, append_assoc, arith}
-use Rattle.std.specs.Prelude.{◌==◌, ◌<◌, ◌≤◌, ◌^◌, length, codes}
+use Rattle.std.specs.Prelude.{◌==◌, ◌<◌, ◌^◌, length, codes}
 use Rattle.std.specs.Char.{is_ascii_digit}
 use Rattle.std.specs.Fmt.{decimal}
 use Rattle.std.proofs.lemmas.Bool.{false≢true}
@@ -13,7 +13,7 @@ use Rattle.wgsl_text.specs.Pieces.{gap_if, has_gaps, binary_pieces, unary_mark, 
 use Rattle.wgsl_text.specs.Grammar.{IsPlainNumber, IsSigned, IsSuffixed, IsLiteral, IsPart, IsParts, IsCallee, IsExpression, IsArguments}
 use Rattle.wgsl_text.specs.Text.{text, suffix_text}
 use Rattle.wgsl_text.proofs.Chain.{◌$◌}
-use Rattle.wgsl_text.proofs.WordLemmas.{both, IsTemplateWord, type_template, call_template, HasParts, parts_of_fit}
+use Rattle.wgsl_text.proofs.WordLemmas.{both, type_template, call_template, HasParts, parts_of_fit}
 use Rattle.wgsl_text.proofs.Scans.{IsToken, IsNumber, word_token_of, ends, ends_word, opens, Apart, own_digits, digit_no_letter}
 
 -- Before pieces that end a word these pieces stand apart.

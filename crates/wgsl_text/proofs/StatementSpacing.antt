@@ -1,7 +1,7 @@
 -- In the lines of a statement no token runs into the next.
 use Rattle.std.proofs.Common.{◌≡◌, ℕ, suc, true, false, List, [], ◌∷◌, ◌++◌, refl, sym, subst, append_assoc, arith}
 use Rattle.std.specs.Prelude.{◌^◌}
-use Rattle.wgsl_text.specs.Token.{Mark, LessThan, CloseBrace, Token, Fixed, Word, Number, NoSuffix, SuffixU, Piece, Tok, Blank, LineEnd, Indent}
+use Rattle.wgsl_text.specs.Token.{Mark, LessThan, CloseBrace, Token, Fixed, Word, Number, NoSuffix, Piece, Tok, Blank, LineEnd, Indent}
 use Rattle.wgsl_text.specs.Words.{IsWord}
 use Rattle.wgsl_text.specs.Tree.{Label, DefaultLabel, SignedLabel, UnsignedLabel, Labels, LastLabel, MoreLabels, Statement, Let, TypedLet, Assign, CallStatement, ReturnValue, If, Loop, LoopBreakIf, Switch, Block, Statements, NoStatements, Then, Cases, NoCases, Case}
 use Rattle.wgsl_text.specs.Pieces.{mark, plain}

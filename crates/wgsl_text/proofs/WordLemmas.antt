@@ -31,8 +31,9 @@ pub passes : (p : List ℕ → Bool) (words : List (List ℕ)) (w : List ℕ) �
 passes p [] w all at = absurd (false≢true at)
 passes p (v ∷ words) w all at =
     elim (either (bytes_eq v w) (stands_in words w) at) [
-      inl same ↦ ap p (sym ((bytes_eq-Decides v w).0 same)) ∙ (both (p v) (all_words p words) all).0
-    | inr later ↦ passes p words w (both (p v) (all_words p words) all).1 later ]
+      | inl same ↦ ap p (sym ((bytes_eq-Decides v w).0 same)) ∙ (both (p v) (all_words p words) all).0
+      | inr later ↦ passes p words w (both (p v) (all_words p words) all).1 later
+    ]
 
 -- a word outside the reserved ones
 abbrev pub is_free : List ℕ → Bool

@@ -201,8 +201,11 @@ global_buffer = record no_declarations {
 abbrev pub vertex_output : Program
 vertex_output = record no_declarations {
   structs = record { name = codes "VertexOutput"; members = record { attributes = Worded Builtin (codes "position") ∷ []; name = codes "pos"; type = Template (codes "vec4") (TypePart (named "f32") NoParts) } ∷ [] } ∷ [];
-  entry_points = record { stage = Plain Vertex ∷ []; function = function "main" [] (ResultOf [] (named "VertexOutput")) [] (
-    ReturnValue (call "VertexOutput" NoArguments) ∷ []) } ∷ [];
+  entry_points = record {
+    stage = Plain Vertex ∷ [];
+    function = function "main" [] (ResultOf [] (named "VertexOutput")) [] (
+        ReturnValue (call "VertexOutput" NoArguments) ∷ []);
+  } ∷ [];
 }
 
 abbrev pub enable_f16 : Program
@@ -223,8 +226,11 @@ flat_input = record no_declarations {
 abbrev pub atomic_add : Program
 atomic_add = record no_declarations {
   globals = record { attributes = []; space = SpaceAlone (codes "workgroup"); name = codes "c"; type = Template (codes "atomic") (TypePart (named "u32") NoParts); value = None } ∷ [];
-  entry_points = record { stage = Plain Compute ∷ WorkgroupSize 1 1 1 ∷ []; function = function "main" [] NoResult [] (
-    Let (codes "_e2") (call "atomicAdd" (operands (AddressOf (name "c") ∷ unsigned 1 ∷ []))) ∷ []) } ∷ [];
+  entry_points = record {
+    stage = Plain Compute ∷ WorkgroupSize 1 1 1 ∷ [];
+    function = function "main" [] NoResult [] (
+        Let (codes "_e2") (call "atomicAdd" (operands (AddressOf (name "c") ∷ unsigned 1 ∷ []))) ∷ []);
+  } ∷ [];
 }
 
 abbrev pub natural_offsets : Program
@@ -264,25 +270,25 @@ pub record WorkedPrograms : Type 0 where
   pub negate : IsText negate (codes "fn neg(v: vec3<i32>) -> i32 {\n    return (-(v)).x;\n}\n\n")
   pub modf_members : IsText modf_members (codes "fn m(x: f32) -> f32 {\n    let _e1 = modf(x);\n    return (_e1.fract + _e1.whole);\n}\n\n")
   pub siblings : IsText siblings (
-    codes "fn k(c: bool, x: i32) -> i32 {\n    if c {\n        let _e2 = (x + x);\n        return _e2;\n    } else {\n" ++
-    codes "        let _e2 = (x + x);\n        return _e2;\n    }\n}\n\n")
+      codes "fn k(c: bool, x: i32) -> i32 {\n    if c {\n        let _e2 = (x + x);\n        return _e2;\n    } else {\n" ++
+      codes "        let _e2 = (x + x);\n        return _e2;\n    }\n}\n\n")
   pub named_siblings : IsText named_siblings (
-    codes "fn k(c: bool, x: i32) -> i32 {\n    if c {\n        let y = (x + x);\n        return y;\n    } else {\n" ++
-    codes "        let y_1 = (x + x);\n        return y_1;\n    }\n}\n\n")
+      codes "fn k(c: bool, x: i32) -> i32 {\n    if c {\n        let y = (x + x);\n        return y;\n    } else {\n" ++
+      codes "        let y_1 = (x + x);\n        return y_1;\n    }\n}\n\n")
   pub switch_joined : IsText switch_joined (codes "fn s(x: i32) {\n    switch x {\n        case 1, 2, default: {\n        }\n    }\n}\n\n")
   pub switch_default_first : IsText switch_default_first (codes "fn dflt(x: i32) {\n    switch x {\n        case default, 3: {\n        }\n    }\n}\n\n")
   pub loop_break_if : IsText loop_break_if (codes "fn l(c: bool) {\n    loop {\n        continuing {\n            break if c;\n        }\n    }\n}\n\n")
   pub loop_tail : IsText loop_tail (
-    codes "fn lp(x: i32) {\n    var a: i32;\n\n    loop {\n        let _e2 = (x + x);\n        a = _e2;\n        continuing {\n" ++
-    codes "            a = _e2;\n            break if true;\n        }\n    }\n}\n\n")
+      codes "fn lp(x: i32) {\n    var a: i32;\n\n    loop {\n        let _e2 = (x + x);\n        a = _e2;\n        continuing {\n" ++
+      codes "            a = _e2;\n            break if true;\n        }\n    }\n}\n\n")
   pub loop_folded : IsText loop_folded (
-    codes "fn cf(c: bool) {\n    var a: i32;\n\n    loop {\n        if c {\n            continue;\n        }\n" ++ (
-    codes "        let _e3 = (1i + 1i);\n        a = _e3;\n        continuing {\n            a = (1i + 1i);\n" ++
-    codes "            break if c;\n        }\n    }\n}\n\n"))
+      codes "fn cf(c: bool) {\n    var a: i32;\n\n    loop {\n        if c {\n            continue;\n        }\n" ++ (
+      codes "        let _e3 = (1i + 1i);\n        a = _e3;\n        continuing {\n            a = (1i + 1i);\n" ++
+      codes "            break if c;\n        }\n    }\n}\n\n"))
   pub barriers : IsText barriers (codes "fn b() {\n    storageBarrier();\n    workgroupBarrier();\n    subgroupBarrier();\n    textureBarrier();\n}\n\n")
   pub call_of_function : IsText call_of_function (
-    codes "fn inc(p: ptr<function, i32>) {\n    let _e2 = (*p);\n    (*p) = (_e2 + 1i);\n}\n\nfn run() -> i32 {\n" ++
-    codes "    var a: i32;\n\n    inc((&a));\n    let _e1 = a;\n    return _e1;\n}\n\n")
+      codes "fn inc(p: ptr<function, i32>) {\n    let _e2 = (*p);\n    (*p) = (_e2 + 1i);\n}\n\nfn run() -> i32 {\n" ++
+      codes "    var a: i32;\n\n    inc((&a));\n    let _e1 = a;\n    return _e1;\n}\n\n")
   pub compute : IsText compute (codes "@compute @workgroup_size(64, 1, 1) \nfn main() {\n}\n")
   pub struct_names : IsText struct_names (codes "struct S {\n    fract: i32,\n    fn_: i32,\n}\n\n")
   pub override_with_id : IsText override_with_id (codes "@id(3) override override_type: u32;\n\n")

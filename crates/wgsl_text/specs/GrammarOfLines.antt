@@ -1,10 +1,10 @@
 -- Which statements and declarations the grammar has.
-use Rattle.std.specs.Prelude.{ℕ, ◌<◌, ◌^◌, Bool, true, false, ◌&&◌, ◌||◌, List, [], ◌∷◌, ⊤, codes, IsTrue, Option, None, Some}
+use Rattle.std.specs.Prelude.{ℕ, ◌<◌, ◌^◌, Bool, true, false, ◌&&◌, List, [], ◌∷◌, ⊤, codes, IsTrue, Option, None, Some}
 use Rattle.std.specs.Str.{bytes_eq}
 use Rattle.wgsl_text.specs.Words.{stands_in, IsWord, IsIdentifier}
 use Rattle.wgsl_text.specs.Tables.{address_space_words, access_words, builtin_value_words, interpolation_words, sampling_words, enable_words}
 use Rattle.wgsl_text.specs.Tree.{Expression, Name, Member, Index, IndexAt, Dereference, Label, DefaultLabel, SignedLabel, UnsignedLabel, Labels, LastLabel, MoreLabels, Statement, Let, TypedLet, Assign, CallStatement, ReturnValue, If, Loop, LoopBreakIf, Switch, Block, Statements, NoStatements, Then, Cases, NoCases, Case}
-use Rattle.wgsl_text.specs.Tree.{PlainAttribute, Invariant, PerPrimitive, Coherent, Volatile, Vertex, Fragment, Compute, Task, RayGeneration, AnyHit, ClosestHit, Miss, NumberedAttribute, Location, BlendSource, Id, Group, Binding, Size, Align, WordedAttribute, Builtin, Interpolate, Mesh, Payload, IncomingPayload, Attribute, Plain, Numbered, Worded, Interpolated, WorkgroupSize, Parameter, Result, NoResult, ResultOf, Local, Function, EntryPoint, StructMember, Struct, NamedConstant, Override, Space, NoSpace, SpaceAlone, SpaceAndAccess, Global, Program}
+use Rattle.wgsl_text.specs.Tree.{Invariant, PerPrimitive, Coherent, Volatile, Vertex, Fragment, Compute, Task, RayGeneration, AnyHit, ClosestHit, Miss, Location, BlendSource, Id, Group, Binding, Size, Align, Builtin, Interpolate, Mesh, Payload, IncomingPayload, Attribute, Plain, Numbered, Worded, Interpolated, WorkgroupSize, Parameter, Result, NoResult, ResultOf, Local, Function, EntryPoint, StructMember, Struct, NamedConstant, Override, Space, NoSpace, SpaceAlone, SpaceAndAccess, Global, Program}
 use Rattle.wgsl_text.specs.Grammar.{IsPlainNumber, IsSigned, IsType, IsCallee, may_take, IsExpression, IsArguments}
 
 -- what may stand on the left of an assignment

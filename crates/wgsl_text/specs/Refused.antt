@@ -36,7 +36,7 @@ pub record Refused : Type 0 where
   pub cut : IsNoProgram (codes "fn f(x: i32) -> i32 {\n    return x")
   -- `break if` before another statement of `continuing`
   pub break_if_first : IsNoProgram (
-    codes "fn f(c: bool) {\n    loop {\n        continuing {\n            break if c;\n            g();\n" ++
-    codes "        }\n    }\n}\n\n")
+      codes "fn f(c: bool) {\n    loop {\n        continuing {\n            break if c;\n            g();\n" ++
+      codes "        }\n    }\n}\n\n")
   pub unknown_builtin_value : IsNoProgram (codes "fn f(@builtin(colour) x: i32) {\n}\n\n")
   pub stage_without_size : IsNoProgram (codes "@compute \nfn main() {\n}\n")

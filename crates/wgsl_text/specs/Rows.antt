@@ -172,10 +172,16 @@ every_declaration = record no_declarations {
   overrides = record { attributes = Numbered Id 3 ∷ []; name = codes "gain"; type = named "f32"; value = Some (integer 1) } ∷ record { attributes = []; name = codes "plain"; type = named "bool"; value = None } ∷ [];
   globals = record { attributes = Numbered Group 0 ∷ Numbered Binding 0 ∷ []; space = NoSpace; name = codes "image"; type = Template (codes "texture_storage_2d") (TypePart (named "rgba8unorm") (TypePart (named "write") NoParts)); value = None } ∷ record { attributes = Numbered Group 0 ∷ Numbered Binding 1 ∷ Plain Coherent ∷ Plain Volatile ∷ []; space = SpaceAlone (codes "storage"); name = codes "buf"; type = Template (codes "array") (TypePart (named "u32") NoParts); value = None } ∷ record { attributes = Plain Coherent ∷ []; space = SpaceAlone (codes "uniform"); name = codes "block"; type = named "Input"; value = None } ∷ record { attributes = []; space = SpaceAlone (codes "private"); name = codes "counter"; type = named "i32"; value = Some (integer 1) } ∷ [];
   functions = function "f" (record { attributes = Worded Builtin (codes "vertex_index") ∷ []; name = codes "i"; type = named "u32" } ∷ []) (ResultOf (Numbered Location 0 ∷ []) (named "f32")) [] (
-    ReturnValue (integer 1) ∷ []) ∷ function "g" [] NoResult [] [] ∷ [];
-  entry_points = record { stage = Plain Vertex ∷ []; function = function "vs" (parameter "input" (named "Input") ∷ record { attributes = Numbered Location 0 ∷ Worded Interpolate (codes "linear") ∷ []; name = codes "x"; type = named "f32" } ∷ []) (ResultOf (Worded Builtin (codes "position") ∷ []) (Template (codes "vec4") (TypePart (named "f32") NoParts))) [] (
-    ReturnValue (Call (Template (codes "vec4") (TypePart (named "f32") NoParts)) NoArguments) ∷ []) } ∷ record { stage = Plain Fragment ∷ []; function = function "fs" [] (ResultOf (Numbered Location 0 ∷ []) (Template (codes "vec4") (TypePart (named "f32") NoParts))) [] (
-    ReturnValue (Call (Template (codes "vec4") (TypePart (named "f32") NoParts)) NoArguments) ∷ []) } ∷ [];
+      ReturnValue (integer 1) ∷ []) ∷ function "g" [] NoResult [] [] ∷ [];
+  entry_points = record {
+    stage = Plain Vertex ∷ [];
+    function = function "vs" (parameter "input" (named "Input") ∷ record { attributes = Numbered Location 0 ∷ Worded Interpolate (codes "linear") ∷ []; name = codes "x"; type = named "f32" } ∷ []) (ResultOf (Worded Builtin (codes "position") ∷ []) (Template (codes "vec4") (TypePart (named "f32") NoParts))) [] (
+        ReturnValue (Call (Template (codes "vec4") (TypePart (named "f32") NoParts)) NoArguments) ∷ []);
+  } ∷ record {
+    stage = Plain Fragment ∷ [];
+    function = function "fs" [] (ResultOf (Numbered Location 0 ∷ []) (Template (codes "vec4") (TypePart (named "f32") NoParts))) [] (
+        ReturnValue (Call (Template (codes "vec4") (TypePart (named "f32") NoParts)) NoArguments) ∷ []);
+  } ∷ [];
 }
 
 abbrev pub every_stage : Program
@@ -188,33 +194,33 @@ every_stage = record no_declarations {
 -- each row of statements and declarations
 pub record LineRows : Type 0 where
   pub every_statement : IsText every_statement (
-    codes "fn rows(x: i32, c: bool, p: ptr<storage, atomic<u32>, read_write>) {\n    var m: mat2x2<f32> = mat2x2<f32>();\n" ++ (
-    codes "    var u: u32;\n\n    let _e1: vec2<f32> = m[0];\n    m[0].x = _e1.y;\n    u = 1u;\n    if c {\n        discard;\n" ++ (
-    codes "    }\n    {\n        {\n        }\n    }\n    atomicStore(p, 5u);\n" ++ (
-    codes "    let _e2 = atomicCompareExchangeWeak(p, 1u, 2u);\n    atomicMax(p, 7u);\n    let _e3 = inc(x, x);\n" ++ (
-    codes "    textureAtomicMin(t, v, 1u);\n    textureStore(t, v, 2i, w);\n    let _e4 = workgroupUniformLoad((&wg));\n" ++ (
-    codes "    switch u {\n        case 1u: {\n            break;\n        }\n        case 2u, 3u: {\n            return;\n" ++ (
-    codes "        }\n        default: {\n        }\n    }\n    switch x {\n        case -1: {\n        }\n        default: {\n" ++ (
-    codes "        }\n    }\n    loop {\n        break;\n        continuing {\n            u = 2u;\n        }\n    }\n    loop {\n" ++ (
-    codes "    }\n    let _e5 = subgroupBallot();\n    let _e6 = subgroupBallot(c);\n    let _e7 = subgroupExclusiveAdd(x);\n" ++ (
-    codes "    let _e8 = subgroupBroadcastFirst(x);\n    let _e9 = subgroupShuffle(x, u);\n    let _e10 = quadSwapX(x);\n" ++
-    codes "    coopStore(a, (&b), n);\n    coopStoreT(a, (&b), n);\n    traceRay(s, d, (&payload));\n    return;\n}\n\n"))))))))))
+      codes "fn rows(x: i32, c: bool, p: ptr<storage, atomic<u32>, read_write>) {\n    var m: mat2x2<f32> = mat2x2<f32>();\n" ++ (
+      codes "    var u: u32;\n\n    let _e1: vec2<f32> = m[0];\n    m[0].x = _e1.y;\n    u = 1u;\n    if c {\n        discard;\n" ++ (
+      codes "    }\n    {\n        {\n        }\n    }\n    atomicStore(p, 5u);\n" ++ (
+      codes "    let _e2 = atomicCompareExchangeWeak(p, 1u, 2u);\n    atomicMax(p, 7u);\n    let _e3 = inc(x, x);\n" ++ (
+      codes "    textureAtomicMin(t, v, 1u);\n    textureStore(t, v, 2i, w);\n    let _e4 = workgroupUniformLoad((&wg));\n" ++ (
+      codes "    switch u {\n        case 1u: {\n            break;\n        }\n        case 2u, 3u: {\n            return;\n" ++ (
+      codes "        }\n        default: {\n        }\n    }\n    switch x {\n        case -1: {\n        }\n        default: {\n" ++ (
+      codes "        }\n    }\n    loop {\n        break;\n        continuing {\n            u = 2u;\n        }\n    }\n    loop {\n" ++ (
+      codes "    }\n    let _e5 = subgroupBallot();\n    let _e6 = subgroupBallot(c);\n    let _e7 = subgroupExclusiveAdd(x);\n" ++ (
+      codes "    let _e8 = subgroupBroadcastFirst(x);\n    let _e9 = subgroupShuffle(x, u);\n    let _e10 = quadSwapX(x);\n" ++
+      codes "    coopStore(a, (&b), n);\n    coopStoreT(a, (&b), n);\n    traceRay(s, d, (&payload));\n    return;\n}\n\n"))))))))))
   pub every_declaration : IsText every_declaration (
-    codes "enable f16;\nenable dual_source_blending;\n\nstruct Input {\n    @builtin(position) @invariant pos: vec4<f32>,\n" ++ (
-    codes "    @location(1) @interpolate(perspective, centroid) a: f32,\n" ++ (
-    codes "    @location(0) @blend_src(1) @per_primitive b: f32,\n    @align(16) @size(32) c: f32,\n}\n\nconst N: i32 = 7i;\n" ++ (
-    codes "const M: vec2<f32> = vec2<f32>();\n\n@id(3) override gain: f32 = 1i;\noverride plain: bool;\n\n" ++ (
-    codes "@group(0) @binding(0) \nvar image: texture_storage_2d<rgba8unorm,write>;\n@group(0) @binding(1) \n" ++ (
-    codes "@coherent @volatile var<storage> buf: array<u32>;\n@coherent var<uniform> block: Input;\n" ++ (
-    codes "var<private> counter: i32 = 1i;\n\nfn f(@builtin(vertex_index) i: u32) -> @location(0) f32 {\n    return 1i;\n}\n\n" ++ (
-    codes "fn g() {\n}\n\n@vertex \n" ++ (
-    codes "fn vs(input: Input, @location(0) @interpolate(linear) x: f32) -> @builtin(position) vec4<f32> {\n" ++
-    codes "    return vec4<f32>();\n}\n\n@fragment \nfn fs() -> @location(0) vec4<f32> {\n    return vec4<f32>();\n}\n")))))))))
+      codes "enable f16;\nenable dual_source_blending;\n\nstruct Input {\n    @builtin(position) @invariant pos: vec4<f32>,\n" ++ (
+      codes "    @location(1) @interpolate(perspective, centroid) a: f32,\n" ++ (
+      codes "    @location(0) @blend_src(1) @per_primitive b: f32,\n    @align(16) @size(32) c: f32,\n}\n\nconst N: i32 = 7i;\n" ++ (
+      codes "const M: vec2<f32> = vec2<f32>();\n\n@id(3) override gain: f32 = 1i;\noverride plain: bool;\n\n" ++ (
+      codes "@group(0) @binding(0) \nvar image: texture_storage_2d<rgba8unorm,write>;\n@group(0) @binding(1) \n" ++ (
+      codes "@coherent @volatile var<storage> buf: array<u32>;\n@coherent var<uniform> block: Input;\n" ++ (
+      codes "var<private> counter: i32 = 1i;\n\nfn f(@builtin(vertex_index) i: u32) -> @location(0) f32 {\n    return 1i;\n}\n\n" ++ (
+      codes "fn g() {\n}\n\n@vertex \n" ++ (
+      codes "fn vs(input: Input, @location(0) @interpolate(linear) x: f32) -> @builtin(position) vec4<f32> {\n" ++
+      codes "    return vec4<f32>();\n}\n\n@fragment \nfn fs() -> @location(0) vec4<f32> {\n    return vec4<f32>();\n}\n")))))))))
   pub every_stage : IsText every_stage (
-    codes "enable wgpu_mesh_shader;\nenable wgpu_ray_tracing_pipeline;\n\nvar<workgroup> out: u32;\n" ++ (
-    codes "var<task_payload> load: u32;\nvar<ray_payload> ray: u32;\nvar<incoming_ray_payload> hit: u32;\n" ++ (
-    codes "var<immediate> scale: f32;\n\n@mesh(out) @workgroup_size(1, 1, 1) \nfn ms() {\n}\n\n" ++ (
-    codes "@mesh(out) @workgroup_size(1, 1, 1) @payload(load) \nfn mp() {\n}\n\n" ++ (
-    codes "@task @payload(load) @workgroup_size(1, 1, 1) \nfn ts() {\n}\n\n@ray_generation \nfn rg() {\n}\n\n" ++ (
-    codes "@any_hit @incoming_payload(hit) \nfn ah() {\n}\n\n@closest_hit @incoming_payload(hit) \nfn ch() {\n}\n\n" ++
-    codes "@miss @incoming_payload(hit) \nfn mi() {\n}\n"))))))
+      codes "enable wgpu_mesh_shader;\nenable wgpu_ray_tracing_pipeline;\n\nvar<workgroup> out: u32;\n" ++ (
+      codes "var<task_payload> load: u32;\nvar<ray_payload> ray: u32;\nvar<incoming_ray_payload> hit: u32;\n" ++ (
+      codes "var<immediate> scale: f32;\n\n@mesh(out) @workgroup_size(1, 1, 1) \nfn ms() {\n}\n\n" ++ (
+      codes "@mesh(out) @workgroup_size(1, 1, 1) @payload(load) \nfn mp() {\n}\n\n" ++ (
+      codes "@task @payload(load) @workgroup_size(1, 1, 1) \nfn ts() {\n}\n\n@ray_generation \nfn rg() {\n}\n\n" ++ (
+      codes "@any_hit @incoming_payload(hit) \nfn ah() {\n}\n\n@closest_hit @incoming_payload(hit) \nfn ch() {\n}\n\n" ++
+      codes "@miss @incoming_payload(hit) \nfn mi() {\n}\n"))))))

@@ -1,5 +1,5 @@
 -- Which bytes spell which token, and how the tokens of a text follow from its front.
-use Rattle.std.specs.Prelude.{◌≡◌, ℕ, ◌<◌, ◌≤◌, ◌||◌, ◌==◌, Bool, true, false, if◌then◌else◌, List, [], ◌∷◌, ◌++◌, length, codes, IsTrue, IsFalse}
+use Rattle.std.specs.Prelude.{◌≡◌, ℕ, ◌<◌, ◌≤◌, ◌||◌, ◌==◌, Bool, true, false, List, ◌∷◌, ◌++◌, length, codes, IsTrue, IsFalse}
 use Rattle.std.specs.Str.{all_ascii_digits}
 use Rattle.std.specs.Str.Parse.{digits_value}
 use Rattle.wgsl_text.specs.Token.{Mark, OpenParen, CloseParen, OpenBracket, CloseBracket, OpenBrace, CloseBrace, Comma, Semicolon, Colon, Dot, At, Equals, LessThan, GreaterThan, Plus, Minus, Star, Slash, Percent, Ampersand, Bar, Caret, Not, Tilde, EqualsEquals, NotEquals, LessEquals, AndAnd, BarBar, LessLess, Suffix, Token, Fixed, Number, ZeroPointZero, Foreign}

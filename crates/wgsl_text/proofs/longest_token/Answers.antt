@@ -1,4 +1,3 @@
-use Rattle.std.proofs.Common.{refl}
 use Rattle.wgsl_text.proofs.Fronts.{begins}
 use Rattle.wgsl_text.proofs.Alone.{alone}
 use Rattle.wgsl_text.proofs.longest_token.Goals as goal
