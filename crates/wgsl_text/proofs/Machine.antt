@@ -3,7 +3,7 @@
 use Rattle.std.specs.Prelude.{ℕ, Bool, true, false, cond, List, [], ◌∷◌, codes, Option, None, Some}
 use Rattle.std.specs.Str.{bytes_eq}
 use Rattle.wgsl_text.specs.Token.{Mark, OpenParen, CloseParen, OpenBracket, CloseBracket, OpenBrace, CloseBrace, Comma, Semicolon, Colon, Dot, At, Equals, LessThan, GreaterThan, Plus, Minus, Star, Slash, Percent, Ampersand, Bar, Caret, Not, Tilde, EqualsEquals, NotEquals, LessEquals, AndAnd, BarBar, LessLess, KeywordTrue, KeywordFalse, KeywordLet, KeywordVar, KeywordIf, KeywordElse, KeywordLoop, KeywordContinuing, KeywordBreak, KeywordContinue, KeywordSwitch, KeywordCase, KeywordDefault, KeywordReturn, KeywordDiscard, KeywordFn, KeywordStruct, KeywordConst, KeywordEnable, KeywordOverride}
-use Rattle.wgsl_text.specs.Token.{Suffix, NoSuffix, SuffixU, Token, Fixed, Word, Number, ZeroPointZero, Foreign, Piece, Tok, Blank, LineEnd, Indent}
+use Rattle.wgsl_text.specs.Token.{Suffix, NoSuffix, SuffixU, Token, Fixed, Word, Number, ZeroPointZero, Foreign, Piece, TokenPiece, Blank, LineEnd, Indent}
 use Rattle.wgsl_text.specs.Tree.{BinaryOperator, Add, Subtract, Multiply, Divide, Modulo, Equal, NotEqual, Less, LessEqual, Greater, GreaterEqual, And, ExclusiveOr, InclusiveOr, LogicalAnd, LogicalOr, ShiftLeft, ShiftRight, UnaryOperator, Negate, LogicalNot, BitwiseNot, Literal, Truth, Suffixed, SignedShort, UnsignedShort, LeastInteger, LeastLong, TypeSpecifier, Named, Template, TypeParts, NoParts, TypePart, SizePart, Expression, Constant, Name, Binary, Unary, Call, Member, Index, IndexAt, AddressOf, Dereference, Arguments, NoArguments, Argument, NumberArgument, ZeroArgument}
 use Rattle.wgsl_text.specs.Tree.{Label, DefaultLabel, SignedLabel, UnsignedLabel, Labels, LastLabel, MoreLabels, Statement, Let, TypedLet, Assign, CallStatement, Return, ReturnValue, Discard, Break, Continue, If, Loop, LoopBreakIf, Switch, Block, Statements, NoStatements, Then, Cases, NoCases, Case}
 use Rattle.wgsl_text.specs.Tree.{PlainAttribute, Invariant, PerPrimitive, Coherent, Volatile, Vertex, Fragment, Compute, Task, RayGeneration, AnyHit, ClosestHit, Miss, NumberedAttribute, Location, BlendSource, Id, Group, Binding, Size, Align, WordedAttribute, Builtin, Interpolate, Mesh, Payload, IncomingPayload, Attribute, Plain, Numbered, Worded, Interpolated, WorkgroupSize, Parameter, Result, NoResult, ResultOf, Local, Function, EntryPoint, StructMember, Struct, NamedConstant, Override, Space, NoSpace, SpaceAlone, SpaceAndAccess, Global, Program}
@@ -729,7 +729,7 @@ step takes_types (AfterGlobalName space w s) t = WantType (InGlobalType space w 
 
 abbrev pub run : (List ℕ → Bool) → List Piece → State → State
 run takes_types [] state = state
-run takes_types (Tok t ∷ pieces) state = run takes_types pieces (step takes_types state t)
+run takes_types (TokenPiece t ∷ pieces) state = run takes_types pieces (step takes_types state t)
 run takes_types (Blank ∷ pieces) state = run takes_types pieces state
 run takes_types (LineEnd ∷ pieces) state = run takes_types pieces state
 run takes_types (Indent n ∷ pieces) state = run takes_types pieces state

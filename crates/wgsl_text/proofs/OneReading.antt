@@ -1,7 +1,7 @@
 -- The text of a tree has one reading.
 use Rattle.std.proofs.Common.{◌≡◌, List, [], ◌∷◌, refl, sym, ap, subst, ◌∙◌}
 use Rattle.std.proofs.lemmas.List.{append-nil}
-use Rattle.wgsl_text.specs.Token.{Token, Piece, Tok, Blank, LineEnd, Indent}
+use Rattle.wgsl_text.specs.Token.{Token, Piece, TokenPiece, Blank, LineEnd, Indent}
 use Rattle.wgsl_text.specs.Words.{is_builtin}
 use Rattle.wgsl_text.specs.Tree.{TypeSpecifier, Expression, Program, no_declarations}
 use Rattle.wgsl_text.specs.Pieces.{type_pieces, expression_pieces}
@@ -23,7 +23,7 @@ read (t ∷ ts) s = read ts (step is_builtin s t)
 
 run_reads : (ps : List Piece) (s : State) → run is_builtin ps s ≡ read (tokens_in ps) s
 run_reads [] s = refl
-run_reads (Tok t ∷ ps) s = run_reads ps (step is_builtin s t)
+run_reads (TokenPiece t ∷ ps) s = run_reads ps (step is_builtin s t)
 run_reads (Blank ∷ ps) s = run_reads ps s
 run_reads (LineEnd ∷ ps) s = run_reads ps s
 run_reads (Indent n ∷ ps) s = run_reads ps s

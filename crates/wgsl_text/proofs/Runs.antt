@@ -1,6 +1,6 @@
 -- The machine reads back what the pieces of a type or an expression write.
 use Rattle.std.proofs.Common.{◌≡◌, ℕ, Bool, true, false, cond, List, [], ◌∷◌, ◌++◌, refl, ap, ◌∙◌}
-use Rattle.wgsl_text.specs.Token.{OpenParen, LessThan, Suffix, NoSuffix, Token, Number, Piece, Tok, Blank, LineEnd, Indent}
+use Rattle.wgsl_text.specs.Token.{OpenParen, LessThan, Suffix, NoSuffix, Token, Number, Piece, TokenPiece, Blank, LineEnd, Indent}
 use Rattle.wgsl_text.specs.Words.{is_builtin}
 use Rattle.wgsl_text.specs.Tree.{BinaryOperator, Less, UnaryOperator, Negate, Literal, Truth, Suffixed, SignedShort, UnsignedShort, LeastInteger, LeastLong, TypeSpecifier, Named, Template, TypeParts, NoParts, TypePart, SizePart, Expression, Constant, Name, Binary, Unary, Call, Member, Index, IndexAt, AddressOf, Dereference, Arguments, NoArguments, Argument, NumberArgument, ZeroArgument}
 use Rattle.wgsl_text.specs.Pieces.{gap_if, has_gaps, binary_pieces, unary_mark, literal_pieces, type_pieces, parts_pieces, more_parts_pieces, base_pieces, expression_pieces, arguments_pieces, more_arguments_pieces, mark}
@@ -11,7 +11,7 @@ use Rattle.wgsl_text.proofs.Machine.{Stack, InParens, InRight, InUnary, InArgume
 
 run_append : (ps qs : List Piece) (s : State) → run is_builtin (ps ++ qs) s ≡ run is_builtin qs (run is_builtin ps s)
 run_append [] qs s = refl
-run_append (Tok t ∷ ps) qs s = run_append ps qs _
+run_append (TokenPiece t ∷ ps) qs s = run_append ps qs _
 run_append (Blank ∷ ps) qs s = run_append ps qs s
 run_append (LineEnd ∷ ps) qs s = run_append ps qs s
 run_append (Indent n ∷ ps) qs s = run_append ps qs s
@@ -26,7 +26,7 @@ pub ◌then◌ : {ps qs : List Piece} {s s' s'' : State} → Runs ps s s' → Ru
 ◌then◌ {ps} {qs} {s} a b = record { to = run_append ps qs s ∙ (ap (run is_builtin qs) a.to ∙ b.to) }
 
 -- a token, and then the others
-pub tok : {t : Token} {qs : List Piece} {s s' : State} → Runs qs (step is_builtin s t) s' → Runs (Tok t ∷ qs) s s'
+pub tok : {t : Token} {qs : List Piece} {s s' : State} → Runs qs (step is_builtin s t) s' → Runs (TokenPiece t ∷ qs) s s'
 tok b = record { to = b.to }
 
 pub gap : {qs : List Piece} {s s' : State} → Runs qs s s' → Runs (Blank ∷ qs) s s'
@@ -63,7 +63,7 @@ unary_runs : (op : UnaryOperator) (s : Stack) → Runs (mark (unary_mark op) ∷
 unary_runs Negate s = end
 unary_runs _ s = end
 
-suffixed_runs : (suffix : Suffix) (negative : Bool) (n : ℕ) → IsSuffixed suffix negative n → (s : Stack) → Runs (Tok (Number negative n suffix) ∷ []) (Want s) (Got (Constant (Suffixed negative n suffix)) s)
+suffixed_runs : (suffix : Suffix) (negative : Bool) (n : ℕ) → IsSuffixed suffix negative n → (s : Stack) → Runs (TokenPiece (Number negative n suffix) ∷ []) (Want s) (Got (Constant (Suffixed negative n suffix)) s)
 suffixed_runs NoSuffix negative n is s = absurd is
 suffixed_runs _ negative n is s = end
 

@@ -11,7 +11,7 @@ use Rattle.std.proofs.lemmas.Str.Parse.{IsNumeralModel, numerals_by_value, tells
 use Rattle.std.proofs.lemmas.Fmt.{digits_decimal, digits_value-decimal, decimal_nonempty}
 use Rattle.std.proofs.Math.Seq.{take-append_seam, drop-append_seam}
 use Rattle.wgsl_text.specs.Token.{Mark, OpenParen, CloseParen, OpenBracket, CloseBracket, OpenBrace, CloseBrace, Comma, Semicolon, Colon, Dot, At, Equals, LessThan, GreaterThan, Plus, Minus, Star, Slash, Percent, Ampersand, Bar, Caret, Not, Tilde, EqualsEquals, NotEquals, LessEquals, AndAnd, BarBar, LessLess}
-use Rattle.wgsl_text.specs.Token.{Suffix, NoSuffix, SuffixI, SuffixU, SuffixLi, SuffixLu, Token, Fixed, Word, Number, ZeroPointZero, Foreign, Piece, Tok, Blank, LineEnd, Indent}
+use Rattle.wgsl_text.specs.Token.{Suffix, NoSuffix, SuffixI, SuffixU, SuffixLi, SuffixLu, Token, Fixed, Word, Number, ZeroPointZero, Foreign, Piece, TokenPiece, Blank, LineEnd, Indent}
 use Rattle.wgsl_text.specs.Words.{is_letter, is_word_byte, all_word_bytes, is_word_text, is_reserved, IsWord}
 use Rattle.wgsl_text.specs.Text.{mark_text, suffix_text, token_text, text, tokens_in, Takes, starts_with, word_length, digits_length, word_token, word_lexeme, one_more, sign_or, suffix_at, is_point_zero, is_empty, number_of, number_lexeme, lexeme, behind, scan}
 use Rattle.wgsl_text.proofs.WordLemmas.{both, not_true}
@@ -282,12 +282,12 @@ blanks_scan (suc n) rest = blanks_scan n rest
 -- No token runs into what stands behind it.
 abbrev pub Apart : List Piece → Type 0
 Apart [] = ⊤
-Apart (Tok t ∷ pieces) = IsToken t × (ends t (text pieces) ≡ true) × Apart pieces
+Apart (TokenPiece t ∷ pieces) = IsToken t × (ends t (text pieces) ≡ true) × Apart pieces
 Apart (_ ∷ pieces) = Apart pieces
 
 pub pieces_scan : (pieces : List Piece) → Apart pieces → scan (text pieces) 0 ≡ tokens_in pieces
 pieces_scan [] apart = refl
-pieces_scan (Tok t ∷ pieces) apart = token_scans t (text pieces) apart.0 apart.1 ∙ ap (λ ts. t ∷ ts) (pieces_scan pieces apart.2)
+pieces_scan (TokenPiece t ∷ pieces) apart = token_scans t (text pieces) apart.0 apart.1 ∙ ap (λ ts. t ∷ ts) (pieces_scan pieces apart.2)
 pieces_scan (Blank ∷ pieces) apart = pieces_scan pieces apart
 pieces_scan (LineEnd ∷ pieces) apart = pieces_scan pieces apart
 pieces_scan (Indent n ∷ pieces) apart = blanks_scan (4 * n) (text pieces) ∙ pieces_scan pieces apart

@@ -6,7 +6,7 @@ use Rattle.std.specs.Fmt.{decimal}
 use Rattle.std.proofs.lemmas.Bool.{false≢true}
 use Rattle.std.specs.Str.{all_ascii_digits}
 use Rattle.std.proofs.lemmas.Fmt.{digits_decimal, decimal_nonempty}
-use Rattle.wgsl_text.specs.Token.{OpenParen, CloseParen, Suffix, NoSuffix, SuffixI, SuffixU, SuffixLi, SuffixLu, Token, Word, Number, Piece, Tok, Blank}
+use Rattle.wgsl_text.specs.Token.{OpenParen, CloseParen, Suffix, NoSuffix, SuffixI, SuffixU, SuffixLi, SuffixLu, Token, Word, Number, Piece, TokenPiece, Blank}
 use Rattle.wgsl_text.specs.Words.{IsWord, is_letter, all_word_bytes, is_reserved}
 use Rattle.wgsl_text.specs.Tree.{BinaryOperator, GreaterEqual, ShiftRight, UnaryOperator, Negate, LogicalNot, BitwiseNot, Literal, Truth, Suffixed, SignedShort, UnsignedShort, LeastInteger, LeastLong, TypeSpecifier, Named, Template, TypeParts, NoParts, TypePart, SizePart, Expression, Constant, Name, Binary, Unary, Call, Member, Index, IndexAt, AddressOf, Dereference, Arguments, NoArguments, Argument, NumberArgument, ZeroArgument}
 use Rattle.wgsl_text.specs.Pieces.{gap_if, has_gaps, binary_pieces, unary_mark, wrapped_pieces, literal_pieces, type_pieces, parts_pieces, more_parts_pieces, base_pieces, expression_pieces, arguments_pieces, more_arguments_pieces, mark, plain}
@@ -32,11 +32,11 @@ part : {ps qs : List Piece} → Spaced ps → Ends qs → Spaced qs → Spaced (
 part {ps} {qs} a front b = record { by = λ more h e. subst Apart (sym (append_assoc ps qs more)) (a.by (qs ++ more) (b.by more h e) (front more e)) }
 
 -- a token, what shows that it ends, and the others
-tok : {t : Token} {qs : List Piece} → IsToken t → ((more : List Piece) → ends_word (text more) ≡ true → ends t (text (qs ++ more)) ≡ true) → Spaced qs → Spaced (Tok t ∷ qs)
+tok : {t : Token} {qs : List Piece} → IsToken t → ((more : List Piece) → ends_word (text more) ≡ true → ends t (text (qs ++ more)) ≡ true) → Spaced qs → Spaced (TokenPiece t ∷ qs)
 tok is front b = record { by = λ more h e. (is, front more e, b.by more h e) }
 
 -- a word that may stand at a member's place
-free : {w : List ℕ} {qs : List Piece} → IsWord w → ((more : List Piece) → ends_word (text more) ≡ true → ends_word (text (qs ++ more)) ≡ true) → Spaced qs → Spaced (Tok (Word w) ∷ qs)
+free : {w : List ℕ} {qs : List Piece} → IsWord w → ((more : List Piece) → ends_word (text more) ≡ true → ends_word (text (qs ++ more)) ≡ true) → Spaced qs → Spaced (TokenPiece (Word w) ∷ qs)
 free is front b = tok (word_token_of is) front b
 
 pub number_of_plain : (n : ℕ) → IsPlainNumber n → IsNumber n
@@ -60,7 +60,7 @@ pub record Opens (ps : List Piece) : Type 0 where
 opens_first : {ps : List Piece} (qs : List Piece) → Opens ps → Opens (ps ++ qs)
 opens_first {ps} qs a = record { at = λ more. ap (λ l. opens (text l)) (append_assoc ps qs more) ∙ a.at (qs ++ more) }
 
-pub word_opens : (w : List ℕ) → IsWord w → {ps : List Piece} → Opens (Tok (Word w) ∷ ps)
+pub word_opens : (w : List ℕ) → IsWord w → {ps : List Piece} → Opens (TokenPiece (Word w) ∷ ps)
 word_opens [] is = absurd (false≢true is.text)
 word_opens (b ∷ w) is = record { at = λ more. ap (λ c. c || (is_ascii_digit b || (b == 32 || (b == 33 || (b == 40 || (b == 45 || b == 126)))))) (both (is_letter b) (all_word_bytes w) is.text).0 }
 
@@ -71,7 +71,7 @@ digits_open (b ∷ ds) rest some is =
     ap (λ c. c || (is_ascii_digit b || (b == 32 || (b == 33 || (b == 40 || (b == 45 || b == 126)))))) (digit_no_letter b h.0)
     ∙ ap (λ c. c || (b == 32 || (b == 33 || (b == 40 || (b == 45 || b == 126))))) h.0
 
-number_opens : (negative : Bool) (n : ℕ) (suffix : Suffix) → IsNumber n → {ps : List Piece} → Opens (Tok (Number negative n suffix) ∷ ps)
+number_opens : (negative : Bool) (n : ℕ) (suffix : Suffix) → IsNumber n → {ps : List Piece} → Opens (TokenPiece (Number negative n suffix) ∷ ps)
 number_opens true n suffix is = record { at = λ more. refl }
 number_opens false n suffix is {ps} =
     record { at = λ more. ap opens (append_assoc (decimal n) (suffix_text suffix) (text (ps ++ more))) ∙ digits_open (decimal n) _ (decimal_nonempty n is) (digits_decimal own_digits n is) }
@@ -147,7 +147,7 @@ expression_opens _ is = record { at = λ more. refl }
 
 -- the rows
 
-suffixed_spaced : (suffix : Suffix) (negative : Bool) (n : ℕ) → IsSuffixed suffix negative n → Spaced (Tok (Number negative n suffix) ∷ [])
+suffixed_spaced : (suffix : Suffix) (negative : Bool) (n : ℕ) → IsSuffixed suffix negative n → Spaced (TokenPiece (Number negative n suffix) ∷ [])
 suffixed_spaced NoSuffix negative n is = absurd is
 suffixed_spaced SuffixI negative n is = tok (suffixed_number SuffixI negative n is) (λ more e. refl) end
 suffixed_spaced SuffixU negative n is = tok (suffixed_number SuffixU negative n is) (λ more e. refl) end

@@ -1,7 +1,7 @@
 -- In the lines of a statement no token runs into the next.
 use Rattle.std.proofs.Common.{◌≡◌, ℕ, suc, true, false, List, [], ◌∷◌, ◌++◌, refl, sym, subst, append_assoc, arith}
 use Rattle.std.specs.Prelude.{◌^◌}
-use Rattle.wgsl_text.specs.Token.{Mark, LessThan, CloseBrace, Token, Fixed, Word, Number, NoSuffix, Piece, Tok, Blank, LineEnd, Indent}
+use Rattle.wgsl_text.specs.Token.{Mark, LessThan, CloseBrace, Token, Fixed, Word, Number, NoSuffix, Piece, TokenPiece, Blank, LineEnd, Indent}
 use Rattle.wgsl_text.specs.Words.{IsWord}
 use Rattle.wgsl_text.specs.Tree.{Label, DefaultLabel, SignedLabel, UnsignedLabel, Labels, LastLabel, MoreLabels, Statement, Let, TypedLet, Assign, CallStatement, ReturnValue, If, Loop, LoopBreakIf, Switch, Block, Statements, NoStatements, Then, Cases, NoCases, Case}
 use Rattle.wgsl_text.specs.Pieces.{mark, plain}
@@ -30,11 +30,11 @@ pub indent : {n : ℕ} {qs : List Piece} → Closed qs → Closed (Indent n ∷ 
 indent b = record { by = b.by }
 
 -- what shows that a token ends, and what stands behind it
-pub tok : {t : Token} {qs : List Piece} → IsToken t → ((more : List Piece) → ends t (text (qs ++ more)) ≡ true) → Closed qs → Closed (Tok t ∷ qs)
+pub tok : {t : Token} {qs : List Piece} → IsToken t → ((more : List Piece) → ends t (text (qs ++ more)) ≡ true) → Closed qs → Closed (TokenPiece t ∷ qs)
 tok is front b = record { by = λ more h. (is, front more, b.by more h) }
 
 -- a word that may stand at a member's place, and a plain number
-pub free : {w : List ℕ} {qs : List Piece} → IsWord w → ((more : List Piece) → ends_word (text (qs ++ more)) ≡ true) → Closed qs → Closed (Tok (Word w) ∷ qs)
+pub free : {w : List ℕ} {qs : List Piece} → IsWord w → ((more : List Piece) → ends_word (text (qs ++ more)) ≡ true) → Closed qs → Closed (TokenPiece (Word w) ∷ qs)
 free is front b = tok (word_token_of is) front b
 
 pub size : {n : ℕ} {qs : List Piece} → IsPlainNumber n → ((more : List Piece) → ends (Number false n NoSuffix) (text (qs ++ more)) ≡ true) → Closed qs → Closed (plain n ∷ qs)

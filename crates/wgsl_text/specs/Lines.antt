@@ -1,7 +1,7 @@
 -- The grammar of statements, a clause for each row: their tokens, with the blanks, line ends and indentation between them.
 use Rattle.std.specs.Prelude.{ℕ, suc, false, List, [], ◌∷◌, ◌++◌}
 use Rattle.wgsl_text.specs.Token.{OpenParen, OpenBrace, CloseBrace, Comma, Semicolon, Colon, Equals, KeywordLet, KeywordIf, KeywordElse, KeywordLoop, KeywordContinuing, KeywordBreak, KeywordContinue, KeywordSwitch, KeywordCase, KeywordDefault, KeywordReturn, KeywordDiscard}
-use Rattle.wgsl_text.specs.Token.{NoSuffix, SuffixU, Number, Piece, Tok, Blank, LineEnd, Indent}
+use Rattle.wgsl_text.specs.Token.{NoSuffix, SuffixU, Number, Piece, TokenPiece, Blank, LineEnd, Indent}
 use Rattle.wgsl_text.specs.Tree.{Label, DefaultLabel, SignedLabel, UnsignedLabel, Labels, LastLabel, MoreLabels, Statement, Let, TypedLet, Assign, CallStatement, Return, ReturnValue, Discard, Break, Continue, If, Loop, LoopBreakIf, Switch, Block, Statements, NoStatements, Then, Cases, NoCases, Case}
 use Rattle.wgsl_text.specs.Pieces.{mark, word, expression_pieces, type_pieces, arguments_pieces}
 
@@ -12,8 +12,8 @@ line_end = mark Semicolon ∷ LineEnd ∷ []
 -- a signed label has no suffix
 abbrev pub label_pieces : Label → List Piece
 label_pieces DefaultLabel = mark KeywordDefault ∷ []
-label_pieces (SignedLabel negative n) = Tok (Number negative n NoSuffix) ∷ []
-label_pieces (UnsignedLabel n) = Tok (Number false n SuffixU) ∷ []
+label_pieces (SignedLabel negative n) = TokenPiece (Number negative n NoSuffix) ∷ []
+label_pieces (UnsignedLabel n) = TokenPiece (Number false n SuffixU) ∷ []
 
 -- the labels, and the sign that ends them
 abbrev pub labels_pieces : Labels → List Piece

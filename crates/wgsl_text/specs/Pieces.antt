@@ -1,19 +1,19 @@
 -- The grammar of types and expressions, a clause for each row: the tokens of a tree, with the blanks between them.
 use Rattle.std.specs.Prelude.{ℕ, Bool, true, false, not, ◌||◌, List, [], ◌∷◌, ◌++◌, codes}
 use Rattle.wgsl_text.specs.Token.{Mark, OpenParen, CloseParen, OpenBracket, CloseBracket, Comma, Dot, Equals, LessThan, GreaterThan, Plus, Minus, Star, Slash, Percent, Ampersand, Bar, Caret, Not, Tilde, EqualsEquals, NotEquals, LessEquals, AndAnd, BarBar, LessLess, KeywordTrue, KeywordFalse}
-use Rattle.wgsl_text.specs.Token.{NoSuffix, Fixed, Word, Number, ZeroPointZero, Piece, Tok, Blank}
+use Rattle.wgsl_text.specs.Token.{NoSuffix, Fixed, Word, Number, ZeroPointZero, Piece, TokenPiece, Blank}
 use Rattle.wgsl_text.specs.Words.{stands_in}
 use Rattle.wgsl_text.specs.Tables.{storage_image_words, cooperative_matrix_words}
 use Rattle.wgsl_text.specs.Tree.{BinaryOperator, Add, Subtract, Multiply, Divide, Modulo, Equal, NotEqual, Less, LessEqual, Greater, GreaterEqual, And, ExclusiveOr, InclusiveOr, LogicalAnd, LogicalOr, ShiftLeft, ShiftRight, UnaryOperator, Negate, LogicalNot, BitwiseNot, Literal, Truth, Suffixed, SignedShort, UnsignedShort, LeastInteger, LeastLong, TypeSpecifier, Named, Template, TypeParts, NoParts, TypePart, SizePart, Expression, Constant, Name, Binary, Unary, Call, Member, Index, IndexAt, AddressOf, Dereference, Arguments, NoArguments, Argument, NumberArgument, ZeroArgument}
 
 abbrev pub mark : Mark → Piece
-mark m = Tok (Fixed m)
+mark m = TokenPiece (Fixed m)
 
 abbrev pub word : List ℕ → Piece
-word w = Tok (Word w)
+word w = TokenPiece (Word w)
 
 abbrev pub plain : ℕ → Piece
-plain n = Tok (Number false n NoSuffix)
+plain n = TokenPiece (Number false n NoSuffix)
 
 -- `>=` and `>>` are two tokens each, since `>` is always a token by itself
 abbrev pub binary_pieces : BinaryOperator → List Piece
@@ -43,17 +43,17 @@ unary_mark BitwiseNot = Tilde
 
 -- a word with a plain number in parentheses
 abbrev pub wrapped_pieces : List ℕ → Bool → ℕ → List Piece
-wrapped_pieces w negative n = word w ∷ mark OpenParen ∷ Tok (Number negative n NoSuffix) ∷ mark CloseParen ∷ []
+wrapped_pieces w negative n = word w ∷ mark OpenParen ∷ TokenPiece (Number negative n NoSuffix) ∷ mark CloseParen ∷ []
 
 abbrev pub literal_pieces : Literal → List Piece
 literal_pieces (Truth true) = mark KeywordTrue ∷ []
 literal_pieces (Truth false) = mark KeywordFalse ∷ []
-literal_pieces (Suffixed negative n suffix) = Tok (Number negative n suffix) ∷ []
+literal_pieces (Suffixed negative n suffix) = TokenPiece (Number negative n suffix) ∷ []
 literal_pieces (SignedShort negative n) = wrapped_pieces (codes "i16") negative n
 literal_pieces (UnsignedShort n) = wrapped_pieces (codes "u16") false n
 literal_pieces LeastInteger = wrapped_pieces (codes "i32") true 2147483648
 literal_pieces LeastLong =
-    word (codes "i64") ∷ mark OpenParen ∷ Tok (Number true 9223372036854775807 NoSuffix) ∷ Blank ∷ mark Minus ∷ Blank ∷ plain 1 ∷ mark CloseParen ∷ []
+    word (codes "i64") ∷ mark OpenParen ∷ TokenPiece (Number true 9223372036854775807 NoSuffix) ∷ Blank ∷ mark Minus ∷ Blank ∷ plain 1 ∷ mark CloseParen ∷ []
 
 -- Does a blank stand behind the commas between the parts of a type?
 abbrev pub has_gaps : List ℕ → Bool
@@ -103,10 +103,10 @@ abbrev mutual
   arguments_pieces NoArguments = mark CloseParen ∷ []
   arguments_pieces (Argument e more) = expression_pieces e ++ more_arguments_pieces more
   arguments_pieces (NumberArgument n more) = plain n ∷ more_arguments_pieces more
-  arguments_pieces (ZeroArgument more) = Tok ZeroPointZero ∷ more_arguments_pieces more
+  arguments_pieces (ZeroArgument more) = TokenPiece ZeroPointZero ∷ more_arguments_pieces more
 
   pub more_arguments_pieces : Arguments → List Piece
   more_arguments_pieces NoArguments = mark CloseParen ∷ []
   more_arguments_pieces (Argument e more) = mark Comma ∷ Blank ∷ (expression_pieces e ++ more_arguments_pieces more)
   more_arguments_pieces (NumberArgument n more) = mark Comma ∷ Blank ∷ plain n ∷ more_arguments_pieces more
-  more_arguments_pieces (ZeroArgument more) = mark Comma ∷ Blank ∷ Tok ZeroPointZero ∷ more_arguments_pieces more
+  more_arguments_pieces (ZeroArgument more) = mark Comma ∷ Blank ∷ TokenPiece ZeroPointZero ∷ more_arguments_pieces more

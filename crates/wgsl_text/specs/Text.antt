@@ -5,7 +5,7 @@ use Rattle.std.specs.Char.{is_ascii_digit}
 use Rattle.std.specs.Str.Parse.{digits_value}
 use Rattle.std.specs.Fmt.{decimal}
 use Rattle.wgsl_text.specs.Token.{Mark, OpenParen, CloseParen, OpenBracket, CloseBracket, OpenBrace, CloseBrace, Comma, Semicolon, Colon, Dot, At, Equals, LessThan, GreaterThan, Plus, Minus, Star, Slash, Percent, Ampersand, Bar, Caret, Not, Tilde, EqualsEquals, NotEquals, LessEquals, AndAnd, BarBar, LessLess, KeywordTrue, KeywordFalse, KeywordLet, KeywordVar, KeywordIf, KeywordElse, KeywordLoop, KeywordContinuing, KeywordBreak, KeywordContinue, KeywordSwitch, KeywordCase, KeywordDefault, KeywordReturn, KeywordDiscard, KeywordFn, KeywordStruct, KeywordConst, KeywordEnable, KeywordOverride}
-use Rattle.wgsl_text.specs.Token.{Suffix, NoSuffix, SuffixI, SuffixU, SuffixLi, SuffixLu, Token, Fixed, Word, Number, ZeroPointZero, Foreign, Piece, Tok, Blank, LineEnd, Indent}
+use Rattle.wgsl_text.specs.Token.{Suffix, NoSuffix, SuffixI, SuffixU, SuffixLi, SuffixLu, Token, Fixed, Word, Number, ZeroPointZero, Foreign, Piece, TokenPiece, Blank, LineEnd, Indent}
 use Rattle.wgsl_text.specs.Words.{is_letter, is_word_byte, is_reserved}
 
 abbrev pub mark_text : Mark → List ℕ
@@ -77,14 +77,14 @@ token_text (Foreign b) = b ∷ []
 
 abbrev pub text : List Piece → List ℕ
 text [] = []
-text (Tok t ∷ pieces) = token_text t ++ text pieces
+text (TokenPiece t ∷ pieces) = token_text t ++ text pieces
 text (Blank ∷ pieces) = 32 ∷ text pieces
 text (LineEnd ∷ pieces) = 10 ∷ text pieces
 text (Indent n ∷ pieces) = replicate (4 * n) 32 ++ text pieces
 
 abbrev pub tokens_in : List Piece → List Token
 tokens_in [] = []
-tokens_in (Tok t ∷ pieces) = t ∷ tokens_in pieces
+tokens_in (TokenPiece t ∷ pieces) = t ∷ tokens_in pieces
 tokens_in (_ ∷ pieces) = tokens_in pieces
 
 -- what a text begins with: a token and how many bytes it has after its first, or a blank
