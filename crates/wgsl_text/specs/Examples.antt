@@ -2,7 +2,7 @@
 use Prim.Native.String.{String}
 use Rattle.std.specs.Prelude.{◌≡◌, ℕ, true, false, List, [], ◌∷◌, ◌++◌, codes, Option, None, Some}
 use Rattle.wgsl_text.specs.Token.{SuffixI, SuffixU, SuffixLi}
-use Rattle.wgsl_text.specs.Tree.{Truth, Suffixed, Add, Multiply, Negate, TypeSpecifier, Named, Template, NoParts, TypePart, SizePart, Expression, Constant, Name, Binary, Unary, Call, Member, IndexAt, AddressOf, Dereference, Arguments, NoArguments, Argument, ZeroArgument, DefaultLabel, SignedLabel, LastLabel, MoreLabels, Let, TypedLet, Assign, CallStatement, ReturnValue, Continue, If, LoopBreakIf, Switch, Statement, Statements, NoStatements, Then, NoCases, Case, Vertex, Fragment, Compute, Location, Id, Group, Binding, Size, Builtin, Interpolate, Plain, Numbered, Worded, WorkgroupSize, Parameter, Result, NoResult, ResultOf, Local, Function, SpaceAlone, SpaceAndAccess, Program, no_declarations}
+use Rattle.wgsl_text.specs.Tree.{Truth, Suffixed, Add, Multiply, Negate, TypeSpecifier, Named, Template, TypeParts, NoParts, TypePart, SizePart, Expression, Constant, Name, Binary, Unary, Call, Member, IndexAt, AddressOf, Dereference, Arguments, NoArguments, Argument, ZeroArgument, DefaultLabel, SignedLabel, LastLabel, MoreLabels, Let, TypedLet, Assign, CallStatement, ReturnValue, Continue, If, LoopBreakIf, Switch, Statement, Statements, NoStatements, Then, NoCases, Case, Vertex, Fragment, Compute, Location, Id, Group, Binding, Size, Builtin, Interpolate, Plain, Numbered, Worded, Interpolated, WorkgroupSize, Attribute, WordedAttribute, Parameter, Result, NoResult, ResultOf, Local, Function, EntryPoint, StructMember, Struct, NamedConstant, Override, Space, Global, SpaceAlone, SpaceAndAccess, Program, no_declarations}
 use Rattle.wgsl_text.specs.GrammarOfLines.{IsProgram}
 use Rattle.wgsl_text.specs.Reading.{layout}
 
@@ -14,6 +14,16 @@ pub record IsText (program : Program) (bytes : List ℕ) : Type 0 where
 -- short words for trees
 abbrev pub named : String → TypeSpecifier
 named w = Named (codes w)
+
+abbrev pub parts : List TypeSpecifier → TypeParts
+parts [] = NoParts
+parts (t ∷ more) = TypePart t (parts more)
+
+abbrev pub template : String → List TypeSpecifier → TypeSpecifier
+template w list = Template (codes w) (parts list)
+
+abbrev pub sized : String → TypeSpecifier → ℕ → TypeSpecifier
+sized w t n = Template (codes w) (TypePart t (SizePart n NoParts))
 
 abbrev pub name : String → Expression
 name w = Name (codes w)
@@ -31,6 +41,15 @@ operands (e ∷ more) = Argument e (operands more)
 abbrev pub call : String → Arguments → Expression
 call w arguments = Call (Named (codes w)) arguments
 
+abbrev pub member_of : Expression → String → Expression
+member_of e w = Member e (codes w)
+
+abbrev pub bound : String → Expression → Statement
+bound w e = Let (codes w) e
+
+abbrev pub typed : String → TypeSpecifier → Expression → Statement
+typed w t e = TypedLet (codes w) t e
+
 abbrev pub statements : List Statement → Statements
 statements [] = NoStatements
 statements (s ∷ more) = Then s (statements more)
@@ -38,174 +57,254 @@ statements (s ∷ more) = Then s (statements more)
 abbrev pub parameter : String → TypeSpecifier → Parameter
 parameter w t = record { attributes = []; name = codes w; type = t }
 
+abbrev pub bound_parameter : List Attribute → String → TypeSpecifier → Parameter
+bound_parameter attributes w t = record { attributes = attributes; name = codes w; type = t }
+
 abbrev pub local : String → TypeSpecifier → Option Expression → Local
 local w t value = record { name = codes w; type = t; value = value }
 
 abbrev pub function : String → List Parameter → Result → List Local → List Statement → Function
 function w parameters result locals body = record { name = codes w; parameters = parameters; result = result; locals = locals; body = statements body }
 
+abbrev pub worded : WordedAttribute → String → Attribute
+worded a w = Worded a (codes w)
+
+abbrev pub interpolated : String → String → Attribute
+interpolated i s = Interpolated (codes i) (codes s)
+
+abbrev pub member : List Attribute → String → TypeSpecifier → StructMember
+member attributes w t = record { attributes = attributes; name = codes w; type = t }
+
+abbrev pub struct : String → List StructMember → Struct
+struct w members = record { name = codes w; members = members }
+
+abbrev pub constant : String → TypeSpecifier → Expression → NamedConstant
+constant w t e = record { name = codes w; type = t; value = e }
+
+abbrev pub override : List Attribute → String → TypeSpecifier → Option Expression → Override
+override attributes w t value = record { attributes = attributes; name = codes w; type = t; value = value }
+
+abbrev pub space : String → Space
+space a = SpaceAlone (codes a)
+
+abbrev pub space_and_access : String → String → Space
+space_and_access a m = SpaceAndAccess (codes a) (codes m)
+
+abbrev pub global : List Attribute → Space → String → TypeSpecifier → Option Expression → Global
+global attributes s w t value = record { attributes = attributes; space = s; name = codes w; type = t; value = value }
+
+abbrev pub entry_point : List Attribute → Function → EntryPoint
+entry_point stage f = record { stage = stage; function = f }
+
 abbrev pub of_functions : List Function → Program
 of_functions functions = record no_declarations { functions = functions }
 
 abbrev pub identity : Program
-identity = of_functions (function "f" (parameter "x" (named "i32") ∷ []) (ResultOf [] (named "i32")) [] (
+identity = of_functions (
+    function "f" (parameter "x" (named "i32") ∷ []) (ResultOf [] (named "i32")) [] (
     ReturnValue (name "x") ∷ []) ∷ [])
 
 abbrev pub negative : Program
-negative = of_functions (function "r" (parameter "b" (named "bool") ∷ []) (ResultOf [] (named "i64")) [] (
+negative = of_functions (
+    function "r" (parameter "b" (named "bool") ∷ []) (ResultOf [] (named "i64")) [] (
     ReturnValue (Constant (Suffixed true 7 SuffixLi)) ∷ []) ∷ [])
 
 abbrev pub same_labels : Program
-same_labels = of_functions (function "f" (parameter "x" (named "i32") ∷ parameter "x_1" (named "i32") ∷ []) (ResultOf [] (named "i32")) [] (
+same_labels = of_functions (
+    function "f" (parameter "x" (named "i32") ∷ parameter "x_1" (named "i32") ∷ []) (ResultOf [] (named "i32")) [] (
     ReturnValue (name "x_1") ∷ []) ∷ [])
 
 abbrev pub type_label : Program
-type_label = of_functions (function "type_1" (parameter "x" (named "i32") ∷ []) (ResultOf [] (named "i32")) [] (
+type_label = of_functions (
+    function "type_1" (parameter "x" (named "i32") ∷ []) (ResultOf [] (named "i32")) [] (
     ReturnValue (name "x") ∷ []) ∷ [])
 
 abbrev pub hostile_labels : Program
-hostile_labels = of_functions (function "gen__naga" (parameter "u00e9_" (named "i32") ∷ []) (ResultOf [] (named "i32")) [] (
+hostile_labels = of_functions (
+    function "gen__naga" (parameter "u00e9_" (named "i32") ∷ []) (ResultOf [] (named "i32")) [] (
     ReturnValue (name "u00e9_") ∷ []) ∷ [])
 
 abbrev pub store : Program
-store = of_functions (function "g" [] (ResultOf [] (named "i32")) (local "a" (named "i32") (Some (integer 1)) ∷ []) (
-    Let (codes "_e2") (name "a") ∷
+store = of_functions (
+    function "g" [] (ResultOf [] (named "i32")) (local "a" (named "i32") (Some (integer 1)) ∷ []) (
+    bound "_e2" (name "a") ∷
     Assign (name "a") (integer 2) ∷
     ReturnValue (name "_e2") ∷ []) ∷ [])
 
 abbrev pub store_explicit : Program
-store_explicit = of_functions (function "g" [] (ResultOf [] (named "i32")) (local "a" (named "i32") (Some (integer 1)) ∷ []) (
-    TypedLet (codes "_e2") (named "i32") (name "a") ∷
+store_explicit = of_functions (
+    function "g" [] (ResultOf [] (named "i32")) (local "a" (named "i32") (Some (integer 1)) ∷ []) (
+    typed "_e2" (named "i32") (name "a") ∷
     Assign (name "a") (integer 2) ∷
     ReturnValue (name "_e2") ∷ []) ∷ [])
 
 abbrev pub unused_read : Program
-unused_read = of_functions (function "g" [] (ResultOf [] (named "i32")) (local "a" (named "i32") (Some (integer 1)) ∷ []) (
+unused_read = of_functions (
+    function "g" [] (ResultOf [] (named "i32")) (local "a" (named "i32") (Some (integer 1)) ∷ []) (
     Assign (name "a") (integer 2) ∷
     ReturnValue (integer 2) ∷ []) ∷ [])
 
 abbrev pub late_use : Program
-late_use = of_functions (function "p" [] (ResultOf [] (named "i32")) (local "a" (named "i32") (Some (integer 1)) ∷ []) (
-    Let (codes "_e2") (name "a") ∷
+late_use = of_functions (
+    function "p" [] (ResultOf [] (named "i32")) (local "a" (named "i32") (Some (integer 1)) ∷ []) (
+    bound "_e2" (name "a") ∷
     Assign (name "a") (integer 2) ∷
     ReturnValue (Binary (name "_e2") Add (integer 1)) ∷ []) ∷ [])
 
 abbrev pub inlined : Program
-inlined = of_functions (function "q" (parameter "x" (named "i32") ∷ []) (ResultOf [] (named "i32")) (local "a" (named "i32") None ∷ []) (
+inlined = of_functions (
+    function "q" (parameter "x" (named "i32") ∷ []) (ResultOf [] (named "i32")) (local "a" (named "i32") None ∷ []) (
     Assign (name "a") (Binary (name "x") Add (name "x")) ∷
-    Let (codes "_e3") (name "a") ∷
+    bound "_e3" (name "a") ∷
     ReturnValue (name "_e3") ∷ []) ∷ [])
 
 abbrev pub used_twice : Program
-used_twice = of_functions (function "q" (parameter "x" (named "i32") ∷ []) (ResultOf [] (named "i32")) (local "a" (named "i32") None ∷ []) (
-    Let (codes "_e2") (Binary (name "x") Add (name "x")) ∷
+used_twice = of_functions (
+    function "q" (parameter "x" (named "i32") ∷ []) (ResultOf [] (named "i32")) (local "a" (named "i32") None ∷ []) (
+    bound "_e2" (Binary (name "x") Add (name "x")) ∷
     Assign (name "a") (name "_e2") ∷
-    Let (codes "_e3") (name "a") ∷
+    bound "_e3" (name "a") ∷
     ReturnValue (Binary (name "_e2") Multiply (name "_e3")) ∷ []) ∷ [])
 
 abbrev pub select_call : Program
-select_call = of_functions (function "sel" (parameter "c" (named "bool") ∷ parameter "a" (named "i32") ∷ parameter "b" (named "i32") ∷ []) (ResultOf [] (named "i32")) [] (
+select_call = of_functions (
+    function "sel" (parameter "c" (named "bool") ∷ parameter "a" (named "i32") ∷ parameter "b" (named "i32") ∷ []) (ResultOf [] (named "i32")) [] (
     ReturnValue (call "select" (operands (name "b" ∷ name "a" ∷ name "c" ∷ []))) ∷ []) ∷ [])
 
 abbrev pub named_expression : Program
-named_expression = of_functions (function "e" (parameter "x" (named "i32") ∷ []) (ResultOf [] (named "i32")) [] (
-    Let (codes "x_1") (Binary (name "x") Add (name "x")) ∷
+named_expression = of_functions (
+    function "e" (parameter "x" (named "i32") ∷ []) (ResultOf [] (named "i32")) [] (
+    bound "x_1" (Binary (name "x") Add (name "x")) ∷
     ReturnValue (name "x_1") ∷ []) ∷ [])
 
 abbrev pub idle_literal : Program
-idle_literal = of_functions (function "u" [] (ResultOf [] (named "i32")) [] (
+idle_literal = of_functions (
+    function "u" [] (ResultOf [] (named "i32")) [] (
     ReturnValue (integer 1) ∷ []) ∷ [])
 
 abbrev pub sample_at_zero : Program
-sample_at_zero = of_functions (function "sp" (parameter "t" (Template (codes "texture_2d") (TypePart (named "f32") NoParts)) ∷ parameter "s" (named "sampler") ∷ parameter "p" (Template (codes "vec2") (TypePart (named "f32") NoParts)) ∷ []) (ResultOf [] (Template (codes "vec4") (TypePart (named "f32") NoParts))) [] (
-    Let (codes "_e3") (call "textureSampleLevel" (Argument (name "t") (Argument (name "s") (Argument (name "p") (ZeroArgument NoArguments))))) ∷
+sample_at_zero = of_functions (
+    function "sp" (parameter "t" (template "texture_2d" (named "f32" ∷ [])) ∷ parameter "s" (named "sampler") ∷ parameter "p" (template "vec2" (named "f32" ∷ [])) ∷ []) (ResultOf [] (template "vec4" (named "f32" ∷ []))) [] (
+    bound "_e3" (call "textureSampleLevel" (Argument (name "t") (Argument (name "s") (Argument (name "p") (ZeroArgument NoArguments))))) ∷
     ReturnValue (name "_e3") ∷ []) ∷ [])
 
 abbrev pub pointer : Program
-pointer = of_functions (function "h" [] NoResult (local "arr" (Template (codes "array") (TypePart (named "i32") (SizePart 4 NoParts))) None ∷ []) (
-    Let (codes "p") (AddressOf (IndexAt (name "arr") 0)) ∷
+pointer = of_functions (
+    function "h" [] NoResult (local "arr" (sized "array" (named "i32") 4) None ∷ []) (
+    bound "p" (AddressOf (IndexAt (name "arr") 0)) ∷
     Assign (Dereference (name "p")) (integer 2) ∷ []) ∷ [])
 
 abbrev pub negate : Program
-negate = of_functions (function "neg" (parameter "v" (Template (codes "vec3") (TypePart (named "i32") NoParts)) ∷ []) (ResultOf [] (named "i32")) [] (
-    ReturnValue (Member (Unary Negate (name "v")) (codes "x")) ∷ []) ∷ [])
+negate = of_functions (
+    function "neg" (parameter "v" (template "vec3" (named "i32" ∷ [])) ∷ []) (ResultOf [] (named "i32")) [] (
+    ReturnValue (member_of (Unary Negate (name "v")) "x") ∷ []) ∷ [])
 
 abbrev pub modf_members : Program
-modf_members = of_functions (function "m" (parameter "x" (named "f32") ∷ []) (ResultOf [] (named "f32")) [] (
-    Let (codes "_e1") (call "modf" (operands (name "x" ∷ []))) ∷
-    ReturnValue (Binary (Member (name "_e1") (codes "fract")) Add (Member (name "_e1") (codes "whole"))) ∷ []) ∷ [])
+modf_members = of_functions (
+    function "m" (parameter "x" (named "f32") ∷ []) (ResultOf [] (named "f32")) [] (
+    bound "_e1" (call "modf" (operands (name "x" ∷ []))) ∷
+    ReturnValue (Binary (member_of (name "_e1") "fract") Add (member_of (name "_e1") "whole")) ∷ []) ∷ [])
 
 abbrev pub siblings : Program
-siblings = of_functions (function "k" (parameter "c" (named "bool") ∷ parameter "x" (named "i32") ∷ []) (ResultOf [] (named "i32")) [] (
-    If (name "c") (statements (Let (codes "_e2") (Binary (name "x") Add (name "x")) ∷ ReturnValue (name "_e2") ∷ [])) (statements (Let (codes "_e2") (Binary (name "x") Add (name "x")) ∷ ReturnValue (name "_e2") ∷ [])) ∷ []) ∷ [])
+siblings = of_functions (
+    function "k" (parameter "c" (named "bool") ∷ parameter "x" (named "i32") ∷ []) (ResultOf [] (named "i32")) [] (
+    If (name "c") (statements (
+    bound "_e2" (Binary (name "x") Add (name "x")) ∷
+    ReturnValue (name "_e2") ∷ [])) (statements (
+    bound "_e2" (Binary (name "x") Add (name "x")) ∷
+    ReturnValue (name "_e2") ∷ [])) ∷ []) ∷ [])
 
 abbrev pub named_siblings : Program
-named_siblings = of_functions (function "k" (parameter "c" (named "bool") ∷ parameter "x" (named "i32") ∷ []) (ResultOf [] (named "i32")) [] (
-    If (name "c") (statements (Let (codes "y") (Binary (name "x") Add (name "x")) ∷ ReturnValue (name "y") ∷ [])) (statements (Let (codes "y_1") (Binary (name "x") Add (name "x")) ∷ ReturnValue (name "y_1") ∷ [])) ∷ []) ∷ [])
+named_siblings = of_functions (
+    function "k" (parameter "c" (named "bool") ∷ parameter "x" (named "i32") ∷ []) (ResultOf [] (named "i32")) [] (
+    If (name "c") (statements (
+    bound "y" (Binary (name "x") Add (name "x")) ∷
+    ReturnValue (name "y") ∷ [])) (statements (
+    bound "y_1" (Binary (name "x") Add (name "x")) ∷
+    ReturnValue (name "y_1") ∷ [])) ∷ []) ∷ [])
 
 abbrev pub switch_joined : Program
-switch_joined = of_functions (function "s" (parameter "x" (named "i32") ∷ []) NoResult [] (
-    Switch (name "x") (Case (MoreLabels (SignedLabel false 1) (MoreLabels (SignedLabel false 2) (LastLabel DefaultLabel))) (statements []) NoCases) ∷ []) ∷ [])
+switch_joined = of_functions (
+    function "s" (parameter "x" (named "i32") ∷ []) NoResult [] (
+    Switch (name "x") (Case (MoreLabels (SignedLabel false 1) (MoreLabels (SignedLabel false 2) (LastLabel DefaultLabel))) NoStatements NoCases) ∷ []) ∷ [])
 
 abbrev pub switch_default_first : Program
-switch_default_first = of_functions (function "dflt" (parameter "x" (named "i32") ∷ []) NoResult [] (
-    Switch (name "x") (Case (MoreLabels DefaultLabel (LastLabel (SignedLabel false 3))) (statements []) NoCases) ∷ []) ∷ [])
+switch_default_first = of_functions (
+    function "dflt" (parameter "x" (named "i32") ∷ []) NoResult [] (
+    Switch (name "x") (Case (MoreLabels DefaultLabel (LastLabel (SignedLabel false 3))) NoStatements NoCases) ∷ []) ∷ [])
 
 abbrev pub loop_break_if : Program
-loop_break_if = of_functions (function "l" (parameter "c" (named "bool") ∷ []) NoResult [] (
-    LoopBreakIf (statements []) (statements []) (name "c") ∷ []) ∷ [])
+loop_break_if = of_functions (
+    function "l" (parameter "c" (named "bool") ∷ []) NoResult [] (
+    LoopBreakIf NoStatements NoStatements (name "c") ∷ []) ∷ [])
 
 abbrev pub loop_tail : Program
-loop_tail = of_functions (function "lp" (parameter "x" (named "i32") ∷ []) NoResult (local "a" (named "i32") None ∷ []) (
-    LoopBreakIf (statements (Let (codes "_e2") (Binary (name "x") Add (name "x")) ∷ Assign (name "a") (name "_e2") ∷ [])) (statements (Assign (name "a") (name "_e2") ∷ [])) (Constant (Truth true)) ∷ []) ∷ [])
+loop_tail = of_functions (
+    function "lp" (parameter "x" (named "i32") ∷ []) NoResult (local "a" (named "i32") None ∷ []) (
+    LoopBreakIf (statements (
+    bound "_e2" (Binary (name "x") Add (name "x")) ∷
+    Assign (name "a") (name "_e2") ∷ [])) (statements (
+    Assign (name "a") (name "_e2") ∷ [])) (Constant (Truth true)) ∷ []) ∷ [])
 
 abbrev pub loop_folded : Program
-loop_folded = of_functions (function "cf" (parameter "c" (named "bool") ∷ []) NoResult (local "a" (named "i32") None ∷ []) (
-    LoopBreakIf (statements (If (name "c") (statements (Continue ∷ [])) (statements []) ∷ Let (codes "_e3") (Binary (integer 1) Add (integer 1)) ∷ Assign (name "a") (name "_e3") ∷ [])) (statements (Assign (name "a") (Binary (integer 1) Add (integer 1)) ∷ [])) (name "c") ∷ []) ∷ [])
+loop_folded = of_functions (
+    function "cf" (parameter "c" (named "bool") ∷ []) NoResult (local "a" (named "i32") None ∷ []) (
+    LoopBreakIf (statements (
+    If (name "c") (statements (
+    Continue ∷ [])) NoStatements ∷
+    bound "_e3" (Binary (integer 1) Add (integer 1)) ∷
+    Assign (name "a") (name "_e3") ∷ [])) (statements (
+    Assign (name "a") (Binary (integer 1) Add (integer 1)) ∷ [])) (name "c") ∷ []) ∷ [])
 
 abbrev pub barriers : Program
-barriers = of_functions (function "b" [] NoResult [] (
+barriers = of_functions (
+    function "b" [] NoResult [] (
     CallStatement (named "storageBarrier") NoArguments ∷
     CallStatement (named "workgroupBarrier") NoArguments ∷
     CallStatement (named "subgroupBarrier") NoArguments ∷
     CallStatement (named "textureBarrier") NoArguments ∷ []) ∷ [])
 
 abbrev pub call_of_function : Program
-call_of_function = of_functions (function "inc" (parameter "p" (Template (codes "ptr") (TypePart (named "function") (TypePart (named "i32") NoParts))) ∷ []) NoResult [] (
-    Let (codes "_e2") (Dereference (name "p")) ∷
-    Assign (Dereference (name "p")) (Binary (name "_e2") Add (integer 1)) ∷ []) ∷ function "run" [] (ResultOf [] (named "i32")) (local "a" (named "i32") None ∷ []) (
+call_of_function = of_functions (
+    function "inc" (parameter "p" (template "ptr" (named "function" ∷ named "i32" ∷ [])) ∷ []) NoResult [] (
+    bound "_e2" (Dereference (name "p")) ∷
+    Assign (Dereference (name "p")) (Binary (name "_e2") Add (integer 1)) ∷ []) ∷
+    function "run" [] (ResultOf [] (named "i32")) (local "a" (named "i32") None ∷ []) (
     CallStatement (named "inc") (operands (AddressOf (name "a") ∷ [])) ∷
-    Let (codes "_e1") (name "a") ∷
+    bound "_e1" (name "a") ∷
     ReturnValue (name "_e1") ∷ []) ∷ [])
 
 abbrev pub compute : Program
 compute = record no_declarations {
-  entry_points = record { stage = Plain Compute ∷ WorkgroupSize 64 1 1 ∷ []; function = function "main" [] NoResult [] [] } ∷ [];
+  entry_points = entry_point (Plain Compute ∷ WorkgroupSize 64 1 1 ∷ []) (function "main" [] NoResult [] []) ∷ [];
 }
 
 abbrev pub struct_names : Program
 struct_names = record no_declarations {
-  structs = record { name = codes "S"; members = record { attributes = []; name = codes "fract"; type = named "i32" } ∷ record { attributes = []; name = codes "fn_"; type = named "i32" } ∷ [] } ∷ [];
+  structs =
+      struct "S" (
+      member [] "fract" (named "i32") ∷
+      member [] "fn_" (named "i32") ∷ []) ∷ [];
 }
 
 abbrev pub override_with_id : Program
 override_with_id = record no_declarations {
-  overrides = record { attributes = Numbered Id 3 ∷ []; name = codes "override_type"; type = named "u32"; value = None } ∷ [];
+  overrides = override (Numbered Id 3 ∷ []) "override_type" (named "u32") None ∷ [];
 }
 
 abbrev pub global_buffer : Program
 global_buffer = record no_declarations {
-  globals = record { attributes = Numbered Group 0 ∷ Numbered Binding 1 ∷ []; space = SpaceAndAccess (codes "storage") (codes "read_write"); name = codes "buf"; type = Template (codes "array") (TypePart (named "u32") NoParts); value = None } ∷ [];
+  globals = global (Numbered Group 0 ∷ Numbered Binding 1 ∷ []) (space_and_access "storage" "read_write") "buf" (template "array" (named "u32" ∷ [])) None ∷ [];
 }
 
 abbrev pub vertex_output : Program
 vertex_output = record no_declarations {
-  structs = record { name = codes "VertexOutput"; members = record { attributes = Worded Builtin (codes "position") ∷ []; name = codes "pos"; type = Template (codes "vec4") (TypePart (named "f32") NoParts) } ∷ [] } ∷ [];
-  entry_points = record {
-    stage = Plain Vertex ∷ [];
-    function = function "main" [] (ResultOf [] (named "VertexOutput")) [] (
-        ReturnValue (call "VertexOutput" NoArguments) ∷ []);
-  } ∷ [];
+  structs =
+      struct "VertexOutput" (
+      member (worded Builtin "position" ∷ []) "pos" (template "vec4" (named "f32" ∷ [])) ∷ []) ∷ [];
+  entry_points =
+      entry_point (Plain Vertex ∷ []) (function "main" [] (ResultOf [] (named "VertexOutput")) [] (
+      ReturnValue (call "VertexOutput" NoArguments) ∷ [])) ∷ [];
 }
 
 abbrev pub enable_f16 : Program
@@ -215,37 +314,46 @@ enable_f16 = record no_declarations {
 
 abbrev pub named_constant : Program
 named_constant = record no_declarations {
-  constants = record { name = codes "N"; type = named "i32"; value = integer 7 } ∷ [];
+  constants = constant "N" (named "i32") (integer 7) ∷ [];
 }
 
 abbrev pub flat_input : Program
 flat_input = record no_declarations {
-  entry_points = record { stage = Plain Fragment ∷ []; function = function "main" (record { attributes = Numbered Location 0 ∷ Worded Interpolate (codes "flat") ∷ []; name = codes "i"; type = named "u32" } ∷ []) NoResult [] [] } ∷ [];
+  entry_points = entry_point (Plain Fragment ∷ []) (function "main" (bound_parameter (Numbered Location 0 ∷ worded Interpolate "flat" ∷ []) "i" (named "u32") ∷ []) NoResult [] []) ∷ [];
 }
 
 abbrev pub atomic_add : Program
 atomic_add = record no_declarations {
-  globals = record { attributes = []; space = SpaceAlone (codes "workgroup"); name = codes "c"; type = Template (codes "atomic") (TypePart (named "u32") NoParts); value = None } ∷ [];
-  entry_points = record {
-    stage = Plain Compute ∷ WorkgroupSize 1 1 1 ∷ [];
-    function = function "main" [] NoResult [] (
-        Let (codes "_e2") (call "atomicAdd" (operands (AddressOf (name "c") ∷ unsigned 1 ∷ []))) ∷ []);
-  } ∷ [];
+  globals = global [] (space "workgroup") "c" (template "atomic" (named "u32" ∷ [])) None ∷ [];
+  entry_points =
+      entry_point (Plain Compute ∷ WorkgroupSize 1 1 1 ∷ []) (function "main" [] NoResult [] (
+      bound "_e2" (call "atomicAdd" (operands (AddressOf (name "c") ∷ unsigned 1 ∷ []))) ∷ [])) ∷ [];
 }
 
 abbrev pub natural_offsets : Program
 natural_offsets = record no_declarations {
-  structs = record { name = codes "P"; members = record { attributes = []; name = codes "a"; type = named "f32" } ∷ record { attributes = []; name = codes "b"; type = Template (codes "vec3") (TypePart (named "f32") NoParts) } ∷ record { attributes = []; name = codes "c"; type = named "f32" } ∷ [] } ∷ [];
+  structs =
+      struct "P" (
+      member [] "a" (named "f32") ∷
+      member [] "b" (template "vec3" (named "f32" ∷ [])) ∷
+      member [] "c" (named "f32") ∷ []) ∷ [];
 }
 
 abbrev pub gap_by_size : Program
 gap_by_size = record no_declarations {
-  structs = record { name = codes "Q"; members = record { attributes = Numbered Size 16 ∷ []; name = codes "a"; type = named "u32" } ∷ record { attributes = []; name = codes "b"; type = named "u32" } ∷ [] } ∷ [];
+  structs =
+      struct "Q" (
+      member (Numbered Size 16 ∷ []) "a" (named "u32") ∷
+      member [] "b" (named "u32") ∷ []) ∷ [];
 }
 
 abbrev pub stride_by_size : Program
 stride_by_size = record no_declarations {
-  structs = record { name = codes "I"; members = record { attributes = Numbered Size 16 ∷ []; name = codes "a"; type = named "u32" } ∷ [] } ∷ record { name = codes "O"; members = record { attributes = []; name = codes "v"; type = Template (codes "array") (TypePart (named "I") (SizePart 2 NoParts)) } ∷ [] } ∷ [];
+  structs =
+      struct "I" (
+      member (Numbered Size 16 ∷ []) "a" (named "u32") ∷ []) ∷
+      struct "O" (
+      member [] "v" (sized "array" (named "I") 2) ∷ []) ∷ [];
 }
 
 -- each program has its text

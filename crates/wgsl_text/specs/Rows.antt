@@ -1,10 +1,10 @@
 -- A tree for each row of the grammar, and beside it its text.
 use Rattle.std.specs.Prelude.{◌≡◌, ℕ, true, false, List, [], ◌∷◌, ◌++◌, codes, None, Some}
 use Rattle.wgsl_text.specs.Token.{SuffixI, SuffixLi, SuffixLu}
-use Rattle.wgsl_text.specs.Tree.{Truth, Suffixed, SignedShort, UnsignedShort, LeastInteger, LeastLong, Add, Subtract, Multiply, Divide, Modulo, Equal, NotEqual, Less, LessEqual, Greater, GreaterEqual, And, ExclusiveOr, InclusiveOr, LogicalAnd, LogicalOr, ShiftLeft, ShiftRight, Negate, LogicalNot, BitwiseNot, TypeSpecifier, Template, NoParts, TypePart, SizePart, Expression, Constant, Binary, Unary, Call, Member, Index, IndexAt, AddressOf, Dereference, NoArguments, Argument, NumberArgument, ZeroArgument, DefaultLabel, SignedLabel, UnsignedLabel, LastLabel, MoreLabels, Let, TypedLet, Assign, CallStatement, Return, ReturnValue, Discard, Break, If, Loop, Switch, Block, NoCases, Case, Invariant, PerPrimitive, Coherent, Volatile, Vertex, Fragment, Task, RayGeneration, AnyHit, ClosestHit, Miss, Location, BlendSource, Id, Group, Binding, Size, Align, Builtin, Interpolate, Mesh, Payload, IncomingPayload, Plain, Numbered, Worded, Interpolated, WorkgroupSize, NoResult, ResultOf, NoSpace, SpaceAlone, Program, no_declarations}
+use Rattle.wgsl_text.specs.Tree.{Truth, Suffixed, SignedShort, UnsignedShort, LeastInteger, LeastLong, Add, Subtract, Multiply, Divide, Modulo, Equal, NotEqual, Less, LessEqual, Greater, GreaterEqual, And, ExclusiveOr, InclusiveOr, LogicalAnd, LogicalOr, ShiftLeft, ShiftRight, Negate, LogicalNot, BitwiseNot, TypeSpecifier, Expression, Constant, Binary, Unary, Call, Index, IndexAt, AddressOf, Dereference, NoArguments, Argument, NumberArgument, ZeroArgument, DefaultLabel, SignedLabel, UnsignedLabel, LastLabel, MoreLabels, Assign, CallStatement, Return, ReturnValue, Discard, Break, If, Loop, Switch, Block, NoStatements, NoCases, Case, Invariant, PerPrimitive, Coherent, Volatile, Vertex, Fragment, Task, RayGeneration, AnyHit, ClosestHit, Miss, Location, BlendSource, Id, Group, Binding, Size, Align, Builtin, Interpolate, Mesh, Payload, IncomingPayload, Plain, Numbered, WorkgroupSize, NoResult, ResultOf, NoSpace, Program, no_declarations}
 use Rattle.wgsl_text.specs.Grammar.{IsType, IsExpression}
 use Rattle.wgsl_text.specs.Reading.{type_layout, expression_layout}
-use Rattle.wgsl_text.specs.Examples.{named, name, integer, unsigned, operands, call, statements, parameter, local, function, of_functions, IsText}
+use Rattle.wgsl_text.specs.Examples.{named, template, sized, member_of, bound, typed, bound_parameter, worded, interpolated, member, struct, constant, override, space, global, entry_point, name, integer, unsigned, operands, call, statements, parameter, local, function, of_functions, IsText}
 
 -- The tree is a type, and these bytes are its layout.
 pub record IsTypeText (t : TypeSpecifier) (bytes : List ℕ) : Type 0 where
@@ -19,33 +19,33 @@ pub record IsExpressionText (e : Expression) (bytes : List ℕ) : Type 0 where
 -- each row of types
 pub record TypeRows : Type 0 where
   pub scalar : IsTypeText (named "i16") (codes "i16")
-  pub vector : IsTypeText (Template (codes "vec4") (TypePart (named "u32") NoParts)) (codes "vec4<u32>")
-  pub matrix : IsTypeText (Template (codes "mat3x2") (TypePart (named "f32") NoParts)) (codes "mat3x2<f32>")
-  pub atomic : IsTypeText (Template (codes "atomic") (TypePart (named "i64") NoParts)) (codes "atomic<i64>")
-  pub array_of_number : IsTypeText (Template (codes "array") (TypePart (named "i32") (SizePart 4 NoParts))) (codes "array<i32, 4>")
-  pub array_of_override : IsTypeText (Template (codes "array") (TypePart (named "i32") (TypePart (named "N") NoParts))) (codes "array<i32, N>")
-  pub dynamic_array : IsTypeText (Template (codes "array") (TypePart (named "u32") NoParts)) (codes "array<u32>")
-  pub binding_array_of_number : IsTypeText (Template (codes "binding_array") (TypePart (named "sampler") (SizePart 8 NoParts))) (codes "binding_array<sampler, 8>")
-  pub dynamic_binding_array : IsTypeText (Template (codes "binding_array") (TypePart (Template (codes "texture_2d") (TypePart (named "f32") NoParts)) NoParts)) (codes "binding_array<texture_2d<f32>>")
-  pub pointer : IsTypeText (Template (codes "ptr") (TypePart (named "function") (TypePart (named "S") NoParts))) (codes "ptr<function, S>")
-  pub pointer_with_access : IsTypeText (Template (codes "ptr") (TypePart (named "storage") (TypePart (named "i32") (TypePart (named "read_write") NoParts)))) (codes "ptr<storage, i32, read_write>")
-  pub pointer_to_array : IsTypeText (Template (codes "ptr") (TypePart (named "storage") (TypePart (Template (codes "array") (TypePart (named "u32") NoParts)) NoParts))) (codes "ptr<storage, array<u32>>")
-  pub value_pointer_to_vector : IsTypeText (Template (codes "ptr") (TypePart (named "function") (TypePart (Template (codes "vec3") (TypePart (named "i32") NoParts)) NoParts))) (codes "ptr<function, vec3<i32>>")
-  pub value_pointer_to_scalar : IsTypeText (Template (codes "ptr") (TypePart (named "storage") (TypePart (named "u32") (TypePart (named "atomic") NoParts)))) (codes "ptr<storage, u32, atomic>")
+  pub vector : IsTypeText (template "vec4" (named "u32" ∷ [])) (codes "vec4<u32>")
+  pub matrix : IsTypeText (template "mat3x2" (named "f32" ∷ [])) (codes "mat3x2<f32>")
+  pub atomic : IsTypeText (template "atomic" (named "i64" ∷ [])) (codes "atomic<i64>")
+  pub array_of_number : IsTypeText (sized "array" (named "i32") 4) (codes "array<i32, 4>")
+  pub array_of_override : IsTypeText (template "array" (named "i32" ∷ named "N" ∷ [])) (codes "array<i32, N>")
+  pub dynamic_array : IsTypeText (template "array" (named "u32" ∷ [])) (codes "array<u32>")
+  pub binding_array_of_number : IsTypeText (sized "binding_array" (named "sampler") 8) (codes "binding_array<sampler, 8>")
+  pub dynamic_binding_array : IsTypeText (template "binding_array" (template "texture_2d" (named "f32" ∷ []) ∷ [])) (codes "binding_array<texture_2d<f32>>")
+  pub pointer : IsTypeText (template "ptr" (named "function" ∷ named "S" ∷ [])) (codes "ptr<function, S>")
+  pub pointer_with_access : IsTypeText (template "ptr" (named "storage" ∷ named "i32" ∷ named "read_write" ∷ [])) (codes "ptr<storage, i32, read_write>")
+  pub pointer_to_array : IsTypeText (template "ptr" (named "storage" ∷ template "array" (named "u32" ∷ []) ∷ [])) (codes "ptr<storage, array<u32>>")
+  pub value_pointer_to_vector : IsTypeText (template "ptr" (named "function" ∷ template "vec3" (named "i32" ∷ []) ∷ [])) (codes "ptr<function, vec3<i32>>")
+  pub value_pointer_to_scalar : IsTypeText (template "ptr" (named "storage" ∷ named "u32" ∷ named "atomic" ∷ [])) (codes "ptr<storage, u32, atomic>")
   pub struct_name : IsTypeText (named "VertexOutput") (codes "VertexOutput")
   pub sampler : IsTypeText (named "sampler") (codes "sampler")
   pub comparison_sampler : IsTypeText (named "sampler_comparison") (codes "sampler_comparison")
-  pub sampled_image : IsTypeText (Template (codes "texture_2d") (TypePart (named "f32") NoParts)) (codes "texture_2d<f32>")
-  pub multisampled_image : IsTypeText (Template (codes "texture_multisampled_2d_array") (TypePart (named "i32") NoParts)) (codes "texture_multisampled_2d_array<i32>")
+  pub sampled_image : IsTypeText (template "texture_2d" (named "f32" ∷ [])) (codes "texture_2d<f32>")
+  pub multisampled_image : IsTypeText (template "texture_multisampled_2d_array" (named "i32" ∷ [])) (codes "texture_multisampled_2d_array<i32>")
   pub depth_image : IsTypeText (named "texture_depth_cube_array") (codes "texture_depth_cube_array")
   pub multisampled_depth_image : IsTypeText (named "texture_depth_multisampled_2d") (codes "texture_depth_multisampled_2d")
-  pub storage_image : IsTypeText (Template (codes "texture_storage_2d") (TypePart (named "rgba8unorm") (TypePart (named "write") NoParts))) (codes "texture_storage_2d<rgba8unorm,write>")
-  pub storage_image_array : IsTypeText (Template (codes "texture_storage_1d_array") (TypePart (named "r64uint") (TypePart (named "atomic") NoParts))) (codes "texture_storage_1d_array<r64uint,atomic>")
+  pub storage_image : IsTypeText (template "texture_storage_2d" (named "rgba8unorm" ∷ named "write" ∷ [])) (codes "texture_storage_2d<rgba8unorm,write>")
+  pub storage_image_array : IsTypeText (template "texture_storage_1d_array" (named "r64uint" ∷ named "atomic" ∷ [])) (codes "texture_storage_1d_array<r64uint,atomic>")
   pub external_image : IsTypeText (named "texture_external") (codes "texture_external")
   pub acceleration_structure : IsTypeText (named "acceleration_structure") (codes "acceleration_structure")
-  pub acceleration_structure_with_vertices : IsTypeText (Template (codes "acceleration_structure") (TypePart (named "vertex_return") NoParts)) (codes "acceleration_structure<vertex_return>")
-  pub ray_query : IsTypeText (Template (codes "ray_query") (TypePart (named "vertex_return") NoParts)) (codes "ray_query<vertex_return>")
-  pub cooperative_matrix : IsTypeText (Template (codes "coop_mat8x16") (TypePart (named "f32") (TypePart (named "A") NoParts))) (codes "coop_mat8x16<f32,A>")
+  pub acceleration_structure_with_vertices : IsTypeText (template "acceleration_structure" (named "vertex_return" ∷ [])) (codes "acceleration_structure<vertex_return>")
+  pub ray_query : IsTypeText (template "ray_query" (named "vertex_return" ∷ [])) (codes "ray_query<vertex_return>")
+  pub cooperative_matrix : IsTypeText (template "coop_mat8x16" (named "f32" ∷ named "A" ∷ [])) (codes "coop_mat8x16<f32,A>")
 
 -- each row of literals, names, operators and constructors
 pub record OperatorRows : Type 0 where
@@ -62,8 +62,8 @@ pub record OperatorRows : Type 0 where
   pub least_long : IsExpressionText (Constant LeastLong) (codes "i64(-9223372036854775807 - 1)")
   pub inlined_constant : IsExpressionText (integer 7) (codes "7i")
   pub variable : IsExpressionText (name "override_type") (codes "override_type")
-  pub zero_value : IsExpressionText (Call (Template (codes "array") (TypePart (named "i32") (SizePart 4 NoParts))) NoArguments) (codes "array<i32, 4>()")
-  pub composed : IsExpressionText (Call (Template (codes "vec2") (TypePart (named "f32") NoParts)) (operands (name "x" ∷ name "y" ∷ []))) (codes "vec2<f32>(x, y)")
+  pub zero_value : IsExpressionText (Call (sized "array" (named "i32") 4) NoArguments) (codes "array<i32, 4>()")
+  pub composed : IsExpressionText (Call (template "vec2" (named "f32" ∷ [])) (operands (name "x" ∷ name "y" ∷ []))) (codes "vec2<f32>(x, y)")
   pub composed_struct : IsExpressionText (call "S" (operands (name "a" ∷ name "b" ∷ []))) (codes "S(a, b)")
   pub splat : IsExpressionText (call "vec3" (operands (name "x" ∷ []))) (codes "vec3(x)")
   pub add : IsExpressionText (Binary (name "a") Add (name "b")) (codes "(a + b)")
@@ -93,21 +93,21 @@ pub record OperatorRows : Type 0 where
 pub record AccessRows : Type 0 where
   pub access : IsExpressionText (Index (name "t") (name "x")) (codes "t[x]")
   pub access_of_unary : IsExpressionText (Index (Unary Negate (name "v")) (name "i")) (codes "(-(v))[i]")
-  pub component : IsExpressionText (Member (name "v") (codes "x")) (codes "v.x")
-  pub member : IsExpressionText (Member (name "s") (codes "fract")) (codes "s.fract")
+  pub component : IsExpressionText (member_of (name "v") "x") (codes "v.x")
+  pub member : IsExpressionText (member_of (name "s") "fract") (codes "s.fract")
   pub access_at_number : IsExpressionText (IndexAt (name "m") 3) (codes "m[3]")
   pub access_of_reference : IsExpressionText (AddressOf (IndexAt (name "arr") 0)) (codes "(&arr[0])")
-  pub access_through_pointer : IsExpressionText (IndexAt (Member (Index (Dereference (name "p")) (name "i")) (codes "color")) 2) (codes "(*p)[i].color[2]")
-  pub swizzle : IsExpressionText (Member (name "v") (codes "zyx")) (codes "v.zyx")
-  pub swizzle_of_unary : IsExpressionText (Member (Unary Negate (name "v")) (codes "zyx")) (codes "(-(v)).zyx")
+  pub access_through_pointer : IsExpressionText (IndexAt (member_of (Index (Dereference (name "p")) (name "i")) "color") 2) (codes "(*p)[i].color[2]")
+  pub swizzle : IsExpressionText (member_of (name "v") "zyx") (codes "v.zyx")
+  pub swizzle_of_unary : IsExpressionText (member_of (Unary Negate (name "v")) "zyx") (codes "(-(v)).zyx")
   pub math : IsExpressionText (call "clamp" (operands (name "x" ∷ name "y" ∷ name "z" ∷ []))) (codes "clamp(x, y, z)")
   pub relational : IsExpressionText (call "all" (operands (name "b" ∷ []))) (codes "all(b)")
   pub some_of : IsExpressionText (call "any" (operands (name "b" ∷ []))) (codes "any(b)")
   pub conversion : IsExpressionText (call "u32" (operands (name "x" ∷ []))) (codes "u32(x)")
-  pub vector_conversion : IsExpressionText (Call (Template (codes "vec2") (TypePart (named "u32") NoParts)) (operands (name "v" ∷ []))) (codes "vec2<u32>(v)")
-  pub bits : IsExpressionText (Call (Template (codes "bitcast") (TypePart (named "u32") NoParts)) (operands (name "x" ∷ []))) (codes "bitcast<u32>(x)")
-  pub vector_bits : IsExpressionText (Call (Template (codes "bitcast") (TypePart (Template (codes "vec2") (TypePart (named "u32") NoParts)) NoParts)) (operands (name "v" ∷ []))) (codes "bitcast<vec2<u32>>(v)")
-  pub matrix_conversion : IsExpressionText (Call (Template (codes "mat2x2") (TypePart (named "f32") NoParts)) (operands (name "m" ∷ []))) (codes "mat2x2<f32>(m)")
+  pub vector_conversion : IsExpressionText (Call (template "vec2" (named "u32" ∷ [])) (operands (name "v" ∷ []))) (codes "vec2<u32>(v)")
+  pub bits : IsExpressionText (Call (template "bitcast" (named "u32" ∷ [])) (operands (name "x" ∷ []))) (codes "bitcast<u32>(x)")
+  pub vector_bits : IsExpressionText (Call (template "bitcast" (template "vec2" (named "u32" ∷ []) ∷ [])) (operands (name "v" ∷ []))) (codes "bitcast<vec2<u32>>(v)")
+  pub matrix_conversion : IsExpressionText (Call (template "mat2x2" (named "f32" ∷ [])) (operands (name "m" ∷ []))) (codes "mat2x2<f32>(m)")
   pub load : IsExpressionText (Dereference (name "p")) (codes "(*p)")
   pub atomic_load : IsExpressionText (call "atomicLoad" (operands (AddressOf (name "c") ∷ []))) (codes "atomicLoad((&c))")
   pub array_length : IsExpressionText (call "arrayLength" (operands (AddressOf (name "buf") ∷ []))) (codes "arrayLength((&buf))")
@@ -115,50 +115,79 @@ pub record AccessRows : Type 0 where
   pub coarse_derivative : IsExpressionText (call "dpdyCoarse" (operands (name "x" ∷ []))) (codes "dpdyCoarse(x)")
   pub fine_derivative : IsExpressionText (call "fwidthFine" (operands (name "x" ∷ []))) (codes "fwidthFine(x)")
   pub sample : IsExpressionText (call "textureSample" (operands (name "t" ∷ name "s" ∷ name "p" ∷ []))) (codes "textureSample(t, s, p)")
-  pub sample_of_array : IsExpressionText (call "textureSample" (operands (name "t" ∷ name "s" ∷ name "p" ∷ name "i" ∷ Call (Template (codes "vec2") (TypePart (named "i32") NoParts)) (operands (integer 1 ∷ integer 2 ∷ [])) ∷ []))) (codes "textureSample(t, s, p, i, vec2<i32>(1i, 2i))")
-  pub sample_at_level : IsExpressionText (call "textureSampleLevel" (operands (name "t" ∷ name "s" ∷ name "p" ∷ name "l" ∷ []))) (codes "textureSampleLevel(t, s, p, l)")
-  pub sample_at_zero : IsExpressionText (call "textureSampleLevel" (Argument (name "t") (Argument (name "s") (Argument (name "p") (Argument (name "i") (ZeroArgument (Argument (name "o") NoArguments))))))) (codes "textureSampleLevel(t, s, p, i, 0.0, o)")
+  pub sample_of_array : IsExpressionText
+      (call "textureSample" (operands (name "t" ∷ name "s" ∷ name "p" ∷ name "i" ∷ Call (template "vec2" (named "i32" ∷ [])) (operands (integer 1 ∷ integer 2 ∷ [])) ∷ [])))
+      (codes "textureSample(t, s, p, i, vec2<i32>(1i, 2i))")
+  pub sample_at_level : IsExpressionText
+      (call "textureSampleLevel" (operands (name "t" ∷ name "s" ∷ name "p" ∷ name "l" ∷ [])))
+      (codes "textureSampleLevel(t, s, p, l)")
+  pub sample_at_zero : IsExpressionText
+      (call "textureSampleLevel" (Argument (name "t") (Argument (name "s") (Argument (name "p") (Argument (name "i") (ZeroArgument (Argument (name "o") NoArguments)))))))
+      (codes "textureSampleLevel(t, s, p, i, 0.0, o)")
   pub sample_with_bias : IsExpressionText (call "textureSampleBias" (operands (name "t" ∷ name "s" ∷ name "p" ∷ name "b" ∷ []))) (codes "textureSampleBias(t, s, p, b)")
-  pub sample_with_gradient : IsExpressionText (call "textureSampleGrad" (operands (name "t" ∷ name "s" ∷ name "p" ∷ name "x" ∷ name "y" ∷ []))) (codes "textureSampleGrad(t, s, p, x, y)")
-  pub sample_clamped : IsExpressionText (call "textureSampleBaseClampToEdge" (operands (name "t" ∷ name "s" ∷ name "p" ∷ []))) (codes "textureSampleBaseClampToEdge(t, s, p)")
-  pub sample_compared : IsExpressionText (call "textureSampleCompare" (operands (name "t" ∷ name "s" ∷ name "p" ∷ name "d" ∷ []))) (codes "textureSampleCompare(t, s, p, d)")
-  pub sample_compared_at_zero : IsExpressionText (call "textureSampleCompareLevel" (operands (name "t" ∷ name "s" ∷ name "p" ∷ name "d" ∷ []))) (codes "textureSampleCompareLevel(t, s, p, d)")
-  pub gather : IsExpressionText (call "textureGather" (NumberArgument 3 (Argument (name "t") (Argument (name "s") (Argument (name "p") NoArguments))))) (codes "textureGather(3, t, s, p)")
+  pub sample_with_gradient : IsExpressionText
+      (call "textureSampleGrad" (operands (name "t" ∷ name "s" ∷ name "p" ∷ name "x" ∷ name "y" ∷ [])))
+      (codes "textureSampleGrad(t, s, p, x, y)")
+  pub sample_clamped : IsExpressionText
+      (call "textureSampleBaseClampToEdge" (operands (name "t" ∷ name "s" ∷ name "p" ∷ [])))
+      (codes "textureSampleBaseClampToEdge(t, s, p)")
+  pub sample_compared : IsExpressionText
+      (call "textureSampleCompare" (operands (name "t" ∷ name "s" ∷ name "p" ∷ name "d" ∷ [])))
+      (codes "textureSampleCompare(t, s, p, d)")
+  pub sample_compared_at_zero : IsExpressionText
+      (call "textureSampleCompareLevel" (operands (name "t" ∷ name "s" ∷ name "p" ∷ name "d" ∷ [])))
+      (codes "textureSampleCompareLevel(t, s, p, d)")
+  pub gather : IsExpressionText
+      (call "textureGather" (NumberArgument 3 (Argument (name "t") (Argument (name "s") (Argument (name "p") NoArguments)))))
+      (codes "textureGather(3, t, s, p)")
   pub gather_of_depth : IsExpressionText (call "textureGather" (operands (name "t" ∷ name "s" ∷ name "p" ∷ []))) (codes "textureGather(t, s, p)")
-  pub gather_compared : IsExpressionText (call "textureGatherCompare" (operands (name "t" ∷ name "s" ∷ name "p" ∷ name "d" ∷ []))) (codes "textureGatherCompare(t, s, p, d)")
+  pub gather_compared : IsExpressionText
+      (call "textureGatherCompare" (operands (name "t" ∷ name "s" ∷ name "p" ∷ name "d" ∷ [])))
+      (codes "textureGatherCompare(t, s, p, d)")
   pub image_load : IsExpressionText (call "textureLoad" (operands (name "t" ∷ name "p" ∷ name "l" ∷ []))) (codes "textureLoad(t, p, l)")
   pub image_size : IsExpressionText (call "textureDimensions" (operands (name "t" ∷ name "l" ∷ []))) (codes "textureDimensions(t, l)")
   pub image_levels : IsExpressionText (call "textureNumLevels" (operands (name "t" ∷ []))) (codes "textureNumLevels(t)")
   pub image_layers : IsExpressionText (call "textureNumLayers" (operands (name "t" ∷ []))) (codes "textureNumLayers(t)")
   pub image_samples : IsExpressionText (call "textureNumSamples" (operands (name "t" ∷ []))) (codes "textureNumSamples(t)")
-  pub cooperative_load : IsExpressionText (Call (Template (codes "coopLoad") (TypePart (Template (codes "coop_mat8x8") (TypePart (named "f32") (TypePart (named "A") NoParts))) NoParts)) (operands (AddressOf (name "a") ∷ name "n" ∷ []))) (codes "coopLoad<coop_mat8x8<f32,A>>((&a), n)")
-  pub cooperative_load_of_rows : IsExpressionText (Call (Template (codes "coopLoadT") (TypePart (Template (codes "coop_mat8x8") (TypePart (named "f32") (TypePart (named "C") NoParts))) NoParts)) (operands (AddressOf (name "a") ∷ name "n" ∷ []))) (codes "coopLoadT<coop_mat8x8<f32,C>>((&a), n)")
+  pub cooperative_load : IsExpressionText
+      (Call (template "coopLoad" (template "coop_mat8x8" (named "f32" ∷ named "A" ∷ []) ∷ [])) (operands (AddressOf (name "a") ∷ name "n" ∷ [])))
+      (codes "coopLoad<coop_mat8x8<f32,A>>((&a), n)")
+  pub cooperative_load_of_rows : IsExpressionText
+      (Call (template "coopLoadT" (template "coop_mat8x8" (named "f32" ∷ named "C" ∷ []) ∷ [])) (operands (AddressOf (name "a") ∷ name "n" ∷ [])))
+      (codes "coopLoadT<coop_mat8x8<f32,C>>((&a), n)")
   pub cooperative_multiply_add : IsExpressionText (call "coopMultiplyAdd" (operands (name "a" ∷ name "b" ∷ name "c" ∷ []))) (codes "coopMultiplyAdd(a, b, c)")
 
 abbrev pub every_statement : Program
-every_statement = of_functions (function "rows" (parameter "x" (named "i32") ∷ parameter "c" (named "bool") ∷ parameter "p" (Template (codes "ptr") (TypePart (named "storage") (TypePart (Template (codes "atomic") (TypePart (named "u32") NoParts)) (TypePart (named "read_write") NoParts)))) ∷ []) NoResult (local "m" (Template (codes "mat2x2") (TypePart (named "f32") NoParts)) (Some (Call (Template (codes "mat2x2") (TypePart (named "f32") NoParts)) NoArguments)) ∷ local "u" (named "u32") None ∷ []) (
-    TypedLet (codes "_e1") (Template (codes "vec2") (TypePart (named "f32") NoParts)) (IndexAt (name "m") 0) ∷
-    Assign (Member (IndexAt (name "m") 0) (codes "x")) (Member (name "_e1") (codes "y")) ∷
+every_statement = of_functions (
+    function "rows" (parameter "x" (named "i32") ∷ parameter "c" (named "bool") ∷ parameter "p" (template "ptr" (named "storage" ∷ template "atomic" (named "u32" ∷ []) ∷ named "read_write" ∷ [])) ∷ []) NoResult (local "m" (template "mat2x2" (named "f32" ∷ [])) (Some (Call (template "mat2x2" (named "f32" ∷ [])) NoArguments)) ∷ local "u" (named "u32") None ∷ []) (
+    typed "_e1" (template "vec2" (named "f32" ∷ [])) (IndexAt (name "m") 0) ∷
+    Assign (member_of (IndexAt (name "m") 0) "x") (member_of (name "_e1") "y") ∷
     Assign (name "u") (unsigned 1) ∷
-    If (name "c") (statements (Discard ∷ [])) (statements []) ∷
-    Block (statements (Block (statements []) ∷ [])) ∷
+    If (name "c") (statements (
+    Discard ∷ [])) NoStatements ∷
+    Block (statements (
+    Block NoStatements ∷ [])) ∷
     CallStatement (named "atomicStore") (operands (name "p" ∷ unsigned 5 ∷ [])) ∷
-    Let (codes "_e2") (call "atomicCompareExchangeWeak" (operands (name "p" ∷ unsigned 1 ∷ unsigned 2 ∷ []))) ∷
+    bound "_e2" (call "atomicCompareExchangeWeak" (operands (name "p" ∷ unsigned 1 ∷ unsigned 2 ∷ []))) ∷
     CallStatement (named "atomicMax") (operands (name "p" ∷ unsigned 7 ∷ [])) ∷
-    Let (codes "_e3") (call "inc" (operands (name "x" ∷ name "x" ∷ []))) ∷
+    bound "_e3" (call "inc" (operands (name "x" ∷ name "x" ∷ []))) ∷
     CallStatement (named "textureAtomicMin") (operands (name "t" ∷ name "v" ∷ unsigned 1 ∷ [])) ∷
     CallStatement (named "textureStore") (operands (name "t" ∷ name "v" ∷ integer 2 ∷ name "w" ∷ [])) ∷
-    Let (codes "_e4") (call "workgroupUniformLoad" (operands (AddressOf (name "wg") ∷ []))) ∷
-    Switch (name "u") (Case (LastLabel (UnsignedLabel 1)) (statements (Break ∷ [])) (Case (MoreLabels (UnsignedLabel 2) (LastLabel (UnsignedLabel 3))) (statements (Return ∷ [])) (Case (LastLabel DefaultLabel) (statements []) NoCases))) ∷
-    Switch (name "x") (Case (LastLabel (SignedLabel true 1)) (statements []) (Case (LastLabel DefaultLabel) (statements []) NoCases)) ∷
-    Loop (statements (Break ∷ [])) (statements (Assign (name "u") (unsigned 2) ∷ [])) ∷
-    Loop (statements []) (statements []) ∷
-    Let (codes "_e5") (call "subgroupBallot" NoArguments) ∷
-    Let (codes "_e6") (call "subgroupBallot" (operands (name "c" ∷ []))) ∷
-    Let (codes "_e7") (call "subgroupExclusiveAdd" (operands (name "x" ∷ []))) ∷
-    Let (codes "_e8") (call "subgroupBroadcastFirst" (operands (name "x" ∷ []))) ∷
-    Let (codes "_e9") (call "subgroupShuffle" (operands (name "x" ∷ name "u" ∷ []))) ∷
-    Let (codes "_e10") (call "quadSwapX" (operands (name "x" ∷ []))) ∷
+    bound "_e4" (call "workgroupUniformLoad" (operands (AddressOf (name "wg") ∷ []))) ∷
+    Switch (name "u") (Case (LastLabel (UnsignedLabel 1)) (statements (
+    Break ∷ [])) (Case (MoreLabels (UnsignedLabel 2) (LastLabel (UnsignedLabel 3))) (statements (
+    Return ∷ [])) (Case (LastLabel DefaultLabel) NoStatements NoCases))) ∷
+    Switch (name "x") (Case (LastLabel (SignedLabel true 1)) NoStatements (Case (LastLabel DefaultLabel) NoStatements NoCases)) ∷
+    Loop (statements (
+    Break ∷ [])) (statements (
+    Assign (name "u") (unsigned 2) ∷ [])) ∷
+    Loop NoStatements NoStatements ∷
+    bound "_e5" (call "subgroupBallot" NoArguments) ∷
+    bound "_e6" (call "subgroupBallot" (operands (name "c" ∷ []))) ∷
+    bound "_e7" (call "subgroupExclusiveAdd" (operands (name "x" ∷ []))) ∷
+    bound "_e8" (call "subgroupBroadcastFirst" (operands (name "x" ∷ []))) ∷
+    bound "_e9" (call "subgroupShuffle" (operands (name "x" ∷ name "u" ∷ []))) ∷
+    bound "_e10" (call "quadSwapX" (operands (name "x" ∷ []))) ∷
     CallStatement (named "coopStore") (operands (name "a" ∷ AddressOf (name "b") ∷ name "n" ∷ [])) ∷
     CallStatement (named "coopStoreT") (operands (name "a" ∷ AddressOf (name "b") ∷ name "n" ∷ [])) ∷
     CallStatement (named "traceRay") (operands (name "s" ∷ name "d" ∷ AddressOf (name "payload") ∷ [])) ∷
@@ -166,29 +195,56 @@ every_statement = of_functions (function "rows" (parameter "x" (named "i32") ∷
 
 abbrev pub every_declaration : Program
 every_declaration = record no_declarations {
-  enables = codes "f16" ∷ codes "dual_source_blending" ∷ [];
-  structs = record { name = codes "Input"; members = record { attributes = Worded Builtin (codes "position") ∷ Plain Invariant ∷ []; name = codes "pos"; type = Template (codes "vec4") (TypePart (named "f32") NoParts) } ∷ record { attributes = Numbered Location 1 ∷ Interpolated (codes "perspective") (codes "centroid") ∷ []; name = codes "a"; type = named "f32" } ∷ record { attributes = Numbered Location 0 ∷ Numbered BlendSource 1 ∷ Plain PerPrimitive ∷ []; name = codes "b"; type = named "f32" } ∷ record { attributes = Numbered Align 16 ∷ Numbered Size 32 ∷ []; name = codes "c"; type = named "f32" } ∷ [] } ∷ [];
-  constants = record { name = codes "N"; type = named "i32"; value = integer 7 } ∷ record { name = codes "M"; type = Template (codes "vec2") (TypePart (named "f32") NoParts); value = Call (Template (codes "vec2") (TypePart (named "f32") NoParts)) NoArguments } ∷ [];
-  overrides = record { attributes = Numbered Id 3 ∷ []; name = codes "gain"; type = named "f32"; value = Some (integer 1) } ∷ record { attributes = []; name = codes "plain"; type = named "bool"; value = None } ∷ [];
-  globals = record { attributes = Numbered Group 0 ∷ Numbered Binding 0 ∷ []; space = NoSpace; name = codes "image"; type = Template (codes "texture_storage_2d") (TypePart (named "rgba8unorm") (TypePart (named "write") NoParts)); value = None } ∷ record { attributes = Numbered Group 0 ∷ Numbered Binding 1 ∷ Plain Coherent ∷ Plain Volatile ∷ []; space = SpaceAlone (codes "storage"); name = codes "buf"; type = Template (codes "array") (TypePart (named "u32") NoParts); value = None } ∷ record { attributes = Plain Coherent ∷ []; space = SpaceAlone (codes "uniform"); name = codes "block"; type = named "Input"; value = None } ∷ record { attributes = []; space = SpaceAlone (codes "private"); name = codes "counter"; type = named "i32"; value = Some (integer 1) } ∷ [];
-  functions = function "f" (record { attributes = Worded Builtin (codes "vertex_index") ∷ []; name = codes "i"; type = named "u32" } ∷ []) (ResultOf (Numbered Location 0 ∷ []) (named "f32")) [] (
-      ReturnValue (integer 1) ∷ []) ∷ function "g" [] NoResult [] [] ∷ [];
-  entry_points = record {
-    stage = Plain Vertex ∷ [];
-    function = function "vs" (parameter "input" (named "Input") ∷ record { attributes = Numbered Location 0 ∷ Worded Interpolate (codes "linear") ∷ []; name = codes "x"; type = named "f32" } ∷ []) (ResultOf (Worded Builtin (codes "position") ∷ []) (Template (codes "vec4") (TypePart (named "f32") NoParts))) [] (
-        ReturnValue (Call (Template (codes "vec4") (TypePart (named "f32") NoParts)) NoArguments) ∷ []);
-  } ∷ record {
-    stage = Plain Fragment ∷ [];
-    function = function "fs" [] (ResultOf (Numbered Location 0 ∷ []) (Template (codes "vec4") (TypePart (named "f32") NoParts))) [] (
-        ReturnValue (Call (Template (codes "vec4") (TypePart (named "f32") NoParts)) NoArguments) ∷ []);
-  } ∷ [];
+  enables =
+      codes "f16" ∷
+      codes "dual_source_blending" ∷ [];
+  structs =
+      struct "Input" (
+      member (worded Builtin "position" ∷ Plain Invariant ∷ []) "pos" (template "vec4" (named "f32" ∷ [])) ∷
+      member (Numbered Location 1 ∷ interpolated "perspective" "centroid" ∷ []) "a" (named "f32") ∷
+      member (Numbered Location 0 ∷ Numbered BlendSource 1 ∷ Plain PerPrimitive ∷ []) "b" (named "f32") ∷
+      member (Numbered Align 16 ∷ Numbered Size 32 ∷ []) "c" (named "f32") ∷ []) ∷ [];
+  constants =
+      constant "N" (named "i32") (integer 7) ∷
+      constant "M" (template "vec2" (named "f32" ∷ [])) (Call (template "vec2" (named "f32" ∷ [])) NoArguments) ∷ [];
+  overrides =
+      override (Numbered Id 3 ∷ []) "gain" (named "f32") (Some (integer 1)) ∷
+      override [] "plain" (named "bool") None ∷ [];
+  globals =
+      global (Numbered Group 0 ∷ Numbered Binding 0 ∷ []) NoSpace "image" (template "texture_storage_2d" (named "rgba8unorm" ∷ named "write" ∷ [])) None ∷
+      global (Numbered Group 0 ∷ Numbered Binding 1 ∷ Plain Coherent ∷ Plain Volatile ∷ []) (space "storage") "buf" (template "array" (named "u32" ∷ [])) None ∷
+      global (Plain Coherent ∷ []) (space "uniform") "block" (named "Input") None ∷
+      global [] (space "private") "counter" (named "i32") (Some (integer 1)) ∷ [];
+  functions =
+      function "f" (bound_parameter (worded Builtin "vertex_index" ∷ []) "i" (named "u32") ∷ []) (ResultOf (Numbered Location 0 ∷ []) (named "f32")) [] (
+      ReturnValue (integer 1) ∷ []) ∷
+      function "g" [] NoResult [] [] ∷ [];
+  entry_points =
+      entry_point (Plain Vertex ∷ []) (function "vs" (parameter "input" (named "Input") ∷ bound_parameter (Numbered Location 0 ∷ worded Interpolate "linear" ∷ []) "x" (named "f32") ∷ []) (ResultOf (worded Builtin "position" ∷ []) (template "vec4" (named "f32" ∷ []))) [] (
+      ReturnValue (Call (template "vec4" (named "f32" ∷ [])) NoArguments) ∷ [])) ∷
+      entry_point (Plain Fragment ∷ []) (function "fs" [] (ResultOf (Numbered Location 0 ∷ []) (template "vec4" (named "f32" ∷ []))) [] (
+      ReturnValue (Call (template "vec4" (named "f32" ∷ [])) NoArguments) ∷ [])) ∷ [];
 }
 
 abbrev pub every_stage : Program
 every_stage = record no_declarations {
-  enables = codes "wgpu_mesh_shader" ∷ codes "wgpu_ray_tracing_pipeline" ∷ [];
-  globals = record { attributes = []; space = SpaceAlone (codes "workgroup"); name = codes "out"; type = named "u32"; value = None } ∷ record { attributes = []; space = SpaceAlone (codes "task_payload"); name = codes "load"; type = named "u32"; value = None } ∷ record { attributes = []; space = SpaceAlone (codes "ray_payload"); name = codes "ray"; type = named "u32"; value = None } ∷ record { attributes = []; space = SpaceAlone (codes "incoming_ray_payload"); name = codes "hit"; type = named "u32"; value = None } ∷ record { attributes = []; space = SpaceAlone (codes "immediate"); name = codes "scale"; type = named "f32"; value = None } ∷ [];
-  entry_points = record { stage = Worded Mesh (codes "out") ∷ WorkgroupSize 1 1 1 ∷ []; function = function "ms" [] NoResult [] [] } ∷ record { stage = Worded Mesh (codes "out") ∷ WorkgroupSize 1 1 1 ∷ Worded Payload (codes "load") ∷ []; function = function "mp" [] NoResult [] [] } ∷ record { stage = Plain Task ∷ Worded Payload (codes "load") ∷ WorkgroupSize 1 1 1 ∷ []; function = function "ts" [] NoResult [] [] } ∷ record { stage = Plain RayGeneration ∷ []; function = function "rg" [] NoResult [] [] } ∷ record { stage = Plain AnyHit ∷ Worded IncomingPayload (codes "hit") ∷ []; function = function "ah" [] NoResult [] [] } ∷ record { stage = Plain ClosestHit ∷ Worded IncomingPayload (codes "hit") ∷ []; function = function "ch" [] NoResult [] [] } ∷ record { stage = Plain Miss ∷ Worded IncomingPayload (codes "hit") ∷ []; function = function "mi" [] NoResult [] [] } ∷ [];
+  enables =
+      codes "wgpu_mesh_shader" ∷
+      codes "wgpu_ray_tracing_pipeline" ∷ [];
+  globals =
+      global [] (space "workgroup") "out" (named "u32") None ∷
+      global [] (space "task_payload") "load" (named "u32") None ∷
+      global [] (space "ray_payload") "ray" (named "u32") None ∷
+      global [] (space "incoming_ray_payload") "hit" (named "u32") None ∷
+      global [] (space "immediate") "scale" (named "f32") None ∷ [];
+  entry_points =
+      entry_point (worded Mesh "out" ∷ WorkgroupSize 1 1 1 ∷ []) (function "ms" [] NoResult [] []) ∷
+      entry_point (worded Mesh "out" ∷ WorkgroupSize 1 1 1 ∷ worded Payload "load" ∷ []) (function "mp" [] NoResult [] []) ∷
+      entry_point (Plain Task ∷ worded Payload "load" ∷ WorkgroupSize 1 1 1 ∷ []) (function "ts" [] NoResult [] []) ∷
+      entry_point (Plain RayGeneration ∷ []) (function "rg" [] NoResult [] []) ∷
+      entry_point (Plain AnyHit ∷ worded IncomingPayload "hit" ∷ []) (function "ah" [] NoResult [] []) ∷
+      entry_point (Plain ClosestHit ∷ worded IncomingPayload "hit" ∷ []) (function "ch" [] NoResult [] []) ∷
+      entry_point (Plain Miss ∷ worded IncomingPayload "hit" ∷ []) (function "mi" [] NoResult [] []) ∷ [];
 }
 
 -- each row of statements and declarations

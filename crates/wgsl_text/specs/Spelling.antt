@@ -49,7 +49,8 @@ number_text false digits suffix = digits ++ suffix_text suffix
 pub data Spells : List ℕ → Token → Type 0 where
   -- letters, digits and `_`, no digit first: a keyword that the grammar uses, or a word of its own
   SpellsWord : (w : List ℕ) → IsTrue (is_word_text w) → Spells w (word_token w)
-  SpellsNumber : (negative : Bool) (digits : List ℕ) (suffix : Suffix) → 0 < length digits → IsTrue (all_ascii_digits digits) → Spells (number_text negative digits suffix) (Number negative (digits_value 10 digits) suffix)
+  SpellsNumber : (negative : Bool) (digits : List ℕ) (suffix : Suffix) → 0 < length digits → IsTrue (all_ascii_digits digits) →
+      Spells (number_text negative digits suffix) (Number negative (digits_value 10 digits) suffix)
   SpellsZeroPointZero : Spells (codes "0.0") ZeroPointZero
   SpellsSign : (m : Mark) → IsTrue (is_sign m) → Spells (mark_text m) (Fixed m)
 
@@ -68,4 +69,6 @@ pub record IsLongest (bytes front rest : List ℕ) (t : Token) : Type 0 where
 pub data Begins (b : ℕ) (bytes : List ℕ) : Type 0 where
   AtBlank : IsTrue (is_blank b) → tokens (b ∷ bytes) ≡ tokens bytes → Begins b bytes
   AtToken : (front rest : List ℕ) (t : Token) → IsLongest (b ∷ bytes) front rest t → tokens (b ∷ bytes) ≡ t ∷ tokens rest → Begins b bytes
-  AtForeign : IsFalse (is_blank b) → ((front rest : List ℕ) (t : Token) → b ∷ bytes ≡ front ++ rest → Spells front t → ⊥) → tokens (b ∷ bytes) ≡ Foreign b ∷ tokens bytes → Begins b bytes
+  AtForeign : IsFalse (is_blank b) →
+      ((front rest : List ℕ) (t : Token) → b ∷ bytes ≡ front ++ rest → Spells front t → ⊥) →
+      tokens (b ∷ bytes) ≡ Foreign b ∷ tokens bytes → Begins b bytes

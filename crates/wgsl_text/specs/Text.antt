@@ -121,13 +121,16 @@ word_token w = if is_reserved w then keyword_among keywords w else Word w
 abbrev pub word_lexeme : ℕ → List ℕ → Lexeme
 word_lexeme b bytes = Takes (word_token (b ∷ take (word_length bytes) bytes)) (word_length bytes)
 
--- the suffix that the bytes begin with
+-- the suffix that the bytes begin with: by what stands behind an `l`, by a letter, by any byte
+abbrev pub long_suffix : List ℕ → Suffix
+long_suffix bytes = if starts_with 105 bytes then SuffixLi else (if starts_with 117 bytes then SuffixLu else NoSuffix)
+
+abbrev pub letter_suffix : ℕ → List ℕ → Suffix
+letter_suffix b bytes = if b == 105 then SuffixI else (if b == 117 then SuffixU else (if b == 108 then long_suffix bytes else NoSuffix))
+
 abbrev pub suffix_at : List ℕ → Suffix
 suffix_at [] = NoSuffix
-suffix_at (b ∷ bytes) =
-    if is_letter b
-    then (if b == 105 then SuffixI else (if b == 117 then SuffixU else (if b == 108 then (if starts_with 105 bytes then SuffixLi else (if starts_with 117 bytes then SuffixLu else NoSuffix)) else NoSuffix)))
-    else NoSuffix
+suffix_at (b ∷ bytes) = if is_letter b then letter_suffix b bytes else NoSuffix
 
 -- `.0` behind a lone `0`
 abbrev pub is_point_zero : List ℕ → Bool
@@ -167,7 +170,8 @@ single b (m ∷ marks) = if bytes_eq (mark_text m) (b ∷ []) then Takes (Fixed 
 -- the signs that no second byte makes longer; `>` is always a token by itself
 abbrev pub single_signs : List Mark
 single_signs =
-    OpenParen ∷ CloseParen ∷ OpenBracket ∷ CloseBracket ∷ OpenBrace ∷ CloseBrace ∷ Comma ∷ Semicolon ∷ Colon ∷ Dot ∷ At ∷ GreaterThan ∷ Plus ∷ Star ∷ Slash ∷ Percent ∷ Caret ∷ Tilde ∷ []
+    OpenParen ∷ CloseParen ∷ OpenBracket ∷ CloseBracket ∷ OpenBrace ∷ CloseBrace ∷ Comma ∷ Semicolon ∷ Colon ∷ Dot ∷ At ∷
+    GreaterThan ∷ Plus ∷ Star ∷ Slash ∷ Percent ∷ Caret ∷ Tilde ∷ []
 
 abbrev pub sign_lexeme : ℕ → List ℕ → Lexeme
 sign_lexeme b bytes =
