@@ -235,6 +235,7 @@ type_rows = record {
   array_of_override = record { form = search rules; text = refl };
   dynamic_array = record { form = search rules; text = refl };
   binding_array_of_number = record { form = search rules; text = refl };
+  binding_array_of_override = record { form = search rules; text = refl };
   dynamic_binding_array = record { form = search rules; text = refl };
   pointer = record { form = search rules; text = refl };
   pointer_with_access = record { form = search rules; text = refl };
@@ -254,6 +255,7 @@ type_rows = record {
   acceleration_structure = record { form = search rules; text = refl };
   acceleration_structure_with_vertices = record { form = search rules; text = refl };
   ray_query = record { form = search rules; text = refl };
+  ray_query_with_vertices = record { form = search rules; text = refl };
   cooperative_matrix = record { form = search rules; text = refl };
 }
 

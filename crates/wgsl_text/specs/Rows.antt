@@ -26,6 +26,7 @@ pub record TypeRows : Type 0 where
   pub array_of_override : IsTypeText (template "array" (named "i32" ∷ named "N" ∷ [])) (codes "array<i32, N>")
   pub dynamic_array : IsTypeText (template "array" (named "u32" ∷ [])) (codes "array<u32>")
   pub binding_array_of_number : IsTypeText (sized "binding_array" (named "sampler") 8) (codes "binding_array<sampler, 8>")
+  pub binding_array_of_override : IsTypeText (template "binding_array" (named "S" ∷ named "N" ∷ [])) (codes "binding_array<S, N>")
   pub dynamic_binding_array : IsTypeText (template "binding_array" (template "texture_2d" (named "f32" ∷ []) ∷ [])) (codes "binding_array<texture_2d<f32>>")
   pub pointer : IsTypeText (template "ptr" (named "function" ∷ named "S" ∷ [])) (codes "ptr<function, S>")
   pub pointer_with_access : IsTypeText (template "ptr" (named "storage" ∷ named "i32" ∷ named "read_write" ∷ [])) (codes "ptr<storage, i32, read_write>")
@@ -44,7 +45,8 @@ pub record TypeRows : Type 0 where
   pub external_image : IsTypeText (named "texture_external") (codes "texture_external")
   pub acceleration_structure : IsTypeText (named "acceleration_structure") (codes "acceleration_structure")
   pub acceleration_structure_with_vertices : IsTypeText (template "acceleration_structure" (named "vertex_return" ∷ [])) (codes "acceleration_structure<vertex_return>")
-  pub ray_query : IsTypeText (template "ray_query" (named "vertex_return" ∷ [])) (codes "ray_query<vertex_return>")
+  pub ray_query : IsTypeText (named "ray_query") (codes "ray_query")
+  pub ray_query_with_vertices : IsTypeText (template "ray_query" (named "vertex_return" ∷ [])) (codes "ray_query<vertex_return>")
   pub cooperative_matrix : IsTypeText (template "coop_mat8x16" (named "f32" ∷ named "A" ∷ [])) (codes "coop_mat8x16<f32,A>")
 
 -- each row of literals, names, operators and constructors
