@@ -1,0 +1,3 @@
+pub mod Resolution
+pub mod Operands
+pub mod Counts

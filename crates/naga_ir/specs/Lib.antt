@@ -1,0 +1,5 @@
+pub mod StatementTree
+pub mod StatementCode
+pub mod StatementViews
+pub mod StatementSizes
+pub mod Empty

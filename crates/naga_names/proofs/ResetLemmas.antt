@@ -1,0 +1,192 @@
+-- Names given to one item after another.
+use Rattle.std.proofs.Common.{◌≡◌, ℕ, Bool, true, false, cond, List, [], ◌∷◌, ◌++◌, map, length, get_or, take, drop, ◌+◌, ◌<◌, codes, arith, add-zero, add-one, drop-cons, OnErr, Bor, Option, Some, String, HashMap, string_bytes, refl, sym, ap, subst, ◌∙◌, append_assoc, append-nil}
+use Rattle.std.specs.List.{scan, fold, flat_map, enumerate_from}
+use Rattle.std.specs.declared.result.Result.{Result}
+use Rattle.std.specs.declared.result.Result.TheVariants.{Ok, Err}
+use Rattle.std.proofs.lemmas.Grind.{flat_map-append}
+use Rattle.std.proofs.lemmas.List.{take-append-drop, map-append, take_more, length-take-le}
+use Rattle.naga_ir.specs.declared.module.FunctionArgument.{FunctionArgument}
+use Rattle.naga_names.specs.declared.namer.key.NameKey.TheVariants as key
+use Rattle.std.specs.Map.{update, update_all, lookup}
+use Rattle.std.specs.HashMap as hash
+use Rattle.std.specs.Option.{option_map, option_map_or}
+use Rattle.std.specs.FinMap as finite
+use Rattle.naga_names.specs.Words.{Words}
+use Rattle.naga_names.specs.declared.namer.key.NameKey.{NameKey}
+use Rattle.naga_names.specs.Naming.{Names, Uses, name_of, with_use, name_after, HasNamed, new_names}
+use Rattle.naga_names.specs.Reset.{Labelled, NameMap, labelled_arguments, labels_of, named_items, names_in, PutsInto, HasNamedItems, PutsBeginning, NamesItems, NamesBeginning}
+use Rattle.naga_names.proofs.NamerLemmas.{name_of-after, has_named-push, has_named_nothing}
+
+labels_of-push : (items : List Labelled) (item : Labelled) → labels_of (items ++ item ∷ []) ≡ labels_of items ++ item.1 ∷ []
+labels_of-push [] item = refl
+labels_of-push (x ∷ items) item = ap (λ labels. x.1 ∷ labels) (labels_of-push items item)
+
+scan-push : {S X Y : Type 0} (next : S → X → S) (out : S → X → Y) (a : S) (xs : List X) (x : X) → scan next out a (xs ++ x ∷ []) ≡ scan next out a xs ++ out (fold next a xs) x ∷ []
+scan-push next out a [] x = refl
+scan-push next out a (y ∷ xs) x = ap (λ ys. out a y ∷ ys) (scan-push next out (next a y) xs x)
+
+fold-push : {S X : Type 0} (next : S → X → S) (a : S) (xs : List X) (x : X) → fold next a (xs ++ x ∷ []) ≡ next (fold next a xs) x
+fold-push next a [] x = refl
+fold-push next a (y ∷ xs) x = fold-push next (next a y) xs x
+
+labels_folded : (earlier : List (List ℕ)) (items : List Labelled) → fold (λ labels item. labels ++ item.1 ∷ []) earlier items ≡ earlier ++ labels_of items
+labels_folded earlier [] = sym (append-nil earlier)
+labels_folded earlier (x ∷ items) = labels_folded (earlier ++ x.1 ∷ []) items ∙ append_assoc earlier (x.1 ∷ []) (labels_of items)
+
+named_items-push : (start : Names) (items : List Labelled) (item : Labelled) → named_items start (items ++ item ∷ []) ≡ named_items start items ++ (item.0, name_after start (labels_of items) item.1) ∷ []
+named_items-push start items item =
+    scan-push (λ earlier item. earlier ++ item.1 ∷ []) (λ earlier item. (item.0, name_after start earlier item.1)) [] items item
+    ∙ ap (λ labels. named_items start items ++ (item.0, name_after start labels item.1) ∷ []) (labels_folded [] items)
+
+-- one more use leaves the words and the prefixes
+with_use-words : (old start : Names) (label : List ℕ) → old ≡ record start { uses = old.uses } → with_use old label ≡ record start { uses = (with_use old label).uses }
+unfolding with_use
+with_use-words old start label same = ap (λ (n : Names). record n { uses = (with_use old label).uses }) same
+
+module _ (equal : NameKey → NameKey → Bool) where
+  -- one more item, after whatever was named before
+  pub names_one : (old : Names) (before now : NameMap) (key : NameKey) (label name : List ℕ) (new : Names) → name ≡ name_of old label → new ≡ with_use old label → ((q : NameKey) → now q ≡ cond (equal key q) (Some name) (before q)) → NamesItems equal old before ((key, label) ∷ []) new now
+  names_one old before now key label name new name_is new_is now_is = record {
+    more = λ start first earlier has. record {
+      words = subst (λ n. n ≡ record start { uses = n.uses }) (sym new_is) (with_use-words old start label has.words);
+      labels = subst (HasNamed new) (sym (labels_of-push earlier (key, label))) (subst (λ n. HasNamed n (labels_of earlier ++ label ∷ [])) (sym new_is) (has_named-push old (labels_of earlier) label has.labels));
+      put = record {
+        finds = λ q.
+          now_is q
+          ∙ (λ i. cond (equal key q) (Some ((name_is ∙ name_of-after old (labels_of earlier) label has.labels ∙ ap (λ n. name_after n (labels_of earlier) label) has.words) i)) (has.put.finds q i))
+          ∙ sym (ap (λ pairs. update_all equal first pairs q) (named_items-push start earlier (key, label))
+            ∙ ap (λ f. f q) (fold-push (λ f p. update equal f p.0 (Some p.1)) first (named_items start earlier) (key, name_after start (labels_of earlier) label)));
+      };
+    };
+  }
+
+  pub names_none : (old : Names) (before : NameMap) → NamesItems equal old before [] old before
+  names_none old before = record { more = λ start first earlier has. subst (λ items. HasNamedItems equal start first items old before) (sym (append-nil earlier)) has }
+
+  pub names_then : (old middle new : Names) (before between now : NameMap) (items others : List Labelled) → NamesItems equal old before items middle between → NamesItems equal middle between others new now → NamesItems equal old before (items ++ others) new now
+  names_then old middle new before between now items others first_part second_part = record {
+    more = λ start first earlier has. subst (λ all. HasNamedItems equal start first all new now) (append_assoc earlier items others) (second_part.more start first (earlier ++ items) (first_part.more start first earlier has));
+  }
+
+  pub names_then_some : (old middle : Names) (before between now : NameMap) (items others : List Labelled) → NamesItems equal old before items middle between → NamesBeginning equal middle between others now → NamesBeginning equal old before (items ++ others) now
+  names_then_some old middle before between now items others first_part second_part = record {
+    some = λ start first earlier has. subst (λ all. PutsBeginning equal start first all now) (append_assoc earlier items others) (second_part.some start first (earlier ++ items) (first_part.more start first earlier has));
+  }
+
+  -- the beginning of some items is the beginning of more
+  pub names_some_of_more : (old : Names) (before now : NameMap) (items others : List Labelled) → NamesBeginning equal old before items now → NamesBeginning equal old before (items ++ others) now
+  names_some_of_more old before now items others part = record {
+    some = λ start first earlier has. let p = part.some start first earlier has in record {
+      named = p.named;
+      left = p.left ++ others;
+      all = sym (append_assoc earlier items others) ∙ ap (λ all. all ++ others) p.all ∙ append_assoc p.named p.left others;
+      put = p.put;
+    };
+  }
+
+  -- a map that stays as it was
+  pub names_unchanged : (old : Names) (before now : NameMap) (items : List Labelled) → ((q : NameKey) → now q ≡ before q) → NamesBeginning equal old before items now
+  names_unchanged old before now items same = record {
+    some = λ start first earlier has. record {
+      named = earlier;
+      left = items;
+      all = refl;
+      put = record { finds = λ q. same q ∙ has.put.finds q };
+    };
+  }
+
+  -- a `Namer` that begins
+  pub begins : (start : Names) (before : NameMap) → HasNamed start [] → HasNamedItems equal start before [] start before
+  begins start before none = record { words = refl; labels = none; put = record { finds = λ q. refl } }
+
+-- these words and prefixes, with no uses
+pub starts : (keywords builtins caseless : Words) (uses : Uses) (prefixes given : List (Bor (List ℕ))) → uses ≡ finite.empty → prefixes ≡ given → record { keywords = keywords; builtin_identifiers = builtins; caseless_keywords = caseless; reserved_prefixes = map (λ p. p.now) prefixes; uses = uses } ≡ new_names keywords builtins caseless (map (λ p. p.now) given)
+starts keywords builtins caseless uses prefixes given none same =
+    λ i. record { keywords = keywords; builtin_identifiers = builtins; caseless_keywords = caseless; reserved_prefixes = map (λ p. p.now) (same i); uses = none i }
+
+module _ (equal : NameKey → NameKey → Bool) (start began : Names) (same : began ≡ start) (none : start.uses ≡ finite.empty) (before now : NameMap) (items : List Labelled) where
+  began_so : HasNamedItems equal start before [] began before
+  began_so = subst (λ names. HasNamedItems equal start before [] names before) (sym same) (begins equal start before (has_named_nothing start none))
+
+  -- all of the items were named
+  pub all_named : (new : Names) → NamesItems equal began before items new now → HasNamedItems equal start before items new now
+  all_named new named = named.more start before [] began_so
+
+  -- some of them were
+  pub some_named : NamesBeginning equal began before items now → PutsBeginning equal start before items now
+  some_named named = named.some start before [] began_so
+
+-- what a map says after `insert`, by the names that it has
+pub names_in-insert : {Y S : Type 0} (equal : NameKey → NameKey → Bool) (old new : HashMap NameKey (String Y) S) (key : NameKey) (name : String Y) → hash.Updates equal old new key (Some name) → (q : NameKey) → names_in equal new q ≡ cond (equal key q) (Some (string_bytes name)) (names_in equal old q)
+names_in-insert equal old new key name updates q = ap (option_map string_bytes) (updates.0 q) ∙ either (equal key q)
+  where
+    either : (b : Bool) → option_map string_bytes (cond b (Some name) (hash.get equal old q)) ≡ cond b (Some (string_bytes name)) (names_in equal old q)
+    either b = elim b as (λ t. option_map string_bytes (cond t (Some name) (hash.get equal old q)) ≡ cond t (Some (string_bytes name)) (names_in equal old q)) [ true ↦ refl | false ↦ refl ]
+
+pub names_in-unchanged : {Y S : Type 0} (equal : NameKey → NameKey → Bool) (old new : HashMap NameKey (String Y) S) → hash.IsUnchanged old new → (q : NameKey) → names_in equal new q ≡ names_in equal old q
+names_in-unchanged equal old new same q = ap (λ es. option_map string_bytes (lookup (equal q) es)) same
+
+-- ---- loops over items
+pub on_err : {T E P : Type 0} (r : Result T E) → P → OnErr r P
+on_err (Ok x) p = tt
+on_err (Err e) p = p
+
+module _ {A B : Type 0} (v : A → B) where
+  flat_map-shown : (g : B → List Labelled) (xs : List A) → flat_map g (map v xs) ≡ flat_map (λ a. g (v a)) xs
+  flat_map-shown g [] = refl
+  flat_map-shown g (x ∷ xs) = ap (λ items. g (v x) ++ items) (flat_map-shown g xs)
+
+  map-shown : (g : B → Labelled) (xs : List A) → map g (map v xs) ≡ map (λ a. g (v a)) xs
+  map-shown g [] = refl
+  map-shown g (x ∷ xs) = ap (λ items. g (v x) ∷ items) (map-shown g xs)
+
+  -- the items of what was yielded so far, and of what is left
+  pub flat_map_so_far : (g : B → List Labelled) (all : List B) (xs : List A) → map v xs ≡ take (length xs) all → flat_map g all ≡ flat_map (λ a. g (v a)) xs ++ flat_map g (drop (length xs) all)
+  flat_map_so_far g all xs so_far =
+      ap (flat_map g) (sym (take-append-drop (length xs) all)) ∙ flat_map-append g (take (length xs) all) (drop (length xs) all)
+      ∙ ap (λ items. items ++ flat_map g (drop (length xs) all)) (ap (flat_map g) (sym so_far) ∙ flat_map-shown g xs)
+
+  pub flat_map_at_turn : (g : B → List Labelled) (all : List B) (xs : List A) (y : B) → map v xs ≡ take (length xs) all → length xs < length all → y ≡ get_or all (length xs) y → flat_map g all ≡ flat_map (λ a. g (v a)) xs ++ (g y ++ flat_map g (drop (length xs + 1) all))
+  flat_map_at_turn g all xs y so_far lt is =
+      let split : drop (length xs) all ≡ get_or all (length xs) y ∷ drop (length xs + 1) all = rw add-one (drop-cons all (length xs) y lt) in
+      flat_map_so_far g all xs so_far ∙ ap (λ items. flat_map (λ a. g (v a)) xs ++ flat_map g items) split
+      ∙ ap (λ b. flat_map (λ a. g (v a)) xs ++ (g b ++ flat_map g (drop (length xs + 1) all))) (sym is)
+
+  pub flat_map_at_end : (g : B → List Labelled) (all : List B) (xs : List A) → map v xs ≡ all → flat_map g all ≡ flat_map (λ a. g (v a)) xs
+  flat_map_at_end g all xs is = ap (flat_map g) (sym is) ∙ flat_map-shown g xs
+
+  pub map_so_far : (g : B → Labelled) (all : List B) (xs : List A) → map v xs ≡ take (length xs) all → map g all ≡ map (λ a. g (v a)) xs ++ map g (drop (length xs) all)
+  map_so_far g all xs so_far =
+      ap (map g) (sym (take-append-drop (length xs) all)) ∙ map-append g (take (length xs) all) (drop (length xs) all)
+      ∙ ap (λ items. items ++ map g (drop (length xs) all)) (ap (map g) (sym so_far) ∙ map-shown g xs)
+
+  pub map_at_end : (g : B → Labelled) (all : List B) (xs : List A) → map v xs ≡ all → map g all ≡ map (λ a. g (v a)) xs
+  map_at_end g all xs is = ap (map g) (sym is) ∙ map-shown g xs
+
+enumerate_from-append : {X : Type 0} (n : ℕ) (xs ys : List X) → enumerate_from n (xs ++ ys) ≡ enumerate_from n xs ++ enumerate_from (n + length xs) ys
+enumerate_from-append n [] ys = ap (λ m. enumerate_from m ys) (sym (add-zero n))
+enumerate_from-append n (x ∷ xs) ys =
+    let long : n + 1 + length xs ≡ n + length (x ∷ xs) = omega arith in
+    ap (λ items. (n, x) ∷ items) (enumerate_from-append (n + 1) xs ys ∙ ap (λ m. enumerate_from (n + 1) xs ++ enumerate_from m ys) long)
+
+module _ (function : ℕ) where
+  abbrev argument_item : ℕ × FunctionArgument → Labelled
+  argument_item p = (key.FunctionArgument function p.0, option_map_or string_bytes p.1.name (codes "param"))
+
+  pub labelled_arguments_left : (arguments : List FunctionArgument) (i : ℕ) → List Labelled
+  labelled_arguments_left arguments i = map argument_item (enumerate_from (0 + length (take i arguments)) (drop i arguments))
+
+  pub labelled_arguments_so_far : (arguments : List FunctionArgument) (i : ℕ) → labelled_arguments function arguments ≡ labelled_arguments function (take i arguments) ++ labelled_arguments_left arguments i
+  unfolding labelled_arguments_left
+  labelled_arguments_so_far arguments i =
+      ap (labelled_arguments function) (sym (take-append-drop i arguments))
+      ∙ ap (map argument_item) (enumerate_from-append 0 (take i arguments) (drop i arguments))
+      ∙ map-append argument_item (enumerate_from 0 (take i arguments)) (enumerate_from (0 + length (take i arguments)) (drop i arguments))
+
+  pub labelled_arguments-more : (arguments : List FunctionArgument) (i index : ℕ) (argument : FunctionArgument) (label : List ℕ) → i < length arguments → index ≡ i → argument ≡ get_or arguments i argument → label ≡ option_map_or string_bytes argument.name (codes "param") → labelled_arguments function (take i arguments) ++ (key.FunctionArgument function index, label) ∷ [] ≡ labelled_arguments function (take (i + 1) arguments)
+  labelled_arguments-more arguments i index argument label lt index_is argument_is label_is =
+      let long : 0 + length (take i arguments) ≡ i = omega (arith, length-take-le i arguments (omega arith)) in
+      sym (ap (labelled_arguments function) (take_more arguments i argument lt ∙ ap (λ a. take i arguments ++ a ∷ []) (sym argument_is))
+        ∙ ap (map argument_item) (enumerate_from-append 0 (take i arguments) (argument ∷ []))
+        ∙ map-append argument_item (enumerate_from 0 (take i arguments)) ((0 + length (take i arguments), argument) ∷ [])
+        ∙ (λ j. labelled_arguments function (take i arguments) ++ (key.FunctionArgument function ((long ∙ sym index_is) j), sym label_is j) ∷ []))

@@ -1,0 +1,7 @@
+use Rattle.std.proofs.Common.{take}
+use Rattle.naga_names.specs.Reset.{NamesItems, names_in, labelled_arguments}
+use Rattle.naga_names.specs.contracts.namer.key.NameKeyPartialEq.TheImpl.{eq-value}
+use Rattle.naga_names.proofs.namer.Namer.name_arguments.Given as goal
+
+abbrev pub invariant-loop-index : goal.invariant-loop-index
+invariant-loop-index l = NamesItems eq-value.it l.initial.self (names_in eq-value.it l.initial.output) (labelled_arguments l.function (take l.index l.arguments)) l.self (names_in eq-value.it l.output)

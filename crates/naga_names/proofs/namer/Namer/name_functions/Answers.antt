@@ -1,0 +1,26 @@
+use Rattle.std.proofs.Common.{◌≡◌, ◌++◌, [], ◌∷◌, map, take, drop, length, codes, string_bytes, refl, sym, ap, subst, ◌∙◌}
+use Rattle.std.specs.List.{enumerate_from, flat_map}
+use Rattle.std.specs.Option.{option_map_or}
+use Rattle.std.proofs.lemmas.Iterator.Consumers.{YieldsList-from_first, YieldsList-at, YieldsList-so_far, YieldsList-turn, YieldsList-end}
+use Rattle.naga_names.specs.declared.namer.key.NameKey.TheVariants as key
+use Rattle.naga_names.specs.Reset.{NamesItems, NamesBeginning, names_in, labelled_function}
+use Rattle.naga_names.specs.contracts.namer.key.NameKeyPartialEq.TheImpl.{eq-value}
+use Rattle.naga_names.proofs.ResetLemmas.{on_err, names_then, names_then_some, names_some_of_more, names_unchanged, names_in-unchanged, map_so_far, map_at_end, flat_map_at_turn, flat_map_at_end, labelled_arguments_left, labelled_arguments_so_far, labelled_arguments-more}
+use Rattle.naga_names.proofs.namer.Namer.name_functions.Goals as goal
+
+pub returns-in_err-name_function-clause-err : goal.returns-in_err-name_function-clause-err
+returns-in_err-name_function-clause-err c =
+    let road = YieldsList-at c.into_iter-handle-iterator.ensures.into_iter_gives (YieldsList-from_first (λ p. (p.0, p.1.now)) (λ s. s) (enumerate_from 0 c.args.functions.now) c.iter-handle-items.ensures) in
+    let so_far = YieldsList-so_far road c.loop-handle.yielded c.loop-handle.handle-iterator c.loop-handle.yielded_by in
+    let turn = YieldsList-turn road c.loop-handle.yielded c.loop-handle.handle-iterator c.loop-handle.yielded_by c.next.result c.next.new.self (c.in-Some.handle, c.in-Some.function) c.in-Some.is c.next.ensures.steps in
+    let all = enumerate_from 0 c.args.functions.now in
+    on_err c.from_residual.result
+    (subst (λ items. NamesBeginning eq-value.it c.args.self.now (names_in eq-value.it c.args.output.now) items (names_in eq-value.it c.name_function.new.output)) (sym (flat_map_at_turn (λ p. (p.0, p.1.now)) (λ p. labelled_function p.0 p.1) all c.loop-handle.yielded (c.in-Some.handle, c.in-Some.function.now) so_far turn.0 turn.1))
+      (names_then_some eq-value.it _ _ _ _ _ _ _ c.loop-handle.invariant (names_some_of_more eq-value.it _ _ _ _ _ c.in_err-name_function.ensures.err)))
+
+pub returns-clause-ok : goal.returns-clause-ok
+returns-clause-ok c =
+    let road = YieldsList-at c.into_iter-handle-iterator.ensures.into_iter_gives (YieldsList-from_first (λ p. (p.0, p.1.now)) (λ s. s) (enumerate_from 0 c.args.functions.now) c.iter-handle-items.ensures) in
+    let done = YieldsList-end road c.loop-handle.yielded c.loop-handle.handle-iterator c.loop-handle.yielded_by c.next.result c.next.new.self c.in-None.is c.next.ensures.steps in
+    subst (λ items. NamesItems eq-value.it c.args.self.now (names_in eq-value.it c.args.output.now) items c.loop-handle.self (names_in eq-value.it c.loop-handle.output))
+    (sym (flat_map_at_end (λ p. (p.0, p.1.now)) (λ p. labelled_function p.0 p.1) (enumerate_from 0 c.args.functions.now) c.loop-handle.yielded done.0)) c.loop-handle.invariant

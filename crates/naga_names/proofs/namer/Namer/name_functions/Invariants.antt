@@ -1,0 +1,7 @@
+use Rattle.std.specs.List.{flat_map}
+use Rattle.naga_names.specs.Reset.{NamesItems, names_in, labelled_function}
+use Rattle.naga_names.specs.contracts.namer.key.NameKeyPartialEq.TheImpl.{eq-value}
+use Rattle.naga_names.proofs.namer.Namer.name_functions.Given as goal
+
+abbrev pub invariant-loop-handle : goal.invariant-loop-handle
+invariant-loop-handle l = NamesItems eq-value.it l.initial.self (names_in eq-value.it l.initial.output) (flat_map (λ p. labelled_function p.0 p.1.now) l.yielded) l.self (names_in eq-value.it l.output)

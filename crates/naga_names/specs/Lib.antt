@@ -1,0 +1,6 @@
+pub mod Label
+pub mod Naming
+pub mod Plain
+pub mod Refusal
+pub mod Reset
+pub mod Words

@@ -1,0 +1,9 @@
+//! Identifiers for the items of a module.
+//!
+//! `keyword_set` has sets of words that no identifier may be, `keywords` the two tables of words of
+//! WGSL, and `namer` the `Namer`, which makes of any label an identifier that it has not given yet.
+#![tactic(auto)]
+
+pub mod keyword_set;
+pub mod keywords;
+pub mod namer;

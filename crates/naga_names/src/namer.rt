@@ -1,0 +1,314 @@
+//! Identifiers from labels.
+ghost use Rattle.std.specs.Prelude.{◌≡◌, ◌∷◌, [], ◌++◌, List, ℕ, map, IfOk, IfErr, OnOk, OnErr, IsErr, string_bytes};
+ghost use Rattle.std.specs.Option.{option_map_or};
+ghost use Rattle.naga_names.specs.Naming.{Names, names_code, no_names, new_names, first_name, is_taken, name_of, with_use, IsFull, HasNamed, name_after};
+ghost use Rattle.std.specs.HashMap as hash;
+ghost use Rattle.naga_names.specs.Refusal.{IsRefusalOf};
+ghost use Rattle.naga_names.specs.Reset.{labelled_types, labelled_arguments, labelled_function, labelled_functions, labelled_items, names_in, HasNamedItems, PutsBeginning, NamesItems, NamesBeginning};
+
+use crate::keyword_set::{CaseInsensitiveKeywordSet, KeywordSet};
+use crate::namer::uses::Uses;
+use naga_ir::{Arena, Function, FunctionArgument, Handle, Module, Type_, UniqueArena};
+use std::alloc::{AllocError, AllocFailed, Global};
+use std::collections::HashMap;
+use std::marker::Model;
+use thiserror::Error;
+
+pub use key::{ExternalTextureNameKey, NameKey};
+
+mod key;
+mod label;
+#[cfg(test)]
+mod tests;
+mod uses;
+
+/// The place of an entry point in its module's list.
+pub type EntryPointIndex = u16;
+
+/// Why a name could not be given.
+#[derive(Debug, Drop, PartialEq, Eq, Error)]
+pub enum NamerError {
+    /// A base has been used so often that no further name can be counted: 4,294,967,295 times after
+    /// its first use.
+    #[error("namer is full")]
+    Full,
+    /// The module has more entry points than an `EntryPointIndex` can tell apart, or a member or an
+    /// argument whose index is no `u32`.
+    #[error("name key out of range")]
+    KeyFull,
+    /// Memory has run out.
+    #[error("out of memory")]
+    Memory(AllocError),
+}
+
+impl From<AllocError> for NamerError {
+    ghost use Rattle.naga_names.specs.declared.namer.NamerError.TheVariants.{Memory};
+
+    ghost from_gives = { λ refusal error. error ≡ Memory refusal };
+
+    fn from(refusal: AllocError) -> NamerError {
+        NamerError::Memory(refusal)
+    }
+}
+
+impl<T: Drop> From<AllocFailed<T>> for NamerError {
+    ghost use Rattle.std.specs.Prelude.{alloc_error};
+    ghost use Rattle.naga_names.specs.declared.namer.NamerError.TheVariants.{Memory};
+
+    ghost from_gives = { λ refusal error. error ≡ Memory alloc_error };
+
+    fn from(refusal: AllocFailed<T>) -> NamerError {
+        NamerError::Memory(AllocError::from(refusal))
+    }
+}
+
+/// Gives each label an identifier that it has given to no other label.
+///
+/// An identifier has ASCII letters, digits and `_` alone. It is made of the label's *base* and, where
+/// the base was used before, is a word that means something, or ends in a digit, of an ending that
+/// begins with `_`. Contracts see a `Namer` as its words, its prefixes and the number of uses of each
+/// base.
+#[derive(Drop)]
+pub struct Namer {
+    alloc: Global,
+    uses: Uses,
+    keywords: KeywordSet,
+    builtin_identifiers: KeywordSet,
+    keywords_case_insensitive: CaseInsensitiveKeywordSet,
+    reserved_prefixes: Vec<&'static str>,
+}
+
+impl Model for Namer {
+    ghost Value = { Names };
+
+    ghost coded = { names_code };
+
+    ghost view = { λ n. record { keywords = n.keywords; builtin_identifiers = n.builtin_identifiers; caseless_keywords = n.keywords_case_insensitive; reserved_prefixes = map (λ p. p.now) n.reserved_prefixes.items; uses = n.uses } };
+}
+
+impl Namer {
+    /// A `Namer` that has given no name and keeps off no word. It takes no memory.
+    pub fn default(alloc: Global) -> Self
+        ensures empty { result ≡ no_names }
+        ensures history { HasNamed result [] }
+    {
+        Self {
+            alloc,
+            uses: Uses::new(alloc),
+            keywords: KeywordSet::new(alloc),
+            builtin_identifiers: KeywordSet::new(alloc),
+            keywords_case_insensitive: CaseInsensitiveKeywordSet::new(alloc),
+            reserved_prefixes: Vec::new(alloc),
+        }
+    }
+
+    /// The identifier of the label, and one more use of the label's base.
+    ///
+    /// A second `x` is `x_1`, and `x1` is `x1_`. The answer is `NamerError::Full` only where the base
+    /// was used 4,294,967,295 times after its first use, and `NamerError::Memory` where memory runs
+    /// out. A refused call changes nothing.
+    pub fn call(&mut self, label: &str) -> Result<String, NamerError>
+        ensures name { IfOk result (λ name. string_bytes name ≡ name_of self.old label.now) }
+        ensures used { OnOk result (self.new ≡ with_use self.old label.now) }
+
+        // The same by the labels that were named before.
+        ensures history { (earlier : List (List ℕ)) → HasNamed self.old earlier → IfOk result (λ name. string_bytes name ≡ name_after self.old earlier label.now) }
+        ensures more_history { (earlier : List (List ℕ)) → HasNamed self.old earlier → OnOk result (HasNamed self.new (earlier ++ label.now ∷ [])) }
+
+        // A refusal changes nothing, and has a reason.
+        ensures err { OnErr result (self.new ≡ self.old) }
+        ensures reason { IfErr result (IsRefusalOf self.old label.now) }
+        ensures full { IsFull self.old label.now → IsErr result }
+    {
+        let base = label::base(self.alloc, &self.reserved_prefixes, label)?;
+        match self.uses.later(base.as_str()) {
+            None => {
+                let name = self.first_name(base.as_str())?;
+                self.uses.put(base, 0)?;
+                Ok(name)
+            }
+            Some(later) => {
+                let Some(number) = later.checked_add(1) else {
+                    return Err(NamerError::Full);
+                };
+                let name = format!(in self.alloc; "{base}_{number}")?;
+                self.uses.put(base, number)?;
+                Ok(name)
+            }
+        }
+    }
+
+    /// `call` of the label, or of the fallback where there is none. An empty label is one.
+    pub fn call_or(&mut self, label: &Option<String>, fallback: &str) -> Result<String, NamerError>
+        ensures name { IfOk result (λ name. string_bytes name ≡ name_of self.old (option_map_or string_bytes label.now fallback.now)) }
+        ensures used { OnOk result (self.new ≡ with_use self.old (option_map_or string_bytes label.now fallback.now)) }
+        ensures history { (earlier : List (List ℕ)) → HasNamed self.old earlier → IfOk result (λ name. string_bytes name ≡ name_after self.old earlier (option_map_or string_bytes label.now fallback.now)) }
+        ensures more_history { (earlier : List (List ℕ)) → HasNamed self.old earlier → OnOk result (HasNamed self.new (earlier ++ option_map_or string_bytes label.now fallback.now ∷ [])) }
+        ensures err { OnErr result (self.new ≡ self.old) }
+        ensures reason { IfErr result (IsRefusalOf self.old (option_map_or string_bytes label.now fallback.now)) }
+        ensures full { IsFull self.old (option_map_or string_bytes label.now fallback.now) → IsErr result }
+    {
+        self.call(label_or(label, fallback))
+    }
+
+    /// Gives names to the module's types and functions, and to the functions' arguments, and puts them
+    /// into the map under their keys.
+    ///
+    /// From then on identifiers keep off the words and prefixes given, and the names given before are
+    /// forgotten. An item without a label is named `type`, `function` or `param`. The map keeps its
+    /// other keys. The answer is `NamerError::KeyFull` only where a function has more arguments than a
+    /// `u32` can count. After a refusal the `Namer` is as a new one, and the names of some first items
+    /// stand in the map.
+    pub fn reset(
+        &mut self,
+        module: &Module,
+        reserved_keywords: KeywordSet,
+        builtin_identifiers: KeywordSet,
+        keywords_case_insensitive: CaseInsensitiveKeywordSet,
+        reserved_prefixes: &[&'static str],
+        output: &mut HashMap<NameKey, String>,
+    ) -> Result<(), NamerError>
+        ensures ok { OnOk result (HasNamedItems ⟦<NameKey as PartialEq>⟧.eq (new_names reserved_keywords builtin_identifiers keywords_case_insensitive (map (λ p. p.now) reserved_prefixes.now)) (names_in ⟦<NameKey as PartialEq>⟧.eq output.old) (labelled_items module.now) self.new (names_in ⟦<NameKey as PartialEq>⟧.eq output.new)) }
+        ensures err { OnErr result (self.new ≡ no_names) }
+        ensures beginning { OnErr result (PutsBeginning ⟦<NameKey as PartialEq>⟧.eq (new_names reserved_keywords builtin_identifiers keywords_case_insensitive (map (λ p. p.now) reserved_prefixes.now)) (names_in ⟦<NameKey as PartialEq>⟧.eq output.old) (labelled_items module.now) (names_in ⟦<NameKey as PartialEq>⟧.eq output.new)) }
+    {
+        let alloc = self.alloc;
+        let prefixes = match Vec::from_slice(alloc, reserved_prefixes) {
+            Ok(prefixes) => prefixes,
+            Err(refusal) => {
+                *self = Self::default(alloc);
+                return Err(NamerError::Memory(refusal));
+            }
+        };
+        *self = Self {
+            alloc,
+            uses: Uses::new(alloc),
+            keywords: reserved_keywords,
+            builtin_identifiers,
+            keywords_case_insensitive,
+            reserved_prefixes: prefixes,
+        };
+        match self.name_items(module, output) {
+            Ok(()) => Ok(()),
+            Err(refusal) => {
+                *self = Self::default(alloc);
+                Err(refusal)
+            }
+        }
+    }
+
+    fn name_items(
+        &mut self,
+        module: &Module,
+        output: &mut HashMap<NameKey, String>,
+    ) -> Result<(), NamerError>
+        ensures ok { OnOk result (NamesItems ⟦<NameKey as PartialEq>⟧.eq self.old (names_in ⟦<NameKey as PartialEq>⟧.eq output.old) (labelled_items module.now) self.new (names_in ⟦<NameKey as PartialEq>⟧.eq output.new)) }
+        ensures err { OnErr result (NamesBeginning ⟦<NameKey as PartialEq>⟧.eq self.old (names_in ⟦<NameKey as PartialEq>⟧.eq output.old) (labelled_items module.now) (names_in ⟦<NameKey as PartialEq>⟧.eq output.new)) }
+    {
+        self.name_types(&module.types, output)?;
+        self.name_functions(&module.functions, output)
+    }
+
+    fn name_types(
+        &mut self,
+        types: &UniqueArena<Type_>,
+        output: &mut HashMap<NameKey, String>,
+    ) -> Result<(), NamerError>
+        ensures ok { OnOk result (NamesItems ⟦<NameKey as PartialEq>⟧.eq self.old (names_in ⟦<NameKey as PartialEq>⟧.eq output.old) (labelled_types types.now) self.new (names_in ⟦<NameKey as PartialEq>⟧.eq output.new)) }
+        ensures err { OnErr result (NamesBeginning ⟦<NameKey as PartialEq>⟧.eq self.old (names_in ⟦<NameKey as PartialEq>⟧.eq output.old) (labelled_types types.now) (names_in ⟦<NameKey as PartialEq>⟧.eq output.new)) }
+    {
+        for (handle, ty) in types.iter() {
+            self.name_item(NameKey::Type_(handle), label_or(&ty.name, "type"), output)?;
+        }
+        Ok(())
+    }
+
+    fn name_functions(
+        &mut self,
+        functions: &Arena<Function>,
+        output: &mut HashMap<NameKey, String>,
+    ) -> Result<(), NamerError>
+        ensures ok { OnOk result (NamesItems ⟦<NameKey as PartialEq>⟧.eq self.old (names_in ⟦<NameKey as PartialEq>⟧.eq output.old) (labelled_functions functions.now) self.new (names_in ⟦<NameKey as PartialEq>⟧.eq output.new)) }
+        ensures err { OnErr result (NamesBeginning ⟦<NameKey as PartialEq>⟧.eq self.old (names_in ⟦<NameKey as PartialEq>⟧.eq output.old) (labelled_functions functions.now) (names_in ⟦<NameKey as PartialEq>⟧.eq output.new)) }
+    {
+        for (handle, function) in functions.iter() {
+            self.name_function(handle, function, output)?;
+        }
+        Ok(())
+    }
+
+    fn name_function(
+        &mut self,
+        handle: Handle<Function>,
+        function: &Function,
+        output: &mut HashMap<NameKey, String>,
+    ) -> Result<(), NamerError>
+        ensures ok { OnOk result (NamesItems ⟦<NameKey as PartialEq>⟧.eq self.old (names_in ⟦<NameKey as PartialEq>⟧.eq output.old) (labelled_function handle function.now) self.new (names_in ⟦<NameKey as PartialEq>⟧.eq output.new)) }
+        ensures err { OnErr result (NamesBeginning ⟦<NameKey as PartialEq>⟧.eq self.old (names_in ⟦<NameKey as PartialEq>⟧.eq output.old) (labelled_function handle function.now) (names_in ⟦<NameKey as PartialEq>⟧.eq output.new)) }
+    {
+        self.name_item(NameKey::Function(handle), label_or(&function.name, "function"), output)?;
+        self.name_arguments(handle, &function.arguments, output)
+    }
+
+    fn name_arguments(
+        &mut self,
+        function: Handle<Function>,
+        arguments: &[FunctionArgument],
+        output: &mut HashMap<NameKey, String>,
+    ) -> Result<(), NamerError>
+        ensures ok { OnOk result (NamesItems ⟦<NameKey as PartialEq>⟧.eq self.old (names_in ⟦<NameKey as PartialEq>⟧.eq output.old) (labelled_arguments function arguments.now) self.new (names_in ⟦<NameKey as PartialEq>⟧.eq output.new)) }
+        ensures err { OnErr result (NamesBeginning ⟦<NameKey as PartialEq>⟧.eq self.old (names_in ⟦<NameKey as PartialEq>⟧.eq output.old) (labelled_arguments function arguments.now) (names_in ⟦<NameKey as PartialEq>⟧.eq output.new)) }
+    {
+        for (index, argument) in arguments.iter().enumerate() {
+            let Ok(index) = u32::try_from(index) else {
+                return Err(NamerError::KeyFull);
+            };
+            let label = label_or(&argument.name, "param");
+            self.name_item(NameKey::FunctionArgument(function, index), label, output)?;
+        }
+        Ok(())
+    }
+
+    /// Gives one item its name.
+    fn name_item(
+        &mut self,
+        key: NameKey,
+        label: &str,
+        output: &mut HashMap<NameKey, String>,
+    ) -> Result<(), NamerError>
+        ensures ok { OnOk result (NamesItems ⟦<NameKey as PartialEq>⟧.eq self.old (names_in ⟦<NameKey as PartialEq>⟧.eq output.old) ((key, label.now) ∷ []) self.new (names_in ⟦<NameKey as PartialEq>⟧.eq output.new)) }
+        ensures err { OnErr result (hash.IsUnchanged output.old output.new) }
+    {
+        let name = self.call(label)?;
+        output.insert(key, name)?;
+        Ok(())
+    }
+
+    fn first_name(&self, base: &str) -> Result<String, AllocError>
+        ensures { IfOk result (λ name. string_bytes name ≡ first_name self.now base.now) }
+    {
+        let mut name = String::from_str(self.alloc, base)?;
+        if label::ends_in_digit(base) || self.is_taken(base) {
+            name.push('_')?;
+        }
+        Ok(name)
+    }
+
+    fn is_taken(&self, word: &str) -> bool
+        ensures { result ≡ is_taken self.now word.now }
+    {
+        self.keywords.contains(word)
+            || self.builtin_identifiers.contains(word)
+            || self.keywords_case_insensitive.contains(word)
+    }
+}
+
+/// The label, or the fallback where there is none.
+fn label_or<'a>(label: &'a Option<String>, fallback: &'a str) -> &'a str
+    ensures { result.now ≡ option_map_or string_bytes label.now fallback.now }
+{
+    match label {
+        Some(label) => label.as_str(),
+        None => fallback,
+    }
+}

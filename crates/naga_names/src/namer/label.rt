@@ -1,0 +1,132 @@
+//! The base of a label: the part of an identifier that comes from the label alone.
+ghost use Rattle.std.specs.Prelude.{◌≡◌, ℕ, true, List, ◌∷◌, [], ◌++◌, ◌||◌, ◌==◌, map, IfOk, OnOk, string_bytes};
+ghost use Rattle.std.specs.List.{list_any, starts_with};
+ghost use Rattle.std.specs.Bool.{nat_eq};
+ghost use Rattle.std.specs.Str.{chars};
+ghost use Rattle.naga_names.specs.Label.{is_numeric, is_mark, is_foreign, by_number, after_numerics, spelling, with_separator, without_last_separators, or_unnamed, base_of};
+ghost use Rattle.naga_names.specs.Naming.{ends_in_digit};
+
+use std::alloc::{AllocError, Global};
+use std::fmt::Write;
+use ucd_category::{GeneralCategory, GeneralCategoryGroup};
+
+/// The base of the label, where identifiers keep off the prefixes.
+#[tactic(auto, unfolding(crate::specs::Label::base_of))]
+pub fn base(alloc: Global, prefixes: &[&'static str], label: &str) -> Result<String, AllocError>
+    ensures { IfOk result (λ base. string_bytes base ≡ base_of (map (λ p. p.now) prefixes.now) (chars label.now)) }
+{
+    let base = finished(spell(alloc, label)?)?;
+    if begins_reserved(base.as_str(), prefixes) {
+        return format!(in alloc; "gen_{base}");
+    }
+    Ok(base)
+}
+
+/// The text without the `_` at its end, or `unnamed` where nothing is left of it.
+fn finished(mut text: String) -> Result<String, AllocError>
+    ensures { IfOk result (λ finished. string_bytes finished ≡ or_unnamed (without_last_separators (string_bytes text))) }
+{
+    drop_last_separators(&mut text);
+    if !text.as_str().is_empty() {
+        return Ok(text);
+    }
+    text.push_str("unnamed")?;
+    Ok(text)
+}
+
+/// Whether the text, which isn't empty, ends in an ASCII digit.
+pub fn ends_in_digit(text: &str) -> bool
+    ensures { result ≡ ends_in_digit text.now }
+{
+    match text.as_bytes().last() {
+        Some(byte) => byte.is_ascii_digit(),
+        None => false,
+    }
+}
+
+/// The label's characters, from the first one on that is not numeric, each as an identifier can have it.
+fn spell(alloc: Global, label: &str) -> Result<String, AllocError>
+    ensures { IfOk result (λ text. string_bytes text ≡ spelling (after_numerics (chars label.now))) }
+{
+    let mut text = String::new(alloc);
+    for c in label.chars().skip_while(is_numeric) {
+        push_spelled(&mut text, c)?;
+    }
+    Ok(text)
+}
+
+/// Whether the general category is Nd, Nl or No.
+#[tactic(auto, unfolding(crate::specs::Label::is_numeric))]
+fn is_numeric(c: &char) -> bool
+    ensures { result ≡ is_numeric c.now }
+{
+    GeneralCategoryGroup::Number.contains(GeneralCategory::for_char(*c))
+}
+
+/// One more character on a text that spells some.
+fn push_spelled(text: &mut String, c: char) -> Result<(), AllocError>
+    ensures { OnOk result ((before : List ℕ) → string_bytes text.old ≡ spelling before → string_bytes text.new ≡ spelling (before ++ c ∷ [])) }
+{
+    if is_separating(c) {
+        push_separator(text)
+    } else if c.is_ascii_alphanumeric() {
+        text.push(c)
+    } else {
+        push_foreign(text, c)
+    }
+}
+
+/// Whether the character is spelled `_`.
+fn is_separating(c: char) -> bool
+    ensures { result ≡ (is_mark c || c == 95) }
+{
+    matches!(c, ':' | '<' | '>' | ',' | '_')
+}
+
+/// A character that no identifier has, behind a `_` unless it is the first one.
+fn push_foreign(text: &mut String, c: char) -> Result<(), AllocError>
+    requires { is_foreign c ≡ true }
+    ensures { OnOk result ((before : List ℕ) → string_bytes text.old ≡ spelling before → string_bytes text.new ≡ spelling (before ++ c ∷ [])) }
+{
+    if text.as_str().is_empty() {
+        return push_number(text, c);
+    }
+    push_separator(text)?;
+    push_number(text, c)
+}
+
+/// The character's number, as `u00e9_`.
+fn push_number(text: &mut String, c: char) -> Result<(), AllocError>
+    ensures { OnOk result (string_bytes text.new ≡ string_bytes text.old ++ by_number c) }
+{
+    write!(text, "u{:04x}_", c as u32)
+}
+
+/// A `_`, unless the text ends in one.
+fn push_separator(text: &mut String) -> Result<(), AllocError>
+    ensures { OnOk result (string_bytes text.new ≡ with_separator (string_bytes text.old)) }
+{
+    if text.as_str().ends_with('_') {
+        return Ok(());
+    }
+    text.push('_')
+}
+
+fn drop_last_separators(text: &mut String)
+    ensures { string_bytes text.new ≡ without_last_separators (string_bytes text.old) }
+{
+    while text.as_str().ends_with('_') {
+        let _ = text.pop();
+    }
+}
+
+fn begins_reserved(text: &str, prefixes: &[&'static str]) -> bool
+    ensures { result ≡ list_any (starts_with nat_eq text.now) (map (λ p. p.now) prefixes.now) }
+{
+    for prefix in prefixes {
+        if text.starts_with(*prefix) {
+            return true;
+        }
+    }
+    false
+}

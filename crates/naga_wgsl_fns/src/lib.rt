@@ -1,0 +1,15 @@
+//! The WGSL texts of functions, their expressions and their statements.
+//!
+//! Users take these through the crate `naga_wgsl_out`.
+#![tactic(auto)]
+
+pub mod error;
+pub mod flags;
+pub mod function;
+pub mod literal;
+pub mod part;
+
+pub use error::Error;
+pub use flags::WriterFlags;
+pub use function::write_function;
+pub use part::is_written_so_far;

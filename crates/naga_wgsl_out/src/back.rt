@@ -1,0 +1,3 @@
+//! Helpers of the writer.
+
+pub use naga_words::{INDENT, Level};

@@ -1,0 +1,15 @@
+//! Writes shaders as WGSL.
+//!
+//! This crate offers all that a user of the project needs, under naga's module names. A [`Module`](ir::Module) is
+//! built from the types of [`ir`], with what is known of its expressions from [`info`], and written
+//! by [`wgsl::write_string`], or by a [`wgsl::Writer`] to any [`types::TextSink`].
+#![tactic(auto)]
+
+pub mod back;
+pub mod types;
+pub mod wgsl;
+mod writer;
+
+pub use naga_info as info;
+pub use naga_ir as ir;
+pub use naga_names::{keyword_set, keywords, namer};

@@ -1,0 +1,3 @@
+//! What text is written to.
+
+pub use naga_words::{SinkError, TextSink};

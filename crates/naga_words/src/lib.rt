@@ -1,0 +1,8 @@
+//! Words and texts: what text is written to, and how lines are indented.
+#![tactic(auto)]
+
+pub mod back;
+pub mod sink;
+
+pub use back::{INDENT, Level};
+pub use sink::{SinkError, TextSink};

@@ -1,0 +1,25 @@
+//! Prints the WGSL text of a sample module.
+//!
+//! `wgsl_rows ROW [explicit]` builds the module that the row names, asks whether it is accepted,
+//! counts its uses, writes it, and prints the text.
+#![tactic(auto)]
+
+mod program;
+mod rows;
+mod sample;
+mod words;
+
+pub use program::run;
+
+use std::process::ExitCode;
+
+/// Runs the program on the words behind its name, and ends with its status.
+fn main(rt: HostRuntime) -> ExitCode {
+    let mut out = rt.stdout();
+    let mut err = rt.stderr();
+    let status = match words::words_behind_name(&rt) {
+        Ok(words) => run(rt.alloc(), &words, &mut out, &mut err),
+        Err(_) => program::refuse("out of memory", &mut err),
+    };
+    ExitCode::from(status)
+}

@@ -1,0 +1,82 @@
+//! The program: its words, its answers and its statuses.
+
+use crate::rows::Row;
+use crate::sample::Sample;
+use bitflags::Flags;
+use naga_wgsl_out::info::{accepts, count};
+use naga_wgsl_out::wgsl::{WriterFlags, write_string};
+use std::alloc::Global;
+use std::fmt::Display;
+use std::io::Write;
+
+#[cfg(test)]
+mod tests;
+
+/// Prints the text of the row that `words` name to `out`, and gives the status: 0, or 1 for a
+/// module that is refused, with the reason on `err`, or 2 for words that name no row. It compares
+/// the words byte for byte, and looks at them first; then it builds the module, asks whether it is
+/// accepted, counts its uses, makes the text, and only then prints it. A failure of `err` changes
+/// nothing.
+pub fn run<O: Write, E: Write>(alloc: Global, words: &[String], out: &mut O, err: &mut E) -> u8 {
+    let Some((row, flags)) = request(words) else {
+        return unknown_row(err);
+    };
+    match row.sample(alloc) {
+        Ok(sample) => answer(alloc, sample, flags, out, err),
+        Err(_) => refuse("out of memory", err),
+    }
+}
+
+/// The row and the flags that the words name.
+fn request(words: &[String]) -> Option<(Row, WriterFlags)> {
+    match words {
+        [row] => Some((Row::from_name(row.as_str())?, WriterFlags::empty())),
+        [row, second] => {
+            if second.as_str() != "explicit" {
+                return None;
+            }
+            Some((Row::from_name(row.as_str())?, WriterFlags::EXPLICIT_TYPES))
+        }
+        _ => None,
+    }
+}
+
+/// Prints the module's text, or why there is none.
+pub fn answer<O: Write, E: Write>(
+    alloc: Global,
+    mut sample: Sample,
+    flags: WriterFlags,
+    out: &mut O,
+    err: &mut E,
+) -> u8 {
+    if !accepts(&sample.module, &sample.info) {
+        return refuse("invalid module", err);
+    }
+    count(&mut sample.info, &sample.module);
+    match write_string(alloc, &sample.module, &sample.info, flags) {
+        Ok(text) => print_text(text.as_str(), out, err),
+        Err(error) => refuse(error, err),
+    }
+}
+
+fn print_text<O: Write, E: Write>(text: &str, out: &mut O, err: &mut E) -> u8 {
+    let printed = match out.write_all(text.as_bytes()) {
+        Ok(()) => out.flush(),
+        Err(error) => Err(error),
+    };
+    match printed {
+        Ok(()) => 0,
+        Err(_) => refuse("output", err),
+    }
+}
+
+/// Tells why there is no text, as far as `err` takes it, and gives the status.
+pub fn refuse<E: Write>(reason: impl Display + Drop, err: &mut E) -> u8 {
+    let _ = writeln!(err, "refused: {reason}");
+    1
+}
+
+fn unknown_row<E: Write>(err: &mut E) -> u8 {
+    let _ = writeln!(err, "unknown row");
+    2
+}
