@@ -6,8 +6,8 @@ use Rattle.std.proofs.lemmas.Bool.{false≢true}
 use Rattle.std.proofs.lemmas.Slice.Eq.{bytes_eq-Decides}
 use Rattle.wgsl_text.specs.Words.{is_word_text, stands_in, is_reserved, is_builtin, IsWord}
 use Rattle.wgsl_text.specs.Tables.{address_space_words, access_words, builtin_value_words, interpolation_words, sampling_words, enable_words}
-use Rattle.wgsl_text.specs.Tree.{TypeParts, NoParts}
-use Rattle.wgsl_text.specs.Grammar.{PartsRule, TakesNone, TakesScalar, TakesSampled, TakesElements, TakesPointee, TakesFormat, TakesVertexReturn, TakesRole, TakesType, rule_among, type_templates, call_templates, fits}
+use Rattle.wgsl_text.specs.Tree.{TypeSpecifier, Named, Template, TypeParts, NoParts}
+use Rattle.wgsl_text.specs.Grammar.{PartsRule, TakesNone, TakesScalar, TakesSampled, TakesElements, TakesPointee, TakesFormat, TakesVertexReturn, TakesRole, TakesType, rule_among, type_templates, type_taking_words, call_templates, fits, IsType, IsCallee}
 
 -- Bool tests
 pub both : (a b : Bool) → (a && b) ≡ true → (a ≡ true) × (b ≡ true)
@@ -129,3 +129,34 @@ parts_of_fit TakesVertexReturn NoParts fit = absurd (false≢true fit)
 parts_of_fit TakesRole NoParts fit = absurd (false≢true fit)
 parts_of_fit TakesType NoParts fit = absurd (false≢true fit)
 parts_of_fit _ _ fit = tt
+
+-- calls
+
+abbrev takes_none : PartsRule → Bool
+takes_none TakesNone = true
+takes_none _ = false
+
+fits_nothing : (rule : PartsRule) (parts : TypeParts) → takes_none rule ≡ true → fits rule parts ≡ false
+fits_nothing TakesNone parts e = fits_none parts
+fits_nothing TakesScalar parts e = absurd (false≢true e)
+fits_nothing TakesSampled parts e = absurd (false≢true e)
+fits_nothing TakesElements parts e = absurd (false≢true e)
+fits_nothing TakesPointee parts e = absurd (false≢true e)
+fits_nothing TakesFormat parts e = absurd (false≢true e)
+fits_nothing TakesVertexReturn parts e = absurd (false≢true e)
+fits_nothing TakesRole parts e = absurd (false≢true e)
+fits_nothing TakesType parts e = absurd (false≢true e)
+
+-- A function that takes a type is no type.
+call_fits : (w : List ℕ) (parts : TypeParts) → IsTrue (fits (rule_among type_templates w) parts) → IsTrue (fits (rule_among call_templates w) parts)
+call_fits w parts fit = by_word (stands_in type_taking_words w) refl
+  where
+    by_word : (b : Bool) → stands_in type_taking_words w ≡ b → IsTrue (fits (cond b TakesType (rule_among type_templates w)) parts)
+    by_word true e =
+        let none = passes (λ v. takes_none (rule_among type_templates v)) type_taking_words w refl e in
+        absurd (false≢true (sym (fits_nothing (rule_among type_templates w) parts none) ∙ fit))
+    by_word false e = fit
+
+pub type_called : (t : TypeSpecifier) → IsType t → IsCallee t
+type_called (Named w) is = is.part
+type_called (Template w parts) is = (call_fits w parts is.part.0, is.part.1)

@@ -55,9 +55,13 @@ type_templates =
     (sampled_image_words, TakesSampled) ∷ (codes "array" ∷ codes "binding_array" ∷ [], TakesElements) ∷ (codes "ptr" ∷ [], TakesPointee) ∷
     (storage_image_words, TakesFormat) ∷ (ray_words, TakesVertexReturn) ∷ (cooperative_matrix_words, TakesRole) ∷ []
 
--- the words of calls with parts: types, and what takes a type
+-- built-in functions that take a type
+abbrev pub type_taking_words : List (List ℕ)
+type_taking_words = codes "bitcast" ∷ codes "coopLoad" ∷ codes "coopLoadT" ∷ []
+
+-- the words of calls with parts: these, and types
 abbrev pub call_templates : List (List (List ℕ) × PartsRule)
-call_templates = (codes "bitcast" ∷ codes "coopLoad" ∷ codes "coopLoadT" ∷ [], TakesType) ∷ type_templates
+call_templates = (type_taking_words, TakesType) ∷ type_templates
 
 -- Are these the parts that the rule wants?
 abbrev pub fits : PartsRule → TypeParts → Bool

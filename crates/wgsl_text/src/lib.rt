@@ -3,7 +3,7 @@
 
 ghost use Rattle.std.specs.Prelude.{◌≡◌, ℕ, List, [], ◌∷◌, ◌++◌};
 ghost use Rattle.wgsl_text.specs.Examples.{WorkedPrograms};
-ghost use Rattle.wgsl_text.specs.Grammar.{IsType, IsExpression};
+ghost use Rattle.wgsl_text.specs.Grammar.{IsType, IsCallee, IsExpression};
 ghost use Rattle.wgsl_text.specs.GrammarOfLines.{IsProgram};
 ghost use Rattle.wgsl_text.specs.LargeExamples.{LargePrograms};
 ghost use Rattle.wgsl_text.specs.Reading.{ReadsType, ReadsExpression, Reads, HasOneReading, type_layout, expression_layout, layout};
@@ -40,6 +40,11 @@ pub fn one_reading_of_a_program()
     ensures unique { (ts : List Token) (a b : Program) → Reads ts a → Reads ts b → a ≡ b }
 {}
 
+/// What is a type may be called: a type's value is made by a call of it.
+pub fn types_are_callees()
+    ensures { (t : TypeSpecifier) → IsType t → IsCallee t }
+{}
+
 /// The text of appended pieces is the appended texts.
 pub fn text_of_appended()
     ensures { (first second : List Piece) → text (first ++ second) ≡ text first ++ text second }
@@ -52,7 +57,7 @@ pub fn worked_programs()
 {}
 
 /// A text for each row of the grammar, byte for byte.
-pub fn rows()
+pub fn row_texts()
     ensures types { TypeRows }
     ensures operators { OperatorRows }
     ensures accesses { AccessRows }

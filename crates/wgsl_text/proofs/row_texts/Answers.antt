@@ -1,5 +1,5 @@
 use Rattle.wgsl_text.proofs.Examples.{type_rows, operator_rows, access_rows, line_rows}
-use Rattle.wgsl_text.proofs.rows.Goals as goal
+use Rattle.wgsl_text.proofs.row_texts.Goals as goal
 
 pub returns-clause-types : goal.returns-clause-types
 returns-clause-types c = type_rows
