@@ -1,0 +1,735 @@
+-- A machine that reads a tree back from its tokens, one token at a time. It is a left inverse of the
+-- pieces and no more: it may also accept what the grammar does not have.
+use Rattle.std.specs.Prelude.{ℕ, Bool, true, false, cond, List, [], ◌∷◌, codes, Option, None, Some}
+use Rattle.std.specs.Str.{bytes_eq}
+use Rattle.wgsl_text.specs.Token.{Mark, OpenParen, CloseParen, OpenBracket, CloseBracket, OpenBrace, CloseBrace, Comma, Semicolon, Colon, Dot, At, Equals, LessThan, GreaterThan, Plus, Minus, Star, Slash, Percent, Ampersand, Bar, Caret, Not, Tilde, EqualsEquals, NotEquals, LessEquals, AndAnd, BarBar, LessLess, KeywordTrue, KeywordFalse, KeywordLet, KeywordVar, KeywordIf, KeywordElse, KeywordLoop, KeywordContinuing, KeywordBreak, KeywordContinue, KeywordSwitch, KeywordCase, KeywordDefault, KeywordReturn, KeywordDiscard, KeywordFn, KeywordStruct, KeywordConst, KeywordEnable, KeywordOverride}
+use Rattle.wgsl_text.specs.Token.{Suffix, NoSuffix, SuffixU, Token, Fixed, Word, Number, ZeroPointZero, Foreign, Piece, TokenPiece, Blank, LineEnd, Indent}
+use Rattle.wgsl_text.specs.Tree.{BinaryOperator, Add, Subtract, Multiply, Divide, Modulo, Equal, NotEqual, Less, LessEqual, Greater, GreaterEqual, And, ExclusiveOr, InclusiveOr, LogicalAnd, LogicalOr, ShiftLeft, ShiftRight, UnaryOperator, Negate, LogicalNot, BitwiseNot, Literal, Truth, Suffixed, SignedShort, UnsignedShort, LeastInteger, LeastLong, TypeSpecifier, Named, Template, TypeParts, NoParts, TypePart, SizePart, Expression, Constant, Name, Binary, Unary, Call, Member, Index, IndexAt, AddressOf, Dereference, Arguments, NoArguments, Argument, NumberArgument, ZeroArgument}
+use Rattle.wgsl_text.specs.Tree.{Label, DefaultLabel, SignedLabel, UnsignedLabel, Labels, LastLabel, MoreLabels, Statement, Let, TypedLet, Assign, CallStatement, Return, ReturnValue, Discard, Break, Continue, If, Loop, LoopBreakIf, Switch, Block, Statements, NoStatements, Then, Cases, NoCases, Case}
+use Rattle.wgsl_text.specs.Tree.{PlainAttribute, Invariant, PerPrimitive, Coherent, Volatile, Vertex, Fragment, Compute, Task, RayGeneration, AnyHit, ClosestHit, Miss, NumberedAttribute, Location, BlendSource, Id, Group, Binding, Size, Align, WordedAttribute, Builtin, Interpolate, Mesh, Payload, IncomingPayload, Attribute, Plain, Numbered, Worded, Interpolated, WorkgroupSize, Parameter, Result, NoResult, ResultOf, Local, Function, EntryPoint, StructMember, Struct, NamedConstant, Override, Space, NoSpace, SpaceAlone, SpaceAndAccess, Global, Program}
+use Rattle.wgsl_text.specs.Declarations.{plain_attribute_word, numbered_attribute_word, worded_attribute_word}
+
+-- what is open, innermost first, with what has been read of it
+pub data Stack : Type 0 where
+  Bottom : Stack
+  InParens : Stack → Stack
+  InRight : Expression → BinaryOperator → Stack → Stack
+  InUnary : UnaryOperator → Stack → Stack
+  InAddress : Stack → Stack
+  InDeref : Stack → Stack
+  InArguments : TypeSpecifier → Arguments → Stack → Stack
+  InIndex : Expression → Stack → Stack
+  InTemplate : List ℕ → TypeParts → Stack → Stack
+  InCallee : Stack → Stack
+  -- statements, newest first, and what they stand in
+  InStatements : Statements → Stack → Stack
+  InBlock : Stack → Stack
+  InAccept : Expression → Stack → Stack
+  InReject : Expression → Statements → Stack → Stack
+  InLoop : Stack → Stack
+  InContinuing : Statements → Stack → Stack
+  InCase : Expression → Cases → Labels → Stack → Stack
+  -- parts of a statement
+  InLetType : List ℕ → Stack → Stack
+  InLet : List ℕ → Stack → Stack
+  InTypedLet : List ℕ → TypeSpecifier → Stack → Stack
+  InAssign : Expression → Stack → Stack
+  InReturn : Stack → Stack
+  InCondition : Stack → Stack
+  InSelector : Stack → Stack
+  InBreakIf : Stack → Stack
+  -- parts of a function
+  InParameters : List ℕ → List Parameter → List Attribute → Stack → Stack
+  InParameterType : List ℕ → List Parameter → List Attribute → List ℕ → Stack → Stack
+  InResult : List ℕ → List Parameter → List Attribute → Stack → Stack
+  InLocals : List ℕ → List Parameter → Result → List Local → Stack → Stack
+  InLocalType : List ℕ → Stack → Stack
+  InLocalValue : List ℕ → TypeSpecifier → Stack → Stack
+  -- the attributes of what comes next, and the declarations; all lists have the newest first
+  InProgram : List Attribute → Program → Stack
+  InMembers : List ℕ → List StructMember → List Attribute → Stack → Stack
+  InMemberType : List ℕ → Stack → Stack
+  InConstantType : List ℕ → Stack → Stack
+  InConstant : List ℕ → TypeSpecifier → Stack → Stack
+  InOverrideType : List ℕ → Stack → Stack
+  InOverride : List ℕ → TypeSpecifier → Stack → Stack
+  InGlobalType : Space → List ℕ → Stack → Stack
+  InGlobal : Space → List ℕ → TypeSpecifier → Stack → Stack
+
+-- an attribute whose word has been read
+pub data AttributeKind : Type 0 where
+  PlainKind : PlainAttribute → AttributeKind
+  NumberedKind : NumberedAttribute → AttributeKind
+  WordedKind : WordedAttribute → AttributeKind
+  SizeKind NoKind : AttributeKind
+
+-- a part of an attribute
+pub data AttributePart : Type 0 where
+  WordPart : List ℕ → AttributePart
+  NumberPart : ℕ → AttributePart
+
+-- what is wanted next, or what has just been read
+pub data State : Type 0 where
+  Failed : State
+  Want : Stack → State
+  Got : Expression → Stack → State
+  WantOperand : UnaryOperator → Stack → State
+  WantMember : Expression → Stack → State
+  GotIndex : Expression → ℕ → Stack → State
+  GotNumberArgument : TypeSpecifier → Arguments → Bool → ℕ → Stack → State
+  AfterArgument : TypeSpecifier → Arguments → Stack → State
+  InLeastLong : Stack → State
+  WantType : Stack → State
+  GotType : TypeSpecifier → Stack → State
+  AfterPart : List ℕ → TypeParts → Stack → State
+  LetName : Stack → State
+  AfterLetName : List ℕ → Stack → State
+  WantBrace : Stack → State
+  WantEnd : Statement → Stack → State
+  AfterBreak : Stack → State
+  CloseTwice : Statement → Stack → State
+  CloseOnce : Statement → Stack → State
+  AtCase : Expression → Cases → Stack → State
+  WantLabel : Expression → Cases → List Label → Stack → State
+  AfterLabel : Expression → Cases → List Label → Label → Stack → State
+  FunctionName : Stack → State
+  AfterFunctionName : List ℕ → Stack → State
+  WantParameter : Stack → State
+  AfterParameterName : List ℕ → Stack → State
+  AfterParameters : List ℕ → List Parameter → Stack → State
+  WantResult : Stack → State
+  LocalName : Stack → State
+  AfterLocalName : List ℕ → Stack → State
+  AttributeName : Stack → State
+  AttributeOpen : AttributeKind → Stack → State
+  WantAttributePart : AttributeKind → List AttributePart → Stack → State
+  AfterAttributePart : AttributeKind → List AttributePart → Stack → State
+  EnableName : Stack → State
+  AfterEnable : List ℕ → Stack → State
+  StructName : Stack → State
+  AfterStructName : List ℕ → Stack → State
+  WantMemberName : Stack → State
+  AfterMemberName : List ℕ → Stack → State
+  ConstantName : Stack → State
+  AfterConstantName : List ℕ → Stack → State
+  OverrideName : Stack → State
+  AfterOverrideName : List ℕ → Stack → State
+  AfterVar : Stack → State
+  WantSpace : Stack → State
+  AfterSpace : List ℕ → Stack → State
+  WantAccess : List ℕ → Stack → State
+  AfterAccess : List ℕ → List ℕ → Stack → State
+  GlobalName : Space → Stack → State
+  AfterGlobalName : Space → List ℕ → Stack → State
+
+-- the first behind the second, turned round
+abbrev pub unwind_arguments : Arguments → Arguments → Arguments
+unwind_arguments NoArguments args = args
+unwind_arguments (Argument e done) args = unwind_arguments done (Argument e args)
+unwind_arguments (NumberArgument n done) args = unwind_arguments done (NumberArgument n args)
+unwind_arguments (ZeroArgument done) args = unwind_arguments done (ZeroArgument args)
+
+abbrev pub unwind_parts : TypeParts → TypeParts → TypeParts
+unwind_parts NoParts args = args
+unwind_parts (TypePart t done) args = unwind_parts done (TypePart t args)
+unwind_parts (SizePart n done) args = unwind_parts done (SizePart n args)
+
+abbrev pub unwind_statements : Statements → Statements → Statements
+unwind_statements NoStatements more = more
+unwind_statements (Then s done) more = unwind_statements done (Then s more)
+
+abbrev pub unwind_cases : Cases → Cases → Cases
+unwind_cases NoCases more = more
+unwind_cases (Case labels body done) more = unwind_cases done (Case labels body more)
+
+abbrev pub unwind_labels : List Label → Labels → Labels
+unwind_labels [] labels = labels
+unwind_labels (l ∷ done) labels = unwind_labels done (MoreLabels l labels)
+
+-- a statement has been read
+abbrev pub add_statement : Statement → Stack → State
+add_statement st (InStatements done s) = Want (InStatements (Then st done) s)
+add_statement st _ = Failed
+
+-- the first, turned round, in front of the second
+abbrev pub turned : {A : Type 0} → List A → List A → List A
+turned [] more = more
+turned (x ∷ done) more = turned done (x ∷ more)
+
+-- a function has been read; it is an entry point if it has attributes
+abbrev pub function_added : List Attribute → Function → Program → Program
+function_added [] f p = record p { functions = f ∷ p.functions }
+function_added (a ∷ attributes) f p = let e : EntryPoint = record { stage = a ∷ attributes; function = f } in record p { entry_points = e ∷ p.entry_points }
+
+abbrev pub add_function : Function → Stack → State
+add_function f (InProgram attributes p) = Want (InProgram [] (function_added (turned attributes []) f p))
+add_function f _ = Failed
+
+abbrev pub add_local : List ℕ → TypeSpecifier → Option Expression → Stack → State
+add_local w t value (InLocals f parameters result done s) =
+    let l : Local = record { name = w; type = t; value = value } in Want (InStatements NoStatements (InLocals f parameters result (l ∷ done) s))
+add_local w t value _ = Failed
+
+abbrev pub add_enable : List ℕ → Stack → State
+add_enable w (InProgram attributes p) = Want (InProgram [] (record p { enables = w ∷ p.enables }))
+add_enable w _ = Failed
+
+abbrev pub add_struct : List ℕ → List StructMember → Stack → State
+add_struct w members (InProgram attributes p) =
+    let d : Struct = record { name = w; members = members } in Want (InProgram [] (record p { structs = d ∷ p.structs }))
+add_struct w members _ = Failed
+
+abbrev pub add_constant : List ℕ → TypeSpecifier → Expression → Stack → State
+add_constant w t e (InProgram attributes p) =
+    let d : NamedConstant = record { name = w; type = t; value = e } in Want (InProgram [] (record p { constants = d ∷ p.constants }))
+add_constant w t e _ = Failed
+
+abbrev pub add_global : Space → List ℕ → TypeSpecifier → Option Expression → Stack → State
+add_global space w t value (InProgram attributes p) =
+    let d : Global = record { attributes = turned attributes []; space = space; name = w; type = t; value = value } in
+    Want (InProgram [] (record p { globals = d ∷ p.globals }))
+add_global space w t value _ = Failed
+
+abbrev pub add_override : List ℕ → TypeSpecifier → Option Expression → Stack → State
+add_override w t value (InProgram attributes p) =
+    let d : Override = record { attributes = turned attributes []; name = w; type = t; value = value } in
+    Want (InProgram [] (record p { overrides = d ∷ p.overrides }))
+add_override w t value _ = Failed
+
+-- an attribute has been read: of a declaration, a member, a parameter or a result
+abbrev pub add_attribute : Attribute → Stack → State
+add_attribute a (InProgram attributes p) = Want (InProgram (a ∷ attributes) p)
+add_attribute a (InMembers w done attributes s) = WantMemberName (InMembers w done (a ∷ attributes) s)
+add_attribute a (InParameters f done attributes s) = WantParameter (InParameters f done (a ∷ attributes) s)
+add_attribute a (InResult f parameters attributes s) = WantResult (InResult f parameters (a ∷ attributes) s)
+add_attribute a _ = Failed
+
+abbrev pub add_member : List ℕ → TypeSpecifier → Stack → State
+add_member w t (InMembers name done attributes s) =
+    let m : StructMember = record { attributes = turned attributes []; name = w; type = t } in WantMemberName (InMembers name (m ∷ done) [] s)
+add_member w t _ = Failed
+
+abbrev pub close_struct : Stack → State
+close_struct (InMembers w done attributes s) = add_struct w (turned done []) s
+close_struct _ = Failed
+
+-- a block of statements has been read
+abbrev pub close_block : Statements → Stack → State
+close_block body (InBlock s) = add_statement (Block body) s
+close_block body (InAccept e s) = add_statement (If e body NoStatements) s
+close_block body (InReject e accept s) = add_statement (If e accept body) s
+close_block body (InLoop s) = add_statement (Loop body NoStatements) s
+close_block body (InContinuing first s) = CloseOnce (Loop first body) s
+close_block body (InCase e done labels s) = AtCase e (Case labels body done) s
+close_block body (InLocals f parameters result locals s) =
+    add_function (record { name = f; parameters = parameters; result = result; locals = turned locals []; body = body }) s
+close_block body _ = Failed
+
+abbrev pub want_close_brace : Stack → State
+want_close_brace (InStatements done s) = close_block (unwind_statements done NoStatements) s
+want_close_brace _ = Failed
+
+abbrev pub want_semicolon : Stack → State
+want_semicolon (InReturn s) = add_statement Return s
+want_semicolon _ = Failed
+
+-- `else` behind an `if` that has been read without one
+abbrev pub else_of : Statements → Stack → State
+else_of (Then (If e accept NoStatements) done) s = WantBrace (InReject e accept (InStatements done s))
+else_of _ s = Failed
+
+abbrev pub want_else : Stack → State
+want_else (InStatements done s) = else_of done s
+want_else _ = Failed
+
+abbrev pub continuing_of : Statements → Stack → State
+continuing_of body (InLoop s) = WantBrace (InContinuing body s)
+continuing_of body _ = Failed
+
+abbrev pub want_continuing : Stack → State
+want_continuing (InStatements done s) = continuing_of (unwind_statements done NoStatements) s
+want_continuing _ = Failed
+
+abbrev pub want_var : Stack → State
+want_var (InStatements done s) = LocalName s
+want_var (InProgram attributes p) = AfterVar (InProgram attributes p)
+want_var _ = Failed
+
+-- a parenthesis opened where an expression is wanted: what stands in it
+abbrev pub want_star : Stack → State
+want_star (InParens s) = Want (InDeref s)
+want_star _ = Failed
+
+abbrev pub want_and : Stack → State
+want_and (InParens s) = Want (InAddress s)
+want_and _ = Failed
+
+-- the second sign of `>=` and `>>`
+abbrev pub want_equals : Stack → State
+want_equals (InRight a Greater s) = Want (InRight a GreaterEqual s)
+want_equals _ = Failed
+
+abbrev pub want_greater : Stack → State
+want_greater (InRight a Greater s) = Want (InRight a ShiftRight s)
+want_greater _ = Failed
+
+-- the end of an empty list of arguments
+abbrev pub want_close : Stack → State
+want_close (InArguments t done s) = Got (Call t (unwind_arguments done NoArguments)) s
+want_close _ = Failed
+
+abbrev pub want_mark : Mark → Stack → State
+want_mark OpenParen s = Want (InParens s)
+want_mark CloseParen s = want_close s
+want_mark Minus s = WantOperand Negate s
+want_mark Not s = WantOperand LogicalNot s
+want_mark Tilde s = WantOperand BitwiseNot s
+want_mark Star s = want_star s
+want_mark Ampersand s = want_and s
+want_mark Equals s = want_equals s
+want_mark GreaterThan s = want_greater s
+want_mark KeywordTrue s = Got (Constant (Truth true)) s
+want_mark KeywordFalse s = Got (Constant (Truth false)) s
+want_mark Semicolon s = want_semicolon s
+want_mark OpenBrace s = Want (InStatements NoStatements (InBlock s))
+want_mark CloseBrace s = want_close_brace s
+want_mark KeywordLet s = LetName s
+want_mark KeywordVar s = want_var s
+want_mark KeywordReturn s = Want (InReturn s)
+want_mark KeywordIf s = Want (InCondition s)
+want_mark KeywordElse s = want_else s
+want_mark KeywordLoop s = WantBrace (InLoop s)
+want_mark KeywordContinuing s = want_continuing s
+want_mark KeywordBreak s = AfterBreak s
+want_mark KeywordContinue s = WantEnd Continue s
+want_mark KeywordDiscard s = WantEnd Discard s
+want_mark KeywordSwitch s = Want (InSelector s)
+want_mark KeywordFn s = FunctionName s
+want_mark At s = AttributeName s
+want_mark KeywordEnable s = EnableName s
+want_mark KeywordOverride s = OverrideName s
+want_mark KeywordStruct s = StructName s
+want_mark KeywordConst s = ConstantName s
+want_mark _ s = Failed
+
+-- a number without a suffix stands in an index or among arguments
+abbrev pub want_plain : Bool → ℕ → Stack → State
+want_plain negative n (InIndex e s) = GotIndex e n s
+want_plain negative n (InArguments t done s) = GotNumberArgument t done negative n s
+want_plain negative n _ = Failed
+
+abbrev pub want_number : Suffix → Bool → ℕ → Stack → State
+want_number NoSuffix negative n s = want_plain negative n s
+want_number suffix negative n s = Got (Constant (Suffixed negative n suffix)) s
+
+abbrev pub want_zero : Stack → State
+want_zero (InArguments t done s) = AfterArgument t (ZeroArgument done) s
+want_zero _ = Failed
+
+abbrev pub want : Token → Stack → State
+want (Fixed m) s = want_mark m s
+want (Word w) s = Got (Name w) s
+want (Number negative n suffix) s = want_number suffix negative n s
+want ZeroPointZero s = want_zero s
+want (Foreign b) s = Failed
+
+abbrev pub after_argument_mark : Mark → TypeSpecifier → Arguments → Stack → State
+after_argument_mark Comma t done s = Want (InArguments t done s)
+after_argument_mark CloseParen t done s = Got (Call t (unwind_arguments done NoArguments)) s
+after_argument_mark _ t done s = Failed
+
+abbrev pub got_close : Expression → Stack → State
+got_close e (InParens s) = Got e s
+got_close e (InRight a op s) = Got (Binary a op e) s
+got_close e (InUnary op s) = Got (Unary op e) s
+got_close e (InAddress s) = Got (AddressOf e) s
+got_close e (InDeref s) = Got (Dereference e) s
+got_close e (InArguments t done s) = after_argument_mark CloseParen t (Argument e done) s
+got_close e _ = Failed
+
+abbrev pub got_comma : Expression → Stack → State
+got_comma e (InArguments t done s) = after_argument_mark Comma t (Argument e done) s
+got_comma e _ = Failed
+
+abbrev pub got_close_bracket : Expression → Stack → State
+got_close_bracket i (InIndex e s) = Got (Index e i) s
+got_close_bracket i _ = Failed
+
+abbrev pub got_operator : BinaryOperator → Expression → Stack → State
+got_operator op a (InParens s) = Want (InRight a op s)
+got_operator op a _ = Failed
+
+-- arguments follow a word
+abbrev pub got_open : Expression → Stack → State
+got_open (Name w) s = Want (InArguments (Named w) NoArguments s)
+got_open _ s = Failed
+
+-- Is this the word of a type, or of a call that takes a type?
+abbrev pub got_less : (List ℕ → Bool) → Expression → Stack → State
+got_less takes_types (Name w) s = cond (takes_types w) (WantType (InTemplate w NoParts (InCallee s))) (got_operator Less (Name w) s)
+got_less takes_types e s = got_operator Less e s
+
+abbrev pub call_statement : Expression → Statements → Stack → State
+call_statement (Call t args) done s = Want (InStatements (Then (CallStatement t args) done) s)
+call_statement _ done s = Failed
+
+abbrev pub break_if_in : Expression → Statements → Stack → State
+break_if_in e rest (InContinuing body s) = CloseTwice (LoopBreakIf body rest e) s
+break_if_in e rest _ = Failed
+
+abbrev pub break_if : Expression → Stack → State
+break_if e (InStatements done s) = break_if_in e (unwind_statements done NoStatements) s
+break_if e _ = Failed
+
+abbrev pub got_semicolon : Expression → Stack → State
+got_semicolon e (InLet w s) = add_statement (Let w e) s
+got_semicolon e (InTypedLet w t s) = add_statement (TypedLet w t e) s
+got_semicolon e (InAssign a s) = add_statement (Assign a e) s
+got_semicolon e (InReturn s) = add_statement (ReturnValue e) s
+got_semicolon e (InStatements done s) = call_statement e done s
+got_semicolon e (InBreakIf s) = break_if e s
+got_semicolon e (InLocalValue w t s) = add_local w t (Some e) s
+got_semicolon e (InConstant w t s) = add_constant w t e s
+got_semicolon e (InOverride w t s) = add_override w t (Some e) s
+got_semicolon e (InGlobal space w t s) = add_global space w t (Some e) s
+got_semicolon e _ = Failed
+
+abbrev pub got_equals : Expression → Stack → State
+got_equals e (InStatements done s) = Want (InAssign e (InStatements done s))
+got_equals e _ = Failed
+
+abbrev pub got_open_brace : Expression → Stack → State
+got_open_brace e (InCondition s) = Want (InStatements NoStatements (InAccept e s))
+got_open_brace e (InSelector s) = AtCase e NoCases s
+got_open_brace e _ = Failed
+
+abbrev pub got_mark : (List ℕ → Bool) → Mark → Expression → Stack → State
+got_mark b CloseParen e s = got_close e s
+got_mark b CloseBracket e s = got_close_bracket e s
+got_mark b Comma e s = got_comma e s
+got_mark b Dot e s = WantMember e s
+got_mark b OpenBracket e s = Want (InIndex e s)
+got_mark b OpenParen e s = got_open e s
+got_mark b Semicolon e s = got_semicolon e s
+got_mark b Equals e s = got_equals e s
+got_mark b OpenBrace e s = got_open_brace e s
+got_mark b Plus e s = got_operator Add e s
+got_mark b Minus e s = got_operator Subtract e s
+got_mark b Star e s = got_operator Multiply e s
+got_mark b Slash e s = got_operator Divide e s
+got_mark b Percent e s = got_operator Modulo e s
+got_mark b EqualsEquals e s = got_operator Equal e s
+got_mark b NotEquals e s = got_operator NotEqual e s
+got_mark b LessThan e s = got_less b e s
+got_mark b LessEquals e s = got_operator LessEqual e s
+got_mark b GreaterThan e s = got_operator Greater e s
+got_mark b Ampersand e s = got_operator And e s
+got_mark b Caret e s = got_operator ExclusiveOr e s
+got_mark b Bar e s = got_operator InclusiveOr e s
+got_mark b AndAnd e s = got_operator LogicalAnd e s
+got_mark b BarBar e s = got_operator LogicalOr e s
+got_mark b LessLess e s = got_operator ShiftLeft e s
+got_mark b _ e s = Failed
+
+abbrev pub want_operand : Mark → UnaryOperator → Stack → State
+want_operand OpenParen op s = Want (InUnary op s)
+want_operand _ op s = Failed
+
+abbrev pub got_index : Mark → Expression → ℕ → Stack → State
+got_index CloseBracket e n s = Got (IndexAt e n) s
+got_index _ e n s = Failed
+
+-- a plain number alone in parentheses is a literal, and with more behind it an argument
+abbrev pub wrapped_literal : List ℕ → Bool → ℕ → Literal
+wrapped_literal w negative n = cond (bytes_eq (codes "i16") w) (SignedShort negative n) (cond (bytes_eq (codes "u16") w) (UnsignedShort n) LeastInteger)
+
+abbrev pub wrapped : TypeSpecifier → Bool → ℕ → Stack → State
+wrapped (Named w) negative n s = Got (Constant (wrapped_literal w negative n)) s
+wrapped (Template w args) negative n s = Failed
+
+abbrev pub close_number : Arguments → TypeSpecifier → Bool → ℕ → Stack → State
+close_number NoArguments t negative n s = wrapped t negative n s
+close_number done t negative n s = Got (Call t (unwind_arguments done (NumberArgument n NoArguments))) s
+
+abbrev pub got_number_argument : Mark → TypeSpecifier → Arguments → Bool → ℕ → Stack → State
+got_number_argument Comma t done negative n s = Want (InArguments t (NumberArgument n done) s)
+got_number_argument CloseParen t done negative n s = close_number done t negative n s
+got_number_argument Minus t done negative n s = InLeastLong s
+got_number_argument _ t done negative n s = Failed
+
+abbrev pub in_least_long : Token → Stack → State
+in_least_long (Number negative n suffix) s = InLeastLong s
+in_least_long (Fixed CloseParen) s = Got (Constant LeastLong) s
+in_least_long _ s = Failed
+
+abbrev pub after_part : Mark → List ℕ → TypeParts → Stack → State
+after_part Comma w done s = WantType (InTemplate w done s)
+after_part GreaterThan w done s = GotType (Template w (unwind_parts done NoParts)) s
+after_part _ w done s = Failed
+
+abbrev pub want_size : ℕ → Stack → State
+want_size n (InTemplate w done s) = AfterPart w (SizePart n done) s
+want_size n _ = Failed
+
+abbrev pub want_type_greater : Stack → State
+want_type_greater (InTemplate w done s) = GotType (Template w (unwind_parts done NoParts)) s
+want_type_greater _ = Failed
+
+abbrev pub want_type : Token → Stack → State
+want_type (Word w) s = GotType (Named w) s
+want_type (Number negative n suffix) s = want_size n s
+want_type (Fixed GreaterThan) s = want_type_greater s
+want_type _ s = Failed
+
+abbrev pub got_type_less : TypeSpecifier → Stack → State
+got_type_less (Named w) s = WantType (InTemplate w NoParts s)
+got_type_less _ s = Failed
+
+abbrev pub got_type_open : TypeSpecifier → Stack → State
+got_type_open t (InCallee s) = Want (InArguments t NoArguments s)
+got_type_open t _ = Failed
+
+abbrev pub add_parameter : List ℕ → TypeSpecifier → Stack → Stack
+add_parameter w t (InParameters f done attributes s) =
+    let p : Parameter = record { attributes = turned attributes []; name = w; type = t } in InParameters f (p ∷ done) [] s
+add_parameter w t s = s
+
+abbrev pub close_parameters : Stack → State
+close_parameters (InParameters f done attributes s) = AfterParameters f (turned done []) s
+close_parameters _ = Failed
+
+abbrev pub after_parameter : Mark → Stack → State
+after_parameter Comma s = WantParameter s
+after_parameter CloseParen s = close_parameters s
+after_parameter _ s = Failed
+
+abbrev pub after_local_type : Mark → List ℕ → TypeSpecifier → Stack → State
+after_local_type Semicolon w t s = add_local w t None s
+after_local_type Equals w t s = Want (InLocalValue w t s)
+after_local_type _ w t s = Failed
+
+abbrev pub after_override_type : Mark → List ℕ → TypeSpecifier → Stack → State
+after_override_type Semicolon w t s = add_override w t None s
+after_override_type Equals w t s = Want (InOverride w t s)
+after_override_type _ w t s = Failed
+
+abbrev pub after_global_type : Mark → Space → List ℕ → TypeSpecifier → Stack → State
+after_global_type Semicolon space w t s = add_global space w t None s
+after_global_type Equals space w t s = Want (InGlobal space w t s)
+after_global_type _ space w t s = Failed
+
+abbrev pub got_type_in : Mark → TypeSpecifier → Stack → State
+got_type_in m t (InTemplate w done s) = after_part m w (TypePart t done) s
+got_type_in m t (InLetType w s) = Want (InTypedLet w t s)
+got_type_in m t (InParameterType f done attributes w s) = after_parameter m (add_parameter w t (InParameters f done attributes s))
+got_type_in m t (InResult f parameters attributes s) = Want (InStatements NoStatements (InLocals f parameters (ResultOf (turned attributes []) t) [] s))
+got_type_in m t (InLocalType w s) = after_local_type m w t s
+got_type_in m t (InMemberType w s) = add_member w t s
+got_type_in m t (InConstantType w s) = Want (InConstant w t s)
+got_type_in m t (InOverrideType w s) = after_override_type m w t s
+got_type_in m t (InGlobalType space w s) = after_global_type m space w t s
+got_type_in m t _ = Failed
+
+abbrev pub got_type : Mark → TypeSpecifier → Stack → State
+got_type LessThan t s = got_type_less t s
+got_type OpenParen t s = got_type_open t s
+got_type m t s = got_type_in m t s
+
+-- a state that goes on at a sign alone
+abbrev pub at_mark : (Mark → State) → Token → State
+at_mark f (Fixed m) = f m
+at_mark f _ = Failed
+
+abbrev pub want_member : Token → Expression → Stack → State
+want_member (Word w) e s = Got (Member e w) s
+want_member _ e s = Failed
+
+abbrev pub let_name : Token → Stack → State
+let_name (Word w) s = AfterLetName w s
+let_name _ s = Failed
+
+abbrev pub after_let_name : Mark → List ℕ → Stack → State
+after_let_name Colon w s = WantType (InLetType w s)
+after_let_name Equals w s = Want (InLet w s)
+after_let_name _ w s = Failed
+
+abbrev pub want_brace : Mark → Stack → State
+want_brace OpenBrace s = Want (InStatements NoStatements s)
+want_brace _ s = Failed
+
+abbrev pub want_end : Mark → Statement → Stack → State
+want_end Semicolon st s = add_statement st s
+want_end _ st s = Failed
+
+abbrev pub after_break : Mark → Stack → State
+after_break Semicolon s = add_statement Break s
+after_break KeywordIf s = Want (InBreakIf s)
+after_break _ s = Failed
+
+abbrev pub at_case : Mark → Expression → Cases → Stack → State
+at_case KeywordCase e done s = WantLabel e done [] s
+at_case KeywordDefault e done s = AfterLabel e done [] DefaultLabel s
+at_case CloseBrace e done s = add_statement (Switch e (unwind_cases done NoCases)) s
+at_case _ e done s = Failed
+
+abbrev pub number_label : Suffix → Bool → ℕ → Label
+number_label SuffixU negative n = UnsignedLabel n
+number_label _ negative n = SignedLabel negative n
+
+abbrev pub want_label : Token → Expression → Cases → List Label → Stack → State
+want_label (Fixed KeywordDefault) e done labels s = AfterLabel e done labels DefaultLabel s
+want_label (Number negative n suffix) e done labels s = AfterLabel e done labels (number_label suffix negative n) s
+want_label _ e done labels s = Failed
+
+abbrev pub after_label : Mark → Expression → Cases → List Label → Label → Stack → State
+after_label Comma e done labels l s = WantLabel e done (l ∷ labels) s
+after_label Colon e done labels l s = WantBrace (InCase e done (unwind_labels labels (LastLabel l)) s)
+after_label _ e done labels l s = Failed
+
+abbrev pub after_parameters : Mark → List ℕ → List Parameter → Stack → State
+after_parameters OpenBrace f ps s = Want (InStatements NoStatements (InLocals f ps NoResult [] s))
+after_parameters Minus f ps s = AfterParameters f ps s
+after_parameters GreaterThan f ps s = WantResult (InResult f ps [] s)
+after_parameters _ f ps s = Failed
+
+abbrev pub after_parameter_name : List ℕ → Stack → State
+after_parameter_name w (InParameters f done attributes s) = WantType (InParameterType f done attributes w s)
+after_parameter_name w _ = Failed
+
+abbrev pub want_parameter : Token → Stack → State
+want_parameter (Word w) s = AfterParameterName w s
+want_parameter (Fixed At) s = AttributeName s
+want_parameter (Fixed CloseParen) s = close_parameters s
+want_parameter _ s = Failed
+
+abbrev pub want_result : Token → Stack → State
+want_result (Fixed At) s = AttributeName s
+want_result t s = want_type t s
+
+-- the attribute of a word
+abbrev pub plain_among : List PlainAttribute → List ℕ → AttributeKind → AttributeKind
+plain_among [] w other = other
+plain_among (a ∷ more) w other = cond (bytes_eq (plain_attribute_word a) w) (PlainKind a) (plain_among more w other)
+
+abbrev pub numbered_among : List NumberedAttribute → List ℕ → AttributeKind → AttributeKind
+numbered_among [] w other = other
+numbered_among (a ∷ more) w other = cond (bytes_eq (numbered_attribute_word a) w) (NumberedKind a) (numbered_among more w other)
+
+abbrev pub worded_among : List WordedAttribute → List ℕ → AttributeKind → AttributeKind
+worded_among [] w other = other
+worded_among (a ∷ more) w other = cond (bytes_eq (worded_attribute_word a) w) (WordedKind a) (worded_among more w other)
+
+abbrev pub kind_of : List ℕ → AttributeKind
+kind_of w =
+    plain_among (Invariant ∷ PerPrimitive ∷ Coherent ∷ Volatile ∷ Vertex ∷ Fragment ∷ Compute ∷ Task ∷ RayGeneration ∷ AnyHit ∷ ClosestHit ∷ Miss ∷ []) w
+    (numbered_among (Location ∷ BlendSource ∷ Id ∷ Group ∷ Binding ∷ Size ∷ Align ∷ []) w
+    (worded_among (Builtin ∷ Interpolate ∷ Mesh ∷ Payload ∷ IncomingPayload ∷ []) w
+    (cond (bytes_eq (codes "workgroup_size") w) SizeKind NoKind)))
+
+abbrev pub attribute_named : AttributeKind → Stack → State
+attribute_named (PlainKind a) s = add_attribute (Plain a) s
+attribute_named kind s = AttributeOpen kind s
+
+abbrev pub attribute_name : Token → Stack → State
+attribute_name (Word w) s = attribute_named (kind_of w) s
+attribute_name _ s = Failed
+
+abbrev pub want_attribute_part : Token → AttributeKind → List AttributePart → Stack → State
+want_attribute_part (Word w) kind done s = AfterAttributePart kind (WordPart w ∷ done) s
+want_attribute_part (Number negative n suffix) kind done s = AfterAttributePart kind (NumberPart n ∷ done) s
+want_attribute_part _ kind done s = Failed
+
+-- an attribute of these parts, the newest first
+abbrev pub close_attribute : AttributeKind → List AttributePart → Stack → State
+close_attribute (NumberedKind a) (NumberPart n ∷ []) s = add_attribute (Numbered a n) s
+close_attribute (WordedKind a) (WordPart w ∷ []) s = add_attribute (Worded a w) s
+close_attribute (WordedKind a) (WordPart v ∷ WordPart w ∷ []) s = add_attribute (Interpolated w v) s
+close_attribute SizeKind (NumberPart z ∷ NumberPart y ∷ NumberPart x ∷ []) s = add_attribute (WorkgroupSize x y z) s
+close_attribute kind parts s = Failed
+
+abbrev pub after_attribute_part : Mark → AttributeKind → List AttributePart → Stack → State
+after_attribute_part Comma kind done s = WantAttributePart kind done s
+after_attribute_part CloseParen kind done s = close_attribute kind done s
+after_attribute_part _ kind done s = Failed
+
+-- the word that is read next, and nothing else
+abbrev pub at_word : (List ℕ → State) → Token → State
+at_word f (Word w) = f w
+at_word f _ = Failed
+
+abbrev pub want_member_name : Token → Stack → State
+want_member_name (Word w) s = AfterMemberName w s
+want_member_name (Fixed At) s = AttributeName s
+want_member_name (Fixed CloseBrace) s = close_struct s
+want_member_name _ s = Failed
+
+abbrev pub after_var : Token → Stack → State
+after_var (Word w) s = AfterGlobalName NoSpace w s
+after_var (Fixed LessThan) s = WantSpace s
+after_var _ s = Failed
+
+abbrev pub after_space : Mark → List ℕ → Stack → State
+after_space Comma a s = WantAccess a s
+after_space GreaterThan a s = GlobalName (SpaceAlone a) s
+after_space _ a s = Failed
+
+-- takes_types: is this the word of a type, or of a call that takes a type?
+abbrev pub step : (List ℕ → Bool) → State → Token → State
+step takes_types Failed t = Failed
+step takes_types (Want s) t = want t s
+step takes_types (Got e s) t = at_mark (λ m. got_mark takes_types m e s) t
+step takes_types (WantOperand op s) t = at_mark (λ m. want_operand m op s) t
+step takes_types (WantMember e s) t = want_member t e s
+step takes_types (GotIndex e n s) t = at_mark (λ m. got_index m e n s) t
+step takes_types (GotNumberArgument c done negative n s) t = at_mark (λ m. got_number_argument m c done negative n s) t
+step takes_types (AfterArgument c done s) t = at_mark (λ m. after_argument_mark m c done s) t
+step takes_types (InLeastLong s) t = in_least_long t s
+step takes_types (WantType s) t = want_type t s
+step takes_types (GotType c s) t = at_mark (λ m. got_type m c s) t
+step takes_types (AfterPart w done s) t = at_mark (λ m. after_part m w done s) t
+step takes_types (LetName s) t = let_name t s
+step takes_types (AfterLetName w s) t = at_mark (λ m. after_let_name m w s) t
+step takes_types (WantBrace s) t = at_mark (λ m. want_brace m s) t
+step takes_types (WantEnd st s) t = at_mark (λ m. want_end m st s) t
+step takes_types (AfterBreak s) t = at_mark (λ m. after_break m s) t
+step takes_types (CloseTwice st s) t = CloseOnce st s
+step takes_types (CloseOnce st s) t = add_statement st s
+step takes_types (AtCase e done s) t = at_mark (λ m. at_case m e done s) t
+step takes_types (WantLabel e done labels s) t = want_label t e done labels s
+step takes_types (AfterLabel e done labels l s) t = at_mark (λ m. after_label m e done labels l s) t
+step takes_types (FunctionName s) t = at_word (λ w. AfterFunctionName w s) t
+step takes_types (AfterFunctionName w s) t = WantParameter (InParameters w [] [] s)
+step takes_types (WantParameter s) t = want_parameter t s
+step takes_types (AfterParameterName w s) t = after_parameter_name w s
+step takes_types (AfterParameters f parameters s) t = at_mark (λ m. after_parameters m f parameters s) t
+step takes_types (WantResult s) t = want_result t s
+step takes_types (LocalName s) t = at_word (λ w. AfterLocalName w s) t
+step takes_types (AfterLocalName w s) t = WantType (InLocalType w s)
+step takes_types (AttributeName s) t = attribute_name t s
+step takes_types (AttributeOpen kind s) t = WantAttributePart kind [] s
+step takes_types (WantAttributePart kind done s) t = want_attribute_part t kind done s
+step takes_types (AfterAttributePart kind done s) t = at_mark (λ m. after_attribute_part m kind done s) t
+step takes_types (EnableName s) t = at_word (λ w. AfterEnable w s) t
+step takes_types (AfterEnable w s) t = add_enable w s
+step takes_types (StructName s) t = at_word (λ w. AfterStructName w s) t
+step takes_types (AfterStructName w s) t = WantMemberName (InMembers w [] [] s)
+step takes_types (WantMemberName s) t = want_member_name t s
+step takes_types (AfterMemberName w s) t = WantType (InMemberType w s)
+step takes_types (ConstantName s) t = at_word (λ w. AfterConstantName w s) t
+step takes_types (AfterConstantName w s) t = WantType (InConstantType w s)
+step takes_types (OverrideName s) t = at_word (λ w. AfterOverrideName w s) t
+step takes_types (AfterOverrideName w s) t = WantType (InOverrideType w s)
+step takes_types (AfterVar s) t = after_var t s
+step takes_types (WantSpace s) t = at_word (λ a. AfterSpace a s) t
+step takes_types (AfterSpace a s) t = at_mark (λ m. after_space m a s) t
+step takes_types (WantAccess a s) t = at_word (λ m. AfterAccess a m s) t
+step takes_types (AfterAccess a m s) t = GlobalName (SpaceAndAccess a m) s
+step takes_types (GlobalName space s) t = at_word (λ w. AfterGlobalName space w s) t
+step takes_types (AfterGlobalName space w s) t = WantType (InGlobalType space w s)
+
+abbrev pub run : (List ℕ → Bool) → List Piece → State → State
+run takes_types [] state = state
+run takes_types (TokenPiece t ∷ pieces) state = run takes_types pieces (step takes_types state t)
+run takes_types (Blank ∷ pieces) state = run takes_types pieces state
+run takes_types (LineEnd ∷ pieces) state = run takes_types pieces state
+run takes_types (Indent n ∷ pieces) state = run takes_types pieces state

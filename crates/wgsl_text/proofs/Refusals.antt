@@ -1,0 +1,118 @@
+-- The machine shows which texts have no reading.
+use Rattle.std.proofs.Common.{◌≡◌, Bool, true, false, List, [], ◌∷◌, length, refl, sym, ap, subst, ◌∙◌, arith}
+use Rattle.std.specs.Prelude.{codes, ◌==◌, ◌<◌, ◌^◌}
+use Rattle.std.proofs.lemmas.Bool.{false≢true}
+use Rattle.wgsl_text.specs.Token.{Token, SuffixI, SuffixU}
+use Rattle.wgsl_text.specs.Words.{is_reserved, is_builtin}
+use Rattle.wgsl_text.specs.Tree.{TypeSpecifier, Expression, Program, Named, Template, TypePart, NoParts, Name, Call, Argument, NoArguments, NumberArgument, Member, Unary, Negate, Constant, Suffixed}
+use Rattle.wgsl_text.specs.Tree.{no_declarations, NoResult, Plain, Compute, Worded, Builtin}
+use Rattle.wgsl_text.specs.Examples.{named, parameter, function, of_functions}
+use Rattle.wgsl_text.specs.Reading.{ReadsType, ReadsExpression, Reads}
+use Rattle.wgsl_text.specs.Refused.{Refused, IsNoExpression}
+use Rattle.wgsl_text.proofs.Machine.{State, Want, WantType, Got, GotType, Bottom, InProgram}
+use Rattle.wgsl_text.proofs.DeclarationRuns.{newest_first, newest_twice}
+use Rattle.wgsl_text.proofs.OneReading.{read, type_read, expression_read, program_read}
+
+abbrev is_type : State → Bool
+is_type (GotType t Bottom) = true
+is_type _ = false
+
+abbrev is_expression : State → Bool
+is_expression (Got e Bottom) = true
+is_expression _ = false
+
+abbrev is_program : State → Bool
+is_program (Want (InProgram [] p)) = true
+is_program _ = false
+
+-- Where the machine stops elsewhere, nothing is read.
+no_type : (ts : List Token) → is_type (read ts (WantType Bottom)) ≡ false → (t : TypeSpecifier) → ReadsType ts t → ⊥
+no_type ts stops t r = false≢true (sym stops ∙ ap is_type (type_read t r))
+
+no_expression : (ts : List Token) → is_expression (read ts (Want Bottom)) ≡ false → (e : Expression) → ReadsExpression ts e → ⊥
+no_expression ts stops e r = false≢true (sym stops ∙ ap is_expression (expression_read e r))
+
+no_program : (ts : List Token) → is_program (read ts (Want (InProgram [] no_declarations))) ≡ false → (p : Program) → Reads ts p → ⊥
+no_program ts stops p r = false≢true (sym stops ∙ ap is_program (program_read p r))
+
+-- Where the machine finds a tree, no other is read.
+the_expression : (ts : List Token) (found e : Expression) → read ts (Want Bottom) ≡ Got found Bottom → ReadsExpression ts e → e ≡ found
+the_expression ts found e f r = same e found (read ts (Want Bottom)) (expression_read e r) f
+  where
+    same : (a b : Expression) (s : State) → s ≡ Got a Bottom → s ≡ Got b Bottom → a ≡ b
+    same a b s e f = cc
+
+found_expression : (ts : List Token) (found : Expression) → read ts (Want Bottom) ≡ Got found Bottom → (ReadsExpression ts found → ⊥) → (e : Expression) → ReadsExpression ts e → ⊥
+found_expression ts found f refused e r = refused (subst (ReadsExpression ts) (the_expression ts found e f r) r)
+
+found_type : (ts : List Token) (found : TypeSpecifier) → read ts (WantType Bottom) ≡ GotType found Bottom → (ReadsType ts found → ⊥) → (t : TypeSpecifier) → ReadsType ts t → ⊥
+found_type ts found f refused t r = refused (subst (ReadsType ts) (same t found (read ts (WantType Bottom)) (type_read t r) f) r)
+  where
+    same : (a b : TypeSpecifier) (s : State) → s ≡ GotType a Bottom → s ≡ GotType b Bottom → a ≡ b
+    same a b s e f = cc
+
+found_program : (ts : List Token) (found : Program) → read ts (Want (InProgram [] no_declarations)) ≡ Want (InProgram [] found) → (Reads ts (newest_first found) → ⊥) → (p : Program) → Reads ts p → ⊥
+found_program ts found f refused p r = refused (subst (Reads ts) (sym (newest_twice p) ∙ ap newest_first (same (newest_first p) found _ (program_read p r) f)) r)
+  where
+    same : (a b : Program) (s : State) → s ≡ Want (InProgram [] a) → s ≡ Want (InProgram [] b) → a ≡ b
+    same a b s e f = cc
+
+member_of_unary : IsNoExpression (codes "-(v).x")
+unfolding is_reserved is_builtin
+member_of_unary = found_expression _ (Member (Unary Negate (Name (codes "v"))) (codes "x")) refl (λ r. false≢true (ap (λ ts. length ts == 8) r.tokens))
+
+plain_number : IsNoExpression (codes "1")
+plain_number = no_expression _ refl
+
+plain_argument : IsNoExpression (codes "f(x, 1)")
+unfolding is_reserved is_builtin
+plain_argument = found_expression _ (Call (Named (codes "f")) (Argument (Name (codes "x")) (NumberArgument 1 NoArguments))) refl (λ r. false≢true r.form.2)
+
+open_binary : IsNoExpression (codes "a + b")
+unfolding is_reserved is_builtin
+open_binary = no_expression _ refl
+
+keyword_called : IsNoExpression (codes "fn(x)")
+unfolding is_reserved is_builtin
+keyword_called = no_expression _ refl
+
+reserved_called : IsNoExpression (codes "while(x)")
+unfolding is_reserved is_builtin
+reserved_called = found_expression _ (Call (Named (codes "while")) (Argument (Name (codes "x")) NoArguments)) refl (λ r. false≢true (sym r.form.0.free))
+
+builtin_name : IsNoExpression (codes "f32")
+unfolding is_reserved is_builtin
+builtin_name = found_expression _ (Name (codes "f32")) refl (λ r. false≢true (sym r.form.own))
+
+abbrev reserved_parameter_tree : Program
+reserved_parameter_tree = of_functions (function "f" (parameter "self" (named "i32") ∷ []) NoResult [] [] ∷ [])
+
+abbrev unknown_builtin_value_tree : Program
+unknown_builtin_value_tree = of_functions (function "f" (record { attributes = Worded Builtin (codes "colour") ∷ []; name = codes "x"; type = named "i32" } ∷ []) NoResult [] [] ∷ [])
+
+abbrev stage_without_size_tree : Program
+stage_without_size_tree = record no_declarations {
+  entry_points = record { stage = Plain Compute ∷ []; function = function "main" [] NoResult [] [] } ∷ [];
+}
+
+pub refused : Refused
+unfolding is_reserved is_builtin
+refused = record {
+  member_of_unary = member_of_unary;
+  plain_number = plain_number;
+  plain_argument = plain_argument;
+  open_binary = open_binary;
+  keyword_called = keyword_called;
+  reserved_called = reserved_called;
+  builtin_name = builtin_name;
+  negative_unsigned = found_expression _ (Constant (Suffixed true 5 SuffixU)) refl (λ r. r.form);
+  too_great = found_expression _ (Constant (Suffixed false 2147483648 SuffixI)) refl (λ r. let small : 2147483648 < 2 ^ 31 = r.form in omega arith);
+  half_type = no_type _ refl;
+  vector_of_vectors = found_type _ (Template (codes "vec3") (TypePart (Template (codes "vec3") (TypePart (Named (codes "f32")) NoParts)) NoParts)) refl (λ r. false≢true r.form.part.0);
+  keyword_function = no_program _ refl;
+  reserved_parameter = found_program _ reserved_parameter_tree refl (λ r. false≢true (sym r.form.functions.0.parameters.0.name.word.free));
+  cut = no_program _ refl;
+  break_if_first = no_program _ refl;
+  unknown_builtin_value = found_program _ unknown_builtin_value_tree refl (λ r. false≢true r.form.functions.0.parameters.0.attributes.0);
+  stage_without_size = found_program _ stage_without_size_tree refl (λ r. false≢true r.form.entry_points.0.stage);
+}

@@ -1,0 +1,5 @@
+use Rattle.wgsl_text.proofs.Refusals.{refused}
+use Rattle.wgsl_text.proofs.refused_texts.Goals as goal
+
+pub returns : goal.returns
+returns c = refused

@@ -1,0 +1,5 @@
+use Rattle.wgsl_text.proofs.RowText.{text-append}
+use Rattle.wgsl_text.proofs.text_of_appended.Goals as goal
+
+pub returns : goal.returns
+returns c = text-append

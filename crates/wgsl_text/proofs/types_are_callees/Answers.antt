@@ -1,0 +1,5 @@
+use Rattle.wgsl_text.proofs.WordLemmas.{type_called}
+use Rattle.wgsl_text.proofs.types_are_callees.Goals as goal
+
+pub returns : goal.returns
+returns c = type_called

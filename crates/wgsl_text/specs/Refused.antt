@@ -1,0 +1,42 @@
+-- Texts without a reading.
+use Rattle.std.specs.Prelude.{ℕ, List, ◌++◌, codes}
+use Rattle.wgsl_text.specs.Tree.{TypeSpecifier, Expression, Program}
+use Rattle.wgsl_text.specs.Reading.{ReadsType, ReadsExpression, Reads}
+use Rattle.wgsl_text.specs.Text.{tokens}
+
+abbrev pub IsNoType : List ℕ → Type 0
+IsNoType bytes = (t : TypeSpecifier) → ReadsType (tokens bytes) t → ⊥
+
+abbrev pub IsNoExpression : List ℕ → Type 0
+IsNoExpression bytes = (e : Expression) → ReadsExpression (tokens bytes) e → ⊥
+
+abbrev pub IsNoProgram : List ℕ → Type 0
+IsNoProgram bytes = (program : Program) → Reads (tokens bytes) program → ⊥
+
+pub record Refused : Type 0 where
+  -- a member of a unary expression that has no parentheses of its own
+  pub member_of_unary : IsNoExpression (codes "-(v).x")
+  -- a number without a suffix
+  pub plain_number : IsNoExpression (codes "1")
+  pub plain_argument : IsNoExpression (codes "f(x, 1)")
+  -- a binary expression without parentheses
+  pub open_binary : IsNoExpression (codes "a + b")
+  -- a reserved word as a name: a keyword of the grammar, and another
+  pub keyword_called : IsNoExpression (codes "fn(x)")
+  pub reserved_called : IsNoExpression (codes "while(x)")
+  -- a built-in word as a name
+  pub builtin_name : IsNoExpression (codes "f32")
+  pub negative_unsigned : IsNoExpression (codes "-5u")
+  pub too_great : IsNoExpression (codes "2147483648i")
+  pub half_type : IsNoType (codes "vec3<f32")
+  pub vector_of_vectors : IsNoType (codes "vec3<vec3<f32>>")
+  pub keyword_function : IsNoProgram (codes "fn fn(x: i32) {\n}\n\n")
+  pub reserved_parameter : IsNoProgram (codes "fn f(self: i32) {\n}\n\n")
+  -- a text that is cut in the middle
+  pub cut : IsNoProgram (codes "fn f(x: i32) -> i32 {\n    return x")
+  -- `break if` before another statement of `continuing`
+  pub break_if_first : IsNoProgram (
+      codes "fn f(c: bool) {\n    loop {\n        continuing {\n            break if c;\n            g();\n" ++
+      codes "        }\n    }\n}\n\n")
+  pub unknown_builtin_value : IsNoProgram (codes "fn f(@builtin(colour) x: i32) {\n}\n\n")
+  pub stage_without_size : IsNoProgram (codes "@compute \nfn main() {\n}\n")

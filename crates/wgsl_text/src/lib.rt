@@ -1,0 +1,70 @@
+//! What WGSL text is: its tokens, its trees, and the layout of a tree. The public functions are laws.
+#![tactic(auto)]
+
+ghost use Rattle.std.specs.Prelude.{◌≡◌, ℕ, List, [], ◌∷◌, ◌++◌};
+ghost use Rattle.wgsl_text.specs.Examples.{WorkedPrograms};
+ghost use Rattle.wgsl_text.specs.Grammar.{IsType, IsCallee, IsExpression};
+ghost use Rattle.wgsl_text.specs.GrammarOfLines.{IsProgram};
+ghost use Rattle.wgsl_text.specs.LargeExamples.{LargePrograms};
+ghost use Rattle.wgsl_text.specs.Reading.{ReadsType, ReadsExpression, Reads, HasOneReading, type_layout, expression_layout, layout};
+ghost use Rattle.wgsl_text.specs.Refused.{Refused};
+ghost use Rattle.wgsl_text.specs.Rows.{TypeRows, OperatorRows, AccessRows, LineRows};
+ghost use Rattle.wgsl_text.specs.Spelling.{Spells, Begins};
+ghost use Rattle.wgsl_text.specs.Text.{text, tokens};
+ghost use Rattle.wgsl_text.specs.Token.{Piece, Token};
+ghost use Rattle.wgsl_text.specs.Tree.{TypeSpecifier, Expression, Program};
+
+/// The tokens of a text are those of its front, and then those of what stands behind it. The front is a blank, or
+/// the longest that spells a token, or a byte that begins none.
+pub fn longest_token()
+    ensures nothing { tokens [] ≡ [] }
+    ensures front { (b : ℕ) (bytes : List ℕ) → Begins b bytes }
+    ensures alone { (bytes : List ℕ) (t : Token) → Spells bytes t → tokens bytes ≡ t ∷ [] }
+{}
+
+/// The text of a type is read as that type and no other, and no tokens are read as two types.
+pub fn one_reading_of_a_type()
+    ensures layout { (t : TypeSpecifier) → IsType t → HasOneReading ReadsType (type_layout t) t }
+    ensures unique { (ts : List Token) (a b : TypeSpecifier) → ReadsType ts a → ReadsType ts b → a ≡ b }
+{}
+
+/// The text of an expression is read as that expression and no other, and no tokens are read as two expressions.
+pub fn one_reading_of_an_expression()
+    ensures layout { (e : Expression) → IsExpression e → HasOneReading ReadsExpression (expression_layout e) e }
+    ensures unique { (ts : List Token) (a b : Expression) → ReadsExpression ts a → ReadsExpression ts b → a ≡ b }
+{}
+
+/// The text of a program is read as that program and no other, and no tokens are read as two programs.
+pub fn one_reading_of_a_program()
+    ensures layout { (program : Program) → IsProgram program → HasOneReading Reads (layout program) program }
+    ensures unique { (ts : List Token) (a b : Program) → Reads ts a → Reads ts b → a ≡ b }
+{}
+
+/// What is a type may be called: a type's value is made by a call of it.
+pub fn types_are_callees()
+    ensures { (t : TypeSpecifier) → IsType t → IsCallee t }
+{}
+
+/// The text of appended pieces is the appended texts.
+pub fn text_of_appended()
+    ensures { (first second : List Piece) → text (first ++ second) ≡ text first ++ text second }
+{}
+
+/// The texts of worked programs, byte for byte.
+pub fn worked_programs()
+    ensures written_out { WorkedPrograms }
+    ensures large { LargePrograms }
+{}
+
+/// A text for each row of the grammar, byte for byte.
+pub fn row_texts()
+    ensures types { TypeRows }
+    ensures operators { OperatorRows }
+    ensures accesses { AccessRows }
+    ensures lines { LineRows }
+{}
+
+/// Texts that are no type, no expression or no program.
+pub fn refused_texts()
+    ensures { Refused }
+{}
