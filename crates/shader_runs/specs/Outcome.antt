@@ -1,7 +1,9 @@
 -- How a stretch of a run ends, for a run that carries some state of its own.
-use Rattle.std.specs.Prelude.{ℕ, zero, suc, Bool, true, false, List, Option, None}
-use Rattle.shader_runs.specs.World.{Value, Truth, Number, Pointer, Event}
+use Rattle.std.specs.Prelude.{ℕ, zero, suc, ℤ, Bool, true, false, List, Option, None}
+use Rattle.shader_runs.specs.Value.{Value, Truth, Whole, Pointer, Opaque}
+use Rattle.shader_runs.specs.World.{Event}
 
+-- why a run ends before its end: a wanted value is missing, a loop had its turns, a discard, or an answer of a wrong type
 pub data Stop : Type 0 where
   Stuck : Stop
   OutOfTurns : Stop
@@ -61,6 +63,14 @@ abbrev pub turns : {S : Type 0} → ℕ → Next S → Next S
 turns zero once s t = Stopped OutOfTurns t
 turns (suc n) once s t = and_again (once s t) (turns n once)
 
+-- a `break` in a case leaves the switch
+abbrev pub after_switch : {S : Type 0} → Outcome S → Outcome S
+after_switch (Done s t) = Done s t
+after_switch (Continued s t) = Continued s t
+after_switch (Broke s t) = Done s t
+after_switch (Returned v t) = Returned v t
+after_switch (Stopped x t) = Stopped x t
+
 -- what a block leaves to what follows it: the state from outside
 abbrev pub closed : {S : Type 0} → S → Outcome S → Outcome S
 closed s (Done _ t) = Done s t
@@ -77,8 +87,16 @@ closed_if false s o = o
 abbrev pub chosen : {S : Type 0} → Value → List Event → (accept reject : Outcome S) → Outcome S
 chosen (Truth true) t accept reject = accept
 chosen (Truth false) t accept reject = reject
-chosen (Number n) t accept reject = Stopped Stuck t
+chosen (Whole spelling z) t accept reject = Stopped Stuck t
 chosen (Pointer p) t accept reject = Stopped Stuck t
+chosen (Opaque spelling payload) t accept reject = Stopped Stuck t
+
+-- a switch goes on by an integer
+abbrev pub with_integer : {S : Type 0} → Value → List Event → (ℤ → Outcome S) → Outcome S
+with_integer (Whole spelling z) t go = go z
+with_integer (Truth b) t go = Stopped Stuck t
+with_integer (Pointer p) t go = Stopped Stuck t
+with_integer (Opaque spelling payload) t go = Stopped Stuck t
 
 -- what is reached after more events, or why nothing is
 pub data Reached (A : Type 0) : Type 0 where

@@ -1,12 +1,14 @@
--- A function's run by handles: an emitted expression is evaluated once, and its value kept.
-use Rattle.std.specs.Prelude.{ℕ, zero, suc, Bool, true, false, cond, nat_eq, List, [], ◌∷◌, length, Option, Some, None, ◌&&◌, slice_get}
-use Rattle.shader_runs.specs.World.{Place, Part, Kind, Flag, Count, Reference, has_kind, Value, Truth, Number, Pointer, Local_at, Event, Entry, Ask, Read, Write, entries, World, Meaning, update}
-use Rattle.shader_runs.specs.Outcome.{Stuck, Discarded, Mistyped, Outcome, Done, Continued, Broke, Returned, Stopped, Reached, Gives, Halts, answer, Next, and_then, turn, turns, chosen}
-use Rattle.shader_runs.specs.Program.{Expression, Literal, Argument, Local, Load, Operator, Access, And, Request, Result, Action, Asked, Called, Statement, Emit, Store, Block, If, Loop, Break, Continue, Return, Kill, Act, Statements, end, then, Function, expression_of, kind_of, operands_of, is_counted, from}
+-- A module's run by handles: an emitted expression is evaluated once, and its value kept.
+use Rattle.std.specs.Prelude.{ℕ, zero, suc, ℤ, pos, Bool, true, false, cond, nat_eq, List, [], ◌∷◌, ◌++◌, length, Option, Some, None, ◌&&◌, ◌||◌, slice_get, codes}
+use Rattle.shader_runs.specs.Value.{Bytes, same_integer, Place, Part, Rooted, GlobalRoot, LocalRoot, At, step_of, ValueType, BooleanType, IntegerType, PointerType, OtherType, has_type, has_types, Selector, Value, Truth, Whole, Pointer, Opaque, Word, Spelled, Selected, Indexed, Junction, junction_word, is_decided}
+use Rattle.shader_runs.specs.World.{Event, Entry, Ask, Read, Write, Discard, entries, World, Meaning, GlobalValue, Stored, Held, Environment, update}
+use Rattle.shader_runs.specs.Outcome.{Stuck, Discarded, Mistyped, Outcome, Done, Continued, Broke, Returned, Stopped, Reached, Gives, Halts, answer, Next, and_then, turn, turns, after_switch, chosen, with_integer}
+use Rattle.shader_runs.specs.Program.{ConstantTree, Fixed, NamedConstant, Constructed, ConstantTrees, no_constant, constant, Expression, Constant, Argument, Local, Global, Load, Operator, Access, Select, Junct, Request, Result, Action, Asked, Called, BarrierBits, Label, Numbered, Default, Statement, Emit, Store, Block, If, Switch, Loop, Break, Continue, Return, Kill, Barrier, Act, Statements, end, then, Cases, no_case, case, Function, argument_count, expression_of, handle_type, operands_of, is_counted, is_asked, from}
 
 -- one call of a function: frame is the number of entries before it, calls what its callees do
 pub record Call : Type 0 where
   pub function : Function
+  pub environment : Environment
   pub world : World
   pub meaning : Meaning
   pub arguments : List Value
@@ -16,34 +18,52 @@ pub record Call : Type 0 where
 abbrev pub Kept : Type 0
 Kept = ℕ → Option Value
 
--- what a use of a handle takes
-abbrev pub used_as : Call → Option Expression → Option Value → Option Value
-used_as c (Some (Literal n)) kept = Some (Number n)
-used_as c (Some (Argument i)) kept = slice_get c.arguments i
-used_as c (Some (Local i)) kept = Some (Pointer (Local_at c.frame i))
-used_as c (Some (Load p)) kept = kept
-used_as c (Some (Operator w xs)) kept = kept
-used_as c (Some (Access b i)) kept = kept
-used_as c (Some (And l r)) kept = kept
-used_as c (Some (Request w xs)) kept = kept
-used_as c (Some Result) kept = kept
-used_as c None kept = None
-
-abbrev pub used : Call → Kept → ℕ → Option Value
-used c kept h = used_as c (expression_of c.function h) (kept h)
-
 abbrev pub also : Option Value → Option (List Value) → Option (List Value)
 also None vs = None
 also (Some v) None = None
 also (Some v) (Some vs) = Some (v ∷ vs)
 
+abbrev pub applied : Meaning → Word → Option (List Value) → Option Value
+applied m w None = None
+applied m w (Some vs) = Some (m w vs)
+
+abbrev mutual
+  -- the value of a tree over constants alone
+  pub constant_value : Environment → Meaning → ConstantTree → Option Value
+  constant_value env m (Fixed v) = Some v
+  constant_value env m (NamedConstant i) = slice_get env.constants i
+  constant_value env m (Constructed w ty es) = applied m (Spelled w) (constant_values env m es)
+
+  pub constant_values : Environment → Meaning → ConstantTrees → Option (List Value)
+  constant_values env m no_constant = Some []
+  constant_values env m (constant e es) = also (constant_value env m e) (constant_values env m es)
+
+-- what a module-level variable's name gives: a pointer to it, or the value itself
+abbrev pub global_value : ℕ → Option GlobalValue → Option Value
+global_value i None = None
+global_value i (Some Stored) = Some (Pointer (Rooted (GlobalRoot i)))
+global_value i (Some (Held v)) = Some v
+
+-- what a use of a handle takes
+abbrev pub used_as : Call → Option Expression → Option Value → Option Value
+used_as c (Some (Constant e)) kept = constant_value c.environment c.meaning e
+used_as c (Some (Argument i)) kept = slice_get c.arguments i
+used_as c (Some (Local i)) kept = Some (Pointer (Rooted (LocalRoot c.frame i)))
+used_as c (Some (Global i)) kept = global_value i (slice_get c.environment.globals i)
+used_as c None kept = None
+used_as c _ kept = kept
+
+abbrev pub used : Call → Kept → ℕ → Option Value
+used c kept h = used_as c (expression_of c.function h) (kept h)
+
 abbrev pub used_all : Call → Kept → List ℕ → Option (List Value)
 used_all c kept [] = Some []
 used_all c kept (x ∷ xs) = also (used c kept x) (used_all c kept xs)
 
--- the word of an index into a value
-abbrev pub index_word : ℕ
-index_word = 0
+abbrev pub on_one : (Value → Option Value) → List Value → Option Value
+on_one f [] = None
+on_one f (x ∷ []) = f x
+on_one f (x ∷ y ∷ vs) = None
 
 abbrev pub on_two : (Value → Value → Option Value) → List Value → Option Value
 on_two f [] = None
@@ -51,41 +71,55 @@ on_two f (x ∷ []) = None
 on_two f (x ∷ y ∷ []) = f x y
 on_two f (x ∷ y ∷ z ∷ vs) = None
 
-abbrev pub part_of : Value → Value → Option Value
-part_of (Pointer p) (Number i) = Some (Pointer (Part p i))
-part_of _ _ = None
+-- an index through a pointer makes a pointer to the part; into another value it gives what the meaning says
+abbrev pub accessed : Meaning → Value → Value → Option Value
+accessed m (Pointer p) (Whole spelling z) = Some (Pointer (Part p (At z)))
+accessed m (Pointer p) (Truth b) = None
+accessed m (Pointer p) (Pointer q) = None
+accessed m (Pointer p) (Opaque spelling payload) = None
+accessed m v i = Some (m Indexed (v ∷ i ∷ []))
 
--- an index through a pointer, or into a value
-abbrev pub accessed : Kind → Meaning → Value → Value → Option Value
-accessed Reference m b i = part_of b i
-accessed Flag m b i = Some (m index_word (b ∷ i ∷ []))
-accessed Count m b i = Some (m index_word (b ∷ i ∷ []))
+abbrev pub selected : Meaning → Selector → Value → Option Value
+selected m x (Pointer p) = Some (Pointer (Part p (step_of x)))
+selected m x v = Some (m (Selected x) (v ∷ []))
 
-abbrev pub and_truths : Value → Value → Option Value
-and_truths (Truth a) (Truth b) = Some (Truth (a && b))
-and_truths _ _ = None
+-- whether the left side's value decides
+abbrev pub decides : Junction → Value → Bool
+decides j (Truth a) = is_decided j a
+decides j (Whole spelling z) = false
+decides j (Pointer p) = false
+decides j (Opaque spelling payload) = false
+
+-- where it doesn't: the right side's truth value, and what the meaning says of other values
+abbrev pub undecided : Meaning → Junction → Value → Value → Value
+undecided m j (Truth a) (Truth b) = Truth b
+undecided m j l r = m (Spelled (junction_word j)) (l ∷ r ∷ [])
+
+abbrev pub juncted : Meaning → Junction → Value → Value → Option Value
+juncted m j l r = Some (cond (decides j l) l (undecided m j l r))
 
 -- an operator's value at its operands' values
-abbrev pub combined : Function → Meaning → Option Expression → List Value → Option Value
-combined f m (Some (Operator w xs)) vs = Some (m w vs)
-combined f m (Some (Access b i)) vs = on_two (accessed (kind_of f b) m) vs
-combined f m (Some (And l r)) vs = on_two and_truths vs
-combined f m _ vs = None
+abbrev pub combined : Meaning → Option Expression → List Value → Option Value
+combined m (Some (Operator w xs)) vs = Some (m (Spelled w) vs)
+combined m (Some (Access b i)) vs = on_two (accessed m) vs
+combined m (Some (Select x b)) vs = on_one (selected m x) vs
+combined m (Some (Junct j l r)) vs = on_two (juncted m j) vs
+combined m _ vs = None
 
-abbrev pub gathered : Function → Meaning → Option Expression → Option (List Value) → Option Value
-gathered f m e None = None
-gathered f m e (Some vs) = combined f m e vs
+abbrev pub gathered : Meaning → Option Expression → Option (List Value) → Option Value
+gathered m e None = None
+gathered m e (Some vs) = combined m e vs
 
 abbrev pub computed : Call → Kept → Option Expression → Option Value
-computed c kept e = gathered c.function c.meaning e (used_all c kept (operands_of e))
+computed c kept e = gathered c.meaning e (used_all c kept (operands_of e))
 
 -- an answer of another type than the module's
 abbrev pub if_typed : {S : Type 0} → Bool → List Event → Outcome S → Outcome S
 if_typed true t o = o
 if_typed false t o = Stopped Mistyped t
 
-abbrev pub keep_typed : Kind → ℕ → Value → Next Kept
-keep_typed k h v kept t = if_typed (has_kind k v) t (Done (update kept h (Some v)) t)
+abbrev pub keep_typed : ValueType → ℕ → Value → Next Kept
+keep_typed k h v kept t = if_typed (has_type k v) t (Done (update kept h (Some v)) t)
 
 -- goes on with a value, or is stuck
 abbrev pub with_used : {S : Type 0} → Option Value → List Event → (Value → Outcome S) → Outcome S
@@ -93,27 +127,29 @@ with_used None t go = Stopped Stuck t
 with_used (Some v) t go = go v
 
 -- a handle without its pointer's value gets none
-abbrev pub loaded : Kind → World → ℕ → Option Value → Next Kept
+abbrev pub loaded : ValueType → World → ℕ → Option Value → Next Kept
 loaded k w h None kept t = Done (update kept h None) t
 loaded k w h (Some (Pointer p)) kept t = keep_typed k h (w t (Read p)) kept (Read p ∷ t)
 loaded k w h (Some (Truth b)) kept t = Stopped Stuck t
-loaded k w h (Some (Number n)) kept t = Stopped Stuck t
+loaded k w h (Some (Whole spelling z)) kept t = Stopped Stuck t
+loaded k w h (Some (Opaque spelling payload)) kept t = Stopped Stuck t
 
-abbrev pub asked : Kind → World → ℕ → ℕ → Option (List Value) → Next Kept
+abbrev pub asked : ValueType → World → ℕ → Bytes → Option (List Value) → Next Kept
 asked k w h word None kept t = Done (update kept h None) t
 asked k w h word (Some vs) kept t = keep_typed k h (w t (Ask word vs)) kept (Ask word vs ∷ t)
 
--- an event that isn't counted is none
+-- what isn't written is no event
 abbrev pub if_counted : Bool → Next Kept → Next Kept
 if_counted true next kept t = next kept t
 if_counted false next kept t = Done kept t
 
 abbrev pub emit_as : Call → ℕ → Option Expression → Next Kept
-emit_as c h (Some (Load p)) kept t = if_counted (is_counted c.function 1 h) (loaded (kind_of c.function h) c.world h (used c kept p)) kept t
-emit_as c h (Some (Request w xs)) kept t = if_counted (is_counted c.function 1 h) (asked (kind_of c.function h) c.world h w (used_all c kept xs)) kept t
+emit_as c h (Some (Load p)) kept t = if_counted (is_counted c.function 1 h) (loaded (handle_type c.function h) c.world h (used c kept p)) kept t
+emit_as c h (Some (Request a w xs)) kept t = if_counted (is_asked c.function h a) (asked (handle_type c.function h) c.world h w (used_all c kept xs)) kept t
 emit_as c h (Some (Operator w xs)) kept t = Done (update kept h (computed c kept (Some (Operator w xs)))) t
 emit_as c h (Some (Access b i)) kept t = Done (update kept h (computed c kept (Some (Access b i)))) t
-emit_as c h (Some (And l r)) kept t = Done (update kept h (computed c kept (Some (And l r)))) t
+emit_as c h (Some (Select x b)) kept t = Done (update kept h (computed c kept (Some (Select x b)))) t
+emit_as c h (Some (Junct j l r)) kept t = Done (update kept h (computed c kept (Some (Junct j l r)))) t
 emit_as c h _ kept t = Done kept t
 
 abbrev pub emit : Call → List ℕ → Next Kept
@@ -122,10 +158,11 @@ emit c (h ∷ hs) kept t = and_then (emit_as c h (expression_of c.function h) ke
 
 -- goes on with a place, or is stuck
 abbrev pub with_pointer : {S : Type 0} → Option Value → List Event → (Place → Outcome S) → Outcome S
-with_pointer None t go = Stopped Stuck t
 with_pointer (Some (Pointer p)) t go = go p
+with_pointer None t go = Stopped Stuck t
 with_pointer (Some (Truth b)) t go = Stopped Stuck t
-with_pointer (Some (Number n)) t go = Stopped Stuck t
+with_pointer (Some (Whole spelling z)) t go = Stopped Stuck t
+with_pointer (Some (Opaque spelling payload)) t go = Stopped Stuck t
 
 -- after `continuing`: Broke where the loop is left
 abbrev pub leave : Call → Option ℕ → Next Kept
@@ -146,12 +183,40 @@ abbrev pub with_result : Function → Option ℕ → Kept → Reached (Option Va
 with_result f None kept (Gives v t) = Done kept t
 with_result f None kept (Halts x t) = Stopped x t
 with_result f (Some h) kept (Gives None t) = Stopped Stuck t
-with_result f (Some h) kept (Gives (Some v) t) = keep_typed (kind_of f h) h v kept t
+with_result f (Some h) kept (Gives (Some v) t) = keep_typed (handle_type f h) h v kept t
 with_result f (Some h) kept (Halts x t) = Stopped x t
 
 abbrev pub with_all : {S : Type 0} → Option (List Value) → List Event → (List Value → Outcome S) → Outcome S
 with_all None t go = Stopped Stuck t
 with_all (Some vs) t go = go vs
+
+abbrev pub word_if : Bool → Bytes → List Bytes → List Bytes
+word_if true w ws = w ∷ ws
+word_if false w ws = ws
+
+-- a barrier's words, one for each set bit
+abbrev pub barrier_words : BarrierBits → List Bytes
+barrier_words bits =
+    word_if bits.storage (codes "storageBarrier") (word_if bits.work_group (codes "workgroupBarrier") (word_if bits.sub_group (codes "subgroupBarrier") (word_if bits.texture (codes "textureBarrier") [])))
+
+-- one event for each word
+abbrev pub ask_each : List Bytes → Next Kept
+ask_each [] kept t = Done kept t
+ask_each (w ∷ ws) kept t = ask_each ws kept (Ask w [] ∷ t)
+
+abbrev pub same_label : Label → Label → Bool
+same_label (Numbered y) (Numbered z) = same_integer y z
+same_label Default Default = true
+same_label _ _ = false
+
+abbrev pub has_label : Label → Cases → Bool
+has_label x no_case = false
+has_label x (case l b falls cs) = same_label x l || has_label x cs
+
+-- the label that an integer goes to: its own, or else the default
+abbrev pub label_if : Bool → ℤ → Label
+label_if true z = Numbered z
+label_if false z = Default
 
 abbrev mutual
   -- each loop makes at most n turns
@@ -161,42 +226,78 @@ abbrev mutual
       with_pointer (used c kept p) t (λ place. with_used (used c kept v) t (λ value. Done kept (Write place value ∷ t)))
   run c n (Block b) kept t = run_all c n b kept t
   run c n (If h a b) kept t = with_used (used c kept h) t (λ v. chosen v t (run_all c n a kept t) (run_all c n b kept t))
+  run c n (Switch h cases) kept t =
+      with_used (used c kept h) t (λ v. with_integer v t (λ z. after_switch (run_cases c n cases (label_if (has_label (Numbered z) cases) z) kept t)))
   run c n (Loop b d e) kept t = turns n (turn (run_all c n b) (run_all c n d) (leave c e)) kept t
   run c n Break kept t = Broke kept t
   run c n Continue kept t = Continued kept t
   run c n (Return v) kept t = returned c v kept t
-  run c n Kill kept t = Stopped Discarded t
+  run c n Kill kept t = Stopped Discarded (Discard ∷ t)
+  run c n (Barrier bits) kept t = ask_each (barrier_words bits) kept t
   run c n (Act a xs r) kept t = with_all (used_all c kept xs) t (λ vs. with_result c.function r kept (acted c a vs t))
 
   pub run_all : Call → ℕ → Statements → Next Kept
   run_all c n end kept t = Done kept t
   run_all c n (then s ss) kept t = and_then (run c n s kept t) (run_all c n ss)
 
+  -- from the case with this label on
+  pub run_cases : Call → ℕ → Cases → Label → Next Kept
+  run_cases c n no_case x kept t = Done kept t
+  run_cases c n (case l b falls cs) x kept t =
+      cond (same_label x l) (and_then (run_all c n b kept t) (λ kept1 t1. cond falls (run_on c n cs kept1 t1) (Done kept1 t1))) (run_cases c n cs x kept t)
+
+  -- on from a case that fell through
+  pub run_on : Call → ℕ → Cases → Next Kept
+  run_on c n no_case kept t = Done kept t
+  run_on c n (case l b falls cs) kept t =
+      and_then (run_all c n b kept t) (λ kept1 t1. cond falls (run_on c n cs kept1 t1) (Done kept1 t1))
+
 abbrev pub all_of : (ℕ → Option Value) → List ℕ → Option (List Value)
 all_of value [] = Some []
 all_of value (x ∷ xs) = also (value x) (all_of value xs)
 
 -- the value of a constant tree, over its operands' values
-abbrev pub constant_as : Function → Meaning → (ℕ → Option Value) → Option Expression → Option Value
-constant_as f m value (Some (Literal v)) = Some (Number v)
-constant_as f m value (Some (Operator w xs)) = gathered f m (Some (Operator w xs)) (all_of value xs)
-constant_as f m value (Some (Access b i)) = gathered f m (Some (Access b i)) (all_of value (b ∷ i ∷ []))
-constant_as f m value (Some (And l r)) = gathered f m (Some (And l r)) (all_of value (l ∷ r ∷ []))
-constant_as f m value _ = None
+abbrev pub constant_as : Environment → Meaning → (ℕ → Option Value) → Option Expression → Option Value
+constant_as env m value (Some (Constant e)) = constant_value env m e
+constant_as env m value e = gathered m e (all_of value (operands_of e))
 
-abbrev pub constant_below : Function → Meaning → ℕ → Kept
-constant_below f m zero h = None
-constant_below f m (suc n) h = constant_as f m (constant_below f m n) (expression_of f h)
+abbrev pub constant_below : Function → Environment → Meaning → ℕ → Kept
+constant_below f env m zero h = None
+constant_below f env m (suc n) h = constant_as env m (constant_below f env m n) (expression_of f h)
 
 -- the values of constant trees are there from the start
-abbrev pub constants_kept : Function → Meaning → Kept
-constants_kept f m = constant_below f m (length f.expressions)
+abbrev pub constants_kept : Function → Environment → Meaning → Kept
+constants_kept f env m = constant_below f env m (length f.expressions)
 
-abbrev pub have_kinds : List Kind → List Value → Bool
-have_kinds [] vs = true
-have_kinds (k ∷ ks) [] = true
-have_kinds (k ∷ ks) (v ∷ vs) = has_kind k v && have_kinds ks vs
+abbrev pub with_first : Option (Option Value) → Option (List (Option Value)) → Option (List (Option Value))
+with_first None firsts = None
+with_first (Some v) None = None
+with_first (Some v) (Some firsts) = Some (v ∷ firsts)
 
+abbrev pub wrapped : Option Value → Option (Option Value)
+wrapped None = None
+wrapped (Some v) = Some (Some v)
+
+-- a local has no first value, or that of its initialiser
+abbrev pub first_used : Call → Kept → Option ℕ → Option (Option Value)
+first_used c kept None = Some None
+first_used c kept (Some h) = wrapped (used c kept h)
+
+abbrev pub first_used_all : Call → Kept → List (Option ℕ) → Option (List (Option Value))
+first_used_all c kept [] = Some []
+first_used_all c kept (o ∷ os) = with_first (first_used c kept o) (first_used_all c kept os)
+
+-- a body's run behind the entry, with the first values of the locals
+abbrev pub entered : ℕ → List Value → Option (List (Option Value)) → List Event → (List Event → Reached (Option Value)) → Reached (Option Value)
+entered g vs None t body = Halts Stuck t
+entered g vs (Some firsts) t body = body (Entry g vs firsts ∷ t)
+
+abbrev pub run_body : Call → ℕ → ℕ → List Value → List Event → Reached (Option Value)
+run_body c n g vs t =
+    let kept = constants_kept c.function c.environment c.meaning in
+    entered g vs (first_used_all c kept c.function.first_values) t (λ t1. answer (run_all c n c.function.body kept t1))
+
+-- arguments of other types than the function's
 abbrev pub if_arguments : Bool → List Event → Reached (Option Value) → Reached (Option Value)
 if_arguments true t a = a
 if_arguments false t a = Halts Mistyped t
@@ -206,10 +307,10 @@ called true a t = a
 called false a t = Halts Stuck t
 
 -- a call of one of these functions, the last one first: its number is that of the functions behind it
-abbrev pub run_call : World → Meaning → ℕ → List Function → ℕ → List Value → List Event → Reached (Option Value)
-run_call w m n [] g vs t = Halts Stuck t
-run_call w m n (f ∷ fs) g vs t =
-    let c : Call = record { function = f; world = w; meaning = m; arguments = vs; frame = entries t; calls = run_call w m n fs } in
-    let own = called (nat_eq (length vs) f.argument_count) (if_arguments (have_kinds f.argument_kinds vs) t (answer (run_all c n f.body (constants_kept f m) (Entry (length fs) vs ∷ t)))) t in
-    let other = run_call w m n fs g vs t in
+abbrev pub run_call : Environment → World → Meaning → ℕ → List Function → ℕ → List Value → List Event → Reached (Option Value)
+run_call env w m n [] g vs t = Halts Stuck t
+run_call env w m n (f ∷ fs) g vs t =
+    let c : Call = record { function = f; environment = env; world = w; meaning = m; arguments = vs; frame = entries t; calls = run_call env w m n fs } in
+    let own = called (nat_eq (length vs) (argument_count f)) (if_arguments (has_types f.argument_types vs) t (run_body c n (length fs) vs t)) t in
+    let other = run_call env w m n fs g vs t in
     cond (nat_eq g (length fs)) own other

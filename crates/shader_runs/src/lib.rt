@@ -1,9 +1,9 @@
-// The run of a function and the run of the text that is written for it.
+// The run of a module, the run of the text that is written for it, and why they agree.
 #![tactic(auto)]
 
 ghost use Rattle.shader_runs.specs.Correct.{RunsAlike};
 
-/// A function and its text make the same events and end alike.
+/// A module's functions and entry points and their texts make the same events and end alike.
 pub fn runs_alike()
     ensures { RunsAlike }
 {}

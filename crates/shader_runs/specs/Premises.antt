@@ -1,0 +1,216 @@
+-- What is asked of a module, of its names, of the environment and of the meaning.
+use Rattle.std.specs.Prelude.{◌≡◌, ◌≢◌, ℕ, ◌<◌, Bool, true, false, List, [], ◌∷◌, length, Option, Some, None, ◌&&◌, IsTrue}
+use Rattle.shader_runs.specs.Value.{Bytes, ValueType, BooleanType, IntegerType, PointerType, OtherType, type_at, type_of, Value, Pointer, has_type, has_types, Spelled}
+use Rattle.shader_runs.specs.World.{Environment, GlobalValue, Stored, Held, Meaning}
+use Rattle.shader_runs.specs.Program.{ConstantTree, Fixed, NamedConstant, Constructed, ConstantTrees, no_constant, constant, Expression, Constant, Argument, Local, Global, Load, Operator, Access, Select, Junct, Request, Result, Action, Asked, Called, Statement, Emit, Store, Block, If, Switch, Loop, Break, Continue, Return, Kill, Barrier, Act, Statements, end, then, Cases, no_case, case, Function, argument_count, local_count, expression_of, handle_type, operands_of, Module}
+use Rattle.shader_runs.specs.ProgramRun.{combined, barrier_words}
+use Rattle.shader_runs.specs.Scope.{ModuleNames, Names, Naming, is_pure, given_by_all, fits_function}
+
+-- a word that asks for an event is no function's name
+abbrev pub AsksBy : Names → Bytes → Type 0
+AsksBy n w = IsTrue (n.outer.is_request w) × ((g : ℕ) → g < n.earlier → n.outer.function g ≢ w)
+
+-- an operator's word asks for no event and is no function's name
+abbrev pub OperatesBy : Names → Bytes → Type 0
+OperatesBy n w = (n.outer.is_request w ≡ false) × ((g : ℕ) → g < n.earlier → n.outer.function g ≢ w)
+
+abbrev mutual
+  pub ConstantWords : Names → ConstantTree → Type 0
+  ConstantWords n (Fixed v) = Unit {0}
+  ConstantWords n (NamedConstant i) = Unit {0}
+  ConstantWords n (Constructed w ty es) = OperatesBy n w × ConstantsWords n es
+
+  pub ConstantsWords : Names → ConstantTrees → Type 0
+  ConstantsWords n no_constant = Unit {0}
+  ConstantsWords n (constant e es) = ConstantWords n e × ConstantsWords n es
+
+abbrev pub WordFits : Names → Option Expression → Type 0
+WordFits n (Some (Constant e)) = ConstantWords n e
+WordFits n (Some (Operator w xs)) = OperatesBy n w
+WordFits n (Some (Request a w xs)) = AsksBy n w
+WordFits n _ = Unit {0}
+
+-- operands stand before their expression
+abbrev pub AllBelow : ℕ → List ℕ → Type 0
+AllBelow h [] = Unit {0}
+AllBelow h (x ∷ xs) = (x < h) × AllBelow h xs
+
+abbrev pub EachAsks : Names → List Bytes → Type 0
+EachAsks n [] = Unit {0}
+EachAsks n (w ∷ ws) = AsksBy n w × EachAsks n ws
+
+-- a callee stands before its caller
+abbrev pub ActionFits : Names → Action → Type 0
+ActionFits n (Asked w) = AsksBy n w
+ActionFits n (Called g) = g < n.earlier
+
+abbrev pub IsResult : Option Expression → Type 0
+IsResult (Some Result) = Unit {0}
+IsResult _ = ⊥
+
+abbrev pub ResultFits : Function → Option ℕ → Type 0
+ResultFits f None = Unit {0}
+ResultFits f (Some h) = IsResult (expression_of f h)
+
+-- only an empty case falls through
+abbrev pub FallsEmpty : Bool → Statements → Type 0
+FallsEmpty false b = Unit {0}
+FallsEmpty true end = Unit {0}
+FallsEmpty true (then s ss) = ⊥
+
+-- the words, results and cases of a statement
+abbrev mutual
+  pub IsRegular : Naming → Statement → Type 0
+  IsRegular f (Block b) = AreRegular f b
+  IsRegular f (If c a b) = AreRegular f a × AreRegular f b
+  IsRegular f (Switch h cases) = CasesAreRegular f cases
+  IsRegular f (Loop b d e) = AreRegular f b × AreRegular f d
+  IsRegular f (Barrier bits) = EachAsks f.names (barrier_words bits)
+  IsRegular f (Act a xs r) = ActionFits f.names a × ResultFits f.function r
+  IsRegular f _ = Unit {0}
+
+  pub AreRegular : Naming → Statements → Type 0
+  AreRegular f end = Unit {0}
+  AreRegular f (then s ss) = IsRegular f s × AreRegular f ss
+
+  pub CasesAreRegular : Naming → Cases → Type 0
+  CasesAreRegular f no_case = Unit {0}
+  CasesAreRegular f (case l b falls cs) = FallsEmpty falls b × AreRegular f b × CasesAreRegular f cs
+
+-- the types of a function's leaves
+abbrev mutual
+  pub constant_type : Module → ConstantTree → ValueType
+  constant_type p (Fixed v) = type_of v
+  constant_type p (NamedConstant i) = type_at p.constant_types i
+  constant_type p (Constructed w ty es) = ty
+
+  pub constant_types_of : Module → ConstantTrees → List ValueType
+  constant_types_of p no_constant = []
+  constant_types_of p (constant e es) = constant_type p e ∷ constant_types_of p es
+
+abbrev mutual
+  -- named constants lie in the module's list
+  pub ConstantInRange : Module → ConstantTree → Type 0
+  ConstantInRange p (Fixed v) = Unit {0}
+  ConstantInRange p (NamedConstant i) = i < length p.constant_types
+  ConstantInRange p (Constructed w ty es) = ConstantsInRange p es
+
+  pub ConstantsInRange : Module → ConstantTrees → Type 0
+  ConstantsInRange p no_constant = Unit {0}
+  ConstantsInRange p (constant e es) = ConstantInRange p e × ConstantsInRange p es
+
+abbrev pub LeafFits : Module → Function → ValueType → Option Expression → Type 0
+LeafFits p f k (Some (Constant e)) = ConstantInRange p e × (k ≡ constant_type p e)
+LeafFits p f k (Some (Argument i)) = k ≡ type_at f.argument_types i
+LeafFits p f k (Some (Local i)) = k ≡ PointerType
+LeafFits p f k (Some (Global i)) = (i < length p.global_types) × (k ≡ type_at p.global_types i)
+LeafFits p f k _ = Unit {0}
+
+abbrev pub handle_types : Function → List ℕ → List ValueType
+handle_types f [] = []
+handle_types f (x ∷ xs) = handle_type f x ∷ handle_types f xs
+
+abbrev mutual
+  -- a type's value from parts has that type whenever its parts have theirs
+  pub ConstantTyped : Module → Meaning → ConstantTree → Type 0
+  ConstantTyped p m (Fixed v) = Unit {0}
+  ConstantTyped p m (NamedConstant i) = Unit {0}
+  ConstantTyped p m (Constructed w ty es) =
+      ((vs : List Value) → IsTrue (has_types (constant_types_of p es) vs) → IsTrue (has_type ty (m (Spelled w) vs))) × ConstantsTyped p m es
+
+  pub ConstantsTyped : Module → Meaning → ConstantTrees → Type 0
+  ConstantsTyped p m no_constant = Unit {0}
+  ConstantsTyped p m (constant e es) = ConstantTyped p m e × ConstantsTyped p m es
+
+abbrev pub LeafTyped : Module → Meaning → Option Expression → Type 0
+LeafTyped p m (Some (Constant e)) = ConstantTyped p m e
+LeafTyped p m _ = Unit {0}
+
+-- each operator of a function gives a value of its handle's type whenever its operands have theirs
+pub record IsTypedIn (p : Module) (m : Meaning) (f : Function) : Type 0 where
+  pub constants : (h : ℕ) → LeafTyped p m (expression_of f h)
+  pub operators : (h : ℕ) → IsTrue (is_pure (expression_of f h)) → (vs : List Value) → IsTrue (has_types (handle_types f (operands_of (expression_of f h))) vs) → (v : Value) × (combined m (expression_of f h) vs ≡ Some v) × IsTrue (has_type (handle_type f h) v)
+
+abbrev pub AllTypedIn : Module → Meaning → List Function → Type 0
+AllTypedIn p m [] = Unit {0}
+AllTypedIn p m (f ∷ fs) = IsTypedIn p m f × AllTypedIn p m fs
+
+-- a typed meaning of a module
+abbrev pub IsTyped : Module → Meaning → Type 0
+IsTyped p m = AllTypedIn p m p.functions
+
+-- a name that a function's text uses from its start on
+pub data FixedName : Type 0 where
+  ArgumentName : ℕ → FixedName
+  LocalName : ℕ → FixedName
+  ConstantName : ℕ → FixedName
+  GlobalName : ℕ → FixedName
+
+-- any name that it uses
+pub data NameKey : Type 0 where
+  FixedKey : FixedName → NameKey
+  NumberedKey : ℕ → NameKey
+  GivenKey : ℕ → NameKey
+
+abbrev pub fixed_name : Names → FixedName → Bytes
+fixed_name n (ArgumentName i) = n.argument i
+fixed_name n (LocalName i) = n.local_ i
+fixed_name n (ConstantName i) = n.outer.constant i
+fixed_name n (GlobalName i) = n.outer.global i
+
+abbrev pub name_at : Names → NameKey → Bytes
+name_at n (FixedKey x) = fixed_name n x
+name_at n (NumberedKey h) = n.numbered h
+name_at n (GivenKey k) = n.given k
+
+abbrev pub IsFixedName : Module → Function → FixedName → Type 0
+IsFixedName p f (ArgumentName i) = i < argument_count f
+IsFixedName p f (LocalName i) = i < local_count f
+IsFixedName p f (ConstantName i) = i < length p.constant_types
+IsFixedName p f (GlobalName i) = i < length p.global_types
+
+abbrev pub IsName : Module → Function → NameKey → Type 0
+IsName p f (FixedKey x) = IsFixedName p f x
+IsName p f (NumberedKey h) = Unit {0}
+IsName p f (GivenKey k) = k < given_by_all f f.body 0
+
+-- no two of a function's names are equal
+abbrev pub AreDistinct : Module → Naming → Type 0
+AreDistinct p f =
+    (a b : NameKey) → IsName p f.function a → IsName p f.function b → name_at f.names a ≡ name_at f.names b → a ≡ b
+
+-- one function of a module, with this many before it
+pub record FunctionFits (p : Module) (n : ModuleNames) (place : ℕ) (f : Naming) : Type 0 where
+  pub outer : f.names.outer ≡ n
+  pub earlier : f.names.earlier ≡ place
+  pub ordered : (h : ℕ) → AllBelow h (operands_of (expression_of f.function h))
+  pub words : (h : ℕ) → WordFits f.names (expression_of f.function h)
+  pub leaves : (h : ℕ) → LeafFits p f.function (handle_type f.function h) (expression_of f.function h)
+  pub regular : AreRegular f f.function.body
+  pub distinct : AreDistinct p f
+  pub scope : IsTrue (fits_function f)
+
+abbrev pub AllFit : Module → ModuleNames → List Naming → Type 0
+AllFit p n [] = Unit {0}
+AllFit p n (f ∷ fs) = FunctionFits p n (length fs) f × AllFit p n fs
+
+-- what the variables' names stand for
+abbrev pub global_has_type : ValueType → GlobalValue → Bool
+global_has_type PointerType Stored = true
+global_has_type t Stored = false
+global_has_type t (Held v) = has_type t v
+
+abbrev pub globals_have_types : List ValueType → List GlobalValue → Bool
+globals_have_types [] [] = true
+globals_have_types [] (g ∷ gs) = false
+globals_have_types (t ∷ ts) [] = false
+globals_have_types (t ∷ ts) (g ∷ gs) = global_has_type t g && globals_have_types ts gs
+
+-- the constants, overrides and variables have their types
+pub record EnvironmentFits (p : Module) (env : Environment) : Type 0 where
+  pub constants : IsTrue (has_types p.constant_types env.constants)
+  pub globals : IsTrue (globals_have_types p.global_types env.globals)
+
+-- no two items of a module have one name
+pub record ModuleNamesAreDistinct (p : Module) (n : ModuleNames) : Type 0 where
+  pub functions : (g k : ℕ) → g < length p.functions → k < length p.functions → n.function g ≡ n.function k → g ≡ k
