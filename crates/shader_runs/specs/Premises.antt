@@ -197,6 +197,7 @@ AllFit p n (f ∷ fs) = FunctionFits p n (length fs) f × AllFit p n fs
 -- what the variables' names stand for
 abbrev pub global_has_type : ValueType → GlobalValue → Bool
 global_has_type PointerType Stored = true
+global_has_type PointerType (Held v) = false
 global_has_type t Stored = false
 global_has_type t (Held v) = has_type t v
 

@@ -1,0 +1,4 @@
+use Rattle.shader_runs.proofs.runs_alike.Goals as goal
+
+pub returns : goal.returns
+returns c = ?
