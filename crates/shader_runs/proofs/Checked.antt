@@ -5,7 +5,7 @@ use Rattle.shader_runs.specs.Value.{Bytes}
 use Rattle.shader_runs.specs.Program.{Expression, Statement, Emit, Store, Block, If, Switch, Loop, Break, Continue, Return, Kill, Barrier, Act, Statements, end, then, Cases, no_case, case, expression_of, operands_of, binds, from}
 use Rattle.shader_runs.specs.ProgramRun.{Call, barrier_words}
 use Rattle.shader_runs.specs.Scope.{Named, Handles, Names, Naming, bound_name, usable, usable_all, usable_if, is_new, is_emittable, given_after, given_by, given_by_all, after_one, after, after_all}
-use Rattle.shader_runs.specs.Premises.{FixedName, fixed_name, EachAsks, ActionFits, IsResult, FallsEmpty}
+use Rattle.shader_runs.specs.Premises.{FixedName, fixed_name, EachAsks, ActionFits, IsResult, FallsFrom}
 use Rattle.shader_runs.proofs.Relation.{IsHere}
 use Rattle.shader_runs.proofs.Evaluation.{naming}
 
@@ -63,4 +63,4 @@ abbrev mutual
   pub FitsCases : Call → Names → ℕ → Cases → Handles → Type 0
   FitsCases c n k no_case s = Unit {0}
   FitsCases c n k (case l b falls cs) s =
-      FallsEmpty falls b × FitsAll c n k b s × FitsCases c n (given_by_all c.function b k) cs s
+      FallsFrom falls b cs × FitsAll c n k b s × FitsCases c n (given_by_all c.function b k) cs s

@@ -52,11 +52,12 @@ abbrev pub ResultFits : Function → Option ℕ → Type 0
 ResultFits f None = Unit {0}
 ResultFits f (Some h) = IsResult (expression_of f h)
 
--- only an empty case falls through
-abbrev pub FallsEmpty : Bool → Statements → Type 0
-FallsEmpty false b = Unit {0}
-FallsEmpty true end = Unit {0}
-FallsEmpty true (then s ss) = ⊥
+-- only an empty case falls through, and not the last one
+abbrev pub FallsFrom : Bool → Statements → Cases → Type 0
+FallsFrom false b cs = Unit {0}
+FallsFrom true end no_case = ⊥
+FallsFrom true end (case l b falls cs) = Unit {0}
+FallsFrom true (then s ss) cs = ⊥
 
 -- the words, results and cases of a statement
 abbrev mutual
@@ -75,7 +76,7 @@ abbrev mutual
 
   pub CasesAreRegular : Naming → Cases → Type 0
   CasesAreRegular f no_case = Unit {0}
-  CasesAreRegular f (case l b falls cs) = FallsEmpty falls b × AreRegular f b × CasesAreRegular f cs
+  CasesAreRegular f (case l b falls cs) = FallsFrom falls b cs × AreRegular f b × CasesAreRegular f cs
 
 -- the types of a function's leaves
 abbrev mutual
