@@ -256,10 +256,13 @@ abbrev pub all_of : (ℕ → Option Value) → List ℕ → Option (List Value)
 all_of value [] = Some []
 all_of value (x ∷ xs) = also (value x) (all_of value xs)
 
+abbrev pub or_constant : Environment → Meaning → Option Expression → Option Value → Option Value
+or_constant env m (Some (Constant e)) o = constant_value env m e
+or_constant env m _ o = o
+
 -- the value of a constant tree, over its operands' values
 abbrev pub constant_as : Environment → Meaning → (ℕ → Option Value) → Option Expression → Option Value
-constant_as env m value (Some (Constant e)) = constant_value env m e
-constant_as env m value e = gathered m e (all_of value (operands_of e))
+constant_as env m value e = or_constant env m e (gathered m e (all_of value (operands_of e)))
 
 abbrev pub constant_below : Function → Environment → Meaning → ℕ → Kept
 constant_below f env m zero h = None

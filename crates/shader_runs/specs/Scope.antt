@@ -90,10 +90,13 @@ abbrev pub all_constant : (ℕ → Bool) → List ℕ → Bool
 all_constant test [] = true
 all_constant test (x ∷ xs) = test x && all_constant test xs
 
--- a tree over constants alone
+abbrev pub is_constant_leaf : Option Expression → Bool
+is_constant_leaf (Some (Constant e)) = true
+is_constant_leaf _ = false
+
+-- a constant, or an operator over constant trees
 abbrev pub constant_test : (ℕ → Bool) → Option Expression → Bool
-constant_test test (Some (Constant e)) = true
-constant_test test e = is_pure e && all_constant test (operands_of e)
+constant_test test e = is_constant_leaf e || (is_pure e && all_constant test (operands_of e))
 
 abbrev pub is_constant_below : Function → ℕ → ℕ → Bool
 is_constant_below f zero h = false
