@@ -9,6 +9,7 @@ use Rattle.shader_runs.specs.TextRun.{module_scope, follow_call}
 use Rattle.shader_runs.specs.Text.{TextModule}
 use Rattle.shader_runs.specs.Scope.{ModuleNames, Naming}
 use Rattle.shader_runs.specs.Form.{form_module, functions_of}
+use Rattle.shader_runs.specs.Typing.{IsConsistent}
 use Rattle.shader_runs.specs.Premises.{IsTyped, AllFit, EnvironmentFits, ModuleNamesAreDistinct}
 
 -- the arguments have their types, and so has each answer of the world that the run asks for
@@ -35,3 +36,7 @@ RunsAlike =
     KeepsTypes (run_call env w m turns p.functions g vs t) →
     follow_call (module_scope (form_module p n fs) env) w m n.is_request turns (form_module p n fs).functions (n.function g) vs t
       ≡ run_call env w m turns p.functions g vs t
+
+-- the law above isn't empty: every module whose operators are typed consistently has a typed meaning
+abbrev pub HasTypedMeaning : Type 0
+HasTypedMeaning = (p : Module) → IsConsistent p → (m : Meaning) × IsTyped p m

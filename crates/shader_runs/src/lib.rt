@@ -1,9 +1,14 @@
 // The run of a module, the run of the text that is written for it, and why they agree.
 #![tactic(auto)]
 
-ghost use Rattle.shader_runs.specs.Correct.{RunsAlike};
+ghost use Rattle.shader_runs.specs.Correct.{RunsAlike, HasTypedMeaning};
 
 /// A module's functions and entry points and their texts make the same events and end alike.
 pub fn runs_alike()
     ensures { RunsAlike }
+{}
+
+/// What the first law asks of the meaning can be met.
+pub fn has_typed_meaning()
+    ensures { HasTypedMeaning }
 {}
