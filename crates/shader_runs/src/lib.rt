@@ -2,6 +2,7 @@
 #![tactic(auto)]
 
 ghost use Rattle.shader_runs.specs.Correct.{RunsAlike, HasTypedMeaning};
+ghost use Rattle.shader_runs.specs.Rows.{RowsHold};
 
 /// A module's functions and entry points and their texts make the same events and end alike.
 pub fn runs_alike()
@@ -11,4 +12,9 @@ pub fn runs_alike()
 /// What the first law asks of the meaning can be met.
 pub fn has_typed_meaning()
     ensures { HasTypedMeaning }
+{}
+
+/// The worked functions run as they are said to, and the texts of other writers do something else.
+pub fn rows_hold()
+    ensures { RowsHold }
 {}
