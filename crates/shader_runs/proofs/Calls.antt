@@ -5,8 +5,8 @@ use Rattle.std.specs.Prelude.{IsTrue}
 use Rattle.shader_runs.specs.Value.{Bytes, same_bytes, Rooted, LocalRoot, has_types, Value}
 use Rattle.shader_runs.specs.World.{Event, Entry, entries, World, Meaning, Environment}
 use Rattle.shader_runs.specs.Outcome.{Stuck, Reached, Gives, Halts, answer}
-use Rattle.shader_runs.specs.Program.{Function, argument_count, local_count, Module}
-use Rattle.shader_runs.specs.ProgramRun.{Call, Kept, constants_kept, called, if_arguments, used, wrapped, with_first, first_used, first_used_all, entered, run_all, run_body, run_call}
+use Rattle.shader_runs.specs.Program.{Function, argument_count, local_count, function_numbered, Module}
+use Rattle.shader_runs.specs.ProgramRun.{Call, Kept, constants_kept, called, used, wrapped, with_first, first_used, first_used_all, entered, run_all, run_body, run_call}
 use Rattle.shader_runs.specs.TextRun.{IsValue, IsPlace, Scope, with_parameters, with_variables, with_globals, no_names, module_scope, respond_by_table, value_of, put_first, first_followed, first_of_each, entered_by, follow_all, follow_body, follow_call}
 use Rattle.shader_runs.specs.Scope.{ModuleNames, Names, Naming, Handles, usable_if, at_start, first_values_fit, fits_all}
 use Rattle.shader_runs.specs.Form.{names_from, variables_from, value_at, form_all, form_function, form_functions, form_module, functions_of}
@@ -14,7 +14,7 @@ use Rattle.shader_runs.specs.Premises.{FixedName, ArgumentName, LocalName, Const
 use Rattle.shader_runs.specs.Correct.{KeepsTypes, RunsAlike}
 use Rattle.shader_runs.proofs.Alike.{Answers, same_answer, mistyped_answer, alike_answers, reached}
 use Rattle.shader_runs.proofs.Update.{and_left, and_right, same_bytes_true, same_bytes_equal, same_bytes_false, same_bytes_apart, has_types_length}
-use Rattle.shader_runs.proofs.Relation.{as_denoted, global_as, IsHere, fixed_denoted, Related}
+use Rattle.shader_runs.proofs.Relation.{Returns, as_denoted, global_as, IsHere, fixed_denoted, Related}
 use Rattle.shader_runs.proofs.Evaluation.{naming, words, Respond, Responds}
 use Rattle.shader_runs.proofs.Written.{Given, globals_length, value_here}
 use Rattle.shader_runs.proofs.Statements.{same_all}
@@ -30,20 +30,31 @@ length-functions_of : (fs : List Naming) → length (functions_of fs) ≡ length
 length-functions_of [] = refl
 length-functions_of (f ∷ fs) = ap suc (length-functions_of fs)
 
-pick_alike : {A : Type 0} (a b : Bool) (x x' y y' : Reached A) → a ≡ b → (b ≡ true → Answers x x') → (b ≡ false → Answers y y') → Answers (cond b x y) (cond a x' y')
-pick_alike a true x x' y y' e h k = subst (λ a. Answers x (cond a x' y')) (sym e) (h refl)
-pick_alike a false x x' y y' e h k = subst (λ a. Answers y (cond a x' y')) (sym e) (k refl)
+pick_alike : {A : Type 0} (R : A → Type 0) (a b : Bool) (x x' y y' : Reached A) → a ≡ b → (b ≡ true → Answers R x x') → (b ≡ false → Answers R y y') → Answers R (cond b x y) (cond a x' y')
+pick_alike R a true x x' y y' e h k = subst (λ a. Answers R x (cond a x' y')) (sym e) (h refl)
+pick_alike R a false x x' y y' e h k = subst (λ a. Answers R y (cond a x' y')) (sym e) (k refl)
 
-called_alike : (a b : Bool) (x x' : Reached (Option Value)) (t : List Event) → a ≡ b → (b ≡ true → Answers x x') → Answers (called b x t) (called a x' t)
-called_alike a true x x' t e h = subst (λ a. Answers x (called a x' t)) (sym e) (h refl)
-called_alike a false x x' t e h = subst (λ a. Answers (called false x t) (called a x' t)) (sym e) same_answer
+called_alike : (R : Option Value → Type 0) (a b : Bool) (x x' : Reached (Option Value)) (t : List Event) → a ≡ b → (b ≡ true → Answers R x x') → Answers R (called b x t) (called a x' t)
+called_alike R a true x x' t e h = subst (λ a. Answers R x (called a x' t)) (sym e) (h refl)
+called_alike R a false x x' t e h = subst (λ a. Answers R (called false x t) (called a x' t)) (sym e) (same_answer tt)
 
-arguments_alike : (b : Bool) (x x' : Reached (Option Value)) (t : List Event) → (b ≡ true → Answers x x') → Answers (if_arguments b t x) x'
-arguments_alike true x x' t h = h refl
-arguments_alike false x x' t h = mistyped_answer
+numbered_within : (fs : List Function) (g : ℕ) (f : Function) → function_numbered fs g ≡ Some f → g < length fs
+numbered_within [] g f e = absurd (nothing e)
+  where
+    nothing : None ≡ Some f → ⊥
+    nothing e = cc
+numbered_within (k ∷ fs) g f e = go (nat_eq g (length fs)) refl e (numbered_within fs g f)
+  where
+    go : (b : Bool) → nat_eq g (length fs) ≡ b → cond b (Some k) (function_numbered fs g) ≡ Some f → (function_numbered fs g ≡ Some f → g < length fs) → g < suc (length fs)
+    go true q e rest =
+        let same : g ≡ length fs = eqb-true g (length fs) q in
+        omega arith
+    go false q e rest =
+        let less : g < length fs = rest e in
+        omega arith
 
-below : (g n : ℕ) → g < suc n → g ≢ n → g < n
-below g n lt ne = omega arith
+same_function : (f k : Function) → Some f ≡ Some k → f ≡ k
+same_function f k e = cc
 
 same_test : (a b : Bytes) (c d : ℕ) → (a ≡ b → c ≡ d) → (c ≡ d → a ≡ b) → same_bytes a b ≡ nat_eq c d
 same_test a b c d f g = go (nat_eq c d) refl
@@ -66,16 +77,17 @@ followed_firsts None os t rest h = refl
 followed_firsts (Some v) None t rest h = ap (put_first (Some v)) (h t)
 followed_firsts (Some v) (Some firsts) t rest h = ap (put_first (Some v)) (h t)
 
-entered_alike : (g g' : ℕ) (vs : List Value) (o : Option (List (Option Value))) (t : List Event) (body body' : List Event → Reached (Option Value)) → g' ≡ g → ((t : List Event) → Answers (body t) (body' t)) → Answers (entered g vs o t body) (entered_by g' vs (reached_firsts o t) body')
-entered_alike g g' vs None t body body' e h = same_answer
-entered_alike g g' vs (Some firsts) t body body' e h =
-    subst (λ g'. Answers (body (Entry g vs firsts ∷ t)) (body' (Entry g' vs firsts ∷ t))) (sym e) (h (Entry g vs firsts ∷ t))
+entered_alike : (R : Option Value → Type 0) (g g' : ℕ) (vs : List Value) (o : Option (List (Option Value))) (t : List Event) (body body' : List Event → Reached (Option Value)) → g' ≡ g → ((t : List Event) → Answers R (body t) (body' t)) → Answers R (entered g vs o t body) (entered_by g' vs (reached_firsts o t) body')
+entered_alike R g g' vs None t body body' e h = same_answer tt
+entered_alike R g g' vs (Some firsts) t body body' e h =
+    subst (λ g'. Answers R (body (Entry g vs firsts ∷ t)) (body' (Entry g' vs firsts ∷ t))) (sym e) (h (Entry g vs firsts ∷ t))
 
 module _ (p : Module) (n : ModuleNames) (env : Environment) (environment : EnvironmentFits p env) (w : World) (m : Meaning) (bound : ℕ) where
   abbrev call_of : List Naming → Naming → List Value → List Event → Call
   call_of fs f vs t =
       record {
         function = f.function;
+        callees = functions_of fs;
         environment = env;
         world = w;
         meaning = m;
@@ -102,35 +114,29 @@ module _ (p : Module) (n : ModuleNames) (env : Environment) (environment : Envir
 
   abbrev program_call : List Naming → Naming → List Value → List Event → Reached (Option Value)
   program_call fs f vs t =
-      called (nat_eq (length vs) (argument_count f.function)) (if_arguments (has_types f.function.argument_types vs) t (run_body (call_of fs f vs t) bound (length (functions_of fs)) vs t)) t
+      called (nat_eq (length vs) (argument_count f.function)) (run_body (call_of fs f vs t) bound (length (functions_of fs)) vs t) t
 
   -- a word of no function comes to the table
   by_table : (fs : List Naming) → AllFit p n fs → (word : Bytes) → ((g : ℕ) → g < length fs → n.function g ≢ word) → (vs : List Value) (t : List Event) → responses fs word vs t ≡ respond_by_table w m n.is_request word vs t
   by_table [] fits word other vs t = refl
   by_table (f ∷ fs) fits word other vs t =
       let own_name = f.names.outer.function f.names.earlier in
-      let is_name : own_name ≡ n.function (length fs) = ap (λ n. n.function f.names.earlier) fits.0.outer ∙ ap n.function fits.0.earlier in
+      let is_name : own_name ≡ n.function (length fs) = ap (λ n. n.function f.names.earlier) fits.0.outer ∙ ap n.function (fits.0.earlier ∙ length-functions_of fs) in
       let apart : same_bytes word own_name ≡ false = same_bytes_apart word own_name (λ e. other (length fs) (omega arith) (sym (e ∙ is_name))) in
       ap (λ b. cond b (text_call fs f vs t) (responses fs word vs t)) apart
       ∙ by_table fs fits.1 word (λ g lt. other g (omega arith)) vs t
 
   abbrev Alike_calls : List Naming → Type 0
   Alike_calls fs =
-      (g : ℕ) → g < length fs → (vs : List Value) (t : List Event) → Answers (run_call env w m bound (functions_of fs) g vs t) (responses fs (n.function g) vs t)
+      (g : ℕ) (callee : Function) → function_numbered (functions_of fs) g ≡ Some callee → (vs : List Value) → IsTrue (has_types callee.argument_types vs) → (t : List Event) → Answers (Returns callee) (run_call env w m bound (functions_of fs) g vs t) (responses fs (n.function g) vs t)
 
-  module _ (fs : List Naming) (fits : AllFit p n fs) (earlier : Alike_calls fs) (f : Naming) (fit : FunctionFits p n (length fs) f) (typed : IsTypedIn p m f.function) (vs : List Value) (t : List Event) where
+  module _ (fs : List Naming) (fits : AllFit p n fs) (earlier : Alike_calls fs) (f : Naming) (fit : FunctionFits p n (functions_of fs) f) (typed : IsTypedIn p m f.function) (vs : List Value) (t : List Event) where
     responds : Responds (call_of fs f vs t) f.names (responses fs)
     responds =
         record {
-          table = λ word other vs t. by_table fs fits word (λ g lt e. other g (subst (λ k. g < k) (sym fit.earlier) lt) (ap (λ n. n.function g) fit.outer ∙ e)) vs t ∙ ap (λ n. respond_by_table w m n.is_request word vs t) (sym fit.outer);
-          calls = λ g lt vs t. subst (λ n'. Answers (run_call env w m bound (functions_of fs) g vs t) (responses fs (n'.function g) vs t)) (sym fit.outer) (earlier g (subst (λ k. g < k) fit.earlier lt) vs t);
+          table = λ word other vs t. by_table fs fits word (λ g lt e. other g (subst (λ k. g < k) (sym (fit.earlier ∙ length-functions_of fs)) lt) (ap (λ n. n.function g) fit.outer ∙ e)) vs t ∙ ap (λ n. respond_by_table w m n.is_request word vs t) (sym fit.outer);
+          calls = λ g callee e vs h t. subst (λ n'. Answers (Returns callee) (run_call env w m bound (functions_of fs) g vs t) (responses fs (n'.function g) vs t)) (sym fit.outer) (earlier g callee e vs h t);
         }
-
-    key : FixedName → NameKey
-    key x = FixedKey x
-
-    fixed_same : (x y : FixedName) → FixedKey x ≡ FixedKey y → x ≡ y
-    fixed_same x y e = cc
 
     argument_same : (i k : ℕ) → FixedKey (ArgumentName i) ≡ FixedKey (ArgumentName k) → i ≡ k
     argument_same i k e = cc
@@ -233,7 +239,7 @@ module _ (p : Module) (n : ModuleNames) (env : Environment) (environment : Envir
         ap (λ q. first_followed q rest) (value_here p (call_of fs f vs t) f.names (responses fs) (given k) (at_start f.function) names kept (starts e) h here t1)
         ∙ followed_firsts (used (call_of fs f vs t) kept h) (first_used_all (call_of fs f vs t) kept os) t1 rest (firsts_reached k e os (suc j) (and_right (usable_if f.function (at_start f.function) (Some h)) (first_values_fit f.function os) u))
 
-    body_alike : (place place' : ℕ) → place' ≡ place → length vs ≡ argument_count f.function → IsTrue (has_types f.function.argument_types vs) → Answers (run_body (call_of fs f vs t) bound place vs t) (follow_body (words (call_of fs f vs t) (responses fs)) bound place' (form_function f) vs (first_names n f vs t) t)
+    body_alike : (place place' : ℕ) → place' ≡ place → length vs ≡ argument_count f.function → IsTrue (has_types f.function.argument_types vs) → Answers (Returns f.function) (run_body (call_of fs f vs t) bound place vs t) (follow_body (words (call_of fs f vs t) (responses fs)) bound place' (form_function f) vs (first_names n f vs t) t)
     body_alike place place' pe e k =
         let c = call_of fs f vs t in
         let kept = constants_kept f.function env m in
@@ -242,32 +248,37 @@ module _ (p : Module) (n : ModuleNames) (env : Environment) (environment : Envir
         let body_fits = fits_all f 0 f.function.body (at_start f.function) in
         let same = same_all p c f.names (responses fs) (given k) bound f.function.body 0 (at_start f.function) in
         let checked = all_fresh p c f.names environment fit.distinct f.function.body 0 (at_start f.function) (omega arith) (start_sources p c f.names environment fit.distinct) fit.regular (and_right firsts_fit body_fits fit.scope) in
-        subst (λ q. Answers (run_body c bound place vs t) (entered_by place' vs q (λ t1. answer (follow_all (words c (responses fs)) bound (form_all f 0 f.function.body (at_start f.function)) (first_names n f vs t) t1)))) (sym (firsts_reached k e os 0 (and_left firsts_fit body_fits fit.scope) t)) (entered_alike place place' vs (first_used_all c kept os) t _ _ pe (λ t1. alike_answers (same (first_names n f vs t) kept t1 (starts e) checked)))
+        subst (λ q. Answers (Returns f.function) (run_body c bound place vs t) (entered_by place' vs q (λ t1. answer (follow_all (words c (responses fs)) bound (form_all f 0 f.function.body (at_start f.function)) (first_names n f vs t) t1)))) (sym (firsts_reached k e os 0 (and_left firsts_fit body_fits fit.scope) t)) (entered_alike (Returns f.function) place place' vs (first_used_all c kept os) t _ _ pe (λ t1. alike_answers tt (same (first_names n f vs t) kept t1 (starts e) checked)))
 
-    call_alike : Answers (program_call fs f vs t) (text_call fs f vs t)
-    call_alike =
+    call_alike : IsTrue (has_types f.function.argument_types vs) → Answers (Returns f.function) (program_call fs f vs t) (text_call fs f vs t)
+    call_alike h =
         let count = length-names_from f.names.argument 0 (argument_count f.function) in
         let there = length (functions_of fs) in
         let place : length (form_functions fs) ≡ there = length-form_functions fs ∙ sym (length-functions_of fs) in
-        called_alike (nat_eq (length vs) (length (names_from f.names.argument 0 (argument_count f.function)))) (nat_eq (length vs) (argument_count f.function)) _ _ t (ap (nat_eq (length vs)) count) (λ e. arguments_alike (has_types f.function.argument_types vs) _ _ t (λ k. body_alike there (length (form_functions fs)) place (eqb-true (length vs) (argument_count f.function) e) k))
+        called_alike (Returns f.function) (nat_eq (length vs) (length (names_from f.names.argument 0 (argument_count f.function)))) (nat_eq (length vs) (argument_count f.function)) _ _ t (ap (nat_eq (length vs)) count) (λ e. body_alike there (length (form_functions fs)) place (eqb-true (length vs) (argument_count f.function) e) h)
 
   calls_alike : (fs : List Naming) → AllFit p n fs → AllTypedIn p m (functions_of fs) → ((g k : ℕ) → g < length fs → k < length fs → n.function g ≡ n.function k → g ≡ k) → Alike_calls fs
-  calls_alike [] fits typed one g lt vs t = absurd (omega arith)
-  calls_alike (f ∷ fs) fits typed one g lt vs t =
+  calls_alike [] fits typed one g callee e vs h t = absurd (nothing e)
+    where
+      nothing : None ≡ Some callee → ⊥
+      nothing e = cc
+  calls_alike (f ∷ fs) fits typed one g callee e vs h t =
       let own_name = f.names.outer.function f.names.earlier in
-      let is_name : own_name ≡ n.function (length fs) = ap (λ n. n.function f.names.earlier) fits.0.outer ∙ ap n.function fits.0.earlier in
       let place : length (functions_of fs) ≡ length fs = length-functions_of fs in
+      let is_name : own_name ≡ n.function (length fs) = ap (λ n. n.function f.names.earlier) fits.0.outer ∙ ap n.function (fits.0.earlier ∙ place) in
       let earlier = calls_alike fs fits.1 typed.1 (λ a b la lb q. one a b (omega arith) (omega arith) q) in
+      let within : g < suc (length (functions_of fs)) = numbered_within (functions_of (f ∷ fs)) g callee e in
+      let lt : g < suc (length fs) = subst (λ k. g < suc k) place within in
       let test = same_test (n.function g) own_name g (length (functions_of fs)) (λ e. one g (length fs) lt (omega arith) (e ∙ is_name) ∙ sym place) (λ e. ap n.function (e ∙ place) ∙ sym is_name) in
-      pick_alike (same_bytes (n.function g) own_name) (nat_eq g (length (functions_of fs))) (program_call fs f vs t) (text_call fs f vs t) (run_call env w m bound (functions_of fs) g vs t) (responses fs (n.function g) vs t) test (λ e. call_alike fs fits.1 earlier f fits.0 typed.0 vs t) (λ e. earlier g (below g (length fs) lt (λ h. eqb-false g (length (functions_of fs)) e (h ∙ sym place))) vs t)
+      pick_alike (Returns callee) (same_bytes (n.function g) own_name) (nat_eq g (length (functions_of fs))) (program_call fs f vs t) (text_call fs f vs t) (run_call env w m bound (functions_of fs) g vs t) (responses fs (n.function g) vs t) test (λ q. let same : f.function ≡ callee = same_function f.function callee (ap (λ b. cond b (Some f.function) (function_numbered (functions_of fs) g)) (sym q) ∙ e) in subst (λ k. Answers (Returns k) (program_call fs f vs t) (text_call fs f vs t)) same (call_alike fs fits.1 earlier f fits.0 typed.0 vs t (subst (λ k. IsTrue (has_types k.argument_types vs)) (sym same) h))) (λ q. earlier g callee (ap (λ b. cond b (Some f.function) (function_numbered (functions_of fs) g)) (sym q) ∙ e) vs h t)
 
-answers_same : {A : Type 0} (q q' : Reached A) → KeepsTypes q → Answers q q' → q' ≡ q
-answers_same q q' k same_answer = refl
-answers_same q q' k mistyped_answer = absurd k
+answers_same : {A : Type 0} (R : A → Type 0) (q q' : Reached A) → KeepsTypes q → Answers R q q' → q' ≡ q
+answers_same R q q' k (same_answer h) = refl
+answers_same R q q' k mistyped_answer = absurd k
 
 pub runs_alike : RunsAlike
-runs_alike p n fs fits env environment m typed w turns g lt vs t keeps =
-    subst (λ l. g < length l → AllTypedIn p m l → KeepsTypes (run_call env w m turns l g vs t) → follow_call (module_scope (form_module p n fs) env) w m n.is_request turns (form_functions fs) (n.function g) vs t ≡ run_call env w m turns l g vs t) fits.functions there lt typed keeps
+runs_alike p n fs fits env environment m typed g f e vs h w turns t keeps =
+    subst (λ l. function_numbered l g ≡ Some f → AllTypedIn p m l → KeepsTypes (run_call env w m turns l g vs t) → follow_call (module_scope (form_module p n fs) env) w m n.is_request turns (form_functions fs) (n.function g) vs t ≡ run_call env w m turns l g vs t) fits.functions there e typed keeps
   where
     count : length (functions_of fs) ≡ length p.functions
     count = ap length fits.functions
@@ -277,6 +288,6 @@ runs_alike p n fs fits env environment m typed w turns g lt vs t keeps =
         let same : length fs ≡ length p.functions = sym (length-functions_of fs) ∙ count in
         fits.distinct.functions g k (subst (λ z. g < z) same lg) (subst (λ z. k < z) same lk)
 
-    there : g < length (functions_of fs) → AllTypedIn p m (functions_of fs) → KeepsTypes (run_call env w m turns (functions_of fs) g vs t) → follow_call (module_scope (form_module p n fs) env) w m n.is_request turns (form_functions fs) (n.function g) vs t ≡ run_call env w m turns (functions_of fs) g vs t
-    there lt typed keeps =
-        answers_same (run_call env w m turns (functions_of fs) g vs t) _ keeps (calls_alike p n env environment w m turns fs fits.all typed one g (subst (λ z. g < z) (length-functions_of fs) lt) vs t)
+    there : function_numbered (functions_of fs) g ≡ Some f → AllTypedIn p m (functions_of fs) → KeepsTypes (run_call env w m turns (functions_of fs) g vs t) → follow_call (module_scope (form_module p n fs) env) w m n.is_request turns (form_functions fs) (n.function g) vs t ≡ run_call env w m turns (functions_of fs) g vs t
+    there e typed keeps =
+        answers_same (Returns f) (run_call env w m turns (functions_of fs) g vs t) _ keeps (calls_alike p n env environment w m turns fs fits.all typed one g f e vs h t)

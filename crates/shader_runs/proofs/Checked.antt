@@ -5,7 +5,7 @@ use Rattle.shader_runs.specs.Value.{Bytes}
 use Rattle.shader_runs.specs.Program.{Expression, Statement, Emit, Store, Block, If, Switch, Loop, Break, Continue, Return, Kill, Barrier, Act, Statements, end, then, Cases, no_case, case, expression_of, operands_of, binds, from}
 use Rattle.shader_runs.specs.ProgramRun.{Call, barrier_words}
 use Rattle.shader_runs.specs.Scope.{Named, Handles, Names, Naming, bound_name, usable, usable_all, usable_if, is_new, is_emittable, given_after, given_by, given_by_all, after_one, after, after_all}
-use Rattle.shader_runs.specs.Premises.{FixedName, fixed_name, EachAsks, ActionFits, IsResult, FallsFrom}
+use Rattle.shader_runs.specs.Premises.{FixedName, fixed_name, EachAsks, ActionFits, ReturnFits, IsResult, FallsFrom}
 use Rattle.shader_runs.proofs.Relation.{IsHere}
 use Rattle.shader_runs.proofs.Evaluation.{naming}
 
@@ -50,9 +50,9 @@ abbrev mutual
       let s1 = after_all (naming c n) k b s in
       let k1 = given_by_all c.function b k in
       FitsAll c n k b s × FitsAll c n k1 d s1 × IsTrue (usable_if c.function (after_all (naming c n) k1 d s1) e)
-  Fits c n k (Return v) s = IsTrue (usable_if c.function s v)
+  Fits c n k (Return v) s = IsTrue (usable_if c.function s v) × ReturnFits c.function v
   Fits c n k (Barrier bits) s = EachAsks n (barrier_words bits)
-  Fits c n k (Act a xs r) s = IsTrue (usable_all c.function s xs) × ActionFits n a × MayGive c n r s
+  Fits c n k (Act a xs r) s = IsTrue (usable_all c.function s xs) × ActionFits c.callees (naming c n) a xs r × MayGive c n r s
   Fits c n k _ s = Unit {0}
 
   pub FitsAll : Call → Names → ℕ → Statements → Handles → Type 0

@@ -114,9 +114,9 @@ barred_related c n s names kept h o r a = go (s h) refl
     go (Named x) e = same (Named x) e
 
 -- what holds wherever both runs go on with this scope
-abbrev pub GoesOn : (c : Call) → Names → (P Q B : Kept → Scope → Type 0) → Handles → Kept → Handles → Next Kept → Next Scope → Type 0
-GoesOn c n P Q B s kept s1 f g =
-    (kept1 : Kept) (names1 : Scope) (t : List Event) → Related c n s1 names1 kept1 → Agree s kept kept1 → Alike P Q B (f kept1 t) (g names1 t)
+abbrev pub GoesOn : (c : Call) → Names → (R : Option Value → Type 0) → (P Q B : Kept → Scope → Type 0) → Handles → Kept → Handles → Next Kept → Next Scope → Type 0
+GoesOn c n R P Q B s kept s1 f g =
+    (kept1 : Kept) (names1 : Scope) (t : List Event) → Related c n s1 names1 kept1 → Agree s kept kept1 → Alike R P Q B (f kept1 t) (g names1 t)
 
 -- a `let`
 abbrev pub bound_next : Reached Value → Bytes → Scope → Next Scope → Outcome Scope
@@ -128,9 +128,9 @@ value_only k o v = (v.0, v.1)
 values_only : (ts : List ValueType) (os : Option (List Value)) → (vs : List Value) × (os ≡ Some vs) × IsTrue (has_types ts vs) → (vs : List Value) × (os ≡ Some vs)
 values_only ts os v = (v.0, v.1)
 
-module _ (p : Module) (c : Call) (n : Names) (d : Respond) (given : Given p c n d) (P Q B : Kept → Scope → Type 0) (bound : ℕ) (f : Next Kept) (tail : Lines) where
+module _ (p : Module) (c : Call) (n : Names) (d : Respond) (given : Given p c n d) (R : Option Value → Type 0) (P Q B : Kept → Scope → Type 0) (bound : ℕ) (f : Next Kept) (tail : Lines) where
   module _ (s : Handles) (names : Scope) (kept : Kept) (r : Related c n s names kept) (h : ℕ) (x : Bytes) (a : IsTrue (is_new (s h))) (i : (o : Option Value) → used_as c (expression_of c.function h) o ≡ o) (t : List Event) where
-    load_at : (IsTrue (is_present (s h)) → ⊥) → IsFresh c n s x → GoesOn c n P Q B s kept (update s h (Named x)) f (follow_all (words c d) bound tail) → (o : Option Value) → (v : Value) × (o ≡ Some v) → Alike P Q B (and_then (loaded (handle_type c.function h) c.world h o kept t) f) (bound_next (valued c.world (placed o t)) x names (follow_all (words c d) bound tail))
+    load_at : (IsTrue (is_present (s h)) → ⊥) → IsFresh c n s x → GoesOn c n R P Q B s kept (update s h (Named x)) f (follow_all (words c d) bound tail) → (o : Option Value) → (v : Value) × (o ≡ Some v) → Alike R P Q B (and_then (loaded (handle_type c.function h) c.world h o kept t) f) (bound_next (valued c.world (placed o t)) x names (follow_all (words c d) bound tail))
     load_at none fresh next None v = absurd (not_none v.0 v.1)
       where
         not_none : (v : Value) → None ≡ Some v → ⊥
@@ -142,19 +142,19 @@ module _ (p : Module) (c : Call) (n : Names) (d : Respond) (given : Given p c n 
     load_at none fresh next (Some (Whole b z)) v = stopped
     load_at none fresh next (Some (Opaque b z)) v = stopped
 
-    emit_load : (IsTrue (is_present (s h)) → ⊥) → (b : Bool) (q : ℕ) → MayBind c n b s x (Some (Load q)) → GoesOn c n P Q B s kept (emitted b false (usable_all c.function s (q ∷ [])) x s h) f (follow_all (words c d) bound tail) → Alike P Q B (and_then (if_counted b (loaded (handle_type c.function h) c.world h (used c kept q)) kept t) f) (follow_all (words c d) bound (let_if b x (place_form (written (naming c n) s q)) tail) names t)
+    emit_load : (IsTrue (is_present (s h)) → ⊥) → (b : Bool) (q : ℕ) → MayBind c n b s x (Some (Load q)) → GoesOn c n R P Q B s kept (emitted b false (usable_all c.function s (q ∷ [])) x s h) f (follow_all (words c d) bound tail) → Alike R P Q B (and_then (if_counted b (loaded (handle_type c.function h) c.world h (used c kept q)) kept t) f) (follow_all (words c d) bound (let_if b x (place_form (written (naming c n) s q)) tail) names t)
     emit_load none true q m next =
         let u = and_left (usable c.function s q) true m.0 in
-        subst (λ z. Alike P Q B (and_then (loaded (handle_type c.function h) c.world h (used c kept q) kept t) f) (bound_next (valued c.world z) x names (follow_all (words c d) bound tail))) (sym (place_here p c n d given s names kept r q u t)) (load_at none m.1 next (used c kept q) (value_only (handle_type c.function q) (used c kept q) (typed_value p c n d given s names kept r q u)))
+        subst (λ z. Alike R P Q B (and_then (loaded (handle_type c.function h) c.world h (used c kept q) kept t) f) (bound_next (valued c.world z) x names (follow_all (words c d) bound tail))) (sym (place_here p c n d given s names kept r q u t)) (load_at none m.1 next (used c kept q) (value_only (handle_type c.function q) (used c kept q) (typed_value p c n d given s names kept r q u)))
     emit_load none false q m next = next kept names t r (agree_refl s kept)
 
-    let_at : IsFresh c n s x → GoesOn c n P Q B s kept (update s h (Named x)) f (follow_all (words c d) bound tail) → (o : Option Value) → (IsTrue (is_present (s h)) → o ≡ kept h) → TypedValue (handle_type c.function h) o → (q : Reached Value) → q ≡ reached o t → Alike P Q B (f (update kept h o) t) (bound_next q x names (follow_all (words c d) bound tail))
+    let_at : IsFresh c n s x → GoesOn c n R P Q B s kept (update s h (Named x)) f (follow_all (words c d) bound tail) → (o : Option Value) → (IsTrue (is_present (s h)) → o ≡ kept h) → TypedValue (handle_type c.function h) o → (q : Reached Value) → q ≡ reached o t → Alike R P Q B (f (update kept h o) t) (bound_next q x names (follow_all (words c d) bound tail))
     let_at fresh next o un v q e =
         let same = e ∙ ap (λ o. reached o t) v.1 in
         let there = next (update kept h (Some v.0)) (bind names x (Some (IsValue v.0))) t (bind_related c n s names kept h x v.0 r (λ p. sym v.1 ∙ un p) i fresh v.2) (agree_update s kept h (Some v.0) (λ p. sym v.1 ∙ un p)) in
-        subst (λ o. Alike P Q B (f (update kept h o) t) (bound_next q x names (follow_all (words c d) bound tail))) (sym v.1) (subst (λ q. Alike P Q B (f (update kept h (Some v.0)) t) (bound_next q x names (follow_all (words c d) bound tail))) (sym same) there)
+        subst (λ o. Alike R P Q B (f (update kept h o) t) (bound_next q x names (follow_all (words c d) bound tail))) (sym v.1) (subst (λ q. Alike R P Q B (f (update kept h (Some v.0)) t) (bound_next q x names (follow_all (words c d) bound tail))) (sym same) there)
 
-    inline_at : (u : Bool) → (IsTrue u → IsTrue (usable_all c.function s (operands_of (expression_of c.function h)))) → (o : Option Value) → (IsTrue (is_present (s h)) → o ≡ kept h) → (IsTrue u → TypedValue (handle_type c.function h) o) → o ≡ computed c kept (expression_of c.function h) → GoesOn c n P Q B s kept (emitted false true u x s h) f (follow_all (words c d) bound tail) → Alike P Q B (f (update kept h o) t) (follow_all (words c d) bound tail names t)
+    inline_at : (u : Bool) → (IsTrue u → IsTrue (usable_all c.function s (operands_of (expression_of c.function h)))) → (o : Option Value) → (IsTrue (is_present (s h)) → o ≡ kept h) → (IsTrue u → TypedValue (handle_type c.function h) o) → o ≡ computed c kept (expression_of c.function h) → GoesOn c n R P Q B s kept (emitted false true u x s h) f (follow_all (words c d) bound tail) → Alike R P Q B (f (update kept h o) t) (follow_all (words c d) bound tail names t)
     inline_at true u o un v e next =
         next (update kept h o) names t (inline_related c n s names kept h o r un (u refl) (v refl) e) (agree_update s kept h o un)
     inline_at false u o un v e next =
@@ -187,7 +187,7 @@ module _ (p : Module) (c : Call) (n : Names) (d : Respond) (given : Given p c n 
     no_event e q g =
         new_event c s names kept (handle_type c.function h) (expression_of c.function h) (kept h) (subst (λ e. (vs : List Value) → combined c.meaning e vs ≡ None) (sym q) g) (s h) a (r.standing h)
 
-    emit_pure : (b : Bool) (e : Option Expression) → expression_of c.function h ≡ e → IsTrue (is_pure e) → WordFits n e → MayBind c n b s x e → GoesOn c n P Q B s kept (emitted b true (usable_all c.function s (operands_of e)) x s h) f (follow_all (words c d) bound tail) → Alike P Q B (f (update kept h (computed c kept e)) t) (follow_all (words c d) bound (let_if b x (value_form (own_form (naming c n) (written (naming c n) s) (handle_type c.function h) e)) tail) names t)
+    emit_pure : (b : Bool) (e : Option Expression) → expression_of c.function h ≡ e → IsTrue (is_pure e) → WordFits n e → MayBind c n b s x e → GoesOn c n R P Q B s kept (emitted b true (usable_all c.function s (operands_of e)) x s h) f (follow_all (words c d) bound tail) → Alike R P Q B (f (update kept h (computed c kept e)) t) (follow_all (words c d) bound (let_if b x (value_form (own_form (naming c n) (written (naming c n) s) (handle_type c.function h) e)) tail) names t)
     emit_pure true e q z y m next =
         let v = value_there e q z m.0 in
         let own = own_form (naming c n) (written (naming c n) s) (handle_type c.function h) e in
@@ -196,21 +196,21 @@ module _ (p : Module) (c : Call) (n : Names) (d : Respond) (given : Given p c n 
     emit_pure false e q z y m next =
         inline_at (usable_all c.function s (operands_of e)) (λ u. subst (λ e. IsTrue (usable_all c.function s (operands_of e))) (sym q) u) (computed c kept e) (unchanged e q) (λ u. value_there e q z u) (ap (computed c kept) (sym q)) next
 
-    request_at : (IsTrue (is_present (s h)) → ⊥) → (w : Bytes) → IsFresh c n s x → GoesOn c n P Q B s kept (update s h (Named x)) f (follow_all (words c d) bound tail) → (os : Option (List Value)) → (vs : List Value) × (os ≡ Some vs) → (q : Reached Value) → ((vs : List Value) → os ≡ Some vs → q ≡ Gives (c.world t (Ask w vs)) (Ask w vs ∷ t)) → Alike P Q B (and_then (asked (handle_type c.function h) c.world h w os kept t) f) (bound_next q x names (follow_all (words c d) bound tail))
+    request_at : (IsTrue (is_present (s h)) → ⊥) → (w : Bytes) → IsFresh c n s x → GoesOn c n R P Q B s kept (update s h (Named x)) f (follow_all (words c d) bound tail) → (os : Option (List Value)) → (vs : List Value) × (os ≡ Some vs) → (q : Reached Value) → ((vs : List Value) → os ≡ Some vs → q ≡ Gives (c.world t (Ask w vs)) (Ask w vs ∷ t)) → Alike R P Q B (and_then (asked (handle_type c.function h) c.world h w os kept t) f) (bound_next q x names (follow_all (words c d) bound tail))
     request_at none w fresh next None v q e = absurd (not_none v.0 v.1)
       where
         not_none : (vs : List Value) → None ≡ Some vs → ⊥
         not_none vs e = cc
     request_at none w fresh next (Some vs) v q e =
         let value = c.world t (Ask w vs) in
-        typed_alike (has_type (handle_type c.function h) value) (Ask w vs ∷ t) (Done (update kept h (Some value)) (Ask w vs ∷ t)) f (λ y. subst (λ q. Alike P Q B (f (update kept h (Some value)) (Ask w vs ∷ t)) (bound_next q x names (follow_all (words c d) bound tail))) (sym (e vs refl)) (next (update kept h (Some value)) (bind names x (Some (IsValue value))) (Ask w vs ∷ t) (bind_related c n s names kept h x value r (λ p. absurd (none p)) i fresh y) (agree_update s kept h (Some value) (λ p. absurd (none p)))))
+        typed_alike (has_type (handle_type c.function h) value) (Ask w vs ∷ t) (Done (update kept h (Some value)) (Ask w vs ∷ t)) f (λ y. subst (λ q. Alike R P Q B (f (update kept h (Some value)) (Ask w vs ∷ t)) (bound_next q x names (follow_all (words c d) bound tail))) (sym (e vs refl)) (next (update kept h (Some value)) (bind names x (Some (IsValue value))) (Ask w vs ∷ t) (bind_related c n s names kept h x value r (λ p. absurd (none p)) i fresh y) (agree_update s kept h (Some value) (λ p. absurd (none p)))))
 
-    emit_request : (IsTrue (is_present (s h)) → ⊥) → (b : Bool) (q : Asking) (w : Bytes) (xs : List ℕ) → WordFits n (Some (Request q w xs)) → MayBind c n b s x (Some (Request q w xs)) → GoesOn c n P Q B s kept (emitted b false (usable_all c.function s xs) x s h) f (follow_all (words c d) bound tail) → Alike P Q B (and_then (if_counted b (asked (handle_type c.function h) c.world h w (used_all c kept xs)) kept t) f) (follow_all (words c d) bound (let_if b x (Apply w (value_forms (written (naming c n) s) xs)) tail) names t)
+    emit_request : (IsTrue (is_present (s h)) → ⊥) → (b : Bool) (q : Asking) (w : Bytes) (xs : List ℕ) → WordFits n (Some (Request q w xs)) → MayBind c n b s x (Some (Request q w xs)) → GoesOn c n R P Q B s kept (emitted b false (usable_all c.function s xs) x s h) f (follow_all (words c d) bound tail) → Alike R P Q B (and_then (if_counted b (asked (handle_type c.function h) c.world h w (used_all c kept xs)) kept t) f) (follow_all (words c d) bound (let_if b x (Apply w (value_forms (written (naming c n) s) xs)) tail) names t)
     emit_request none true q w xs y m next =
         request_at none w m.1 next (used_all c kept xs) (values_only (handle_types c.function xs) (used_all c kept xs) (values_here p c n d given s names kept r xs m.0)) (value_of (words c d) (Apply w (value_forms (written (naming c n) s) xs)) names t) (λ vs e. ap (λ q. valued c.world (as_value (responded (words c d) w q))) (value_forms_give c d names kept (written (naming c n) s) xs (all_here p c n d given s names kept r xs m.0) t ∙ ap (λ os. reached_all os t) e) ∙ ap (λ q. valued c.world (as_value q)) (request_responds c n d given.responds w y vs t))
     emit_request none false q w xs y m next = next kept names t r (agree_refl s kept)
 
-    emit_one_as : (e : Option Expression) → WordFits n e → expression_of c.function h ≡ e → IsTrue (is_emittable e) → MayBind c n (binds_as c.function h e) s x e → GoesOn c n P Q B s kept (emitted (binds_as c.function h e) (is_pure e) (usable_all c.function s (operands_of e)) x s h) f (follow_all (words c d) bound tail) → Alike P Q B (and_then (emit_as c h e kept t) f) (follow_all (words c d) bound (let_if (binds_as c.function h e) x (value_form (own_form (naming c n) (written (naming c n) s) (handle_type c.function h) e)) tail) names t)
+    emit_one_as : (e : Option Expression) → WordFits n e → expression_of c.function h ≡ e → IsTrue (is_emittable e) → MayBind c n (binds_as c.function h e) s x e → GoesOn c n R P Q B s kept (emitted (binds_as c.function h e) (is_pure e) (usable_all c.function s (operands_of e)) x s h) f (follow_all (words c d) bound tail) → Alike R P Q B (and_then (emit_as c h e kept t) f) (follow_all (words c d) bound (let_if (binds_as c.function h e) x (value_form (own_form (naming c n) (written (naming c n) s) (handle_type c.function h) e)) tail) names t)
     emit_one_as (Some (Load q)) y e k m next = emit_load (no_event (Some (Load q)) e (λ vs. refl)) (is_counted c.function 1 h) q m next
     emit_one_as (Some (Request q w xs)) y e k m next = emit_request (no_event (Some (Request q w xs)) e (λ vs. refl)) (is_asked c.function h q) q w xs y m next
     emit_one_as (Some (Operator w xs)) y e k m next = emit_pure (is_counted c.function 2 h) (Some (Operator w xs)) e refl y m next
@@ -255,13 +255,13 @@ then_assoc (Returned v t) f g = refl
 then_assoc (Stopped x t) f g = refl
 
 -- emitted handles, and what follows
-pub emit_alike : (p : Module) (c : Call) (n : Names) (d : Respond) (given : Given p c n d) (P Q B : Kept → Scope → Type 0) (bound : ℕ) (f : Next Kept) (tail : Lines) (k : ℕ) (hs : List ℕ) (s : Handles) (names : Scope) (kept : Kept) (t : List Event) → Related c n s names kept → MayEmitAll c n k hs s → GoesOn c n P Q B s kept (after_emit (naming c n) k hs s) f (follow_all (words c d) bound tail) → Alike P Q B (and_then (emit c hs kept t) f) (follow_all (words c d) bound (lets (naming c n) k hs s tail) names t)
-emit_alike p c n d given P Q B bound f tail k [] s names kept t r m next = next kept names t r (agree_refl s kept)
-emit_alike p c n d given P Q B bound f tail k (h ∷ hs) s names kept t r m next =
+pub emit_alike : (p : Module) (c : Call) (n : Names) (d : Respond) (given : Given p c n d) (R : Option Value → Type 0) (P Q B : Kept → Scope → Type 0) (bound : ℕ) (f : Next Kept) (tail : Lines) (k : ℕ) (hs : List ℕ) (s : Handles) (names : Scope) (kept : Kept) (t : List Event) → Related c n s names kept → MayEmitAll c n k hs s → GoesOn c n R P Q B s kept (after_emit (naming c n) k hs s) f (follow_all (words c d) bound tail) → Alike R P Q B (and_then (emit c hs kept t) f) (follow_all (words c d) bound (lets (naming c n) k hs s tail) names t)
+emit_alike p c n d given R P Q B bound f tail k [] s names kept t r m next = next kept names t r (agree_refl s kept)
+emit_alike p c n d given R P Q B bound f tail k (h ∷ hs) s names kept t r m next =
     let k1 = given_after c.function h k in
     let s1 = after_one (naming c n) k h s in
     let rest = lets (naming c n) k1 hs s1 tail in
     let g = λ (kept1 : Kept) (t1 : List Event). and_then (emit c hs kept1 t1) f in
     let x = extends_one c n k h s in
-    let there = emit_one_as p c n d given P Q B bound g rest s names kept r h (bound_name (naming c n) k h) m.0.new (λ o. emitted_used c (expression_of c.function h) o m.0.kind) t (expression_of c.function h) (given.words h) refl m.0.kind m.0.bound (λ kept1 names1 t1 r1 a1. emit_alike p c n d given P Q B bound f tail k1 hs s1 names1 kept1 t1 r1 m.1 (λ kept2 names2 t2 r2 a2. next kept2 names2 t2 r2 (agree_trans s s1 kept kept1 kept2 x a1 a2))) in
-    subst (λ o. Alike P Q B o (follow_all (words c d) bound (lets (naming c n) k (h ∷ hs) s tail) names t)) (sym (then_assoc (emit_as c h (expression_of c.function h) kept t) (emit c hs) f)) there
+    let there = emit_one_as p c n d given R P Q B bound g rest s names kept r h (bound_name (naming c n) k h) m.0.new (λ o. emitted_used c (expression_of c.function h) o m.0.kind) t (expression_of c.function h) (given.words h) refl m.0.kind m.0.bound (λ kept1 names1 t1 r1 a1. emit_alike p c n d given R P Q B bound f tail k1 hs s1 names1 kept1 t1 r1 m.1 (λ kept2 names2 t2 r2 a2. next kept2 names2 t2 r2 (agree_trans s s1 kept kept1 kept2 x a1 a2))) in
+    subst (λ o. Alike R P Q B o (follow_all (words c d) bound (lets (naming c n) k (h ∷ hs) s tail) names t)) (sym (then_assoc (emit_as c h (expression_of c.function h) kept t) (emit c hs) f)) there

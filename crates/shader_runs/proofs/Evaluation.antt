@@ -1,10 +1,10 @@
 -- What a text's expression gives where it makes no event, by its parts.
 use Rattle.std.proofs.Common.{◌≡◌, ◌≢◌, ℕ, zero, suc, ◌<◌, Bool, true, false, cond, List, [], ◌∷◌, length, Option, Some, None, slice_get, refl, sym, ap, ◌∙◌, subst, true≢false}
 use Rattle.std.specs.Prelude.{IsTrue}
-use Rattle.shader_runs.specs.Value.{Bytes, Place, Part, At, Selector, step_of, ValueType, BooleanType, IntegerType, PointerType, OtherType, has_type, Value, Truth, Whole, Pointer, Opaque, Spelled, Selected, Indexed, Junction}
+use Rattle.shader_runs.specs.Value.{Bytes, Place, Part, At, Selector, step_of, ValueType, BooleanType, IntegerType, PointerType, OtherType, has_type, has_types, Value, Truth, Whole, Pointer, Opaque, Spelled, Selected, Indexed, Junction}
 use Rattle.shader_runs.specs.World.{Event, Ask, World, Meaning}
 use Rattle.shader_runs.specs.Outcome.{Stuck, Reached, Gives, Halts}
-use Rattle.shader_runs.specs.Program.{Expression, Operator, Access, Select, Junct}
+use Rattle.shader_runs.specs.Program.{Function, function_numbered, Expression, Operator, Access, Select, Junct}
 use Rattle.shader_runs.specs.ProgramRun.{Call, Kept, used, also, used_all, applied, accessed, selected, decides, undecided, combined, gathered}
 use Rattle.shader_runs.specs.Text.{Name, Index, Pick, Both}
 use Rattle.shader_runs.specs.TextRun.{part_reached, index_reached, indexed, picked, undecided_reached, both_reached, Denoted, IsValue, IsPlace, Words, Scope, named, valued, responded, as_value, dereferenced, addressed, put_before, followed_by, evaluate, evaluate_all, value_of, respond_by_table}
@@ -12,7 +12,7 @@ use Rattle.shader_runs.specs.Scope.{Names, Naming}
 use Rattle.shader_runs.specs.Form.{Plain, AsValue, AsPlace, value_form, place_form, value_forms, access_form, select_form}
 use Rattle.shader_runs.specs.Premises.{OperatesBy, AsksBy}
 use Rattle.shader_runs.proofs.Alike.{Answers, reached, placed}
-use Rattle.shader_runs.proofs.Relation.{as_denoted}
+use Rattle.shader_runs.proofs.Relation.{Returns, as_denoted}
 
 abbrev pub naming : Call → Names → Naming
 naming c n = record { function = c.function; names = n }
@@ -26,7 +26,7 @@ words c d = record { world = c.world; meaning = c.meaning; respond = d }
 -- what the text makes of a word: a callee's run, or what the table says
 pub record Responds (c : Call) (n : Names) (d : Respond) : Type 0 where
   pub table : (w : Bytes) → ((g : ℕ) → g < n.earlier → n.outer.function g ≢ w) → (vs : List Value) (t : List Event) → d w vs t ≡ respond_by_table c.world c.meaning n.outer.is_request w vs t
-  pub calls : (g : ℕ) → g < n.earlier → (vs : List Value) (t : List Event) → Answers (c.calls g vs t) (d (n.outer.function g) vs t)
+  pub calls : (g : ℕ) (callee : Function) → function_numbered c.callees g ≡ Some callee → (vs : List Value) → IsTrue (has_types callee.argument_types vs) → (t : List Event) → Answers (Returns callee) (c.calls g vs t) (d (n.outer.function g) vs t)
 
 abbrev pub denoted : Option Value → List Event → Reached Denoted
 denoted None t = Halts Stuck t

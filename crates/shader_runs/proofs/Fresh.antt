@@ -212,7 +212,7 @@ module _ (p : Module) (c : Call) (n : Names) (environment : EnvironmentFits p c.
   result_fresh k (Some h) s le d w m = record { new = m; kind = w; fresh = fresh_numbered k s h le d m }
 
   mutual
-    fits_fresh : (st : Statement) (k : ℕ) (s : Handles) → given_by c.function st k ≤ Total → Sources k s → IsRegular (naming c n) st → IsTrue (fits (naming c n) k st s) → Fits c n k st s
+    fits_fresh : (st : Statement) (k : ℕ) (s : Handles) → given_by c.function st k ≤ Total → Sources k s → IsRegular c.callees (naming c n) st → IsTrue (fits (naming c n) k st s) → Fits c n k st s
     fits_fresh (Emit first count) k s le d w m = emit_fresh k (from first count) s le d m
     fits_fresh (Store q v) k s le d w m =
         (and_left (usable c.function s q) (usable c.function s v) m, and_right (usable c.function s q) (usable c.function s v) m)
@@ -240,14 +240,14 @@ module _ (p : Module) (c : Call) (n : Names) (environment : EnvironmentFits p c.
         (all_fresh b k s (omega (arith, le, more)) d w.0 (and_left fb (fd && u) m), all_fresh b2 k1 s1 le (sources_all k b s d) w.1 (and_left fd u both), and_right fd u both)
     fits_fresh Break k s le d w m = tt
     fits_fresh Continue k s le d w m = tt
-    fits_fresh (Return v) k s le d w m = m
+    fits_fresh (Return v) k s le d w m = (m, w)
     fits_fresh Kill k s le d w m = tt
     fits_fresh (Barrier bits) k s le d w m = w
     fits_fresh (Act a xs r) k s le d w m =
         let u = usable_all c.function s xs in
         (and_left u (may_give r s) m, w.0, result_fresh k r s le d w.1 (and_right u (may_give r s) m))
 
-    pub all_fresh : (ss : Statements) (k : ℕ) (s : Handles) → given_by_all c.function ss k ≤ Total → Sources k s → AreRegular (naming c n) ss → IsTrue (fits_all (naming c n) k ss s) → FitsAll c n k ss s
+    pub all_fresh : (ss : Statements) (k : ℕ) (s : Handles) → given_by_all c.function ss k ≤ Total → Sources k s → AreRegular c.callees (naming c n) ss → IsTrue (fits_all (naming c n) k ss s) → FitsAll c n k ss s
     all_fresh end k s le d w m = tt
     all_fresh (then st ss) k s le d w m =
         let k1 = given_by c.function st k in
@@ -257,7 +257,7 @@ module _ (p : Module) (c : Call) (n : Names) (environment : EnvironmentFits p c.
         let more = list_more ss k1 in
         (fits_fresh st k s (omega (arith, le, more)) d w.0 (and_left fa fb m), all_fresh ss k1 s1 le (sources_after k st s d) w.1 (and_right fa fb m))
 
-    cases_fresh : (cs : Cases) (k : ℕ) (s : Handles) → given_by_cases c.function cs k ≤ Total → Sources k s → CasesAreRegular (naming c n) cs → IsTrue (fits_cases (naming c n) k cs s) → FitsCases c n k cs s
+    cases_fresh : (cs : Cases) (k : ℕ) (s : Handles) → given_by_cases c.function cs k ≤ Total → Sources k s → CasesAreRegular c.callees (naming c n) cs → IsTrue (fits_cases (naming c n) k cs s) → FitsCases c n k cs s
     cases_fresh no_case k s le d w m = tt
     cases_fresh (case l b falls cs) k s le d w m =
         let k1 = given_by_all c.function b k in

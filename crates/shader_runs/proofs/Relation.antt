@@ -14,6 +14,15 @@ use Rattle.shader_runs.proofs.Update.{and_left, and_right, and_both}
 abbrev pub TypedValue : ValueType → Option Value → Type 0
 TypedValue k o = (v : Value) × (o ≡ Some v) × IsTrue (has_type k v)
 
+-- a returned value has the result's type
+abbrev pub ResultTyped : Option Value → Option ValueType → Type 0
+ResultTyped None k = Unit {0}
+ResultTyped (Some v) None = Unit {0}
+ResultTyped (Some v) (Some k) = IsTrue (has_type k v)
+
+abbrev pub Returns : Function → Option Value → Type 0
+Returns f o = ResultTyped o f.result
+
 abbrev pub as_denoted : Option Value → Option Denoted
 as_denoted None = None
 as_denoted (Some v) = Some (IsValue v)

@@ -1,9 +1,9 @@
 -- The laws: a call runs alike by the text and by the module, event by event.
-use Rattle.std.specs.Prelude.{◌≡◌, ℕ, ◌<◌, List, length, Option}
-use Rattle.shader_runs.specs.Value.{Value}
+use Rattle.std.specs.Prelude.{◌≡◌, ℕ, List, Option, Some, IsTrue}
+use Rattle.shader_runs.specs.Value.{Value, has_types}
 use Rattle.shader_runs.specs.World.{World, Meaning, Event, Environment}
 use Rattle.shader_runs.specs.Outcome.{Stuck, OutOfTurns, Discarded, Mistyped, Reached, Gives, Halts}
-use Rattle.shader_runs.specs.Program.{Module}
+use Rattle.shader_runs.specs.Program.{Function, function_numbered, Module}
 use Rattle.shader_runs.specs.ProgramRun.{run_call}
 use Rattle.shader_runs.specs.TextRun.{module_scope, follow_call}
 use Rattle.shader_runs.specs.Text.{TextModule}
@@ -12,7 +12,7 @@ use Rattle.shader_runs.specs.Form.{form_module, functions_of}
 use Rattle.shader_runs.specs.Typing.{IsConsistent}
 use Rattle.shader_runs.specs.Premises.{IsTyped, AllFit, EnvironmentFits, ModuleNamesAreDistinct}
 
--- the arguments have their types, and so has each answer of the world that the run asks for
+-- each answer of the world that the run asks for has its type
 abbrev pub KeepsTypes : {A : Type 0} → Reached A → Type 0
 KeepsTypes (Gives a t) = Unit {0}
 KeepsTypes (Halts Mistyped t) = ⊥
@@ -24,15 +24,18 @@ pub record ModuleFits (p : Module) (n : ModuleNames) (fs : List Naming) : Type 0
   pub distinct : ModuleNamesAreDistinct p n
   pub all : AllFit p n fs
 
--- of every module whose scope holds, in every world and environment that keep the types, under every typed meaning and every bound on loop turns,
--- a function or entry point has by its text the module's events, operands, ending and result
+-- of every module whose scope holds, in every world that keeps the types, under all values of constants, overrides and arguments of their types,
+-- every typed meaning and every bound on loop turns, a function or entry point makes by its text the module's events, with their operands,
+-- ends as in the module and returns the same
 abbrev pub RunsAlike : Type 0
 RunsAlike =
     (p : Module) (n : ModuleNames) (fs : List Naming) →
     ModuleFits p n fs →
     (env : Environment) → EnvironmentFits p env →
     (m : Meaning) → IsTyped p m →
-    (w : World) (turns g : ℕ) → g < length p.functions → (vs : List Value) (t : List Event) →
+    (g : ℕ) (f : Function) → function_numbered p.functions g ≡ Some f →
+    (vs : List Value) → IsTrue (has_types f.argument_types vs) →
+    (w : World) (turns : ℕ) (t : List Event) →
     KeepsTypes (run_call env w m turns p.functions g vs t) →
     follow_call (module_scope (form_module p n fs) env) w m n.is_request turns (form_module p n fs).functions (n.function g) vs t
       ≡ run_call env w m turns p.functions g vs t

@@ -2,9 +2,10 @@
 use Rattle.std.specs.Prelude.{◌≡◌, ◌≢◌, ℕ, ◌<◌, Bool, true, false, List, [], ◌∷◌, length, Option, Some, None, ◌&&◌, IsTrue}
 use Rattle.shader_runs.specs.Value.{Bytes, ValueType, BooleanType, IntegerType, PointerType, OtherType, type_at, type_of, Value, Pointer, has_type, has_types, Spelled}
 use Rattle.shader_runs.specs.World.{Environment, GlobalValue, Stored, Held, Meaning}
-use Rattle.shader_runs.specs.Program.{ConstantTree, Fixed, NamedConstant, Constructed, ConstantTrees, no_constant, constant, Expression, Constant, Argument, Local, Global, Load, Operator, Access, Select, Junct, Request, Result, Action, Asked, Called, Statement, Emit, Store, Block, If, Switch, Loop, Break, Continue, Return, Kill, Barrier, Act, Statements, end, then, Cases, no_case, case, Function, argument_count, local_count, expression_of, handle_type, operands_of, Module}
+use Rattle.shader_runs.specs.Program.{ConstantTree, Fixed, NamedConstant, Constructed, ConstantTrees, no_constant, constant, Expression, Constant, Argument, Local, Global, Load, Operator, Access, Select, Junct, Request, Result, Action, Asked, Called, Statement, Emit, Store, Block, If, Switch, Loop, Break, Continue, Return, Kill, Barrier, Act, Statements, end, then, Cases, no_case, case, Function, argument_count, local_count, function_numbered, expression_of, handle_type, operands_of, Module}
 use Rattle.shader_runs.specs.ProgramRun.{combined, barrier_words}
 use Rattle.shader_runs.specs.Scope.{ModuleNames, Names, Naming, is_pure, given_by_all, fits_function}
+use Rattle.shader_runs.specs.Form.{functions_of}
 
 -- a word that asks for an event is no function's name
 abbrev pub AsksBy : Names → Bytes → Type 0
@@ -39,18 +40,37 @@ abbrev pub EachAsks : Names → List Bytes → Type 0
 EachAsks n [] = Unit {0}
 EachAsks n (w ∷ ws) = AsksBy n w × EachAsks n ws
 
--- a callee stands before its caller
-abbrev pub ActionFits : Names → Action → Type 0
-ActionFits n (Asked w) = AsksBy n w
-ActionFits n (Called g) = g < n.earlier
-
 abbrev pub IsResult : Option Expression → Type 0
 IsResult (Some Result) = Unit {0}
 IsResult _ = ⊥
 
+abbrev pub handle_types : Function → List ℕ → List ValueType
+handle_types f [] = []
+handle_types f (x ∷ xs) = handle_type f x ∷ handle_types f xs
+
+-- a wanted result is one that the callee gives
+abbrev pub ResultWanted : Function → Option ValueType → Option ℕ → Type 0
+ResultWanted f k None = Unit {0}
+ResultWanted f k (Some h) = k ≡ Some (handle_type f h)
+
+-- the callee wants arguments of these types
+abbrev pub CallFits : Function → Option Function → List ℕ → Option ℕ → Type 0
+CallFits f None xs r = ⊥
+CallFits f (Some callee) xs r = (handle_types f xs ≡ callee.argument_types) × ResultWanted f callee.result r
+
+-- a callee stands before its caller
+abbrev pub ActionFits : List Function → Naming → Action → List ℕ → Option ℕ → Type 0
+ActionFits callees f (Asked w) xs r = AsksBy f.names w
+ActionFits callees f (Called g) xs r = (g < f.names.earlier) × CallFits f.function (function_numbered callees g) xs r
+
 abbrev pub ResultFits : Function → Option ℕ → Type 0
 ResultFits f None = Unit {0}
 ResultFits f (Some h) = IsResult (expression_of f h)
+
+-- what is returned has the function's result type
+abbrev pub ReturnFits : Function → Option ℕ → Type 0
+ReturnFits f None = Unit {0}
+ReturnFits f (Some h) = f.result ≡ Some (handle_type f h)
 
 -- only an empty case falls through, and not the last one
 abbrev pub FallsFrom : Bool → Statements → Cases → Type 0
@@ -59,24 +79,26 @@ FallsFrom true end no_case = ⊥
 FallsFrom true end (case l b falls cs) = Unit {0}
 FallsFrom true (then s ss) cs = ⊥
 
--- the words, results and cases of a statement
+-- the words, calls, results and cases of a statement
 abbrev mutual
-  pub IsRegular : Naming → Statement → Type 0
-  IsRegular f (Block b) = AreRegular f b
-  IsRegular f (If c a b) = AreRegular f a × AreRegular f b
-  IsRegular f (Switch h cases) = CasesAreRegular f cases
-  IsRegular f (Loop b d e) = AreRegular f b × AreRegular f d
-  IsRegular f (Barrier bits) = EachAsks f.names (barrier_words bits)
-  IsRegular f (Act a xs r) = ActionFits f.names a × ResultFits f.function r
-  IsRegular f _ = Unit {0}
+  pub IsRegular : List Function → Naming → Statement → Type 0
+  IsRegular callees f (Block b) = AreRegular callees f b
+  IsRegular callees f (If c a b) = AreRegular callees f a × AreRegular callees f b
+  IsRegular callees f (Switch h cases) = CasesAreRegular callees f cases
+  IsRegular callees f (Loop b d e) = AreRegular callees f b × AreRegular callees f d
+  IsRegular callees f (Return v) = ReturnFits f.function v
+  IsRegular callees f (Barrier bits) = EachAsks f.names (barrier_words bits)
+  IsRegular callees f (Act a xs r) = ActionFits callees f a xs r × ResultFits f.function r
+  IsRegular callees f _ = Unit {0}
 
-  pub AreRegular : Naming → Statements → Type 0
-  AreRegular f end = Unit {0}
-  AreRegular f (then s ss) = IsRegular f s × AreRegular f ss
+  pub AreRegular : List Function → Naming → Statements → Type 0
+  AreRegular callees f end = Unit {0}
+  AreRegular callees f (then s ss) = IsRegular callees f s × AreRegular callees f ss
 
-  pub CasesAreRegular : Naming → Cases → Type 0
-  CasesAreRegular f no_case = Unit {0}
-  CasesAreRegular f (case l b falls cs) = FallsFrom falls b cs × AreRegular f b × CasesAreRegular f cs
+  pub CasesAreRegular : List Function → Naming → Cases → Type 0
+  CasesAreRegular callees f no_case = Unit {0}
+  CasesAreRegular callees f (case l b falls cs) =
+      FallsFrom falls b cs × AreRegular callees f b × CasesAreRegular callees f cs
 
 -- the types of a function's leaves
 abbrev mutual
@@ -106,10 +128,6 @@ LeafFits p f k (Some (Argument i)) = k ≡ type_at f.argument_types i
 LeafFits p f k (Some (Local i)) = k ≡ PointerType
 LeafFits p f k (Some (Global i)) = (i < length p.global_types) × (k ≡ type_at p.global_types i)
 LeafFits p f k _ = Unit {0}
-
-abbrev pub handle_types : Function → List ℕ → List ValueType
-handle_types f [] = []
-handle_types f (x ∷ xs) = handle_type f x ∷ handle_types f xs
 
 abbrev mutual
   -- a type's value from parts has that type whenever its parts have theirs
@@ -180,20 +198,20 @@ abbrev pub AreDistinct : Module → Naming → Type 0
 AreDistinct p f =
     (a b : NameKey) → IsName p f.function a → IsName p f.function b → name_at f.names a ≡ name_at f.names b → a ≡ b
 
--- one function of a module, with this many before it
-pub record FunctionFits (p : Module) (n : ModuleNames) (place : ℕ) (f : Naming) : Type 0 where
+-- one function of a module, behind these
+pub record FunctionFits (p : Module) (n : ModuleNames) (callees : List Function) (f : Naming) : Type 0 where
   pub outer : f.names.outer ≡ n
-  pub earlier : f.names.earlier ≡ place
+  pub earlier : f.names.earlier ≡ length callees
   pub ordered : (h : ℕ) → AllBelow h (operands_of (expression_of f.function h))
   pub words : (h : ℕ) → WordFits f.names (expression_of f.function h)
   pub leaves : (h : ℕ) → LeafFits p f.function (handle_type f.function h) (expression_of f.function h)
-  pub regular : AreRegular f f.function.body
+  pub regular : AreRegular callees f f.function.body
   pub distinct : AreDistinct p f
   pub scope : IsTrue (fits_function f)
 
 abbrev pub AllFit : Module → ModuleNames → List Naming → Type 0
 AllFit p n [] = Unit {0}
-AllFit p n (f ∷ fs) = FunctionFits p n (length fs) f × AllFit p n fs
+AllFit p n (f ∷ fs) = FunctionFits p n (functions_of fs) f × AllFit p n fs
 
 -- what the variables' names stand for
 abbrev pub global_has_type : ValueType → GlobalValue → Bool

@@ -1,5 +1,5 @@
 -- A module as shapes: expressions in a list, statements that name them by their index.
-use Rattle.std.specs.Prelude.{ℕ, zero, suc, ℤ, Bool, true, false, ◌-◌, ◌^◌, List, [], ◌∷◌, length, Option, Some, ◌||◌, nat_le, get_or, slice_get}
+use Rattle.std.specs.Prelude.{ℕ, zero, suc, ℤ, Bool, true, false, cond, ◌-◌, ◌^◌, List, [], ◌∷◌, length, Option, Some, None, ◌||◌, nat_eq, nat_le, get_or, slice_get}
 use Rattle.shader_runs.specs.Value.{Bytes, Selector, Value, ValueType, type_at, Junction}
 
 mutual
@@ -75,6 +75,7 @@ mutual
 -- types, counts and given names are by handle, first values are the initialisers of the locals
 pub record Function : Type 0 where
   pub argument_types : List ValueType
+  pub result : Option ValueType
   pub first_values : List (Option ℕ)
   pub expressions : List Expression
   pub types : List ValueType
@@ -87,6 +88,11 @@ argument_count f = length f.argument_types
 
 abbrev pub local_count : Function → ℕ
 local_count f = length f.first_values
+
+-- the function of this number, that of the functions behind it
+abbrev pub function_numbered : List Function → ℕ → Option Function
+function_numbered [] g = None
+function_numbered (f ∷ fs) g = cond (nat_eq g (length fs)) (Some f) (function_numbered fs g)
 
 abbrev pub expression_of : Function → ℕ → Option Expression
 expression_of f h = slice_get f.expressions h

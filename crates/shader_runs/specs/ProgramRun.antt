@@ -1,13 +1,14 @@
 -- A module's run by handles: an emitted expression is evaluated once, and its value kept.
 use Rattle.std.specs.Prelude.{ℕ, zero, suc, ℤ, pos, Bool, true, false, cond, nat_eq, List, [], ◌∷◌, ◌++◌, length, Option, Some, None, ◌&&◌, ◌||◌, slice_get, codes}
-use Rattle.shader_runs.specs.Value.{Bytes, same_integer, Place, Part, Rooted, GlobalRoot, LocalRoot, At, step_of, ValueType, BooleanType, IntegerType, PointerType, OtherType, has_type, has_types, Selector, Value, Truth, Whole, Pointer, Opaque, Word, Spelled, Selected, Indexed, Junction, junction_word, is_decided}
+use Rattle.shader_runs.specs.Value.{Bytes, same_integer, Place, Part, Rooted, GlobalRoot, LocalRoot, At, step_of, ValueType, BooleanType, IntegerType, PointerType, OtherType, has_type, Selector, Value, Truth, Whole, Pointer, Opaque, Word, Spelled, Selected, Indexed, Junction, junction_word, is_decided}
 use Rattle.shader_runs.specs.World.{Event, Entry, Ask, Read, Write, Discard, entries, World, Meaning, GlobalValue, Stored, Held, Environment, update}
 use Rattle.shader_runs.specs.Outcome.{Stuck, Discarded, Mistyped, Outcome, Done, Continued, Broke, Returned, Stopped, Reached, Gives, Halts, answer, Next, and_then, turn, turns, after_switch, chosen, with_integer}
 use Rattle.shader_runs.specs.Program.{ConstantTree, Fixed, NamedConstant, Constructed, ConstantTrees, no_constant, constant, Expression, Constant, Argument, Local, Global, Load, Operator, Access, Select, Junct, Request, Result, Action, Asked, Called, BarrierBits, Label, Numbered, Default, Statement, Emit, Store, Block, If, Switch, Loop, Break, Continue, Return, Kill, Barrier, Act, Statements, end, then, Cases, no_case, case, Function, argument_count, expression_of, handle_type, operands_of, is_counted, is_asked, from}
 
--- one call of a function: frame is the number of entries before it, calls what its callees do
+-- one call of a function: callees are the functions before it and calls what they do, frame is the number of entries before it
 pub record Call : Type 0 where
   pub function : Function
+  pub callees : List Function
   pub environment : Environment
   pub world : World
   pub meaning : Meaning
@@ -179,12 +180,13 @@ acted c (Asked w) vs t = Gives (Some (c.world t (Ask w vs))) (Ask w vs ∷ t)
 acted c (Called g) vs t = c.calls g vs t
 
 -- an action's result is kept where one is wanted
-abbrev pub with_result : Function → Option ℕ → Kept → Reached (Option Value) → Outcome Kept
-with_result f None kept (Gives v t) = Done kept t
-with_result f None kept (Halts x t) = Stopped x t
-with_result f (Some h) kept (Gives None t) = Stopped Stuck t
-with_result f (Some h) kept (Gives (Some v) t) = keep_typed (handle_type f h) h v kept t
-with_result f (Some h) kept (Halts x t) = Stopped x t
+abbrev pub with_result : Function → Action → Option ℕ → Kept → Reached (Option Value) → Outcome Kept
+with_result f a None kept (Gives v t) = Done kept t
+with_result f a None kept (Halts x t) = Stopped x t
+with_result f a (Some h) kept (Gives None t) = Stopped Stuck t
+with_result f (Asked w) (Some h) kept (Gives (Some v) t) = keep_typed (handle_type f h) h v kept t
+with_result f (Called g) (Some h) kept (Gives (Some v) t) = Done (update kept h (Some v)) t
+with_result f a (Some h) kept (Halts x t) = Stopped x t
 
 abbrev pub with_all : {S : Type 0} → Option (List Value) → List Event → (List Value → Outcome S) → Outcome S
 with_all None t go = Stopped Stuck t
@@ -234,7 +236,7 @@ abbrev mutual
   run c n (Return v) kept t = returned c v kept t
   run c n Kill kept t = Stopped Discarded (Discard ∷ t)
   run c n (Barrier bits) kept t = ask_each (barrier_words bits) kept t
-  run c n (Act a xs r) kept t = with_all (used_all c kept xs) t (λ vs. with_result c.function r kept (acted c a vs t))
+  run c n (Act a xs r) kept t = with_all (used_all c kept xs) t (λ vs. with_result c.function a r kept (acted c a vs t))
 
   pub run_all : Call → ℕ → Statements → Next Kept
   run_all c n end kept t = Done kept t
@@ -300,11 +302,6 @@ run_body c n g vs t =
     let kept = constants_kept c.function c.environment c.meaning in
     entered g vs (first_used_all c kept c.function.first_values) t (λ t1. answer (run_all c n c.function.body kept t1))
 
--- arguments of other types than the function's
-abbrev pub if_arguments : Bool → List Event → Reached (Option Value) → Reached (Option Value)
-if_arguments true t a = a
-if_arguments false t a = Halts Mistyped t
-
 abbrev pub called : Bool → Reached (Option Value) → List Event → Reached (Option Value)
 called true a t = a
 called false a t = Halts Stuck t
@@ -313,7 +310,7 @@ called false a t = Halts Stuck t
 abbrev pub run_call : Environment → World → Meaning → ℕ → List Function → ℕ → List Value → List Event → Reached (Option Value)
 run_call env w m n [] g vs t = Halts Stuck t
 run_call env w m n (f ∷ fs) g vs t =
-    let c : Call = record { function = f; environment = env; world = w; meaning = m; arguments = vs; frame = entries t; calls = run_call env w m n fs } in
-    let own = called (nat_eq (length vs) (argument_count f)) (if_arguments (has_types f.argument_types vs) t (run_body c n (length fs) vs t)) t in
+    let c : Call = record { function = f; callees = fs; environment = env; world = w; meaning = m; arguments = vs; frame = entries t; calls = run_call env w m n fs } in
+    let own = called (nat_eq (length vs) (argument_count f)) (run_body c n (length fs) vs t) t in
     let other = run_call env w m n fs g vs t in
     cond (nat_eq g (length fs)) own other

@@ -113,7 +113,7 @@ a_place = Rooted (LocalRoot 0 0)
 abbrev pub store_function : Function
 store_function =
     record {
-      argument_types = [];
+      argument_types = []; result = Some i32;
       first_values = Some 0 ∷ [];
       expressions = literal 1 ∷ Local 0 ∷ Load 1 ∷ literal 2 ∷ [];
       types = i32 ∷ PointerType ∷ i32 ∷ i32 ∷ [];
@@ -153,7 +153,7 @@ LateRow =
 abbrev pub inline_function : Function
 inline_function =
     record {
-      argument_types = i32 ∷ [];
+      argument_types = i32 ∷ []; result = Some i32;
       first_values = None ∷ [];
       expressions = Argument 0 ∷ Local 0 ∷ Operator (codes "+") (0 ∷ 0 ∷ []) ∷ Load 1 ∷ [];
       types = i32 ∷ PointerType ∷ i32 ∷ i32 ∷ [];
@@ -178,7 +178,7 @@ TwofoldRow =
 abbrev pub sibling_function : Function
 sibling_function =
     record {
-      argument_types = BooleanType ∷ i32 ∷ [];
+      argument_types = BooleanType ∷ i32 ∷ []; result = Some i32;
       first_values = [];
       expressions = Argument 0 ∷ Argument 1 ∷ Operator (codes "+") (1 ∷ 1 ∷ []) ∷ [];
       types = BooleanType ∷ i32 ∷ i32 ∷ [];
@@ -206,12 +206,12 @@ TwiceRow =
 -- [tail]: `continuing` uses a name of the body
 abbrev pub TailRow : Type 0
 TailRow =
-    IsShown (with_names (codes "lp" ∷ []) 0 (codes "x" ∷ []) (codes "a" ∷ []) [] (record { argument_types = i32 ∷ []; first_values = None ∷ []; expressions = Argument 0 ∷ Local 0 ∷ Operator (codes "+") (0 ∷ 0 ∷ []) ∷ Constant (Fixed (Truth true)) ∷ []; types = i32 ∷ PointerType ∷ i32 ∷ BooleanType ∷ []; counts = 2 ∷ 2 ∷ 2 ∷ 1 ∷ []; given_names = []; body = then (Loop (then (Emit 2 1) (then (Store 1 2) end)) (then (Store 1 2) end) (Some 3)) end }) ∷ []) (text_of (codes "lp") (codes "x" ∷ []) (local_a ∷ []) (before (LoopOf (before (Let (numbered_name 2) x_plus_x) (before (Assign (Name (codes "a")) (named_by 2)) last)) (before (Assign (Name (codes "a")) (named_by 2)) last) (Some (Known (Truth true)))) last) ∷ []) 0 (codes "lp") (number 4 ∷ []) (Gives None (Write a_place (number 8) ∷ Write a_place (number 8) ∷ entered_with (number 4 ∷ []) (None ∷ [])))
+    IsShown (with_names (codes "lp" ∷ []) 0 (codes "x" ∷ []) (codes "a" ∷ []) [] (record { argument_types = i32 ∷ []; result = None; first_values = None ∷ []; expressions = Argument 0 ∷ Local 0 ∷ Operator (codes "+") (0 ∷ 0 ∷ []) ∷ Constant (Fixed (Truth true)) ∷ []; types = i32 ∷ PointerType ∷ i32 ∷ BooleanType ∷ []; counts = 2 ∷ 2 ∷ 2 ∷ 1 ∷ []; given_names = []; body = then (Loop (then (Emit 2 1) (then (Store 1 2) end)) (then (Store 1 2) end) (Some 3)) end }) ∷ []) (text_of (codes "lp") (codes "x" ∷ []) (local_a ∷ []) (before (LoopOf (before (Let (numbered_name 2) x_plus_x) (before (Assign (Name (codes "a")) (named_by 2)) last)) (before (Assign (Name (codes "a")) (named_by 2)) last) (Some (Known (Truth true)))) last) ∷ []) 0 (codes "lp") (number 4 ∷ []) (Gives None (Write a_place (number 8) ∷ Write a_place (number 8) ∷ entered_with (number 4 ∷ []) (None ∷ [])))
 
 abbrev pub folded_function : Function
 folded_function =
     record {
-      argument_types = BooleanType ∷ [];
+      argument_types = BooleanType ∷ []; result = None;
       first_values = None ∷ [];
       expressions = Argument 0 ∷ Local 0 ∷ literal 1 ∷ Operator (codes "+") (2 ∷ 2 ∷ []) ∷ [];
       types = BooleanType ∷ PointerType ∷ i32 ∷ i32 ∷ [];
@@ -235,7 +235,7 @@ FoldedRow =
 abbrev pub increment : Function
 increment =
     record {
-      argument_types = PointerType ∷ [];
+      argument_types = PointerType ∷ []; result = None;
       first_values = [];
       expressions = Argument 0 ∷ literal 1 ∷ Load 0 ∷ Operator (codes "+") (2 ∷ 1 ∷ []) ∷ [];
       types = PointerType ∷ i32 ∷ i32 ∷ i32 ∷ [];
@@ -247,7 +247,7 @@ increment =
 abbrev pub run_function : Function
 run_function =
     record {
-      argument_types = [];
+      argument_types = []; result = Some i32;
       first_values = None ∷ [];
       expressions = Local 0 ∷ Load 0 ∷ [];
       types = PointerType ∷ i32 ∷ [];
@@ -270,7 +270,7 @@ CallRow =
 abbrev pub switch_function : Statements → Function
 switch_function b =
     record {
-      argument_types = i32 ∷ [];
+      argument_types = i32 ∷ []; result = None;
       first_values = [];
       expressions = Argument 0 ∷ [];
       types = i32 ∷ [];
@@ -287,12 +287,12 @@ SwitchRow =
 -- the joined case runs for each of its labels
 abbrev pub JoinedRow : Type 0
 JoinedRow =
-    IsShown (with_names (codes "s" ∷ []) 0 (codes "x" ∷ []) [] [] (switch_function (then (Return (Some 0)) end)) ∷ []) (text_of (codes "s") (codes "x" ∷ []) [] (before (SwitchOn (Name (codes "x")) (group (Numbered (pos 1) ∷ Numbered (pos 2) ∷ Default ∷ []) (before (ReturnLine (Some (Name (codes "x")))) last) no_group)) last) ∷ []) 0 (codes "s") (number 1 ∷ []) (Gives (Some (number 1)) (entered_with (number 1 ∷ []) []))
+    IsShown (with_names (codes "s" ∷ []) 0 (codes "x" ∷ []) [] [] (record (switch_function (then (Return (Some 0)) end)) { result = Some i32 }) ∷ []) (text_of (codes "s") (codes "x" ∷ []) [] (before (SwitchOn (Name (codes "x")) (group (Numbered (pos 1) ∷ Numbered (pos 2) ∷ Default ∷ []) (before (ReturnLine (Some (Name (codes "x")))) last) no_group)) last) ∷ []) 0 (codes "s") (number 1 ∷ []) (Gives (Some (number 1)) (entered_with (number 1 ∷ []) []))
 
 abbrev pub loop_function : Function
 loop_function =
     record {
-      argument_types = BooleanType ∷ [];
+      argument_types = BooleanType ∷ []; result = None;
       first_values = [];
       expressions = Argument 0 ∷ [];
       types = BooleanType ∷ [];
@@ -313,7 +313,7 @@ LoopRow =
 -- a barrier with two of its bits set
 abbrev pub BarrierRow : Type 0
 BarrierRow =
-    IsShown (with_names (codes "b" ∷ []) 0 [] [] [] (record { argument_types = []; first_values = []; expressions = []; types = []; counts = []; given_names = []; body = then (Barrier (record { storage = true; work_group = false; sub_group = false; texture = true })) end }) ∷ []) (text_of (codes "b") [] [] (before (Perform (codes "storageBarrier") no_more) (before (Perform (codes "textureBarrier") no_more) last)) ∷ []) 0 (codes "b") [] (Gives None (Ask (codes "textureBarrier") [] ∷ Ask (codes "storageBarrier") [] ∷ entered_with [] []))
+    IsShown (with_names (codes "b" ∷ []) 0 [] [] [] (record { argument_types = []; result = None; first_values = []; expressions = []; types = []; counts = []; given_names = []; body = then (Barrier (record { storage = true; work_group = false; sub_group = false; texture = true })) end }) ∷ []) (text_of (codes "b") [] [] (before (Perform (codes "storageBarrier") no_more) (before (Perform (codes "textureBarrier") no_more) last)) ∷ []) 0 (codes "b") [] (Gives None (Ask (codes "textureBarrier") [] ∷ Ask (codes "storageBarrier") [] ∷ entered_with [] []))
 
 abbrev pub select_text : (reject accept : Bytes) → List TextFunction
 select_text reject accept =
@@ -322,13 +322,13 @@ select_text reject accept =
 -- the operand that is taken where the condition holds stands behind the other
 abbrev pub SelectRow : Type 0
 SelectRow =
-    IsShown (with_names (codes "sel" ∷ []) 0 (codes "c" ∷ codes "a" ∷ codes "b" ∷ []) [] [] (record { argument_types = BooleanType ∷ i32 ∷ i32 ∷ []; first_values = []; expressions = Argument 0 ∷ Argument 1 ∷ Argument 2 ∷ Operator (codes "select") (2 ∷ 1 ∷ 0 ∷ []) ∷ []; types = BooleanType ∷ i32 ∷ i32 ∷ i32 ∷ []; counts = 1 ∷ 1 ∷ 1 ∷ 1 ∷ []; given_names = []; body = then (Emit 3 1) (then (Return (Some 3)) end) }) ∷ []) (select_text (codes "b") (codes "a")) 0 (codes "sel") (Truth true ∷ number 1 ∷ number 2 ∷ []) (Gives (Some (number 1)) (entered_with (Truth true ∷ number 1 ∷ number 2 ∷ []) []))
+    IsShown (with_names (codes "sel" ∷ []) 0 (codes "c" ∷ codes "a" ∷ codes "b" ∷ []) [] [] (record { argument_types = BooleanType ∷ i32 ∷ i32 ∷ []; result = Some i32; first_values = []; expressions = Argument 0 ∷ Argument 1 ∷ Argument 2 ∷ Operator (codes "select") (2 ∷ 1 ∷ 0 ∷ []) ∷ []; types = BooleanType ∷ i32 ∷ i32 ∷ i32 ∷ []; counts = 1 ∷ 1 ∷ 1 ∷ 1 ∷ []; given_names = []; body = then (Emit 3 1) (then (Return (Some 3)) end) }) ∷ []) (select_text (codes "b") (codes "a")) 0 (codes "sel") (Truth true ∷ number 1 ∷ number 2 ∷ []) (Gives (Some (number 1)) (entered_with (Truth true ∷ number 1 ∷ number 2 ∷ []) []))
 
 -- [continue]: `continuing` uses a sum that a `continue` may skip
 abbrev pub continue_function : Function
 continue_function =
     record {
-      argument_types = BooleanType ∷ i32 ∷ [];
+      argument_types = BooleanType ∷ i32 ∷ []; result = None;
       first_values = None ∷ [];
       expressions = Argument 0 ∷ Argument 1 ∷ Local 0 ∷ Operator (codes "+") (1 ∷ 1 ∷ []) ∷ [];
       types = BooleanType ∷ i32 ∷ PointerType ∷ i32 ∷ [];
@@ -341,6 +341,7 @@ continue_function =
 abbrev pub after_loop_function : Function
 after_loop_function =
     record continue_function {
+      result = Some i32;
       body = then (Loop (then (Emit 3 1) (then (Store 2 3) end)) end (Some 0)) (then (Return (Some 3)) end);
     }
 
