@@ -14,13 +14,13 @@ use Rattle.shader_runs.specs.Premises.{FixedName, ArgumentName, LocalName, Const
 use Rattle.shader_runs.specs.Correct.{KeepsTypes, RunsAlike}
 use Rattle.shader_runs.proofs.Alike.{Answers, same_answer, mistyped_answer, alike_answers, reached}
 use Rattle.shader_runs.proofs.Update.{and_left, and_right, same_bytes_true, same_bytes_equal, same_bytes_false, same_bytes_apart, has_types_length}
-use Rattle.shader_runs.proofs.Relation.{Returns, as_denoted, global_as, IsHere, fixed_denoted, Related}
+use Rattle.shader_runs.proofs.Relation.{Returns, as_denoted, global_as, IsHere, NoName, fixed_denoted, Related}
 use Rattle.shader_runs.proofs.Evaluation.{naming, words, Respond, Responds}
 use Rattle.shader_runs.proofs.Written.{Given, globals_length, value_here}
 use Rattle.shader_runs.proofs.Statements.{same_all}
 use Rattle.shader_runs.proofs.Fresh.{all_fresh, start_sources}
 use Rattle.shader_runs.proofs.Start.{start_stands}
-use Rattle.shader_runs.proofs.Names.{NotAmong, AllDifferent, parameter_other, parameter_at, variable_other, variable_at, globals_at, length-names_from}
+use Rattle.shader_runs.proofs.Names.{NotAmong, AllDifferent, parameter_other, parameter_at, variable_other, variable_at, globals_other, globals_at, length-names_from}
 
 length-form_functions : (fs : List Naming) → length (form_functions fs) ≡ length fs
 length-form_functions [] = refl
@@ -202,11 +202,19 @@ module _ (p : Module) (n : ModuleNames) (env : Environment) (environment : Envir
         ∙ globals_at name (length p.global_types) 0 0 (λ a b la lb q. global_same a b (fit.distinct (FixedKey (GlobalName a)) (FixedKey (GlobalName b)) (omega arith) (omega arith) q)) env.globals no_names count i lt'
         ∙ ap (λ k. global_as k (slice_get env.globals i)) back
 
+    start_words : (x : Bytes) → NoName (call_of fs f vs t) f.names x → first_names f.names.outer f vs t x ≡ None
+    start_words x free =
+        parameter_other f.names.argument x (argument_count f.function) 0 (λ a le la q. free.fixed (ArgumentName a) (omega arith) q) vs _
+        ∙ variable_other f x f.function.first_values 0 (entries t) 0 (λ a le la q. free.fixed (LocalName a) (omega arith) q) (outer_of f.names.outer)
+        ∙ parameter_other f.names.outer.constant x (length p.constant_types) 0 (λ a le la q. let count = has_types_length p.constant_types env.constants environment.constants in let here : a < length p.constant_types = omega arith in free.fixed (ConstantName a) (subst (λ k. a < k) (sym count) here) q) env.constants _
+        ∙ globals_other f.names.outer.global x (length p.global_types) 0 0 (λ a le la q. let count = globals_length p.global_types env.globals environment.globals in let here : a < length p.global_types = omega arith in free.fixed (GlobalName a) (subst (λ k. a < k) (sym count) here) q) env.globals no_names
+
     starts_own : length vs ≡ argument_count f.function → Related (call_of fs f vs t) f.names (at_start f.function) (first_names f.names.outer f vs t) (constants_kept f.function env m)
     starts_own e =
         record {
           standing = start_stands p (call_of fs f vs t) environment fit.ordered fit.leaves typed (first_names f.names.outer f vs t);
           fixed = start_fixed e;
+          words = start_words;
         }
 
     starts : length vs ≡ argument_count f.function → Related (call_of fs f vs t) f.names (at_start f.function) (first_names n f vs t) (constants_kept f.function env m)

@@ -7,15 +7,15 @@ use Rattle.shader_runs.specs.Outcome.{Outcome, Done, Next, and_then, Continued, 
 use Rattle.shader_runs.specs.Program.{Expression, Constant, Argument, Local, Global, Load, Operator, Access, Select, Junct, Request, Result, Asking, Function, expression_of, handle_type, operands_of, is_counted, is_asked, binds, binds_as, greatest_count, Module}
 use Rattle.shader_runs.specs.ProgramRun.{Call, Kept, used_as, used, used_all, combined, gathered, computed, loaded, asked, if_counted, emit_as, emit}
 use Rattle.shader_runs.specs.Text.{Apply, Lines}
-use Rattle.shader_runs.specs.TextRun.{Denoted, IsValue, Scope, valued, as_value, responded, value_of, with_value, follow_all}
+use Rattle.shader_runs.specs.TextRun.{Denoted, IsValue, Scope, valued, as_value, responded, unhidden, evaluate_all, value_of, with_value, follow_all}
 use Rattle.shader_runs.specs.Scope.{Standing, Absent, Barred, Everywhere, is_present, is_new, Inline, Named, Handles, Names, Naming, bound_name, is_pure, is_emittable, usable, usable_as, usable_all, unbound, emitted, after_one, given_after, after_emit}
 use Rattle.shader_runs.specs.Form.{value_form, place_form, value_forms, own_form, written, let_if, lets}
 use Rattle.shader_runs.specs.Premises.{FixedName, fixed_name, WordFits, handle_types}
 use Rattle.shader_runs.proofs.Alike.{Alike, stopped, typed_alike, reached, placed}
 use Rattle.shader_runs.proofs.Update.{and_left, update_cases, bind_same, bind_other}
-use Rattle.shader_runs.proofs.Relation.{TypedValue, as_denoted, IsHere, Stands, Related, Extends, Agree, extends_refl, agree_refl, extends_trans, agree_trans, computed_agree, usable_all_more, KeepsName, keeps_all, stands_on, related_agree}
+use Rattle.shader_runs.proofs.Relation.{TypedValue, as_denoted, IsHere, NoName, Stands, Related, Extends, Agree, extends_refl, agree_refl, extends_trans, agree_trans, computed_agree, usable_all_more, KeepsName, keeps_all, stands_on, related_agree}
 use Rattle.shader_runs.proofs.Evaluation.{naming, words, Respond, value_form_gives, request_responds, reached_all, value_forms_give}
-use Rattle.shader_runs.proofs.Written.{Given, no_value, unwritten, typed_value, values_here, operator_there, place_here, all_here}
+use Rattle.shader_runs.proofs.Written.{Given, free, no_value, unwritten, typed_value, values_here, operator_there, place_here, all_here}
 use Rattle.shader_runs.proofs.Checked.{IsFresh, MayBind, MayEmitAll}
 
 pub extends_update : (s : Handles) (h : ℕ) (st : Standing) → (IsTrue (is_present (s h)) → IsTrue (is_present st)) → Extends s (update s h st)
@@ -42,11 +42,12 @@ new_operator c s names kept y e o Inline i d p = absurd (true≢false (sym i))
 new_operator c s names kept y e o (Named x) i d p = absurd (true≢false (sym i))
 
 -- another standing for one handle
-related_new : (c : Call) (n : Names) (s : Handles) (names names' : Scope) (kept : Kept) (h : ℕ) (st : Standing) (o : Option Value) → Related c n s names kept → (IsTrue (is_present (s h)) → o ≡ kept h) → (IsTrue (is_present (s h)) → IsTrue (is_present st)) → ((k : ℕ) → KeepsName names names' (s k)) → ((x : FixedName) → IsHere c x → names' (fixed_name n x) ≡ names (fixed_name n x)) → Stands c (update s h st) names' (update kept h o) (handle_type c.function h) (expression_of c.function h) o st → Related c n (update s h st) names' (update kept h o)
-related_new c n s names names' kept h st o r a i keeps same d =
+related_new : (c : Call) (n : Names) (s : Handles) (names names' : Scope) (kept : Kept) (h : ℕ) (st : Standing) (o : Option Value) → Related c n s names kept → (IsTrue (is_present (s h)) → o ≡ kept h) → (IsTrue (is_present (s h)) → IsTrue (is_present st)) → ((k : ℕ) → KeepsName names names' (s k)) → ((x : FixedName) → IsHere c x → names' (fixed_name n x) ≡ names (fixed_name n x)) → ((w : Bytes) → NoName c n w → names' w ≡ names w) → Stands c (update s h st) names' (update kept h o) (handle_type c.function h) (expression_of c.function h) o st → Related c n (update s h st) names' (update kept h o)
+related_new c n s names names' kept h st o r a i keeps same others d =
     record {
       standing = λ k. go k (nat_eq k h) refl;
       fixed = λ x here. same x here ∙ r.fixed x here;
+      words = λ w f. others w f ∙ r.words w f;
     }
   where
     go : (k : ℕ) (b : Bool) → nat_eq k h ≡ b → Stands c (update s h st) names' (update kept h o) (handle_type c.function k) (expression_of c.function k) (cond b o (kept k)) (cond b st (s k))
@@ -73,13 +74,13 @@ emitted_used c (Some _) o i = refl
 pub bind_related : (c : Call) (n : Names) (s : Handles) (names : Scope) (kept : Kept) (h : ℕ) (x : Bytes) (v : Value) → Related c n s names kept → (IsTrue (is_present (s h)) → Some v ≡ kept h) → ((o : Option Value) → used_as c (expression_of c.function h) o ≡ o) → IsFresh c n s x → IsTrue (has_type (handle_type c.function h) v) → Related c n (update s h (Named x)) (bind names x (Some (IsValue v))) (update kept h (Some v))
 bind_related c n s names kept h x v r a i f y =
     let same = i (Some v) in
-    related_new c n s names (bind names x (Some (IsValue v))) kept h (Named x) (Some v) r a (λ p. refl) (λ k. keeps_fresh names x (Some (IsValue v)) (s k) (f.handles k)) (λ z here. bind_other names x (Some (IsValue v)) (fixed_name n z) (f.fixed z here)) ((v, same, y), bind_same names x (Some (IsValue v)) ∙ ap as_denoted (sym same))
+    related_new c n s names (bind names x (Some (IsValue v))) kept h (Named x) (Some v) r a (λ p. refl) (λ k. keeps_fresh names x (Some (IsValue v)) (s k) (f.handles k)) (λ z here. bind_other names x (Some (IsValue v)) (fixed_name n z) (f.fixed z here)) (λ w k. bind_other names x (Some (IsValue v)) w (f.words w k)) ((v, same, y), bind_same names x (Some (IsValue v)) ∙ ap as_denoted (sym same))
 
 -- an operator that is written where it is used
 inline_related : (c : Call) (n : Names) (s : Handles) (names : Scope) (kept : Kept) (h : ℕ) (o : Option Value) → Related c n s names kept → (IsTrue (is_present (s h)) → o ≡ kept h) → IsTrue (usable_all c.function s (operands_of (expression_of c.function h))) → TypedValue (handle_type c.function h) o → o ≡ computed c kept (expression_of c.function h) → Related c n (update s h Inline) names (update kept h o)
 inline_related c n s names kept h o r a u v e =
     let x = expression_of c.function h in
-    related_new c n s names names kept h Inline o r a (λ p. refl) (λ k. keeps_all names (s k)) (λ z here. refl) (usable_all_more c.function s (update s h Inline) (extends_update s h Inline (λ p. refl)) (operands_of x) u, v, e ∙ sym (computed_agree c s kept (update kept h o) (agree_update s kept h o a) x u))
+    related_new c n s names names kept h Inline o r a (λ p. refl) (λ k. keeps_all names (s k)) (λ z here. refl) (λ w k. refl) (usable_all_more c.function s (update s h Inline) (extends_update s h Inline (λ p. refl)) (operands_of x) u, v, e ∙ sym (computed_agree c s kept (update kept h o) (agree_update s kept h o a) x u))
 
 -- an operator that may not be written
 barred_related : (c : Call) (n : Names) (s : Handles) (names : Scope) (kept : Kept) (h : ℕ) (o : Option Value) → Related c n s names kept → (IsTrue (is_present (s h)) → o ≡ kept h) → Related c n (update s h (unbound false (s h))) names (update kept h o)
@@ -96,6 +97,7 @@ barred_related c n s names kept h o r a = go (s h) refl
         record {
           standing = λ k. update_cases (λ z. Stands c (update s h st) names (update kept h o) (handle_type c.function k) (expression_of c.function k) (update kept h o k) z) s h st k (λ q. subst (λ z. Stands c (update s h st) names (update kept h o) (handle_type c.function k) (expression_of c.function k) (update kept h o k) z) (ap s q ∙ e) (moved k)) (λ q. moved k);
           fixed = there.fixed;
+          words = there.words;
         }
       where
         keeps_present : IsTrue (is_present (s h)) → IsTrue (is_present st)
@@ -107,7 +109,7 @@ barred_related c n s names kept h o r a = go (s h) refl
 
     go : (st : Standing) → s h ≡ st → Related c n (update s h (unbound false st)) names (update kept h o)
     go Absent e =
-        related_new c n s names names kept h Barred o r a (λ p. absurd (true≢false (sym (ap is_present (sym e) ∙ p)))) (λ k. keeps_all names (s k)) (λ z here. refl) tt
+        related_new c n s names names kept h Barred o r a (λ p. absurd (true≢false (sym (ap is_present (sym e) ∙ p)))) (λ k. keeps_all names (s k)) (λ z here. refl) (λ w k. refl) tt
     go Barred e = same Barred e
     go Everywhere e = same Everywhere e
     go Inline e = same Inline e
@@ -187,7 +189,7 @@ module _ (p : Module) (c : Call) (n : Names) (d : Respond) (given : Given p c n 
     no_event e q g =
         new_event c s names kept (handle_type c.function h) (expression_of c.function h) (kept h) (subst (λ e. (vs : List Value) → combined c.meaning e vs ≡ None) (sym q) g) (s h) a (r.standing h)
 
-    emit_pure : (b : Bool) (e : Option Expression) → expression_of c.function h ≡ e → IsTrue (is_pure e) → WordFits n e → MayBind c n b s x e → GoesOn c n R P Q B s kept (emitted b true (usable_all c.function s (operands_of e)) x s h) f (follow_all (words c d) bound tail) → Alike R P Q B (f (update kept h (computed c kept e)) t) (follow_all (words c d) bound (let_if b x (value_form (own_form (naming c n) (written (naming c n) s) (handle_type c.function h) e)) tail) names t)
+    emit_pure : (b : Bool) (e : Option Expression) → expression_of c.function h ≡ e → IsTrue (is_pure e) → WordFits p (naming c n) e → MayBind c n b s x e → GoesOn c n R P Q B s kept (emitted b true (usable_all c.function s (operands_of e)) x s h) f (follow_all (words c d) bound tail) → Alike R P Q B (f (update kept h (computed c kept e)) t) (follow_all (words c d) bound (let_if b x (value_form (own_form (naming c n) (written (naming c n) s) (handle_type c.function h) e)) tail) names t)
     emit_pure true e q z y m next =
         let v = value_there e q z m.0 in
         let own = own_form (naming c n) (written (naming c n) s) (handle_type c.function h) e in
@@ -205,12 +207,12 @@ module _ (p : Module) (c : Call) (n : Names) (d : Respond) (given : Given p c n 
         let value = c.world t (Ask w vs) in
         typed_alike (has_type (handle_type c.function h) value) (Ask w vs ∷ t) (Done (update kept h (Some value)) (Ask w vs ∷ t)) f (λ y. subst (λ q. Alike R P Q B (f (update kept h (Some value)) (Ask w vs ∷ t)) (bound_next q x names (follow_all (words c d) bound tail))) (sym (e vs refl)) (next (update kept h (Some value)) (bind names x (Some (IsValue value))) (Ask w vs ∷ t) (bind_related c n s names kept h x value r (λ p. absurd (none p)) i fresh y) (agree_update s kept h (Some value) (λ p. absurd (none p)))))
 
-    emit_request : (IsTrue (is_present (s h)) → ⊥) → (b : Bool) (q : Asking) (w : Bytes) (xs : List ℕ) → WordFits n (Some (Request q w xs)) → MayBind c n b s x (Some (Request q w xs)) → GoesOn c n R P Q B s kept (emitted b false (usable_all c.function s xs) x s h) f (follow_all (words c d) bound tail) → Alike R P Q B (and_then (if_counted b (asked (handle_type c.function h) c.world h w (used_all c kept xs)) kept t) f) (follow_all (words c d) bound (let_if b x (Apply w (value_forms (written (naming c n) s) xs)) tail) names t)
+    emit_request : (IsTrue (is_present (s h)) → ⊥) → (b : Bool) (q : Asking) (w : Bytes) (xs : List ℕ) → WordFits p (naming c n) (Some (Request q w xs)) → MayBind c n b s x (Some (Request q w xs)) → GoesOn c n R P Q B s kept (emitted b false (usable_all c.function s xs) x s h) f (follow_all (words c d) bound tail) → Alike R P Q B (and_then (if_counted b (asked (handle_type c.function h) c.world h w (used_all c kept xs)) kept t) f) (follow_all (words c d) bound (let_if b x (Apply w (value_forms (written (naming c n) s) xs)) tail) names t)
     emit_request none true q w xs y m next =
-        request_at none w m.1 next (used_all c kept xs) (values_only (handle_types c.function xs) (used_all c kept xs) (values_here p c n d given s names kept r xs m.0)) (value_of (words c d) (Apply w (value_forms (written (naming c n) s) xs)) names t) (λ vs e. ap (λ q. valued c.world (as_value (responded (words c d) w q))) (value_forms_give c d names kept (written (naming c n) s) xs (all_here p c n d given s names kept r xs m.0) t ∙ ap (λ os. reached_all os t) e) ∙ ap (λ q. valued c.world (as_value q)) (request_responds c n d given.responds w y vs t))
+        request_at none w m.1 next (used_all c kept xs) (values_only (handle_types c.function xs) (used_all c kept xs) (values_here p c n d given s names kept r xs m.0)) (value_of (words c d) (Apply w (value_forms (written (naming c n) s) xs)) names t) (λ vs e. ap (λ o. valued c.world (as_value (unhidden o t (responded (words c d) w (evaluate_all (words c d) (value_forms (written (naming c n) s) xs) names t))))) (free p c n d given s names kept r w y.1.1) ∙ ap (λ q. valued c.world (as_value (responded (words c d) w q))) (value_forms_give c d names kept (written (naming c n) s) xs (all_here p c n d given s names kept r xs m.0) t ∙ ap (λ os. reached_all os t) e) ∙ ap (λ q. valued c.world (as_value q)) (request_responds p c n d given.responds w y vs t))
     emit_request none false q w xs y m next = next kept names t r (agree_refl s kept)
 
-    emit_one_as : (e : Option Expression) → WordFits n e → expression_of c.function h ≡ e → IsTrue (is_emittable e) → MayBind c n (binds_as c.function h e) s x e → GoesOn c n R P Q B s kept (emitted (binds_as c.function h e) (is_pure e) (usable_all c.function s (operands_of e)) x s h) f (follow_all (words c d) bound tail) → Alike R P Q B (and_then (emit_as c h e kept t) f) (follow_all (words c d) bound (let_if (binds_as c.function h e) x (value_form (own_form (naming c n) (written (naming c n) s) (handle_type c.function h) e)) tail) names t)
+    emit_one_as : (e : Option Expression) → WordFits p (naming c n) e → expression_of c.function h ≡ e → IsTrue (is_emittable e) → MayBind c n (binds_as c.function h e) s x e → GoesOn c n R P Q B s kept (emitted (binds_as c.function h e) (is_pure e) (usable_all c.function s (operands_of e)) x s h) f (follow_all (words c d) bound tail) → Alike R P Q B (and_then (emit_as c h e kept t) f) (follow_all (words c d) bound (let_if (binds_as c.function h e) x (value_form (own_form (naming c n) (written (naming c n) s) (handle_type c.function h) e)) tail) names t)
     emit_one_as (Some (Load q)) y e k m next = emit_load (no_event (Some (Load q)) e (λ vs. refl)) (is_counted c.function 1 h) q m next
     emit_one_as (Some (Request q w xs)) y e k m next = emit_request (no_event (Some (Request q w xs)) e (λ vs. refl)) (is_asked c.function h q) q w xs y m next
     emit_one_as (Some (Operator w xs)) y e k m next = emit_pure (is_counted c.function 2 h) (Some (Operator w xs)) e refl y m next

@@ -4,10 +4,10 @@ use Rattle.std.specs.Prelude.{IsTrue}
 use Rattle.shader_runs.specs.Value.{Bytes, Place, Part, At, Selector, step_of, ValueType, BooleanType, IntegerType, PointerType, OtherType, has_type, has_types, Value, Truth, Whole, Pointer, Opaque, Spelled, Selected, Indexed, Junction}
 use Rattle.shader_runs.specs.World.{Event, Ask, World, Meaning}
 use Rattle.shader_runs.specs.Outcome.{Stuck, Reached, Gives, Halts}
-use Rattle.shader_runs.specs.Program.{Function, function_numbered, Expression, Operator, Access, Select, Junct}
+use Rattle.shader_runs.specs.Program.{Module, Function, function_numbered, Expression, Operator, Access, Select, Junct}
 use Rattle.shader_runs.specs.ProgramRun.{Call, Kept, used, also, used_all, applied, accessed, selected, decides, undecided, combined, gathered}
 use Rattle.shader_runs.specs.Text.{Name, Index, Pick, Both}
-use Rattle.shader_runs.specs.TextRun.{part_reached, index_reached, indexed, picked, undecided_reached, both_reached, Denoted, IsValue, IsPlace, Words, Scope, named, valued, responded, as_value, dereferenced, addressed, put_before, followed_by, evaluate, evaluate_all, value_of, respond_by_table}
+use Rattle.shader_runs.specs.TextRun.{part_reached, index_reached, indexed, picked, undecided_reached, both_reached, Denoted, IsValue, IsPlace, Words, Scope, named, valued, responded, unhidden, as_value, dereferenced, addressed, put_before, followed_by, evaluate, evaluate_all, value_of, respond_by_table}
 use Rattle.shader_runs.specs.Scope.{Names, Naming}
 use Rattle.shader_runs.specs.Form.{Plain, AsValue, AsPlace, value_form, place_form, value_forms, access_form, select_form}
 use Rattle.shader_runs.specs.Premises.{OperatesBy, AsksBy}
@@ -93,18 +93,22 @@ pub named_denoted : (o : Option Value) (t : List Event) → named (as_denoted o)
 named_denoted None t = refl
 named_denoted (Some v) t = refl
 
-pub operator_responds : (c : Call) (n : Names) (d : Respond) → Responds c n d → (w : Bytes) → OperatesBy n w → (vs : List Value) (t : List Event) → d w vs t ≡ Gives (Some (c.meaning (Spelled w) vs)) t
-operator_responds c n d r w f vs t =
-    r.table w f.1 vs t ∙ ap (λ b. cond b (Gives (Some (c.world t (Ask w vs))) (Ask w vs ∷ t)) (Gives (Some (c.meaning (Spelled w) vs)) t)) f.0
+pub operator_responds : (p : Module) (c : Call) (n : Names) (d : Respond) → Responds c n d → (w : Bytes) → OperatesBy p (naming c n) w → (vs : List Value) (t : List Event) → d w vs t ≡ Gives (Some (c.meaning (Spelled w) vs)) t
+operator_responds p c n d r w f vs t =
+    r.table w f.1.0 vs t ∙ ap (λ b. cond b (Gives (Some (c.world t (Ask w vs))) (Ask w vs ∷ t)) (Gives (Some (c.meaning (Spelled w) vs)) t)) f.0
 
-pub request_responds : (c : Call) (n : Names) (d : Respond) → Responds c n d → (w : Bytes) → AsksBy n w → (vs : List Value) (t : List Event) → d w vs t ≡ Gives (Some (c.world t (Ask w vs))) (Ask w vs ∷ t)
-request_responds c n d r w f vs t =
-    r.table w f.1 vs t ∙ ap (λ b. cond b (Gives (Some (c.world t (Ask w vs))) (Ask w vs ∷ t)) (Gives (Some (c.meaning (Spelled w) vs)) t)) f.0
+pub request_responds : (p : Module) (c : Call) (n : Names) (d : Respond) → Responds c n d → (w : Bytes) → AsksBy p (naming c n) w → (vs : List Value) (t : List Event) → d w vs t ≡ Gives (Some (c.world t (Ask w vs))) (Ask w vs ∷ t)
+request_responds p c n d r w f vs t =
+    r.table w f.1.0 vs t ∙ ap (λ b. cond b (Gives (Some (c.world t (Ask w vs))) (Ask w vs ∷ t)) (Gives (Some (c.meaning (Spelled w) vs)) t)) f.0
+
+operated : (p : Module) (c : Call) (n : Names) (d : Respond) → Responds c n d → (w : Bytes) → OperatesBy p (naming c n) w → (os : Option (List Value)) (t : List Event) → as_value (responded (words c d) w (reached_all os t)) ≡ denoted (applied c.meaning (Spelled w) os) t
+operated p c n d r w f None t = refl
+operated p c n d r w f (Some vs) t = ap as_value (operator_responds p c n d r w f vs t)
 
 -- an operator's word on what its operands give
-pub applied_reached : (c : Call) (n : Names) (d : Respond) → Responds c n d → (w : Bytes) → OperatesBy n w → (os : Option (List Value)) (t : List Event) → as_value (responded (words c d) w (reached_all os t)) ≡ denoted (applied c.meaning (Spelled w) os) t
-applied_reached c n d r w f None t = refl
-applied_reached c n d r w f (Some vs) t = ap as_value (operator_responds c n d r w f vs t)
+pub applied_reached : (p : Module) (c : Call) (n : Names) (d : Respond) → Responds c n d → (w : Bytes) → OperatesBy p (naming c n) w → (o : Option Denoted) → o ≡ None → (os : Option (List Value)) (t : List Event) → as_value (unhidden o t (responded (words c d) w (reached_all os t))) ≡ denoted (applied c.meaning (Spelled w) os) t
+applied_reached p c n d r w f o e os t =
+    ap (λ o. as_value (unhidden o t (responded (words c d) w (reached_all os t)))) e ∙ operated p c n d r w f os t
 
 -- the operands' values, where there is a value
 pub data OneOf (m : Meaning) (e : Option Expression) (a : Option Value) (v : Value) : Type 0 where

@@ -10,7 +10,7 @@ use Rattle.shader_runs.specs.Premises.{FixedName, ArgumentName, LocalName, Const
 use Rattle.shader_runs.proofs.Update.{update_cases, and_left, and_right, has_types_length}
 use Rattle.shader_runs.proofs.Relation.{IsHere}
 use Rattle.shader_runs.proofs.Evaluation.{naming}
-use Rattle.shader_runs.proofs.Written.{globals_length}
+use Rattle.shader_runs.proofs.Written.{in_range}
 use Rattle.shader_runs.proofs.Checked.{IsFresh, MayBind, MayEmitAll, MayGive, Fits, FitsAll, FitsCases}
 
 same_name : (x y : Bytes) → Named x ≡ Named y → x ≡ y
@@ -83,26 +83,20 @@ module _ (p : Module) (c : Call) (n : Names) (environment : EnvironmentFits p c.
   sources_update k s h st new d h1 x =
       update_cases (λ z. z ≡ Named x → Source k h1 x) s h st h1 (λ e z. subst (λ h. Source k h x) (sym e) (new x z)) (λ e z. d h1 x z)
 
-  in_range : (y : FixedName) → IsHere c y → IsFixedName p c.function y
-  in_range (ArgumentName i) h = h
-  in_range (LocalName i) h = h
-  in_range (ConstantName i) h =
-      subst (λ k. i < k) (has_types_length p.constant_types c.environment.constants environment.constants) h
-  in_range (GlobalName i) h =
-      subst (λ k. i < k) (globals_length p.global_types c.environment.globals environment.globals) h
-
   fresh_numbered : (k : ℕ) (s : Handles) (h : ℕ) → k ≤ Total → Sources k s → IsTrue (is_new (s h)) → IsFresh c n s (n.numbered h)
   fresh_numbered k s h le d i =
       record {
         handles = λ h1 e. ⊎_elim (λ z. not_named (s h) (n.numbered h) i (ap s (numbered_same h h1 (distinct (NumberedKey h) (NumberedKey h1) tt tt z)) ∙ e)) (λ g. let less : g.0 < Total = omega (arith, g.1) in numbered_given h g.0 (distinct (NumberedKey h) (GivenKey g.0) tt less g.2)) (d h1 (n.numbered h) e);
-        fixed = λ y here e. fixed_numbered y h (distinct (FixedKey y) (NumberedKey h) (in_range y here) tt e);
+        fixed = λ y here e. fixed_numbered y h (distinct (FixedKey y) (NumberedKey h) (in_range p c environment y here) tt e);
+        words = λ w f e. f.numbered h (sym e);
       }
 
   fresh_given : (k : ℕ) (s : Handles) → k < Total → Sources k s → IsFresh c n s (n.given k)
   fresh_given k s lt d =
       record {
         handles = λ h1 e. ⊎_elim (λ z. numbered_given h1 k (distinct (NumberedKey h1) (GivenKey k) tt lt (sym z))) (λ g. let less : g.0 < Total = omega (arith, g.1) in let same : k ≡ g.0 = given_same k g.0 (distinct (GivenKey k) (GivenKey g.0) lt less g.2) in let before : g.0 < k = g.1 in absurd (omega arith)) (d h1 (n.given k) e);
-        fixed = λ y here e. fixed_given y k (distinct (FixedKey y) (GivenKey k) (in_range y here) lt e);
+        fixed = λ y here e. fixed_given y k (distinct (FixedKey y) (GivenKey k) (in_range p c environment y here) lt e);
+        words = λ w f e. f.given k lt (sym e);
       }
 
   fresh_bound : (k : ℕ) (s : Handles) (h : ℕ) → given_after c.function h k ≤ Total → Sources k s → IsTrue (is_new (s h)) → IsFresh c n s (bound_name (naming c n) k h)
@@ -212,7 +206,7 @@ module _ (p : Module) (c : Call) (n : Names) (environment : EnvironmentFits p c.
   result_fresh k (Some h) s le d w m = record { new = m; kind = w; fresh = fresh_numbered k s h le d m }
 
   mutual
-    fits_fresh : (st : Statement) (k : ℕ) (s : Handles) → given_by c.function st k ≤ Total → Sources k s → IsRegular c.callees (naming c n) st → IsTrue (fits (naming c n) k st s) → Fits c n k st s
+    fits_fresh : (st : Statement) (k : ℕ) (s : Handles) → given_by c.function st k ≤ Total → Sources k s → IsRegular p c.callees (naming c n) st → IsTrue (fits (naming c n) k st s) → Fits p c n k st s
     fits_fresh (Emit first count) k s le d w m = emit_fresh k (from first count) s le d m
     fits_fresh (Store q v) k s le d w m =
         (and_left (usable c.function s q) (usable c.function s v) m, and_right (usable c.function s q) (usable c.function s v) m)
@@ -247,7 +241,7 @@ module _ (p : Module) (c : Call) (n : Names) (environment : EnvironmentFits p c.
         let u = usable_all c.function s xs in
         (and_left u (may_give r s) m, w.0, result_fresh k r s le d w.1 (and_right u (may_give r s) m))
 
-    pub all_fresh : (ss : Statements) (k : ℕ) (s : Handles) → given_by_all c.function ss k ≤ Total → Sources k s → AreRegular c.callees (naming c n) ss → IsTrue (fits_all (naming c n) k ss s) → FitsAll c n k ss s
+    pub all_fresh : (ss : Statements) (k : ℕ) (s : Handles) → given_by_all c.function ss k ≤ Total → Sources k s → AreRegular p c.callees (naming c n) ss → IsTrue (fits_all (naming c n) k ss s) → FitsAll p c n k ss s
     all_fresh end k s le d w m = tt
     all_fresh (then st ss) k s le d w m =
         let k1 = given_by c.function st k in
@@ -257,7 +251,7 @@ module _ (p : Module) (c : Call) (n : Names) (environment : EnvironmentFits p c.
         let more = list_more ss k1 in
         (fits_fresh st k s (omega (arith, le, more)) d w.0 (and_left fa fb m), all_fresh ss k1 s1 le (sources_after k st s d) w.1 (and_right fa fb m))
 
-    cases_fresh : (cs : Cases) (k : ℕ) (s : Handles) → given_by_cases c.function cs k ≤ Total → Sources k s → CasesAreRegular c.callees (naming c n) cs → IsTrue (fits_cases (naming c n) k cs s) → FitsCases c n k cs s
+    cases_fresh : (cs : Cases) (k : ℕ) (s : Handles) → given_by_cases c.function cs k ≤ Total → Sources k s → CasesAreRegular p c.callees (naming c n) cs → IsTrue (fits_cases (naming c n) k cs s) → FitsCases p c n k cs s
     cases_fresh no_case k s le d w m = tt
     cases_fresh (case l b falls cs) k s le d w m =
         let k1 = given_by_all c.function b k in

@@ -84,6 +84,12 @@ globals_at name (suc n) j b one (g ∷ gs) names e (suc i) lt =
     ∙ globals_at name n (suc j) (suc b) (λ a b la lb q. one a b (omega arith) (omega arith) q) gs names (omega arith) i (omega arith)
     ∙ ap (λ b. global_as b (slice_get gs i)) index
 
+pub globals_other : (name : ℕ → Bytes) (x : Bytes) (n j b : ℕ) → NotAmong name j n x → (gs : List GlobalValue) (names : Scope) → with_globals (names_from name j n) gs b names x ≡ names x
+globals_other name x zero j b f gs names = refl
+globals_other name x (suc n) j b f [] names = refl
+globals_other name x (suc n) j b f (g ∷ gs) names =
+    bind_other (with_globals (names_from name (suc j) n) gs (suc b) names) (name j) (Some (global_denoted b g)) x (λ e. f j (omega arith) (omega arith) (sym e)) ∙ globals_other name x n (suc j) (suc b) (λ i le lt. f i (omega arith) (omega arith)) gs names
+
 pub length-names_from : (name : ℕ → Bytes) (j n : ℕ) → length (names_from name j n) ≡ n
 length-names_from name j zero = refl
 length-names_from name j (suc n) = ap suc (length-names_from name (suc j) n)

@@ -6,7 +6,7 @@ use Rattle.shader_runs.specs.World.{GlobalValue}
 use Rattle.shader_runs.specs.Program.{Expression, Constant, Argument, Local, Global, Load, Operator, Access, Select, Junct, Request, Result, Function, argument_count, local_count, expression_of, handle_type, operands_of}
 use Rattle.shader_runs.specs.ProgramRun.{Call, Kept, used_as, used, also, used_all, gathered, computed}
 use Rattle.shader_runs.specs.TextRun.{Denoted, IsValue, IsPlace, Scope, global_denoted}
-use Rattle.shader_runs.specs.Scope.{Standing, Absent, Barred, Everywhere, Inline, Named, Handles, Names, usable, usable_as, usable_all, is_present, is_new, forgotten, forgotten_one}
+use Rattle.shader_runs.specs.Scope.{Standing, Absent, Barred, Everywhere, Inline, Named, Handles, Names, usable, usable_as, usable_all, is_present, is_new, forgotten, forgotten_one, given_by_all}
 use Rattle.shader_runs.specs.Premises.{FixedName, ArgumentName, LocalName, ConstantName, GlobalName, fixed_name}
 use Rattle.shader_runs.proofs.Update.{and_left, and_right, and_both}
 
@@ -45,6 +45,12 @@ fixed_denoted c (LocalName i) = Some (IsPlace (Rooted (LocalRoot c.frame i)))
 fixed_denoted c (ConstantName i) = as_denoted (slice_get c.environment.constants i)
 fixed_denoted c (GlobalName i) = global_as i (slice_get c.environment.globals i)
 
+-- a word that is none of the function's names
+pub record NoName (c : Call) (n : Names) (w : Bytes) : Type 0 where
+  pub fixed : (x : FixedName) → IsHere c x → fixed_name n x ≢ w
+  pub numbered : (h : ℕ) → n.numbered h ≢ w
+  pub given : (k : ℕ) → k < given_by_all c.function c.function.body 0 → n.given k ≢ w
+
 -- what is known of a handle with this expression and this kept value
 abbrev pub Stands : Call → Handles → Scope → Kept → ValueType → Option Expression → Option Value → Standing → Type 0
 Stands c s names kept y e o Absent = Unit {0}
@@ -56,6 +62,7 @@ Stands c s names kept y e o (Named x) = TypedValue y (used_as c e o) × (names x
 pub record Related (c : Call) (n : Names) (s : Handles) (names : Scope) (kept : Kept) : Type 0 where
   pub standing : (h : ℕ) → Stands c s names kept (handle_type c.function h) (expression_of c.function h) (kept h) (s h)
   pub fixed : (x : FixedName) → IsHere c x → names (fixed_name n x) ≡ fixed_denoted c x
+  pub words : (w : Bytes) → NoName c n w → names w ≡ None
 
 -- the second scope has each handle of the first
 abbrev pub Extends : Handles → Handles → Type 0
@@ -144,6 +151,7 @@ related_agree c n s names kept kept' a r =
     record {
       standing = λ h. stands_on c s s names names kept kept' (extends_refl s) a (handle_type c.function h) (expression_of c.function h) (kept h) (kept' h) (s h) (a h) (keeps_all names (s h)) (r.standing h);
       fixed = r.fixed;
+      words = r.words;
     }
 
 present_forgotten : (st now : Standing) → IsTrue (is_present st) → IsTrue (is_present (forgotten_one st now))
@@ -177,4 +185,5 @@ related_forgotten c n s now names kept r =
     record {
       standing = λ h. let y = handle_type c.function h in let e = expression_of c.function h in let st = forgotten_one (s h) (now h) in stands_on c s (forgotten s now) names names kept kept (extends_forgotten s now) (agree_refl s kept) y e (kept h) (kept h) st (λ p. refl) (keeps_all names st) (stands_forgotten c s names kept y e (kept h) (s h) (now h) (r.standing h));
       fixed = r.fixed;
+      words = r.words;
     }

@@ -1,7 +1,7 @@
 -- The scope only grows, and the text holds a `continue` and a label where the module does.
 use Rattle.std.proofs.Common.{◌≡◌, ℕ, Bool, true, false, List, [], ◌∷◌, ◌++◌, Option, Some, None, ◌||◌, refl, sym, ap, ap₂, ◌∙◌}
 use Rattle.shader_runs.specs.Value.{Bytes}
-use Rattle.shader_runs.specs.Program.{Label, Statement, Emit, Store, Block, If, Switch, Loop, Break, Continue, Return, Kill, Barrier, Act, Statements, end, then, Cases, no_case, case, from, binds, holds_continue, any_continue, some_case_continues, expression_of, handle_type}
+use Rattle.shader_runs.specs.Program.{Label, Statement, Emit, Store, Block, If, Switch, Loop, Break, Continue, Return, Kill, Barrier, Act, Statements, end, then, Cases, no_case, case, Module, from, binds, holds_continue, any_continue, some_case_continues, expression_of, handle_type}
 use Rattle.shader_runs.specs.Text.{Tree, Lines}
 use Rattle.shader_runs.specs.TextRun.{some_continue, some_group_continues, among, group_has}
 use Rattle.shader_runs.specs.ProgramRun.{Call, barrier_words, same_label, has_label}
@@ -39,36 +39,36 @@ falls_followed labels no_case m = absurd m
 falls_followed labels (case l b falls cs) m = tt
 
 mutual
-  continue_one : (c : Call) (n : Names) (k : ℕ) (st : Statement) (s : Handles) (tail : Lines) → Fits c n k st s → some_continue (form (naming c n) k st s tail) ≡ (holds_continue st || some_continue tail)
-  continue_one c n k (Emit first count) s tail m = lets_continue (naming c n) k (from first count) s tail
-  continue_one c n k (Store p v) s tail m = refl
-  continue_one c n k (Block b) s tail m = ap (λ b. b || some_continue tail) (continue_all c n k b s m)
-  continue_one c n k (If x a b) s tail m =
+  continue_one : (p : Module) (c : Call) (n : Names) (k : ℕ) (st : Statement) (s : Handles) (tail : Lines) → Fits p c n k st s → some_continue (form (naming c n) k st s tail) ≡ (holds_continue st || some_continue tail)
+  continue_one p c n k (Emit first count) s tail m = lets_continue (naming c n) k (from first count) s tail
+  continue_one p c n k (Store q v) s tail m = refl
+  continue_one p c n k (Block b) s tail m = ap (λ b. b || some_continue tail) (continue_all p c n k b s m)
+  continue_one p c n k (If x a b) s tail m =
       let k1 = given_by_all c.function a k in
-      ap (λ x. (x || some_continue (form_all (naming c n) k1 b s)) || some_continue tail) (continue_all c n k a s m.1)
-      ∙ ap (λ x. (any_continue a || x) || some_continue tail) (continue_all c n k1 b s m.2)
-  continue_one c n k (Switch h cases) s tail m = ap (λ b. b || some_continue tail) (continue_cases c n k [] cases s m.1)
-  continue_one c n k (Loop b d e) s tail m = refl
-  continue_one c n k Break s tail m = refl
-  continue_one c n k Continue s tail m = refl
-  continue_one c n k (Return v) s tail m = refl
-  continue_one c n k Kill s tail m = refl
-  continue_one c n k (Barrier bits) s tail m = performs_continue (barrier_words bits) tail
-  continue_one c n k (Act a xs None) s tail m = refl
-  continue_one c n k (Act a xs (Some h)) s tail m = refl
+      ap (λ x. (x || some_continue (form_all (naming c n) k1 b s)) || some_continue tail) (continue_all p c n k a s m.1)
+      ∙ ap (λ x. (any_continue a || x) || some_continue tail) (continue_all p c n k1 b s m.2)
+  continue_one p c n k (Switch h cases) s tail m = ap (λ b. b || some_continue tail) (continue_cases p c n k [] cases s m.1)
+  continue_one p c n k (Loop b d e) s tail m = refl
+  continue_one p c n k Break s tail m = refl
+  continue_one p c n k Continue s tail m = refl
+  continue_one p c n k (Return v) s tail m = refl
+  continue_one p c n k Kill s tail m = refl
+  continue_one p c n k (Barrier bits) s tail m = performs_continue (barrier_words bits) tail
+  continue_one p c n k (Act a xs None) s tail m = refl
+  continue_one p c n k (Act a xs (Some h)) s tail m = refl
 
-  pub continue_all : (c : Call) (n : Names) (k : ℕ) (ss : Statements) (s : Handles) → FitsAll c n k ss s → some_continue (form_all (naming c n) k ss s) ≡ any_continue ss
-  continue_all c n k end s m = refl
-  continue_all c n k (then st ss) s m =
+  pub continue_all : (p : Module) (c : Call) (n : Names) (k : ℕ) (ss : Statements) (s : Handles) → FitsAll p c n k ss s → some_continue (form_all (naming c n) k ss s) ≡ any_continue ss
+  continue_all p c n k end s m = refl
+  continue_all p c n k (then st ss) s m =
       let rest = form_all (naming c n) (given_by c.function st k) ss (after (naming c n) k st s) in
-      continue_one c n k st s rest m.0 ∙ ap (λ x. holds_continue st || x) (continue_all c n (given_by c.function st k) ss (after (naming c n) k st s) m.1)
+      continue_one p c n k st s rest m.0 ∙ ap (λ x. holds_continue st || x) (continue_all p c n (given_by c.function st k) ss (after (naming c n) k st s) m.1)
 
-  pub continue_cases : (c : Call) (n : Names) (k : ℕ) (labels : List Label) (cs : Cases) (s : Handles) → FitsCases c n k cs s → some_group_continues (form_cases (naming c n) k labels cs s) ≡ some_case_continues cs
-  continue_cases c n k labels no_case s m = refl
-  continue_cases c n k labels (case l b false cs) s m =
-      ap₂ (λ x y. x || y) (continue_all c n k b s m.1) (continue_cases c n (given_by_all c.function b k) [] cs s m.2)
-  continue_cases c n k labels (case l end true cs) s m = continue_cases c n k (labels ++ l ∷ []) cs s m.2
-  continue_cases c n k labels (case l (then st ss) true cs) s m = absurd m.0
+  pub continue_cases : (p : Module) (c : Call) (n : Names) (k : ℕ) (labels : List Label) (cs : Cases) (s : Handles) → FitsCases p c n k cs s → some_group_continues (form_cases (naming c n) k labels cs s) ≡ some_case_continues cs
+  continue_cases p c n k labels no_case s m = refl
+  continue_cases p c n k labels (case l b false cs) s m =
+      ap₂ (λ x y. x || y) (continue_all p c n k b s m.1) (continue_cases p c n (given_by_all c.function b k) [] cs s m.2)
+  continue_cases p c n k labels (case l end true cs) s m = continue_cases p c n k (labels ++ l ∷ []) cs s m.2
+  continue_cases p c n k labels (case l (then st ss) true cs) s m = absurd m.0
 
 or_assoc : (a b c : Bool) → ((a || b) || c) ≡ (a || (b || c))
 or_assoc true b c = refl
@@ -84,28 +84,28 @@ among_append x (y ∷ ys) l =
     ap (λ b. same_label x y || b) (among_append x ys l) ∙ sym (or_assoc (same_label x y) (among x ys) (same_label x l))
 
 -- the groups have the cases' labels
-has_cases : (c : Call) (n : Names) (k : ℕ) (labels : List Label) (cs : Cases) (s : Handles) → FitsCases c n k cs s → IsFollowed labels cs → (x : Label) → group_has x (form_cases (naming c n) k labels cs s) ≡ (among x labels || has_label x cs)
-has_cases c n k [] no_case s m w x = refl
-has_cases c n k (y ∷ ys) no_case s m w x = absurd w
-has_cases c n k labels (case l b false cs) s m w x =
-    ap₂ (λ p q. p || q) (among_append x labels l) (has_cases c n (given_by_all c.function b k) [] cs s m.2 (starts cs) x)
+has_cases : (p : Module) (c : Call) (n : Names) (k : ℕ) (labels : List Label) (cs : Cases) (s : Handles) → FitsCases p c n k cs s → IsFollowed labels cs → (x : Label) → group_has x (form_cases (naming c n) k labels cs s) ≡ (among x labels || has_label x cs)
+has_cases p c n k [] no_case s m w x = refl
+has_cases p c n k (y ∷ ys) no_case s m w x = absurd w
+has_cases p c n k labels (case l b false cs) s m w x =
+    ap₂ (λ p q. p || q) (among_append x labels l) (has_cases p c n (given_by_all c.function b k) [] cs s m.2 (starts cs) x)
     ∙ or_assoc (among x labels) (same_label x l) (has_label x cs)
   where
     starts : (cs : Cases) → IsFollowed [] cs
     starts no_case = tt
     starts (case l b falls cs) = tt
-has_cases c n k labels (case l end true cs) s m w x =
-    has_cases c n k (labels ++ l ∷ []) cs s m.2 (falls_followed (labels ++ l ∷ []) cs m.0) x
+has_cases p c n k labels (case l end true cs) s m w x =
+    has_cases p c n k (labels ++ l ∷ []) cs s m.2 (falls_followed (labels ++ l ∷ []) cs m.0) x
     ∙ ap (λ p. p || has_label x cs) (among_append x labels l)
     ∙ or_assoc (among x labels) (same_label x l) (has_label x cs)
-has_cases c n k labels (case l (then st ss) true cs) s m w x = absurd m.0
+has_cases p c n k labels (case l (then st ss) true cs) s m w x = absurd m.0
 
 pub first_followed_by : (cs : Cases) → IsFollowed [] cs
 first_followed_by no_case = tt
 first_followed_by (case l b falls cs) = tt
 
-pub has_all_cases : (c : Call) (n : Names) (k : ℕ) (cs : Cases) (s : Handles) → FitsCases c n k cs s → (x : Label) → group_has x (form_cases (naming c n) k [] cs s) ≡ has_label x cs
-has_all_cases c n k cs s m x = has_cases c n k [] cs s m (first_followed_by cs) x
+pub has_all_cases : (p : Module) (c : Call) (n : Names) (k : ℕ) (cs : Cases) (s : Handles) → FitsCases p c n k cs s → (x : Label) → group_has x (form_cases (naming c n) k [] cs s) ≡ has_label x cs
+has_all_cases p c n k cs s m x = has_cases p c n k [] cs s m (first_followed_by cs) x
 
 pub extends_after : (c : Call) (n : Names) (k : ℕ) (st : Statement) (s : Handles) → Extends s (after (naming c n) k st s)
 extends_after c n k (Emit first count) s = extends_emit c n k (from first count) s

@@ -7,14 +7,14 @@ use Rattle.shader_runs.specs.Outcome.{Outcome, Next, Done, Continued, Returned, 
 use Rattle.shader_runs.specs.Program.{Expression, Constant, Argument, Local, Global, Load, Operator, Access, Select, Junct, Request, Result, Action, Asked, Called, Label, Numbered, Statement, Emit, Store, Block, If, Switch, Loop, Break, Continue, Return, Kill, Barrier, Act, Statements, end, then, Cases, no_case, case, from, holds_continue, any_continue, some_case_continues, expression_of, handle_type, BarrierBits, Function, function_numbered, Module}
 use Rattle.shader_runs.specs.ProgramRun.{Call, Kept, combined, used, used_as, used_all, acted, with_result, with_all, with_used, leave, returned, barrier_words, ask_each, same_label, has_label, label_if, run, run_all, run_cases, run_on}
 use Rattle.shader_runs.specs.Text.{Lines}
-use Rattle.shader_runs.specs.TextRun.{IsValue, Scope, valued, as_value, responded, performed, evaluate_all, value_of, with_value, break_line, return_line, among, group_has, some_group_continues, follow_all, follow_groups}
+use Rattle.shader_runs.specs.TextRun.{IsValue, Scope, valued, as_value, responded, unhidden, word_reached, performed, evaluate_all, value_of, with_value, break_line, return_line, among, group_has, some_group_continues, follow_all, follow_groups}
 use Rattle.shader_runs.specs.Scope.{usable_all, Absent, is_present, is_new, Named, Handles, Names, usable, usable_if, given_by, given_by_all, after, after_all, forgotten, forgotten_if}
 use Rattle.shader_runs.specs.Form.{word_of, value_forms, written, value_at, value_if, perform_each, form, form_all, form_cases}
-use Rattle.shader_runs.specs.Premises.{handle_types, CallFits, ActionFits, ReturnFits, IsResult, EachAsks, FallsFrom}
+use Rattle.shader_runs.specs.Premises.{IsNoName, handle_types, CallFits, ActionFits, ReturnFits, IsResult, EachAsks, FallsFrom}
 use Rattle.shader_runs.proofs.Alike.{HoldsOf, reached, Answers, same_answer, mistyped_answer, Alike, done, continued, broke, returned_alike, stopped, mistyped, typed_alike, Steps, weaker, then_alike, continue_alike, within_alike, turns_alike, switch_alike, closed_alike, chosen_alike, integer_alike, used_alike, pointer_alike}
 use Rattle.shader_runs.proofs.Relation.{ResultTyped, Returns, Related, Extends, Agree, extends_refl, agree_refl, agree_trans, related_agree, related_forgotten}
 use Rattle.shader_runs.proofs.Evaluation.{naming, words, Respond, request_responds, reached_all, value_forms_give}
-use Rattle.shader_runs.proofs.Written.{Given, typed_value, value_here, place_here, all_here, values_here}
+use Rattle.shader_runs.proofs.Written.{Given, free, typed_value, value_here, place_here, all_here, values_here}
 use Rattle.shader_runs.proofs.Emission.{new_event, agree_update, bind_related, emit_alike}
 use Rattle.shader_runs.proofs.Checked.{Fits, FitsAll, FitsCases, MayResult}
 use Rattle.shader_runs.proofs.Scopes.{IsFollowed, falls_followed, continue_all, continue_cases, among_append, first_followed_by, has_all_cases, extends_after, extends_all}
@@ -110,7 +110,7 @@ module _ (p : Module) (c : Call) (n : Names) (d : Respond) (given : Given p c n 
   -- what is to be shown of a statement and what follows it
   abbrev Row : ℕ → Statement → Handles → Type 0
   Row k st s =
-      (names : Scope) (kept : Kept) (t : List Event) (held2 : Bool) (s2 : Handles) (f : Next Kept) (tail : Lines) → Related c n s names kept → Fits c n k st s → ((kept1 : Kept) (names1 : Scope) (t1 : List Event) → Related c n (after (naming c n) k st s) names1 kept1 → Agree s kept kept1 → Same c n s kept s2 held2 (f kept1 t1) (Follow tail names1 t1)) → Same c n s kept (forgotten_if (holds_continue st) s s2) (holds_continue st || held2) (and_then (run c bound st kept t) f) (Follow (form (naming c n) k st s tail) names t)
+      (names : Scope) (kept : Kept) (t : List Event) (held2 : Bool) (s2 : Handles) (f : Next Kept) (tail : Lines) → Related c n s names kept → Fits p c n k st s → ((kept1 : Kept) (names1 : Scope) (t1 : List Event) → Related c n (after (naming c n) k st s) names1 kept1 → Agree s kept kept1 → Same c n s kept s2 held2 (f kept1 t1) (Follow tail names1 t1)) → Same c n s kept (forgotten_if (holds_continue st) s s2) (holds_continue st || held2) (and_then (run c bound st kept t) f) (Follow (form (naming c n) k st s tail) names t)
 
   emit_row : (k first count : ℕ) (s : Handles) → Row k (Emit first count) s
   emit_row k first count s names kept t held2 s2 f tail r m next =
@@ -123,12 +123,12 @@ module _ (p : Module) (c : Call) (n : Names) (d : Respond) (given : Given p c n 
   -- what is to be shown of a list
   abbrev List_row : ℕ → Statements → Handles → Type 0
   List_row k ss s =
-      (names : Scope) (kept : Kept) (t : List Event) → Related c n s names kept → FitsAll c n k ss s → Same c n s kept (after_all (naming c n) k ss s) (any_continue ss) (run_all c bound ss kept t) (Follow (form_all (naming c n) k ss s) names t)
+      (names : Scope) (kept : Kept) (t : List Event) → Related c n s names kept → FitsAll p c n k ss s → Same c n s kept (after_all (naming c n) k ss s) (any_continue ss) (run_all c bound ss kept t) (Follow (form_all (naming c n) k ss s) names t)
 
   block_row : (k : ℕ) (b : Statements) (s : Handles) → List_row k b s → Row k (Block b) s
   block_row k b s same names kept t held2 s2 f tail r m next =
       let o' = closed names (Follow (form_all (naming c n) k b s) names t) in
-      subst (λ held. Same c n s kept (forgotten_if (any_continue b) s s2) (any_continue b || held2) (and_then (run_all c bound b kept t) f) (closed_if held names (and_then o' (Follow tail)))) (sym (continue_all c n k b s m)) (row c n s names kept r (any_continue b) held2 s2 (run_all c bound b kept t) o' f (Follow tail) (block_line p c n d given bound s _ names kept (any_continue b) _ _ r (same names kept t r m)) next)
+      subst (λ held. Same c n s kept (forgotten_if (any_continue b) s s2) (any_continue b || held2) (and_then (run_all c bound b kept t) f) (closed_if held names (and_then o' (Follow tail)))) (sym (continue_all p c n k b s m)) (row c n s names kept r (any_continue b) held2 s2 (run_all c bound b kept t) o' f (Follow tail) (block_line p c n d given bound s _ names kept (any_continue b) _ _ r (same names kept t r m)) next)
 
   if_row : (k h : ℕ) (a b : Statements) (s : Handles) → List_row k a s → List_row (given_by_all c.function a k) b s → Row k (If h a b) s
   if_row k h a b s same_a same_b names kept t held2 s2 f tail r m next =
@@ -138,7 +138,7 @@ module _ (p : Module) (c : Call) (n : Names) (d : Respond) (given : Given p c n 
       let held = any_continue a || any_continue b in
       let o = with_used (used c kept h) t (λ v. chosen v t (run_all c bound a kept t) (run_all c bound b kept t)) in
       let o' = with_value (value_of (words c d) (value_at (naming c n) s h) names t) (λ v t1. closed names (chosen v t1 (a' t1) (b' t1))) in
-      subst (λ x. Same c n s kept (forgotten_if held s s2) (held || held2) (and_then o f) (closed_if x names (and_then o' (Follow tail)))) (sym (ap₂ (λ x y. x || y) (continue_all c n k a s m.1) (continue_all c n k1 b s m.2))) (row c n s names kept r held held2 s2 o o' f (Follow tail) (if_line p c n d given bound s _ _ names kept t h (any_continue a) (any_continue b) _ _ a' b' r m.0 (same_a names kept t r m.1) (same_b names kept t r m.2)) next)
+      subst (λ x. Same c n s kept (forgotten_if held s s2) (held || held2) (and_then o f) (closed_if x names (and_then o' (Follow tail)))) (sym (ap₂ (λ x y. x || y) (continue_all p c n k a s m.1) (continue_all p c n k1 b s m.2))) (row c n s names kept r held held2 s2 o o' f (Follow tail) (if_line p c n d given bound s _ _ names kept t h (any_continue a) (any_continue b) _ _ a' b' r m.0 (same_a names kept t r m.1) (same_b names kept t r m.2)) next)
 
   loop_row : (k : ℕ) (b b2 : Statements) (e : Option ℕ) (s : Handles) → List_row k b s → List_row (given_by_all c.function b k) b2 (after_all (naming c n) k b s) → Row k (Loop b b2 e) s
   loop_row k b b2 e s same_b same_d names kept t held2 s2 f tail r m next =
@@ -162,15 +162,15 @@ module _ (p : Module) (c : Call) (n : Names) (d : Respond) (given : Given p c n 
   kill_row k s names kept t held2 s2 f tail r m next = row c n s names kept r false held2 s2 _ _ f (Follow tail) stopped next
 
   -- a barrier, a line for each set bit
-  asks_alike : (s s2 : Handles) (names : Scope) (kept : Kept) (held2 : Bool) (f : Next Kept) (tail : Lines) (ws : List Bytes) → EachAsks n ws → ((t1 : List Event) → Same c n s kept s2 held2 (f kept t1) (Follow tail names t1)) → (t : List Event) → Same c n s kept s2 held2 (and_then (ask_each ws kept t) f) (Follow (perform_each ws tail) names t)
-  asks_alike s s2 names kept held2 f tail [] m next t = next t
-  asks_alike s s2 names kept held2 f tail (w ∷ ws) m next t =
+  asks_alike : (s s2 : Handles) (names : Scope) (kept : Kept) → Related c n s names kept → (held2 : Bool) (f : Next Kept) (tail : Lines) (ws : List Bytes) → EachAsks p (naming c n) ws → ((t1 : List Event) → Same c n s kept s2 held2 (f kept t1) (Follow tail names t1)) → (t : List Event) → Same c n s kept s2 held2 (and_then (ask_each ws kept t) f) (Follow (perform_each ws tail) names t)
+  asks_alike s s2 names kept r held2 f tail [] m next t = next t
+  asks_alike s s2 names kept r held2 f tail (w ∷ ws) m next t =
       let rest = Follow (perform_each ws tail) in
-      subst (λ q. Same c n s kept s2 held2 (and_then (ask_each ws kept (Ask w [] ∷ t)) f) (and_then (performed names q) rest)) (sym (request_responds c n d given.responds w m.0 [] t)) (asks_alike s s2 names kept held2 f tail ws m.1 next (Ask w [] ∷ t))
+      subst (λ q. Same c n s kept s2 held2 (and_then (ask_each ws kept (Ask w [] ∷ t)) f) (and_then (performed names q) rest)) (sym (ap (λ o. unhidden o t (d w [] t)) (free p c n d given s names kept r w m.0.1.1) ∙ request_responds p c n d given.responds w m.0 [] t)) (asks_alike s s2 names kept r held2 f tail ws m.1 next (Ask w [] ∷ t))
 
   barrier_row : (k : ℕ) (bits : BarrierBits) (s : Handles) → Row k (Barrier bits) s
   barrier_row k bits s names kept t held2 s2 f tail r m next =
-      asks_alike s s2 names kept held2 f tail (barrier_words bits) m (λ t1. next kept names t1 r (agree_refl s kept)) t
+      asks_alike s s2 names kept r held2 f tail (barrier_words bits) m (λ t1. next kept names t1 r (agree_refl s kept)) t
 
   -- what an action gives
   abbrev ReturnsOf : Option Function → Option Value → Type 0
@@ -185,18 +185,22 @@ module _ (p : Module) (c : Call) (n : Names) (d : Respond) (given : Given p c n 
   as_answer q q' e h = subst (λ x. Answers (λ o. Unit {0}) q x) (sym e) (same_answer h)
 
   -- an action's word does the same in the text
-  action_responds : (a : Action) (xs : List ℕ) (result : Option ℕ) → ActionFits c.callees (naming c n) a xs result → (vs : List Value) → IsTrue (has_types (handle_types c.function xs) vs) → (t : List Event) → Answers (ActionReturns a) (acted c a vs t) (d (word_of n a) vs t)
-  action_responds (Asked w) xs result m vs h t = as_answer (acted c (Asked w) vs t) (d w vs t) (request_responds c n d given.responds w m vs t) tt
-  action_responds (Called g) xs result m vs h t = go (function_numbered c.callees g) refl m.1
+  action_responds : (a : Action) (xs : List ℕ) (result : Option ℕ) → ActionFits p c.callees (naming c n) a xs result → (vs : List Value) → IsTrue (has_types (handle_types c.function xs) vs) → (t : List Event) → Answers (ActionReturns a) (acted c a vs t) (d (word_of n a) vs t)
+  action_responds (Asked w) xs result m vs h t = as_answer (acted c (Asked w) vs t) (d w vs t) (request_responds p c n d given.responds w m vs t) tt
+  action_responds (Called g) xs result m vs h t = go (function_numbered c.callees g) refl m.2
     where
       go : (o : Option Function) → function_numbered c.callees g ≡ o → CallFits c.function o xs result → Answers (ReturnsOf o) (c.calls g vs t) (d (n.outer.function g) vs t)
       go None e w = absurd w
       go (Some callee) e w = given.responds.calls g callee e vs (subst (λ ts. IsTrue (has_types ts vs)) w.0 h) t
 
-  responded_written : (s : Handles) (names : Scope) (kept : Kept) → Related c n s names kept → (a : Action) (xs : List ℕ) (result : Option ℕ) → ActionFits c.callees (naming c n) a xs result → IsTrue (usable_all c.function s xs) → (vs : List Value) → used_all c kept xs ≡ Some vs → IsTrue (has_types (handle_types c.function xs) vs) → (t : List Event) → Answers (ActionReturns a) (acted c a vs t) (responded (words c d) (word_of n a) (evaluate_all (words c d) (value_forms (written (naming c n) s) xs) names t))
+  not_hidden : (a : Action) (xs : List ℕ) (result : Option ℕ) → ActionFits p c.callees (naming c n) a xs result → IsNoName p (naming c n) (word_of n a)
+  not_hidden (Asked w) xs result m = m.1.1
+  not_hidden (Called g) xs result m = m.1
+
+  responded_written : (s : Handles) (names : Scope) (kept : Kept) → Related c n s names kept → (a : Action) (xs : List ℕ) (result : Option ℕ) → ActionFits p c.callees (naming c n) a xs result → IsTrue (usable_all c.function s xs) → (vs : List Value) → used_all c kept xs ≡ Some vs → IsTrue (has_types (handle_types c.function xs) vs) → (t : List Event) → Answers (ActionReturns a) (acted c a vs t) (word_reached (words c d) (word_of n a) names t (evaluate_all (words c d) (value_forms (written (naming c n) s) xs) names t))
   responded_written s names kept r a xs result m u vs e h t =
       let there = value_forms_give c d names kept (written (naming c n) s) xs (all_here p c n d given s names kept r xs u) t ∙ ap (λ os. reached_all os t) e in
-      subst (λ q. Answers (ActionReturns a) (acted c a vs t) (responded (words c d) (word_of n a) q)) (sym there) (action_responds a xs result m vs h t)
+      subst (λ q. Answers (ActionReturns a) (acted c a vs t) (word_reached (words c d) (word_of n a) names t q)) (sym there) (subst (λ o. Answers (ActionReturns a) (acted c a vs t) (unhidden o t (d (word_of n a) vs t))) (sym (free p c n d given s names kept r (word_of n a) (not_hidden a xs result m))) (action_responds a xs result m vs h t))
 
   performed_same : (s : Handles) (names : Scope) (kept : Kept) (a : Action) (q : Reached (Option Value)) → Related c n s names kept → SameLine c n s kept false (with_result c.function a None kept q) (performed names q)
   performed_same s names kept a (Gives v t) r = done (r, agree_refl s kept)
@@ -209,7 +213,7 @@ module _ (p : Module) (c : Call) (n : Names) (d : Respond) (given : Given p c n 
   perform_row : (k : ℕ) (a : Action) (xs : List ℕ) (s : Handles) → Row k (Act a xs None) s
   perform_row k a xs s names kept t held2 s2 f tail r m next =
       let v = values_here p c n d given s names kept r xs m.0 in
-      let q' = responded (words c d) (word_of n a) (evaluate_all (words c d) (value_forms (written (naming c n) s) xs) names t) in
+      let q' = word_reached (words c d) (word_of n a) names t (evaluate_all (words c d) (value_forms (written (naming c n) s) xs) names t) in
       row c n s names kept r false held2 s2 _ _ f (Follow tail) (subst (λ os. SameLine c n s kept false (with_all os t (λ vs. with_result c.function a None kept (acted c a vs t))) (performed names q')) (sym v.1) (performed_alike s names kept a (acted c a v.0 t) q' (responded_written s names kept r a xs None m.1 m.0 v.0 v.1 v.2 t) r)) next
 
   abbrev bound_to : Scope → Bytes → Next Scope → Reached (Option Value) → Outcome Scope
@@ -233,36 +237,36 @@ module _ (p : Module) (c : Call) (n : Names) (d : Respond) (given : Given p c n 
       not_there : IsTrue (is_present (s h)) → ⊥
       not_there = new_event c s names kept (handle_type c.function h) (expression_of c.function h) (kept h) (result_combined c (expression_of c.function h) m.kind) (s h) m.new (r.standing h)
 
-  result_same : (s s2 : Handles) (names : Scope) (kept : Kept) (held2 : Bool) (a : Action) (xs : List ℕ) (h : ℕ) (f : Next Kept) (g : Next Scope) → Related c n s names kept → ActionFits c.callees (naming c n) a xs (Some h) → MayResult c n h s → ResultNext s kept s2 held2 h f g → (q : Reached (Option Value)) → HoldsOf (ActionReturns a) q → Same c n s kept s2 held2 (and_then (with_result c.function a (Some h) kept q) f) (bound_to names (n.numbered h) g q)
+  result_same : (s s2 : Handles) (names : Scope) (kept : Kept) (held2 : Bool) (a : Action) (xs : List ℕ) (h : ℕ) (f : Next Kept) (g : Next Scope) → Related c n s names kept → ActionFits p c.callees (naming c n) a xs (Some h) → MayResult c n h s → ResultNext s kept s2 held2 h f g → (q : Reached (Option Value)) → HoldsOf (ActionReturns a) q → Same c n s kept s2 held2 (and_then (with_result c.function a (Some h) kept q) f) (bound_to names (n.numbered h) g q)
   result_same s s2 names kept held2 a xs h f g r w m next (Gives None t) q = stopped
   result_same s s2 names kept held2 (Asked word) xs h f g r w m next (Gives (Some v) t) q =
       typed_alike (has_type (handle_type c.function h) v) t (Done (update kept h (Some v)) t) f (λ y. result_kept s s2 names kept held2 h f g r m next v t y)
   result_same s s2 names kept held2 (Called callee) xs h f g r w m next (Gives (Some v) t) q =
-      result_kept s s2 names kept held2 h f g r m next v t (called_typed (function_numbered c.callees callee) xs h v w.1 q)
+      result_kept s s2 names kept held2 h f g r m next v t (called_typed (function_numbered c.callees callee) xs h v w.2 q)
   result_same s s2 names kept held2 a xs h f g r w m next (Halts x t) q = stopped
 
-  result_alike : (s s2 : Handles) (names : Scope) (kept : Kept) (held2 : Bool) (a : Action) (xs : List ℕ) (h : ℕ) (f : Next Kept) (g : Next Scope) → Related c n s names kept → ActionFits c.callees (naming c n) a xs (Some h) → MayResult c n h s → ResultNext s kept s2 held2 h f g → (q q' : Reached (Option Value)) → Answers (ActionReturns a) q q' → Same c n s kept s2 held2 (and_then (with_result c.function a (Some h) kept q) f) (bound_to names (n.numbered h) g q')
+  result_alike : (s s2 : Handles) (names : Scope) (kept : Kept) (held2 : Bool) (a : Action) (xs : List ℕ) (h : ℕ) (f : Next Kept) (g : Next Scope) → Related c n s names kept → ActionFits p c.callees (naming c n) a xs (Some h) → MayResult c n h s → ResultNext s kept s2 held2 h f g → (q q' : Reached (Option Value)) → Answers (ActionReturns a) q q' → Same c n s kept s2 held2 (and_then (with_result c.function a (Some h) kept q) f) (bound_to names (n.numbered h) g q')
   result_alike s s2 names kept held2 a xs h f g r w m next q q' (same_answer y) = result_same s s2 names kept held2 a xs h f g r w m next q y
   result_alike s s2 names kept held2 a xs h f g r w m next q q' mistyped_answer = mistyped
 
   result_row : (k : ℕ) (a : Action) (xs : List ℕ) (h : ℕ) (s : Handles) → Row k (Act a xs (Some h)) s
   result_row k a xs h s names kept t held2 s2 f tail r m next =
       let v = values_here p c n d given s names kept r xs m.0 in
-      let q' = responded (words c d) (word_of n a) (evaluate_all (words c d) (value_forms (written (naming c n) s) xs) names t) in
+      let q' = word_reached (words c d) (word_of n a) names t (evaluate_all (words c d) (value_forms (written (naming c n) s) xs) names t) in
       subst (λ os. Same c n s kept s2 held2 (and_then (with_all os t (λ vs. with_result c.function a (Some h) kept (acted c a vs t))) f) (bound_to names (n.numbered h) (Follow tail) q')) (sym v.1) (result_alike s s2 names kept held2 a xs h f (Follow tail) r m.1 m.2 next (acted c a v.0 t) q' (responded_written s names kept r a xs (Some h) m.1 m.0 v.0 v.1 v.2 t))
 
   -- what is to be shown of the cases of a switch, behind waiting labels: entered, or on the way to the label x
   pub record Cases_row (k : ℕ) (cs : Cases) (s : Handles) : Type 0 where
-    pub entered : (labels : List Label) → IsFollowed labels cs → (x : Label) → IsTrue (among x labels) → (names : Scope) (kept : Kept) (t : List Event) → Related c n s names kept → FitsCases c n k cs s → SameBody c s kept (some_case_continues cs) (run_on c bound cs kept t) (follow_groups (words c d) bound (form_cases (naming c n) k labels cs s) x names t)
-    pub searching : (labels : List Label) → IsFollowed labels cs → (x : Label) → among x labels ≡ false → (names : Scope) (kept : Kept) (t : List Event) → Related c n s names kept → FitsCases c n k cs s → SameBody c s kept (some_case_continues cs) (run_cases c bound cs x kept t) (follow_groups (words c d) bound (form_cases (naming c n) k labels cs s) x names t)
+    pub entered : (labels : List Label) → IsFollowed labels cs → (x : Label) → IsTrue (among x labels) → (names : Scope) (kept : Kept) (t : List Event) → Related c n s names kept → FitsCases p c n k cs s → SameBody c s kept (some_case_continues cs) (run_on c bound cs kept t) (follow_groups (words c d) bound (form_cases (naming c n) k labels cs s) x names t)
+    pub searching : (labels : List Label) → IsFollowed labels cs → (x : Label) → among x labels ≡ false → (names : Scope) (kept : Kept) (t : List Event) → Related c n s names kept → FitsCases p c n k cs s → SameBody c s kept (some_case_continues cs) (run_cases c bound cs x kept t) (follow_groups (words c d) bound (form_cases (naming c n) k labels cs s) x names t)
 
   no_cases : (k : ℕ) (s : Handles) → Cases_row k no_case s
   no_cases k s = record { entered = in_none; searching = by_none }
     where
-      in_none : (labels : List Label) → IsFollowed labels no_case → (x : Label) → IsTrue (among x labels) → (names : Scope) (kept : Kept) (t : List Event) → Related c n s names kept → FitsCases c n k no_case s → SameBody c s kept false (run_on c bound no_case kept t) (follow_groups (words c d) bound (form_cases (naming c n) k labels no_case s) x names t)
+      in_none : (labels : List Label) → IsFollowed labels no_case → (x : Label) → IsTrue (among x labels) → (names : Scope) (kept : Kept) (t : List Event) → Related c n s names kept → FitsCases p c n k no_case s → SameBody c s kept false (run_on c bound no_case kept t) (follow_groups (words c d) bound (form_cases (naming c n) k labels no_case s) x names t)
       in_none labels w x e names kept t r m = done (agree_refl s kept)
 
-      by_none : (labels : List Label) → IsFollowed labels no_case → (x : Label) → among x labels ≡ false → (names : Scope) (kept : Kept) (t : List Event) → Related c n s names kept → FitsCases c n k no_case s → SameBody c s kept false (run_cases c bound no_case x kept t) (follow_groups (words c d) bound (form_cases (naming c n) k labels no_case s) x names t)
+      by_none : (labels : List Label) → IsFollowed labels no_case → (x : Label) → among x labels ≡ false → (names : Scope) (kept : Kept) (t : List Event) → Related c n s names kept → FitsCases p c n k no_case s → SameBody c s kept false (run_cases c bound no_case x kept t) (follow_groups (words c d) bound (form_cases (naming c n) k labels no_case s) x names t)
       by_none labels w x e names kept t r m = done (agree_refl s kept)
 
   module _ (k : ℕ) (l : Label) (b : Statements) (cs : Cases) (s : Handles) (same : List_row k b s) (rest : Cases_row (given_by_all c.function b k) cs s) where
@@ -277,7 +281,7 @@ module _ (p : Module) (c : Call) (n : Names) (d : Respond) (given : Given p c n 
     held_more falls h = or_left (any_continue b) (some_case_continues cs) h
 
     -- a case that stays
-    body_alone : (names : Scope) (kept : Kept) (t : List Event) → Related c n s names kept → FitsAll c n k b s → SameBody c s kept (any_continue b || some_case_continues cs) (On_from false kept t) (Follow (form_all (naming c n) k b s) names t)
+    body_alone : (names : Scope) (kept : Kept) (t : List Event) → Related c n s names kept → FitsAll p c n k b s → SameBody c s kept (any_continue b || some_case_continues cs) (On_from false kept t) (Follow (form_all (naming c n) k b s) names t)
     body_alone names kept t r m = stays (same names kept t r m)
       where
         stays : {o : Outcome Kept} {o' : Outcome Scope} → Same c n s kept (after_all (naming c n) k b s) (any_continue b) o o' → SameBody c s kept (any_continue b || some_case_continues cs) (and_then o (λ kept1 t1. Done kept1 t1)) o'
@@ -296,13 +300,13 @@ module _ (p : Module) (c : Call) (n : Names) (d : Respond) (given : Given p c n 
     is_among labels x e = among_append x labels l ∙ e
 
     -- the case with this label, or one that waiting labels came to
-    pub here_stays : (labels : List Label) (x : Label) → IsTrue (among x (labels ++ l ∷ [])) → (names : Scope) (kept : Kept) (t : List Event) → Related c n s names kept → FitsCases c n k (case l b false cs) s → SameBody c s kept (any_continue b || some_case_continues cs) (On_from false kept t) (Groups_at labels false x names t)
+    pub here_stays : (labels : List Label) (x : Label) → IsTrue (among x (labels ++ l ∷ [])) → (names : Scope) (kept : Kept) (t : List Event) → Related c n s names kept → FitsCases p c n k (case l b false cs) s → SameBody c s kept (any_continue b || some_case_continues cs) (On_from false kept t) (Groups_at labels false x names t)
     here_stays labels x e names kept t r m =
         let others = follow_groups (words c d) bound (form_cases (naming c n) (given_by_all c.function b k) [] cs s) x names t in
         subst (λ z. SameBody c s kept (any_continue b || some_case_continues cs) (On_from false kept t) (cond z (Follow (form_all (naming c n) k b s) names t) others)) (sym e) (body_alone names kept t r m.1)
 
     -- another case
-    pub past_stays : (labels : List Label) (x : Label) → among x (labels ++ l ∷ []) ≡ false → (names : Scope) (kept : Kept) (t : List Event) → Related c n s names kept → FitsCases c n k (case l b false cs) s → SameBody c s kept (any_continue b || some_case_continues cs) (run_cases c bound cs x kept t) (Groups_at labels false x names t)
+    pub past_stays : (labels : List Label) (x : Label) → among x (labels ++ l ∷ []) ≡ false → (names : Scope) (kept : Kept) (t : List Event) → Related c n s names kept → FitsCases p c n k (case l b false cs) s → SameBody c s kept (any_continue b || some_case_continues cs) (run_cases c bound cs x kept t) (Groups_at labels false x names t)
     past_stays labels x e names kept t r m =
         let others = follow_groups (words c d) bound (form_cases (naming c n) (given_by_all c.function b k) [] cs s) x names t in
         subst (λ z. SameBody c s kept (any_continue b || some_case_continues cs) (run_cases c bound cs x kept t) (cond z (Follow (form_all (naming c n) k b s) names t) others)) (sym e) (more_held kept (rest.searching [] (first_followed_by cs) x refl names kept t r m.2))
@@ -332,13 +336,13 @@ module _ (p : Module) (c : Call) (n : Names) (d : Respond) (given : Given p c n 
         searching = λ labels w x e names kept t r m. absurd m.0;
       }
 
-  switch_line : (k h : ℕ) (cs : Cases) (s : Handles) → Cases_row k cs s → (names : Scope) (kept : Kept) (t : List Event) → Related c n s names kept → IsTrue (usable c.function s h) → FitsCases c n k cs s → SameLine c n s kept (some_case_continues cs) (with_used (used c kept h) t (λ v. with_integer v t (λ z. after_switch (run_cases c bound cs (label_if (has_label (Numbered z) cs) z) kept t)))) (with_value (value_of (words c d) (value_at (naming c n) s h) names t) (λ v t1. closed names (with_integer v t1 (λ z. after_switch (follow_groups (words c d) bound (form_cases (naming c n) k [] cs s) (label_if (group_has (Numbered z) (form_cases (naming c n) k [] cs s)) z) names t1)))))
+  switch_line : (k h : ℕ) (cs : Cases) (s : Handles) → Cases_row k cs s → (names : Scope) (kept : Kept) (t : List Event) → Related c n s names kept → IsTrue (usable c.function s h) → FitsCases p c n k cs s → SameLine c n s kept (some_case_continues cs) (with_used (used c kept h) t (λ v. with_integer v t (λ z. after_switch (run_cases c bound cs (label_if (has_label (Numbered z) cs) z) kept t)))) (with_value (value_of (words c d) (value_at (naming c n) s h) names t) (λ v t1. closed names (with_integer v t1 (λ z. after_switch (follow_groups (words c d) bound (form_cases (naming c n) k [] cs s) (label_if (group_has (Numbered z) (form_cases (naming c n) k [] cs s)) z) names t1)))))
   switch_line k h cs s cases names kept t r u m =
       used_alike _ _ (used c kept h) t (value_of (words c d) (value_at (naming c n) s h) names t) (value_here p c n d given s names kept r h u t) (λ v. closed_alike {P = λ k l. Agree s kept k} {Q = λ k l. Agree s kept k × IsTrue (some_case_continues cs)} {B = λ k l. Agree s kept k} names (λ k l a. (related_agree c n s names kept k a r, a)) (λ k l q. q) (λ k l b. b) (integer_alike v t _ _ one_label))
     where
       one_label : (z : ℤ) → SameBody c s kept (some_case_continues cs) (after_switch (run_cases c bound cs (label_if (has_label (Numbered z) cs) z) kept t)) (after_switch (follow_groups (words c d) bound (form_cases (naming c n) k [] cs s) (label_if (group_has (Numbered z) (form_cases (naming c n) k [] cs s)) z) names t))
       one_label z =
-          switch_alike (subst (λ y. SameBody c s kept (some_case_continues cs) (run_cases c bound cs (label_if (has_label (Numbered z) cs) z) kept t) (follow_groups (words c d) bound (form_cases (naming c n) k [] cs s) (label_if y z) names t)) (sym (has_all_cases c n k cs s m (Numbered z))) (cases.searching [] (first_followed_by cs) (label_if (has_label (Numbered z) cs) z) refl names kept t r m))
+          switch_alike (subst (λ y. SameBody c s kept (some_case_continues cs) (run_cases c bound cs (label_if (has_label (Numbered z) cs) z) kept t) (follow_groups (words c d) bound (form_cases (naming c n) k [] cs s) (label_if y z) names t)) (sym (has_all_cases p c n k cs s m (Numbered z))) (cases.searching [] (first_followed_by cs) (label_if (has_label (Numbered z) cs) z) refl names kept t r m))
 
   switch_row : (k h : ℕ) (cs : Cases) (s : Handles) → Cases_row k cs s → Row k (Switch h cs) s
   switch_row k h cs s cases names kept t held2 s2 f tail r m next =
@@ -346,7 +350,7 @@ module _ (p : Module) (c : Call) (n : Names) (d : Respond) (given : Given p c n 
       let held = some_case_continues cs in
       let o = with_used (used c kept h) t (λ v. with_integer v t (λ z. after_switch (run_cases c bound cs (label_if (has_label (Numbered z) cs) z) kept t))) in
       let o' = with_value (value_of (words c d) (value_at (naming c n) s h) names t) (λ v t1. closed names (with_integer v t1 (λ z. after_switch (follow_groups (words c d) bound groups (label_if (group_has (Numbered z) groups) z) names t1)))) in
-      subst (λ x. Same c n s kept (forgotten_if held s s2) (held || held2) (and_then o f) (closed_if x names (and_then o' (Follow tail)))) (sym (continue_cases c n k [] cs s m.1)) (row c n s names kept r held held2 s2 o o' f (Follow tail) (switch_line k h cs s cases names kept t r m.0 m.1) next)
+      subst (λ x. Same c n s kept (forgotten_if held s s2) (held || held2) (and_then o f) (closed_if x names (and_then o' (Follow tail)))) (sym (continue_cases p c n k [] cs s m.1)) (row c n s names kept r held held2 s2 o o' f (Follow tail) (switch_line k h cs s cases names kept t r m.0 m.1) next)
 
   -- a statement, and a list that goes on with it
   list_row : (k : ℕ) (st : Statement) (ss : Statements) (s : Handles) → Row k st s → List_row (given_by c.function st k) ss (after (naming c n) k st s) → List_row k (then st ss) s

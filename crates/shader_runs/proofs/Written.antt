@@ -8,13 +8,13 @@ use Rattle.shader_runs.specs.Outcome.{Reached, Gives}
 use Rattle.shader_runs.specs.Program.{ConstantTree, Fixed, NamedConstant, Constructed, ConstantTrees, no_constant, constant, Expression, Constant, Argument, Local, Global, Load, Operator, Access, Select, Junct, Request, Result, Function, argument_count, local_count, expression_of, handle_type, operands_of, Module}
 use Rattle.shader_runs.specs.ProgramRun.{Call, Kept, constant_value, constant_values, global_value, used_as, used, also, used_all, applied, combined, gathered, computed}
 use Rattle.shader_runs.specs.Text.{Tree, Name}
-use Rattle.shader_runs.specs.TextRun.{IsValue, IsPlace, Scope, named, valued, responded, as_value, evaluate, evaluate_all, value_of, global_denoted}
+use Rattle.shader_runs.specs.TextRun.{IsValue, IsPlace, Scope, named, valued, responded, unhidden, as_value, evaluate, evaluate_all, value_of, global_denoted}
 use Rattle.shader_runs.specs.Scope.{Standing, Absent, Barred, Everywhere, Inline, Named, Handles, Names, usable, usable_as, usable_all, is_pure}
 use Rattle.shader_runs.specs.Form.{Plain, AsValue, AsPlace, value_form, place_form, value_forms, constant_form, constant_forms, global_form, own_form, standing_form, written_below, written}
-use Rattle.shader_runs.specs.Premises.{ConstantWords, ConstantsWords, WordFits, AllBelow, constant_type, constant_types_of, ConstantInRange, ConstantsInRange, LeafFits, ConstantTyped, ConstantsTyped, LeafTyped, handle_types, IsTypedIn, ConstantName, ArgumentName, LocalName, GlobalName, global_has_type, globals_have_types, EnvironmentFits}
+use Rattle.shader_runs.specs.Premises.{FixedName, NameKey, FixedKey, NumberedKey, GivenKey, IsFixedName, IsNoName, ConstantWords, ConstantsWords, WordFits, AllBelow, constant_type, constant_types_of, ConstantInRange, ConstantsInRange, LeafFits, ConstantTyped, ConstantsTyped, LeafTyped, handle_types, IsTypedIn, ConstantName, ArgumentName, LocalName, GlobalName, global_has_type, globals_have_types, EnvironmentFits}
 use Rattle.shader_runs.proofs.Alike.{reached, placed}
 use Rattle.shader_runs.proofs.Update.{and_left, and_right, and_both, has_types_length}
-use Rattle.shader_runs.proofs.Relation.{TypedValue, as_denoted, global_as, Stands, Related}
+use Rattle.shader_runs.proofs.Relation.{IsHere, NoName, TypedValue, as_denoted, global_as, Stands, Related}
 use Rattle.shader_runs.proofs.Evaluation.{naming, Respond, words, Responds, denoted, Means, none_some, value_form_denotes, value_form_gives, place_form_gives, AllMean, reached_all, followed_reached, value_forms_give, named_denoted, applied_reached, OneOf, one_of, TwoOf, two_of, one_there, two_there, access_means, select_means, junct_means}
 
 -- what a call owes to its function's text
@@ -23,7 +23,7 @@ pub record Given (p : Module) (c : Call) (n : Names) (d : Respond) : Type 0 wher
   pub arguments : IsTrue (has_types c.function.argument_types c.arguments)
   pub environment : EnvironmentFits p c.environment
   pub ordered : (h : ℕ) → AllBelow h (operands_of (expression_of c.function h))
-  pub words : (h : ℕ) → WordFits n (expression_of c.function h)
+  pub words : (h : ℕ) → WordFits p (naming c n) (expression_of c.function h)
   pub leaves : (h : ℕ) → LeafFits p c.function (handle_type c.function h) (expression_of c.function h)
   pub typed : IsTypedIn p c.meaning c.function
 
@@ -64,6 +64,22 @@ globals_length [] (v ∷ vs) e = absurd (true≢false (sym e))
 globals_length (t ∷ ts) [] e = absurd (true≢false (sym e))
 globals_length (t ∷ ts) (v ∷ vs) e =
     ap suc (globals_length ts vs (and_right (global_has_type t v) (globals_have_types ts vs) e))
+
+-- the names that are there from the start are the module's and the function's
+pub in_range : (p : Module) (c : Call) → EnvironmentFits p c.environment → (y : FixedName) → IsHere c y → IsFixedName p c.function y
+in_range p c fits (ArgumentName i) h = h
+in_range p c fits (LocalName i) h = h
+in_range p c fits (ConstantName i) h =
+    subst (λ k. i < k) (has_types_length p.constant_types c.environment.constants fits.constants) h
+in_range p c fits (GlobalName i) h = subst (λ k. i < k) (globals_length p.global_types c.environment.globals fits.globals) h
+
+pub no_name : (p : Module) (c : Call) (n : Names) → EnvironmentFits p c.environment → (w : Bytes) → IsNoName p (naming c n) w → NoName c n w
+no_name p c n fits w f =
+    record {
+      fixed = λ x here. f (FixedKey x) (in_range p c fits x here);
+      numbered = λ h. f (NumberedKey h) tt;
+      given = λ k lt. f (GivenKey k) lt;
+    }
 
 held_typed : (k : ValueType) (i : ℕ) (g : GlobalValue) → IsTrue (global_has_type k g) → TypedValue k (global_value i (Some g))
 held_typed PointerType i Stored h = (Pointer (Rooted (GlobalRoot i)), refl, refl)
@@ -130,15 +146,19 @@ module _ (p : Module) (c : Call) (n : Names) (d : Respond) (given : Given p c n 
       let b = values_here xs (and_right (usable c.function s x) (usable_all c.function s xs) u) in
       (a.0 ∷ b.0, ap (λ o. also o (used_all c kept xs)) a.1 ∙ ap (also (Some a.0)) b.1, and_both (has_type (handle_type c.function x) a.0) (has_types (handle_types c.function xs) b.0) a.2 b.2)
 
+  -- no variable hides a word of the function
+  pub free : (w : Bytes) → IsNoName p (naming c n) w → names w ≡ None
+  free w f = r.words w (no_name p c n given.environment w f)
+
   mutual
-    constant_gives : (e : ConstantTree) → ConstantWords n e → ConstantInRange p e → (t : List Event) → evaluate (words c d) (constant_form n.outer e) names t ≡ denoted (constant_value c.environment c.meaning e) t
+    constant_gives : (e : ConstantTree) → ConstantWords p (naming c n) e → ConstantInRange p e → (t : List Event) → evaluate (words c d) (constant_form n.outer e) names t ≡ denoted (constant_value c.environment c.meaning e) t
     constant_gives (Fixed v) w i t = refl
     constant_gives (NamedConstant j) w i t =
         ap (λ z. named z t) (r.fixed (ConstantName j) (subst (λ k. j < k) (sym (has_types_length p.constant_types c.environment.constants given.environment.constants)) i)) ∙ named_denoted (slice_get c.environment.constants j) t
     constant_gives (Constructed word ty es) w i t =
-        ap (λ q. as_value (responded (words c d) word q)) (constants_give es w.1 i t) ∙ applied_reached c n d given.responds word w.0 (constant_values c.environment c.meaning es) t
+        ap (λ q. as_value (unhidden (names word) t (responded (words c d) word q))) (constants_give es w.1 i t) ∙ applied_reached p c n d given.responds word w.0 (names word) (free word w.0.1.1) (constant_values c.environment c.meaning es) t
 
-    constants_give : (es : ConstantTrees) → ConstantsWords n es → ConstantsInRange p es → (t : List Event) → evaluate_all (words c d) (constant_forms n.outer es) names t ≡ reached_all (constant_values c.environment c.meaning es) t
+    constants_give : (es : ConstantTrees) → ConstantsWords p (naming c n) es → ConstantsInRange p es → (t : List Event) → evaluate_all (words c d) (constant_forms n.outer es) names t ≡ reached_all (constant_values c.environment c.meaning es) t
     constants_give no_constant w i t = refl
     constants_give (constant e es) w i t =
         let rest = evaluate_all (words c d) (constant_forms n.outer es) names in
@@ -180,10 +200,10 @@ module _ (p : Module) (c : Call) (n : Names) (d : Respond) (given : Given p c n 
           subst (λ o. Means c d names (global_form k (Name (n.outer.global i))) (global_value i o)) (sym e) (global_as_means k i g (r.fixed (GlobalName i) here ∙ ap (global_as i) e) (ap (λ k. global_has_type k g) q ∙ h))
 
   module _ (operand : ℕ → Plain) where
-    operator_means : (w : Bytes) (xs : List ℕ) → WordFits n (Some (Operator w xs)) → (k : ValueType) (o : Option Value) → o ≡ computed c kept (Some (Operator w xs)) → AllMean c d names kept operand xs → Means c d names (own_form (naming c n) operand k (Some (Operator w xs))) o
+    operator_means : (w : Bytes) (xs : List ℕ) → WordFits p (naming c n) (Some (Operator w xs)) → (k : ValueType) (o : Option Value) → o ≡ computed c kept (Some (Operator w xs)) → AllMean c d names kept operand xs → Means c d names (own_form (naming c n) operand k (Some (Operator w xs))) o
     operator_means w xs f k o e m t =
-        ap (λ q. as_value (responded (words c d) w q)) (value_forms_give c d names kept operand xs m t)
-        ∙ applied_reached c n d given.responds w f (used_all c kept xs) t
+        ap (λ q. as_value (unhidden (names w) t (responded (words c d) w q))) (value_forms_give c d names kept operand xs m t)
+        ∙ applied_reached p c n d given.responds w f (names w) (free w f.1.1) (used_all c kept xs) t
         ∙ ap (λ o. denoted o t) (applied_gathered (used_all c kept xs) ∙ sym e)
       where
         applied_gathered : (os : Option (List Value)) → applied c.meaning (Spelled w) os ≡ gathered c.meaning (Some (Operator w xs)) os
@@ -223,7 +243,7 @@ module _ (p : Module) (c : Call) (n : Names) (d : Respond) (given : Given p c n 
             at_value (own_form (naming c n) operand k (Some (Junct j a b))) _ o (ev ∙ sym v.1) (junct_means c d names j (operand a) (operand b) l z (at_value (operand a) (used c kept a) (Some l) ea m.0) (at_value (operand b) (used c kept b) (Some z) eb m.1.0))
 
     -- an operator over operands in scope
-    pub operator_there : (k y : ValueType) (e : Option Expression) → IsTrue (is_pure e) → WordFits n e → (o : Option Value) → TypedValue y o → o ≡ computed c kept e → IsTrue (usable_all c.function s (operands_of e)) → AllMean c d names kept operand (operands_of e) → Means c d names (own_form (naming c n) operand k e) o
+    pub operator_there : (k y : ValueType) (e : Option Expression) → IsTrue (is_pure e) → WordFits p (naming c n) e → (o : Option Value) → TypedValue y o → o ≡ computed c kept e → IsTrue (usable_all c.function s (operands_of e)) → AllMean c d names kept operand (operands_of e) → Means c d names (own_form (naming c n) operand k e) o
     operator_there k y (Some (Operator w xs)) i f o v e u m = operator_means w xs f k o e m
     operator_there k y (Some (Access b x)) i f o v e u m =
         index_there b x k o y v e (and_left (usable c.function s b) (usable_all c.function s (x ∷ [])) u) m
@@ -234,7 +254,7 @@ module _ (p : Module) (c : Call) (n : Names) (d : Respond) (given : Given p c n 
     operator_there k y None i f o v e u m = absurd (true≢false (sym i))
 
     -- an expression that isn't named
-    inline_there : (k : ValueType) (e : Option Expression) → WordFits n e → LeafFits p c.function k e → (o : Option Value) → IsTrue (usable_as c.function e Inline) → IsTrue (usable_all c.function s (operands_of e)) → TypedValue k o → o ≡ computed c kept e → AllMean c d names kept operand (operands_of e) → Means c d names (own_form (naming c n) operand k e) (used_as c e o)
+    inline_there : (k : ValueType) (e : Option Expression) → WordFits p (naming c n) e → LeafFits p c.function k e → (o : Option Value) → IsTrue (usable_as c.function e Inline) → IsTrue (usable_all c.function s (operands_of e)) → TypedValue k o → o ≡ computed c kept e → AllMean c d names kept operand (operands_of e) → Means c d names (own_form (naming c n) operand k e) (used_as c e o)
     inline_there k (Some (Constant e)) f l o u us v q m = λ t. constant_gives e f l.0 t
     inline_there k (Some (Argument i)) f l o u us v q m = argument_means i u
     inline_there k (Some (Local i)) f l o u us v q m = local_means i u
@@ -249,7 +269,7 @@ module _ (p : Module) (c : Call) (n : Names) (d : Respond) (given : Given p c n 
     inline_there k None f l o u us v q m = absurd (true≢false (sym u))
 
     -- a leaf, which is in scope everywhere
-    leaf_there : (k : ValueType) (e : Option Expression) → WordFits n e → LeafFits p c.function k e → (o : Option Value) → IsTrue (usable_as c.function e Absent) → Means c d names (own_form (naming c n) operand k e) (used_as c e o)
+    leaf_there : (k : ValueType) (e : Option Expression) → WordFits p (naming c n) e → LeafFits p c.function k e → (o : Option Value) → IsTrue (usable_as c.function e Absent) → Means c d names (own_form (naming c n) operand k e) (used_as c e o)
     leaf_there k (Some (Constant e)) f l o u = λ t. constant_gives e f l.0 t
     leaf_there k (Some (Argument i)) f l o u = argument_means i u
     leaf_there k (Some (Local i)) f l o u = local_means i u
@@ -273,7 +293,7 @@ module _ (p : Module) (c : Call) (n : Names) (d : Respond) (given : Given p c n 
     usable_barred None u = u
     usable_barred (Some _) u = u
 
-    own_means : (k : ValueType) (e : Option Expression) → WordFits n e → LeafFits p c.function k e → (o : Option Value) (st : Standing) → Stands c s names kept k e o st → IsTrue (usable_as c.function e st) → (IsTrue (usable_all c.function s (operands_of e)) → AllMean c d names kept operand (operands_of e)) → Means c d names (standing_form st (own_form (naming c n) operand k e)) (used_as c e o)
+    own_means : (k : ValueType) (e : Option Expression) → WordFits p (naming c n) e → LeafFits p c.function k e → (o : Option Value) (st : Standing) → Stands c s names kept k e o st → IsTrue (usable_as c.function e st) → (IsTrue (usable_all c.function s (operands_of e)) → AllMean c d names kept operand (operands_of e)) → Means c d names (standing_form st (own_form (naming c n) operand k e)) (used_as c e o)
     own_means k e w l o (Named x) q u m = λ t. ap (λ z. named z t) q.1 ∙ named_denoted (used_as c e o) t
     own_means k e w l o Inline q u m = inline_there k e w l o u q.0 q.1 q.2 (m q.0)
     own_means k e w l o Everywhere q u m = inline_there k e w l o (usable_inline e Everywhere u) q.0 q.1 q.2 (m q.0)

@@ -7,38 +7,81 @@ use Rattle.shader_runs.specs.ProgramRun.{combined, barrier_words}
 use Rattle.shader_runs.specs.Scope.{ModuleNames, Names, Naming, is_pure, given_by_all, fits_function}
 use Rattle.shader_runs.specs.Form.{functions_of}
 
--- a word that asks for an event is no function's name
-abbrev pub AsksBy : Names → Bytes → Type 0
-AsksBy n w = IsTrue (n.outer.is_request w) × ((g : ℕ) → g < n.earlier → n.outer.function g ≢ w)
+-- a name that a function's text uses from its start on
+pub data FixedName : Type 0 where
+  ArgumentName : ℕ → FixedName
+  LocalName : ℕ → FixedName
+  ConstantName : ℕ → FixedName
+  GlobalName : ℕ → FixedName
 
--- an operator's word asks for no event and is no function's name
-abbrev pub OperatesBy : Names → Bytes → Type 0
-OperatesBy n w = (n.outer.is_request w ≡ false) × ((g : ℕ) → g < n.earlier → n.outer.function g ≢ w)
+-- any name that it uses
+pub data NameKey : Type 0 where
+  FixedKey : FixedName → NameKey
+  NumberedKey : ℕ → NameKey
+  GivenKey : ℕ → NameKey
+
+abbrev pub fixed_name : Names → FixedName → Bytes
+fixed_name n (ArgumentName i) = n.argument i
+fixed_name n (LocalName i) = n.local_ i
+fixed_name n (ConstantName i) = n.outer.constant i
+fixed_name n (GlobalName i) = n.outer.global i
+
+abbrev pub name_at : Names → NameKey → Bytes
+name_at n (FixedKey x) = fixed_name n x
+name_at n (NumberedKey h) = n.numbered h
+name_at n (GivenKey k) = n.given k
+
+abbrev pub IsFixedName : Module → Function → FixedName → Type 0
+IsFixedName p f (ArgumentName i) = i < argument_count f
+IsFixedName p f (LocalName i) = i < local_count f
+IsFixedName p f (ConstantName i) = i < length p.constant_types
+IsFixedName p f (GlobalName i) = i < length p.global_types
+
+abbrev pub IsName : Module → Function → NameKey → Type 0
+IsName p f (FixedKey x) = IsFixedName p f x
+IsName p f (NumberedKey h) = Unit {0}
+IsName p f (GivenKey k) = k < given_by_all f f.body 0
+
+-- a word that is none of a function's names, which would hide it
+abbrev pub IsNoName : Module → Naming → Bytes → Type 0
+IsNoName p f w = (a : NameKey) → IsName p f.function a → name_at f.names a ≢ w
+
+-- a word that stands for no function of the module and for no variable
+abbrev pub StandsFree : Module → Naming → Bytes → Type 0
+StandsFree p f w = ((g : ℕ) → g < f.names.earlier → f.names.outer.function g ≢ w) × IsNoName p f w
+
+-- a word that asks for an event
+abbrev pub AsksBy : Module → Naming → Bytes → Type 0
+AsksBy p f w = IsTrue (f.names.outer.is_request w) × StandsFree p f w
+
+-- an operator's word
+abbrev pub OperatesBy : Module → Naming → Bytes → Type 0
+OperatesBy p f w = (f.names.outer.is_request w ≡ false) × StandsFree p f w
 
 abbrev mutual
-  pub ConstantWords : Names → ConstantTree → Type 0
-  ConstantWords n (Fixed v) = Unit {0}
-  ConstantWords n (NamedConstant i) = Unit {0}
-  ConstantWords n (Constructed w ty es) = OperatesBy n w × ConstantsWords n es
+  pub ConstantWords : Module → Naming → ConstantTree → Type 0
+  ConstantWords p f (Fixed v) = Unit {0}
+  ConstantWords p f (NamedConstant i) = Unit {0}
+  ConstantWords p f (Constructed w ty es) = OperatesBy p f w × ConstantsWords p f es
 
-  pub ConstantsWords : Names → ConstantTrees → Type 0
-  ConstantsWords n no_constant = Unit {0}
-  ConstantsWords n (constant e es) = ConstantWords n e × ConstantsWords n es
+  pub ConstantsWords : Module → Naming → ConstantTrees → Type 0
+  ConstantsWords p f no_constant = Unit {0}
+  ConstantsWords p f (constant e es) = ConstantWords p f e × ConstantsWords p f es
 
-abbrev pub WordFits : Names → Option Expression → Type 0
-WordFits n (Some (Constant e)) = ConstantWords n e
-WordFits n (Some (Operator w xs)) = OperatesBy n w
-WordFits n (Some (Request a w xs)) = AsksBy n w
-WordFits n _ = Unit {0}
+abbrev pub WordFits : Module → Naming → Option Expression → Type 0
+WordFits p f (Some (Constant e)) = ConstantWords p f e
+WordFits p f (Some (Operator w xs)) = OperatesBy p f w
+WordFits p f (Some (Request a w xs)) = AsksBy p f w
+WordFits p f _ = Unit {0}
 
 -- operands stand before their expression
 abbrev pub AllBelow : ℕ → List ℕ → Type 0
 AllBelow h [] = Unit {0}
 AllBelow h (x ∷ xs) = (x < h) × AllBelow h xs
 
-abbrev pub EachAsks : Names → List Bytes → Type 0
-EachAsks n [] = Unit {0}
-EachAsks n (w ∷ ws) = AsksBy n w × EachAsks n ws
+abbrev pub EachAsks : Module → Naming → List Bytes → Type 0
+EachAsks p f [] = Unit {0}
+EachAsks p f (w ∷ ws) = AsksBy p f w × EachAsks p f ws
 
 abbrev pub IsResult : Option Expression → Type 0
 IsResult (Some Result) = Unit {0}
@@ -58,10 +101,11 @@ abbrev pub CallFits : Function → Option Function → List ℕ → Option ℕ �
 CallFits f None xs r = ⊥
 CallFits f (Some callee) xs r = (handle_types f xs ≡ callee.argument_types) × ResultWanted f callee.result r
 
--- a callee stands before its caller
-abbrev pub ActionFits : List Function → Naming → Action → List ℕ → Option ℕ → Type 0
-ActionFits callees f (Asked w) xs r = AsksBy f.names w
-ActionFits callees f (Called g) xs r = (g < f.names.earlier) × CallFits f.function (function_numbered callees g) xs r
+-- a callee stands before its caller, and no variable hides its name
+abbrev pub ActionFits : Module → List Function → Naming → Action → List ℕ → Option ℕ → Type 0
+ActionFits p callees f (Asked w) xs r = AsksBy p f w
+ActionFits p callees f (Called g) xs r =
+    (g < f.names.earlier) × IsNoName p f (f.names.outer.function g) × CallFits f.function (function_numbered callees g) xs r
 
 abbrev pub ResultFits : Function → Option ℕ → Type 0
 ResultFits f None = Unit {0}
@@ -81,24 +125,24 @@ FallsFrom true (then s ss) cs = ⊥
 
 -- the words, calls, results and cases of a statement
 abbrev mutual
-  pub IsRegular : List Function → Naming → Statement → Type 0
-  IsRegular callees f (Block b) = AreRegular callees f b
-  IsRegular callees f (If c a b) = AreRegular callees f a × AreRegular callees f b
-  IsRegular callees f (Switch h cases) = CasesAreRegular callees f cases
-  IsRegular callees f (Loop b d e) = AreRegular callees f b × AreRegular callees f d
-  IsRegular callees f (Return v) = ReturnFits f.function v
-  IsRegular callees f (Barrier bits) = EachAsks f.names (barrier_words bits)
-  IsRegular callees f (Act a xs r) = ActionFits callees f a xs r × ResultFits f.function r
-  IsRegular callees f _ = Unit {0}
+  pub IsRegular : Module → List Function → Naming → Statement → Type 0
+  IsRegular p callees f (Block b) = AreRegular p callees f b
+  IsRegular p callees f (If c a b) = AreRegular p callees f a × AreRegular p callees f b
+  IsRegular p callees f (Switch h cases) = CasesAreRegular p callees f cases
+  IsRegular p callees f (Loop b d e) = AreRegular p callees f b × AreRegular p callees f d
+  IsRegular p callees f (Return v) = ReturnFits f.function v
+  IsRegular p callees f (Barrier bits) = EachAsks p f (barrier_words bits)
+  IsRegular p callees f (Act a xs r) = ActionFits p callees f a xs r × ResultFits f.function r
+  IsRegular p callees f _ = Unit {0}
 
-  pub AreRegular : List Function → Naming → Statements → Type 0
-  AreRegular callees f end = Unit {0}
-  AreRegular callees f (then s ss) = IsRegular callees f s × AreRegular callees f ss
+  pub AreRegular : Module → List Function → Naming → Statements → Type 0
+  AreRegular p callees f end = Unit {0}
+  AreRegular p callees f (then s ss) = IsRegular p callees f s × AreRegular p callees f ss
 
-  pub CasesAreRegular : List Function → Naming → Cases → Type 0
-  CasesAreRegular callees f no_case = Unit {0}
-  CasesAreRegular callees f (case l b falls cs) =
-      FallsFrom falls b cs × AreRegular callees f b × CasesAreRegular callees f cs
+  pub CasesAreRegular : Module → List Function → Naming → Cases → Type 0
+  CasesAreRegular p callees f no_case = Unit {0}
+  CasesAreRegular p callees f (case l b falls cs) =
+      FallsFrom falls b cs × AreRegular p callees f b × CasesAreRegular p callees f cs
 
 -- the types of a function's leaves
 abbrev mutual
@@ -158,41 +202,6 @@ AllTypedIn p m (f ∷ fs) = IsTypedIn p m f × AllTypedIn p m fs
 abbrev pub IsTyped : Module → Meaning → Type 0
 IsTyped p m = AllTypedIn p m p.functions
 
--- a name that a function's text uses from its start on
-pub data FixedName : Type 0 where
-  ArgumentName : ℕ → FixedName
-  LocalName : ℕ → FixedName
-  ConstantName : ℕ → FixedName
-  GlobalName : ℕ → FixedName
-
--- any name that it uses
-pub data NameKey : Type 0 where
-  FixedKey : FixedName → NameKey
-  NumberedKey : ℕ → NameKey
-  GivenKey : ℕ → NameKey
-
-abbrev pub fixed_name : Names → FixedName → Bytes
-fixed_name n (ArgumentName i) = n.argument i
-fixed_name n (LocalName i) = n.local_ i
-fixed_name n (ConstantName i) = n.outer.constant i
-fixed_name n (GlobalName i) = n.outer.global i
-
-abbrev pub name_at : Names → NameKey → Bytes
-name_at n (FixedKey x) = fixed_name n x
-name_at n (NumberedKey h) = n.numbered h
-name_at n (GivenKey k) = n.given k
-
-abbrev pub IsFixedName : Module → Function → FixedName → Type 0
-IsFixedName p f (ArgumentName i) = i < argument_count f
-IsFixedName p f (LocalName i) = i < local_count f
-IsFixedName p f (ConstantName i) = i < length p.constant_types
-IsFixedName p f (GlobalName i) = i < length p.global_types
-
-abbrev pub IsName : Module → Function → NameKey → Type 0
-IsName p f (FixedKey x) = IsFixedName p f x
-IsName p f (NumberedKey h) = Unit {0}
-IsName p f (GivenKey k) = k < given_by_all f f.body 0
-
 -- no two of a function's names are equal
 abbrev pub AreDistinct : Module → Naming → Type 0
 AreDistinct p f =
@@ -203,9 +212,9 @@ pub record FunctionFits (p : Module) (n : ModuleNames) (callees : List Function)
   pub outer : f.names.outer ≡ n
   pub earlier : f.names.earlier ≡ length callees
   pub ordered : (h : ℕ) → AllBelow h (operands_of (expression_of f.function h))
-  pub words : (h : ℕ) → WordFits f.names (expression_of f.function h)
+  pub words : (h : ℕ) → WordFits p f (expression_of f.function h)
   pub leaves : (h : ℕ) → LeafFits p f.function (handle_type f.function h) (expression_of f.function h)
-  pub regular : AreRegular callees f f.function.body
+  pub regular : AreRegular p callees f f.function.body
   pub distinct : AreDistinct p f
   pub scope : IsTrue (fits_function f)
 

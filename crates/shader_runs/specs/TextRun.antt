@@ -43,6 +43,14 @@ abbrev pub responded : Words → Bytes → Reached (List Value) → Reached (Opt
 responded l w (Halts x t) = Halts x t
 responded l w (Gives vs t) = l.respond w vs t
 
+-- a variable's name hides a function or an operator of that name
+abbrev pub unhidden : Option Denoted → List Event → Reached (Option Value) → Reached (Option Value)
+unhidden None t q = q
+unhidden (Some d) t q = Halts Stuck t
+
+abbrev pub word_reached : Words → Bytes → Scope → List Event → Reached (List Value) → Reached (Option Value)
+word_reached l word names t vs = unhidden (names word) t (responded l word vs)
+
 -- a value is wanted
 abbrev pub as_value : Reached (Option Value) → Reached Denoted
 as_value (Halts x t) = Halts x t
@@ -106,7 +114,7 @@ abbrev mutual
   pub evaluate : Words → Tree → Scope → List Event → Reached Denoted
   evaluate l (Name x) names t = named (names x) t
   evaluate l (Known v) names t = Gives (IsValue v) t
-  evaluate l (Apply word es) names t = as_value (responded l word (evaluate_all l es names t))
+  evaluate l (Apply word es) names t = as_value (word_reached l word names t (evaluate_all l es names t))
   evaluate l (Deref e) names t = dereferenced (valued l.world (evaluate l e names t))
   evaluate l (AddressOf e) names t = addressed (evaluate l e names t)
   evaluate l (Index e i) names t = indexed l.meaning (evaluate l e names t) (λ t1. valued l.world (evaluate l i names t1))
@@ -191,7 +199,7 @@ abbrev mutual
   follow l n ContinueLine names t = Continued names t
   follow l n (ReturnLine e) names t = return_line l e names t
   follow l n DiscardLine names t = Stopped Discarded (Discard ∷ t)
-  follow l n (Perform w es) names t = performed names (responded l w (evaluate_all l es names t))
+  follow l n (Perform w es) names t = performed names (word_reached l w names t (evaluate_all l es names t))
 
   -- the names that a list leaves are those for its loop's `continuing`: none from the first line with a `continue` on
   pub follow_all : Words → ℕ → Lines → Next Scope
