@@ -4,18 +4,18 @@ use Rattle.std.specs.Prelude.{IsTrue}
 use Rattle.shader_runs.specs.Value.{Bytes, ValueType, has_type, has_types, Value, Truth, Whole, Pointer, Opaque}
 use Rattle.shader_runs.specs.World.{Event, Ask, Read, Meaning, update, bind}
 use Rattle.shader_runs.specs.Outcome.{Outcome, Done, Next, and_then, Continued, Broke, Returned, Stopped, Reached, Gives}
-use Rattle.shader_runs.specs.Program.{Expression, Constant, Argument, Local, Global, Load, Operator, Access, Select, Junct, Request, Result, Asking, Function, expression_of, handle_type, operands_of, is_counted, is_asked, binds, binds_as, greatest_count, Module}
-use Rattle.shader_runs.specs.ProgramRun.{Call, Kept, used_as, used, used_all, combined, gathered, computed, loaded, asked, if_counted, emit_as, emit}
+use Rattle.shader_runs.specs.Program.{Expression, Constant, Argument, Local, Global, Load, Operator, Access, Select, Junct, Request, Result, Asking, ConstantTrees, Function, expression_of, handle_type, operands_of, is_counted, is_asked, binds, binds_as, greatest_count, Module}
+use Rattle.shader_runs.specs.ProgramRun.{Call, Kept, used_as, constant_values, used, used_all, joined, combined, gathered, computed, loaded, asked, if_counted, emit_as, emit}
 use Rattle.shader_runs.specs.Text.{Apply, Lines}
 use Rattle.shader_runs.specs.TextRun.{Denoted, IsValue, Scope, valued, as_value, responded, unhidden, evaluate_all, value_of, with_value, follow_all}
 use Rattle.shader_runs.specs.Scope.{Standing, Absent, Barred, Everywhere, is_present, is_new, Inline, Named, Handles, Names, Naming, bound_name, is_pure, is_emittable, usable, usable_as, usable_all, unbound, emitted, after_one, given_after, after_emit}
-use Rattle.shader_runs.specs.Form.{value_form, place_form, value_forms, own_form, written, let_if, lets}
-use Rattle.shader_runs.specs.Premises.{FixedName, fixed_name, WordFits, handle_types}
+use Rattle.shader_runs.specs.Form.{value_form, place_form, value_forms_then, constant_forms, own_form, written, let_if, lets}
+use Rattle.shader_runs.specs.Premises.{FixedName, fixed_name, WordFits, LeafFits, LeafTyped, ConstantsInRange, ConstantsTyped, handle_types}
 use Rattle.shader_runs.proofs.Alike.{Alike, stopped, typed_alike, reached, placed}
 use Rattle.shader_runs.proofs.Update.{and_left, update_cases, bind_same, bind_other}
 use Rattle.shader_runs.proofs.Relation.{TypedValue, as_denoted, IsHere, NoName, Stands, Related, Extends, Agree, extends_refl, agree_refl, extends_trans, agree_trans, computed_agree, usable_all_more, KeepsName, keeps_all, stands_on, related_agree}
-use Rattle.shader_runs.proofs.Evaluation.{naming, words, Respond, value_form_gives, request_responds, reached_all, value_forms_give}
-use Rattle.shader_runs.proofs.Written.{Given, free, no_value, unwritten, typed_value, values_here, operator_there, place_here, all_here}
+use Rattle.shader_runs.proofs.Evaluation.{naming, words, Respond, value_form_gives, request_responds, reached_all}
+use Rattle.shader_runs.proofs.Written.{Given, free, request_forms_give, request_values, no_value, unwritten, typed_value, values_here, operator_there, place_here, all_here}
 use Rattle.shader_runs.proofs.Checked.{IsFresh, MayBind, MayEmitAll}
 
 pub extends_update : (s : Handles) (h : ℕ) (st : Standing) → (IsTrue (is_present (s h)) → IsTrue (is_present st)) → Extends s (update s h st)
@@ -207,20 +207,21 @@ module _ (p : Module) (c : Call) (n : Names) (d : Respond) (given : Given p c n 
         let value = c.world t (Ask w vs) in
         typed_alike (has_type (handle_type c.function h) value) (Ask w vs ∷ t) (Done (update kept h (Some value)) (Ask w vs ∷ t)) f (λ y. subst (λ q. Alike R P Q B (f (update kept h (Some value)) (Ask w vs ∷ t)) (bound_next q x names (follow_all (words c d) bound tail))) (sym (e vs refl)) (next (update kept h (Some value)) (bind names x (Some (IsValue value))) (Ask w vs ∷ t) (bind_related c n s names kept h x value r (λ p. absurd (none p)) i fresh y) (agree_update s kept h (Some value) (λ p. absurd (none p)))))
 
-    emit_request : (IsTrue (is_present (s h)) → ⊥) → (b : Bool) (q : Asking) (w : Bytes) (xs : List ℕ) → WordFits p (naming c n) (Some (Request q w xs)) → MayBind c n b s x (Some (Request q w xs)) → GoesOn c n R P Q B s kept (emitted b false (usable_all c.function s xs) x s h) f (follow_all (words c d) bound tail) → Alike R P Q B (and_then (if_counted b (asked (handle_type c.function h) c.world h w (used_all c kept xs)) kept t) f) (follow_all (words c d) bound (let_if b x (Apply w (value_forms (written (naming c n) s) xs)) tail) names t)
-    emit_request none true q w xs y m next =
-        request_at none w m.1 next (used_all c kept xs) (values_only (handle_types c.function xs) (used_all c kept xs) (values_here p c n d given s names kept r xs m.0)) (value_of (words c d) (Apply w (value_forms (written (naming c n) s) xs)) names t) (λ vs e. ap (λ o. valued c.world (as_value (unhidden o t (responded (words c d) w (evaluate_all (words c d) (value_forms (written (naming c n) s) xs) names t))))) (free p c n d given s names kept r w y.1.1) ∙ ap (λ q. valued c.world (as_value (responded (words c d) w q))) (value_forms_give c d names kept (written (naming c n) s) xs (all_here p c n d given s names kept r xs m.0) t ∙ ap (λ os. reached_all os t) e) ∙ ap (λ q. valued c.world (as_value q)) (request_responds p c n d given.responds w y vs t))
-    emit_request none false q w xs y m next = next kept names t r (agree_refl s kept)
+    emit_request : (IsTrue (is_present (s h)) → ⊥) → (b : Bool) (q : Asking) (w : Bytes) (xs : List ℕ) (es : ConstantTrees) → WordFits p (naming c n) (Some (Request q w xs es)) → ConstantsInRange p es → ConstantsTyped p c.meaning es → MayBind c n b s x (Some (Request q w xs es)) → GoesOn c n R P Q B s kept (emitted b false (usable_all c.function s xs) x s h) f (follow_all (words c d) bound tail) → Alike R P Q B (and_then (if_counted b (asked (handle_type c.function h) c.world h w (joined (used_all c kept xs) (constant_values c.environment c.meaning es))) kept t) f) (follow_all (words c d) bound (let_if b x (Apply w (value_forms_then (written (naming c n) s) xs (constant_forms n.outer es))) tail) names t)
+    emit_request none true q w xs es y i k m next =
+        let forms = value_forms_then (written (naming c n) s) xs (constant_forms n.outer es) in
+        request_at none w m.1 next (joined (used_all c kept xs) (constant_values c.environment c.meaning es)) (request_values p c n d given s names kept r xs es i k m.0) (value_of (words c d) (Apply w forms) names t) (λ vs e. ap (λ o. valued c.world (as_value (unhidden o t (responded (words c d) w (evaluate_all (words c d) forms names t))))) (free p c n d given s names kept r w y.0.1.1) ∙ ap (λ q. valued c.world (as_value (responded (words c d) w q))) (request_forms_give p c n d given s names kept r (written (naming c n) s) xs es y.1 i (all_here p c n d given s names kept r xs m.0) t ∙ ap (λ os. reached_all os t) e) ∙ ap (λ q. valued c.world (as_value q)) (request_responds p c n d given.responds w y.0 vs t))
+    emit_request none false q w xs es y i k m next = next kept names t r (agree_refl s kept)
 
-    emit_one_as : (e : Option Expression) → WordFits p (naming c n) e → expression_of c.function h ≡ e → IsTrue (is_emittable e) → MayBind c n (binds_as c.function h e) s x e → GoesOn c n R P Q B s kept (emitted (binds_as c.function h e) (is_pure e) (usable_all c.function s (operands_of e)) x s h) f (follow_all (words c d) bound tail) → Alike R P Q B (and_then (emit_as c h e kept t) f) (follow_all (words c d) bound (let_if (binds_as c.function h e) x (value_form (own_form (naming c n) (written (naming c n) s) (handle_type c.function h) e)) tail) names t)
-    emit_one_as (Some (Load q)) y e k m next = emit_load (no_event (Some (Load q)) e (λ vs. refl)) (is_counted c.function 1 h) q m next
-    emit_one_as (Some (Request q w xs)) y e k m next = emit_request (no_event (Some (Request q w xs)) e (λ vs. refl)) (is_asked c.function h q) q w xs y m next
-    emit_one_as (Some (Operator w xs)) y e k m next = emit_pure (is_counted c.function 2 h) (Some (Operator w xs)) e refl y m next
-    emit_one_as (Some (Access u v)) y e k m next = emit_pure (is_counted c.function greatest_count h) (Some (Access u v)) e refl y m next
-    emit_one_as (Some (Select u v)) y e k m next = emit_pure (is_counted c.function greatest_count h) (Some (Select u v)) e refl y m next
-    emit_one_as (Some (Junct j u v)) y e k m next = emit_pure (is_counted c.function 2 h) (Some (Junct j u v)) e refl y m next
-    emit_one_as (Some _) y e k m next = absurd (true≢false (sym k))
-    emit_one_as None y e k m next = absurd (true≢false (sym k))
+    emit_one_as : (e : Option Expression) → WordFits p (naming c n) e → LeafFits p c.function (handle_type c.function h) e → LeafTyped p c.meaning e → expression_of c.function h ≡ e → IsTrue (is_emittable e) → MayBind c n (binds_as c.function h e) s x e → GoesOn c n R P Q B s kept (emitted (binds_as c.function h e) (is_pure e) (usable_all c.function s (operands_of e)) x s h) f (follow_all (words c d) bound tail) → Alike R P Q B (and_then (emit_as c h e kept t) f) (follow_all (words c d) bound (let_if (binds_as c.function h e) x (value_form (own_form (naming c n) (written (naming c n) s) (handle_type c.function h) e)) tail) names t)
+    emit_one_as (Some (Load q)) y i l e k m next = emit_load (no_event (Some (Load q)) e (λ vs. refl)) (is_counted c.function 1 h) q m next
+    emit_one_as (Some (Request q w xs es)) y i l e k m next = emit_request (no_event (Some (Request q w xs es)) e (λ vs. refl)) (is_asked c.function h q) q w xs es y i l m next
+    emit_one_as (Some (Operator w xs)) y i l e k m next = emit_pure (is_counted c.function 2 h) (Some (Operator w xs)) e refl y m next
+    emit_one_as (Some (Access u v)) y i l e k m next = emit_pure (is_counted c.function greatest_count h) (Some (Access u v)) e refl y m next
+    emit_one_as (Some (Select u v)) y i l e k m next = emit_pure (is_counted c.function greatest_count h) (Some (Select u v)) e refl y m next
+    emit_one_as (Some (Junct j u v)) y i l e k m next = emit_pure (is_counted c.function 2 h) (Some (Junct j u v)) e refl y m next
+    emit_one_as (Some _) y i l e k m next = absurd (true≢false (sym k))
+    emit_one_as None y i l e k m next = absurd (true≢false (sym k))
 
 -- the scope only grows
 unbound_present : (u : Bool) (st : Standing) → IsTrue (is_present st) → IsTrue (is_present (unbound u st))
@@ -265,5 +266,5 @@ emit_alike p c n d given R P Q B bound f tail k (h ∷ hs) s names kept t r m ne
     let rest = lets (naming c n) k1 hs s1 tail in
     let g = λ (kept1 : Kept) (t1 : List Event). and_then (emit c hs kept1 t1) f in
     let x = extends_one c n k h s in
-    let there = emit_one_as p c n d given R P Q B bound g rest s names kept r h (bound_name (naming c n) k h) m.0.new (λ o. emitted_used c (expression_of c.function h) o m.0.kind) t (expression_of c.function h) (given.words h) refl m.0.kind m.0.bound (λ kept1 names1 t1 r1 a1. emit_alike p c n d given R P Q B bound f tail k1 hs s1 names1 kept1 t1 r1 m.1 (λ kept2 names2 t2 r2 a2. next kept2 names2 t2 r2 (agree_trans s s1 kept kept1 kept2 x a1 a2))) in
+    let there = emit_one_as p c n d given R P Q B bound g rest s names kept r h (bound_name (naming c n) k h) m.0.new (λ o. emitted_used c (expression_of c.function h) o m.0.kind) t (expression_of c.function h) (given.words h) (given.leaves h) (given.typed.constants h) refl m.0.kind m.0.bound (λ kept1 names1 t1 r1 a1. emit_alike p c n d given R P Q B bound f tail k1 hs s1 names1 kept1 t1 r1 m.1 (λ kept2 names2 t2 r2 a2. next kept2 names2 t2 r2 (agree_trans s s1 kept kept1 kept2 x a1 a2))) in
     subst (λ o. Alike R P Q B o (follow_all (words c d) bound (lets (naming c n) k (h ∷ hs) s tail) names t)) (sym (then_assoc (emit_as c h (expression_of c.function h) kept t) (emit c hs) f)) there

@@ -254,6 +254,7 @@ module _ (p : Module) (consistent : IsConsistent p) where
 
     leaf_fits : (h : ℕ) (e : Option Expression) → ((x : Signature) → IsOneOf x (signatures_of p f (handle_type f h) e) → IsHere h x) → LeafTyped p m e
     leaf_fits h (Some (Constant e)) at = constant_fits h e at
+    leaf_fits h (Some (Request a w xs es)) at = constants_fit h es at
     leaf_fits h (Some _) at = tt
     leaf_fits h None at = tt
 

@@ -1,16 +1,16 @@
 -- What is written for a handle in scope gives the value that the module uses for it, with no event.
-use Rattle.std.proofs.Common.{◌≡◌, ◌≢◌, ℕ, zero, suc, ◌<◌, ◌≤◌, Bool, true, false, cond, nat_lt, List, [], ◌∷◌, length, Option, Some, None, ◌&&◌, get_or, slice_get, refl, sym, ap, ◌∙◌, subst, true≢false, arith, ltb-true}
+use Rattle.std.proofs.Common.{◌≡◌, ◌≢◌, ℕ, zero, suc, ◌<◌, ◌≤◌, Bool, true, false, cond, nat_lt, List, [], ◌∷◌, ◌++◌, length, Option, Some, None, ◌&&◌, get_or, slice_get, refl, sym, ap, ◌∙◌, subst, true≢false, arith, ltb-true}
 use Rattle.std.specs.Prelude.{IsTrue}
 use Rattle.std.proofs.lemmas.Option.{slice_get_within}
 use Rattle.shader_runs.specs.Value.{Bytes, Rooted, GlobalRoot, LocalRoot, ValueType, BooleanType, IntegerType, PointerType, OtherType, type_at, has_type, has_types, Value, Pointer, Spelled}
 use Rattle.shader_runs.specs.World.{Event, GlobalValue, Stored, Held, Environment, Meaning}
 use Rattle.shader_runs.specs.Outcome.{Reached, Gives}
 use Rattle.shader_runs.specs.Program.{ConstantTree, Fixed, NamedConstant, Constructed, ConstantTrees, no_constant, constant, Expression, Constant, Argument, Local, Global, Load, Operator, Access, Select, Junct, Request, Result, Function, argument_count, local_count, expression_of, handle_type, operands_of, Module}
-use Rattle.shader_runs.specs.ProgramRun.{Call, Kept, constant_value, constant_values, global_value, used_as, used, also, used_all, applied, combined, gathered, computed}
+use Rattle.shader_runs.specs.ProgramRun.{Call, Kept, constant_value, constant_values, global_value, used_as, used, also, used_all, joined, applied, combined, gathered, computed}
 use Rattle.shader_runs.specs.Text.{Tree, Name}
-use Rattle.shader_runs.specs.TextRun.{IsValue, IsPlace, Scope, named, valued, responded, unhidden, as_value, evaluate, evaluate_all, value_of, global_denoted}
+use Rattle.shader_runs.specs.TextRun.{IsValue, IsPlace, Scope, named, valued, responded, unhidden, followed_by, as_value, evaluate, evaluate_all, value_of, global_denoted}
 use Rattle.shader_runs.specs.Scope.{Standing, Absent, Barred, Everywhere, Inline, Named, Handles, Names, usable, usable_as, usable_all, is_pure}
-use Rattle.shader_runs.specs.Form.{Plain, AsValue, AsPlace, value_form, place_form, value_forms, constant_form, constant_forms, global_form, own_form, standing_form, written_below, written}
+use Rattle.shader_runs.specs.Form.{Plain, AsValue, AsPlace, value_form, place_form, value_forms, value_forms_then, constant_form, constant_forms, global_form, own_form, standing_form, written_below, written}
 use Rattle.shader_runs.specs.Premises.{FixedName, NameKey, FixedKey, NumberedKey, GivenKey, IsFixedName, IsNoName, ConstantWords, ConstantsWords, WordFits, AllBelow, constant_type, constant_types_of, ConstantInRange, ConstantsInRange, LeafFits, ConstantTyped, ConstantsTyped, LeafTyped, handle_types, IsTypedIn, ConstantName, ArgumentName, LocalName, GlobalName, global_has_type, globals_have_types, EnvironmentFits}
 use Rattle.shader_runs.proofs.Alike.{reached, placed}
 use Rattle.shader_runs.proofs.Update.{and_left, and_right, and_both, has_types_length}
@@ -104,7 +104,7 @@ module _ (p : Module) (env : Environment) (fits : EnvironmentFits p env) (m : Me
         let vs = constants_typed es r t.1 in
         (m (Spelled w) vs.0, ap (applied m (Spelled w)) vs.1, t.0 vs.0 vs.2)
 
-    constants_typed : (es : ConstantTrees) → ConstantsInRange p es → ConstantsTyped p m es → (vs : List Value) × (constant_values env m es ≡ Some vs) × IsTrue (has_types (constant_types_of p es) vs)
+    pub constants_typed : (es : ConstantTrees) → ConstantsInRange p es → ConstantsTyped p m es → (vs : List Value) × (constant_values env m es ≡ Some vs) × IsTrue (has_types (constant_types_of p es) vs)
     constants_typed no_constant r t = ([], refl, refl)
     constants_typed (constant e es) r t =
         let a = constant_typed e r.0 t.0 in
@@ -158,18 +158,45 @@ module _ (p : Module) (c : Call) (n : Names) (d : Respond) (given : Given p c n 
     constant_gives (Constructed word ty es) w i t =
         ap (λ q. as_value (unhidden (names word) t (responded (words c d) word q))) (constants_give es w.1 i t) ∙ applied_reached p c n d given.responds word w.0 (names word) (free word w.0.1.1) (constant_values c.environment c.meaning es) t
 
-    constants_give : (es : ConstantTrees) → ConstantsWords p (naming c n) es → ConstantsInRange p es → (t : List Event) → evaluate_all (words c d) (constant_forms n.outer es) names t ≡ reached_all (constant_values c.environment c.meaning es) t
+    pub constants_give : (es : ConstantTrees) → ConstantsWords p (naming c n) es → ConstantsInRange p es → (t : List Event) → evaluate_all (words c d) (constant_forms n.outer es) names t ≡ reached_all (constant_values c.environment c.meaning es) t
     constants_give no_constant w i t = refl
     constants_give (constant e es) w i t =
         let rest = evaluate_all (words c d) (constant_forms n.outer es) names in
         let o = constant_value c.environment c.meaning e in
-        ap (λ q. Rattle.shader_runs.specs.TextRun.followed_by (valued c.world q) rest) (constant_gives e w.0 i.0 t)
-        ∙ ap (λ q. Rattle.shader_runs.specs.TextRun.followed_by q rest) (valued_there o t)
+        ap (λ q. followed_by (valued c.world q) rest) (constant_gives e w.0 i.0 t)
+        ∙ ap (λ q. followed_by q rest) (valued_there o t)
         ∙ followed_reached o (constant_values c.environment c.meaning es) t rest (constants_give es w.1 i.1)
       where
         valued_there : (o : Option Value) (t : List Event) → valued c.world (denoted o t) ≡ reached o t
         valued_there None t = refl
         valued_there (Some v) t = refl
+
+  joined_none : (o : Option (List Value)) → joined (Some []) o ≡ o
+  joined_none None = refl
+  joined_none (Some vs) = refl
+
+  joined_also : (o : Option Value) (os us : Option (List Value)) → also o (joined os us) ≡ joined (also o os) us
+  joined_also None os us = refl
+  joined_also (Some v) None us = refl
+  joined_also (Some v) (Some vs) None = refl
+  joined_also (Some v) (Some vs) (Some us) = refl
+
+  -- a request's operands, and the constants behind them
+  pub request_forms_give : (operand : ℕ → Plain) (xs : List ℕ) (es : ConstantTrees) → ConstantsWords p (naming c n) es → ConstantsInRange p es → AllMean c d names kept operand xs → (t : List Event) → evaluate_all (words c d) (value_forms_then operand xs (constant_forms n.outer es)) names t ≡ reached_all (joined (used_all c kept xs) (constant_values c.environment c.meaning es)) t
+  request_forms_give operand [] es w i m t =
+      constants_give es w i t ∙ ap (λ o. reached_all o t) (sym (joined_none (constant_values c.environment c.meaning es)))
+  request_forms_give operand (x ∷ xs) es w i m t =
+      let rest = evaluate_all (words c d) (value_forms_then operand xs (constant_forms n.outer es)) names in
+      let us = constant_values c.environment c.meaning es in
+      ap (λ r. followed_by r rest) (value_form_gives c d names (operand x) (used c kept x) m.0 t)
+      ∙ followed_reached (used c kept x) (joined (used_all c kept xs) us) t rest (request_forms_give operand xs es w i m.1)
+      ∙ ap (λ o. reached_all o t) (joined_also (used c kept x) (used_all c kept xs) us)
+
+  pub request_values : (xs : List ℕ) (es : ConstantTrees) → ConstantsInRange p es → ConstantsTyped p c.meaning es → IsTrue (usable_all c.function s xs) → (vs : List Value) × (joined (used_all c kept xs) (constant_values c.environment c.meaning es) ≡ Some vs)
+  request_values xs es i k u =
+      let a = values_here xs u in
+      let b = constants_typed p c.environment given.environment c.meaning es i k in
+      (a.0 ++ b.0, ap (λ o. joined o (constant_values c.environment c.meaning es)) a.1 ∙ ap (joined (Some a.0)) b.1)
 
   argument_means : (i : ℕ) → IsTrue (nat_lt i (argument_count c.function)) → Means c d names (AsValue (Name (n.argument i))) (slice_get c.arguments i)
   argument_means i u t =
@@ -260,7 +287,7 @@ module _ (p : Module) (c : Call) (n : Names) (d : Respond) (given : Given p c n 
     inline_there k (Some (Local i)) f l o u us v q m = local_means i u
     inline_there k (Some (Global i)) f l o u us v q m = global_means k i l.0 l.1
     inline_there k (Some (Load x)) f l o u us v q m = absurd (no_value k o v (q ∙ unwritten c.meaning (Some (Load x)) (λ vs. refl) (used_all c kept (x ∷ []))))
-    inline_there k (Some (Request a w xs)) f l o u us v q m = absurd (no_value k o v (q ∙ unwritten c.meaning (Some (Request a w xs)) (λ vs. refl) (used_all c kept xs)))
+    inline_there k (Some (Request a w xs es)) f l o u us v q m = absurd (no_value k o v (q ∙ unwritten c.meaning (Some (Request a w xs es)) (λ vs. refl) (used_all c kept xs)))
     inline_there k (Some Result) f l o u us v q m = absurd (no_value k o v (q ∙ unwritten c.meaning (Some Result) (λ vs. refl) (used_all c kept [])))
     inline_there k (Some (Operator w xs)) f l o u us v q m = operator_there k k (Some (Operator w xs)) refl f o v q us m
     inline_there k (Some (Access b i)) f l o u us v q m = operator_there k k (Some (Access b i)) refl f o v q us m

@@ -26,6 +26,10 @@ abbrev pub value_forms : (ℕ → Plain) → List ℕ → Trees
 value_forms operand [] = no_more
 value_forms operand (x ∷ xs) = more (value_form (operand x)) (value_forms operand xs)
 
+abbrev pub value_forms_then : (ℕ → Plain) → List ℕ → Trees → Trees
+value_forms_then operand [] tail = tail
+value_forms_then operand (x ∷ xs) tail = more (value_form (operand x)) (value_forms_then operand xs tail)
+
 -- through a pointer an index makes a reference
 abbrev pub access_form : ValueType → (base index : Plain) → Plain
 access_form PointerType b i = AsPlace (Index (place_form b) (value_form i))
@@ -61,7 +65,7 @@ own_form f operand k (Some (Operator w xs)) = AsValue (Apply w (value_forms oper
 own_form f operand k (Some (Access b i)) = access_form (handle_type f.function b) (operand b) (operand i)
 own_form f operand k (Some (Select x b)) = select_form (handle_type f.function b) x (operand b)
 own_form f operand k (Some (Junct j l r)) = AsValue (Both j (value_form (operand l)) (value_form (operand r)))
-own_form f operand k (Some (Request a w xs)) = AsValue (Apply w (value_forms operand xs))
+own_form f operand k (Some (Request a w xs es)) = AsValue (Apply w (value_forms_then operand xs (constant_forms f.names.outer es)))
 own_form f operand k (Some Result) = AsValue (Known (Truth false))
 own_form f operand k None = AsValue (Known (Truth false))
 

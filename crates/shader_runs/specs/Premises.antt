@@ -71,7 +71,7 @@ abbrev mutual
 abbrev pub WordFits : Module → Naming → Option Expression → Type 0
 WordFits p f (Some (Constant e)) = ConstantWords p f e
 WordFits p f (Some (Operator w xs)) = OperatesBy p f w
-WordFits p f (Some (Request a w xs)) = AsksBy p f w
+WordFits p f (Some (Request a w xs es)) = AsksBy p f w × ConstantsWords p f es
 WordFits p f _ = Unit {0}
 
 -- operands stand before their expression
@@ -171,6 +171,7 @@ LeafFits p f k (Some (Constant e)) = ConstantInRange p e × (k ≡ constant_type
 LeafFits p f k (Some (Argument i)) = k ≡ type_at f.argument_types i
 LeafFits p f k (Some (Local i)) = k ≡ PointerType
 LeafFits p f k (Some (Global i)) = (i < length p.global_types) × (k ≡ type_at p.global_types i)
+LeafFits p f k (Some (Request a w xs es)) = ConstantsInRange p es
 LeafFits p f k _ = Unit {0}
 
 abbrev mutual
@@ -187,6 +188,7 @@ abbrev mutual
 
 abbrev pub LeafTyped : Module → Meaning → Option Expression → Type 0
 LeafTyped p m (Some (Constant e)) = ConstantTyped p m e
+LeafTyped p m (Some (Request a w xs es)) = ConstantsTyped p m es
 LeafTyped p m _ = Unit {0}
 
 -- each operator of a function gives a value of its handle's type whenever its operands have theirs

@@ -19,6 +19,7 @@ pub data Asking : Type 0 where
   WhenCounted : Asking
   Always : Asking
 
+-- a request's last operands may be constants, which are written out and not by a handle: a level of zero, an offset
 pub data Expression : Type 0 where
   Constant : ConstantTree → Expression
   Argument : ℕ → Expression
@@ -29,7 +30,7 @@ pub data Expression : Type 0 where
   Access : (base index : ℕ) → Expression
   Select : Selector → (base : ℕ) → Expression
   Junct : Junction → (left right : ℕ) → Expression
-  Request : Asking → (word : Bytes) → (operands : List ℕ) → Expression
+  Request : Asking → (word : Bytes) → (operands : List ℕ) → (constants : ConstantTrees) → Expression
   Result : Expression
 
 -- a statement that makes events with operands and may give a result
@@ -106,7 +107,7 @@ operands_of (Some (Operator w xs)) = xs
 operands_of (Some (Access b i)) = b ∷ i ∷ []
 operands_of (Some (Select x b)) = b ∷ []
 operands_of (Some (Junct j l r)) = l ∷ r ∷ []
-operands_of (Some (Request a w xs)) = xs
+operands_of (Some (Request a w xs es)) = xs
 operands_of _ = []
 
 abbrev pub is_given : Function → ℕ → Bool
@@ -128,7 +129,7 @@ is_asked f h Always = true
 -- an emitted handle that a `let` binds: an operation on images, a read that counts, an operator used twice, or what has a name
 abbrev pub binds_as : Function → ℕ → Option Expression → Bool
 binds_as f h (Some (Load p)) = is_counted f 1 h
-binds_as f h (Some (Request a w xs)) = is_asked f h a
+binds_as f h (Some (Request a w xs es)) = is_asked f h a
 binds_as f h (Some (Operator w xs)) = is_counted f 2 h
 binds_as f h (Some (Junct j l r)) = is_counted f 2 h
 binds_as f h (Some (Access b i)) = is_counted f greatest_count h

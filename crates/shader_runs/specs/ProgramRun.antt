@@ -135,6 +135,12 @@ loaded k w h (Some (Truth b)) kept t = Stopped Stuck t
 loaded k w h (Some (Whole spelling z)) kept t = Stopped Stuck t
 loaded k w h (Some (Opaque spelling payload)) kept t = Stopped Stuck t
 
+-- the operands' values, and those of the constants behind them
+abbrev pub joined : Option (List Value) → Option (List Value) → Option (List Value)
+joined None us = None
+joined (Some vs) None = None
+joined (Some vs) (Some us) = Some (vs ++ us)
+
 abbrev pub asked : ValueType → World → ℕ → Bytes → Option (List Value) → Next Kept
 asked k w h word None kept t = Done (update kept h None) t
 asked k w h word (Some vs) kept t = keep_typed k h (w t (Ask word vs)) kept (Ask word vs ∷ t)
@@ -146,7 +152,7 @@ if_counted false next kept t = Done kept t
 
 abbrev pub emit_as : Call → ℕ → Option Expression → Next Kept
 emit_as c h (Some (Load p)) kept t = if_counted (is_counted c.function 1 h) (loaded (handle_type c.function h) c.world h (used c kept p)) kept t
-emit_as c h (Some (Request a w xs)) kept t = if_counted (is_asked c.function h a) (asked (handle_type c.function h) c.world h w (used_all c kept xs)) kept t
+emit_as c h (Some (Request a w xs es)) kept t = if_counted (is_asked c.function h a) (asked (handle_type c.function h) c.world h w (joined (used_all c kept xs) (constant_values c.environment c.meaning es))) kept t
 emit_as c h (Some (Operator w xs)) kept t = Done (update kept h (computed c kept (Some (Operator w xs)))) t
 emit_as c h (Some (Access b i)) kept t = Done (update kept h (computed c kept (Some (Access b i)))) t
 emit_as c h (Some (Select x b)) kept t = Done (update kept h (computed c kept (Some (Select x b)))) t

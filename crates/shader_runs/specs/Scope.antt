@@ -194,7 +194,7 @@ after_all f k (then st ss) s =
 -- an Emit of a result, or of what is in scope everywhere, is refused
 abbrev pub is_emittable : Option Expression → Bool
 is_emittable (Some (Load p)) = true
-is_emittable (Some (Request a w xs)) = true
+is_emittable (Some (Request a w xs es)) = true
 is_emittable e = is_pure e
 
 -- a handle may be emitted, and what a name binds has its operands in scope

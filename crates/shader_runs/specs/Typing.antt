@@ -28,6 +28,7 @@ signatures_of p f k (Some (Operator w xs)) = record { word = Spelled w; operands
 signatures_of p f k (Some (Access b i)) = record { word = Indexed; operands = handle_types f (b ∷ i ∷ []); result = k } ∷ []
 signatures_of p f k (Some (Select x b)) = record { word = Selected x; operands = handle_types f (b ∷ []); result = k } ∷ []
 signatures_of p f k (Some (Junct j l r)) = record { word = Spelled (junction_word j); operands = handle_types f (l ∷ r ∷ []); result = k } ∷ []
+signatures_of p f k (Some (Request a w xs es)) = constants_signatures p es
 signatures_of p f k _ = []
 
 pub data IsOneOf (x : Signature) : List Signature → Type 0 where
