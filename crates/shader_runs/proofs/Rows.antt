@@ -20,7 +20,8 @@ rows_hold =
       loop = (record { fits = refl; text = refl; module_run = refl; text_run = refl }, record { fits = refl; text = refl; module_run = refl; text_run = refl });
       barrier = record { fits = refl; text = refl; module_run = refl; text_run = refl };
       select = record { fits = refl; text = refl; module_run = refl; text_run = refl };
+      places = record { fits = refl; text = refl; module_run = refl; text_run = refl };
       refused = record { continue_ = refl; after_loop = refl; emitted_again = refl };
-      told_apart = record { load_inlined_past_store = refl; every_emit_bound = refl; name_used_in_sibling_block = refl; name_of_sibling_copied = refl; continuing_uses_skipped_constant_name = refl; loop_names_kept_after_loop = refl; pointer_argument_not_dereferenced = refl; select_accept_first = refl };
+      told_apart = record { load_inlined_past_store = refl; every_emit_bound = refl; name_used_in_sibling_block = refl; name_of_sibling_copied = refl; continuing_uses_skipped_constant_name = refl; loop_names_kept_after_loop = refl; function_hidden_by_local = refl; pointer_argument_not_dereferenced = refl; select_accept_first = refl };
       same_step = refl;
     }

@@ -2,7 +2,7 @@
 use Rattle.std.proofs.Common.{◌≡◌, ◌≢◌, ℕ, zero, suc, ◌<◌, ◌≤◌, Bool, true, false, cond, nat_lt, List, [], ◌∷◌, ◌++◌, length, Option, Some, None, ◌&&◌, get_or, slice_get, refl, sym, ap, ◌∙◌, subst, true≢false, arith, ltb-true}
 use Rattle.std.specs.Prelude.{IsTrue}
 use Rattle.std.proofs.lemmas.Option.{slice_get_within}
-use Rattle.shader_runs.specs.Value.{Bytes, Rooted, GlobalRoot, LocalRoot, ValueType, BooleanType, IntegerType, PointerType, OtherType, type_at, has_type, has_types, Value, Pointer, Spelled}
+use Rattle.shader_runs.specs.Value.{Bytes, Rooted, GlobalRoot, LocalRoot, Selector, Junction, ValueType, BooleanType, IntegerType, PointerType, OtherType, type_at, type_of, has_type, has_types, Value, Pointer, Spelled}
 use Rattle.shader_runs.specs.World.{Event, GlobalValue, Stored, Held, Environment, Meaning}
 use Rattle.shader_runs.specs.Outcome.{Reached, Gives}
 use Rattle.shader_runs.specs.Program.{ConstantTree, Fixed, NamedConstant, Constructed, ConstantTrees, no_constant, constant, Expression, Constant, Argument, Local, Global, Load, Operator, Access, Select, Junct, Request, Result, Function, argument_count, local_count, expression_of, handle_type, operands_of, Module}
@@ -13,9 +13,9 @@ use Rattle.shader_runs.specs.Scope.{Standing, Absent, Barred, Everywhere, Inline
 use Rattle.shader_runs.specs.Form.{Plain, AsValue, AsPlace, value_form, place_form, value_forms, value_forms_then, constant_form, constant_forms, global_form, own_form, standing_form, written_below, written}
 use Rattle.shader_runs.specs.Premises.{FixedName, NameKey, FixedKey, NumberedKey, GivenKey, IsFixedName, IsNoName, ConstantWords, ConstantsWords, WordFits, AllBelow, constant_type, constant_types_of, ConstantInRange, ConstantsInRange, LeafFits, ConstantTyped, ConstantsTyped, LeafTyped, handle_types, IsTypedIn, ConstantName, ArgumentName, LocalName, GlobalName, global_has_type, globals_have_types, EnvironmentFits}
 use Rattle.shader_runs.proofs.Alike.{reached, placed}
-use Rattle.shader_runs.proofs.Update.{and_left, and_right, and_both, has_types_length}
+use Rattle.shader_runs.proofs.Update.{and_left, and_right, and_both, same_type_self, has_types_length}
 use Rattle.shader_runs.proofs.Relation.{IsHere, NoName, TypedValue, as_denoted, global_as, Stands, Related}
-use Rattle.shader_runs.proofs.Evaluation.{naming, Respond, words, Responds, denoted, Means, none_some, value_form_denotes, value_form_gives, place_form_gives, AllMean, reached_all, followed_reached, value_forms_give, named_denoted, applied_reached, OneOf, one_of, TwoOf, two_of, one_there, two_there, access_means, select_means, junct_means}
+use Rattle.shader_runs.proofs.Evaluation.{naming, Respond, words, Responds, denoted, Means, none_some, some_same, value_form_denotes, value_form_gives, place_form_gives, AllMean, reached_all, followed_reached, value_forms_give, named_denoted, applied_reached, OneOf, one_of, TwoOf, two_of, one_there, two_there, access_means, select_means, junct_means}
 
 -- what a call owes to its function's text
 pub record Given (p : Module) (c : Call) (n : Names) (d : Respond) : Type 0 where
@@ -97,8 +97,8 @@ module _ (p : Module) (env : Environment) (fits : EnvironmentFits p env) (m : Me
     pub constant_typed : (e : ConstantTree) → ConstantInRange p e → ConstantTyped p m e → TypedValue (constant_type p e) (constant_value env m e)
     constant_typed (Fixed v) r t = (v, refl, own_type v)
       where
-        own_type : (v : Value) → IsTrue (has_type (Rattle.shader_runs.specs.Value.type_of v) v)
-        own_type v = Rattle.shader_runs.proofs.Update.same_type_self (Rattle.shader_runs.specs.Value.type_of v)
+        own_type : (v : Value) → IsTrue (has_type (type_of v) v)
+        own_type v = same_type_self (type_of v)
     constant_typed (NamedConstant i) r t = has_type_at p.constant_types env.constants fits.constants i r
     constant_typed (Constructed w ty es) r t =
         let vs = constants_typed es r t.1 in
@@ -244,7 +244,7 @@ module _ (p : Module) (c : Call) (n : Names) (d : Respond) (given : Given p c n 
     base_typed : (b : ℕ) (x : Value) → IsTrue (usable c.function s b) → used c kept b ≡ Some x → IsTrue (has_type (handle_type c.function b) x)
     base_typed b x u e =
         let z = typed_value b u in
-        subst (λ x. IsTrue (has_type (handle_type c.function b) x)) (Rattle.shader_runs.proofs.Evaluation.some_same z.0 x (sym z.1 ∙ e)) z.2
+        subst (λ x. IsTrue (has_type (handle_type c.function b) x)) (some_same z.0 x (sym z.1 ∙ e)) z.2
 
     index_there : (b i : ℕ) (k : ValueType) (o : Option Value) (y : ValueType) → TypedValue y o → o ≡ computed c kept (Some (Access b i)) → IsTrue (usable c.function s b) → AllMean c d names kept operand (b ∷ i ∷ []) → Means c d names (own_form (naming c n) operand k (Some (Access b i))) o
     index_there b i k o y v e u m =
@@ -254,14 +254,14 @@ module _ (p : Module) (c : Call) (n : Names) (d : Respond) (given : Given p c n 
         go (two_of x j eb ei ev) =
             at_value (own_form (naming c n) operand k (Some (Access b i))) (Some v.0) o (sym v.1) (access_means c d names (handle_type c.function b) (operand b) (operand i) x j v.0 (at_value (operand b) (used c kept b) (Some x) eb m.0) (at_value (operand i) (used c kept i) (Some j) ei m.1.0) (base_typed b x u eb) ev)
 
-    select_there : (x : Rattle.shader_runs.specs.Value.Selector) (b : ℕ) (k : ValueType) (o : Option Value) (y : ValueType) → TypedValue y o → o ≡ computed c kept (Some (Select x b)) → IsTrue (usable c.function s b) → AllMean c d names kept operand (b ∷ []) → Means c d names (own_form (naming c n) operand k (Some (Select x b))) o
+    select_there : (x : Selector) (b : ℕ) (k : ValueType) (o : Option Value) (y : ValueType) → TypedValue y o → o ≡ computed c kept (Some (Select x b)) → IsTrue (usable c.function s b) → AllMean c d names kept operand (b ∷ []) → Means c d names (own_form (naming c n) operand k (Some (Select x b))) o
     select_there x b k o y v e u m = go (one_there c.meaning (Some (Select x b)) (used c kept b) v.0 (sym e ∙ v.1))
       where
         go : OneOf c.meaning (Some (Select x b)) (used c kept b) v.0 → Means c d names (own_form (naming c n) operand k (Some (Select x b))) o
         go (one_of z eb ev) =
             at_value (own_form (naming c n) operand k (Some (Select x b))) (Some v.0) o (sym v.1) (select_means c d names (handle_type c.function b) x (operand b) z v.0 (at_value (operand b) (used c kept b) (Some z) eb m.0) (base_typed b z u eb) ev)
 
-    junct_there : (j : Rattle.shader_runs.specs.Value.Junction) (a b : ℕ) (k : ValueType) (o : Option Value) (y : ValueType) → TypedValue y o → o ≡ computed c kept (Some (Junct j a b)) → AllMean c d names kept operand (a ∷ b ∷ []) → Means c d names (own_form (naming c n) operand k (Some (Junct j a b))) o
+    junct_there : (j : Junction) (a b : ℕ) (k : ValueType) (o : Option Value) (y : ValueType) → TypedValue y o → o ≡ computed c kept (Some (Junct j a b)) → AllMean c d names kept operand (a ∷ b ∷ []) → Means c d names (own_form (naming c n) operand k (Some (Junct j a b))) o
     junct_there j a b k o y v e m =
         go (two_there c.meaning (Some (Junct j a b)) (used c kept a) (used c kept b) v.0 (sym e ∙ v.1))
       where

@@ -1,14 +1,14 @@
 -- Worked functions: each with its text, and what both runs of it do in one world. Then texts that other writers would give, which do something else.
 use Rattle.std.specs.Prelude.{◌≡◌, ◌≢◌, ℕ, ◌+◌, ◌*◌, ℤ, pos, Bool, true, false, cond, List, [], ◌∷◌, ◌++◌, length, Option, Some, None, ◌&&◌, ◌||◌, nat_eq, get_or, IsTrue, codes}
-use Rattle.shader_runs.specs.Value.{Bytes, same_bytes, MemberNamed, ElementAt, step_of, At, Rooted, LocalRoot, Part, Place, ValueType, BooleanType, IntegerType, PointerType, OtherType, Value, Truth, Whole, Pointer, Opaque, Word, Spelled}
-use Rattle.shader_runs.specs.World.{Event, Entry, Ask, Read, Write, Discard, World, Meaning, Environment}
+use Rattle.shader_runs.specs.Value.{Bytes, same_bytes, same_integer, MemberNamed, ElementAt, step_of, At, Rooted, GlobalRoot, LocalRoot, Part, Place, ValueType, BooleanType, IntegerType, PointerType, OtherType, Value, Truth, Whole, Pointer, Opaque, Word, Spelled}
+use Rattle.shader_runs.specs.World.{Event, Entry, Ask, Read, Write, Discard, World, Meaning, Environment, Stored}
 use Rattle.shader_runs.specs.Outcome.{Reached, Gives, Halts, Stuck, OutOfTurns}
-use Rattle.shader_runs.specs.Program.{Fixed, Expression, Constant, Argument, Local, Load, Operator, Select, Request, Asking, WhenCounted, Called, Asked, Label, Numbered, Default, Statements, Emit, Store, If, Switch, Loop, Continue, Return, Act, Barrier, end, then, no_case, case, Function}
+use Rattle.shader_runs.specs.Program.{Fixed, NamedConstant, Module, Expression, Constant, Argument, Local, Global, Load, Operator, Access, Select, Request, Asking, WhenCounted, Called, Asked, Label, Numbered, Default, Statements, Emit, Store, If, Switch, Loop, Continue, Return, Act, Barrier, end, then, no_case, case, Function}
 use Rattle.shader_runs.specs.ProgramRun.{run_call}
 use Rattle.shader_runs.specs.Text.{Tree, Name, Known, Apply, Deref, AddressOf, Index, Pick, Trees, no_more, more, Let, Assign, IfElse, SwitchOn, LoopOf, ContinueLine, ReturnLine, Perform, Lines, last, before, no_group, group, Variable, TextFunction, TextModule}
 use Rattle.shader_runs.specs.TextRun.{module_scope, follow_call}
 use Rattle.shader_runs.specs.Scope.{ModuleNames, Names, Naming, fits_function}
-use Rattle.shader_runs.specs.Form.{form_functions, functions_of}
+use Rattle.shader_runs.specs.Form.{form_functions, form_module, functions_of}
 
 abbrev pub i32 : ValueType
 i32 = IntegerType (codes "i32")
@@ -21,6 +21,8 @@ literal n = Constant (Fixed (number n))
 
 -- the one world of the rows: a read of a place gives what was last stored there, or 7
 abbrev pub same_place : Place → Place → Bool
+same_place (Part p (At i)) (Part q (At j)) = same_place p q && same_integer i j
+same_place (Rooted (GlobalRoot i)) (Rooted (GlobalRoot j)) = nat_eq i j
 same_place (Rooted (LocalRoot i j)) (Rooted (LocalRoot k l)) =
     nat_eq i k && nat_eq j l
 same_place _ _ = false
@@ -89,11 +91,13 @@ abbrev pub all_fit : List Naming → Bool
 all_fit [] = true
 all_fit (f ∷ fs) = fits_function f && all_fit fs
 
--- the run of these texts, from a function by its name
+-- the run of this text, from a function by its name
+abbrev pub follow_text : Environment → TextModule → Bytes → List Value → Reached (Option Value)
+follow_text env text name vs =
+    follow_call (module_scope text env) row_world row_meaning row_asks 3 text.functions name vs []
+
 abbrev pub follow_row : List TextFunction → Bytes → List Value → Reached (Option Value)
-follow_row texts name vs =
-    let text : TextModule = record { constants = []; globals = []; functions = texts } in
-    follow_call (module_scope text nothing) row_world row_meaning row_asks 3 texts name vs []
+follow_row texts = follow_text nothing (record { constants = []; globals = []; functions = texts })
 
 -- a module's functions, last first, with their texts, and how the last one runs
 pub record IsShown (fs : List Naming) (texts : List TextFunction) (g : ℕ) (name : Bytes) (vs : List Value) (result : Reached (Option Value)) : Type 0 where
@@ -324,6 +328,67 @@ abbrev pub SelectRow : Type 0
 SelectRow =
     IsShown (with_names (codes "sel" ∷ []) 0 (codes "c" ∷ codes "a" ∷ codes "b" ∷ []) [] [] (record { argument_types = BooleanType ∷ i32 ∷ i32 ∷ []; result = Some i32; first_values = []; expressions = Argument 0 ∷ Argument 1 ∷ Argument 2 ∷ Operator (codes "select") (2 ∷ 1 ∷ 0 ∷ []) ∷ []; types = BooleanType ∷ i32 ∷ i32 ∷ i32 ∷ []; counts = 1 ∷ 1 ∷ 1 ∷ 1 ∷ []; given_names = []; body = then (Emit 3 1) (then (Return (Some 3)) end) }) ∷ []) (select_text (codes "b") (codes "a")) 0 (codes "sel") (Truth true ∷ number 1 ∷ number 2 ∷ []) (Gives (Some (number 1)) (entered_with (Truth true ∷ number 1 ∷ number 2 ∷ []) []))
 
+-- a module with a named constant and a variable: a store to `v.x` and a read of `v[i]`, which are one place where i is 0
+abbrev pub places_function : Function
+places_function =
+    record {
+      argument_types = i32 ∷ [];
+      result = Some i32;
+      first_values = [];
+      expressions = Argument 0 ∷ Global 0 ∷ Constant (NamedConstant 0) ∷ Select (MemberNamed (codes "x")) 1 ∷ Access 1 0 ∷ Load 4 ∷ [];
+      types = i32 ∷ PointerType ∷ i32 ∷ PointerType ∷ PointerType ∷ i32 ∷ [];
+      counts = 1 ∷ 2 ∷ 1 ∷ 1 ∷ 1 ∷ 1 ∷ [];
+      given_names = [];
+      body = then (Emit 3 1) (then (Store 3 2) (then (Emit 4 2) (then (Return (Some 5)) end)));
+    }
+
+abbrev pub places_environment : Environment
+places_environment = record { constants = number 5 ∷ []; globals = Stored ∷ [] }
+
+abbrev pub places_naming : Naming
+places_naming =
+    record {
+      function = places_function;
+      names = record {
+        outer = record {
+          constant = λ i. codes "N";
+          global = λ i. codes "v";
+          function = λ g. codes "h";
+          is_request = row_asks;
+        };
+        argument = λ i. codes "i";
+        local_ = λ i. [];
+        given = λ k. [];
+        numbered = numbered_name;
+        earlier = 0;
+      };
+    }
+
+abbrev pub places_module : Module
+places_module =
+    record { constant_types = i32 ∷ []; global_types = PointerType ∷ []; functions = places_function ∷ [] }
+
+abbrev pub places_text : TextModule
+places_text =
+    record {
+      constants = codes "N" ∷ [];
+      globals = codes "v" ∷ [];
+      functions = text_of (codes "h") (codes "i" ∷ []) [] (before (Assign (Pick (MemberNamed (codes "x")) (Name (codes "v"))) (Name (codes "N"))) (before (Let (numbered_name 5) (Index (Name (codes "v")) (Name (codes "i")))) (before (ReturnLine (Some (named_by 5))) last))) ∷ [];
+    }
+
+abbrev pub x_place : Place
+x_place = Part (Rooted (GlobalRoot 0)) (At (pos 0))
+
+abbrev pub places_result : Reached (Option Value)
+places_result =
+    Gives (Some (number 5)) (Read x_place ∷ Write x_place (number 5) ∷ entered_with (number 0 ∷ []) [])
+
+pub record PlacesRow : Type 0 where
+  pub fits : IsTrue (fits_function places_naming)
+  pub text : form_module places_module places_naming.names.outer (places_naming ∷ []) ≡ places_text
+  pub module_run : run_call places_environment row_world row_meaning 3 places_module.functions 0 (number 0 ∷ []) [] ≡ places_result
+  pub text_run : follow_text places_environment places_text (codes "h") (number 0 ∷ []) ≡ places_result
+
 -- [continue]: `continuing` uses a sum that a `continue` may skip
 abbrev pub continue_function : Function
 continue_function =
@@ -369,6 +434,7 @@ pub record AreToldApart : Type 0 where
   pub name_of_sibling_copied : follow_row (sibling_text (let_and_return (numbered_name 2)) (before (Let (numbered_name 2) (named_by 2)) (before (ReturnLine (Some (named_by 2))) last))) (codes "k") (Truth false ∷ number 4 ∷ []) ≡ Halts Stuck (entered_with (Truth false ∷ number 4 ∷ []) [])
   pub continuing_uses_skipped_constant_name : follow_row (folded_text (named_by 3)) (codes "cf") (Truth true ∷ []) ≡ Halts Stuck (entered_with (Truth true ∷ []) (None ∷ []))
   pub loop_names_kept_after_loop : follow_row (text_of (codes "n") (codes "c" ∷ codes "x" ∷ []) [] (before (LoopOf (before (Let (numbered_name 3) x_plus_x) last) last (Some (Name (codes "c")))) (before (ReturnLine (Some (named_by 3))) last)) ∷ []) (codes "n") (Truth true ∷ number 4 ∷ []) ≡ Halts Stuck (entered_with (Truth true ∷ number 4 ∷ []) [])
+  pub function_hidden_by_local : follow_row (text_of (codes "run") [] (record { name = codes "inc"; first_value = None } ∷ []) (before (Perform (codes "inc") no_more) last) ∷ text_of (codes "inc") [] [] last ∷ []) (codes "run") [] ≡ Halts Stuck (Entry 1 [] (None ∷ []) ∷ [])
   pub pointer_argument_not_dereferenced : follow_row (text_of (codes "h") (codes "p" ∷ []) [] (before (ReturnLine (Some (Index (Name (codes "p")) (Known (number 0))))) last) ∷ []) (codes "h") (Pointer a_place ∷ []) ≡ Halts Stuck (entered_with (Pointer a_place ∷ []) [])
   pub select_accept_first : follow_row (select_text (codes "a") (codes "b")) (codes "sel") (Truth true ∷ number 1 ∷ number 2 ∷ []) ≡ Gives (Some (number 2)) (entered_with (Truth true ∷ number 1 ∷ number 2 ∷ []) [])
 
@@ -392,6 +458,7 @@ pub record RowsHold : Type 0 where
   pub loop : LoopRow
   pub barrier : BarrierRow
   pub select : SelectRow
+  pub places : PlacesRow
   pub refused : AreRefused
   pub told_apart : AreToldApart
   pub same_step : SameStep
