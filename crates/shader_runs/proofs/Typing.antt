@@ -14,13 +14,13 @@ use Rattle.shader_runs.specs.Correct.{HasTypedMeaning}
 use Rattle.shader_runs.proofs.Update.{and_left, and_right, and_both, same_bytes_true, same_bytes_self, same_type_true, same_type_self}
 use Rattle.shader_runs.proofs.Evaluation.{not_pointer, not_pointer_type, typed_not_pointer}
 
-abbrev default_value : ValueType → Value
+abbrev pub default_value : ValueType → Value
 default_value BooleanType = Truth false
 default_value (IntegerType s) = Whole s (pos 0)
 default_value PointerType = Pointer (Rooted (GlobalRoot 0))
 default_value (OtherType s) = Opaque s 0
 
-default_typed : (t : ValueType) → IsTrue (has_type t (default_value t))
+pub default_typed : (t : ValueType) → IsTrue (has_type t (default_value t))
 default_typed BooleanType = refl
 default_typed (IntegerType s) = same_bytes_self s
 default_typed PointerType = refl

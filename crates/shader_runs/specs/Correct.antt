@@ -1,5 +1,5 @@
 -- The laws: a call runs alike by the text and by the module, event by event.
-use Rattle.std.specs.Prelude.{◌≡◌, ℕ, List, Option, Some, IsTrue}
+use Rattle.std.specs.Prelude.{◌≡◌, ℕ, List, [], Option, Some, IsTrue}
 use Rattle.shader_runs.specs.Value.{Value, has_types}
 use Rattle.shader_runs.specs.World.{World, Meaning, Event, Environment}
 use Rattle.shader_runs.specs.Outcome.{Stuck, OutOfTurns, Discarded, Mistyped, Reached, Gives, Halts}
@@ -43,3 +43,9 @@ RunsAlike =
 -- the law above isn't empty: every module whose operators are typed consistently has a typed meaning
 abbrev pub HasTypedMeaning : Type 0
 HasTypedMeaning = (p : Module) → IsConsistent p → (m : Meaning) × IsTyped p m
+
+-- nor is its premise on the world: for each start and each bound on loop turns a world exists that keeps the types
+abbrev pub HasTypedWorld : Type 0
+HasTypedWorld =
+    (p : Module) (env : Environment) (m : Meaning) (g : ℕ) (vs : List Value) (turns : ℕ) →
+    (w : World) × KeepsTypes (run_call env w m turns p.functions g vs [])

@@ -8,6 +8,9 @@ use Rattle.shader_runs.specs.ProgramRun.{run_call}
 use Rattle.shader_runs.specs.Text.{Tree, Name, Known, Apply, Deref, AddressOf, Index, Pick, Trees, no_more, more, Let, Assign, IfElse, SwitchOn, LoopOf, ContinueLine, ReturnLine, Perform, Lines, last, before, no_group, group, Variable, TextFunction, TextModule}
 use Rattle.shader_runs.specs.TextRun.{module_scope, follow_call}
 use Rattle.shader_runs.specs.Scope.{ModuleNames, Names, Naming, fits_function}
+use Rattle.shader_runs.specs.Premises.{EnvironmentFits}
+use Rattle.shader_runs.specs.Typing.{IsConsistent}
+use Rattle.shader_runs.specs.Correct.{ModuleFits}
 use Rattle.shader_runs.specs.Form.{form_functions, form_module, functions_of}
 
 abbrev pub i32 : ValueType
@@ -442,7 +445,20 @@ pub record AreToldApart : Type 0 where
 abbrev pub SameStep : Type 0
 SameStep = step_of (MemberNamed (codes "x")) ≡ step_of (ElementAt 0)
 
+-- what the law asks of a module, of its names, its environment and its operators holds of a function
+abbrev pub store_naming : Naming
+store_naming = with_names (codes "g" ∷ []) 0 [] (codes "a" ∷ []) [] store_function
+
+abbrev pub store_module : Module
+store_module = record { constant_types = []; global_types = []; functions = store_function ∷ [] }
+
+pub record PremisesHold : Type 0 where
+  pub fits : ModuleFits store_module store_naming.names.outer (store_naming ∷ [])
+  pub environment : EnvironmentFits store_module nothing
+  pub consistent : IsConsistent store_module
+
 pub record RowsHold : Type 0 where
+  pub premises : PremisesHold
   pub store : StoreRow
   pub unused : UnusedRow
   pub late : LateRow

@@ -1,7 +1,7 @@
 // The run of a module, the run of the text that is written for it, and why they agree.
 #![tactic(auto)]
 
-ghost use Rattle.shader_runs.specs.Correct.{RunsAlike, HasTypedMeaning};
+ghost use Rattle.shader_runs.specs.Correct.{RunsAlike, HasTypedMeaning, HasTypedWorld};
 ghost use Rattle.shader_runs.specs.Rows.{RowsHold};
 
 /// A module's functions and entry points and their texts make the same events and end alike.
@@ -12,6 +12,11 @@ pub fn runs_alike()
 /// What the first law asks of the meaning can be met.
 pub fn has_typed_meaning()
     ensures { HasTypedMeaning }
+{}
+
+/// What it asks of the world can be met, from each start and with each bound on loop turns.
+pub fn has_typed_world()
+    ensures { HasTypedWorld }
 {}
 
 /// The worked functions run as they are said to, and the texts of other writers do something else.
