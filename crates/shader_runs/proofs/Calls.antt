@@ -1,26 +1,26 @@
 -- Calls, by the functions of a module in their order.
-use Rattle.std.proofs.Common.{◌≡◌, ◌≢◌, ℕ, zero, suc, ◌+◌, ◌<◌, ◌≤◌, Bool, true, false, cond, nat_eq, List, [], ◌∷◌, length, Option, Some, None, ◌&&◌, slice_get, refl, sym, ap, ◌∙◌, subst, arith, eqb-true, eq-eqb, ne_eqb}
+use Rattle.std.proofs.Common.{◌≡◌, ◌≢◌, ℕ, suc, ◌+◌, ◌<◌, Bool, true, false, cond, nat_eq, List, [], ◌∷◌, length, Option, Some, None, slice_get, refl, sym, ap, ◌∙◌, subst, arith, eqb-true}
 use Rattle.std.proofs.lemmas.Bool.{eqb-false}
 use Rattle.std.specs.Prelude.{IsTrue}
 use Rattle.shader_runs.specs.Value.{Bytes, same_bytes, Rooted, LocalRoot, has_types, Value}
 use Rattle.shader_runs.specs.World.{Event, Entry, entries, World, Meaning, Environment}
 use Rattle.shader_runs.specs.Outcome.{Stuck, Reached, Gives, Halts, answer}
-use Rattle.shader_runs.specs.Program.{Function, argument_count, local_count, function_numbered, Module}
-use Rattle.shader_runs.specs.ProgramRun.{Call, Kept, constants_kept, called, used, wrapped, with_first, first_used, first_used_all, entered, run_all, run_body, run_call}
-use Rattle.shader_runs.specs.TextRun.{IsValue, IsPlace, Scope, with_parameters, with_variables, with_globals, no_names, module_scope, respond_by_table, value_of, put_first, first_followed, first_of_each, entered_by, follow_all, follow_body, follow_call}
-use Rattle.shader_runs.specs.Scope.{ModuleNames, Names, Naming, Handles, usable_if, at_start, first_values_fit, fits_all}
-use Rattle.shader_runs.specs.Form.{names_from, variables_from, value_at, form_all, form_function, form_functions, form_module, functions_of}
-use Rattle.shader_runs.specs.Premises.{FixedName, ArgumentName, LocalName, ConstantName, GlobalName, NameKey, FixedKey, fixed_name, AreDistinct, FunctionFits, AllFit, EnvironmentFits, IsTypedIn, AllTypedIn}
+use Rattle.shader_runs.specs.Program.{Function, argument_count, function_numbered, Module}
+use Rattle.shader_runs.specs.ProgramRun.{Call, constants_kept, called, used, wrapped, with_first, first_used_all, entered, run_body, run_call}
+use Rattle.shader_runs.specs.TextRun.{IsPlace, Scope, with_parameters, with_variables, with_globals, no_names, module_scope, respond_by_table, put_first, first_followed, first_of_each, entered_by, follow_all, follow_body, follow_call}
+use Rattle.shader_runs.specs.Scope.{ModuleNames, Naming, usable_if, at_start, first_values_fit, fits_all}
+use Rattle.shader_runs.specs.Form.{names_from, variables_from, form_all, form_function, form_functions, form_module, functions_of}
+use Rattle.shader_runs.specs.Premises.{FixedName, ArgumentName, LocalName, ConstantName, GlobalName, FixedKey, fixed_name, FunctionFits, AllFit, EnvironmentFits, IsTypedIn, AllTypedIn}
 use Rattle.shader_runs.specs.Correct.{KeepsTypes, RunsAlike}
 use Rattle.shader_runs.proofs.Alike.{Answers, same_answer, mistyped_answer, alike_answers, reached}
-use Rattle.shader_runs.proofs.Update.{and_left, and_right, same_bytes_true, same_bytes_equal, same_bytes_false, same_bytes_apart, has_types_length}
-use Rattle.shader_runs.proofs.Relation.{Returns, as_denoted, global_as, IsHere, NoName, fixed_denoted, Related}
-use Rattle.shader_runs.proofs.Evaluation.{naming, words, Respond, Responds}
+use Rattle.shader_runs.proofs.Update.{and_left, and_right, same_bytes_equal, same_bytes_apart, has_types_length}
+use Rattle.shader_runs.proofs.Relation.{Returns, global_as, IsHere, NoName, fixed_denoted, Related}
+use Rattle.shader_runs.proofs.Evaluation.{words, Respond, Responds}
 use Rattle.shader_runs.proofs.Written.{Given, globals_length, value_here}
 use Rattle.shader_runs.proofs.Statements.{same_all}
 use Rattle.shader_runs.proofs.Fresh.{all_fresh, start_sources}
 use Rattle.shader_runs.proofs.Start.{start_stands}
-use Rattle.shader_runs.proofs.Names.{NotAmong, AllDifferent, parameter_other, parameter_at, variable_other, variable_at, globals_other, globals_at, length-names_from}
+use Rattle.shader_runs.proofs.Names.{parameter_other, parameter_at, variable_other, variable_at, globals_other, globals_at, length-names_from}
 
 length-form_functions : (fs : List Naming) → length (form_functions fs) ≡ length fs
 length-form_functions [] = refl

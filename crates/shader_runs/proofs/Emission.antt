@@ -2,15 +2,15 @@
 use Rattle.std.proofs.Common.{◌≡◌, ◌≢◌, ℕ, Bool, true, false, cond, nat_eq, List, [], ◌∷◌, Option, Some, None, refl, sym, ap, ◌∙◌, subst, true≢false, eqb-true}
 use Rattle.std.specs.Prelude.{IsTrue}
 use Rattle.shader_runs.specs.Value.{Bytes, ValueType, has_type, has_types, Value, Truth, Whole, Pointer, Opaque}
-use Rattle.shader_runs.specs.World.{Event, Ask, Read, Meaning, update, bind}
+use Rattle.shader_runs.specs.World.{Event, Ask, Read, update, bind}
 use Rattle.shader_runs.specs.Outcome.{Outcome, Done, Next, and_then, Continued, Broke, Returned, Stopped, Reached, Gives}
-use Rattle.shader_runs.specs.Program.{Expression, Constant, Argument, Local, Global, Load, Operator, Access, Select, Junct, Request, Result, Asking, ConstantTrees, Function, expression_of, handle_type, operands_of, is_counted, is_asked, binds, binds_as, greatest_count, Module}
+use Rattle.shader_runs.specs.Program.{Expression, Constant, Argument, Local, Global, Load, Operator, Access, Select, Junct, Request, Asking, ConstantTrees, expression_of, handle_type, operands_of, is_counted, is_asked, binds, binds_as, greatest_count, Module}
 use Rattle.shader_runs.specs.ProgramRun.{Call, Kept, used_as, constant_values, used, used_all, joined, combined, gathered, computed, loaded, asked, if_counted, emit_as, emit}
 use Rattle.shader_runs.specs.Text.{Apply, Lines}
 use Rattle.shader_runs.specs.TextRun.{Denoted, IsValue, Scope, valued, as_value, responded, unhidden, evaluate_all, value_of, with_value, follow_all}
-use Rattle.shader_runs.specs.Scope.{Standing, Absent, Barred, Everywhere, is_present, is_new, Inline, Named, Handles, Names, Naming, bound_name, is_pure, is_emittable, usable, usable_as, usable_all, unbound, emitted, after_one, given_after, after_emit}
+use Rattle.shader_runs.specs.Scope.{Standing, Absent, Barred, Everywhere, is_present, is_new, Inline, Named, Handles, Names, bound_name, is_pure, is_emittable, usable, usable_all, unbound, emitted, after_one, given_after, after_emit}
 use Rattle.shader_runs.specs.Form.{value_form, place_form, value_forms_then, constant_forms, own_form, written, let_if, lets}
-use Rattle.shader_runs.specs.Premises.{FixedName, fixed_name, WordFits, LeafFits, LeafTyped, ConstantsInRange, ConstantsTyped, handle_types}
+use Rattle.shader_runs.specs.Premises.{FixedName, fixed_name, WordFits, LeafFits, LeafTyped, ConstantsInRange, ConstantsTyped}
 use Rattle.shader_runs.proofs.Alike.{Alike, stopped, typed_alike, reached, placed}
 use Rattle.shader_runs.proofs.Update.{and_left, update_cases, bind_same, bind_other}
 use Rattle.shader_runs.proofs.Relation.{TypedValue, as_denoted, IsHere, NoName, Stands, Related, Extends, Agree, extends_refl, agree_refl, extends_trans, agree_trans, computed_agree, usable_all_more, KeepsName, keeps_all, stands_on, related_agree}

@@ -1,12 +1,12 @@
 -- What a text's expression gives where it makes no event, by its parts.
-use Rattle.std.proofs.Common.{◌≡◌, ◌≢◌, ℕ, zero, suc, ◌<◌, Bool, true, false, cond, List, [], ◌∷◌, length, Option, Some, None, slice_get, refl, sym, ap, ◌∙◌, subst, true≢false}
+use Rattle.std.proofs.Common.{◌≡◌, ◌≢◌, ℕ, ◌<◌, Bool, true, false, cond, List, [], ◌∷◌, Option, Some, None, refl, sym, ap, ◌∙◌, true≢false}
 use Rattle.std.specs.Prelude.{IsTrue}
-use Rattle.shader_runs.specs.Value.{Bytes, Place, Part, At, Selector, step_of, ValueType, BooleanType, IntegerType, PointerType, OtherType, has_type, has_types, Value, Truth, Whole, Pointer, Opaque, Spelled, Selected, Indexed, Junction}
+use Rattle.shader_runs.specs.Value.{Bytes, Part, At, Selector, step_of, ValueType, BooleanType, IntegerType, PointerType, OtherType, has_type, has_types, Value, Truth, Whole, Pointer, Opaque, Spelled, Selected, Indexed, Junction}
 use Rattle.shader_runs.specs.World.{Event, Ask, World, Meaning}
 use Rattle.shader_runs.specs.Outcome.{Stuck, Reached, Gives, Halts}
-use Rattle.shader_runs.specs.Program.{Module, Function, function_numbered, Expression, Operator, Access, Select, Junct}
+use Rattle.shader_runs.specs.Program.{Module, Function, function_numbered, Expression}
 use Rattle.shader_runs.specs.ProgramRun.{Call, Kept, used, also, used_all, applied, accessed, selected, decides, undecided, combined, gathered}
-use Rattle.shader_runs.specs.Text.{Name, Index, Pick, Both}
+use Rattle.shader_runs.specs.Text.{Index, Pick, Both}
 use Rattle.shader_runs.specs.TextRun.{part_reached, index_reached, indexed, picked, undecided_reached, both_reached, Denoted, IsValue, IsPlace, Words, Scope, named, valued, responded, unhidden, as_value, dereferenced, addressed, put_before, followed_by, evaluate, evaluate_all, value_of, respond_by_table}
 use Rattle.shader_runs.specs.Scope.{Names, Naming}
 use Rattle.shader_runs.specs.Form.{Plain, AsValue, AsPlace, value_form, place_form, value_forms, access_form, select_form}

@@ -1,14 +1,13 @@
 -- Each name that is given is new where it is given.
-use Rattle.std.proofs.Common.{◌≡◌, ◌≢◌, ◌⊎◌, inl, inr, ⊎_elim, ℕ, suc, ◌<◌, ◌≤◌, Bool, true, false, cond, not, List, [], ◌∷◌, length, Option, Some, None, ◌&&◌, ◌||◌, refl, sym, ap, ◌∙◌, subst, true≢false, arith}
+use Rattle.std.proofs.Common.{◌≡◌, ◌⊎◌, inl, inr, ⊎_elim, ℕ, suc, ◌<◌, ◌≤◌, Bool, true, false, cond, not, List, [], ◌∷◌, Option, Some, None, ◌&&◌, ◌||◌, refl, sym, ap, ◌∙◌, subst, true≢false, arith}
 use Rattle.std.specs.Prelude.{IsTrue}
 use Rattle.shader_runs.specs.Value.{Bytes}
 use Rattle.shader_runs.specs.World.{update}
 use Rattle.shader_runs.specs.Program.{Expression, Statement, Emit, Store, Block, If, Switch, Loop, Break, Continue, Return, Kill, Barrier, Act, Statements, end, then, Cases, no_case, case, expression_of, operands_of, is_given, binds, from, holds_continue, Module}
 use Rattle.shader_runs.specs.ProgramRun.{Call}
-use Rattle.shader_runs.specs.Scope.{Standing, Absent, Barred, Everywhere, Inline, Named, Handles, Names, bound_name, usable, usable_all, usable_if, is_new, is_pure, is_emittable, unbound, emitted, after_one, given_after, given_after_all, after_emit, given_by, given_by_all, given_by_cases, after_result, after, after_all, forgotten, forgotten_one, forgotten_if, start_standing, at_start, may_emit, may_emit_all, may_give, fits, fits_all, fits_cases}
-use Rattle.shader_runs.specs.Premises.{FixedName, ArgumentName, LocalName, ConstantName, GlobalName, NameKey, FixedKey, NumberedKey, GivenKey, fixed_name, name_at, IsFixedName, IsName, AreDistinct, EnvironmentFits, ResultFits, IsRegular, AreRegular, CasesAreRegular}
-use Rattle.shader_runs.proofs.Update.{update_cases, and_left, and_right, has_types_length}
-use Rattle.shader_runs.proofs.Relation.{IsHere}
+use Rattle.shader_runs.specs.Scope.{Standing, Absent, Barred, Everywhere, Inline, Named, Handles, Names, bound_name, usable, usable_all, usable_if, is_new, is_pure, is_emittable, unbound, emitted, after_one, given_after, given_after_all, after_emit, given_by, given_by_all, given_by_cases, after_result, after, after_all, forgotten_one, forgotten_if, start_standing, at_start, may_emit, may_emit_all, may_give, fits, fits_all, fits_cases}
+use Rattle.shader_runs.specs.Premises.{FixedName, FixedKey, NumberedKey, GivenKey, AreDistinct, EnvironmentFits, ResultFits, IsRegular, AreRegular, CasesAreRegular}
+use Rattle.shader_runs.proofs.Update.{update_cases, and_left, and_right}
 use Rattle.shader_runs.proofs.Evaluation.{naming}
 use Rattle.shader_runs.proofs.Written.{in_range}
 use Rattle.shader_runs.proofs.Checked.{IsFresh, MayBind, MayEmitAll, MayGive, Fits, FitsAll, FitsCases}

@@ -1,8 +1,7 @@
 -- The names that a function's text starts with.
-use Rattle.std.proofs.Common.{◌≡◌, ◌≢◌, ℕ, zero, suc, ◌+◌, ◌<◌, ◌≤◌, List, [], ◌∷◌, length, Option, Some, None, slice_get, refl, sym, ap, ◌∙◌, arith}
+use Rattle.std.proofs.Common.{◌≡◌, ◌≢◌, ℕ, zero, suc, ◌+◌, ◌<◌, ◌≤◌, List, [], ◌∷◌, length, Option, Some, slice_get, refl, sym, ap, ◌∙◌, arith}
 use Rattle.shader_runs.specs.Value.{Bytes, Rooted, LocalRoot, Value}
 use Rattle.shader_runs.specs.World.{GlobalValue, bind}
-use Rattle.shader_runs.specs.Text.{Variable}
 use Rattle.shader_runs.specs.TextRun.{IsValue, IsPlace, Scope, with_parameters, with_variables, with_globals, global_denoted}
 use Rattle.shader_runs.specs.Scope.{Naming}
 use Rattle.shader_runs.specs.Form.{names_from, variables_from}

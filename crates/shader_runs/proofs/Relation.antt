@@ -1,9 +1,9 @@
 -- What relates the module's kept values and the text's names, at each point of both runs.
-use Rattle.std.proofs.Common.{◌≡◌, ◌≢◌, ℕ, ◌<◌, Bool, true, false, cond, List, [], ◌∷◌, length, Option, Some, None, slice_get, refl, sym, ap, ◌∙◌, true≢false}
+use Rattle.std.proofs.Common.{◌≡◌, ◌≢◌, ℕ, ◌<◌, Bool, true, false, cond, List, [], ◌∷◌, length, Option, Some, None, slice_get, refl, sym, ap, ◌∙◌}
 use Rattle.std.specs.Prelude.{IsTrue}
 use Rattle.shader_runs.specs.Value.{Bytes, Rooted, LocalRoot, ValueType, has_type, Value}
 use Rattle.shader_runs.specs.World.{GlobalValue}
-use Rattle.shader_runs.specs.Program.{Expression, Constant, Argument, Local, Global, Load, Operator, Access, Select, Junct, Request, Result, Function, argument_count, local_count, expression_of, handle_type, operands_of}
+use Rattle.shader_runs.specs.Program.{Expression, Constant, Argument, Local, Global, Function, argument_count, local_count, expression_of, handle_type, operands_of}
 use Rattle.shader_runs.specs.ProgramRun.{Call, Kept, used_as, used, also, used_all, gathered, computed}
 use Rattle.shader_runs.specs.TextRun.{Denoted, IsValue, IsPlace, Scope, global_denoted}
 use Rattle.shader_runs.specs.Scope.{Standing, Absent, Barred, Everywhere, Inline, Named, Handles, Names, usable, usable_as, usable_all, is_present, is_new, forgotten, forgotten_one, given_by_all}

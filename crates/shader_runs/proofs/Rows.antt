@@ -1,9 +1,9 @@
 -- The worked functions, by computing, and the premises of the law for one of them.
-use Rattle.std.proofs.Common.{◌≡◌, ◌≢◌, ℕ, zero, suc, ◌+◌, ◌<◌, List, [], ◌∷◌, Option, Some, None, slice_get, refl, sym, ap, subst, arith}
+use Rattle.std.proofs.Common.{◌≡◌, ℕ, zero, suc, ◌+◌, ◌<◌, List, [], ◌∷◌, Some, None, slice_get, refl, sym, ap, subst, arith}
 use Rattle.std.specs.Prelude.{codes}
 use Rattle.shader_runs.specs.Program.{Function, expression_of, handle_type, operands_of}
 use Rattle.shader_runs.specs.Scope.{given_by_all}
-use Rattle.shader_runs.specs.Premises.{AllBelow, WordFits, LeafFits, AreDistinct, IsName, name_at, NameKey, FixedKey, NumberedKey, GivenKey, ArgumentName, LocalName, ConstantName, GlobalName}
+use Rattle.shader_runs.specs.Premises.{AllBelow, WordFits, LeafFits, AreDistinct, FixedKey, NumberedKey, GivenKey, ArgumentName, LocalName, ConstantName, GlobalName}
 use Rattle.shader_runs.specs.Typing.{Signature, IsOneOf, IsSpelled, PartsFit, signatures_of}
 use Rattle.shader_runs.specs.Rows.{RowsHold, PremisesHold, store_function, store_naming, store_module, numbered_name}
 

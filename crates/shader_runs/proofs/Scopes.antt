@@ -1,5 +1,5 @@
 -- The scope only grows, and the text holds a `continue` and a label where the module does.
-use Rattle.std.proofs.Common.{◌≡◌, ℕ, Bool, true, false, List, [], ◌∷◌, ◌++◌, Option, Some, None, ◌||◌, refl, sym, ap, ap₂, ◌∙◌}
+use Rattle.std.proofs.Common.{◌≡◌, ℕ, Bool, true, false, List, [], ◌∷◌, ◌++◌, Some, None, ◌||◌, refl, sym, ap, ap₂, ◌∙◌}
 use Rattle.shader_runs.specs.Value.{Bytes}
 use Rattle.shader_runs.specs.Program.{Label, Statement, Emit, Store, Block, If, Switch, Loop, Break, Continue, Return, Kill, Barrier, Act, Statements, end, then, Cases, no_case, case, Module, from, binds, holds_continue, any_continue, some_case_continues, expression_of, handle_type}
 use Rattle.shader_runs.specs.Text.{Tree, Lines}

@@ -1,16 +1,16 @@
 -- Both runs of each statement, in step.
-use Rattle.std.proofs.Common.{◌≡◌, ◌≢◌, ℕ, Bool, true, false, cond, List, [], ◌∷◌, ◌++◌, Option, Some, None, ◌||◌, refl, sym, ap, ap₂, ◌∙◌, subst, true≢false}
+use Rattle.std.proofs.Common.{◌≡◌, ℕ, Bool, true, false, cond, List, [], ◌∷◌, ◌++◌, Option, Some, None, ◌||◌, refl, sym, ap, ap₂, ◌∙◌, subst, true≢false}
 use Rattle.std.specs.Prelude.{IsTrue, ℤ}
 use Rattle.shader_runs.specs.Value.{Bytes, has_type, has_types, Value}
 use Rattle.shader_runs.specs.World.{Event, Ask, update, bind}
 use Rattle.shader_runs.specs.Outcome.{Outcome, Next, Done, Continued, Returned, Reached, Gives, Halts, and_then, within, turn, turns, after_switch, chosen, with_integer, closed, closed_if}
-use Rattle.shader_runs.specs.Program.{Expression, Constant, Argument, Local, Global, Load, Operator, Access, Select, Junct, Request, Result, Action, Asked, Called, Label, Numbered, Statement, Emit, Store, Block, If, Switch, Loop, Break, Continue, Return, Kill, Barrier, Act, Statements, end, then, Cases, no_case, case, from, holds_continue, any_continue, some_case_continues, expression_of, handle_type, BarrierBits, Function, function_numbered, Module}
+use Rattle.shader_runs.specs.Program.{Expression, Result, Action, Asked, Called, Label, Numbered, Statement, Emit, Store, Block, If, Switch, Loop, Break, Continue, Return, Kill, Barrier, Act, Statements, end, then, Cases, no_case, case, from, holds_continue, any_continue, some_case_continues, expression_of, handle_type, BarrierBits, Function, function_numbered, Module}
 use Rattle.shader_runs.specs.ProgramRun.{Call, Kept, combined, used, used_as, used_all, acted, with_result, with_all, with_used, leave, returned, barrier_words, ask_each, same_label, has_label, label_if, run, run_all, run_cases, run_on}
 use Rattle.shader_runs.specs.Text.{Lines}
-use Rattle.shader_runs.specs.TextRun.{IsValue, Scope, valued, as_value, responded, unhidden, word_reached, performed, evaluate_all, value_of, with_value, break_line, return_line, among, group_has, some_group_continues, follow_all, follow_groups}
-use Rattle.shader_runs.specs.Scope.{usable_all, Absent, is_present, is_new, Named, Handles, Names, usable, usable_if, given_by, given_by_all, after, after_all, forgotten, forgotten_if}
+use Rattle.shader_runs.specs.TextRun.{IsValue, Scope, valued, as_value, unhidden, word_reached, performed, evaluate_all, value_of, with_value, break_line, return_line, among, group_has, follow_all, follow_groups}
+use Rattle.shader_runs.specs.Scope.{usable_all, is_present, Named, Handles, Names, usable, usable_if, given_by, given_by_all, after, after_all, forgotten_if}
 use Rattle.shader_runs.specs.Form.{word_of, value_forms, written, value_at, value_if, perform_each, form, form_all, form_cases}
-use Rattle.shader_runs.specs.Premises.{IsNoName, handle_types, CallFits, ActionFits, ReturnFits, IsResult, EachAsks, FallsFrom}
+use Rattle.shader_runs.specs.Premises.{IsNoName, handle_types, CallFits, ActionFits, ReturnFits, IsResult, EachAsks}
 use Rattle.shader_runs.proofs.Alike.{HoldsOf, reached, Answers, same_answer, mistyped_answer, Alike, done, continued, broke, returned_alike, stopped, mistyped, typed_alike, Steps, weaker, then_alike, continue_alike, within_alike, turns_alike, switch_alike, closed_alike, chosen_alike, integer_alike, used_alike, pointer_alike}
 use Rattle.shader_runs.proofs.Relation.{ResultTyped, Returns, Related, Extends, Agree, extends_refl, agree_refl, agree_trans, related_agree, related_forgotten}
 use Rattle.shader_runs.proofs.Evaluation.{naming, words, Respond, request_responds, reached_all, value_forms_give}

@@ -1,12 +1,11 @@
 -- The laws: a call runs alike by the text and by the module, event by event.
-use Rattle.std.specs.Prelude.{◌≡◌, ℕ, List, [], Option, Some, IsTrue}
+use Rattle.std.specs.Prelude.{◌≡◌, ℕ, List, [], Some, IsTrue}
 use Rattle.shader_runs.specs.Value.{Value, has_types}
 use Rattle.shader_runs.specs.World.{World, Meaning, Event, Environment}
-use Rattle.shader_runs.specs.Outcome.{Stuck, OutOfTurns, Discarded, Mistyped, Reached, Gives, Halts}
+use Rattle.shader_runs.specs.Outcome.{Mistyped, Reached, Gives, Halts}
 use Rattle.shader_runs.specs.Program.{Function, function_numbered, Module}
 use Rattle.shader_runs.specs.ProgramRun.{run_call}
 use Rattle.shader_runs.specs.TextRun.{module_scope, follow_call}
-use Rattle.shader_runs.specs.Text.{TextModule}
 use Rattle.shader_runs.specs.Scope.{ModuleNames, Naming}
 use Rattle.shader_runs.specs.Form.{form_module, functions_of}
 use Rattle.shader_runs.specs.Typing.{IsConsistent}
@@ -38,7 +37,7 @@ RunsAlike =
     (w : World) (turns : ℕ) (t : List Event) →
     KeepsTypes (run_call env w m turns p.functions g vs t) →
     follow_call (module_scope (form_module p n fs) env) w m n.is_request turns (form_module p n fs).functions (n.function g) vs t
-      ≡ run_call env w m turns p.functions g vs t
+    ≡ run_call env w m turns p.functions g vs t
 
 -- the law above isn't empty: every module whose operators are typed consistently has a typed meaning
 abbrev pub HasTypedMeaning : Type 0

@@ -1,13 +1,13 @@
 -- Worked functions: each with its text, and what both runs of it do in one world. Then texts that other writers would give, which do something else.
-use Rattle.std.specs.Prelude.{◌≡◌, ◌≢◌, ℕ, ◌+◌, ◌*◌, ℤ, pos, Bool, true, false, cond, List, [], ◌∷◌, ◌++◌, length, Option, Some, None, ◌&&◌, ◌||◌, nat_eq, get_or, IsTrue, codes}
-use Rattle.shader_runs.specs.Value.{Bytes, same_bytes, same_integer, MemberNamed, ElementAt, step_of, At, Rooted, GlobalRoot, LocalRoot, Part, Place, ValueType, BooleanType, IntegerType, PointerType, OtherType, Value, Truth, Whole, Pointer, Opaque, Word, Spelled}
+use Rattle.std.specs.Prelude.{◌≡◌, ℕ, ◌+◌, ◌*◌, pos, Bool, true, false, cond, List, [], ◌∷◌, ◌++◌, Option, Some, None, ◌&&◌, ◌||◌, nat_eq, get_or, IsTrue, codes}
+use Rattle.shader_runs.specs.Value.{Bytes, same_bytes, same_integer, MemberNamed, ElementAt, step_of, At, Rooted, GlobalRoot, LocalRoot, Part, Place, ValueType, BooleanType, IntegerType, PointerType, Value, Truth, Whole, Pointer, Spelled}
 use Rattle.shader_runs.specs.World.{Event, Entry, Ask, Read, Write, Discard, World, Meaning, Environment, Stored}
 use Rattle.shader_runs.specs.Outcome.{Reached, Gives, Halts, Stuck, OutOfTurns}
-use Rattle.shader_runs.specs.Program.{Fixed, NamedConstant, Module, Expression, Constant, Argument, Local, Global, Load, Operator, Access, Select, Request, Asking, WhenCounted, Called, Asked, Label, Numbered, Default, Statements, Emit, Store, If, Switch, Loop, Continue, Return, Act, Barrier, end, then, no_case, case, Function}
+use Rattle.shader_runs.specs.Program.{Fixed, NamedConstant, Module, Expression, Constant, Argument, Local, Global, Load, Operator, Access, Select, Called, Numbered, Default, Statements, Emit, Store, If, Switch, Loop, Continue, Return, Act, Barrier, end, then, no_case, case, Function}
 use Rattle.shader_runs.specs.ProgramRun.{run_call}
-use Rattle.shader_runs.specs.Text.{Tree, Name, Known, Apply, Deref, AddressOf, Index, Pick, Trees, no_more, more, Let, Assign, IfElse, SwitchOn, LoopOf, ContinueLine, ReturnLine, Perform, Lines, last, before, no_group, group, Variable, TextFunction, TextModule}
+use Rattle.shader_runs.specs.Text.{Tree, Name, Known, Apply, Deref, AddressOf, Index, Pick, no_more, more, Let, Assign, IfElse, SwitchOn, LoopOf, ContinueLine, ReturnLine, Perform, Lines, last, before, no_group, group, Variable, TextFunction, TextModule}
 use Rattle.shader_runs.specs.TextRun.{module_scope, follow_call}
-use Rattle.shader_runs.specs.Scope.{ModuleNames, Names, Naming, fits_function}
+use Rattle.shader_runs.specs.Scope.{ModuleNames, Naming, fits_function}
 use Rattle.shader_runs.specs.Premises.{EnvironmentFits}
 use Rattle.shader_runs.specs.Typing.{IsConsistent}
 use Rattle.shader_runs.specs.Correct.{ModuleFits}
@@ -120,7 +120,8 @@ a_place = Rooted (LocalRoot 0 0)
 abbrev pub store_function : Function
 store_function =
     record {
-      argument_types = []; result = Some i32;
+      argument_types = [];
+      result = Some i32;
       first_values = Some 0 ∷ [];
       expressions = literal 1 ∷ Local 0 ∷ Load 1 ∷ literal 2 ∷ [];
       types = i32 ∷ PointerType ∷ i32 ∷ i32 ∷ [];
@@ -160,7 +161,8 @@ LateRow =
 abbrev pub inline_function : Function
 inline_function =
     record {
-      argument_types = i32 ∷ []; result = Some i32;
+      argument_types = i32 ∷ [];
+      result = Some i32;
       first_values = None ∷ [];
       expressions = Argument 0 ∷ Local 0 ∷ Operator (codes "+") (0 ∷ 0 ∷ []) ∷ Load 1 ∷ [];
       types = i32 ∷ PointerType ∷ i32 ∷ i32 ∷ [];
@@ -185,7 +187,8 @@ TwofoldRow =
 abbrev pub sibling_function : Function
 sibling_function =
     record {
-      argument_types = BooleanType ∷ i32 ∷ []; result = Some i32;
+      argument_types = BooleanType ∷ i32 ∷ [];
+      result = Some i32;
       first_values = [];
       expressions = Argument 0 ∷ Argument 1 ∷ Operator (codes "+") (1 ∷ 1 ∷ []) ∷ [];
       types = BooleanType ∷ i32 ∷ i32 ∷ [];
@@ -218,7 +221,8 @@ TailRow =
 abbrev pub folded_function : Function
 folded_function =
     record {
-      argument_types = BooleanType ∷ []; result = None;
+      argument_types = BooleanType ∷ [];
+      result = None;
       first_values = None ∷ [];
       expressions = Argument 0 ∷ Local 0 ∷ literal 1 ∷ Operator (codes "+") (2 ∷ 2 ∷ []) ∷ [];
       types = BooleanType ∷ PointerType ∷ i32 ∷ i32 ∷ [];
@@ -242,7 +246,8 @@ FoldedRow =
 abbrev pub increment : Function
 increment =
     record {
-      argument_types = PointerType ∷ []; result = None;
+      argument_types = PointerType ∷ [];
+      result = None;
       first_values = [];
       expressions = Argument 0 ∷ literal 1 ∷ Load 0 ∷ Operator (codes "+") (2 ∷ 1 ∷ []) ∷ [];
       types = PointerType ∷ i32 ∷ i32 ∷ i32 ∷ [];
@@ -254,7 +259,8 @@ increment =
 abbrev pub run_function : Function
 run_function =
     record {
-      argument_types = []; result = Some i32;
+      argument_types = [];
+      result = Some i32;
       first_values = None ∷ [];
       expressions = Local 0 ∷ Load 0 ∷ [];
       types = PointerType ∷ i32 ∷ [];
@@ -277,7 +283,8 @@ CallRow =
 abbrev pub switch_function : Statements → Function
 switch_function b =
     record {
-      argument_types = i32 ∷ []; result = None;
+      argument_types = i32 ∷ [];
+      result = None;
       first_values = [];
       expressions = Argument 0 ∷ [];
       types = i32 ∷ [];
@@ -299,7 +306,8 @@ JoinedRow =
 abbrev pub loop_function : Function
 loop_function =
     record {
-      argument_types = BooleanType ∷ []; result = None;
+      argument_types = BooleanType ∷ [];
+      result = None;
       first_values = [];
       expressions = Argument 0 ∷ [];
       types = BooleanType ∷ [];
@@ -396,7 +404,8 @@ pub record PlacesRow : Type 0 where
 abbrev pub continue_function : Function
 continue_function =
     record {
-      argument_types = BooleanType ∷ i32 ∷ []; result = None;
+      argument_types = BooleanType ∷ i32 ∷ [];
+      result = None;
       first_values = None ∷ [];
       expressions = Argument 0 ∷ Argument 1 ∷ Local 0 ∷ Operator (codes "+") (1 ∷ 1 ∷ []) ∷ [];
       types = BooleanType ∷ i32 ∷ PointerType ∷ i32 ∷ [];

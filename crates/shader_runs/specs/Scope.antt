@@ -2,7 +2,7 @@
 use Rattle.std.specs.Prelude.{ℕ, zero, suc, Bool, true, false, cond, not, nat_lt, List, [], ◌∷◌, length, Option, Some, None, ◌&&◌, ◌||◌}
 use Rattle.shader_runs.specs.Value.{Bytes}
 use Rattle.shader_runs.specs.World.{update}
-use Rattle.shader_runs.specs.Program.{Expression, Constant, Argument, Local, Global, Load, Operator, Access, Select, Junct, Request, Result, Statement, Emit, Store, Block, If, Switch, Loop, Break, Continue, Return, Kill, Barrier, Act, Statements, end, then, Cases, no_case, case, Function, argument_count, local_count, expression_of, operands_of, is_given, binds, from, holds_continue}
+use Rattle.shader_runs.specs.Program.{Expression, Constant, Argument, Local, Global, Load, Operator, Access, Select, Junct, Request, Statement, Emit, Store, Block, If, Switch, Loop, Return, Act, Statements, end, then, Cases, no_case, case, Function, argument_count, local_count, expression_of, operands_of, is_given, binds, from, holds_continue}
 
 -- a handle at a point: not emitted here; emitted where an operand was out of scope; a constant tree that wasn't emitted here;
 -- written where it is used; or bound under a name

@@ -1,7 +1,7 @@
 -- When a module's operators are typed consistently.
-use Rattle.std.specs.Prelude.{◌≡◌, ℕ, List, [], ◌∷◌, ◌++◌, Option, Some, None, slice_get}
-use Rattle.shader_runs.specs.Value.{ValueType, BooleanType, IntegerType, PointerType, OtherType, Word, Spelled, Selected, Indexed, junction_word}
-use Rattle.shader_runs.specs.Program.{ConstantTree, Fixed, NamedConstant, Constructed, ConstantTrees, no_constant, constant, Expression, Constant, Argument, Local, Global, Load, Operator, Access, Select, Junct, Request, Result, Function, expression_of, handle_type, Module}
+use Rattle.std.specs.Prelude.{◌≡◌, ℕ, List, [], ◌∷◌, ◌++◌, Option, Some, slice_get}
+use Rattle.shader_runs.specs.Value.{ValueType, BooleanType, IntegerType, PointerType, Word, Spelled, Selected, Indexed, junction_word}
+use Rattle.shader_runs.specs.Program.{ConstantTree, Fixed, NamedConstant, Constructed, ConstantTrees, no_constant, constant, Expression, Constant, Operator, Access, Select, Junct, Request, Function, expression_of, handle_type, Module}
 use Rattle.shader_runs.specs.Premises.{constant_types_of, handle_types}
 
 -- a spelled operator with its operands' types and its result's

@@ -1,5 +1,5 @@
 -- Spelled words, places and values with their types.
-use Rattle.std.specs.Prelude.{ℕ, zero, suc, ℤ, pos, negsuc, Bool, true, false, cond, nat_eq, List, [], ◌∷◌, Option, Some, None, ◌&&◌, get_or, codes}
+use Rattle.std.specs.Prelude.{ℕ, ℤ, pos, negsuc, Bool, true, false, cond, nat_eq, List, [], ◌∷◌, ◌&&◌, get_or, codes}
 
 -- the bytes of a name or of a spelled word
 abbrev pub Bytes : Type 0
@@ -33,9 +33,9 @@ abbrev pub step_of : Selector → Step
 step_of (ElementAt index) = At (pos index)
 step_of (MemberNamed word) =
     cond (same_bytes word (codes "x")) (At (pos 0)) (
-      cond (same_bytes word (codes "y")) (At (pos 1)) (
-        cond (same_bytes word (codes "z")) (At (pos 2)) (cond (same_bytes word (codes "w")) (At (pos 3)) (Field word))
-      )
+    cond (same_bytes word (codes "y")) (At (pos 1)) (
+    cond (same_bytes word (codes "z")) (At (pos 2)) (cond (same_bytes word (codes "w")) (At (pos 3)) (Field word))
+    )
     )
 
 -- a module's variable by its index, or a local by the number of function entries before its own function's and its index
