@@ -5,10 +5,10 @@ use Rattle.std.specs.Prelude.{IsTrue}
 use Rattle.shader_runs.specs.Value.{Bytes, same_bytes, Rooted, LocalRoot, has_types, Value}
 use Rattle.shader_runs.specs.World.{Event, Entry, entries, World, Meaning, Environment}
 use Rattle.shader_runs.specs.Outcome.{Stuck, Reached, Gives, Halts, answer}
-use Rattle.shader_runs.specs.Program.{Function, argument_count, function_numbered, Module}
-use Rattle.shader_runs.specs.ProgramRun.{Call, constants_kept, called, used, wrapped, with_first, first_used_all, entered, run_body, run_call}
+use Rattle.shader_runs.specs.Program.{Function, argument_count, function_numbered, Module, any_continue}
+use Rattle.shader_runs.specs.ProgramRun.{Call, constants_kept, called, used, wrapped, with_first, first_used_all, entered, run_all, run_body, run_call}
 use Rattle.shader_runs.specs.TextRun.{IsPlace, Scope, with_parameters, with_variables, with_globals, no_names, module_scope, respond_by_table, put_first, first_followed, first_of_each, entered_by, follow_all, follow_body, follow_call}
-use Rattle.shader_runs.specs.Scope.{ModuleNames, Naming, usable_if, at_start, first_values_fit, fits_all}
+use Rattle.shader_runs.specs.Scope.{ModuleNames, Naming, usable_if, at_start, first_values_fit, fits_all, after_all}
 use Rattle.shader_runs.specs.Form.{names_from, variables_from, form_all, form_function, form_functions, form_module, functions_of}
 use Rattle.shader_runs.specs.Premises.{FixedName, ArgumentName, LocalName, ConstantName, GlobalName, FixedKey, fixed_name, FunctionFits, AllFit, EnvironmentFits, IsTypedIn, AllTypedIn}
 use Rattle.shader_runs.specs.Correct.{KeepsTypes, RunsAlike}
@@ -17,7 +17,7 @@ use Rattle.shader_runs.proofs.Update.{and_left, and_right, same_bytes_equal, sam
 use Rattle.shader_runs.proofs.Relation.{Returns, global_as, IsHere, NoName, fixed_denoted, Related}
 use Rattle.shader_runs.proofs.Evaluation.{words, Respond, Responds}
 use Rattle.shader_runs.proofs.Written.{Given, globals_length, value_here}
-use Rattle.shader_runs.proofs.Statements.{same_all}
+use Rattle.shader_runs.proofs.Statements.{Same, same_all}
 use Rattle.shader_runs.proofs.Fresh.{all_fresh, start_sources}
 use Rattle.shader_runs.proofs.Start.{start_stands}
 use Rattle.shader_runs.proofs.Names.{parameter_other, parameter_at, variable_other, variable_at, globals_other, globals_at, length-names_from}
@@ -26,7 +26,7 @@ length-form_functions : (fs : List Naming) → length (form_functions fs) ≡ le
 length-form_functions [] = refl
 length-form_functions (f ∷ fs) = ap suc (length-form_functions fs)
 
-length-functions_of : (fs : List Naming) → length (functions_of fs) ≡ length fs
+pub length-functions_of : (fs : List Naming) → length (functions_of fs) ≡ length fs
 length-functions_of [] = refl
 length-functions_of (f ∷ fs) = ap suc (length-functions_of fs)
 
@@ -221,7 +221,7 @@ module _ (p : Module) (n : ModuleNames) (env : Environment) (environment : Envir
     starts e =
         subst (λ n'. Related (call_of fs f vs t) f.names (at_start f.function) (first_names n' f vs t) (constants_kept f.function env m)) fit.outer (starts_own e)
 
-    given : IsTrue (has_types f.function.argument_types vs) → Given p (call_of fs f vs t) f.names (responses fs)
+    pub given : IsTrue (has_types f.function.argument_types vs) → Given p (call_of fs f vs t) f.names (responses fs)
     given k =
         record {
           responds = responds;
@@ -247,6 +247,15 @@ module _ (p : Module) (n : ModuleNames) (env : Environment) (environment : Envir
         ap (λ q. first_followed q rest) (value_here p (call_of fs f vs t) f.names (responses fs) (given k) (at_start f.function) names kept (starts e) h here t1)
         ∙ followed_firsts (used (call_of fs f vs t) kept h) (first_used_all (call_of fs f vs t) kept os) t1 rest (firsts_reached k e os (suc j) (and_right (usable_if f.function (at_start f.function) (Some h)) (first_values_fit f.function os) u))
 
+    -- both runs of the body
+    pub list_alike : length vs ≡ argument_count f.function → IsTrue (has_types f.function.argument_types vs) → (t1 : List Event) → Same (call_of fs f vs t) f.names (at_start f.function) (constants_kept f.function env m) (after_all f 0 f.function.body (at_start f.function)) (any_continue f.function.body) (run_all (call_of fs f vs t) bound f.function.body (constants_kept f.function env m) t1) (follow_all (words (call_of fs f vs t) (responses fs)) bound (form_all f 0 f.function.body (at_start f.function)) (first_names n f vs t) t1)
+    list_alike e k t1 =
+        let c = call_of fs f vs t in
+        let firsts_fit = first_values_fit f.function f.function.first_values in
+        let body_fits = fits_all f 0 f.function.body (at_start f.function) in
+        let checked = all_fresh p c f.names environment fit.distinct f.function.body 0 (at_start f.function) (omega arith) (start_sources p c f.names environment fit.distinct) fit.regular (and_right firsts_fit body_fits fit.scope) in
+        same_all p c f.names (responses fs) (given k) bound f.function.body 0 (at_start f.function) (first_names n f vs t) (constants_kept f.function env m) t1 (starts e) checked
+
     body_alike : (place place' : ℕ) → place' ≡ place → length vs ≡ argument_count f.function → IsTrue (has_types f.function.argument_types vs) → Answers (Returns f.function) (run_body (call_of fs f vs t) bound place vs t) (follow_body (words (call_of fs f vs t) (responses fs)) bound place' (form_function f) vs (first_names n f vs t) t)
     body_alike place place' pe e k =
         let c = call_of fs f vs t in
@@ -254,9 +263,7 @@ module _ (p : Module) (n : ModuleNames) (env : Environment) (environment : Envir
         let os = f.function.first_values in
         let firsts_fit = first_values_fit f.function os in
         let body_fits = fits_all f 0 f.function.body (at_start f.function) in
-        let same = same_all p c f.names (responses fs) (given k) bound f.function.body 0 (at_start f.function) in
-        let checked = all_fresh p c f.names environment fit.distinct f.function.body 0 (at_start f.function) (omega arith) (start_sources p c f.names environment fit.distinct) fit.regular (and_right firsts_fit body_fits fit.scope) in
-        subst (λ q. Answers (Returns f.function) (run_body c bound place vs t) (entered_by place' vs q (λ t1. answer (follow_all (words c (responses fs)) bound (form_all f 0 f.function.body (at_start f.function)) (first_names n f vs t) t1)))) (sym (firsts_reached k e os 0 (and_left firsts_fit body_fits fit.scope) t)) (entered_alike (Returns f.function) place place' vs (first_used_all c kept os) t _ _ pe (λ t1. alike_answers tt (same (first_names n f vs t) kept t1 (starts e) checked)))
+        subst (λ q. Answers (Returns f.function) (run_body c bound place vs t) (entered_by place' vs q (λ t1. answer (follow_all (words c (responses fs)) bound (form_all f 0 f.function.body (at_start f.function)) (first_names n f vs t) t1)))) (sym (firsts_reached k e os 0 (and_left firsts_fit body_fits fit.scope) t)) (entered_alike (Returns f.function) place place' vs (first_used_all c kept os) t _ _ pe (λ t1. alike_answers tt (list_alike e k t1)))
 
     call_alike : IsTrue (has_types f.function.argument_types vs) → Answers (Returns f.function) (program_call fs f vs t) (text_call fs f vs t)
     call_alike h =
@@ -265,7 +272,7 @@ module _ (p : Module) (n : ModuleNames) (env : Environment) (environment : Envir
         let place : length (form_functions fs) ≡ there = length-form_functions fs ∙ sym (length-functions_of fs) in
         called_alike (Returns f.function) (nat_eq (length vs) (length (names_from f.names.argument 0 (argument_count f.function)))) (nat_eq (length vs) (argument_count f.function)) _ _ t (ap (nat_eq (length vs)) count) (λ e. body_alike there (length (form_functions fs)) place (eqb-true (length vs) (argument_count f.function) e) h)
 
-  calls_alike : (fs : List Naming) → AllFit p n fs → AllTypedIn p m (functions_of fs) → ((g k : ℕ) → g < length fs → k < length fs → n.function g ≡ n.function k → g ≡ k) → Alike_calls fs
+  pub calls_alike : (fs : List Naming) → AllFit p n fs → AllTypedIn p m (functions_of fs) → ((g k : ℕ) → g < length fs → k < length fs → n.function g ≡ n.function k → g ≡ k) → Alike_calls fs
   calls_alike [] fits typed one g callee e vs h t = absurd (nothing e)
     where
       nothing : None ≡ Some callee → ⊥

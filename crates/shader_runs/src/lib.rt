@@ -2,11 +2,18 @@
 #![tactic(auto)]
 
 ghost use Rattle.shader_runs.specs.Correct.{RunsAlike, HasTypedMeaning, HasTypedWorld};
+ghost use Rattle.shader_runs.specs.Points.{PointsAgree};
 ghost use Rattle.shader_runs.specs.Rows.{RowsHold};
 
 /// A module's functions and entry points and their texts make the same events and end alike.
 pub fn runs_alike()
     ensures { RunsAlike }
+{}
+
+/// At the end of any beginning of a body, names in scope have the values that the module uses, and what is
+/// written without a name still gives them.
+pub fn points_agree()
+    ensures { PointsAgree }
 {}
 
 /// What the first law asks of the meaning can be met.
