@@ -4,7 +4,7 @@ use Rattle.std.specs.Prelude.{IsTrue}
 use Rattle.shader_runs.specs.Value.{Bytes, ValueType, has_type, has_types, Value, Truth, Whole, Pointer, Opaque}
 use Rattle.shader_runs.specs.World.{Event, Ask, Read, update, bind}
 use Rattle.shader_runs.specs.Outcome.{Outcome, Done, Next, and_then, Continued, Broke, Returned, Stopped, Reached, Gives}
-use Rattle.shader_runs.specs.Program.{Expression, Constant, Argument, Local, Global, Load, Operator, Access, Select, Junct, Request, Asking, ConstantTrees, expression_of, handle_type, operands_of, is_counted, is_asked, binds, binds_as, greatest_count, Module}
+use Rattle.shader_runs.specs.Program.{Expression, Constant, Argument, Local, Global, Load, Operator, Access, AccessIndex, Logical, Request, Asking, ConstantTrees, expression_of, handle_type, operands_of, is_counted, is_asked, binds, binds_as, greatest_count, Module}
 use Rattle.shader_runs.specs.ProgramRun.{Call, Kept, used_as, constant_values, used, used_all, joined, combined, gathered, computed, loaded, asked, if_counted, emit_as, emit}
 use Rattle.shader_runs.specs.Text.{Apply, Lines}
 use Rattle.shader_runs.specs.TextRun.{Denoted, IsValue, Scope, valued, as_value, responded, unhidden, evaluate_all, value_of, with_value, follow_all}
@@ -165,8 +165,8 @@ module _ (p : Module) (c : Call) (n : Names) (d : Respond) (given : Given p c n 
     pure_used : (e : Option Expression) → IsTrue (is_pure e) → (o : Option Value) → used_as c e o ≡ o
     pure_used (Some (Operator w xs)) q o = refl
     pure_used (Some (Access y z)) q o = refl
-    pure_used (Some (Select y z)) q o = refl
-    pure_used (Some (Junct j y z)) q o = refl
+    pure_used (Some (AccessIndex y z)) q o = refl
+    pure_used (Some (Logical j y z)) q o = refl
     pure_used (Some _) q o = absurd (true≢false (sym q))
     pure_used None q o = absurd (true≢false (sym q))
 
@@ -218,8 +218,8 @@ module _ (p : Module) (c : Call) (n : Names) (d : Respond) (given : Given p c n 
     emit_one_as (Some (Request q w xs es)) y i l e k m next = emit_request (no_event (Some (Request q w xs es)) e (λ vs. refl)) (is_asked c.function h q) q w xs es y i l m next
     emit_one_as (Some (Operator w xs)) y i l e k m next = emit_pure (is_counted c.function 2 h) (Some (Operator w xs)) e refl y m next
     emit_one_as (Some (Access u v)) y i l e k m next = emit_pure (is_counted c.function greatest_count h) (Some (Access u v)) e refl y m next
-    emit_one_as (Some (Select u v)) y i l e k m next = emit_pure (is_counted c.function greatest_count h) (Some (Select u v)) e refl y m next
-    emit_one_as (Some (Junct j u v)) y i l e k m next = emit_pure (is_counted c.function 2 h) (Some (Junct j u v)) e refl y m next
+    emit_one_as (Some (AccessIndex u v)) y i l e k m next = emit_pure (is_counted c.function greatest_count h) (Some (AccessIndex u v)) e refl y m next
+    emit_one_as (Some (Logical j u v)) y i l e k m next = emit_pure (is_counted c.function 2 h) (Some (Logical j u v)) e refl y m next
     emit_one_as (Some _) y i l e k m next = absurd (true≢false (sym k))
     emit_one_as None y i l e k m next = absurd (true≢false (sym k))
 

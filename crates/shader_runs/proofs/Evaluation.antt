@@ -1,15 +1,15 @@
 -- What a text's expression gives where it makes no event, by its parts.
 use Rattle.std.proofs.Common.{◌≡◌, ◌≢◌, ℕ, ◌<◌, Bool, true, false, cond, List, [], ◌∷◌, Option, Some, None, refl, sym, ap, ◌∙◌, true≢false}
 use Rattle.std.specs.Prelude.{IsTrue}
-use Rattle.shader_runs.specs.Value.{Bytes, Part, At, Selector, step_of, ValueType, BooleanType, IntegerType, PointerType, OtherType, has_type, has_types, Value, Truth, Whole, Pointer, Opaque, Spelled, Selected, Indexed, Junction}
+use Rattle.shader_runs.specs.Value.{Bytes, Part, At, Selector, step_of, ValueType, BooleanType, IntegerType, PointerType, OtherType, has_type, has_types, Value, Truth, Whole, Pointer, Opaque, Spelled, PartWord, IndexWord, ShortCircuit}
 use Rattle.shader_runs.specs.World.{Event, Ask, World, Meaning}
 use Rattle.shader_runs.specs.Outcome.{Stuck, Reached, Gives, Halts}
 use Rattle.shader_runs.specs.Program.{Module, Function, function_numbered, Expression}
-use Rattle.shader_runs.specs.ProgramRun.{Call, Kept, used, also, used_all, applied, accessed, selected, decides, undecided, combined, gathered}
-use Rattle.shader_runs.specs.Text.{Index, Pick, Both}
-use Rattle.shader_runs.specs.TextRun.{part_reached, index_reached, indexed, picked, undecided_reached, both_reached, Denoted, IsValue, IsPlace, Words, Scope, named, valued, responded, unhidden, as_value, dereferenced, addressed, put_before, followed_by, evaluate, evaluate_all, value_of, respond_by_table}
+use Rattle.shader_runs.specs.ProgramRun.{Call, Kept, used, also, used_all, applied, index_value_of, part_value, decides, undecided, combined, gathered}
+use Rattle.shader_runs.specs.Text.{Index, PartOf, LogicalOf}
+use Rattle.shader_runs.specs.TextRun.{part_reached, index_reached, indexed, part_picked, undecided_reached, logical_reached, Denoted, IsValue, IsPlace, Words, Scope, named, valued, responded, unhidden, as_value, dereferenced, addressed, put_before, followed_by, evaluate, evaluate_all, value_of, respond_by_table}
 use Rattle.shader_runs.specs.Scope.{Names, Naming}
-use Rattle.shader_runs.specs.Form.{Plain, AsValue, AsPlace, value_form, place_form, value_forms, access_form, select_form}
+use Rattle.shader_runs.specs.Form.{Plain, AsValue, AsPlace, value_form, place_form, value_forms, access_form, part_form}
 use Rattle.shader_runs.specs.Premises.{OperatesBy, AsksBy}
 use Rattle.shader_runs.proofs.Alike.{Answers, reached, placed}
 use Rattle.shader_runs.proofs.Relation.{Returns, as_denoted}
@@ -144,34 +144,34 @@ typed_not_pointer (OtherType s) (Pointer p) n h = h
 typed_not_pointer PointerType (Pointer p) n h = n
 
 -- an index into a value that is no pointer
-pub index_value : (m : Meaning) (x y v : Value) → IsTrue (not_pointer x) → accessed m x y ≡ Some v → (p : Reached Denoted) (rest : List Event → Reached Value) (t : List Event) → p ≡ Gives (IsValue x) t → rest t ≡ Gives y t → indexed m p rest ≡ Gives (IsValue v) t
+pub index_value : (m : Meaning) (x y v : Value) → IsTrue (not_pointer x) → index_value_of m x y ≡ Some v → (p : Reached Denoted) (rest : List Event → Reached Value) (t : List Event) → p ≡ Gives (IsValue x) t → rest t ≡ Gives y t → indexed m p rest ≡ Gives (IsValue v) t
 index_value m (Truth b) y v n e p rest t q r =
-    ap (λ p. indexed m p rest) q ∙ ap (index_reached m (Truth b)) r ∙ ap (λ v. Gives (IsValue v) t) (some_same (m Indexed (Truth b ∷ y ∷ [])) v e)
+    ap (λ p. indexed m p rest) q ∙ ap (index_reached m (Truth b)) r ∙ ap (λ v. Gives (IsValue v) t) (some_same (m IndexWord (Truth b ∷ y ∷ [])) v e)
 index_value m (Whole s z) y v n e p rest t q r =
-    ap (λ p. indexed m p rest) q ∙ ap (index_reached m (Whole s z)) r ∙ ap (λ v. Gives (IsValue v) t) (some_same (m Indexed (Whole s z ∷ y ∷ [])) v e)
+    ap (λ p. indexed m p rest) q ∙ ap (index_reached m (Whole s z)) r ∙ ap (λ v. Gives (IsValue v) t) (some_same (m IndexWord (Whole s z ∷ y ∷ [])) v e)
 index_value m (Opaque s z) y v n e p rest t q r =
-    ap (λ p. indexed m p rest) q ∙ ap (index_reached m (Opaque s z)) r ∙ ap (λ v. Gives (IsValue v) t) (some_same (m Indexed (Opaque s z ∷ y ∷ [])) v e)
+    ap (λ p. indexed m p rest) q ∙ ap (index_reached m (Opaque s z)) r ∙ ap (λ v. Gives (IsValue v) t) (some_same (m IndexWord (Opaque s z ∷ y ∷ [])) v e)
 index_value m (Pointer b) y v n e p rest t q r = absurd (true≢false (sym n))
 
-pub pick_value : (m : Meaning) (x : Selector) (b v : Value) → IsTrue (not_pointer b) → selected m x b ≡ Some v → (p : Reached Denoted) (t : List Event) → p ≡ Gives (IsValue b) t → picked m x p ≡ Gives (IsValue v) t
-pick_value m x (Truth b) v n e p t q =
-    ap (picked m x) q ∙ ap (λ v. Gives (IsValue v) t) (some_same (m (Selected x) (Truth b ∷ [])) v e)
-pick_value m x (Whole s z) v n e p t q =
-    ap (picked m x) q ∙ ap (λ v. Gives (IsValue v) t) (some_same (m (Selected x) (Whole s z ∷ [])) v e)
-pick_value m x (Opaque s z) v n e p t q =
-    ap (picked m x) q ∙ ap (λ v. Gives (IsValue v) t) (some_same (m (Selected x) (Opaque s z ∷ [])) v e)
-pick_value m x (Pointer b) v n e p t q = absurd (true≢false (sym n))
+pub part_picked_value : (m : Meaning) (x : Selector) (b v : Value) → IsTrue (not_pointer b) → part_value m x b ≡ Some v → (p : Reached Denoted) (t : List Event) → p ≡ Gives (IsValue b) t → part_picked m x p ≡ Gives (IsValue v) t
+part_picked_value m x (Truth b) v n e p t q =
+    ap (part_picked m x) q ∙ ap (λ v. Gives (IsValue v) t) (some_same (m (PartWord x) (Truth b ∷ [])) v e)
+part_picked_value m x (Whole s z) v n e p t q =
+    ap (part_picked m x) q ∙ ap (λ v. Gives (IsValue v) t) (some_same (m (PartWord x) (Whole s z ∷ [])) v e)
+part_picked_value m x (Opaque s z) v n e p t q =
+    ap (part_picked m x) q ∙ ap (λ v. Gives (IsValue v) t) (some_same (m (PartWord x) (Opaque s z ∷ [])) v e)
+part_picked_value m x (Pointer b) v n e p t q = absurd (true≢false (sym n))
 
 -- the two sides of `&&` and `||`
-pub both_value : (m : Meaning) (j : Junction) (l r : Value) (p : Reached Value) (rest : List Event → Reached Value) (t : List Event) → p ≡ Gives l t → rest t ≡ Gives r t → both_reached m j p rest ≡ Gives (IsValue (cond (decides j l) l (undecided m j l r))) t
-both_value m j l r p rest t e q = ap (λ p. both_reached m j p rest) e ∙ go (decides j l)
+pub logical_reached_value : (m : Meaning) (j : ShortCircuit) (l r : Value) (p : Reached Value) (rest : List Event → Reached Value) (t : List Event) → p ≡ Gives l t → rest t ≡ Gives r t → logical_reached m j p rest ≡ Gives (IsValue (cond (decides j l) l (undecided m j l r))) t
+logical_reached_value m j l r p rest t e q = ap (λ p. logical_reached m j p rest) e ∙ go (decides j l)
   where
     go : (b : Bool) → elim b as (λ _. Reached Denoted) [ true ↦ Gives (IsValue l) t | false ↦ undecided_reached m j l (rest t) ] ≡ Gives (IsValue (cond b l (undecided m j l r))) t
     go true = refl
     go false = ap (undecided_reached m j l) q
 
 module _ (c : Call) (d : Respond) (names : Scope) where
-  index_place : (b i : Plain) (x y v : Value) → Means c d names b (Some x) → Means c d names i (Some y) → IsTrue (has_type PointerType x) → accessed c.meaning x y ≡ Some v → Means c d names (AsPlace (Index (place_form b) (value_form i))) (Some v)
+  index_place : (b i : Plain) (x y v : Value) → Means c d names b (Some x) → Means c d names i (Some y) → IsTrue (has_type PointerType x) → index_value_of c.meaning x y ≡ Some v → Means c d names (AsPlace (Index (place_form b) (value_form i))) (Some v)
   index_place b i (Pointer p) (Whole s z) v mb mi h e =
       (Part p (At z), sym e, λ t. ap (λ q. indexed c.meaning q (value_of (words c d) (value_form i) names)) (place_form_gives c d names b (Some (Pointer p)) mb t) ∙ ap (part_reached p) (value_form_gives c d names i (Some (Whole s z)) mi t))
   index_place b i (Pointer p) (Truth y) v mb mi h e = absurd (none_some v e)
@@ -181,34 +181,34 @@ module _ (c : Call) (d : Respond) (names : Scope) where
   index_place b i (Whole x z) y v mb mi h e = absurd (true≢false (sym h))
   index_place b i (Opaque x z) y v mb mi h e = absurd (true≢false (sym h))
 
-  index_means : (b i : Plain) (x y v : Value) → Means c d names b (Some x) → Means c d names i (Some y) → IsTrue (not_pointer x) → accessed c.meaning x y ≡ Some v → Means c d names (AsValue (Index (value_form b) (value_form i))) (Some v)
+  index_means : (b i : Plain) (x y v : Value) → Means c d names b (Some x) → Means c d names i (Some y) → IsTrue (not_pointer x) → index_value_of c.meaning x y ≡ Some v → Means c d names (AsValue (Index (value_form b) (value_form i))) (Some v)
   index_means b i x y v mb mi h e t =
       index_value c.meaning x y v h e (evaluate (words c d) (value_form b) names t) (value_of (words c d) (value_form i) names) t (value_form_denotes c d names b (Some x) mb t) (value_form_gives c d names i (Some y) mi t)
 
-  pub access_means : (k : ValueType) (b i : Plain) (x y v : Value) → Means c d names b (Some x) → Means c d names i (Some y) → IsTrue (has_type k x) → accessed c.meaning x y ≡ Some v → Means c d names (access_form k b i) (Some v)
+  pub access_means : (k : ValueType) (b i : Plain) (x y v : Value) → Means c d names b (Some x) → Means c d names i (Some y) → IsTrue (has_type k x) → index_value_of c.meaning x y ≡ Some v → Means c d names (access_form k b i) (Some v)
   access_means PointerType b i x y v mb mi h e = index_place b i x y v mb mi h e
   access_means BooleanType b i x y v mb mi h e = index_means b i x y v mb mi (typed_not_pointer BooleanType x refl h) e
   access_means (IntegerType s) b i x y v mb mi h e =
       index_means b i x y v mb mi (typed_not_pointer (IntegerType s) x refl h) e
   access_means (OtherType s) b i x y v mb mi h e = index_means b i x y v mb mi (typed_not_pointer (OtherType s) x refl h) e
 
-  pick_place : (x : Selector) (b : Plain) (y v : Value) → Means c d names b (Some y) → IsTrue (has_type PointerType y) → selected c.meaning x y ≡ Some v → Means c d names (AsPlace (Pick x (place_form b))) (Some v)
-  pick_place x b (Pointer p) v mb h e =
-      (Part p (step_of x), sym e, λ t. ap (picked c.meaning x) (place_form_gives c d names b (Some (Pointer p)) mb t))
-  pick_place x b (Truth y) v mb h e = absurd (true≢false (sym h))
-  pick_place x b (Whole y z) v mb h e = absurd (true≢false (sym h))
-  pick_place x b (Opaque y z) v mb h e = absurd (true≢false (sym h))
+  part_place : (x : Selector) (b : Plain) (y v : Value) → Means c d names b (Some y) → IsTrue (has_type PointerType y) → part_value c.meaning x y ≡ Some v → Means c d names (AsPlace (PartOf x (place_form b))) (Some v)
+  part_place x b (Pointer p) v mb h e =
+      (Part p (step_of x), sym e, λ t. ap (part_picked c.meaning x) (place_form_gives c d names b (Some (Pointer p)) mb t))
+  part_place x b (Truth y) v mb h e = absurd (true≢false (sym h))
+  part_place x b (Whole y z) v mb h e = absurd (true≢false (sym h))
+  part_place x b (Opaque y z) v mb h e = absurd (true≢false (sym h))
 
-  pick_means : (x : Selector) (b : Plain) (y v : Value) → Means c d names b (Some y) → IsTrue (not_pointer y) → selected c.meaning x y ≡ Some v → Means c d names (AsValue (Pick x (value_form b))) (Some v)
-  pick_means x b y v mb h e t =
-      pick_value c.meaning x y v h e (evaluate (words c d) (value_form b) names t) t (value_form_denotes c d names b (Some y) mb t)
+  part_value_means : (x : Selector) (b : Plain) (y v : Value) → Means c d names b (Some y) → IsTrue (not_pointer y) → part_value c.meaning x y ≡ Some v → Means c d names (AsValue (PartOf x (value_form b))) (Some v)
+  part_value_means x b y v mb h e t =
+      part_picked_value c.meaning x y v h e (evaluate (words c d) (value_form b) names t) t (value_form_denotes c d names b (Some y) mb t)
 
-  pub select_means : (k : ValueType) (x : Selector) (b : Plain) (y v : Value) → Means c d names b (Some y) → IsTrue (has_type k y) → selected c.meaning x y ≡ Some v → Means c d names (select_form k x b) (Some v)
-  select_means PointerType x b y v mb h e = pick_place x b y v mb h e
-  select_means BooleanType x b y v mb h e = pick_means x b y v mb (typed_not_pointer BooleanType y refl h) e
-  select_means (IntegerType s) x b y v mb h e = pick_means x b y v mb (typed_not_pointer (IntegerType s) y refl h) e
-  select_means (OtherType s) x b y v mb h e = pick_means x b y v mb (typed_not_pointer (OtherType s) y refl h) e
+  pub part_means : (k : ValueType) (x : Selector) (b : Plain) (y v : Value) → Means c d names b (Some y) → IsTrue (has_type k y) → part_value c.meaning x y ≡ Some v → Means c d names (part_form k x b) (Some v)
+  part_means PointerType x b y v mb h e = part_place x b y v mb h e
+  part_means BooleanType x b y v mb h e = part_value_means x b y v mb (typed_not_pointer BooleanType y refl h) e
+  part_means (IntegerType s) x b y v mb h e = part_value_means x b y v mb (typed_not_pointer (IntegerType s) y refl h) e
+  part_means (OtherType s) x b y v mb h e = part_value_means x b y v mb (typed_not_pointer (OtherType s) y refl h) e
 
-  pub junct_means : (j : Junction) (a b : Plain) (l r : Value) → Means c d names a (Some l) → Means c d names b (Some r) → Means c d names (AsValue (Both j (value_form a) (value_form b))) (Some (cond (decides j l) l (undecided c.meaning j l r)))
-  junct_means j a b l r ma mb t =
-      both_value c.meaning j l r (value_of (words c d) (value_form a) names t) (value_of (words c d) (value_form b) names) t (value_form_gives c d names a (Some l) ma t) (value_form_gives c d names b (Some r) mb t)
+  pub logical_means : (j : ShortCircuit) (a b : Plain) (l r : Value) → Means c d names a (Some l) → Means c d names b (Some r) → Means c d names (AsValue (LogicalOf j (value_form a) (value_form b))) (Some (cond (decides j l) l (undecided c.meaning j l r)))
+  logical_means j a b l r ma mb t =
+      logical_reached_value c.meaning j l r (value_of (words c d) (value_form a) names t) (value_of (words c d) (value_form b) names) t (value_form_gives c d names a (Some l) ma t) (value_form_gives c d names b (Some r) mb t)

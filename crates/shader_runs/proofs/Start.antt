@@ -4,7 +4,7 @@ use Rattle.std.specs.Prelude.{IsTrue}
 use Rattle.std.proofs.lemmas.Option.{slice_get_within}
 use Rattle.shader_runs.specs.Value.{ValueType, Value, has_type, has_types}
 use Rattle.shader_runs.specs.World.{Environment, Meaning}
-use Rattle.shader_runs.specs.Program.{Expression, Constant, Operator, Access, Select, Junct, Function, expression_of, handle_type, operands_of, Module}
+use Rattle.shader_runs.specs.Program.{Expression, Constant, Operator, Access, AccessIndex, Logical, Function, expression_of, handle_type, operands_of, Module}
 use Rattle.shader_runs.specs.ProgramRun.{Call, used_as, used, also, used_all, gathered, all_of, or_constant, constant_as, constant_below, constants_kept}
 use Rattle.shader_runs.specs.TextRun.{Scope}
 use Rattle.shader_runs.specs.Scope.{is_pure, all_constant, is_constant_leaf, constant_test, is_constant_below, start_standing, at_start, is_present, usable, usable_as, usable_all}
@@ -96,8 +96,8 @@ usable_start : (f : Function) (e : Option Expression) (t : Bool) → IsTrue t �
 usable_start f (Some (Constant v)) t i c = refl
 usable_start f (Some (Operator w xs)) t i c = ap (λ t. is_present (start_standing t)) i
 usable_start f (Some (Access x y)) t i c = ap (λ t. is_present (start_standing t)) i
-usable_start f (Some (Select x y)) t i c = ap (λ t. is_present (start_standing t)) i
-usable_start f (Some (Junct j x y)) t i c = ap (λ t. is_present (start_standing t)) i
+usable_start f (Some (AccessIndex x y)) t i c = ap (λ t. is_present (start_standing t)) i
+usable_start f (Some (Logical j x y)) t i c = ap (λ t. is_present (start_standing t)) i
 usable_start f (Some _) t i (inl c) = absurd (true≢false (sym c))
 usable_start f (Some _) t i (inr c) = absurd (true≢false (sym c))
 usable_start f None t i (inl c) = absurd (true≢false (sym c))
@@ -107,8 +107,8 @@ used_start : (c : Call) (e : Option Expression) (o o' : Option Value) → o ≡ 
 used_start c (Some (Constant v)) o o' q t = sym q
 used_start c (Some (Operator w xs)) o o' q t = refl
 used_start c (Some (Access x y)) o o' q t = refl
-used_start c (Some (Select x y)) o o' q t = refl
-used_start c (Some (Junct j x y)) o o' q t = refl
+used_start c (Some (AccessIndex x y)) o o' q t = refl
+used_start c (Some (Logical j x y)) o o' q t = refl
 used_start c (Some _) o o' q (inl t) = absurd (true≢false (sym t))
 used_start c (Some _) o o' q (inr t) = absurd (true≢false (sym t))
 used_start c None o o' q (inl t) = absurd (true≢false (sym t))

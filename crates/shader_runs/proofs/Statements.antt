@@ -1,4 +1,4 @@
--- Both runs of each statement, in step.
+-- LogicalOf runs of each statement, in step.
 use Rattle.std.proofs.Common.{◌≡◌, ℕ, Bool, true, false, cond, List, [], ◌∷◌, ◌++◌, Option, Some, None, ◌||◌, refl, sym, ap, ap₂, ◌∙◌, subst, true≢false}
 use Rattle.std.specs.Prelude.{IsTrue, ℤ}
 use Rattle.shader_runs.specs.Value.{Bytes, has_type, has_types, Value}

@@ -3,13 +3,13 @@ use Rattle.std.proofs.Common.{◌≡◌, ◌≢◌, ◌⊎◌, inl, inr, ℕ, ze
 use Rattle.std.specs.Prelude.{IsTrue}
 use Rattle.std.proofs.lemmas.Bool.{eqb-false}
 use Rattle.std.proofs.lemmas.Option.{slice_get_within}
-use Rattle.shader_runs.specs.Value.{Rooted, GlobalRoot, Part, At, Selector, MemberNamed, ElementAt, step_of, ValueType, BooleanType, IntegerType, PointerType, OtherType, type_of, same_type, has_type, has_types, same_bytes, Value, Truth, Whole, Pointer, Opaque, Word, Spelled, Selected, Indexed, Junction, junction_word}
+use Rattle.shader_runs.specs.Value.{Rooted, GlobalRoot, Part, At, Selector, MemberNamed, ElementAt, step_of, ValueType, BooleanType, IntegerType, PointerType, OtherType, type_of, same_type, has_type, has_types, same_bytes, Value, Truth, Whole, Pointer, Opaque, Word, Spelled, PartWord, IndexWord, ShortCircuit, short_circuit_word}
 use Rattle.shader_runs.specs.World.{Meaning}
-use Rattle.shader_runs.specs.Program.{ConstantTree, Fixed, NamedConstant, Constructed, ConstantTrees, no_constant, constant, Expression, Constant, Operator, Access, Select, Junct, Request, Function, expression_of, handle_type, operands_of, Module}
-use Rattle.shader_runs.specs.ProgramRun.{accessed, selected, decides, undecided, combined}
+use Rattle.shader_runs.specs.Program.{ConstantTree, Fixed, NamedConstant, Constructed, ConstantTrees, no_constant, constant, Expression, Constant, Operator, Access, AccessIndex, Logical, Request, Function, expression_of, handle_type, operands_of, Module}
+use Rattle.shader_runs.specs.ProgramRun.{index_value_of, part_value, decides, undecided, combined}
 use Rattle.shader_runs.specs.Scope.{is_pure}
 use Rattle.shader_runs.specs.Premises.{constant_types_of, handle_types, ConstantTyped, ConstantsTyped, LeafTyped, IsTypedIn, AllTypedIn}
-use Rattle.shader_runs.specs.Typing.{Signature, constant_signatures, constants_signatures, signatures_of, IsOneOf, first_of, later_of, IsSpelled, AccessFits, SelectFits, JunctFits, PartsFit, IsConsistent}
+use Rattle.shader_runs.specs.Typing.{Signature, constant_signatures, constants_signatures, signatures_of, IsOneOf, first_of, later_of, IsSpelled, AccessFits, AccessIndexFits, LogicalFits, PartsFit, IsConsistent}
 use Rattle.shader_runs.specs.Correct.{HasTypedMeaning}
 use Rattle.shader_runs.proofs.Update.{and_left, and_right, and_both, same_bytes_true, same_bytes_self, same_type_true, same_type_self}
 use Rattle.shader_runs.proofs.Evaluation.{not_pointer, not_pointer_type, typed_not_pointer}
@@ -43,25 +43,25 @@ same_selector_self (ElementAt i) = eq-eqb i i refl
 
 abbrev same_word : Word → Word → Bool
 same_word (Spelled a) (Spelled b) = same_bytes a b
-same_word (Selected a) (Selected b) = same_selector a b
-same_word Indexed Indexed = true
+same_word (PartWord a) (PartWord b) = same_selector a b
+same_word IndexWord IndexWord = true
 same_word _ _ = false
 
 same_word_true : (a b : Word) → IsTrue (same_word a b) → a ≡ b
 same_word_true (Spelled a) (Spelled b) e = ap Spelled (same_bytes_true a b e)
-same_word_true (Spelled a) (Selected b) e = absurd (true≢false (sym e))
-same_word_true (Spelled a) Indexed e = absurd (true≢false (sym e))
-same_word_true (Selected a) (Spelled b) e = absurd (true≢false (sym e))
-same_word_true (Selected a) (Selected b) e = ap Selected (same_selector_true a b e)
-same_word_true (Selected a) Indexed e = absurd (true≢false (sym e))
-same_word_true Indexed (Spelled b) e = absurd (true≢false (sym e))
-same_word_true Indexed (Selected b) e = absurd (true≢false (sym e))
-same_word_true Indexed Indexed e = refl
+same_word_true (Spelled a) (PartWord b) e = absurd (true≢false (sym e))
+same_word_true (Spelled a) IndexWord e = absurd (true≢false (sym e))
+same_word_true (PartWord a) (Spelled b) e = absurd (true≢false (sym e))
+same_word_true (PartWord a) (PartWord b) e = ap PartWord (same_selector_true a b e)
+same_word_true (PartWord a) IndexWord e = absurd (true≢false (sym e))
+same_word_true IndexWord (Spelled b) e = absurd (true≢false (sym e))
+same_word_true IndexWord (PartWord b) e = absurd (true≢false (sym e))
+same_word_true IndexWord IndexWord e = refl
 
 same_word_self : (a : Word) → IsTrue (same_word a a)
 same_word_self (Spelled a) = same_bytes_self a
-same_word_self (Selected a) = same_selector_self a
-same_word_self Indexed = refl
+same_word_self (PartWord a) = same_selector_self a
+same_word_self IndexWord = refl
 
 abbrev same_types : List ValueType → List ValueType → Bool
 same_types [] [] = true
@@ -284,17 +284,17 @@ module _ (p : Module) (consistent : IsConsistent p) where
     pair_typed : (a b : ValueType) (x y : Value) → IsTrue (has_type a x) → IsTrue (has_type b y) → IsTrue (has_types (a ∷ b ∷ []) (x ∷ y ∷ []))
     pair_typed a b x y h k = and_both (has_type a x) (has_types (b ∷ []) (y ∷ [])) h (and_both (has_type b y) true k refl)
 
-    accessed_value : (x y : Value) → IsTrue (not_pointer x) → accessed m x y ≡ Some (m Indexed (x ∷ y ∷ []))
-    accessed_value (Truth b) y n = refl
-    accessed_value (Whole s z) y n = refl
-    accessed_value (Opaque s z) y n = refl
-    accessed_value (Pointer q) y n = absurd (true≢false (sym n))
+    index_value_is : (x y : Value) → IsTrue (not_pointer x) → index_value_of m x y ≡ Some (m IndexWord (x ∷ y ∷ []))
+    index_value_is (Truth b) y n = refl
+    index_value_is (Whole s z) y n = refl
+    index_value_is (Opaque s z) y n = refl
+    index_value_is (Pointer q) y n = absurd (true≢false (sym n))
 
-    selected_value : (x : Selector) (b : Value) → IsTrue (not_pointer b) → selected m x b ≡ Some (m (Selected x) (b ∷ []))
-    selected_value x (Truth b) n = refl
-    selected_value x (Whole s z) n = refl
-    selected_value x (Opaque s z) n = refl
-    selected_value x (Pointer q) n = absurd (true≢false (sym n))
+    part_value_is : (x : Selector) (b : Value) → IsTrue (not_pointer b) → part_value m x b ≡ Some (m (PartWord x) (b ∷ []))
+    part_value_is x (Truth b) n = refl
+    part_value_is x (Whole s z) n = refl
+    part_value_is x (Opaque s z) n = refl
+    part_value_is x (Pointer q) n = absurd (true≢false (sym n))
 
     access_pointer : (i k : ValueType) → AccessFits PointerType i k → (b j : ℕ) (x y : Value) → IsTrue (has_type PointerType x) → IsTrue (has_type i y) → Gives_typed k (Some (Access b j)) (x ∷ y ∷ [])
     access_pointer (IntegerType s) PointerType w b j (Pointer q) (Whole t z) h l = (Pointer (Part q (At z)), refl, refl)
@@ -311,70 +311,70 @@ module _ (p : Module) (consistent : IsConsistent p) where
     access_pointer PointerType k w b j (Pointer q) y h l = absurd w
     access_pointer (OtherType s) k w b j (Pointer q) y h l = absurd w
 
-    access_other : (a i k : ValueType) → IsTrue (not_pointer_type a) → ((vs : List Value) → IsTrue (has_types (a ∷ i ∷ []) vs) → IsTrue (has_type k (m Indexed vs))) → (b j : ℕ) (x y : Value) → IsTrue (has_type a x) → IsTrue (has_type i y) → Gives_typed k (Some (Access b j)) (x ∷ y ∷ [])
+    access_other : (a i k : ValueType) → IsTrue (not_pointer_type a) → ((vs : List Value) → IsTrue (has_types (a ∷ i ∷ []) vs) → IsTrue (has_type k (m IndexWord vs))) → (b j : ℕ) (x y : Value) → IsTrue (has_type a x) → IsTrue (has_type i y) → Gives_typed k (Some (Access b j)) (x ∷ y ∷ [])
     access_other a i k n g b j x y h l =
-        (m Indexed (x ∷ y ∷ []), accessed_value x y (typed_not_pointer a x n h), g (x ∷ y ∷ []) (pair_typed a i x y h l))
+        (m IndexWord (x ∷ y ∷ []), index_value_is x y (typed_not_pointer a x n h), g (x ∷ y ∷ []) (pair_typed a i x y h l))
 
-    access_typed : (a i k : ValueType) → AccessFits a i k → ((vs : List Value) → IsTrue (has_types (a ∷ i ∷ []) vs) → IsTrue (has_type k (m Indexed vs))) → (b j : ℕ) (x y : Value) → IsTrue (has_type a x) → IsTrue (has_type i y) → Gives_typed k (Some (Access b j)) (x ∷ y ∷ [])
+    access_typed : (a i k : ValueType) → AccessFits a i k → ((vs : List Value) → IsTrue (has_types (a ∷ i ∷ []) vs) → IsTrue (has_type k (m IndexWord vs))) → (b j : ℕ) (x y : Value) → IsTrue (has_type a x) → IsTrue (has_type i y) → Gives_typed k (Some (Access b j)) (x ∷ y ∷ [])
     access_typed PointerType i k w g b j x y h l = access_pointer i k w b j x y h l
     access_typed BooleanType i k w g b j x y h l = access_other BooleanType i k refl g b j x y h l
     access_typed (IntegerType s) i k w g b j x y h l = access_other (IntegerType s) i k refl g b j x y h l
     access_typed (OtherType s) i k w g b j x y h l = access_other (OtherType s) i k refl g b j x y h l
 
-    select_other : (x : Selector) (a k : ValueType) → IsTrue (not_pointer_type a) → ((vs : List Value) → IsTrue (has_types (a ∷ []) vs) → IsTrue (has_type k (m (Selected x) vs))) → (b : ℕ) (y : Value) → IsTrue (has_type a y) → Gives_typed k (Some (Select x b)) (y ∷ [])
-    select_other x a k n g b y h =
-        (m (Selected x) (y ∷ []), selected_value x y (typed_not_pointer a y n h), g (y ∷ []) (and_both (has_type a y) true h refl))
+    part_other : (x : Selector) (a k : ValueType) → IsTrue (not_pointer_type a) → ((vs : List Value) → IsTrue (has_types (a ∷ []) vs) → IsTrue (has_type k (m (PartWord x) vs))) → (b : ℕ) (y : Value) → IsTrue (has_type a y) → Gives_typed k (Some (AccessIndex x b)) (y ∷ [])
+    part_other x a k n g b y h =
+        (m (PartWord x) (y ∷ []), part_value_is x y (typed_not_pointer a y n h), g (y ∷ []) (and_both (has_type a y) true h refl))
 
-    select_pointer : (x : Selector) (k : ValueType) → k ≡ PointerType → (b : ℕ) (y : Value) → IsTrue (has_type PointerType y) → Gives_typed k (Some (Select x b)) (y ∷ [])
-    select_pointer x k w b (Pointer q) h = (Pointer (Part q (step_of x)), refl, ap (λ k. has_type k (Pointer (Part q (step_of x)))) w)
-    select_pointer x k w b (Truth q) h = absurd (true≢false (sym h))
-    select_pointer x k w b (Whole q z) h = absurd (true≢false (sym h))
-    select_pointer x k w b (Opaque q z) h = absurd (true≢false (sym h))
+    part_pointer : (x : Selector) (k : ValueType) → k ≡ PointerType → (b : ℕ) (y : Value) → IsTrue (has_type PointerType y) → Gives_typed k (Some (AccessIndex x b)) (y ∷ [])
+    part_pointer x k w b (Pointer q) h = (Pointer (Part q (step_of x)), refl, ap (λ k. has_type k (Pointer (Part q (step_of x)))) w)
+    part_pointer x k w b (Truth q) h = absurd (true≢false (sym h))
+    part_pointer x k w b (Whole q z) h = absurd (true≢false (sym h))
+    part_pointer x k w b (Opaque q z) h = absurd (true≢false (sym h))
 
-    select_typed : (x : Selector) (a k : ValueType) → SelectFits a k → ((vs : List Value) → IsTrue (has_types (a ∷ []) vs) → IsTrue (has_type k (m (Selected x) vs))) → (b : ℕ) (y : Value) → IsTrue (has_type a y) → Gives_typed k (Some (Select x b)) (y ∷ [])
-    select_typed x PointerType k w g b y h = select_pointer x k w b y h
-    select_typed x BooleanType k w g b y h = select_other x BooleanType k refl g b y h
-    select_typed x (IntegerType s) k w g b y h = select_other x (IntegerType s) k refl g b y h
-    select_typed x (OtherType s) k w g b y h = select_other x (OtherType s) k refl g b y h
+    part_typed : (x : Selector) (a k : ValueType) → AccessIndexFits a k → ((vs : List Value) → IsTrue (has_types (a ∷ []) vs) → IsTrue (has_type k (m (PartWord x) vs))) → (b : ℕ) (y : Value) → IsTrue (has_type a y) → Gives_typed k (Some (AccessIndex x b)) (y ∷ [])
+    part_typed x PointerType k w g b y h = part_pointer x k w b y h
+    part_typed x BooleanType k w g b y h = part_other x BooleanType k refl g b y h
+    part_typed x (IntegerType s) k w g b y h = part_other x (IntegerType s) k refl g b y h
+    part_typed x (OtherType s) k w g b y h = part_other x (OtherType s) k refl g b y h
 
     -- what `&&` or `||` gives behind a truth value
-    truths_typed : (j : Junction) (t k : ValueType) → k ≡ BooleanType → ((vs : List Value) → IsTrue (has_types (BooleanType ∷ t ∷ []) vs) → IsTrue (has_type k (m (Spelled (junction_word j)) vs))) → (a : Bool) (y : Value) → IsTrue (has_type t y) → IsTrue (has_type k (undecided m j (Truth a) y))
+    truths_typed : (j : ShortCircuit) (t k : ValueType) → k ≡ BooleanType → ((vs : List Value) → IsTrue (has_types (BooleanType ∷ t ∷ []) vs) → IsTrue (has_type k (m (Spelled (short_circuit_word j)) vs))) → (a : Bool) (y : Value) → IsTrue (has_type t y) → IsTrue (has_type k (undecided m j (Truth a) y))
     truths_typed j t k w g a (Truth b) l = ap (λ k. has_type k (Truth b)) w
     truths_typed j t k w g a (Whole s z) l = g (Truth a ∷ Whole s z ∷ []) (pair_typed BooleanType t (Truth a) (Whole s z) refl l)
     truths_typed j t k w g a (Pointer s) l = g (Truth a ∷ Pointer s ∷ []) (pair_typed BooleanType t (Truth a) (Pointer s) refl l)
     truths_typed j t k w g a (Opaque s z) l = g (Truth a ∷ Opaque s z ∷ []) (pair_typed BooleanType t (Truth a) (Opaque s z) refl l)
 
-    truth_cases : (j : Junction) (t k : ValueType) → k ≡ BooleanType → ((vs : List Value) → IsTrue (has_types (BooleanType ∷ t ∷ []) vs) → IsTrue (has_type k (m (Spelled (junction_word j)) vs))) → (d a : Bool) (y : Value) → IsTrue (has_type t y) → IsTrue (has_type k (cond d (Truth a) (undecided m j (Truth a) y)))
+    truth_cases : (j : ShortCircuit) (t k : ValueType) → k ≡ BooleanType → ((vs : List Value) → IsTrue (has_types (BooleanType ∷ t ∷ []) vs) → IsTrue (has_type k (m (Spelled (short_circuit_word j)) vs))) → (d a : Bool) (y : Value) → IsTrue (has_type t y) → IsTrue (has_type k (cond d (Truth a) (undecided m j (Truth a) y)))
     truth_cases j t k w g true a y l = ap (λ k. has_type k (Truth a)) w
     truth_cases j t k w g false a y l = truths_typed j t k w g a y l
 
-    boolean_of : (a k : ValueType) → JunctFits a k → (b : Bool) → IsTrue (has_type a (Truth b)) → (a ≡ BooleanType) × (k ≡ BooleanType)
+    boolean_of : (a k : ValueType) → LogicalFits a k → (b : Bool) → IsTrue (has_type a (Truth b)) → (a ≡ BooleanType) × (k ≡ BooleanType)
     boolean_of BooleanType k w b h = (refl, w)
     boolean_of (IntegerType s) k w b h = absurd (true≢false (sym h))
     boolean_of PointerType k w b h = absurd (true≢false (sym h))
     boolean_of (OtherType s) k w b h = absurd (true≢false (sym h))
 
-    junct_typed : (j : Junction) (a t k : ValueType) → JunctFits a k → ((vs : List Value) → IsTrue (has_types (a ∷ t ∷ []) vs) → IsTrue (has_type k (m (Spelled (junction_word j)) vs))) → (x y : Value) → IsTrue (has_type a x) → IsTrue (has_type t y) → IsTrue (has_type k (cond (decides j x) x (undecided m j x y)))
-    junct_typed j a t k w g (Truth b) y h l =
+    logical_typed : (j : ShortCircuit) (a t k : ValueType) → LogicalFits a k → ((vs : List Value) → IsTrue (has_types (a ∷ t ∷ []) vs) → IsTrue (has_type k (m (Spelled (short_circuit_word j)) vs))) → (x y : Value) → IsTrue (has_type a x) → IsTrue (has_type t y) → IsTrue (has_type k (cond (decides j x) x (undecided m j x y)))
+    logical_typed j a t k w g (Truth b) y h l =
         let q = boolean_of a k w b h in
-        truth_cases j t k q.1 (subst (λ a. (vs : List Value) → IsTrue (has_types (a ∷ t ∷ []) vs) → IsTrue (has_type k (m (Spelled (junction_word j)) vs))) q.0 g) (decides j (Truth b)) b y l
-    junct_typed j a t k w g (Whole s z) y h l = g (Whole s z ∷ y ∷ []) (pair_typed a t (Whole s z) y h l)
-    junct_typed j a t k w g (Pointer s) y h l = g (Pointer s ∷ y ∷ []) (pair_typed a t (Pointer s) y h l)
-    junct_typed j a t k w g (Opaque s z) y h l = g (Opaque s z ∷ y ∷ []) (pair_typed a t (Opaque s z) y h l)
+        truth_cases j t k q.1 (subst (λ a. (vs : List Value) → IsTrue (has_types (a ∷ t ∷ []) vs) → IsTrue (has_type k (m (Spelled (short_circuit_word j)) vs))) q.0 g) (decides j (Truth b)) b y l
+    logical_typed j a t k w g (Whole s z) y h l = g (Whole s z ∷ y ∷ []) (pair_typed a t (Whole s z) y h l)
+    logical_typed j a t k w g (Pointer s) y h l = g (Pointer s ∷ y ∷ []) (pair_typed a t (Pointer s) y h l)
+    logical_typed j a t k w g (Opaque s z) y h l = g (Opaque s z ∷ y ∷ []) (pair_typed a t (Opaque s z) y h l)
 
     operator_fits : (h : ℕ) (e : Option Expression) → PartsFit f (handle_type f h) e → ((x : Signature) → IsOneOf x (signatures_of p f (handle_type f h) e) → IsHere h x) → IsTrue (is_pure e) → (vs : List Value) → IsTrue (has_types (handle_types f (operands_of e)) vs) → Gives_typed (handle_type f h) e vs
     operator_fits h (Some (Operator w xs)) fit at q vs t =
         let x : Signature = record { word = Spelled w; operands = handle_types f xs; result = handle_type f h } in
         (m (Spelled w) vs, refl, spelled_typed x (spelled h x (at x first_of)) vs t)
     operator_fits h (Some (Access b i)) fit at q vs t =
-        let x : Signature = record { word = Indexed; operands = handle_types f (b ∷ i ∷ []); result = handle_type f h } in
+        let x : Signature = record { word = IndexWord; operands = handle_types f (b ∷ i ∷ []); result = handle_type f h } in
         by_pair (handle_type f h) (handle_type f b) (handle_type f i) (Some (Access b i)) (access_typed (handle_type f b) (handle_type f i) (handle_type f h) fit (λ vs k. spelled_typed x (spelled h x (at x first_of)) vs k) b i) vs t
-    operator_fits h (Some (Select s b)) fit at q vs t =
-        let x : Signature = record { word = Selected s; operands = handle_types f (b ∷ []); result = handle_type f h } in
-        by_one (handle_type f h) (handle_type f b) (Some (Select s b)) (select_typed s (handle_type f b) (handle_type f h) fit (λ vs k. spelled_typed x (spelled h x (at x first_of)) vs k) b) vs t
-    operator_fits h (Some (Junct j l r)) fit at q vs t =
-        let x : Signature = record { word = Spelled (junction_word j); operands = handle_types f (l ∷ r ∷ []); result = handle_type f h } in
-        by_pair (handle_type f h) (handle_type f l) (handle_type f r) (Some (Junct j l r)) (λ a b ta tb. (cond (decides j a) a (undecided m j a b), refl, junct_typed j (handle_type f l) (handle_type f r) (handle_type f h) fit (λ vs k. spelled_typed x (spelled h x (at x first_of)) vs k) a b ta tb)) vs t
+    operator_fits h (Some (AccessIndex s b)) fit at q vs t =
+        let x : Signature = record { word = PartWord s; operands = handle_types f (b ∷ []); result = handle_type f h } in
+        by_one (handle_type f h) (handle_type f b) (Some (AccessIndex s b)) (part_typed s (handle_type f b) (handle_type f h) fit (λ vs k. spelled_typed x (spelled h x (at x first_of)) vs k) b) vs t
+    operator_fits h (Some (Logical j l r)) fit at q vs t =
+        let x : Signature = record { word = Spelled (short_circuit_word j); operands = handle_types f (l ∷ r ∷ []); result = handle_type f h } in
+        by_pair (handle_type f h) (handle_type f l) (handle_type f r) (Some (Logical j l r)) (λ a b ta tb. (cond (decides j a) a (undecided m j a b), refl, logical_typed j (handle_type f l) (handle_type f r) (handle_type f h) fit (λ vs k. spelled_typed x (spelled h x (at x first_of)) vs k) a b ta tb)) vs t
     operator_fits h (Some _) fit at q vs t = absurd (true≢false (sym q))
     operator_fits h None fit at q vs t = absurd (true≢false (sym q))
 

@@ -4,7 +4,7 @@ use Rattle.std.specs.Prelude.{IsTrue}
 use Rattle.shader_runs.specs.Value.{Bytes, Place, ValueType, BooleanType, has_type, Value, Truth, Whole, Pointer, Opaque}
 use Rattle.shader_runs.specs.World.{Event, Entry, Ask, Read, Write, Discard, entries, World, Meaning, Environment, update}
 use Rattle.shader_runs.specs.Outcome.{Stop, Stuck, OutOfTurns, Discarded, Mistyped, Outcome, Done, Continued, Broke, Returned, Stopped, Reached, Gives, Halts, answer, Next, and_then, and_continue, within, turn, and_again, turns, after_switch, chosen, with_integer}
-use Rattle.shader_runs.specs.Program.{ConstantTrees, Expression, Constant, Argument, Local, Global, Load, Operator, Access, Select, Junct, Request, Action, Asked, Called, Label, Numbered, Statement, Emit, Store, Block, If, Switch, Loop, Break, Continue, Return, Kill, Barrier, Act, Statements, end, then, Cases, no_case, case, Function, argument_count, expression_of, handle_type, operands_of, is_counted, is_asked, from}
+use Rattle.shader_runs.specs.Program.{ConstantTrees, Expression, Constant, Argument, Local, Global, Load, Operator, Access, AccessIndex, Logical, Request, Action, Asked, Called, Label, Numbered, Statement, Emit, Store, Block, If, Switch, Loop, Break, Continue, Return, Kill, Barrier, Act, Statements, end, then, Cases, no_case, case, Function, argument_count, expression_of, handle_type, operands_of, is_counted, is_asked, from}
 use Rattle.shader_runs.specs.ProgramRun.{Call, Kept, constant_values, used, used_as, also, used_all, gathered, computed, joined, if_typed, keep_typed, with_used, loaded, asked, if_counted, emit_as, emit, with_pointer, leave, returned, acted, with_result, with_all, barrier_words, ask_each, same_label, has_label, label_if, run, run_all, run_cases, run_on, constants_kept, with_first, wrapped, first_used, first_used_all, entered, run_body, called, run_call}
 use Rattle.shader_runs.specs.Correct.{KeepsTypes, HasTypedWorld}
 use Rattle.shader_runs.proofs.Update.{update_cases}
@@ -295,8 +295,8 @@ module _ (f : Function) (cs : List Function) (env : Environment) (m : Meaning) (
       counted_makes (is_asked f h q) (λ b. asked (handle_type f h) (world_of b) h w (joined (used_all (c b) kept xs) (constant_values env m es))) kept t (asked_makes (handle_type f h) h w xs es kept t)
   emit_as_makes h (Some (Operator w xs)) kept t = pure_makes h (Some (Operator w xs)) kept t
   emit_as_makes h (Some (Access x y)) kept t = pure_makes h (Some (Access x y)) kept t
-  emit_as_makes h (Some (Select x y)) kept t = pure_makes h (Some (Select x y)) kept t
-  emit_as_makes h (Some (Junct j x y)) kept t = pure_makes h (Some (Junct j x y)) kept t
+  emit_as_makes h (Some (AccessIndex x y)) kept t = pure_makes h (Some (AccessIndex x y)) kept t
+  emit_as_makes h (Some (Logical j x y)) kept t = pure_makes h (Some (Logical j x y)) kept t
   emit_as_makes h (Some _) kept t = ends (Done kept t) tt
   emit_as_makes h None kept t = ends (Done kept t) tt
 

@@ -2,9 +2,9 @@
 use Rattle.std.proofs.Common.{◌≡◌, ℕ, zero, suc, ◌<◌, ◌≤◌, true, nat_lt, List, [], ◌∷◌, ◌++◌, length, Option, Some, None, slice_get, refl, sym, ap, ◌∙◌, subst, true≢false, arith, ltb-true}
 use Rattle.std.specs.Prelude.{IsTrue}
 use Rattle.std.proofs.lemmas.Option.{slice_get_within}
-use Rattle.shader_runs.specs.Value.{Bytes, Rooted, GlobalRoot, LocalRoot, Selector, Junction, ValueType, BooleanType, IntegerType, PointerType, OtherType, type_at, type_of, has_type, has_types, Value, Pointer, Spelled}
+use Rattle.shader_runs.specs.Value.{Bytes, Rooted, GlobalRoot, LocalRoot, Selector, ShortCircuit, ValueType, BooleanType, IntegerType, PointerType, OtherType, type_at, type_of, has_type, has_types, Value, Pointer, Spelled}
 use Rattle.shader_runs.specs.World.{Event, GlobalValue, Stored, Held, Environment, Meaning}
-use Rattle.shader_runs.specs.Program.{ConstantTree, Fixed, NamedConstant, Constructed, ConstantTrees, no_constant, constant, Expression, Constant, Argument, Local, Global, Load, Operator, Access, Select, Junct, Request, Result, argument_count, local_count, expression_of, handle_type, operands_of, Module}
+use Rattle.shader_runs.specs.Program.{ConstantTree, Fixed, NamedConstant, Constructed, ConstantTrees, no_constant, constant, Expression, Constant, Argument, Local, Global, Load, Operator, Access, AccessIndex, Logical, Request, Result, argument_count, local_count, expression_of, handle_type, operands_of, Module}
 use Rattle.shader_runs.specs.ProgramRun.{Call, Kept, constant_value, constant_values, global_value, used_as, used, also, used_all, joined, applied, combined, gathered, computed}
 use Rattle.shader_runs.specs.Text.{Name}
 use Rattle.shader_runs.specs.TextRun.{Scope, named, valued, responded, unhidden, followed_by, as_value, evaluate, evaluate_all, value_of, global_denoted}
@@ -14,7 +14,7 @@ use Rattle.shader_runs.specs.Premises.{FixedName, FixedKey, NumberedKey, GivenKe
 use Rattle.shader_runs.proofs.Alike.{reached, placed}
 use Rattle.shader_runs.proofs.Update.{and_left, and_right, and_both, same_type_self, has_types_length}
 use Rattle.shader_runs.proofs.Relation.{IsHere, NoName, TypedValue, global_as, Stands, Related}
-use Rattle.shader_runs.proofs.Evaluation.{naming, Respond, words, Responds, denoted, Means, some_same, value_form_gives, place_form_gives, AllMean, reached_all, followed_reached, value_forms_give, named_denoted, applied_reached, OneOf, one_of, TwoOf, two_of, one_there, two_there, access_means, select_means, junct_means}
+use Rattle.shader_runs.proofs.Evaluation.{naming, Respond, words, Responds, denoted, Means, some_same, value_form_gives, place_form_gives, AllMean, reached_all, followed_reached, value_forms_give, named_denoted, applied_reached, OneOf, one_of, TwoOf, two_of, one_there, two_there, access_means, part_means, logical_means}
 
 -- what a call owes to its function's text
 pub record Given (p : Module) (c : Call) (n : Names) (d : Respond) : Type 0 where
@@ -253,29 +253,29 @@ module _ (p : Module) (c : Call) (n : Names) (d : Respond) (given : Given p c n 
         go (two_of x j eb ei ev) =
             at_value (own_form (naming c n) operand k (Some (Access b i))) (Some v.0) o (sym v.1) (access_means c d names (handle_type c.function b) (operand b) (operand i) x j v.0 (at_value (operand b) (used c kept b) (Some x) eb m.0) (at_value (operand i) (used c kept i) (Some j) ei m.1.0) (base_typed b x u eb) ev)
 
-    select_there : (x : Selector) (b : ℕ) (k : ValueType) (o : Option Value) (y : ValueType) → TypedValue y o → o ≡ computed c kept (Some (Select x b)) → IsTrue (usable c.function s b) → AllMean c d names kept operand (b ∷ []) → Means c d names (own_form (naming c n) operand k (Some (Select x b))) o
-    select_there x b k o y v e u m = go (one_there c.meaning (Some (Select x b)) (used c kept b) v.0 (sym e ∙ v.1))
+    part_there : (x : Selector) (b : ℕ) (k : ValueType) (o : Option Value) (y : ValueType) → TypedValue y o → o ≡ computed c kept (Some (AccessIndex x b)) → IsTrue (usable c.function s b) → AllMean c d names kept operand (b ∷ []) → Means c d names (own_form (naming c n) operand k (Some (AccessIndex x b))) o
+    part_there x b k o y v e u m = go (one_there c.meaning (Some (AccessIndex x b)) (used c kept b) v.0 (sym e ∙ v.1))
       where
-        go : OneOf c.meaning (Some (Select x b)) (used c kept b) v.0 → Means c d names (own_form (naming c n) operand k (Some (Select x b))) o
+        go : OneOf c.meaning (Some (AccessIndex x b)) (used c kept b) v.0 → Means c d names (own_form (naming c n) operand k (Some (AccessIndex x b))) o
         go (one_of z eb ev) =
-            at_value (own_form (naming c n) operand k (Some (Select x b))) (Some v.0) o (sym v.1) (select_means c d names (handle_type c.function b) x (operand b) z v.0 (at_value (operand b) (used c kept b) (Some z) eb m.0) (base_typed b z u eb) ev)
+            at_value (own_form (naming c n) operand k (Some (AccessIndex x b))) (Some v.0) o (sym v.1) (part_means c d names (handle_type c.function b) x (operand b) z v.0 (at_value (operand b) (used c kept b) (Some z) eb m.0) (base_typed b z u eb) ev)
 
-    junct_there : (j : Junction) (a b : ℕ) (k : ValueType) (o : Option Value) (y : ValueType) → TypedValue y o → o ≡ computed c kept (Some (Junct j a b)) → AllMean c d names kept operand (a ∷ b ∷ []) → Means c d names (own_form (naming c n) operand k (Some (Junct j a b))) o
-    junct_there j a b k o y v e m =
-        go (two_there c.meaning (Some (Junct j a b)) (used c kept a) (used c kept b) v.0 (sym e ∙ v.1))
+    logical_there : (j : ShortCircuit) (a b : ℕ) (k : ValueType) (o : Option Value) (y : ValueType) → TypedValue y o → o ≡ computed c kept (Some (Logical j a b)) → AllMean c d names kept operand (a ∷ b ∷ []) → Means c d names (own_form (naming c n) operand k (Some (Logical j a b))) o
+    logical_there j a b k o y v e m =
+        go (two_there c.meaning (Some (Logical j a b)) (used c kept a) (used c kept b) v.0 (sym e ∙ v.1))
       where
-        go : TwoOf c.meaning (Some (Junct j a b)) (used c kept a) (used c kept b) v.0 → Means c d names (own_form (naming c n) operand k (Some (Junct j a b))) o
+        go : TwoOf c.meaning (Some (Logical j a b)) (used c kept a) (used c kept b) v.0 → Means c d names (own_form (naming c n) operand k (Some (Logical j a b))) o
         go (two_of l z ea eb ev) =
-            at_value (own_form (naming c n) operand k (Some (Junct j a b))) _ o (ev ∙ sym v.1) (junct_means c d names j (operand a) (operand b) l z (at_value (operand a) (used c kept a) (Some l) ea m.0) (at_value (operand b) (used c kept b) (Some z) eb m.1.0))
+            at_value (own_form (naming c n) operand k (Some (Logical j a b))) _ o (ev ∙ sym v.1) (logical_means c d names j (operand a) (operand b) l z (at_value (operand a) (used c kept a) (Some l) ea m.0) (at_value (operand b) (used c kept b) (Some z) eb m.1.0))
 
     -- an operator over operands in scope
     pub operator_there : (k y : ValueType) (e : Option Expression) → IsTrue (is_pure e) → WordFits p (naming c n) e → (o : Option Value) → TypedValue y o → o ≡ computed c kept e → IsTrue (usable_all c.function s (operands_of e)) → AllMean c d names kept operand (operands_of e) → Means c d names (own_form (naming c n) operand k e) o
     operator_there k y (Some (Operator w xs)) i f o v e u m = operator_means w xs f k o e m
     operator_there k y (Some (Access b x)) i f o v e u m =
         index_there b x k o y v e (and_left (usable c.function s b) (usable_all c.function s (x ∷ [])) u) m
-    operator_there k y (Some (Select x b)) i f o v e u m =
-        select_there x b k o y v e (and_left (usable c.function s b) true u) m
-    operator_there k y (Some (Junct j a b)) i f o v e u m = junct_there j a b k o y v e m
+    operator_there k y (Some (AccessIndex x b)) i f o v e u m =
+        part_there x b k o y v e (and_left (usable c.function s b) true u) m
+    operator_there k y (Some (Logical j a b)) i f o v e u m = logical_there j a b k o y v e m
     operator_there k y (Some _) i f o v e u m = absurd (true≢false (sym i))
     operator_there k y None i f o v e u m = absurd (true≢false (sym i))
 
@@ -290,8 +290,8 @@ module _ (p : Module) (c : Call) (n : Names) (d : Respond) (given : Given p c n 
     inline_there k (Some Result) f l o u us v q m = absurd (no_value k o v (q ∙ unwritten c.meaning (Some Result) (λ vs. refl) (used_all c kept [])))
     inline_there k (Some (Operator w xs)) f l o u us v q m = operator_there k k (Some (Operator w xs)) refl f o v q us m
     inline_there k (Some (Access b i)) f l o u us v q m = operator_there k k (Some (Access b i)) refl f o v q us m
-    inline_there k (Some (Select x b)) f l o u us v q m = operator_there k k (Some (Select x b)) refl f o v q us m
-    inline_there k (Some (Junct j a b)) f l o u us v q m = operator_there k k (Some (Junct j a b)) refl f o v q us m
+    inline_there k (Some (AccessIndex x b)) f l o u us v q m = operator_there k k (Some (AccessIndex x b)) refl f o v q us m
+    inline_there k (Some (Logical j a b)) f l o u us v q m = operator_there k k (Some (Logical j a b)) refl f o v q us m
     inline_there k None f l o u us v q m = absurd (true≢false (sym u))
 
     -- a leaf, which is in scope everywhere

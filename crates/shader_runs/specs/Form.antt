@@ -1,9 +1,9 @@
 -- The abstract text that is written for a module.
 use Rattle.std.specs.Prelude.{ℕ, zero, suc, Bool, true, false, List, [], ◌∷◌, ◌++◌, length, Option, Some, None}
 use Rattle.shader_runs.specs.Value.{Bytes, Selector, ValueType, PointerType, Truth}
-use Rattle.shader_runs.specs.Program.{ConstantTree, Fixed, NamedConstant, Constructed, ConstantTrees, no_constant, constant, Expression, Constant, Argument, Local, Global, Load, Operator, Access, Select, Junct, Request, Result, Action, Asked, Called, Label, Statement, Emit, Store, Block, If, Switch, Loop, Break, Continue, Return, Kill, Barrier, Act, Statements, end, then, Cases, no_case, case, Function, argument_count, expression_of, handle_type, binds, from, Module}
+use Rattle.shader_runs.specs.Program.{ConstantTree, Fixed, NamedConstant, Constructed, ConstantTrees, no_constant, constant, Expression, Constant, Argument, Local, Global, Load, Operator, Access, AccessIndex, Logical, Request, Result, Action, Asked, Called, Label, Statement, Emit, Store, Block, If, Switch, Loop, Break, Continue, Return, Kill, Barrier, Act, Statements, end, then, Cases, no_case, case, Function, argument_count, expression_of, handle_type, binds, from, Module}
 use Rattle.shader_runs.specs.ProgramRun.{barrier_words}
-use Rattle.shader_runs.specs.Text.{Tree, Name, Known, Apply, Deref, AddressOf, Index, Pick, Both, Trees, no_more, more, Line, Let, Assign, Braces, IfElse, SwitchOn, LoopOf, BreakLine, ContinueLine, ReturnLine, DiscardLine, Perform, Lines, last, before, Groups, no_group, group, Variable, TextFunction, TextModule}
+use Rattle.shader_runs.specs.Text.{Tree, Name, LiteralOf, Apply, Deref, AddressOf, Index, PartOf, LogicalOf, Trees, no_more, more, Line, Let, Assign, Braces, IfElse, SwitchOn, LoopOf, BreakLine, ContinueLine, ReturnLine, DiscardLine, Perform, Lines, last, before, Groups, no_group, group, Variable, TextFunction, TextModule}
 use Rattle.shader_runs.specs.Scope.{Standing, Named, Handles, ModuleNames, Names, Naming, bound_name, after_one, given_after, given_by, given_by_all, after, after_all, at_start}
 
 -- a plain form, a value or a reference
@@ -21,10 +21,12 @@ abbrev pub place_form : Plain → Tree
 place_form (AsValue e) = Deref e
 place_form (AsPlace e) = e
 
+-- operands in their value forms
 abbrev pub value_forms : (ℕ → Plain) → List ℕ → Trees
 value_forms operand [] = no_more
 value_forms operand (x ∷ xs) = more (value_form (operand x)) (value_forms operand xs)
 
+-- operands in their value forms, and what stands behind them
 abbrev pub value_forms_then : (ℕ → Plain) → List ℕ → Trees → Trees
 value_forms_then operand [] tail = tail
 value_forms_then operand (x ∷ xs) tail = more (value_form (operand x)) (value_forms_then operand xs tail)
@@ -34,13 +36,14 @@ abbrev pub access_form : ValueType → (base index : Plain) → Plain
 access_form PointerType b i = AsPlace (Index (place_form b) (value_form i))
 access_form _ b i = AsValue (Index (value_form b) (value_form i))
 
-abbrev pub select_form : ValueType → Selector → Plain → Plain
-select_form PointerType x b = AsPlace (Pick x (place_form b))
-select_form _ x b = AsValue (Pick x (value_form b))
+-- through a pointer a member or an element makes a reference
+abbrev pub part_form : ValueType → Selector → Plain → Plain
+part_form PointerType x b = AsPlace (PartOf x (place_form b))
+part_form _ x b = AsValue (PartOf x (value_form b))
 
 abbrev mutual
   pub constant_form : ModuleNames → ConstantTree → Tree
-  constant_form n (Fixed v) = Known v
+  constant_form n (Fixed v) = LiteralOf v
   constant_form n (NamedConstant i) = Name (n.constant i)
   constant_form n (Constructed w ty es) = Apply w (constant_forms n es)
 
@@ -62,11 +65,11 @@ own_form f operand k (Some (Global i)) = global_form k (Name (f.names.outer.glob
 own_form f operand k (Some (Load p)) = AsValue (place_form (operand p))
 own_form f operand k (Some (Operator w xs)) = AsValue (Apply w (value_forms operand xs))
 own_form f operand k (Some (Access b i)) = access_form (handle_type f.function b) (operand b) (operand i)
-own_form f operand k (Some (Select x b)) = select_form (handle_type f.function b) x (operand b)
-own_form f operand k (Some (Junct j l r)) = AsValue (Both j (value_form (operand l)) (value_form (operand r)))
+own_form f operand k (Some (AccessIndex x b)) = part_form (handle_type f.function b) x (operand b)
+own_form f operand k (Some (Logical j l r)) = AsValue (LogicalOf j (value_form (operand l)) (value_form (operand r)))
 own_form f operand k (Some (Request a w xs es)) = AsValue (Apply w (value_forms_then operand xs (constant_forms f.names.outer es)))
-own_form f operand k (Some Result) = AsValue (Known (Truth false))
-own_form f operand k None = AsValue (Known (Truth false))
+own_form f operand k (Some Result) = AsValue (LiteralOf (Truth false))
+own_form f operand k None = AsValue (LiteralOf (Truth false))
 
 -- a bound handle is written as its name
 abbrev pub standing_form : Standing → Plain → Plain
@@ -75,20 +78,24 @@ standing_form _ own = own
 
 -- the form of a handle below the bound
 abbrev pub written_below : Naming → Handles → ℕ → ℕ → Plain
-written_below f s zero h = AsValue (Known (Truth false))
+written_below f s zero h = AsValue (LiteralOf (Truth false))
 written_below f s (suc n) h =
     standing_form (s h) (own_form f (written_below f s n) (handle_type f.function h) (expression_of f.function h))
 
+-- a handle's form: its name where it is bound, else its expression over its operands' forms
 abbrev pub written : Naming → Handles → ℕ → Plain
 written f s h = written_below f s (length f.function.expressions) h
 
+-- a handle in a value's position
 abbrev pub value_at : Naming → Handles → ℕ → Tree
 value_at f s h = value_form (written f s h)
 
+-- a value, if one is wanted
 abbrev pub value_if : Naming → Handles → Option ℕ → Option Tree
 value_if f s None = None
 value_if f s (Some h) = Some (value_at f s h)
 
+-- a line where a name is bound
 abbrev pub let_if : Bool → Bytes → Tree → Lines → Lines
 let_if true x e tail = before (Let x e) tail
 let_if false x e tail = tail
@@ -99,14 +106,17 @@ lets f k [] s tail = tail
 lets f k (h ∷ hs) s tail =
     let_if (binds f.function h) (bound_name f k h) (value_form (own_form f (written f s) (handle_type f.function h) (expression_of f.function h))) (lets f (given_after f.function h k) hs (after_one f k h s) tail)
 
+-- what an action's line calls
 abbrev pub word_of : Names → Action → Bytes
 word_of n (Asked w) = w
 word_of n (Called g) = n.outer.function g
 
+-- a result is bound to its name
 abbrev pub act_line : Names → Option ℕ → Bytes → Trees → Line
 act_line n None w es = Perform w es
 act_line n (Some h) w es = Let (n.numbered h) (Apply w es)
 
+-- a line for each word
 abbrev pub perform_each : List Bytes → Lines → Lines
 perform_each [] tail = tail
 perform_each (w ∷ ws) tail = before (Perform w no_more) (perform_each ws tail)
@@ -154,6 +164,7 @@ variables_from f i [] = []
 variables_from f i (o ∷ os) =
     record { name = f.names.local_ i; first_value = value_if f (at_start f.function) o } ∷ variables_from f (suc i) os
 
+-- a function: its name, its parameters, its variables and its lines
 abbrev pub form_function : Naming → TextFunction
 form_function f =
     record {
@@ -163,10 +174,12 @@ form_function f =
       lines = form_all f 0 f.function.body (at_start f.function);
     }
 
+-- the functions of a module
 abbrev pub form_functions : List Naming → List TextFunction
 form_functions [] = []
 form_functions (f ∷ fs) = form_function f ∷ form_functions fs
 
+-- the functions without their names
 abbrev pub functions_of : List Naming → List Function
 functions_of [] = []
 functions_of (f ∷ fs) = f.function ∷ functions_of fs

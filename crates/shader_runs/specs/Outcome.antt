@@ -79,6 +79,7 @@ closed s (Broke _ t) = Broke s t
 closed s (Returned v t) = Returned v t
 closed s (Stopped x t) = Stopped x t
 
+-- the state from outside where the test holds
 abbrev pub closed_if : {S : Type 0} → Bool → S → Outcome S → Outcome S
 closed_if true s o = closed s o
 closed_if false s o = o

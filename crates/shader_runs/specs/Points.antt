@@ -31,6 +31,7 @@ call_of env w m turns f fs vs t =
       calls = run_call env w m turns (functions_of fs);
     }
 
+-- what words do in its text
 abbrev pub words_of : Module → ModuleNames → Environment → World → Meaning → (turns : ℕ) → List Naming → Words
 words_of p n env w m turns fs =
     record {

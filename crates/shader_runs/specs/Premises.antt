@@ -20,23 +20,27 @@ pub data NameKey : Type 0 where
   NumberedKey : ℕ → NameKey
   GivenKey : ℕ → NameKey
 
+-- the name itself
 abbrev pub fixed_name : Names → FixedName → Bytes
 fixed_name n (ArgumentName i) = n.argument i
 fixed_name n (LocalName i) = n.local_ i
 fixed_name n (ConstantName i) = n.outer.constant i
 fixed_name n (GlobalName i) = n.outer.global i
 
+-- the name itself
 abbrev pub name_at : Names → NameKey → Bytes
 name_at n (FixedKey x) = fixed_name n x
 name_at n (NumberedKey h) = n.numbered h
 name_at n (GivenKey k) = n.given k
 
+-- the function or the module has such an item
 abbrev pub IsFixedName : Module → Function → FixedName → Type 0
 IsFixedName p f (ArgumentName i) = i < argument_count f
 IsFixedName p f (LocalName i) = i < local_count f
 IsFixedName p f (ConstantName i) = i < length p.constant_types
 IsFixedName p f (GlobalName i) = i < length p.global_types
 
+-- the function uses such a name: a handle may have one, and given names are counted
 abbrev pub IsName : Module → Function → NameKey → Type 0
 IsName p f (FixedKey x) = IsFixedName p f x
 IsName p f (NumberedKey h) = Unit {0}
@@ -68,6 +72,7 @@ abbrev mutual
   ConstantsWords p f no_constant = Unit {0}
   ConstantsWords p f (constant e es) = ConstantWords p f e × ConstantsWords p f es
 
+-- the words of an expression
 abbrev pub WordFits : Module → Naming → Option Expression → Type 0
 WordFits p f (Some (Constant e)) = ConstantWords p f e
 WordFits p f (Some (Operator w xs)) = OperatesBy p f w
@@ -79,14 +84,17 @@ abbrev pub AllBelow : ℕ → List ℕ → Type 0
 AllBelow h [] = Unit {0}
 AllBelow h (x ∷ xs) = (x < h) × AllBelow h xs
 
+-- words that ask for events
 abbrev pub EachAsks : Module → Naming → List Bytes → Type 0
 EachAsks p f [] = Unit {0}
 EachAsks p f (w ∷ ws) = AsksBy p f w × EachAsks p f ws
 
+-- a handle that a statement gives
 abbrev pub IsResult : Option Expression → Type 0
 IsResult (Some Result) = Unit {0}
 IsResult _ = ⊥
 
+-- the types of handles
 abbrev pub handle_types : Function → List ℕ → List ValueType
 handle_types f [] = []
 handle_types f (x ∷ xs) = handle_type f x ∷ handle_types f xs
@@ -107,6 +115,7 @@ ActionFits p callees f (Asked w) xs r = AsksBy p f w
 ActionFits p callees f (Called g) xs r =
     (g < f.names.earlier) × IsNoName p f (f.names.outer.function g) × CallFits f.function (function_numbered callees g) xs r
 
+-- a result is given to a result handle
 abbrev pub ResultFits : Function → Option ℕ → Type 0
 ResultFits f None = Unit {0}
 ResultFits f (Some h) = IsResult (expression_of f h)
@@ -166,6 +175,7 @@ abbrev mutual
   ConstantsInRange p no_constant = Unit {0}
   ConstantsInRange p (constant e es) = ConstantInRange p e × ConstantsInRange p es
 
+-- a leaf has the type of its item
 abbrev pub LeafFits : Module → Function → ValueType → Option Expression → Type 0
 LeafFits p f k (Some (Constant e)) = ConstantInRange p e × (k ≡ constant_type p e)
 LeafFits p f k (Some (Argument i)) = k ≡ type_at f.argument_types i
@@ -186,6 +196,7 @@ abbrev mutual
   ConstantsTyped p m no_constant = Unit {0}
   ConstantsTyped p m (constant e es) = ConstantTyped p m e × ConstantsTyped p m es
 
+-- the operators in a leaf
 abbrev pub LeafTyped : Module → Meaning → Option Expression → Type 0
 LeafTyped p m (Some (Constant e)) = ConstantTyped p m e
 LeafTyped p m (Some (Request a w xs es)) = ConstantsTyped p m es
@@ -196,6 +207,7 @@ pub record IsTypedIn (p : Module) (m : Meaning) (f : Function) : Type 0 where
   pub constants : (h : ℕ) → LeafTyped p m (expression_of f h)
   pub operators : (h : ℕ) → IsTrue (is_pure (expression_of f h)) → (vs : List Value) → IsTrue (has_types (handle_types f (operands_of (expression_of f h))) vs) → (v : Value) × (combined m (expression_of f h) vs ≡ Some v) × IsTrue (has_type (handle_type f h) v)
 
+-- the operators of each function
 abbrev pub AllTypedIn : Module → Meaning → List Function → Type 0
 AllTypedIn p m [] = Unit {0}
 AllTypedIn p m (f ∷ fs) = IsTypedIn p m f × AllTypedIn p m fs
@@ -220,6 +232,7 @@ pub record FunctionFits (p : Module) (n : ModuleNames) (callees : List Function)
   pub distinct : AreDistinct p f
   pub scope : IsTrue (fits_function f)
 
+-- each function behind those before it
 abbrev pub AllFit : Module → ModuleNames → List Naming → Type 0
 AllFit p n [] = Unit {0}
 AllFit p n (f ∷ fs) = FunctionFits p n (functions_of fs) f × AllFit p n fs
@@ -231,6 +244,7 @@ global_has_type PointerType (Held v) = false
 global_has_type t Stored = false
 global_has_type t (Held v) = has_type t v
 
+-- as many variables as types, each as its type says
 abbrev pub globals_have_types : List ValueType → List GlobalValue → Bool
 globals_have_types [] [] = true
 globals_have_types [] (g ∷ gs) = false

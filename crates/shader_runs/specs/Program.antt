@@ -1,6 +1,6 @@
 -- A module as shapes: expressions in a list, statements that name them by their index.
 use Rattle.std.specs.Prelude.{ℕ, zero, suc, ℤ, Bool, true, false, cond, ◌-◌, ◌^◌, List, [], ◌∷◌, length, Option, Some, None, ◌||◌, nat_eq, nat_le, get_or, slice_get}
-use Rattle.shader_runs.specs.Value.{Bytes, Selector, Value, ValueType, type_at, Junction}
+use Rattle.shader_runs.specs.Value.{Bytes, Selector, Value, ValueType, type_at, ShortCircuit}
 
 mutual
   -- an expression over constants alone that no handle of the function names inside: a literal, a named constant or override,
@@ -28,8 +28,8 @@ pub data Expression : Type 0 where
   Load : (pointer : ℕ) → Expression
   Operator : (word : Bytes) → (operands : List ℕ) → Expression
   Access : (base index : ℕ) → Expression
-  Select : Selector → (base : ℕ) → Expression
-  Junct : Junction → (left right : ℕ) → Expression
+  AccessIndex : Selector → (base : ℕ) → Expression
+  Logical : ShortCircuit → (left right : ℕ) → Expression
   Request : Asking → (word : Bytes) → (operands : List ℕ) → (constants : ConstantTrees) → Expression
   Result : Expression
 
@@ -45,6 +45,7 @@ pub record BarrierBits : Type 0 where
   pub sub_group : Bool
   pub texture : Bool
 
+-- the value of a case
 pub data Label : Type 0 where
   Numbered : ℤ → Label
   Default : Label
@@ -84,9 +85,11 @@ pub record Function : Type 0 where
   pub given_names : List Bool
   pub body : Statements
 
+-- how many arguments it takes
 abbrev pub argument_count : Function → ℕ
 argument_count f = length f.argument_types
 
+-- how many locals it has
 abbrev pub local_count : Function → ℕ
 local_count f = length f.first_values
 
@@ -95,21 +98,25 @@ abbrev pub function_numbered : List Function → ℕ → Option Function
 function_numbered [] g = None
 function_numbered (f ∷ fs) g = cond (nat_eq g (length fs)) (Some f) (function_numbered fs g)
 
+-- the expression of a handle
 abbrev pub expression_of : Function → ℕ → Option Expression
 expression_of f h = slice_get f.expressions h
 
+-- the type of a handle
 abbrev pub handle_type : Function → ℕ → ValueType
 handle_type f h = type_at f.types h
 
+-- the handles that an expression is over
 abbrev pub operands_of : Option Expression → List ℕ
 operands_of (Some (Load p)) = p ∷ []
 operands_of (Some (Operator w xs)) = xs
 operands_of (Some (Access b i)) = b ∷ i ∷ []
-operands_of (Some (Select x b)) = b ∷ []
-operands_of (Some (Junct j l r)) = l ∷ r ∷ []
+operands_of (Some (AccessIndex x b)) = b ∷ []
+operands_of (Some (Logical j l r)) = l ∷ r ∷ []
 operands_of (Some (Request a w xs es)) = xs
 operands_of _ = []
 
+-- a front end named the handle
 abbrev pub is_given : Function → ℕ → Bool
 is_given f h = get_or f.given_names h false
 
@@ -131,11 +138,12 @@ abbrev pub binds_as : Function → ℕ → Option Expression → Bool
 binds_as f h (Some (Load p)) = is_counted f 1 h
 binds_as f h (Some (Request a w xs es)) = is_asked f h a
 binds_as f h (Some (Operator w xs)) = is_counted f 2 h
-binds_as f h (Some (Junct j l r)) = is_counted f 2 h
+binds_as f h (Some (Logical j l r)) = is_counted f 2 h
 binds_as f h (Some (Access b i)) = is_counted f greatest_count h
-binds_as f h (Some (Select x b)) = is_counted f greatest_count h
+binds_as f h (Some (AccessIndex x b)) = is_counted f greatest_count h
 binds_as f h _ = false
 
+-- a `let` binds the emitted handle
 abbrev pub binds : Function → ℕ → Bool
 binds f h = binds_as f h (expression_of f h)
 

@@ -1,9 +1,9 @@
 -- A module's run by handles: an emitted expression is evaluated once, and its value kept.
 use Rattle.std.specs.Prelude.{ℕ, zero, suc, ℤ, Bool, true, false, cond, nat_eq, List, [], ◌∷◌, ◌++◌, length, Option, Some, None, ◌||◌, slice_get, codes}
-use Rattle.shader_runs.specs.Value.{Bytes, same_integer, Place, Part, Rooted, GlobalRoot, LocalRoot, At, step_of, ValueType, has_type, Selector, Value, Truth, Whole, Pointer, Opaque, Word, Spelled, Selected, Indexed, Junction, junction_word, is_decided}
+use Rattle.shader_runs.specs.Value.{Bytes, same_integer, Place, Part, Rooted, GlobalRoot, LocalRoot, At, step_of, ValueType, has_type, Selector, Value, Truth, Whole, Pointer, Opaque, Word, Spelled, PartWord, IndexWord, ShortCircuit, short_circuit_word, is_decided}
 use Rattle.shader_runs.specs.World.{Event, Entry, Ask, Read, Write, Discard, entries, World, Meaning, GlobalValue, Stored, Held, Environment, update}
 use Rattle.shader_runs.specs.Outcome.{Stuck, Discarded, Mistyped, Outcome, Done, Continued, Broke, Returned, Stopped, Reached, Gives, Halts, answer, Next, and_then, turn, turns, after_switch, chosen, with_integer}
-use Rattle.shader_runs.specs.Program.{ConstantTree, Fixed, NamedConstant, Constructed, ConstantTrees, no_constant, constant, Expression, Constant, Argument, Local, Global, Load, Operator, Access, Select, Junct, Request, Action, Asked, Called, BarrierBits, Label, Numbered, Default, Statement, Emit, Store, Block, If, Switch, Loop, Break, Continue, Return, Kill, Barrier, Act, Statements, end, then, Cases, no_case, case, Function, argument_count, expression_of, handle_type, operands_of, is_counted, is_asked, from}
+use Rattle.shader_runs.specs.Program.{ConstantTree, Fixed, NamedConstant, Constructed, ConstantTrees, no_constant, constant, Expression, Constant, Argument, Local, Global, Load, Operator, Access, AccessIndex, Logical, Request, Action, Asked, Called, BarrierBits, Label, Numbered, Default, Statement, Emit, Store, Block, If, Switch, Loop, Break, Continue, Return, Kill, Barrier, Act, Statements, end, then, Cases, no_case, case, Function, argument_count, expression_of, handle_type, operands_of, is_counted, is_asked, from}
 
 -- one call of a function: callees are the functions before it and calls what they do, frame is the number of entries before it
 pub record Call : Type 0 where
@@ -16,14 +16,17 @@ pub record Call : Type 0 where
   pub frame : ℕ
   pub calls : ℕ → List Value → List Event → Reached (Option Value)
 
+-- the value kept for each handle
 abbrev pub Kept : Type 0
 Kept = ℕ → Option Value
 
+-- one more value, if all are there
 abbrev pub also : Option Value → Option (List Value) → Option (List Value)
 also None vs = None
 also (Some v) None = None
 also (Some v) (Some vs) = Some (v ∷ vs)
 
+-- an operator's value, if all its operands have theirs
 abbrev pub applied : Meaning → Word → Option (List Value) → Option Value
 applied m w None = None
 applied m w (Some vs) = Some (m w vs)
@@ -54,18 +57,22 @@ used_as c (Some (Global i)) kept = global_value i (slice_get c.environment.globa
 used_as c None kept = None
 used_as c _ kept = kept
 
+-- what a use of this handle takes
 abbrev pub used : Call → Kept → ℕ → Option Value
 used c kept h = used_as c (expression_of c.function h) (kept h)
 
+-- what uses of these handles take
 abbrev pub used_all : Call → Kept → List ℕ → Option (List Value)
 used_all c kept [] = Some []
 used_all c kept (x ∷ xs) = also (used c kept x) (used_all c kept xs)
 
+-- of one operand
 abbrev pub on_one : (Value → Option Value) → List Value → Option Value
 on_one f [] = None
 on_one f (x ∷ []) = f x
 on_one f (x ∷ y ∷ vs) = None
 
+-- of two operands
 abbrev pub on_two : (Value → Value → Option Value) → List Value → Option Value
 on_two f [] = None
 on_two f (x ∷ []) = None
@@ -73,44 +80,48 @@ on_two f (x ∷ y ∷ []) = f x y
 on_two f (x ∷ y ∷ z ∷ vs) = None
 
 -- an index through a pointer makes a pointer to the part; into another value it gives what the meaning says
-abbrev pub accessed : Meaning → Value → Value → Option Value
-accessed m (Pointer p) (Whole spelling z) = Some (Pointer (Part p (At z)))
-accessed m (Pointer p) (Truth b) = None
-accessed m (Pointer p) (Pointer q) = None
-accessed m (Pointer p) (Opaque spelling payload) = None
-accessed m v i = Some (m Indexed (v ∷ i ∷ []))
+abbrev pub index_value_of : Meaning → Value → Value → Option Value
+index_value_of m (Pointer p) (Whole spelling z) = Some (Pointer (Part p (At z)))
+index_value_of m (Pointer p) (Truth b) = None
+index_value_of m (Pointer p) (Pointer q) = None
+index_value_of m (Pointer p) (Opaque spelling payload) = None
+index_value_of m v i = Some (m IndexWord (v ∷ i ∷ []))
 
-abbrev pub selected : Meaning → Selector → Value → Option Value
-selected m x (Pointer p) = Some (Pointer (Part p (step_of x)))
-selected m x v = Some (m (Selected x) (v ∷ []))
+-- a member or an element through a pointer makes a pointer to the part; of another value it is what the meaning says
+abbrev pub part_value : Meaning → Selector → Value → Option Value
+part_value m x (Pointer p) = Some (Pointer (Part p (step_of x)))
+part_value m x v = Some (m (PartWord x) (v ∷ []))
 
 -- whether the left side's value decides
-abbrev pub decides : Junction → Value → Bool
+abbrev pub decides : ShortCircuit → Value → Bool
 decides j (Truth a) = is_decided j a
 decides j (Whole spelling z) = false
 decides j (Pointer p) = false
 decides j (Opaque spelling payload) = false
 
 -- where it doesn't: the right side's truth value, and what the meaning says of other values
-abbrev pub undecided : Meaning → Junction → Value → Value → Value
+abbrev pub undecided : Meaning → ShortCircuit → Value → Value → Value
 undecided m j (Truth a) (Truth b) = Truth b
-undecided m j l r = m (Spelled (junction_word j)) (l ∷ r ∷ [])
+undecided m j l r = m (Spelled (short_circuit_word j)) (l ∷ r ∷ [])
 
-abbrev pub juncted : Meaning → Junction → Value → Value → Option Value
-juncted m j l r = Some (cond (decides j l) l (undecided m j l r))
+-- `&&` and `||`
+abbrev pub logical_value : Meaning → ShortCircuit → Value → Value → Option Value
+logical_value m j l r = Some (cond (decides j l) l (undecided m j l r))
 
 -- an operator's value at its operands' values
 abbrev pub combined : Meaning → Option Expression → List Value → Option Value
 combined m (Some (Operator w xs)) vs = Some (m (Spelled w) vs)
-combined m (Some (Access b i)) vs = on_two (accessed m) vs
-combined m (Some (Select x b)) vs = on_one (selected m x) vs
-combined m (Some (Junct j l r)) vs = on_two (juncted m j) vs
+combined m (Some (Access b i)) vs = on_two (index_value_of m) vs
+combined m (Some (AccessIndex x b)) vs = on_one (part_value m x) vs
+combined m (Some (Logical j l r)) vs = on_two (logical_value m j) vs
 combined m _ vs = None
 
+-- an operator without all its operands has no value
 abbrev pub gathered : Meaning → Option Expression → Option (List Value) → Option Value
 gathered m e None = None
 gathered m e (Some vs) = combined m e vs
 
+-- an expression's value now, over the kept values
 abbrev pub computed : Call → Kept → Option Expression → Option Value
 computed c kept e = gathered c.meaning e (used_all c kept (operands_of e))
 
@@ -119,6 +130,7 @@ abbrev pub if_typed : {S : Type 0} → Bool → List Event → Outcome S → Out
 if_typed true t o = o
 if_typed false t o = Stopped Mistyped t
 
+-- an answer is kept, if it has its type
 abbrev pub keep_typed : ValueType → ℕ → Value → Next Kept
 keep_typed k h v kept t = if_typed (has_type k v) t (Done (update kept h (Some v)) t)
 
@@ -141,6 +153,7 @@ joined None us = None
 joined (Some vs) None = None
 joined (Some vs) (Some us) = Some (vs ++ us)
 
+-- a handle without its operands' values gets none
 abbrev pub asked : ValueType → World → ℕ → Bytes → Option (List Value) → Next Kept
 asked k w h word None kept t = Done (update kept h None) t
 asked k w h word (Some vs) kept t = keep_typed k h (w t (Ask word vs)) kept (Ask word vs ∷ t)
@@ -150,15 +163,17 @@ abbrev pub if_counted : Bool → Next Kept → Next Kept
 if_counted true next kept t = next kept t
 if_counted false next kept t = Done kept t
 
+-- an emitted expression: an event is asked for, an operator computed
 abbrev pub emit_as : Call → ℕ → Option Expression → Next Kept
 emit_as c h (Some (Load p)) kept t = if_counted (is_counted c.function 1 h) (loaded (handle_type c.function h) c.world h (used c kept p)) kept t
 emit_as c h (Some (Request a w xs es)) kept t = if_counted (is_asked c.function h a) (asked (handle_type c.function h) c.world h w (joined (used_all c kept xs) (constant_values c.environment c.meaning es))) kept t
 emit_as c h (Some (Operator w xs)) kept t = Done (update kept h (computed c kept (Some (Operator w xs)))) t
 emit_as c h (Some (Access b i)) kept t = Done (update kept h (computed c kept (Some (Access b i)))) t
-emit_as c h (Some (Select x b)) kept t = Done (update kept h (computed c kept (Some (Select x b)))) t
-emit_as c h (Some (Junct j l r)) kept t = Done (update kept h (computed c kept (Some (Junct j l r)))) t
+emit_as c h (Some (AccessIndex x b)) kept t = Done (update kept h (computed c kept (Some (AccessIndex x b)))) t
+emit_as c h (Some (Logical j l r)) kept t = Done (update kept h (computed c kept (Some (Logical j l r)))) t
 emit_as c h _ kept t = Done kept t
 
+-- handles are emitted in order
 abbrev pub emit : Call → List ℕ → Next Kept
 emit c [] kept t = Done kept t
 emit c (h ∷ hs) kept t = and_then (emit_as c h (expression_of c.function h) kept t) (emit c hs)
@@ -176,6 +191,7 @@ abbrev pub leave : Call → Option ℕ → Next Kept
 leave c None kept t = Done kept t
 leave c (Some h) kept t = with_used (used c kept h) t (λ v. chosen v t (Broke kept t) (Done kept t))
 
+-- what is returned
 abbrev pub returned : Call → Option ℕ → Next Kept
 returned c None kept t = Returned None t
 returned c (Some h) kept t = with_used (used c kept h) t (λ v. Returned (Some v) t)
@@ -194,10 +210,12 @@ with_result f (Asked w) (Some h) kept (Gives (Some v) t) = keep_typed (handle_ty
 with_result f (Called g) (Some h) kept (Gives (Some v) t) = Done (update kept h (Some v)) t
 with_result f a (Some h) kept (Halts x t) = Stopped x t
 
+-- goes on with all operands' values, or is stuck
 abbrev pub with_all : {S : Type 0} → Option (List Value) → List Event → (List Value → Outcome S) → Outcome S
 with_all None t go = Stopped Stuck t
 with_all (Some vs) t go = go vs
 
+-- the word of a set bit
 abbrev pub word_if : Bool → Bytes → List Bytes → List Bytes
 word_if true w ws = w ∷ ws
 word_if false w ws = ws
@@ -212,11 +230,13 @@ abbrev pub ask_each : List Bytes → Next Kept
 ask_each [] kept t = Done kept t
 ask_each (w ∷ ws) kept t = ask_each ws kept (Ask w [] ∷ t)
 
+-- the same case
 abbrev pub same_label : Label → Label → Bool
 same_label (Numbered y) (Numbered z) = same_integer y z
 same_label Default Default = true
 same_label _ _ = false
 
+-- some case has this label
 abbrev pub has_label : Label → Cases → Bool
 has_label x no_case = false
 has_label x (case l b falls cs) = same_label x l || has_label x cs
@@ -260,10 +280,12 @@ abbrev mutual
   run_on c n (case l b falls cs) kept t =
       and_then (run_all c n b kept t) (λ kept1 t1. cond falls (run_on c n cs kept1 t1) (Done kept1 t1))
 
+-- all values, if they are there
 abbrev pub all_of : (ℕ → Option Value) → List ℕ → Option (List Value)
 all_of value [] = Some []
 all_of value (x ∷ xs) = also (value x) (all_of value xs)
 
+-- a constant's own value, or what its operands give
 abbrev pub or_constant : Environment → Meaning → Option Expression → Option Value → Option Value
 or_constant env m (Some (Constant e)) o = constant_value env m e
 or_constant env m _ o = o
@@ -272,6 +294,7 @@ or_constant env m _ o = o
 abbrev pub constant_as : Environment → Meaning → (ℕ → Option Value) → Option Expression → Option Value
 constant_as env m value e = or_constant env m e (gathered m e (all_of value (operands_of e)))
 
+-- the values of constant trees up to a bound on their handles
 abbrev pub constant_below : Function → Environment → Meaning → ℕ → Kept
 constant_below f env m zero h = None
 constant_below f env m (suc n) h = constant_as env m (constant_below f env m n) (expression_of f h)
@@ -280,11 +303,13 @@ constant_below f env m (suc n) h = constant_as env m (constant_below f env m n) 
 abbrev pub constants_kept : Function → Environment → Meaning → Kept
 constants_kept f env m = constant_below f env m (length f.expressions)
 
+-- one more first value
 abbrev pub with_first : Option (Option Value) → Option (List (Option Value)) → Option (List (Option Value))
 with_first None firsts = None
 with_first (Some v) None = None
 with_first (Some v) (Some firsts) = Some (v ∷ firsts)
 
+-- a first value that is there
 abbrev pub wrapped : Option Value → Option (Option Value)
 wrapped None = None
 wrapped (Some v) = Some (Some v)
@@ -294,6 +319,7 @@ abbrev pub first_used : Call → Kept → Option ℕ → Option (Option Value)
 first_used c kept None = Some None
 first_used c kept (Some h) = wrapped (used c kept h)
 
+-- the first values of all locals
 abbrev pub first_used_all : Call → Kept → List (Option ℕ) → Option (List (Option Value))
 first_used_all c kept [] = Some []
 first_used_all c kept (o ∷ os) = with_first (first_used c kept o) (first_used_all c kept os)
@@ -303,11 +329,13 @@ abbrev pub entered : ℕ → List Value → Option (List (Option Value)) → Lis
 entered g vs None t body = Halts Stuck t
 entered g vs (Some firsts) t body = body (Entry g vs firsts ∷ t)
 
+-- a body, from the first values of its locals on
 abbrev pub run_body : Call → ℕ → ℕ → List Value → List Event → Reached (Option Value)
 run_body c n g vs t =
     let kept = constants_kept c.function c.environment c.meaning in
     entered g vs (first_used_all c kept c.function.first_values) t (λ t1. answer (run_all c n c.function.body kept t1))
 
+-- a call with another number of arguments is stuck
 abbrev pub called : Bool → Reached (Option Value) → List Event → Reached (Option Value)
 called true a t = a
 called false a t = Halts Stuck t

@@ -2,7 +2,7 @@
 use Rattle.std.specs.Prelude.{ℕ, zero, suc, Bool, true, false, cond, not, nat_lt, List, [], ◌∷◌, length, Option, Some, None, ◌&&◌, ◌||◌}
 use Rattle.shader_runs.specs.Value.{Bytes}
 use Rattle.shader_runs.specs.World.{update}
-use Rattle.shader_runs.specs.Program.{Expression, Constant, Argument, Local, Global, Load, Operator, Access, Select, Junct, Request, Statement, Emit, Store, Block, If, Switch, Loop, Return, Act, Statements, end, then, Cases, no_case, case, Function, argument_count, local_count, expression_of, operands_of, is_given, binds, from, holds_continue}
+use Rattle.shader_runs.specs.Program.{Expression, Constant, Argument, Local, Global, Load, Operator, Access, AccessIndex, Logical, Request, Statement, Emit, Store, Block, If, Switch, Loop, Return, Act, Statements, end, then, Cases, no_case, case, Function, argument_count, local_count, expression_of, operands_of, is_given, binds, from, holds_continue}
 
 -- a handle at a point: not emitted here; emitted where an operand was out of scope; a constant tree that wasn't emitted here;
 -- written where it is used; or bound under a name
@@ -13,6 +13,7 @@ pub data Standing : Type 0 where
   Inline : Standing
   Named : Bytes → Standing
 
+-- the standing of each handle
 abbrev pub Handles : Type 0
 Handles = ℕ → Standing
 
@@ -58,6 +59,7 @@ is_new Everywhere = true
 is_new Inline = false
 is_new (Named x) = false
 
+-- leaves are in scope everywhere, and other expressions by their standing
 abbrev pub usable_as : Function → Option Expression → Standing → Bool
 usable_as f (Some (Constant e)) s = true
 usable_as f (Some (Argument i)) s = nat_lt i (argument_count f)
@@ -70,10 +72,12 @@ usable_as f _ s = is_present s
 abbrev pub usable : Function → Handles → ℕ → Bool
 usable f s h = usable_as f (expression_of f h) (s h)
 
+-- all these handles are in scope
 abbrev pub usable_all : Function → Handles → List ℕ → Bool
 usable_all f s [] = true
 usable_all f s (x ∷ xs) = usable f s x && usable_all f s xs
 
+-- a handle is in scope, if one is wanted
 abbrev pub usable_if : Function → Handles → Option ℕ → Bool
 usable_if f s None = true
 usable_if f s (Some h) = usable f s h
@@ -82,14 +86,16 @@ usable_if f s (Some h) = usable f s h
 abbrev pub is_pure : Option Expression → Bool
 is_pure (Some (Operator w xs)) = true
 is_pure (Some (Access b i)) = true
-is_pure (Some (Select x b)) = true
-is_pure (Some (Junct j l r)) = true
+is_pure (Some (AccessIndex x b)) = true
+is_pure (Some (Logical j l r)) = true
 is_pure _ = false
 
+-- the test holds of all these handles
 abbrev pub all_constant : (ℕ → Bool) → List ℕ → Bool
 all_constant test [] = true
 all_constant test (x ∷ xs) = test x && all_constant test xs
 
+-- a constant by itself
 abbrev pub is_constant_leaf : Option Expression → Bool
 is_constant_leaf (Some (Constant e)) = true
 is_constant_leaf _ = false
@@ -98,10 +104,12 @@ is_constant_leaf _ = false
 abbrev pub constant_test : (ℕ → Bool) → Option Expression → Bool
 constant_test test e = is_constant_leaf e || (is_pure e && all_constant test (operands_of e))
 
+-- the test up to a bound on the handles
 abbrev pub is_constant_below : Function → ℕ → ℕ → Bool
 is_constant_below f zero h = false
 is_constant_below f (suc n) h = constant_test (is_constant_below f n) (expression_of f h)
 
+-- a constant tree at the start
 abbrev pub start_standing : Bool → Standing
 start_standing true = Everywhere
 start_standing false = Absent
@@ -110,6 +118,7 @@ start_standing false = Absent
 abbrev pub start_below : Function → ℕ → Handles
 start_below f n h = start_standing (is_pure (expression_of f h) && is_constant_below f n h)
 
+-- the handles in scope at the start of a function
 abbrev pub at_start : Function → Handles
 at_start f = start_below f (length f.expressions)
 
@@ -131,13 +140,16 @@ after_one f k h s =
     let e = expression_of f.function h in
     emitted (binds f.function h) (is_pure e) (usable_all f.function s (operands_of e)) (bound_name f k h) s h
 
+-- how many names are given after a handle
 abbrev pub given_after : Function → ℕ → ℕ → ℕ
 given_after f h k = cond (is_given f h) (suc k) k
 
+-- how many names are given after these handles
 abbrev pub given_after_all : Function → List ℕ → ℕ → ℕ
 given_after_all f [] k = k
 given_after_all f (h ∷ hs) k = given_after_all f hs (given_after f h k)
 
+-- the handles in scope after an Emit
 abbrev pub after_emit : Naming → ℕ → List ℕ → Handles → Handles
 after_emit f k [] s = s
 after_emit f k (h ∷ hs) s = after_emit f (given_after f.function h k) hs (after_one f k h s)
@@ -160,6 +172,7 @@ abbrev mutual
   given_by_cases f no_case k = k
   given_by_cases f (case l b falls cs) k = given_by_cases f cs (given_by_all f b k)
 
+-- a result is bound to its own name
 abbrev pub after_result : Names → Option ℕ → Handles → Handles
 after_result n None s = s
 after_result n (Some h) s = update s h (Named (n.numbered h))
@@ -178,9 +191,11 @@ forgotten_one Barred now = Barred
 forgotten_one Inline now = Inline
 forgotten_one (Named x) now = Named x
 
+-- the same for all handles
 abbrev pub forgotten : Handles → Handles → Handles
 forgotten s now h = forgotten_one (s h) (now h)
 
+-- names are forgotten behind a statement that holds a `continue`
 abbrev pub forgotten_if : Bool → Handles → Handles → Handles
 forgotten_if true s now = forgotten s now
 forgotten_if false s now = now
@@ -202,6 +217,7 @@ abbrev pub may_emit : Function → ℕ → Handles → Bool
 may_emit f h s =
     is_new (s h) && (is_emittable (expression_of f h) && (not (binds f h) || usable_all f s (operands_of (expression_of f h))))
 
+-- an Emit of these handles
 abbrev pub may_emit_all : Naming → ℕ → List ℕ → Handles → Bool
 may_emit_all f k [] s = true
 may_emit_all f k (h ∷ hs) s =
@@ -237,6 +253,7 @@ abbrev mutual
   fits_cases f k no_case s = true
   fits_cases f k (case l b falls cs) s = fits_all f k b s && fits_cases f (given_by_all f.function b k) cs s
 
+-- the initialisers of locals are in scope at the start
 abbrev pub first_values_fit : Function → List (Option ℕ) → Bool
 first_values_fit f [] = true
 first_values_fit f (o ∷ os) = usable_if f (at_start f) o && first_values_fit f os

@@ -1,17 +1,18 @@
 -- A text's run: each expression is evaluated anew where it stands, and names are looked up.
 use Rattle.std.specs.Prelude.{ℕ, suc, Bool, true, false, cond, nat_eq, List, [], ◌∷◌, length, Option, Some, None, ◌||◌}
-use Rattle.shader_runs.specs.Value.{Bytes, same_bytes, Place, Rooted, GlobalRoot, LocalRoot, Part, At, Selector, step_of, Value, Truth, Whole, Pointer, Opaque, Spelled, Selected, Indexed, Junction}
+use Rattle.shader_runs.specs.Value.{Bytes, same_bytes, Place, Rooted, GlobalRoot, LocalRoot, Part, At, Selector, step_of, Value, Truth, Whole, Pointer, Opaque, Spelled, PartWord, IndexWord, ShortCircuit}
 use Rattle.shader_runs.specs.World.{Event, Entry, Ask, Read, Write, Discard, entries, World, Meaning, GlobalValue, Stored, Held, Environment, bind}
 use Rattle.shader_runs.specs.Outcome.{Stuck, Discarded, Outcome, Done, Continued, Broke, Returned, Stopped, Reached, Gives, Halts, answer, Next, and_then, turn, turns, after_switch, chosen, with_integer, closed, closed_if}
 use Rattle.shader_runs.specs.Program.{Label, Numbered}
 use Rattle.shader_runs.specs.ProgramRun.{called, decides, undecided, same_label, label_if}
-use Rattle.shader_runs.specs.Text.{Tree, Name, Known, Apply, Deref, AddressOf, Index, Pick, Both, Trees, no_more, more, Line, Let, Assign, Braces, IfElse, SwitchOn, LoopOf, BreakLine, ContinueLine, ReturnLine, DiscardLine, Perform, Lines, last, before, Groups, no_group, group, Variable, TextFunction, TextModule}
+use Rattle.shader_runs.specs.Text.{Tree, Name, LiteralOf, Apply, Deref, AddressOf, Index, PartOf, LogicalOf, Trees, no_more, more, Line, Let, Assign, Braces, IfElse, SwitchOn, LoopOf, BreakLine, ContinueLine, ReturnLine, DiscardLine, Perform, Lines, last, before, Groups, no_group, group, Variable, TextFunction, TextModule}
 
 -- what an expression stands for: a value, or a reference, the place of a variable or of a part of one
 pub data Denoted : Type 0 where
   IsValue : Value → Denoted
   IsPlace : Place → Denoted
 
+-- what each name stands for
 abbrev pub Scope : Type 0
 Scope = Bytes → Option Denoted
 
@@ -21,6 +22,7 @@ pub record Words : Type 0 where
   pub meaning : Meaning
   pub respond : Bytes → List Value → List Event → Reached (Option Value)
 
+-- a name that stands for nothing
 abbrev pub named : Option Denoted → List Event → Reached Denoted
 named None t = Halts Stuck t
 named (Some d) t = Gives d t
@@ -31,14 +33,17 @@ valued w (Gives (IsValue v) t) = Gives v t
 valued w (Gives (IsPlace p) t) = Gives (w t (Read p)) (Read p ∷ t)
 valued w (Halts x t) = Halts x t
 
+-- one more value
 abbrev pub put_before : Value → Reached (List Value) → Reached (List Value)
 put_before v (Halts x t) = Halts x t
 put_before v (Gives vs t) = Gives (v ∷ vs) t
 
+-- operands are evaluated in their order
 abbrev pub followed_by : Reached Value → (List Event → Reached (List Value)) → Reached (List Value)
 followed_by (Halts x t) rest = Halts x t
 followed_by (Gives v t) rest = put_before v (rest t)
 
+-- a word with its operands
 abbrev pub responded : Words → Bytes → Reached (List Value) → Reached (Option Value)
 responded l w (Halts x t) = Halts x t
 responded l w (Gives vs t) = l.respond w vs t
@@ -48,6 +53,7 @@ abbrev pub unhidden : Option Denoted → List Event → Reached (Option Value) �
 unhidden None t q = q
 unhidden (Some d) t q = Halts Stuck t
 
+-- a word where it stands
 abbrev pub word_reached : Words → Bytes → Scope → List Event → Reached (List Value) → Reached (Option Value)
 word_reached l word names t vs = unhidden (names word) t (responded l word vs)
 
@@ -71,6 +77,7 @@ addressed (Halts x t) = Halts x t
 addressed (Gives (IsPlace p) t) = Gives (IsValue (Pointer p)) t
 addressed (Gives (IsValue v) t) = Halts Stuck t
 
+-- an integer leads to a part
 abbrev pub part_reached : Place → Reached Value → Reached Denoted
 part_reached p (Halts x t) = Halts x t
 part_reached p (Gives (Whole spelling z) t) = Gives (IsPlace (Part p (At z))) t
@@ -78,9 +85,10 @@ part_reached p (Gives (Truth b) t) = Halts Stuck t
 part_reached p (Gives (Pointer q) t) = Halts Stuck t
 part_reached p (Gives (Opaque spelling payload) t) = Halts Stuck t
 
+-- an index into a value
 abbrev pub index_reached : Meaning → Value → Reached Value → Reached Denoted
 index_reached m v (Halts x t) = Halts x t
-index_reached m v (Gives i t) = Gives (IsValue (m Indexed (v ∷ i ∷ []))) t
+index_reached m v (Gives i t) = Gives (IsValue (m IndexWord (v ∷ i ∷ []))) t
 
 -- an index; a pointer has none
 abbrev pub indexed : Meaning → Reached Denoted → (List Event → Reached Value) → Reached Denoted
@@ -92,34 +100,35 @@ indexed m (Gives (IsValue (Whole spelling z)) t) rest = index_reached m (Whole s
 indexed m (Gives (IsValue (Opaque spelling payload)) t) rest = index_reached m (Opaque spelling payload) (rest t)
 
 -- a member or an element; a pointer has none
-abbrev pub picked : Meaning → Selector → Reached Denoted → Reached Denoted
-picked m x (Halts y t) = Halts y t
-picked m x (Gives (IsPlace p) t) = Gives (IsPlace (Part p (step_of x))) t
-picked m x (Gives (IsValue (Pointer p)) t) = Halts Stuck t
-picked m x (Gives (IsValue (Truth b)) t) = Gives (IsValue (m (Selected x) (Truth b ∷ []))) t
-picked m x (Gives (IsValue (Whole spelling z)) t) = Gives (IsValue (m (Selected x) (Whole spelling z ∷ []))) t
-picked m x (Gives (IsValue (Opaque spelling payload)) t) = Gives (IsValue (m (Selected x) (Opaque spelling payload ∷ []))) t
+abbrev pub part_picked : Meaning → Selector → Reached Denoted → Reached Denoted
+part_picked m x (Halts y t) = Halts y t
+part_picked m x (Gives (IsPlace p) t) = Gives (IsPlace (Part p (step_of x))) t
+part_picked m x (Gives (IsValue (Pointer p)) t) = Halts Stuck t
+part_picked m x (Gives (IsValue (Truth b)) t) = Gives (IsValue (m (PartWord x) (Truth b ∷ []))) t
+part_picked m x (Gives (IsValue (Whole spelling z)) t) = Gives (IsValue (m (PartWord x) (Whole spelling z ∷ []))) t
+part_picked m x (Gives (IsValue (Opaque spelling payload)) t) = Gives (IsValue (m (PartWord x) (Opaque spelling payload ∷ []))) t
 
-abbrev pub undecided_reached : Meaning → Junction → Value → Reached Value → Reached Denoted
+-- the right side was evaluated
+abbrev pub undecided_reached : Meaning → ShortCircuit → Value → Reached Value → Reached Denoted
 undecided_reached m j l (Halts x t) = Halts x t
 undecided_reached m j l (Gives r t) = Gives (IsValue (undecided m j l r)) t
 
 -- the right side is evaluated only where it decides
-abbrev pub both_reached : Meaning → Junction → Reached Value → (List Event → Reached Value) → Reached Denoted
-both_reached m j (Halts x t) rest = Halts x t
-both_reached m j (Gives l t) rest =
+abbrev pub logical_reached : Meaning → ShortCircuit → Reached Value → (List Event → Reached Value) → Reached Denoted
+logical_reached m j (Halts x t) rest = Halts x t
+logical_reached m j (Gives l t) rest =
     elim (decides j l) [ true ↦ Gives (IsValue l) t | false ↦ undecided_reached m j l (rest t) ]
 
 abbrev mutual
   pub evaluate : Words → Tree → Scope → List Event → Reached Denoted
   evaluate l (Name x) names t = named (names x) t
-  evaluate l (Known v) names t = Gives (IsValue v) t
+  evaluate l (LiteralOf v) names t = Gives (IsValue v) t
   evaluate l (Apply word es) names t = as_value (word_reached l word names t (evaluate_all l es names t))
   evaluate l (Deref e) names t = dereferenced (valued l.world (evaluate l e names t))
   evaluate l (AddressOf e) names t = addressed (evaluate l e names t)
   evaluate l (Index e i) names t = indexed l.meaning (evaluate l e names t) (λ t1. valued l.world (evaluate l i names t1))
-  evaluate l (Pick x e) names t = picked l.meaning x (evaluate l e names t)
-  evaluate l (Both j a b) names t = both_reached l.meaning j (valued l.world (evaluate l a names t)) (λ t1. valued l.world (evaluate l b names t1))
+  evaluate l (PartOf x e) names t = part_picked l.meaning x (evaluate l e names t)
+  evaluate l (LogicalOf j a b) names t = logical_reached l.meaning j (valued l.world (evaluate l a names t)) (λ t1. valued l.world (evaluate l b names t1))
 
   pub evaluate_all : Words → Trees → Scope → List Event → Reached (List Value)
   evaluate_all l no_more names t = Gives [] t
@@ -129,15 +138,18 @@ abbrev mutual
 abbrev pub value_of : Words → Tree → Scope → List Event → Reached Value
 value_of l e names t = valued l.world (evaluate l e names t)
 
+-- goes on with a value
 abbrev pub with_value : {S : Type 0} → Reached Value → (Value → List Event → Outcome S) → Outcome S
 with_value (Halts x t) go = Stopped x t
 with_value (Gives v t) go = go v t
 
+-- goes on with a reference
 abbrev pub with_place : {S : Type 0} → Reached Denoted → (Place → List Event → Outcome S) → Outcome S
 with_place (Halts x t) go = Stopped x t
 with_place (Gives (IsValue v) t) go = Stopped Stuck t
 with_place (Gives (IsPlace p) t) go = go p t
 
+-- a call whose result is not wanted
 abbrev pub performed : Scope → Reached (Option Value) → Outcome Scope
 performed names (Halts x t) = Stopped x t
 performed names (Gives v t) = Done names t
@@ -165,19 +177,23 @@ abbrev mutual
   some_group_continues no_group = false
   some_group_continues (group labels b gs) = some_continue b || some_group_continues gs
 
+-- `break if` leaves the loop
 abbrev pub break_line : Words → Option Tree → Next Scope
 break_line l None names t = Done names t
 break_line l (Some e) names t =
     with_value (value_of l e names t) (λ v t1. chosen v t1 (Broke names t1) (Done names t1))
 
+-- what is returned
 abbrev pub return_line : Words → Option Tree → Next Scope
 return_line l None names t = Returned None t
 return_line l (Some e) names t = with_value (value_of l e names t) (λ v t1. Returned (Some v) t1)
 
+-- a label among those of a group
 abbrev pub among : Label → List Label → Bool
 among x [] = false
 among x (l ∷ ls) = same_label x l || among x ls
 
+-- some group has this label
 abbrev pub group_has : Label → Groups → Bool
 group_has x no_group = false
 group_has x (group labels b gs) = among x labels || group_has x gs
@@ -224,6 +240,7 @@ with_variables [] k i names = names
 with_variables (x ∷ xs) k i names =
     bind (with_variables xs k (suc i) names) x.name (Some (IsPlace (Rooted (LocalRoot k i))))
 
+-- what a variable's name stands for
 abbrev pub global_denoted : ℕ → GlobalValue → Denoted
 global_denoted i Stored = IsPlace (Rooted (GlobalRoot i))
 global_denoted i (Held v) = IsValue v
@@ -234,6 +251,7 @@ with_globals [] gs i names = names
 with_globals (x ∷ xs) [] i names = names
 with_globals (x ∷ xs) (g ∷ gs) i names = bind (with_globals xs gs (suc i) names) x (Some (global_denoted i g))
 
+-- nothing is in scope
 abbrev pub no_names : Scope
 no_names x = None
 
@@ -246,10 +264,12 @@ abbrev pub respond_by_table : World → Meaning → (Bytes → Bool) → Bytes �
 respond_by_table w m is_request word vs t =
     cond (is_request word) (Gives (Some (w t (Ask word vs))) (Ask word vs ∷ t)) (Gives (Some (m (Spelled word) vs)) t)
 
+-- one more first value
 abbrev pub put_first : Option Value → Reached (List (Option Value)) → Reached (List (Option Value))
 put_first v (Halts x t) = Halts x t
 put_first v (Gives vs t) = Gives (v ∷ vs) t
 
+-- first values are evaluated in their order
 abbrev pub first_followed : Reached Value → (List Event → Reached (List (Option Value))) → Reached (List (Option Value))
 first_followed (Halts x t) rest = Halts x t
 first_followed (Gives v t) rest = put_first (Some v) (rest t)
@@ -260,10 +280,12 @@ first_of_each l [] names t = Gives [] t
 first_of_each l (x ∷ xs) names t =
     elim x.first_value [ None ↦ put_first None (first_of_each l xs names t) | Some e ↦ first_followed (value_of l e names t) (first_of_each l xs names) ]
 
+-- the entry, with the first values
 abbrev pub entered_by : ℕ → List Value → Reached (List (Option Value)) → (List Event → Reached (Option Value)) → Reached (Option Value)
 entered_by g vs (Halts x t) body = Halts x t
 entered_by g vs (Gives firsts t) body = body (Entry g vs firsts ∷ t)
 
+-- a body, from the first values of its variables on
 abbrev pub follow_body : Words → ℕ → ℕ → TextFunction → List Value → Scope → List Event → Reached (Option Value)
 follow_body l n g f vs names t =
     entered_by g vs (first_of_each l f.variables names t) (λ t1. answer (follow_all l n f.lines names t1))

@@ -1,7 +1,7 @@
 -- When a module's operators are typed consistently.
 use Rattle.std.specs.Prelude.{◌≡◌, ℕ, List, [], ◌∷◌, ◌++◌, Option, Some, slice_get}
-use Rattle.shader_runs.specs.Value.{ValueType, BooleanType, IntegerType, PointerType, Word, Spelled, Selected, Indexed, junction_word}
-use Rattle.shader_runs.specs.Program.{ConstantTree, Fixed, NamedConstant, Constructed, ConstantTrees, no_constant, constant, Expression, Constant, Operator, Access, Select, Junct, Request, Function, expression_of, handle_type, Module}
+use Rattle.shader_runs.specs.Value.{ValueType, BooleanType, IntegerType, PointerType, Word, Spelled, PartWord, IndexWord, short_circuit_word}
+use Rattle.shader_runs.specs.Program.{ConstantTree, Fixed, NamedConstant, Constructed, ConstantTrees, no_constant, constant, Expression, Constant, Operator, Access, AccessIndex, Logical, Request, Function, expression_of, handle_type, Module}
 use Rattle.shader_runs.specs.Premises.{constant_types_of, handle_types}
 
 -- a spelled operator with its operands' types and its result's
@@ -25,12 +25,13 @@ abbrev mutual
 abbrev pub signatures_of : Module → Function → ValueType → Option Expression → List Signature
 signatures_of p f k (Some (Constant e)) = constant_signatures p e
 signatures_of p f k (Some (Operator w xs)) = record { word = Spelled w; operands = handle_types f xs; result = k } ∷ []
-signatures_of p f k (Some (Access b i)) = record { word = Indexed; operands = handle_types f (b ∷ i ∷ []); result = k } ∷ []
-signatures_of p f k (Some (Select x b)) = record { word = Selected x; operands = handle_types f (b ∷ []); result = k } ∷ []
-signatures_of p f k (Some (Junct j l r)) = record { word = Spelled (junction_word j); operands = handle_types f (l ∷ r ∷ []); result = k } ∷ []
+signatures_of p f k (Some (Access b i)) = record { word = IndexWord; operands = handle_types f (b ∷ i ∷ []); result = k } ∷ []
+signatures_of p f k (Some (AccessIndex x b)) = record { word = PartWord x; operands = handle_types f (b ∷ []); result = k } ∷ []
+signatures_of p f k (Some (Logical j l r)) = record { word = Spelled (short_circuit_word j); operands = handle_types f (l ∷ r ∷ []); result = k } ∷ []
 signatures_of p f k (Some (Request a w xs es)) = constants_signatures p es
 signatures_of p f k _ = []
 
+-- in a list
 pub data IsOneOf (x : Signature) : List Signature → Type 0 where
   first_of : {xs : List Signature} → IsOneOf x (x ∷ xs)
   later_of : {y : Signature} {xs : List Signature} → IsOneOf x xs → IsOneOf x (y ∷ xs)
@@ -49,19 +50,21 @@ AccessFits PointerType (IntegerType spelling) PointerType = Unit {0}
 AccessFits PointerType i k = ⊥
 AccessFits b i k = Unit {0}
 
-abbrev pub SelectFits : (base result : ValueType) → Type 0
-SelectFits PointerType k = k ≡ PointerType
-SelectFits b k = Unit {0}
+-- a member or element through a pointer gives a pointer
+abbrev pub AccessIndexFits : (base result : ValueType) → Type 0
+AccessIndexFits PointerType k = k ≡ PointerType
+AccessIndexFits b k = Unit {0}
 
 -- `&&` and `||` on `bool` give `bool`
-abbrev pub JunctFits : (left result : ValueType) → Type 0
-JunctFits BooleanType k = k ≡ BooleanType
-JunctFits l k = Unit {0}
+abbrev pub LogicalFits : (left result : ValueType) → Type 0
+LogicalFits BooleanType k = k ≡ BooleanType
+LogicalFits l k = Unit {0}
 
+-- what an expression over pointers or truth values gives
 abbrev pub PartsFit : Function → ValueType → Option Expression → Type 0
 PartsFit f k (Some (Access b i)) = AccessFits (handle_type f b) (handle_type f i) k
-PartsFit f k (Some (Select x b)) = SelectFits (handle_type f b) k
-PartsFit f k (Some (Junct j l r)) = JunctFits (handle_type f l) k
+PartsFit f k (Some (AccessIndex x b)) = AccessIndexFits (handle_type f b) k
+PartsFit f k (Some (Logical j l r)) = LogicalFits (handle_type f l) k
 PartsFit f k _ = Unit {0}
 
 -- what is spelled alike over operands of types alike has a result of types alike

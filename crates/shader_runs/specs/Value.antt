@@ -5,12 +5,14 @@ use Rattle.std.specs.Prelude.{ℕ, ℤ, pos, negsuc, Bool, true, false, cond, na
 abbrev pub Bytes : Type 0
 Bytes = List ℕ
 
+-- equal words
 abbrev pub same_bytes : Bytes → Bytes → Bool
 same_bytes [] [] = true
 same_bytes [] (y ∷ ys) = false
 same_bytes (x ∷ xs) [] = false
 same_bytes (x ∷ xs) (y ∷ ys) = nat_eq x y && same_bytes xs ys
 
+-- equal integers
 abbrev pub same_integer : ℤ → ℤ → Bool
 same_integer (pos m) (pos n) = nat_eq m n
 same_integer (pos m) (negsuc n) = false
@@ -43,6 +45,7 @@ pub data Root : Type 0 where
   GlobalRoot : (index : ℕ) → Root
   LocalRoot : (entries index : ℕ) → Root
 
+-- a root and a path of steps
 pub data Place : Type 0 where
   Rooted : Root → Place
   Part : Place → Step → Place
@@ -61,12 +64,14 @@ pub data Value : Type 0 where
   Pointer : Place → Value
   Opaque : (spelling : Bytes) → (payload : ℕ) → Value
 
+-- a value's type
 abbrev pub type_of : Value → ValueType
 type_of (Truth b) = BooleanType
 type_of (Whole spelling z) = IntegerType spelling
 type_of (Pointer p) = PointerType
 type_of (Opaque spelling payload) = OtherType spelling
 
+-- equal types
 abbrev pub same_type : ValueType → ValueType → Bool
 same_type BooleanType BooleanType = true
 same_type (IntegerType a) (IntegerType b) = same_bytes a b
@@ -74,6 +79,7 @@ same_type PointerType PointerType = true
 same_type (OtherType a) (OtherType b) = same_bytes a b
 same_type _ _ = false
 
+-- the value has this type
 abbrev pub has_type : ValueType → Value → Bool
 has_type t v = same_type t (type_of v)
 
@@ -84,27 +90,29 @@ has_types [] (v ∷ vs) = false
 has_types (t ∷ ts) [] = false
 has_types (t ∷ ts) (v ∷ vs) = has_type t v && has_types ts vs
 
+-- the type at an index
 abbrev pub type_at : List ValueType → ℕ → ValueType
 type_at ts i = get_or ts i BooleanType
 
 -- an operator: a sign, a function or a type by its spelling, a member or element of a value, or an index into a value
 pub data Word : Type 0 where
   Spelled : Bytes → Word
-  Selected : Selector → Word
-  Indexed : Word
+  PartWord : Selector → Word
+  IndexWord : Word
 
 -- `&&` and `||`
-pub data Junction : Type 0 where
-  AndAlso : Junction
-  OrElse : Junction
+pub data ShortCircuit : Type 0 where
+  ShortCircuitAnd : ShortCircuit
+  ShortCircuitOr : ShortCircuit
 
-abbrev pub junction_word : Junction → Bytes
-junction_word AndAlso = codes "&&"
-junction_word OrElse = codes "||"
+-- its sign
+abbrev pub short_circuit_word : ShortCircuit → Bytes
+short_circuit_word ShortCircuitAnd = codes "&&"
+short_circuit_word ShortCircuitOr = codes "||"
 
 -- the left side's value decides
-abbrev pub is_decided : Junction → Bool → Bool
-is_decided AndAlso true = false
-is_decided AndAlso false = true
-is_decided OrElse true = true
-is_decided OrElse false = false
+abbrev pub is_decided : ShortCircuit → Bool → Bool
+is_decided ShortCircuitAnd true = false
+is_decided ShortCircuitAnd false = true
+is_decided ShortCircuitOr true = true
+is_decided ShortCircuitOr false = false
