@@ -1,16 +1,15 @@
 -- The two facts at the end of a body.
-use Rattle.std.proofs.Common.{◌≡◌, ℕ, suc, ◌<◌, List, ◌∷◌, length, Option, Some, None, refl, sym, ap, ◌∙◌, subst, arith}
-use Rattle.std.specs.Prelude.{IsTrue}
-use Rattle.shader_runs.specs.Value.{Bytes, Value}
+use Rattle.std.proofs.Common.{◌≡◌, ℕ, suc, ◌<◌, List, length, Option, sym, ap, ◌∙◌, subst, arith}
+use Rattle.shader_runs.specs.Value.{Value}
 use Rattle.shader_runs.specs.World.{Event}
 use Rattle.shader_runs.specs.Outcome.{Stop, Outcome, Done, Continued, Broke, Returned, Stopped}
-use Rattle.shader_runs.specs.Program.{expression_of, handle_type, any_continue, Module}
-use Rattle.shader_runs.specs.ProgramRun.{Call, Kept, constants_kept, run_all}
-use Rattle.shader_runs.specs.TextRun.{Scope, follow_all}
+use Rattle.shader_runs.specs.Program.{expression_of, handle_type, Module}
+use Rattle.shader_runs.specs.ProgramRun.{Call, Kept}
+use Rattle.shader_runs.specs.TextRun.{Scope}
 use Rattle.shader_runs.specs.Scope.{Handles, Names, after_all, at_start}
-use Rattle.shader_runs.specs.Form.{form_all, functions_of}
+use Rattle.shader_runs.specs.Form.{functions_of}
 use Rattle.shader_runs.specs.Premises.{AllTypedIn}
-use Rattle.shader_runs.specs.Points.{FactsHold, call_of, words_of, names_of, PointsAgree}
+use Rattle.shader_runs.specs.Points.{FactsHold, call_of, words_of, PointsAgree}
 use Rattle.shader_runs.proofs.Alike.{reached, Alike, done, continued, broke, returned_alike, stopped, mistyped}
 use Rattle.shader_runs.proofs.Update.{has_types_length}
 use Rattle.shader_runs.proofs.Relation.{as_denoted, Stands, Related}

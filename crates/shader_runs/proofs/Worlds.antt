@@ -6,15 +6,15 @@ use Rattle.shader_runs.specs.World.{Event, Entry, Ask, Read, Write, Discard, ent
 use Rattle.shader_runs.specs.Outcome.{Stop, Stuck, OutOfTurns, Discarded, Mistyped, Outcome, Done, Continued, Broke, Returned, Stopped, Reached, Gives, Halts, answer, Next, and_then, and_continue, within, turn, and_again, turns, after_switch, chosen, with_integer}
 use Rattle.shader_runs.specs.Program.{ConstantTrees, Expression, Constant, Argument, Local, Global, Load, Operator, Access, AccessIndex, Logical, Request, Action, Asked, Called, Label, Numbered, Statement, Emit, Store, Block, If, Switch, Loop, Break, Continue, Return, Kill, Barrier, Act, Statements, end, then, Cases, no_case, case, Function, argument_count, expression_of, handle_type, operands_of, is_counted, is_asked, from}
 use Rattle.shader_runs.specs.ProgramRun.{Call, Kept, constant_values, used, used_as, also, used_all, gathered, computed, joined, if_typed, keep_typed, with_used, loaded, asked, if_counted, emit_as, emit, with_pointer, leave, returned, acted, with_result, with_all, barrier_words, ask_each, same_label, has_label, label_if, run, run_all, run_cases, run_on, constants_kept, with_first, wrapped, first_used, first_used_all, entered, run_body, called, run_call}
-use Rattle.shader_runs.specs.Correct.{KeepsTypes, HasTypedWorld}
+use Rattle.shader_runs.specs.Correct.{KeepsTypes}
 use Rattle.shader_runs.proofs.Update.{update_cases}
 use Rattle.shader_runs.proofs.Typing.{default_value, default_typed}
 
 -- the types of the answers, by the length of the history
-abbrev Types : Type 0
+abbrev pub Types : Type 0
 Types = ℕ → ValueType
 
-abbrev world_of : Types → World
+abbrev pub world_of : Types → World
 world_of a t r = default_value (a (length t))
 
 -- a run that is built from the answers behind t: what it gives asks for no others than those before its last event
@@ -65,7 +65,7 @@ sequence ex fx ey fy t a R H k next =
       same = λ b h. ap (λ x. H x b) (k.same b (λ i lt. h i (omega (arith, l.longer)) ∙ l.agrees i lt)) ∙ l.same b h;
     }
 
-abbrev events_of : {S : Type 0} → Outcome S → List Event
+abbrev pub events_of : {S : Type 0} → Outcome S → List Event
 events_of (Done s t) = t
 events_of (Continued s t) = t
 events_of (Broke s t) = t
@@ -80,7 +80,7 @@ abbrev Fine : {S : Type 0} → Outcome S → Type 0
 Fine (Stopped x t) = FineStop x
 Fine _ = Unit {0}
 
-abbrev reached_events : {A : Type 0} → Reached A → List Event
+abbrev pub reached_events : {A : Type 0} → Reached A → List Event
 reached_events (Gives a t) = t
 reached_events (Halts x t) = t
 
@@ -426,10 +426,11 @@ call_makes env m n [] g vs t = λ a. constant_built reached_events FineReached t
 call_makes env m n (f ∷ fs) g vs t =
     picked_makes (nat_eq g (length fs)) t (λ b. called (nat_eq (length vs) (argument_count f)) (run_body (call_at env m n fs f vs t b) n (length fs) vs t) t) (λ b. run_call env (world_of b) m n fs g vs t) (called_makes (nat_eq (length vs) (argument_count f)) t (λ b. run_body (call_at env m n fs f vs t b) n (length fs) vs t) (body_makes f fs env m vs (entries t) n (λ b. run_call env (world_of b) m n fs) (call_makes env m n fs) (length fs) t)) (call_makes env m n fs g vs t)
 
-pub has_typed_world : HasTypedWorld
-has_typed_world p env m g vs turns =
-    let k = call_makes env m turns p.functions g vs [] none_wanted in
-    (world_of k.after, subst (λ q. KeepsTypes q) (sym (k.same k.after (λ i lt. refl))) (keeps k.result k.is_fine))
+-- the types of the answers from one start
+pub call_built : (env : Environment) (m : Meaning) (turns : ℕ) (fs : List Function) (g : ℕ) (vs : List Value) → (after : Types) × KeepsTypes (run_call env (world_of after) m turns fs g vs [])
+call_built env m turns fs g vs =
+    let k = call_makes env m turns fs g vs [] none_wanted in
+    (k.after, subst (λ q. KeepsTypes q) (sym (k.same k.after (λ i lt. refl))) (keeps k.result k.is_fine))
   where
     none_wanted : Types
     none_wanted i = BooleanType
@@ -440,3 +441,9 @@ has_typed_world p env m g vs turns =
     keeps (Halts OutOfTurns t) k = tt
     keeps (Halts Discarded t) k = tt
     keeps (Halts Mistyped t) k = k
+
+abbrev pub call_types : Environment → Meaning → ℕ → List Function → ℕ → List Value → Types
+call_types env m turns fs g vs = (call_built env m turns fs g vs).0
+
+pub call_keeps : (env : Environment) (m : Meaning) (turns : ℕ) (fs : List Function) (g : ℕ) (vs : List Value) → KeepsTypes (run_call env (world_of (call_types env m turns fs g vs)) m turns fs g vs [])
+call_keeps env m turns fs g vs = (call_built env m turns fs g vs).1

@@ -43,8 +43,8 @@ RunsAlike =
 abbrev pub HasTypedMeaning : Type 0
 HasTypedMeaning = (p : Module) → IsConsistent p → (m : Meaning) × IsTyped p m
 
--- nor is its premise on the world: for each start and each bound on loop turns a world exists that keeps the types
+-- nor is its premise on the world: for each bound on loop turns a world exists that keeps the types from every start
 abbrev pub HasTypedWorld : Type 0
 HasTypedWorld =
-    (p : Module) (env : Environment) (m : Meaning) (g : ℕ) (vs : List Value) (turns : ℕ) →
-    (w : World) × KeepsTypes (run_call env w m turns p.functions g vs [])
+    (p : Module) (env : Environment) (m : Meaning) (turns : ℕ) →
+    (w : World) × ((g : ℕ) (vs : List Value) → KeepsTypes (run_call env w m turns p.functions g vs []))

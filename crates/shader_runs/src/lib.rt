@@ -21,7 +21,7 @@ pub fn has_typed_meaning()
     ensures { HasTypedMeaning }
 {}
 
-/// What it asks of the world can be met, from each start and with each bound on loop turns.
+/// What it asks of the world can be met: with each bound on loop turns by one world for all starts.
 pub fn has_typed_world()
     ensures { HasTypedWorld }
 {}
