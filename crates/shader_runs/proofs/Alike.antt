@@ -1,0 +1,150 @@
+-- Two runs that make the same events and stand in a relation wherever they pause.
+use Rattle.std.proofs.Common.{◌≡◌, ℕ, zero, suc, ℤ, Bool, true, false, List, Option, Some, None, refl, sym, subst}
+use Rattle.shader_runs.specs.Value.{Place, Value, Truth, Whole, Pointer, Opaque}
+use Rattle.shader_runs.specs.World.{Event}
+use Rattle.shader_runs.specs.Outcome.{Stop, Stuck, Mistyped, Outcome, Done, Continued, Broke, Returned, Stopped, Reached, Gives, Halts, answer, Next, and_then, and_continue, within, and_again, turns, after_switch, closed, chosen, with_integer}
+use Rattle.shader_runs.specs.ProgramRun.{if_typed, with_used, with_pointer}
+use Rattle.shader_runs.specs.TextRun.{Denoted, IsPlace, with_value, with_place}
+
+abbrev pub HoldsOf : {A : Type 0} → (A → Type 0) → Reached A → Type 0
+HoldsOf R (Gives a t) = R a
+HoldsOf R (Halts x t) = Unit {0}
+
+-- the second does what the first does, with a result of which R holds, unless the first met an answer of a wrong type
+pub data Answers {A : Type 0} (R : A → Type 0) : Reached A → Reached A → Type 0 where
+  same_answer : {q : Reached A} → HoldsOf R q → Answers R q q
+  mistyped_answer : {t : List Event} {q : Reached A} → Answers R (Halts Mistyped t) q
+
+-- P holds where both are done, Q where both continue, B where both break, R of what both return
+pub data Alike {S T : Type 0} (R : Option Value → Type 0) (P Q B : S → T → Type 0) : Outcome S → Outcome T → Type 0 where
+  done : {s : S} {t : T} {e : List Event} → P s t → Alike R P Q B (Done s e) (Done t e)
+  continued : {s : S} {t : T} {e : List Event} → Q s t → Alike R P Q B (Continued s e) (Continued t e)
+  broke : {s : S} {t : T} {e : List Event} → B s t → Alike R P Q B (Broke s e) (Broke t e)
+  returned_alike : {v : Option Value} {e : List Event} → R v → Alike R P Q B (Returned v e) (Returned v e)
+  stopped : {x : Stop} {e : List Event} → Alike R P Q B (Stopped x e) (Stopped x e)
+  mistyped : {e : List Event} {o : Outcome T} → Alike R P Q B (Stopped Mistyped e) o
+
+abbrev pub Steps : {S T : Type 0} → (Option Value → Type 0) → (I P Q B : S → T → Type 0) → Next S → Next T → Type 0
+Steps {S} {T} R I P Q B f g = (s : S) (t : T) (e : List Event) → I s t → Alike R P Q B (f s e) (g t e)
+
+pub weaker : {S T : Type 0} {R : Option Value → Type 0} {P Q B P' Q' B' : S → T → Type 0} {o : Outcome S} {o' : Outcome T} → ((s : S) (t : T) → P s t → P' s t) → ((s : S) (t : T) → Q s t → Q' s t) → ((s : S) (t : T) → B s t → B' s t) → Alike R P Q B o o' → Alike R P' Q' B' o o'
+weaker p q b (done {s = s} {t = t} h) = done (p s t h)
+weaker p q b (continued {s = s} {t = t} h) = continued (q s t h)
+weaker p q b (broke {s = s} {t = t} h) = broke (b s t h)
+weaker p q b (returned_alike r) = returned_alike r
+weaker p q b stopped = stopped
+weaker p q b mistyped = mistyped
+
+pub then_alike : {S T : Type 0} {R : Option Value → Type 0} {P Q B P' : S → T → Type 0} {f : Next S} {g : Next T} {o : Outcome S} {o' : Outcome T} → Steps R P P' Q B f g → Alike R P Q B o o' → Alike R P' Q B (and_then o f) (and_then o' g)
+then_alike next (done {s = s} {t = t} {e = e} h) = next s t e h
+then_alike next (continued h) = continued h
+then_alike next (broke h) = broke h
+then_alike next (returned_alike r) = returned_alike r
+then_alike next stopped = stopped
+then_alike next mistyped = mistyped
+
+pub continue_alike : {S T : Type 0} {R : Option Value → Type 0} {P B P' Q' : S → T → Type 0} {f : Next S} {g : Next T} {o : Outcome S} {o' : Outcome T} → Steps R P P' Q' B f g → Alike R P P B o o' → Alike R P' Q' B (and_continue o f) (and_continue o' g)
+continue_alike next (done {s = s} {t = t} {e = e} h) = next s t e h
+continue_alike next (continued {s = s} {t = t} {e = e} h) = next s t e h
+continue_alike next (broke h) = broke h
+continue_alike next (returned_alike r) = returned_alike r
+continue_alike next stopped = stopped
+continue_alike next mistyped = mistyped
+
+pub within_alike : {S T : Type 0} {R : Option Value → Type 0} {P Q B Q' B' : S → T → Type 0} {o : Outcome S} {o' : Outcome T} → Alike R P Q B o o' → Alike R P Q' B' (within o) (within o')
+within_alike (done h) = done h
+within_alike (continued h) = stopped
+within_alike (broke h) = stopped
+within_alike (returned_alike r) = returned_alike r
+within_alike stopped = stopped
+within_alike mistyped = mistyped
+
+-- a turn keeps the relation, whether the loop goes on or is left
+again_alike : {S T : Type 0} {R : Option Value → Type 0} {I P Q B : S → T → Type 0} {f : Next S} {g : Next T} {o : Outcome S} {o' : Outcome T} → Steps R I I Q B f g → Alike R I P I o o' → Alike R I Q B (and_again o f) (and_again o' g)
+again_alike next (done {s = s} {t = t} {e = e} h) = next s t e h
+again_alike next (continued h) = stopped
+again_alike next (broke h) = done h
+again_alike next (returned_alike r) = returned_alike r
+again_alike next stopped = stopped
+again_alike next mistyped = mistyped
+
+pub turns_alike : {S T : Type 0} {R : Option Value → Type 0} {I P Q B : S → T → Type 0} {f : Next S} {g : Next T} → Steps R I I P I f g → (n : ℕ) → Steps R I I Q B (turns n f) (turns n g)
+turns_alike once zero s t e i = stopped
+turns_alike once (suc n) s t e i = again_alike (turns_alike once n) (once s t e i)
+
+-- the second run's state is put back
+pub closed_alike : {S T : Type 0} {R : Option Value → Type 0} {P Q B P' Q' B' : S → T → Type 0} {o : Outcome S} {o' : Outcome T} → (t : T) → ((s : S) (t1 : T) → P s t1 → P' s t) → ((s : S) (t1 : T) → Q s t1 → Q' s t) → ((s : S) (t1 : T) → B s t1 → B' s t) → Alike R P Q B o o' → Alike R P' Q' B' o (closed t o')
+closed_alike t p q b (done {s = s} {t = t1} h) = done (p s t1 h)
+closed_alike t p q b (continued {s = s} {t = t1} h) = continued (q s t1 h)
+closed_alike t p q b (broke {s = s} {t = t1} h) = broke (b s t1 h)
+closed_alike t p q b (returned_alike r) = returned_alike r
+closed_alike t p q b stopped = stopped
+closed_alike t p q b mistyped = mistyped
+
+pub chosen_alike : {S T : Type 0} {R : Option Value → Type 0} {P Q B : S → T → Type 0} {a b : Outcome S} {a' b' : Outcome T} → (v : Value) (e : List Event) → Alike R P Q B a a' → Alike R P Q B b b' → Alike R P Q B (chosen v e a b) (chosen v e a' b')
+chosen_alike (Truth true) e h k = h
+chosen_alike (Truth false) e h k = k
+chosen_alike (Whole spelling z) e h k = stopped
+chosen_alike (Opaque spelling payload) e h k = stopped
+chosen_alike (Pointer p) e h k = stopped
+
+-- a `break` ends a switch
+pub switch_alike : {S T : Type 0} {R : Option Value → Type 0} {P Q B' : S → T → Type 0} {o : Outcome S} {o' : Outcome T} → Alike R P Q P o o' → Alike R P Q B' (after_switch o) (after_switch o')
+switch_alike (done h) = done h
+switch_alike (continued h) = continued h
+switch_alike (broke h) = done h
+switch_alike (returned_alike r) = returned_alike r
+switch_alike stopped = stopped
+switch_alike mistyped = mistyped
+
+pub integer_alike : {S T : Type 0} {R : Option Value → Type 0} {P Q B : S → T → Type 0} (v : Value) (e : List Event) (f : ℤ → Outcome S) (g : ℤ → Outcome T) → ((z : ℤ) → Alike R P Q B (f z) (g z)) → Alike R P Q B (with_integer v e f) (with_integer v e g)
+integer_alike (Whole spelling z) e f g h = h z
+integer_alike (Truth b) e f g h = stopped
+integer_alike (Pointer p) e f g h = stopped
+integer_alike (Opaque spelling payload) e f g h = stopped
+
+pub alike_answers : {S T : Type 0} {R : Option Value → Type 0} {P Q B : S → T → Type 0} {o : Outcome S} {o' : Outcome T} → R None → Alike R P Q B o o' → Answers R (answer o) (answer o')
+alike_answers n (done h) = same_answer n
+alike_answers n (continued h) = same_answer tt
+alike_answers n (broke h) = same_answer tt
+alike_answers n (returned_alike r) = same_answer r
+alike_answers n stopped = same_answer tt
+alike_answers n mistyped = mistyped_answer
+
+-- nothing is owed where an answer has a wrong type
+pub typed_alike : {S T : Type 0} {R : Option Value → Type 0} {P Q B : S → T → Type 0} {o' : Outcome T} (b : Bool) (t : List Event) (o : Outcome S) (f : Next S) → (b ≡ true → Alike R P Q B (and_then o f) o') → Alike R P Q B (and_then (if_typed b t o) f) o'
+typed_alike true t o f h = h refl
+typed_alike false t o f h = mistyped
+
+-- what an evaluation without events gives
+abbrev pub reached : Option Value → List Event → Reached Value
+reached None t = Halts Stuck t
+reached (Some v) t = Gives v t
+
+abbrev pub placed : Option Value → List Event → Reached Denoted
+placed None t = Halts Stuck t
+placed (Some (Pointer p)) t = Gives (IsPlace p) t
+placed (Some (Truth b)) t = Halts Stuck t
+placed (Some (Whole spelling z)) t = Halts Stuck t
+placed (Some (Opaque spelling payload)) t = Halts Stuck t
+
+used_alike_at : {S T : Type 0} {R : Option Value → Type 0} {P Q B : S → T → Type 0} (f : Value → Outcome S) (g : Value → List Event → Outcome T) (o : Option Value) (t : List Event) → ((v : Value) → Alike R P Q B (f v) (g v t)) → Alike R P Q B (with_used o t f) (with_value (reached o t) g)
+used_alike_at f g None t h = stopped
+used_alike_at f g (Some v) t h = h v
+
+-- the same value on both sides
+pub used_alike : {S T : Type 0} {R : Option Value → Type 0} {P Q B : S → T → Type 0} (f : Value → Outcome S) (g : Value → List Event → Outcome T) (o : Option Value) (t : List Event) (r : Reached Value) → r ≡ reached o t → ((v : Value) → Alike R P Q B (f v) (g v t)) → Alike R P Q B (with_used o t f) (with_value r g)
+used_alike {R = R} {P = P} {Q = Q} {B = B} f g o t r e h =
+    subst (λ r. Alike R P Q B (with_used o t f) (with_value r g)) (sym e) (used_alike_at f g o t h)
+
+pointer_alike_at : {S T : Type 0} {R : Option Value → Type 0} {P Q B : S → T → Type 0} (f : Place → Outcome S) (g : Place → List Event → Outcome T) (o : Option Value) (t : List Event) → ((p : Place) → Alike R P Q B (f p) (g p t)) → Alike R P Q B (with_pointer o t f) (with_place (placed o t) g)
+pointer_alike_at f g None t h = stopped
+pointer_alike_at f g (Some (Pointer p)) t h = h p
+pointer_alike_at f g (Some (Truth b)) t h = stopped
+pointer_alike_at f g (Some (Whole spelling z)) t h = stopped
+pointer_alike_at f g (Some (Opaque spelling payload)) t h = stopped
+
+-- the same place on both sides
+pub pointer_alike : {S T : Type 0} {R : Option Value → Type 0} {P Q B : S → T → Type 0} (f : Place → Outcome S) (g : Place → List Event → Outcome T) (o : Option Value) (t : List Event) (r : Reached Denoted) → r ≡ placed o t → ((p : Place) → Alike R P Q B (f p) (g p t)) → Alike R P Q B (with_pointer o t f) (with_place r g)
+pointer_alike {R = R} {P = P} {Q = Q} {B = B} f g o t r e h =
+    subst (λ r. Alike R P Q B (with_pointer o t f) (with_place r g)) (sym e) (pointer_alike_at f g o t h)

@@ -1,0 +1,189 @@
+-- What relates the module's kept values and the text's names, at each point of both runs.
+use Rattle.std.proofs.Common.{◌≡◌, ◌≢◌, ℕ, ◌<◌, Bool, true, false, cond, List, [], ◌∷◌, length, Option, Some, None, slice_get, refl, sym, ap, ◌∙◌}
+use Rattle.std.specs.Prelude.{IsTrue}
+use Rattle.shader_runs.specs.Value.{Bytes, Rooted, LocalRoot, ValueType, has_type, Value}
+use Rattle.shader_runs.specs.World.{GlobalValue}
+use Rattle.shader_runs.specs.Program.{Expression, Constant, Argument, Local, Global, Function, argument_count, local_count, expression_of, handle_type, operands_of}
+use Rattle.shader_runs.specs.ProgramRun.{Call, Kept, used_as, used, also, used_all, gathered, computed}
+use Rattle.shader_runs.specs.TextRun.{Denoted, IsValue, IsPlace, Scope, global_denoted}
+use Rattle.shader_runs.specs.Scope.{Standing, Absent, Barred, Everywhere, Inline, Named, Handles, Names, usable, usable_as, usable_all, is_present, is_new, forgotten, forgotten_one, given_by_all}
+use Rattle.shader_runs.specs.Premises.{FixedName, ArgumentName, LocalName, ConstantName, GlobalName, fixed_name}
+use Rattle.shader_runs.proofs.Update.{and_left, and_right, and_both}
+
+-- a value of this type
+abbrev pub TypedValue : ValueType → Option Value → Type 0
+TypedValue k o = (v : Value) × (o ≡ Some v) × IsTrue (has_type k v)
+
+-- a returned value has the result's type
+abbrev pub ResultTyped : Option Value → Option ValueType → Type 0
+ResultTyped None k = Unit {0}
+ResultTyped (Some v) None = Unit {0}
+ResultTyped (Some v) (Some k) = IsTrue (has_type k v)
+
+abbrev pub Returns : Function → Option Value → Type 0
+Returns f o = ResultTyped o f.result
+
+abbrev pub as_denoted : Option Value → Option Denoted
+as_denoted None = None
+as_denoted (Some v) = Some (IsValue v)
+
+abbrev pub global_as : ℕ → Option GlobalValue → Option Denoted
+global_as i None = None
+global_as i (Some g) = Some (global_denoted i g)
+
+-- the names that are there from the start
+abbrev pub IsHere : Call → FixedName → Type 0
+IsHere c (ArgumentName i) = i < argument_count c.function
+IsHere c (LocalName i) = i < local_count c.function
+IsHere c (ConstantName i) = i < length c.environment.constants
+IsHere c (GlobalName i) = i < length c.environment.globals
+
+-- and what they stand for
+abbrev pub fixed_denoted : Call → FixedName → Option Denoted
+fixed_denoted c (ArgumentName i) = as_denoted (slice_get c.arguments i)
+fixed_denoted c (LocalName i) = Some (IsPlace (Rooted (LocalRoot c.frame i)))
+fixed_denoted c (ConstantName i) = as_denoted (slice_get c.environment.constants i)
+fixed_denoted c (GlobalName i) = global_as i (slice_get c.environment.globals i)
+
+-- a word that is none of the function's names
+pub record NoName (c : Call) (n : Names) (w : Bytes) : Type 0 where
+  pub fixed : (x : FixedName) → IsHere c x → fixed_name n x ≢ w
+  pub numbered : (h : ℕ) → n.numbered h ≢ w
+  pub given : (k : ℕ) → k < given_by_all c.function c.function.body 0 → n.given k ≢ w
+
+-- what is known of a handle with this expression and this kept value
+abbrev pub Stands : Call → Handles → Scope → Kept → ValueType → Option Expression → Option Value → Standing → Type 0
+Stands c s names kept y e o Absent = Unit {0}
+Stands c s names kept y e o Barred = Unit {0}
+Stands c s names kept y e o Inline = IsTrue (usable_all c.function s (operands_of e)) × TypedValue y o × (o ≡ computed c kept e)
+Stands c s names kept y e o Everywhere = IsTrue (usable_all c.function s (operands_of e)) × TypedValue y o × (o ≡ computed c kept e)
+Stands c s names kept y e o (Named x) = TypedValue y (used_as c e o) × (names x ≡ as_denoted (used_as c e o))
+
+pub record Related (c : Call) (n : Names) (s : Handles) (names : Scope) (kept : Kept) : Type 0 where
+  pub standing : (h : ℕ) → Stands c s names kept (handle_type c.function h) (expression_of c.function h) (kept h) (s h)
+  pub fixed : (x : FixedName) → IsHere c x → names (fixed_name n x) ≡ fixed_denoted c x
+  pub words : (w : Bytes) → NoName c n w → names w ≡ None
+
+-- the second scope has each handle of the first
+abbrev pub Extends : Handles → Handles → Type 0
+Extends s s' = (h : ℕ) → IsTrue (is_present (s h)) → IsTrue (is_present (s' h))
+
+-- the same values are kept for the handles in scope
+abbrev pub Agree : Handles → Kept → Kept → Type 0
+Agree s kept kept' = (h : ℕ) → IsTrue (is_present (s h)) → kept' h ≡ kept h
+
+pub extends_refl : (s : Handles) → Extends s s
+extends_refl s h p = p
+
+pub agree_refl : (s : Handles) (kept : Kept) → Agree s kept kept
+agree_refl s kept h p = refl
+
+pub extends_trans : (s s1 s2 : Handles) → Extends s s1 → Extends s1 s2 → Extends s s2
+extends_trans s s1 s2 a b h p = b h (a h p)
+
+pub agree_trans : (s s1 : Handles) (k k1 k2 : Kept) → Extends s s1 → Agree s k k1 → Agree s1 k1 k2 → Agree s k k2
+agree_trans s s1 k k1 k2 x a b h p = b h (x h p) ∙ a h p
+
+used_agree_as : (c : Call) (e : Option Expression) (st : Standing) (o o' : Option Value) → IsTrue (usable_as c.function e st) → (IsTrue (is_present st) → o' ≡ o) → used_as c e o' ≡ used_as c e o
+used_agree_as c (Some (Constant v)) st o o' u a = refl
+used_agree_as c (Some (Argument i)) st o o' u a = refl
+used_agree_as c (Some (Local i)) st o o' u a = refl
+used_agree_as c (Some (Global i)) st o o' u a = refl
+used_agree_as c None st o o' u a = refl
+used_agree_as c _ st o o' u a = a u
+
+pub used_agree : (c : Call) (s : Handles) (kept kept' : Kept) → Agree s kept kept' → (x : ℕ) → IsTrue (usable c.function s x) → used c kept' x ≡ used c kept x
+used_agree c s kept kept' a x u =
+    used_agree_as c (expression_of c.function x) (s x) (kept x) (kept' x) u (a x)
+
+pub used_all_agree : (c : Call) (s : Handles) (kept kept' : Kept) → Agree s kept kept' → (xs : List ℕ) → IsTrue (usable_all c.function s xs) → used_all c kept' xs ≡ used_all c kept xs
+used_all_agree c s kept kept' a [] u = refl
+used_all_agree c s kept kept' a (x ∷ xs) u =
+    let h = used_agree c s kept kept' a x (and_left (usable c.function s x) (usable_all c.function s xs) u) in
+    let t = used_all_agree c s kept kept' a xs (and_right (usable c.function s x) (usable_all c.function s xs) u) in
+    ap (λ v. also v (used_all c kept' xs)) h ∙ ap (also (used c kept x)) t
+
+pub computed_agree : (c : Call) (s : Handles) (kept kept' : Kept) → Agree s kept kept' → (e : Option Expression) → IsTrue (usable_all c.function s (operands_of e)) → computed c kept' e ≡ computed c kept e
+computed_agree c s kept kept' a e u = ap (gathered c.meaning e) (used_all_agree c s kept kept' a (operands_of e) u)
+
+usable_more_as : (f : Function) (e : Option Expression) (st st' : Standing) → (IsTrue (is_present st) → IsTrue (is_present st')) → IsTrue (usable_as f e st) → IsTrue (usable_as f e st')
+usable_more_as f (Some (Constant v)) st st' x u = u
+usable_more_as f (Some (Argument i)) st st' x u = u
+usable_more_as f (Some (Local i)) st st' x u = u
+usable_more_as f (Some (Global i)) st st' x u = u
+usable_more_as f None st st' x u = u
+usable_more_as f _ st st' x u = x u
+
+pub usable_all_more : (f : Function) (s s' : Handles) → Extends s s' → (xs : List ℕ) → IsTrue (usable_all f s xs) → IsTrue (usable_all f s' xs)
+usable_all_more f s s' x [] u = refl
+usable_all_more f s s' x (y ∷ ys) u =
+    and_both (usable f s' y) (usable_all f s' ys) (usable_more_as f (expression_of f y) (s y) (s' y) (x y) (and_left (usable f s y) (usable_all f s ys) u)) (usable_all_more f s s' x ys (and_right (usable f s y) (usable_all f s ys) u))
+
+-- the name of a standing means the same
+abbrev pub KeepsName : Scope → Scope → Standing → Type 0
+KeepsName names names' (Named x) = names' x ≡ names x
+KeepsName names names' _ = Unit {0}
+
+-- what is known of a handle stays known
+pub stands_on : (c : Call) (s s' : Handles) (names names' : Scope) (kept kept' : Kept) → Extends s s' → Agree s kept kept' → (y : ValueType) (e : Option Expression) (o o' : Option Value) (st : Standing) → (IsTrue (is_present st) → o' ≡ o) → KeepsName names names' st → Stands c s names kept y e o st → Stands c s' names' kept' y e o' st
+stands_on c s s' names names' kept kept' x a y e o o' Absent w n d = tt
+stands_on c s s' names names' kept kept' x a y e o o' Barred w n d = tt
+stands_on c s s' names names' kept kept' x a y e o o' Inline w n d =
+    let same = w refl in
+    (usable_all_more c.function s s' x (operands_of e) d.0, (d.1.0, same ∙ d.1.1, d.1.2), same ∙ d.2 ∙ sym (computed_agree c s kept kept' a e d.0))
+stands_on c s s' names names' kept kept' x a y e o o' Everywhere w n d =
+    let same = w refl in
+    (usable_all_more c.function s s' x (operands_of e) d.0, (d.1.0, same ∙ d.1.1, d.1.2), same ∙ d.2 ∙ sym (computed_agree c s kept kept' a e d.0))
+stands_on c s s' names names' kept kept' x a y e o o' (Named z) w n d =
+    let same = ap (used_as c e) (w refl) in
+    ((d.0.0, same ∙ d.0.1, d.0.2), n ∙ d.1 ∙ ap as_denoted (sym same))
+
+pub keeps_all : (names : Scope) (st : Standing) → KeepsName names names st
+keeps_all names Absent = tt
+keeps_all names Barred = tt
+keeps_all names Everywhere = tt
+keeps_all names Inline = tt
+keeps_all names (Named x) = refl
+
+-- other values for handles out of scope
+pub related_agree : (c : Call) (n : Names) (s : Handles) (names : Scope) (kept kept' : Kept) → Agree s kept kept' → Related c n s names kept → Related c n s names kept'
+related_agree c n s names kept kept' a r =
+    record {
+      standing = λ h. stands_on c s s names names kept kept' (extends_refl s) a (handle_type c.function h) (expression_of c.function h) (kept h) (kept' h) (s h) (a h) (keeps_all names (s h)) (r.standing h);
+      fixed = r.fixed;
+      words = r.words;
+    }
+
+present_forgotten : (st now : Standing) → IsTrue (is_present st) → IsTrue (is_present (forgotten_one st now))
+present_forgotten Absent now p = p
+present_forgotten Barred now p = p
+present_forgotten Inline now p = p
+present_forgotten (Named x) now p = p
+present_forgotten Everywhere now p = go (is_new now)
+  where
+    go : (b : Bool) → IsTrue (is_present (cond b Everywhere Inline))
+    go true = refl
+    go false = refl
+
+pub extends_forgotten : (s now : Handles) → Extends s (forgotten s now)
+extends_forgotten s now h p = present_forgotten (s h) (now h) p
+
+stands_forgotten : (c : Call) (s : Handles) (names : Scope) (kept : Kept) (y : ValueType) (e : Option Expression) (o : Option Value) (st now : Standing) → Stands c s names kept y e o st → Stands c s names kept y e o (forgotten_one st now)
+stands_forgotten c s names kept y e o Absent now d = d
+stands_forgotten c s names kept y e o Barred now d = d
+stands_forgotten c s names kept y e o Inline now d = d
+stands_forgotten c s names kept y e o (Named x) now d = d
+stands_forgotten c s names kept y e o Everywhere now d = go (is_new now)
+  where
+    go : (b : Bool) → Stands c s names kept y e o (cond b Everywhere Inline)
+    go true = d
+    go false = d
+
+-- a constant tree that was emitted meanwhile
+pub related_forgotten : (c : Call) (n : Names) (s now : Handles) (names : Scope) (kept : Kept) → Related c n s names kept → Related c n (forgotten s now) names kept
+related_forgotten c n s now names kept r =
+    record {
+      standing = λ h. let y = handle_type c.function h in let e = expression_of c.function h in let st = forgotten_one (s h) (now h) in stands_on c s (forgotten s now) names names kept kept (extends_forgotten s now) (agree_refl s kept) y e (kept h) (kept h) st (λ p. refl) (keeps_all names st) (stands_forgotten c s names kept y e (kept h) (s h) (now h) (r.standing h));
+      fixed = r.fixed;
+      words = r.words;
+    }

@@ -1,0 +1,144 @@
+-- The worked functions, by computing, and the premises of the law for one of them.
+use Rattle.std.proofs.Common.{◌≡◌, ℕ, zero, suc, ◌+◌, ◌<◌, List, [], ◌∷◌, Some, None, slice_get, refl, sym, ap, subst, arith}
+use Rattle.std.specs.Prelude.{codes}
+use Rattle.shader_runs.specs.Program.{Function, expression_of, handle_type, operands_of}
+use Rattle.shader_runs.specs.Scope.{given_by_all}
+use Rattle.shader_runs.specs.Premises.{AllBelow, WordFits, LeafFits, AreDistinct, FixedKey, NumberedKey, GivenKey, ArgumentName, LocalName, ConstantName, GlobalName}
+use Rattle.shader_runs.specs.Typing.{Signature, IsOneOf, IsSpelled, PartsFit, signatures_of}
+use Rattle.shader_runs.specs.Rows.{RowsHold, PremisesHold, store_function, store_naming, store_module, numbered_name}
+
+heads : (a b : ℕ) (xs ys : List ℕ) → a ∷ xs ≡ b ∷ ys → a ≡ b
+heads a b xs ys e = cc
+
+thirds : (a b : ℕ) → 95 ∷ 101 ∷ a ∷ [] ≡ 95 ∷ 101 ∷ b ∷ [] → a ≡ b
+thirds a b e = cc
+
+local_numbered : (h : ℕ) → codes "a" ≡ numbered_name h → ⊥
+local_numbered h e =
+    let same : ◌≡◌ {A = ℕ} 97 95 = heads 97 95 [] (101 ∷ (h + 48) ∷ []) e in
+    omega arith
+
+numbered_local : (h : ℕ) → numbered_name h ≡ codes "a" → ⊥
+numbered_local h e =
+    let same : ◌≡◌ {A = ℕ} 95 97 = heads 95 97 (101 ∷ (h + 48) ∷ []) [] e in
+    omega arith
+
+-- only the one local and the handles have names
+distinct : AreDistinct store_module store_naming
+distinct (FixedKey (ArgumentName i)) b la lb e = absurd (omega arith)
+distinct (FixedKey (ConstantName i)) b la lb e = absurd (omega arith)
+distinct (FixedKey (GlobalName i)) b la lb e = absurd (omega arith)
+distinct (GivenKey k) b la lb e = absurd (none k la)
+  where
+    none : (k : ℕ) → k < given_by_all store_function store_function.body 0 → ⊥
+    none k lt = omega arith
+distinct (FixedKey (LocalName i)) (FixedKey (ArgumentName j)) la lb e = absurd (omega arith)
+distinct (FixedKey (LocalName i)) (FixedKey (ConstantName j)) la lb e = absurd (omega arith)
+distinct (FixedKey (LocalName i)) (FixedKey (GlobalName j)) la lb e = absurd (omega arith)
+distinct (FixedKey (LocalName i)) (FixedKey (LocalName j)) la lb e =
+    let same : i ≡ j = omega arith in
+    ap (λ i. FixedKey (LocalName i)) same
+distinct (FixedKey (LocalName zero)) (NumberedKey h) la lb e = absurd (local_numbered h e)
+distinct (FixedKey (LocalName (suc i))) (NumberedKey h) la lb e = absurd (omega arith)
+distinct (FixedKey (LocalName i)) (GivenKey k) la lb e = absurd (none k lb)
+  where
+    none : (k : ℕ) → k < given_by_all store_function store_function.body 0 → ⊥
+    none k lt = omega arith
+distinct (NumberedKey h) (FixedKey (ArgumentName j)) la lb e = absurd (omega arith)
+distinct (NumberedKey h) (FixedKey (ConstantName j)) la lb e = absurd (omega arith)
+distinct (NumberedKey h) (FixedKey (GlobalName j)) la lb e = absurd (omega arith)
+distinct (NumberedKey h) (FixedKey (LocalName zero)) la lb e = absurd (numbered_local h e)
+distinct (NumberedKey h) (FixedKey (LocalName (suc j))) la lb e = absurd (omega arith)
+distinct (NumberedKey h) (NumberedKey k) la lb e =
+    let sum : h + 48 ≡ k + 48 = thirds (h + 48) (k + 48) e in
+    let same : h ≡ k = omega arith in
+    ap NumberedKey same
+distinct (NumberedKey h) (GivenKey k) la lb e = absurd (none k lb)
+  where
+    none : (k : ℕ) → k < given_by_all store_function store_function.body 0 → ⊥
+    none k lt = omega arith
+
+ordered : (h : ℕ) → AllBelow h (operands_of (expression_of store_function h))
+ordered zero = tt
+ordered (suc zero) = tt
+ordered (suc (suc zero)) = (omega arith, tt)
+ordered (suc (suc (suc zero))) = tt
+ordered (suc (suc (suc (suc h)))) = tt
+
+plain : (h : ℕ) → WordFits store_module store_naming (expression_of store_function h)
+plain zero = tt
+plain (suc zero) = tt
+plain (suc (suc zero)) = tt
+plain (suc (suc (suc zero))) = tt
+plain (suc (suc (suc (suc h)))) = tt
+
+leaves : (h : ℕ) → LeafFits store_module store_function (handle_type store_function h) (expression_of store_function h)
+leaves zero = (tt, refl)
+leaves (suc zero) = refl
+leaves (suc (suc zero)) = tt
+leaves (suc (suc (suc zero))) = (tt, refl)
+leaves (suc (suc (suc (suc h)))) = tt
+
+no_operator : (x : Signature) (h : ℕ) → IsOneOf x (signatures_of store_module store_function (handle_type store_function h) (expression_of store_function h)) → ⊥
+no_operator x zero k = elim k [ ]
+no_operator x (suc zero) k = elim k [ ]
+no_operator x (suc (suc zero)) k = elim k [ ]
+no_operator x (suc (suc (suc zero))) k = elim k [ ]
+no_operator x (suc (suc (suc (suc h)))) k = elim k [ ]
+
+no_parts : (h : ℕ) → PartsFit store_function (handle_type store_function h) (expression_of store_function h)
+no_parts zero = tt
+no_parts (suc zero) = tt
+no_parts (suc (suc zero)) = tt
+no_parts (suc (suc (suc zero))) = tt
+no_parts (suc (suc (suc (suc h)))) = tt
+
+only_function : (i : ℕ) (f : Function) → slice_get store_module.functions i ≡ Some f → store_function ≡ f
+only_function zero f e = same_some store_function f e
+  where
+    same_some : (a b : Function) → Some a ≡ Some b → a ≡ b
+    same_some a b q = cc
+only_function (suc i) f e = absurd (none e)
+  where
+    none : None ≡ Some f → ⊥
+    none q = cc
+
+no_spelled : (x : Signature) → IsSpelled store_module x → ⊥
+no_spelled x s = go s.function (only_function s.place s.function s.there) s.among
+  where
+    go : (f : Function) → store_function ≡ f → IsOneOf x (signatures_of store_module f (handle_type f s.handle) (expression_of f s.handle)) → ⊥
+    go f e k =
+        no_operator x s.handle (subst (λ f. IsOneOf x (signatures_of store_module f (handle_type f s.handle) (expression_of f s.handle))) (sym e) k)
+
+premises : PremisesHold
+premises =
+    record {
+      fits = record { functions = refl; distinct = record { functions = λ g k lg lk e. omega arith }; all = (record { outer = refl; earlier = refl; ordered = ordered; words = plain; leaves = leaves; regular = (tt, (tt, (refl, tt))); distinct = distinct; scope = refl }, tt) };
+      environment = record { constants = refl; globals = refl };
+      consistent = record { alike = λ x y s t w o. absurd (no_spelled x s); parts = λ place f e h. subst (λ f. PartsFit f (handle_type f h) (expression_of f h)) (only_function place f e) (no_parts h) };
+    }
+
+pub rows_hold : RowsHold
+rows_hold =
+    record {
+      premises = premises;
+      store = record { fits = refl; text = refl; module_run = refl; text_run = refl };
+      unused = record { fits = refl; text = refl; module_run = refl; text_run = refl };
+      late = record { fits = refl; text = refl; module_run = refl; text_run = refl };
+      inline = record { fits = refl; text = refl; module_run = refl; text_run = refl };
+      twofold = record { fits = refl; text = refl; module_run = refl; text_run = refl };
+      sibling = record { fits = refl; text = refl; module_run = refl; text_run = refl };
+      twice = record { fits = refl; text = refl; module_run = refl; text_run = refl };
+      tail = record { fits = refl; text = refl; module_run = refl; text_run = refl };
+      folded = record { fits = refl; text = refl; module_run = refl; text_run = refl };
+      call = record { fits = refl; text = refl; module_run = refl; text_run = refl };
+      switch = record { fits = refl; text = refl; module_run = refl; text_run = refl };
+      joined = record { fits = refl; text = refl; module_run = refl; text_run = refl };
+      loop = (record { fits = refl; text = refl; module_run = refl; text_run = refl }, record { fits = refl; text = refl; module_run = refl; text_run = refl });
+      barrier = record { fits = refl; text = refl; module_run = refl; text_run = refl };
+      select = record { fits = refl; text = refl; module_run = refl; text_run = refl };
+      places = record { fits = refl; text = refl; module_run = refl; text_run = refl };
+      refused = record { continue_ = refl; after_loop = refl; emitted_again = refl };
+      told_apart = record { load_inlined_past_store = refl; every_emit_bound = refl; name_used_in_sibling_block = refl; name_of_sibling_copied = refl; continuing_uses_skipped_constant_name = refl; loop_names_kept_after_loop = refl; function_hidden_by_local = refl; pointer_argument_not_dereferenced = refl; select_accept_first = refl };
+      same_step = refl;
+    }

@@ -1,0 +1,403 @@
+-- A module whose operators are typed consistently has a typed meaning.
+use Rattle.std.proofs.Common.{◌≡◌, ◌≢◌, ◌⊎◌, inl, inr, ℕ, zero, suc, ◌+◌, ◌<◌, pos, Bool, true, false, cond, nat_eq, List, [], ◌∷◌, ◌++◌, length, Option, Some, None, ◌&&◌, slice_get, refl, sym, ap, ap₂, ◌∙◌, subst, true≢false, arith, eqb-true, eq-eqb}
+use Rattle.std.specs.Prelude.{IsTrue}
+use Rattle.std.proofs.lemmas.Bool.{eqb-false}
+use Rattle.std.proofs.lemmas.Option.{slice_get_within}
+use Rattle.shader_runs.specs.Value.{Rooted, GlobalRoot, Part, At, Selector, MemberNamed, ElementAt, step_of, ValueType, BooleanType, IntegerType, PointerType, OtherType, type_of, same_type, has_type, has_types, same_bytes, Value, Truth, Whole, Pointer, Opaque, Word, Spelled, PartWord, IndexWord, ShortCircuit, short_circuit_word}
+use Rattle.shader_runs.specs.World.{Meaning}
+use Rattle.shader_runs.specs.Program.{ConstantTree, Fixed, NamedConstant, Constructed, ConstantTrees, no_constant, constant, Expression, Constant, Operator, Access, AccessIndex, Logical, Request, Function, expression_of, handle_type, operands_of, Module}
+use Rattle.shader_runs.specs.ProgramRun.{index_value_of, part_value, decides, undecided, combined}
+use Rattle.shader_runs.specs.Scope.{is_pure}
+use Rattle.shader_runs.specs.Premises.{constant_types_of, handle_types, ConstantTyped, ConstantsTyped, LeafTyped, IsTypedIn, AllTypedIn}
+use Rattle.shader_runs.specs.Typing.{Signature, constant_signatures, constants_signatures, signatures_of, IsOneOf, first_of, later_of, IsSpelled, AccessFits, AccessIndexFits, LogicalFits, PartsFit, IsConsistent}
+use Rattle.shader_runs.specs.Correct.{HasTypedMeaning}
+use Rattle.shader_runs.proofs.Update.{and_left, and_right, and_both, same_bytes_true, same_bytes_self, same_type_true, same_type_self}
+use Rattle.shader_runs.proofs.Evaluation.{not_pointer, not_pointer_type, typed_not_pointer}
+
+abbrev pub default_value : ValueType → Value
+default_value BooleanType = Truth false
+default_value (IntegerType s) = Whole s (pos 0)
+default_value PointerType = Pointer (Rooted (GlobalRoot 0))
+default_value (OtherType s) = Opaque s 0
+
+pub default_typed : (t : ValueType) → IsTrue (has_type t (default_value t))
+default_typed BooleanType = refl
+default_typed (IntegerType s) = same_bytes_self s
+default_typed PointerType = refl
+default_typed (OtherType s) = same_bytes_self s
+
+abbrev same_selector : Selector → Selector → Bool
+same_selector (MemberNamed a) (MemberNamed b) = same_bytes a b
+same_selector (ElementAt i) (ElementAt j) = nat_eq i j
+same_selector _ _ = false
+
+same_selector_true : (a b : Selector) → IsTrue (same_selector a b) → a ≡ b
+same_selector_true (MemberNamed a) (MemberNamed b) e = ap MemberNamed (same_bytes_true a b e)
+same_selector_true (MemberNamed a) (ElementAt j) e = absurd (true≢false (sym e))
+same_selector_true (ElementAt i) (MemberNamed b) e = absurd (true≢false (sym e))
+same_selector_true (ElementAt i) (ElementAt j) e = ap ElementAt (eqb-true i j e)
+
+same_selector_self : (a : Selector) → IsTrue (same_selector a a)
+same_selector_self (MemberNamed a) = same_bytes_self a
+same_selector_self (ElementAt i) = eq-eqb i i refl
+
+abbrev same_word : Word → Word → Bool
+same_word (Spelled a) (Spelled b) = same_bytes a b
+same_word (PartWord a) (PartWord b) = same_selector a b
+same_word IndexWord IndexWord = true
+same_word _ _ = false
+
+same_word_true : (a b : Word) → IsTrue (same_word a b) → a ≡ b
+same_word_true (Spelled a) (Spelled b) e = ap Spelled (same_bytes_true a b e)
+same_word_true (Spelled a) (PartWord b) e = absurd (true≢false (sym e))
+same_word_true (Spelled a) IndexWord e = absurd (true≢false (sym e))
+same_word_true (PartWord a) (Spelled b) e = absurd (true≢false (sym e))
+same_word_true (PartWord a) (PartWord b) e = ap PartWord (same_selector_true a b e)
+same_word_true (PartWord a) IndexWord e = absurd (true≢false (sym e))
+same_word_true IndexWord (Spelled b) e = absurd (true≢false (sym e))
+same_word_true IndexWord (PartWord b) e = absurd (true≢false (sym e))
+same_word_true IndexWord IndexWord e = refl
+
+same_word_self : (a : Word) → IsTrue (same_word a a)
+same_word_self (Spelled a) = same_bytes_self a
+same_word_self (PartWord a) = same_selector_self a
+same_word_self IndexWord = refl
+
+abbrev same_types : List ValueType → List ValueType → Bool
+same_types [] [] = true
+same_types [] (y ∷ ys) = false
+same_types (x ∷ xs) [] = false
+same_types (x ∷ xs) (y ∷ ys) = same_type x y && same_types xs ys
+
+same_types_true : (a b : List ValueType) → IsTrue (same_types a b) → a ≡ b
+same_types_true [] [] e = refl
+same_types_true [] (y ∷ ys) e = absurd (true≢false (sym e))
+same_types_true (x ∷ xs) [] e = absurd (true≢false (sym e))
+same_types_true (x ∷ xs) (y ∷ ys) e =
+    ap₂ ◌∷◌ (same_type_true x y (and_left (same_type x y) (same_types xs ys) e)) (same_types_true xs ys (and_right (same_type x y) (same_types xs ys) e))
+
+same_types_self : (a : List ValueType) → IsTrue (same_types a a)
+same_types_self [] = refl
+same_types_self (x ∷ xs) = and_both (same_type x x) (same_types xs xs) (same_type_self x) (same_types_self xs)
+
+abbrev types_of : List Value → List ValueType
+types_of [] = []
+types_of (v ∷ vs) = type_of v ∷ types_of vs
+
+types_of_typed : (ts : List ValueType) (vs : List Value) → IsTrue (has_types ts vs) → types_of vs ≡ ts
+types_of_typed [] [] e = refl
+types_of_typed [] (v ∷ vs) e = absurd (true≢false (sym e))
+types_of_typed (t ∷ ts) [] e = absurd (true≢false (sym e))
+types_of_typed (t ∷ ts) (v ∷ vs) e =
+    ap₂ ◌∷◌ (sym (same_type_true t (type_of v) (and_left (has_type t v) (has_types ts vs) e))) (types_of_typed ts vs (and_right (has_type t v) (has_types ts vs) e))
+
+-- the result's type of the first operator that is spelled so over such operands
+abbrev result_in : List Signature → Word → List ValueType → ValueType
+result_in [] w ts = BooleanType
+result_in (x ∷ xs) w ts = cond (same_word x.word w && same_types x.operands ts) x.result (result_in xs w ts)
+
+abbrev meaning_of : List Signature → Meaning
+meaning_of xs w vs = default_value (result_in xs w (types_of vs))
+
+-- one of a list whose signatures agree
+result_found : (xs : List Signature) (x : Signature) → ((y : Signature) → IsOneOf y xs → y.word ≡ x.word → y.operands ≡ x.operands → y.result ≡ x.result) → IsOneOf x xs → result_in xs x.word x.operands ≡ x.result
+result_found [] x same m = elim m [ ]
+result_found (y ∷ xs) x same m = go (same_word y.word x.word && same_types y.operands x.operands) refl m (λ n. result_found xs x (λ z k. same z (later_of k)) n)
+  where
+    itself : IsTrue (same_word x.word x.word && same_types x.operands x.operands)
+    itself =
+        and_both (same_word x.word x.word) (same_types x.operands x.operands) (same_word_self x.word) (same_types_self x.operands)
+
+    first_alike : {y : Signature} {xs : List Signature} → (same_word y.word x.word && same_types y.operands x.operands) ≡ false → IsOneOf x (y ∷ xs) → IsOneOf x xs
+    first_alike e first_of = absurd (true≢false (sym itself ∙ e))
+    first_alike e (later_of m) = m
+
+    go : (b : Bool) → (same_word y.word x.word && same_types y.operands x.operands) ≡ b → IsOneOf x (y ∷ xs) → (IsOneOf x xs → result_in xs x.word x.operands ≡ x.result) → cond b y.result (result_in xs x.word x.operands) ≡ x.result
+    go true e m rest =
+        same y first_of (same_word_true y.word x.word (and_left (same_word y.word x.word) (same_types y.operands x.operands) e)) (same_types_true y.operands x.operands (and_right (same_word y.word x.word) (same_types y.operands x.operands) e))
+    go false e m rest = rest (first_alike e m)
+
+one_of_left : (x : Signature) (xs ys : List Signature) → IsOneOf x xs → IsOneOf x (xs ++ ys)
+one_of_left x [] ys m = elim m [ ]
+one_of_left x (y ∷ xs) ys first_of = first_of
+one_of_left x (y ∷ xs) ys (later_of m) = later_of (one_of_left x xs ys m)
+
+one_of_right : (x : Signature) (xs ys : List Signature) → IsOneOf x ys → IsOneOf x (xs ++ ys)
+one_of_right x [] ys m = m
+one_of_right x (y ∷ xs) ys m = later_of (one_of_right x xs ys m)
+
+one_of_either : (x : Signature) (xs ys : List Signature) → IsOneOf x (xs ++ ys) → IsOneOf x xs ⊎ IsOneOf x ys
+one_of_either x [] ys m = inr m
+one_of_either x (y ∷ xs) ys first_of = inl first_of
+one_of_either x (y ∷ xs) ys (later_of m) = go (one_of_either x xs ys m)
+  where
+    go : IsOneOf x xs ⊎ IsOneOf x ys → IsOneOf x (y ∷ xs) ⊎ IsOneOf x ys
+    go (inl n) = inl (later_of n)
+    go (inr n) = inr n
+
+abbrev at_handle : Module → Function → ℕ → List Signature
+at_handle p f h = signatures_of p f (handle_type f h) (expression_of f h)
+
+abbrev signatures_below : Module → Function → ℕ → List Signature
+signatures_below p f zero = []
+signatures_below p f (suc n) = at_handle p f n ++ signatures_below p f n
+
+abbrev signatures_in : Module → List Function → List Signature
+signatures_in p [] = []
+signatures_in p (f ∷ fs) = signatures_below p f (length f.expressions) ++ signatures_in p fs
+
+below_there : (p : Module) (f : Function) (n h : ℕ) (x : Signature) → h < n → IsOneOf x (at_handle p f h) → IsOneOf x (signatures_below p f n)
+below_there p f zero h x lt m = absurd (omega arith)
+below_there p f (suc n) h x lt m = go (nat_eq h n) refl (λ less. below_there p f n h x less m)
+  where
+    smaller : h ≢ n → h < n
+    smaller ne = omega arith
+
+    go : (b : Bool) → nat_eq h n ≡ b → (h < n → IsOneOf x (signatures_below p f n)) → IsOneOf x (at_handle p f n ++ signatures_below p f n)
+    go true e rest = one_of_left x (at_handle p f n) (signatures_below p f n) (subst (λ h. IsOneOf x (at_handle p f h)) (eqb-true h n e) m)
+    go false e rest = one_of_right x (at_handle p f n) (signatures_below p f n) (rest (smaller (eqb-false h n e)))
+
+no_signature : (x : Signature) → IsOneOf x [] → ⊥
+no_signature x m = elim m [ ]
+
+within_list : (p : Module) (f : Function) (h : ℕ) (x : Signature) → IsOneOf x (at_handle p f h) → h < length f.expressions
+within_list p f h x = go (expression_of f h) refl
+  where
+    go : (e : Option Expression) → expression_of f h ≡ e → IsOneOf x (signatures_of p f (handle_type f h) e) → h < length f.expressions
+    go None q m = absurd (no_signature x m)
+    go (Some y) q m = slice_get_within f.expressions h y q
+
+spelled_there : (p : Module) (fs : List Function) (i : ℕ) (f : Function) → slice_get fs i ≡ Some f → (h : ℕ) (x : Signature) → IsOneOf x (at_handle p f h) → IsOneOf x (signatures_in p fs)
+spelled_there p [] i f e h x m = absurd (none_here e)
+  where
+    none_here : None ≡ Some f → ⊥
+    none_here e = cc
+spelled_there p (g ∷ fs) zero f e h x m =
+    one_of_left x (signatures_below p g (length g.expressions)) (signatures_in p fs) (below_there p g (length g.expressions) h x (within_list p g h x there) there)
+  where
+    same : (a b : Function) → Some a ≡ Some b → a ≡ b
+    same a b q = cc
+
+    there : IsOneOf x (at_handle p g h)
+    there = subst (λ f. IsOneOf x (at_handle p f h)) (sym (same g f e)) m
+spelled_there p (g ∷ fs) (suc i) f e h x m =
+    one_of_right x (signatures_below p g (length g.expressions)) (signatures_in p fs) (spelled_there p fs i f e h x m)
+
+handle_of : (p : Module) (f : Function) (n : ℕ) (x : Signature) → IsOneOf x (signatures_below p f n) → (h : ℕ) × IsOneOf x (at_handle p f h)
+handle_of p f zero x m = absurd (no_signature x m)
+handle_of p f (suc n) x m =
+    go (one_of_either x (at_handle p f n) (signatures_below p f n) m) (λ k. handle_of p f n x k)
+  where
+    go : IsOneOf x (at_handle p f n) ⊎ IsOneOf x (signatures_below p f n) → (IsOneOf x (signatures_below p f n) → (h : ℕ) × IsOneOf x (at_handle p f h)) → (h : ℕ) × IsOneOf x (at_handle p f h)
+    go (inl k) rest = (n, k)
+    go (inr k) rest = rest k
+
+-- what a list of the module's last functions spells, the module spells
+spelled_in : (p : Module) (fs : List Function) (shift : ℕ) → ((i : ℕ) (f : Function) → slice_get fs i ≡ Some f → slice_get p.functions (i + shift) ≡ Some f) → (x : Signature) → IsOneOf x (signatures_in p fs) → IsSpelled p x
+spelled_in p [] shift at x m = absurd (no_signature x m)
+spelled_in p (f ∷ fs) shift at x m =
+    go (one_of_either x (signatures_below p f (length f.expressions)) (signatures_in p fs) m) (λ k. spelled_in p fs (suc shift) later x k)
+  where
+    later : (i : ℕ) (g : Function) → slice_get fs i ≡ Some g → slice_get p.functions (i + suc shift) ≡ Some g
+    later i g e =
+        let same : suc i + shift ≡ i + suc shift = omega arith in
+        subst (λ k. slice_get p.functions k ≡ Some g) same (at (suc i) g e)
+
+    go : IsOneOf x (signatures_below p f (length f.expressions)) ⊎ IsOneOf x (signatures_in p fs) → (IsOneOf x (signatures_in p fs) → IsSpelled p x) → IsSpelled p x
+    go (inl k) rest =
+        let found = handle_of p f (length f.expressions) x k in
+        record { place = 0 + shift; function = f; there = at 0 f refl; handle = found.0; among = found.1 }
+    go (inr k) rest = rest k
+
+module _ (p : Module) (consistent : IsConsistent p) where
+  abbrev All : List Signature
+  All = signatures_in p p.functions
+
+  abbrev m : Meaning
+  m = meaning_of All
+
+  all_spelled : (x : Signature) → IsOneOf x All → IsSpelled p x
+  all_spelled x k = spelled_in p p.functions 0 at x k
+    where
+      at : (i : ℕ) (f : Function) → slice_get p.functions i ≡ Some f → slice_get p.functions (i + 0) ≡ Some f
+      at i f e =
+          let same : i ≡ i + 0 = omega arith in
+          subst (λ k. slice_get p.functions k ≡ Some f) same e
+
+  -- a spelled operator gives a value of its result's type
+  spelled_typed : (x : Signature) → IsSpelled p x → (vs : List Value) → IsTrue (has_types x.operands vs) → IsTrue (has_type x.result (m x.word vs))
+  spelled_typed x s vs h =
+      let there = spelled_there p p.functions s.place s.function s.there s.handle x s.among in
+      let found = result_found All x (λ y k w o. consistent.alike y x (all_spelled y k) s w o) there in
+      let typed = ap (result_in All x.word) (types_of_typed x.operands vs h) ∙ found in
+      subst (λ t. IsTrue (has_type x.result (default_value t))) (sym typed) (default_typed x.result)
+
+  module _ (place : ℕ) (f : Function) (here : slice_get p.functions place ≡ Some f) where
+    abbrev IsHere : ℕ → Signature → Type 0
+    IsHere h x = IsOneOf x (at_handle p f h)
+
+    spelled : (h : ℕ) (x : Signature) → IsHere h x → IsSpelled p x
+    spelled h x k = record { place = place; function = f; there = here; handle = h; among = k }
+
+    mutual
+      constant_fits : (h : ℕ) (e : ConstantTree) → ((x : Signature) → IsOneOf x (constant_signatures p e) → IsHere h x) → ConstantTyped p m e
+      constant_fits h (Fixed v) at = tt
+      constant_fits h (NamedConstant i) at = tt
+      constant_fits h (Constructed w ty es) at =
+          let x : Signature = record { word = Spelled w; operands = constant_types_of p es; result = ty } in
+          (λ vs k. spelled_typed x (spelled h x (at x first_of)) vs k, constants_fit h es (λ y k. at y (later_of k)))
+
+      constants_fit : (h : ℕ) (es : ConstantTrees) → ((x : Signature) → IsOneOf x (constants_signatures p es) → IsHere h x) → ConstantsTyped p m es
+      constants_fit h no_constant at = tt
+      constants_fit h (constant e es) at =
+          (constant_fits h e (λ y k. at y (one_of_left y (constant_signatures p e) (constants_signatures p es) k)), constants_fit h es (λ y k. at y (one_of_right y (constant_signatures p e) (constants_signatures p es) k)))
+
+    leaf_fits : (h : ℕ) (e : Option Expression) → ((x : Signature) → IsOneOf x (signatures_of p f (handle_type f h) e) → IsHere h x) → LeafTyped p m e
+    leaf_fits h (Some (Constant e)) at = constant_fits h e at
+    leaf_fits h (Some (Request a w xs es)) at = constants_fit h es at
+    leaf_fits h (Some _) at = tt
+    leaf_fits h None at = tt
+
+    -- an operator's value, over values of its operands' types
+    abbrev Gives_typed : ValueType → Option Expression → List Value → Type 0
+    Gives_typed k e vs = (v : Value) × (combined m e vs ≡ Some v) × IsTrue (has_type k v)
+
+    abbrev pair_types : ValueType → ValueType → List Value → Bool
+    pair_types a b vs = has_types (a ∷ b ∷ []) vs
+
+    by_pair : (k a b : ValueType) (e : Option Expression) → ((x y : Value) → IsTrue (has_type a x) → IsTrue (has_type b y) → Gives_typed k e (x ∷ y ∷ [])) → (vs : List Value) → IsTrue (has_types (a ∷ b ∷ []) vs) → Gives_typed k e vs
+    by_pair k a b e g [] h = absurd (true≢false (sym h))
+    by_pair k a b e g (x ∷ []) h =
+        absurd (true≢false (sym (and_right (has_type a x) (has_types (b ∷ []) []) h)))
+    by_pair k a b e g (x ∷ y ∷ []) h =
+        let rest = and_right (has_type a x) (has_types (b ∷ []) (y ∷ [])) h in
+        g x y (and_left (has_type a x) (has_types (b ∷ []) (y ∷ [])) h) (and_left (has_type b y) true rest)
+    by_pair k a b e g (x ∷ y ∷ z ∷ vs) h =
+        let rest = and_right (has_type a x) (has_types (b ∷ []) (y ∷ z ∷ vs)) h in
+        absurd (true≢false (sym (and_right (has_type b y) (has_types [] (z ∷ vs)) rest)))
+
+    by_one : (k a : ValueType) (e : Option Expression) → ((x : Value) → IsTrue (has_type a x) → Gives_typed k e (x ∷ [])) → (vs : List Value) → IsTrue (has_types (a ∷ []) vs) → Gives_typed k e vs
+    by_one k a e g [] h = absurd (true≢false (sym h))
+    by_one k a e g (x ∷ []) h = g x (and_left (has_type a x) true h)
+    by_one k a e g (x ∷ y ∷ vs) h = absurd (true≢false (sym (and_right (has_type a x) (has_types [] (y ∷ vs)) h)))
+
+    pair_typed : (a b : ValueType) (x y : Value) → IsTrue (has_type a x) → IsTrue (has_type b y) → IsTrue (has_types (a ∷ b ∷ []) (x ∷ y ∷ []))
+    pair_typed a b x y h k = and_both (has_type a x) (has_types (b ∷ []) (y ∷ [])) h (and_both (has_type b y) true k refl)
+
+    index_value_is : (x y : Value) → IsTrue (not_pointer x) → index_value_of m x y ≡ Some (m IndexWord (x ∷ y ∷ []))
+    index_value_is (Truth b) y n = refl
+    index_value_is (Whole s z) y n = refl
+    index_value_is (Opaque s z) y n = refl
+    index_value_is (Pointer q) y n = absurd (true≢false (sym n))
+
+    part_value_is : (x : Selector) (b : Value) → IsTrue (not_pointer b) → part_value m x b ≡ Some (m (PartWord x) (b ∷ []))
+    part_value_is x (Truth b) n = refl
+    part_value_is x (Whole s z) n = refl
+    part_value_is x (Opaque s z) n = refl
+    part_value_is x (Pointer q) n = absurd (true≢false (sym n))
+
+    access_pointer : (i k : ValueType) → AccessFits PointerType i k → (b j : ℕ) (x y : Value) → IsTrue (has_type PointerType x) → IsTrue (has_type i y) → Gives_typed k (Some (Access b j)) (x ∷ y ∷ [])
+    access_pointer (IntegerType s) PointerType w b j (Pointer q) (Whole t z) h l = (Pointer (Part q (At z)), refl, refl)
+    access_pointer (IntegerType s) PointerType w b j (Pointer q) (Truth t) h l = absurd (true≢false (sym l))
+    access_pointer (IntegerType s) PointerType w b j (Pointer q) (Pointer t) h l = absurd (true≢false (sym l))
+    access_pointer (IntegerType s) PointerType w b j (Pointer q) (Opaque t z) h l = absurd (true≢false (sym l))
+    access_pointer i k w b j (Truth q) y h l = absurd (true≢false (sym h))
+    access_pointer i k w b j (Whole q z) y h l = absurd (true≢false (sym h))
+    access_pointer i k w b j (Opaque q z) y h l = absurd (true≢false (sym h))
+    access_pointer (IntegerType s) BooleanType w b j (Pointer q) y h l = absurd w
+    access_pointer (IntegerType s) (IntegerType t) w b j (Pointer q) y h l = absurd w
+    access_pointer (IntegerType s) (OtherType t) w b j (Pointer q) y h l = absurd w
+    access_pointer BooleanType k w b j (Pointer q) y h l = absurd w
+    access_pointer PointerType k w b j (Pointer q) y h l = absurd w
+    access_pointer (OtherType s) k w b j (Pointer q) y h l = absurd w
+
+    access_other : (a i k : ValueType) → IsTrue (not_pointer_type a) → ((vs : List Value) → IsTrue (has_types (a ∷ i ∷ []) vs) → IsTrue (has_type k (m IndexWord vs))) → (b j : ℕ) (x y : Value) → IsTrue (has_type a x) → IsTrue (has_type i y) → Gives_typed k (Some (Access b j)) (x ∷ y ∷ [])
+    access_other a i k n g b j x y h l =
+        (m IndexWord (x ∷ y ∷ []), index_value_is x y (typed_not_pointer a x n h), g (x ∷ y ∷ []) (pair_typed a i x y h l))
+
+    access_typed : (a i k : ValueType) → AccessFits a i k → ((vs : List Value) → IsTrue (has_types (a ∷ i ∷ []) vs) → IsTrue (has_type k (m IndexWord vs))) → (b j : ℕ) (x y : Value) → IsTrue (has_type a x) → IsTrue (has_type i y) → Gives_typed k (Some (Access b j)) (x ∷ y ∷ [])
+    access_typed PointerType i k w g b j x y h l = access_pointer i k w b j x y h l
+    access_typed BooleanType i k w g b j x y h l = access_other BooleanType i k refl g b j x y h l
+    access_typed (IntegerType s) i k w g b j x y h l = access_other (IntegerType s) i k refl g b j x y h l
+    access_typed (OtherType s) i k w g b j x y h l = access_other (OtherType s) i k refl g b j x y h l
+
+    part_other : (x : Selector) (a k : ValueType) → IsTrue (not_pointer_type a) → ((vs : List Value) → IsTrue (has_types (a ∷ []) vs) → IsTrue (has_type k (m (PartWord x) vs))) → (b : ℕ) (y : Value) → IsTrue (has_type a y) → Gives_typed k (Some (AccessIndex x b)) (y ∷ [])
+    part_other x a k n g b y h =
+        (m (PartWord x) (y ∷ []), part_value_is x y (typed_not_pointer a y n h), g (y ∷ []) (and_both (has_type a y) true h refl))
+
+    part_pointer : (x : Selector) (k : ValueType) → k ≡ PointerType → (b : ℕ) (y : Value) → IsTrue (has_type PointerType y) → Gives_typed k (Some (AccessIndex x b)) (y ∷ [])
+    part_pointer x k w b (Pointer q) h = (Pointer (Part q (step_of x)), refl, ap (λ k. has_type k (Pointer (Part q (step_of x)))) w)
+    part_pointer x k w b (Truth q) h = absurd (true≢false (sym h))
+    part_pointer x k w b (Whole q z) h = absurd (true≢false (sym h))
+    part_pointer x k w b (Opaque q z) h = absurd (true≢false (sym h))
+
+    part_typed : (x : Selector) (a k : ValueType) → AccessIndexFits a k → ((vs : List Value) → IsTrue (has_types (a ∷ []) vs) → IsTrue (has_type k (m (PartWord x) vs))) → (b : ℕ) (y : Value) → IsTrue (has_type a y) → Gives_typed k (Some (AccessIndex x b)) (y ∷ [])
+    part_typed x PointerType k w g b y h = part_pointer x k w b y h
+    part_typed x BooleanType k w g b y h = part_other x BooleanType k refl g b y h
+    part_typed x (IntegerType s) k w g b y h = part_other x (IntegerType s) k refl g b y h
+    part_typed x (OtherType s) k w g b y h = part_other x (OtherType s) k refl g b y h
+
+    -- what `&&` or `||` gives behind a truth value
+    truths_typed : (j : ShortCircuit) (t k : ValueType) → k ≡ BooleanType → ((vs : List Value) → IsTrue (has_types (BooleanType ∷ t ∷ []) vs) → IsTrue (has_type k (m (Spelled (short_circuit_word j)) vs))) → (a : Bool) (y : Value) → IsTrue (has_type t y) → IsTrue (has_type k (undecided m j (Truth a) y))
+    truths_typed j t k w g a (Truth b) l = ap (λ k. has_type k (Truth b)) w
+    truths_typed j t k w g a (Whole s z) l = g (Truth a ∷ Whole s z ∷ []) (pair_typed BooleanType t (Truth a) (Whole s z) refl l)
+    truths_typed j t k w g a (Pointer s) l = g (Truth a ∷ Pointer s ∷ []) (pair_typed BooleanType t (Truth a) (Pointer s) refl l)
+    truths_typed j t k w g a (Opaque s z) l = g (Truth a ∷ Opaque s z ∷ []) (pair_typed BooleanType t (Truth a) (Opaque s z) refl l)
+
+    truth_cases : (j : ShortCircuit) (t k : ValueType) → k ≡ BooleanType → ((vs : List Value) → IsTrue (has_types (BooleanType ∷ t ∷ []) vs) → IsTrue (has_type k (m (Spelled (short_circuit_word j)) vs))) → (d a : Bool) (y : Value) → IsTrue (has_type t y) → IsTrue (has_type k (cond d (Truth a) (undecided m j (Truth a) y)))
+    truth_cases j t k w g true a y l = ap (λ k. has_type k (Truth a)) w
+    truth_cases j t k w g false a y l = truths_typed j t k w g a y l
+
+    boolean_of : (a k : ValueType) → LogicalFits a k → (b : Bool) → IsTrue (has_type a (Truth b)) → (a ≡ BooleanType) × (k ≡ BooleanType)
+    boolean_of BooleanType k w b h = (refl, w)
+    boolean_of (IntegerType s) k w b h = absurd (true≢false (sym h))
+    boolean_of PointerType k w b h = absurd (true≢false (sym h))
+    boolean_of (OtherType s) k w b h = absurd (true≢false (sym h))
+
+    logical_typed : (j : ShortCircuit) (a t k : ValueType) → LogicalFits a k → ((vs : List Value) → IsTrue (has_types (a ∷ t ∷ []) vs) → IsTrue (has_type k (m (Spelled (short_circuit_word j)) vs))) → (x y : Value) → IsTrue (has_type a x) → IsTrue (has_type t y) → IsTrue (has_type k (cond (decides j x) x (undecided m j x y)))
+    logical_typed j a t k w g (Truth b) y h l =
+        let q = boolean_of a k w b h in
+        truth_cases j t k q.1 (subst (λ a. (vs : List Value) → IsTrue (has_types (a ∷ t ∷ []) vs) → IsTrue (has_type k (m (Spelled (short_circuit_word j)) vs))) q.0 g) (decides j (Truth b)) b y l
+    logical_typed j a t k w g (Whole s z) y h l = g (Whole s z ∷ y ∷ []) (pair_typed a t (Whole s z) y h l)
+    logical_typed j a t k w g (Pointer s) y h l = g (Pointer s ∷ y ∷ []) (pair_typed a t (Pointer s) y h l)
+    logical_typed j a t k w g (Opaque s z) y h l = g (Opaque s z ∷ y ∷ []) (pair_typed a t (Opaque s z) y h l)
+
+    operator_fits : (h : ℕ) (e : Option Expression) → PartsFit f (handle_type f h) e → ((x : Signature) → IsOneOf x (signatures_of p f (handle_type f h) e) → IsHere h x) → IsTrue (is_pure e) → (vs : List Value) → IsTrue (has_types (handle_types f (operands_of e)) vs) → Gives_typed (handle_type f h) e vs
+    operator_fits h (Some (Operator w xs)) fit at q vs t =
+        let x : Signature = record { word = Spelled w; operands = handle_types f xs; result = handle_type f h } in
+        (m (Spelled w) vs, refl, spelled_typed x (spelled h x (at x first_of)) vs t)
+    operator_fits h (Some (Access b i)) fit at q vs t =
+        let x : Signature = record { word = IndexWord; operands = handle_types f (b ∷ i ∷ []); result = handle_type f h } in
+        by_pair (handle_type f h) (handle_type f b) (handle_type f i) (Some (Access b i)) (access_typed (handle_type f b) (handle_type f i) (handle_type f h) fit (λ vs k. spelled_typed x (spelled h x (at x first_of)) vs k) b i) vs t
+    operator_fits h (Some (AccessIndex s b)) fit at q vs t =
+        let x : Signature = record { word = PartWord s; operands = handle_types f (b ∷ []); result = handle_type f h } in
+        by_one (handle_type f h) (handle_type f b) (Some (AccessIndex s b)) (part_typed s (handle_type f b) (handle_type f h) fit (λ vs k. spelled_typed x (spelled h x (at x first_of)) vs k) b) vs t
+    operator_fits h (Some (Logical j l r)) fit at q vs t =
+        let x : Signature = record { word = Spelled (short_circuit_word j); operands = handle_types f (l ∷ r ∷ []); result = handle_type f h } in
+        by_pair (handle_type f h) (handle_type f l) (handle_type f r) (Some (Logical j l r)) (λ a b ta tb. (cond (decides j a) a (undecided m j a b), refl, logical_typed j (handle_type f l) (handle_type f r) (handle_type f h) fit (λ vs k. spelled_typed x (spelled h x (at x first_of)) vs k) a b ta tb)) vs t
+    operator_fits h (Some _) fit at q vs t = absurd (true≢false (sym q))
+    operator_fits h None fit at q vs t = absurd (true≢false (sym q))
+
+    function_typed : IsTypedIn p m f
+    function_typed =
+        record {
+          constants = λ h. leaf_fits h (expression_of f h) (λ x k. k);
+          operators = λ h q vs t. operator_fits h (expression_of f h) (consistent.parts place f here h) (λ x k. k) q vs t;
+        }
+
+  all_typed : (fs : List Function) (shift : ℕ) → ((i : ℕ) (f : Function) → slice_get fs i ≡ Some f → slice_get p.functions (i + shift) ≡ Some f) → AllTypedIn p m fs
+  all_typed [] shift at = tt
+  all_typed (f ∷ fs) shift at = (function_typed (0 + shift) f (at 0 f refl), all_typed fs (suc shift) later)
+    where
+      later : (i : ℕ) (g : Function) → slice_get fs i ≡ Some g → slice_get p.functions (i + suc shift) ≡ Some g
+      later i g e =
+          let same : suc i + shift ≡ i + suc shift = omega arith in
+          subst (λ k. slice_get p.functions k ≡ Some g) same (at (suc i) g e)
+
+pub has_typed_meaning : HasTypedMeaning
+has_typed_meaning p consistent = (m p consistent, all_typed p consistent p.functions 0 start)
+  where
+    start : (i : ℕ) (f : Function) → slice_get p.functions i ≡ Some f → slice_get p.functions (i + 0) ≡ Some f
+    start i f e =
+        let same : i ≡ i + 0 = omega arith in
+        subst (λ k. slice_get p.functions k ≡ Some f) same e

@@ -1,0 +1,194 @@
+-- The abstract text that is written for a module.
+use Rattle.std.specs.Prelude.{ℕ, zero, suc, Bool, true, false, List, [], ◌∷◌, ◌++◌, length, Option, Some, None}
+use Rattle.shader_runs.specs.Value.{Bytes, Selector, ValueType, PointerType, Truth}
+use Rattle.shader_runs.specs.Program.{ConstantTree, Fixed, NamedConstant, Constructed, ConstantTrees, no_constant, constant, Expression, Constant, Argument, Local, Global, Load, Operator, Access, AccessIndex, Logical, Request, Result, Action, Asked, Called, Label, Statement, Emit, Store, Block, If, Switch, Loop, Break, Continue, Return, Kill, Barrier, Act, Statements, end, then, Cases, no_case, case, Function, argument_count, expression_of, handle_type, binds, from, Module}
+use Rattle.shader_runs.specs.ProgramRun.{barrier_words}
+use Rattle.shader_runs.specs.Text.{Tree, Name, LiteralOf, Apply, Deref, AddressOf, Index, PartOf, LogicalOf, Trees, no_more, more, Line, Let, Assign, Braces, IfElse, SwitchOn, LoopOf, BreakLine, ContinueLine, ReturnLine, DiscardLine, Perform, Lines, last, before, Groups, no_group, group, Variable, TextFunction, TextModule}
+use Rattle.shader_runs.specs.Scope.{Standing, Named, Handles, ModuleNames, Names, Naming, bound_name, after_one, given_after, given_by, given_by_all, after, after_all, at_start}
+
+-- a plain form, a value or a reference
+pub data Plain : Type 0 where
+  AsValue : Tree → Plain
+  AsPlace : Tree → Plain
+
+-- a reference where a value is wanted is written with `&`
+abbrev pub value_form : Plain → Tree
+value_form (AsValue e) = e
+value_form (AsPlace e) = AddressOf e
+
+-- a value where a reference is wanted is written with `*`
+abbrev pub place_form : Plain → Tree
+place_form (AsValue e) = Deref e
+place_form (AsPlace e) = e
+
+-- operands in their value forms
+abbrev pub value_forms : (ℕ → Plain) → List ℕ → Trees
+value_forms operand [] = no_more
+value_forms operand (x ∷ xs) = more (value_form (operand x)) (value_forms operand xs)
+
+-- operands in their value forms, and what stands behind them
+abbrev pub value_forms_then : (ℕ → Plain) → List ℕ → Trees → Trees
+value_forms_then operand [] tail = tail
+value_forms_then operand (x ∷ xs) tail = more (value_form (operand x)) (value_forms_then operand xs tail)
+
+-- through a pointer an index makes a reference
+abbrev pub access_form : ValueType → (base index : Plain) → Plain
+access_form PointerType b i = AsPlace (Index (place_form b) (value_form i))
+access_form _ b i = AsValue (Index (value_form b) (value_form i))
+
+-- through a pointer a member or an element makes a reference
+abbrev pub part_form : ValueType → Selector → Plain → Plain
+part_form PointerType x b = AsPlace (PartOf x (place_form b))
+part_form _ x b = AsValue (PartOf x (value_form b))
+
+abbrev mutual
+  pub constant_form : ModuleNames → ConstantTree → Tree
+  constant_form n (Fixed v) = LiteralOf v
+  constant_form n (NamedConstant i) = Name (n.constant i)
+  constant_form n (Constructed w ty es) = Apply w (constant_forms n es)
+
+  pub constant_forms : ModuleNames → ConstantTrees → Trees
+  constant_forms n no_constant = no_more
+  constant_forms n (constant e es) = more (constant_form n e) (constant_forms n es)
+
+-- a module-level variable's name is a reference if the name stands for a pointer
+abbrev pub global_form : ValueType → Tree → Plain
+global_form PointerType e = AsPlace e
+global_form _ e = AsValue e
+
+-- an expression that isn't named, over its operands' forms
+abbrev pub own_form : Naming → (ℕ → Plain) → ValueType → Option Expression → Plain
+own_form f operand k (Some (Constant e)) = AsValue (constant_form f.names.outer e)
+own_form f operand k (Some (Argument i)) = AsValue (Name (f.names.argument i))
+own_form f operand k (Some (Local i)) = AsPlace (Name (f.names.local_ i))
+own_form f operand k (Some (Global i)) = global_form k (Name (f.names.outer.global i))
+own_form f operand k (Some (Load p)) = AsValue (place_form (operand p))
+own_form f operand k (Some (Operator w xs)) = AsValue (Apply w (value_forms operand xs))
+own_form f operand k (Some (Access b i)) = access_form (handle_type f.function b) (operand b) (operand i)
+own_form f operand k (Some (AccessIndex x b)) = part_form (handle_type f.function b) x (operand b)
+own_form f operand k (Some (Logical j l r)) = AsValue (LogicalOf j (value_form (operand l)) (value_form (operand r)))
+own_form f operand k (Some (Request a w xs es)) = AsValue (Apply w (value_forms_then operand xs (constant_forms f.names.outer es)))
+own_form f operand k (Some Result) = AsValue (LiteralOf (Truth false))
+own_form f operand k None = AsValue (LiteralOf (Truth false))
+
+-- a bound handle is written as its name
+abbrev pub standing_form : Standing → Plain → Plain
+standing_form (Named x) own = AsValue (Name x)
+standing_form _ own = own
+
+-- the form of a handle below the bound
+abbrev pub written_below : Naming → Handles → ℕ → ℕ → Plain
+written_below f s zero h = AsValue (LiteralOf (Truth false))
+written_below f s (suc n) h =
+    standing_form (s h) (own_form f (written_below f s n) (handle_type f.function h) (expression_of f.function h))
+
+-- a handle's form: its name where it is bound, else its expression over its operands' forms
+abbrev pub written : Naming → Handles → ℕ → Plain
+written f s h = written_below f s (length f.function.expressions) h
+
+-- a handle in a value's position
+abbrev pub value_at : Naming → Handles → ℕ → Tree
+value_at f s h = value_form (written f s h)
+
+-- a value, if one is wanted
+abbrev pub value_if : Naming → Handles → Option ℕ → Option Tree
+value_if f s None = None
+value_if f s (Some h) = Some (value_at f s h)
+
+-- a line where a name is bound
+abbrev pub let_if : Bool → Bytes → Tree → Lines → Lines
+let_if true x e tail = before (Let x e) tail
+let_if false x e tail = tail
+
+-- the lines for emitted handles, in front of what follows
+abbrev pub lets : Naming → ℕ → List ℕ → Handles → Lines → Lines
+lets f k [] s tail = tail
+lets f k (h ∷ hs) s tail =
+    let_if (binds f.function h) (bound_name f k h) (value_form (own_form f (written f s) (handle_type f.function h) (expression_of f.function h))) (lets f (given_after f.function h k) hs (after_one f k h s) tail)
+
+-- what an action's line calls
+abbrev pub word_of : Names → Action → Bytes
+word_of n (Asked w) = w
+word_of n (Called g) = n.outer.function g
+
+-- a result is bound to its name
+abbrev pub act_line : Names → Option ℕ → Bytes → Trees → Line
+act_line n None w es = Perform w es
+act_line n (Some h) w es = Let (n.numbered h) (Apply w es)
+
+-- a line for each word
+abbrev pub perform_each : List Bytes → Lines → Lines
+perform_each [] tail = tail
+perform_each (w ∷ ws) tail = before (Perform w no_more) (perform_each ws tail)
+
+abbrev mutual
+  -- a statement's lines, in front of what follows: k names have been given, s are the handles in scope
+  pub form : Naming → ℕ → Statement → Handles → Lines → Lines
+  form f k (Emit first count) s tail = lets f k (from first count) s tail
+  form f k (Store p v) s tail = before (Assign (place_form (written f s p)) (value_at f s v)) tail
+  form f k (Block b) s tail = before (Braces (form_all f k b s)) tail
+  form f k (If c a b) s tail =
+      before (IfElse (value_at f s c) (form_all f k a s) (form_all f (given_by_all f.function a k) b s)) tail
+  form f k (Switch h cases) s tail = before (SwitchOn (value_at f s h) (form_cases f k [] cases s)) tail
+  form f k (Loop b d e) s tail =
+      let s1 = after_all f k b s in
+      let k1 = given_by_all f.function b k in
+      before (LoopOf (form_all f k b s) (form_all f k1 d s1) (value_if f (after_all f k1 d s1) e)) tail
+  form f k Break s tail = before BreakLine tail
+  form f k Continue s tail = before ContinueLine tail
+  form f k (Return v) s tail = before (ReturnLine (value_if f s v)) tail
+  form f k Kill s tail = before DiscardLine tail
+  form f k (Barrier bits) s tail = perform_each (barrier_words bits) tail
+  form f k (Act a xs r) s tail = before (act_line f.names r (word_of f.names a) (value_forms (written f s) xs)) tail
+
+  pub form_all : Naming → ℕ → Statements → Handles → Lines
+  form_all f k end s = last
+  form_all f k (then st ss) s = form f k st s (form_all f (given_by f.function st k) ss (after f k st s))
+
+  -- a case that falls through gives its label to the next one
+  pub form_cases : Naming → ℕ → List Label → Cases → Handles → Groups
+  form_cases f k labels no_case s = no_group
+  form_cases f k labels (case l b true cs) s =
+      form_cases f (given_by_all f.function b k) (labels ++ l ∷ []) cs s
+  form_cases f k labels (case l b false cs) s =
+      group (labels ++ l ∷ []) (form_all f k b s) (form_cases f (given_by_all f.function b k) [] cs s)
+
+-- the names from the index i on
+abbrev pub names_from : (ℕ → Bytes) → ℕ → ℕ → List Bytes
+names_from name i zero = []
+names_from name i (suc n) = name i ∷ names_from name (suc i) n
+
+-- the variables from the index i on, with their first values
+abbrev pub variables_from : Naming → ℕ → List (Option ℕ) → List Variable
+variables_from f i [] = []
+variables_from f i (o ∷ os) =
+    record { name = f.names.local_ i; first_value = value_if f (at_start f.function) o } ∷ variables_from f (suc i) os
+
+-- a function: its name, its parameters, its variables and its lines
+abbrev pub form_function : Naming → TextFunction
+form_function f =
+    record {
+      name = f.names.outer.function f.names.earlier;
+      parameters = names_from f.names.argument 0 (argument_count f.function);
+      variables = variables_from f 0 f.function.first_values;
+      lines = form_all f 0 f.function.body (at_start f.function);
+    }
+
+-- the functions of a module
+abbrev pub form_functions : List Naming → List TextFunction
+form_functions [] = []
+form_functions (f ∷ fs) = form_function f ∷ form_functions fs
+
+-- the functions without their names
+abbrev pub functions_of : List Naming → List Function
+functions_of [] = []
+functions_of (f ∷ fs) = f.function ∷ functions_of fs
+
+-- a module, whose functions have these names
+abbrev pub form_module : Module → ModuleNames → List Naming → TextModule
+form_module p n fs =
+    record {
+      constants = names_from n.constant 0 (length p.constant_types);
+      globals = names_from n.global 0 (length p.global_types);
+      functions = form_functions fs;
+    }

@@ -1,0 +1,113 @@
+-- How a stretch of a run ends, for a run that carries some state of its own.
+use Rattle.std.specs.Prelude.{ℕ, zero, suc, ℤ, Bool, true, false, List, Option, None}
+use Rattle.shader_runs.specs.Value.{Value, Truth, Whole, Pointer, Opaque}
+use Rattle.shader_runs.specs.World.{Event}
+
+-- why a run ends before its end: a wanted value is missing, a loop had its turns, a discard, or an answer of a wrong type
+pub data Stop : Type 0 where
+  Stuck : Stop
+  OutOfTurns : Stop
+  Discarded : Stop
+  Mistyped : Stop
+
+-- S is what the run knows of values: kept by handle, or bound by name
+pub data Outcome (S : Type 0) : Type 0 where
+  Done : S → List Event → Outcome S
+  Continued : S → List Event → Outcome S
+  Broke : S → List Event → Outcome S
+  Returned : Option Value → List Event → Outcome S
+  Stopped : Stop → List Event → Outcome S
+
+-- what goes on from a state and the events so far
+abbrev pub Next : Type 0 → Type 0
+Next S = S → List Event → Outcome S
+
+-- the next statement
+abbrev pub and_then : {S : Type 0} → Outcome S → Next S → Outcome S
+and_then (Done s t) next = next s t
+and_then (Continued s t) next = Continued s t
+and_then (Broke s t) next = Broke s t
+and_then (Returned v t) next = Returned v t
+and_then (Stopped x t) next = Stopped x t
+
+-- a loop's `continuing`, after its body ended or continued
+abbrev pub and_continue : {S : Type 0} → Outcome S → Next S → Outcome S
+and_continue (Done s t) next = next s t
+and_continue (Continued s t) next = next s t
+and_continue (Broke s t) next = Broke s t
+and_continue (Returned v t) next = Returned v t
+and_continue (Stopped x t) next = Stopped x t
+
+-- nothing leaves a `continuing` but its end and a return
+abbrev pub within : {S : Type 0} → Outcome S → Outcome S
+within (Done s t) = Done s t
+within (Continued s t) = Stopped Stuck t
+within (Broke s t) = Stopped Stuck t
+within (Returned v t) = Returned v t
+within (Stopped x t) = Stopped x t
+
+-- one turn of a loop, which ends by Broke where `break if` leaves
+abbrev pub turn : {S : Type 0} → (body continuing leave : Next S) → Next S
+turn body continuing leave s t = and_continue (body s t) (λ s1 t1. and_then (within (continuing s1 t1)) leave)
+
+-- the next turn, or what follows the loop
+abbrev pub and_again : {S : Type 0} → Outcome S → Next S → Outcome S
+and_again (Done s t) next = next s t
+and_again (Continued s t) next = Stopped Stuck t
+and_again (Broke s t) next = Done s t
+and_again (Returned v t) next = Returned v t
+and_again (Stopped x t) next = Stopped x t
+
+-- at most n turns
+abbrev pub turns : {S : Type 0} → ℕ → Next S → Next S
+turns zero once s t = Stopped OutOfTurns t
+turns (suc n) once s t = and_again (once s t) (turns n once)
+
+-- a `break` in a case leaves the switch
+abbrev pub after_switch : {S : Type 0} → Outcome S → Outcome S
+after_switch (Done s t) = Done s t
+after_switch (Continued s t) = Continued s t
+after_switch (Broke s t) = Done s t
+after_switch (Returned v t) = Returned v t
+after_switch (Stopped x t) = Stopped x t
+
+-- what a block leaves to what follows it: the state from outside
+abbrev pub closed : {S : Type 0} → S → Outcome S → Outcome S
+closed s (Done _ t) = Done s t
+closed s (Continued _ t) = Continued s t
+closed s (Broke _ t) = Broke s t
+closed s (Returned v t) = Returned v t
+closed s (Stopped x t) = Stopped x t
+
+-- the state from outside where the test holds
+abbrev pub closed_if : {S : Type 0} → Bool → S → Outcome S → Outcome S
+closed_if true s o = closed s o
+closed_if false s o = o
+
+-- a branch by a truth value
+abbrev pub chosen : {S : Type 0} → Value → List Event → (accept reject : Outcome S) → Outcome S
+chosen (Truth true) t accept reject = accept
+chosen (Truth false) t accept reject = reject
+chosen (Whole spelling z) t accept reject = Stopped Stuck t
+chosen (Pointer p) t accept reject = Stopped Stuck t
+chosen (Opaque spelling payload) t accept reject = Stopped Stuck t
+
+-- a switch goes on by an integer
+abbrev pub with_integer : {S : Type 0} → Value → List Event → (ℤ → Outcome S) → Outcome S
+with_integer (Whole spelling z) t go = go z
+with_integer (Truth b) t go = Stopped Stuck t
+with_integer (Pointer p) t go = Stopped Stuck t
+with_integer (Opaque spelling payload) t go = Stopped Stuck t
+
+-- what is reached after more events, or why nothing is
+pub data Reached (A : Type 0) : Type 0 where
+  Gives : A → List Event → Reached A
+  Halts : Stop → List Event → Reached A
+
+-- how a call ends, by how its body does
+abbrev pub answer : {S : Type 0} → Outcome S → Reached (Option Value)
+answer (Done s t) = Gives None t
+answer (Continued s t) = Halts Stuck t
+answer (Broke s t) = Halts Stuck t
+answer (Returned v t) = Gives v t
+answer (Stopped x t) = Halts x t

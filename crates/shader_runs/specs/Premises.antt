@@ -1,0 +1,261 @@
+-- What is asked of a module, of its names, of the environment and of the meaning.
+use Rattle.std.specs.Prelude.{◌≡◌, ◌≢◌, ℕ, ◌<◌, Bool, true, false, List, [], ◌∷◌, length, Option, Some, None, ◌&&◌, IsTrue}
+use Rattle.shader_runs.specs.Value.{Bytes, ValueType, PointerType, type_at, type_of, Value, has_type, has_types, Spelled}
+use Rattle.shader_runs.specs.World.{Environment, GlobalValue, Stored, Held, Meaning}
+use Rattle.shader_runs.specs.Program.{ConstantTree, Fixed, NamedConstant, Constructed, ConstantTrees, no_constant, constant, Expression, Constant, Argument, Local, Global, Operator, Request, Result, Action, Asked, Called, Statement, Block, If, Switch, Loop, Return, Barrier, Act, Statements, end, then, Cases, no_case, case, Function, argument_count, local_count, function_numbered, expression_of, handle_type, operands_of, Module}
+use Rattle.shader_runs.specs.ProgramRun.{combined, barrier_words}
+use Rattle.shader_runs.specs.Scope.{ModuleNames, Names, Naming, is_pure, given_by_all, fits_function}
+use Rattle.shader_runs.specs.Form.{functions_of}
+
+-- a name that a function's text uses from its start on
+pub data FixedName : Type 0 where
+  ArgumentName : ℕ → FixedName
+  LocalName : ℕ → FixedName
+  ConstantName : ℕ → FixedName
+  GlobalName : ℕ → FixedName
+
+-- any name that it uses
+pub data NameKey : Type 0 where
+  FixedKey : FixedName → NameKey
+  NumberedKey : ℕ → NameKey
+  GivenKey : ℕ → NameKey
+
+-- the name itself
+abbrev pub fixed_name : Names → FixedName → Bytes
+fixed_name n (ArgumentName i) = n.argument i
+fixed_name n (LocalName i) = n.local_ i
+fixed_name n (ConstantName i) = n.outer.constant i
+fixed_name n (GlobalName i) = n.outer.global i
+
+-- the name itself
+abbrev pub name_at : Names → NameKey → Bytes
+name_at n (FixedKey x) = fixed_name n x
+name_at n (NumberedKey h) = n.numbered h
+name_at n (GivenKey k) = n.given k
+
+-- the function or the module has such an item
+abbrev pub IsFixedName : Module → Function → FixedName → Type 0
+IsFixedName p f (ArgumentName i) = i < argument_count f
+IsFixedName p f (LocalName i) = i < local_count f
+IsFixedName p f (ConstantName i) = i < length p.constant_types
+IsFixedName p f (GlobalName i) = i < length p.global_types
+
+-- the function uses such a name: a handle may have one, and given names are counted
+abbrev pub IsName : Module → Function → NameKey → Type 0
+IsName p f (FixedKey x) = IsFixedName p f x
+IsName p f (NumberedKey h) = Unit {0}
+IsName p f (GivenKey k) = k < given_by_all f f.body 0
+
+-- a word that is none of a function's names, which would hide it
+abbrev pub IsNoName : Module → Naming → Bytes → Type 0
+IsNoName p f w = (a : NameKey) → IsName p f.function a → name_at f.names a ≢ w
+
+-- a word that stands for no function of the module and for no variable
+abbrev pub StandsFree : Module → Naming → Bytes → Type 0
+StandsFree p f w = ((g : ℕ) → g < f.names.earlier → f.names.outer.function g ≢ w) × IsNoName p f w
+
+-- a word that asks for an event
+abbrev pub AsksBy : Module → Naming → Bytes → Type 0
+AsksBy p f w = IsTrue (f.names.outer.is_request w) × StandsFree p f w
+
+-- an operator's word
+abbrev pub OperatesBy : Module → Naming → Bytes → Type 0
+OperatesBy p f w = (f.names.outer.is_request w ≡ false) × StandsFree p f w
+
+abbrev mutual
+  pub ConstantWords : Module → Naming → ConstantTree → Type 0
+  ConstantWords p f (Fixed v) = Unit {0}
+  ConstantWords p f (NamedConstant i) = Unit {0}
+  ConstantWords p f (Constructed w ty es) = OperatesBy p f w × ConstantsWords p f es
+
+  pub ConstantsWords : Module → Naming → ConstantTrees → Type 0
+  ConstantsWords p f no_constant = Unit {0}
+  ConstantsWords p f (constant e es) = ConstantWords p f e × ConstantsWords p f es
+
+-- the words of an expression
+abbrev pub WordFits : Module → Naming → Option Expression → Type 0
+WordFits p f (Some (Constant e)) = ConstantWords p f e
+WordFits p f (Some (Operator w xs)) = OperatesBy p f w
+WordFits p f (Some (Request a w xs es)) = AsksBy p f w × ConstantsWords p f es
+WordFits p f _ = Unit {0}
+
+-- operands stand before their expression
+abbrev pub AllBelow : ℕ → List ℕ → Type 0
+AllBelow h [] = Unit {0}
+AllBelow h (x ∷ xs) = (x < h) × AllBelow h xs
+
+-- words that ask for events
+abbrev pub EachAsks : Module → Naming → List Bytes → Type 0
+EachAsks p f [] = Unit {0}
+EachAsks p f (w ∷ ws) = AsksBy p f w × EachAsks p f ws
+
+-- a handle that a statement gives
+abbrev pub IsResult : Option Expression → Type 0
+IsResult (Some Result) = Unit {0}
+IsResult _ = ⊥
+
+-- the types of handles
+abbrev pub handle_types : Function → List ℕ → List ValueType
+handle_types f [] = []
+handle_types f (x ∷ xs) = handle_type f x ∷ handle_types f xs
+
+-- a wanted result is one that the callee gives
+abbrev pub ResultWanted : Function → Option ValueType → Option ℕ → Type 0
+ResultWanted f k None = Unit {0}
+ResultWanted f k (Some h) = k ≡ Some (handle_type f h)
+
+-- the callee wants arguments of these types
+abbrev pub CallFits : Function → Option Function → List ℕ → Option ℕ → Type 0
+CallFits f None xs r = ⊥
+CallFits f (Some callee) xs r = (handle_types f xs ≡ callee.argument_types) × ResultWanted f callee.result r
+
+-- a callee stands before its caller, and no variable hides its name
+abbrev pub ActionFits : Module → List Function → Naming → Action → List ℕ → Option ℕ → Type 0
+ActionFits p callees f (Asked w) xs r = AsksBy p f w
+ActionFits p callees f (Called g) xs r =
+    (g < f.names.earlier) × IsNoName p f (f.names.outer.function g) × CallFits f.function (function_numbered callees g) xs r
+
+-- a result is given to a result handle
+abbrev pub ResultFits : Function → Option ℕ → Type 0
+ResultFits f None = Unit {0}
+ResultFits f (Some h) = IsResult (expression_of f h)
+
+-- what is returned has the function's result type
+abbrev pub ReturnFits : Function → Option ℕ → Type 0
+ReturnFits f None = Unit {0}
+ReturnFits f (Some h) = f.result ≡ Some (handle_type f h)
+
+-- only an empty case falls through, and not the last one
+abbrev pub FallsFrom : Bool → Statements → Cases → Type 0
+FallsFrom false b cs = Unit {0}
+FallsFrom true end no_case = ⊥
+FallsFrom true end (case l b falls cs) = Unit {0}
+FallsFrom true (then s ss) cs = ⊥
+
+-- the words, calls, results and cases of a statement
+abbrev mutual
+  pub IsRegular : Module → List Function → Naming → Statement → Type 0
+  IsRegular p callees f (Block b) = AreRegular p callees f b
+  IsRegular p callees f (If c a b) = AreRegular p callees f a × AreRegular p callees f b
+  IsRegular p callees f (Switch h cases) = CasesAreRegular p callees f cases
+  IsRegular p callees f (Loop b d e) = AreRegular p callees f b × AreRegular p callees f d
+  IsRegular p callees f (Return v) = ReturnFits f.function v
+  IsRegular p callees f (Barrier bits) = EachAsks p f (barrier_words bits)
+  IsRegular p callees f (Act a xs r) = ActionFits p callees f a xs r × ResultFits f.function r
+  IsRegular p callees f _ = Unit {0}
+
+  pub AreRegular : Module → List Function → Naming → Statements → Type 0
+  AreRegular p callees f end = Unit {0}
+  AreRegular p callees f (then s ss) = IsRegular p callees f s × AreRegular p callees f ss
+
+  pub CasesAreRegular : Module → List Function → Naming → Cases → Type 0
+  CasesAreRegular p callees f no_case = Unit {0}
+  CasesAreRegular p callees f (case l b falls cs) =
+      FallsFrom falls b cs × AreRegular p callees f b × CasesAreRegular p callees f cs
+
+-- the types of a function's leaves
+abbrev mutual
+  pub constant_type : Module → ConstantTree → ValueType
+  constant_type p (Fixed v) = type_of v
+  constant_type p (NamedConstant i) = type_at p.constant_types i
+  constant_type p (Constructed w ty es) = ty
+
+  pub constant_types_of : Module → ConstantTrees → List ValueType
+  constant_types_of p no_constant = []
+  constant_types_of p (constant e es) = constant_type p e ∷ constant_types_of p es
+
+abbrev mutual
+  -- named constants lie in the module's list
+  pub ConstantInRange : Module → ConstantTree → Type 0
+  ConstantInRange p (Fixed v) = Unit {0}
+  ConstantInRange p (NamedConstant i) = i < length p.constant_types
+  ConstantInRange p (Constructed w ty es) = ConstantsInRange p es
+
+  pub ConstantsInRange : Module → ConstantTrees → Type 0
+  ConstantsInRange p no_constant = Unit {0}
+  ConstantsInRange p (constant e es) = ConstantInRange p e × ConstantsInRange p es
+
+-- a leaf has the type of its item
+abbrev pub LeafFits : Module → Function → ValueType → Option Expression → Type 0
+LeafFits p f k (Some (Constant e)) = ConstantInRange p e × (k ≡ constant_type p e)
+LeafFits p f k (Some (Argument i)) = k ≡ type_at f.argument_types i
+LeafFits p f k (Some (Local i)) = k ≡ PointerType
+LeafFits p f k (Some (Global i)) = (i < length p.global_types) × (k ≡ type_at p.global_types i)
+LeafFits p f k (Some (Request a w xs es)) = ConstantsInRange p es
+LeafFits p f k _ = Unit {0}
+
+abbrev mutual
+  -- a type's value from parts has that type whenever its parts have theirs
+  pub ConstantTyped : Module → Meaning → ConstantTree → Type 0
+  ConstantTyped p m (Fixed v) = Unit {0}
+  ConstantTyped p m (NamedConstant i) = Unit {0}
+  ConstantTyped p m (Constructed w ty es) =
+      ((vs : List Value) → IsTrue (has_types (constant_types_of p es) vs) → IsTrue (has_type ty (m (Spelled w) vs))) × ConstantsTyped p m es
+
+  pub ConstantsTyped : Module → Meaning → ConstantTrees → Type 0
+  ConstantsTyped p m no_constant = Unit {0}
+  ConstantsTyped p m (constant e es) = ConstantTyped p m e × ConstantsTyped p m es
+
+-- the operators in a leaf
+abbrev pub LeafTyped : Module → Meaning → Option Expression → Type 0
+LeafTyped p m (Some (Constant e)) = ConstantTyped p m e
+LeafTyped p m (Some (Request a w xs es)) = ConstantsTyped p m es
+LeafTyped p m _ = Unit {0}
+
+-- each operator of a function gives a value of its handle's type whenever its operands have theirs
+pub record IsTypedIn (p : Module) (m : Meaning) (f : Function) : Type 0 where
+  pub constants : (h : ℕ) → LeafTyped p m (expression_of f h)
+  pub operators : (h : ℕ) → IsTrue (is_pure (expression_of f h)) → (vs : List Value) → IsTrue (has_types (handle_types f (operands_of (expression_of f h))) vs) → (v : Value) × (combined m (expression_of f h) vs ≡ Some v) × IsTrue (has_type (handle_type f h) v)
+
+-- the operators of each function
+abbrev pub AllTypedIn : Module → Meaning → List Function → Type 0
+AllTypedIn p m [] = Unit {0}
+AllTypedIn p m (f ∷ fs) = IsTypedIn p m f × AllTypedIn p m fs
+
+-- a typed meaning of a module
+abbrev pub IsTyped : Module → Meaning → Type 0
+IsTyped p m = AllTypedIn p m p.functions
+
+-- no two of a function's names are equal
+abbrev pub AreDistinct : Module → Naming → Type 0
+AreDistinct p f =
+    (a b : NameKey) → IsName p f.function a → IsName p f.function b → name_at f.names a ≡ name_at f.names b → a ≡ b
+
+-- one function of a module, behind these
+pub record FunctionFits (p : Module) (n : ModuleNames) (callees : List Function) (f : Naming) : Type 0 where
+  pub outer : f.names.outer ≡ n
+  pub earlier : f.names.earlier ≡ length callees
+  pub ordered : (h : ℕ) → AllBelow h (operands_of (expression_of f.function h))
+  pub words : (h : ℕ) → WordFits p f (expression_of f.function h)
+  pub leaves : (h : ℕ) → LeafFits p f.function (handle_type f.function h) (expression_of f.function h)
+  pub regular : AreRegular p callees f f.function.body
+  pub distinct : AreDistinct p f
+  pub scope : IsTrue (fits_function f)
+
+-- each function behind those before it
+abbrev pub AllFit : Module → ModuleNames → List Naming → Type 0
+AllFit p n [] = Unit {0}
+AllFit p n (f ∷ fs) = FunctionFits p n (functions_of fs) f × AllFit p n fs
+
+-- what the variables' names stand for
+abbrev pub global_has_type : ValueType → GlobalValue → Bool
+global_has_type PointerType Stored = true
+global_has_type PointerType (Held v) = false
+global_has_type t Stored = false
+global_has_type t (Held v) = has_type t v
+
+-- as many variables as types, each as its type says
+abbrev pub globals_have_types : List ValueType → List GlobalValue → Bool
+globals_have_types [] [] = true
+globals_have_types [] (g ∷ gs) = false
+globals_have_types (t ∷ ts) [] = false
+globals_have_types (t ∷ ts) (g ∷ gs) = global_has_type t g && globals_have_types ts gs
+
+-- the constants, overrides and variables have their types
+pub record EnvironmentFits (p : Module) (env : Environment) : Type 0 where
+  pub constants : IsTrue (has_types p.constant_types env.constants)
+  pub globals : IsTrue (globals_have_types p.global_types env.globals)
+
+-- no two items of a module have one name
+pub record ModuleNamesAreDistinct (p : Module) (n : ModuleNames) : Type 0 where
+  pub functions : (g k : ℕ) → g < length p.functions → k < length p.functions → n.function g ≡ n.function k → g ≡ k

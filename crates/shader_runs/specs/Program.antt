@@ -1,0 +1,184 @@
+-- A module as shapes: expressions in a list, statements that name them by their index.
+use Rattle.std.specs.Prelude.{ℕ, zero, suc, ℤ, Bool, true, false, cond, ◌-◌, ◌^◌, List, [], ◌∷◌, length, Option, Some, None, ◌||◌, nat_eq, nat_le, get_or, slice_get}
+use Rattle.shader_runs.specs.Value.{Bytes, Selector, Value, ValueType, type_at, ShortCircuit}
+
+mutual
+  -- an expression over constants alone that no handle of the function names inside: a literal, a named constant or override,
+  -- or a type's value from parts (no parts: its zero value)
+  pub data ConstantTree : Type 0 where
+    Fixed : Value → ConstantTree
+    NamedConstant : (index : ℕ) → ConstantTree
+    Constructed : (word : Bytes) → ValueType → ConstantTrees → ConstantTree
+
+  pub data ConstantTrees : Type 0 where
+    no_constant : ConstantTrees
+    constant : ConstantTree → ConstantTrees → ConstantTrees
+
+-- a read of the kinds that are written by their count alone, or an image operation, which is always written
+pub data Asking : Type 0 where
+  WhenCounted : Asking
+  Always : Asking
+
+-- a request's last operands may be constants, which are written out and not by a handle: a level of zero, an offset
+pub data Expression : Type 0 where
+  Constant : ConstantTree → Expression
+  Argument : ℕ → Expression
+  Local : ℕ → Expression
+  Global : ℕ → Expression
+  Load : (pointer : ℕ) → Expression
+  Operator : (word : Bytes) → (operands : List ℕ) → Expression
+  Access : (base index : ℕ) → Expression
+  AccessIndex : Selector → (base : ℕ) → Expression
+  Logical : ShortCircuit → (left right : ℕ) → Expression
+  Request : Asking → (word : Bytes) → (operands : List ℕ) → (constants : ConstantTrees) → Expression
+  Result : Expression
+
+-- a statement that makes events with operands and may give a result
+pub data Action : Type 0 where
+  Asked : (word : Bytes) → Action
+  Called : (function : ℕ) → Action
+
+-- the set bits of a control or memory barrier
+pub record BarrierBits : Type 0 where
+  pub storage : Bool
+  pub work_group : Bool
+  pub sub_group : Bool
+  pub texture : Bool
+
+-- the value of a case
+pub data Label : Type 0 where
+  Numbered : ℤ → Label
+  Default : Label
+
+mutual
+  -- an Emit names count handles from the first on
+  pub data Statement : Type 0 where
+    Emit : (first count : ℕ) → Statement
+    Store : (pointer value : ℕ) → Statement
+    Block : Statements → Statement
+    If : (condition : ℕ) → (accept reject : Statements) → Statement
+    Switch : (selector : ℕ) → Cases → Statement
+    Loop : (body continuing : Statements) → (break_if : Option ℕ) → Statement
+    Break : Statement
+    Continue : Statement
+    Return : Option ℕ → Statement
+    Kill : Statement
+    Barrier : BarrierBits → Statement
+    Act : Action → (operands : List ℕ) → (result : Option ℕ) → Statement
+
+  pub data Statements : Type 0 where
+    end : Statements
+    then : Statement → Statements → Statements
+
+  pub data Cases : Type 0 where
+    no_case : Cases
+    case : Label → Statements → (falls_through : Bool) → Cases → Cases
+
+-- types, counts and given names are by handle, first values are the initialisers of the locals
+pub record Function : Type 0 where
+  pub argument_types : List ValueType
+  pub result : Option ValueType
+  pub first_values : List (Option ℕ)
+  pub expressions : List Expression
+  pub types : List ValueType
+  pub counts : List ℕ
+  pub given_names : List Bool
+  pub body : Statements
+
+-- how many arguments it takes
+abbrev pub argument_count : Function → ℕ
+argument_count f = length f.argument_types
+
+-- how many locals it has
+abbrev pub local_count : Function → ℕ
+local_count f = length f.first_values
+
+-- the function of this number, that of the functions behind it
+abbrev pub function_numbered : List Function → ℕ → Option Function
+function_numbered [] g = None
+function_numbered (f ∷ fs) g = cond (nat_eq g (length fs)) (Some f) (function_numbered fs g)
+
+-- the expression of a handle
+abbrev pub expression_of : Function → ℕ → Option Expression
+expression_of f h = slice_get f.expressions h
+
+-- the type of a handle
+abbrev pub handle_type : Function → ℕ → ValueType
+handle_type f h = type_at f.types h
+
+-- the handles that an expression is over
+abbrev pub operands_of : Option Expression → List ℕ
+operands_of (Some (Load p)) = p ∷ []
+operands_of (Some (Operator w xs)) = xs
+operands_of (Some (Access b i)) = b ∷ i ∷ []
+operands_of (Some (AccessIndex x b)) = b ∷ []
+operands_of (Some (Logical j l r)) = l ∷ r ∷ []
+operands_of (Some (Request a w xs es)) = xs
+operands_of _ = []
+
+-- a front end named the handle
+abbrev pub is_given : Function → ℕ → Bool
+is_given f h = get_or f.given_names h false
+
+-- a front end's name, or that many uses
+abbrev pub is_counted : Function → (least : ℕ) → ℕ → Bool
+is_counted f least h = is_given f h || nat_le least (get_or f.counts h 0)
+
+-- an access is bound by its name alone, or at a count that can't be raised any more
+abbrev pub greatest_count : ℕ
+greatest_count = 2 ^ 64 - 1
+
+-- a read is written where it counts or has a name, an image operation always
+abbrev pub is_asked : Function → ℕ → Asking → Bool
+is_asked f h WhenCounted = is_counted f 1 h
+is_asked f h Always = true
+
+-- an emitted handle that a `let` binds: an operation on images, a read that counts, an operator used twice, or what has a name
+abbrev pub binds_as : Function → ℕ → Option Expression → Bool
+binds_as f h (Some (Load p)) = is_counted f 1 h
+binds_as f h (Some (Request a w xs es)) = is_asked f h a
+binds_as f h (Some (Operator w xs)) = is_counted f 2 h
+binds_as f h (Some (Logical j l r)) = is_counted f 2 h
+binds_as f h (Some (Access b i)) = is_counted f greatest_count h
+binds_as f h (Some (AccessIndex x b)) = is_counted f greatest_count h
+binds_as f h _ = false
+
+-- a `let` binds the emitted handle
+abbrev pub binds : Function → ℕ → Bool
+binds f h = binds_as f h (expression_of f h)
+
+-- the handles from first on
+abbrev pub from : ℕ → ℕ → List ℕ
+from first zero = []
+from first (suc n) = first ∷ from (suc first) n
+
+abbrev mutual
+  -- a `continue` of the loop in whose body the statement stands
+  pub holds_continue : Statement → Bool
+  holds_continue (Emit first count) = false
+  holds_continue (Store p v) = false
+  holds_continue (Block b) = any_continue b
+  holds_continue (If c a b) = any_continue a || any_continue b
+  holds_continue (Switch h cases) = some_case_continues cases
+  holds_continue (Loop b d e) = false
+  holds_continue Break = false
+  holds_continue Continue = true
+  holds_continue (Return v) = false
+  holds_continue Kill = false
+  holds_continue (Barrier bits) = false
+  holds_continue (Act a xs r) = false
+
+  pub any_continue : Statements → Bool
+  any_continue end = false
+  any_continue (then s ss) = holds_continue s || any_continue ss
+
+  pub some_case_continues : Cases → Bool
+  some_case_continues no_case = false
+  some_case_continues (case l b falls cs) = any_continue b || some_case_continues cs
+
+-- a module: the types of its named constants and overrides and of what its variables' names stand for,
+-- and its functions, then its entry points, in their order, the last one first
+pub record Module : Type 0 where
+  pub constant_types : List ValueType
+  pub global_types : List ValueType
+  pub functions : List Function

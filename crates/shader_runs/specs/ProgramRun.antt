@@ -1,0 +1,350 @@
+-- A module's run by handles: an emitted expression is evaluated once, and its value kept.
+use Rattle.std.specs.Prelude.{ℕ, zero, suc, ℤ, Bool, true, false, cond, nat_eq, List, [], ◌∷◌, ◌++◌, length, Option, Some, None, ◌||◌, slice_get, codes}
+use Rattle.shader_runs.specs.Value.{Bytes, same_integer, Place, Part, Rooted, GlobalRoot, LocalRoot, At, step_of, ValueType, has_type, Selector, Value, Truth, Whole, Pointer, Opaque, Word, Spelled, PartWord, IndexWord, ShortCircuit, short_circuit_word, is_decided}
+use Rattle.shader_runs.specs.World.{Event, Entry, Ask, Read, Write, Discard, entries, World, Meaning, GlobalValue, Stored, Held, Environment, update}
+use Rattle.shader_runs.specs.Outcome.{Stuck, Discarded, Mistyped, Outcome, Done, Continued, Broke, Returned, Stopped, Reached, Gives, Halts, answer, Next, and_then, turn, turns, after_switch, chosen, with_integer}
+use Rattle.shader_runs.specs.Program.{ConstantTree, Fixed, NamedConstant, Constructed, ConstantTrees, no_constant, constant, Expression, Constant, Argument, Local, Global, Load, Operator, Access, AccessIndex, Logical, Request, Action, Asked, Called, BarrierBits, Label, Numbered, Default, Statement, Emit, Store, Block, If, Switch, Loop, Break, Continue, Return, Kill, Barrier, Act, Statements, end, then, Cases, no_case, case, Function, argument_count, expression_of, handle_type, operands_of, is_counted, is_asked, from}
+
+-- one call of a function: callees are the functions before it and calls what they do, frame is the number of entries before it
+pub record Call : Type 0 where
+  pub function : Function
+  pub callees : List Function
+  pub environment : Environment
+  pub world : World
+  pub meaning : Meaning
+  pub arguments : List Value
+  pub frame : ℕ
+  pub calls : ℕ → List Value → List Event → Reached (Option Value)
+
+-- the value kept for each handle
+abbrev pub Kept : Type 0
+Kept = ℕ → Option Value
+
+-- one more value, if all are there
+abbrev pub also : Option Value → Option (List Value) → Option (List Value)
+also None vs = None
+also (Some v) None = None
+also (Some v) (Some vs) = Some (v ∷ vs)
+
+-- an operator's value, if all its operands have theirs
+abbrev pub applied : Meaning → Word → Option (List Value) → Option Value
+applied m w None = None
+applied m w (Some vs) = Some (m w vs)
+
+abbrev mutual
+  -- the value of a tree over constants alone
+  pub constant_value : Environment → Meaning → ConstantTree → Option Value
+  constant_value env m (Fixed v) = Some v
+  constant_value env m (NamedConstant i) = slice_get env.constants i
+  constant_value env m (Constructed w ty es) = applied m (Spelled w) (constant_values env m es)
+
+  pub constant_values : Environment → Meaning → ConstantTrees → Option (List Value)
+  constant_values env m no_constant = Some []
+  constant_values env m (constant e es) = also (constant_value env m e) (constant_values env m es)
+
+-- what a module-level variable's name gives: a pointer to it, or the value itself
+abbrev pub global_value : ℕ → Option GlobalValue → Option Value
+global_value i None = None
+global_value i (Some Stored) = Some (Pointer (Rooted (GlobalRoot i)))
+global_value i (Some (Held v)) = Some v
+
+-- what a use of a handle takes
+abbrev pub used_as : Call → Option Expression → Option Value → Option Value
+used_as c (Some (Constant e)) kept = constant_value c.environment c.meaning e
+used_as c (Some (Argument i)) kept = slice_get c.arguments i
+used_as c (Some (Local i)) kept = Some (Pointer (Rooted (LocalRoot c.frame i)))
+used_as c (Some (Global i)) kept = global_value i (slice_get c.environment.globals i)
+used_as c None kept = None
+used_as c _ kept = kept
+
+-- what a use of this handle takes
+abbrev pub used : Call → Kept → ℕ → Option Value
+used c kept h = used_as c (expression_of c.function h) (kept h)
+
+-- what uses of these handles take
+abbrev pub used_all : Call → Kept → List ℕ → Option (List Value)
+used_all c kept [] = Some []
+used_all c kept (x ∷ xs) = also (used c kept x) (used_all c kept xs)
+
+-- of one operand
+abbrev pub on_one : (Value → Option Value) → List Value → Option Value
+on_one f [] = None
+on_one f (x ∷ []) = f x
+on_one f (x ∷ y ∷ vs) = None
+
+-- of two operands
+abbrev pub on_two : (Value → Value → Option Value) → List Value → Option Value
+on_two f [] = None
+on_two f (x ∷ []) = None
+on_two f (x ∷ y ∷ []) = f x y
+on_two f (x ∷ y ∷ z ∷ vs) = None
+
+-- an index through a pointer makes a pointer to the part; into another value it gives what the meaning says
+abbrev pub index_value_of : Meaning → Value → Value → Option Value
+index_value_of m (Pointer p) (Whole spelling z) = Some (Pointer (Part p (At z)))
+index_value_of m (Pointer p) (Truth b) = None
+index_value_of m (Pointer p) (Pointer q) = None
+index_value_of m (Pointer p) (Opaque spelling payload) = None
+index_value_of m v i = Some (m IndexWord (v ∷ i ∷ []))
+
+-- a member or an element through a pointer makes a pointer to the part; of another value it is what the meaning says
+abbrev pub part_value : Meaning → Selector → Value → Option Value
+part_value m x (Pointer p) = Some (Pointer (Part p (step_of x)))
+part_value m x v = Some (m (PartWord x) (v ∷ []))
+
+-- whether the left side's value decides
+abbrev pub decides : ShortCircuit → Value → Bool
+decides j (Truth a) = is_decided j a
+decides j (Whole spelling z) = false
+decides j (Pointer p) = false
+decides j (Opaque spelling payload) = false
+
+-- where it doesn't: the right side's truth value, and what the meaning says of other values
+abbrev pub undecided : Meaning → ShortCircuit → Value → Value → Value
+undecided m j (Truth a) (Truth b) = Truth b
+undecided m j l r = m (Spelled (short_circuit_word j)) (l ∷ r ∷ [])
+
+-- `&&` and `||`
+abbrev pub logical_value : Meaning → ShortCircuit → Value → Value → Option Value
+logical_value m j l r = Some (cond (decides j l) l (undecided m j l r))
+
+-- an operator's value at its operands' values
+abbrev pub combined : Meaning → Option Expression → List Value → Option Value
+combined m (Some (Operator w xs)) vs = Some (m (Spelled w) vs)
+combined m (Some (Access b i)) vs = on_two (index_value_of m) vs
+combined m (Some (AccessIndex x b)) vs = on_one (part_value m x) vs
+combined m (Some (Logical j l r)) vs = on_two (logical_value m j) vs
+combined m _ vs = None
+
+-- an operator without all its operands has no value
+abbrev pub gathered : Meaning → Option Expression → Option (List Value) → Option Value
+gathered m e None = None
+gathered m e (Some vs) = combined m e vs
+
+-- an expression's value now, over the kept values
+abbrev pub computed : Call → Kept → Option Expression → Option Value
+computed c kept e = gathered c.meaning e (used_all c kept (operands_of e))
+
+-- an answer of another type than the module's
+abbrev pub if_typed : {S : Type 0} → Bool → List Event → Outcome S → Outcome S
+if_typed true t o = o
+if_typed false t o = Stopped Mistyped t
+
+-- an answer is kept, if it has its type
+abbrev pub keep_typed : ValueType → ℕ → Value → Next Kept
+keep_typed k h v kept t = if_typed (has_type k v) t (Done (update kept h (Some v)) t)
+
+-- goes on with a value, or is stuck
+abbrev pub with_used : {S : Type 0} → Option Value → List Event → (Value → Outcome S) → Outcome S
+with_used None t go = Stopped Stuck t
+with_used (Some v) t go = go v
+
+-- a handle without its pointer's value gets none
+abbrev pub loaded : ValueType → World → ℕ → Option Value → Next Kept
+loaded k w h None kept t = Done (update kept h None) t
+loaded k w h (Some (Pointer p)) kept t = keep_typed k h (w t (Read p)) kept (Read p ∷ t)
+loaded k w h (Some (Truth b)) kept t = Stopped Stuck t
+loaded k w h (Some (Whole spelling z)) kept t = Stopped Stuck t
+loaded k w h (Some (Opaque spelling payload)) kept t = Stopped Stuck t
+
+-- the operands' values, and those of the constants behind them
+abbrev pub joined : Option (List Value) → Option (List Value) → Option (List Value)
+joined None us = None
+joined (Some vs) None = None
+joined (Some vs) (Some us) = Some (vs ++ us)
+
+-- a handle without its operands' values gets none
+abbrev pub asked : ValueType → World → ℕ → Bytes → Option (List Value) → Next Kept
+asked k w h word None kept t = Done (update kept h None) t
+asked k w h word (Some vs) kept t = keep_typed k h (w t (Ask word vs)) kept (Ask word vs ∷ t)
+
+-- what isn't written is no event
+abbrev pub if_counted : Bool → Next Kept → Next Kept
+if_counted true next kept t = next kept t
+if_counted false next kept t = Done kept t
+
+-- an emitted expression: an event is asked for, an operator computed
+abbrev pub emit_as : Call → ℕ → Option Expression → Next Kept
+emit_as c h (Some (Load p)) kept t = if_counted (is_counted c.function 1 h) (loaded (handle_type c.function h) c.world h (used c kept p)) kept t
+emit_as c h (Some (Request a w xs es)) kept t = if_counted (is_asked c.function h a) (asked (handle_type c.function h) c.world h w (joined (used_all c kept xs) (constant_values c.environment c.meaning es))) kept t
+emit_as c h (Some (Operator w xs)) kept t = Done (update kept h (computed c kept (Some (Operator w xs)))) t
+emit_as c h (Some (Access b i)) kept t = Done (update kept h (computed c kept (Some (Access b i)))) t
+emit_as c h (Some (AccessIndex x b)) kept t = Done (update kept h (computed c kept (Some (AccessIndex x b)))) t
+emit_as c h (Some (Logical j l r)) kept t = Done (update kept h (computed c kept (Some (Logical j l r)))) t
+emit_as c h _ kept t = Done kept t
+
+-- handles are emitted in order
+abbrev pub emit : Call → List ℕ → Next Kept
+emit c [] kept t = Done kept t
+emit c (h ∷ hs) kept t = and_then (emit_as c h (expression_of c.function h) kept t) (emit c hs)
+
+-- goes on with a place, or is stuck
+abbrev pub with_pointer : {S : Type 0} → Option Value → List Event → (Place → Outcome S) → Outcome S
+with_pointer (Some (Pointer p)) t go = go p
+with_pointer None t go = Stopped Stuck t
+with_pointer (Some (Truth b)) t go = Stopped Stuck t
+with_pointer (Some (Whole spelling z)) t go = Stopped Stuck t
+with_pointer (Some (Opaque spelling payload)) t go = Stopped Stuck t
+
+-- after `continuing`: Broke where the loop is left
+abbrev pub leave : Call → Option ℕ → Next Kept
+leave c None kept t = Done kept t
+leave c (Some h) kept t = with_used (used c kept h) t (λ v. chosen v t (Broke kept t) (Done kept t))
+
+-- what is returned
+abbrev pub returned : Call → Option ℕ → Next Kept
+returned c None kept t = Returned None t
+returned c (Some h) kept t = with_used (used c kept h) t (λ v. Returned (Some v) t)
+
+-- what an action does with its operands' values
+abbrev pub acted : Call → Action → List Value → List Event → Reached (Option Value)
+acted c (Asked w) vs t = Gives (Some (c.world t (Ask w vs))) (Ask w vs ∷ t)
+acted c (Called g) vs t = c.calls g vs t
+
+-- an action's result is kept where one is wanted
+abbrev pub with_result : Function → Action → Option ℕ → Kept → Reached (Option Value) → Outcome Kept
+with_result f a None kept (Gives v t) = Done kept t
+with_result f a None kept (Halts x t) = Stopped x t
+with_result f a (Some h) kept (Gives None t) = Stopped Stuck t
+with_result f (Asked w) (Some h) kept (Gives (Some v) t) = keep_typed (handle_type f h) h v kept t
+with_result f (Called g) (Some h) kept (Gives (Some v) t) = Done (update kept h (Some v)) t
+with_result f a (Some h) kept (Halts x t) = Stopped x t
+
+-- goes on with all operands' values, or is stuck
+abbrev pub with_all : {S : Type 0} → Option (List Value) → List Event → (List Value → Outcome S) → Outcome S
+with_all None t go = Stopped Stuck t
+with_all (Some vs) t go = go vs
+
+-- the word of a set bit
+abbrev pub word_if : Bool → Bytes → List Bytes → List Bytes
+word_if true w ws = w ∷ ws
+word_if false w ws = ws
+
+-- a barrier's words, one for each set bit
+abbrev pub barrier_words : BarrierBits → List Bytes
+barrier_words bits =
+    word_if bits.storage (codes "storageBarrier") (word_if bits.work_group (codes "workgroupBarrier") (word_if bits.sub_group (codes "subgroupBarrier") (word_if bits.texture (codes "textureBarrier") [])))
+
+-- one event for each word
+abbrev pub ask_each : List Bytes → Next Kept
+ask_each [] kept t = Done kept t
+ask_each (w ∷ ws) kept t = ask_each ws kept (Ask w [] ∷ t)
+
+-- the same case
+abbrev pub same_label : Label → Label → Bool
+same_label (Numbered y) (Numbered z) = same_integer y z
+same_label Default Default = true
+same_label _ _ = false
+
+-- some case has this label
+abbrev pub has_label : Label → Cases → Bool
+has_label x no_case = false
+has_label x (case l b falls cs) = same_label x l || has_label x cs
+
+-- the label that an integer goes to: its own, or else the default
+abbrev pub label_if : Bool → ℤ → Label
+label_if true z = Numbered z
+label_if false z = Default
+
+abbrev mutual
+  -- each loop makes at most n turns
+  pub run : Call → ℕ → Statement → Next Kept
+  run c n (Emit first count) kept t = emit c (from first count) kept t
+  run c n (Store p v) kept t =
+      with_pointer (used c kept p) t (λ place. with_used (used c kept v) t (λ value. Done kept (Write place value ∷ t)))
+  run c n (Block b) kept t = run_all c n b kept t
+  run c n (If h a b) kept t = with_used (used c kept h) t (λ v. chosen v t (run_all c n a kept t) (run_all c n b kept t))
+  run c n (Switch h cases) kept t =
+      with_used (used c kept h) t (λ v. with_integer v t (λ z. after_switch (run_cases c n cases (label_if (has_label (Numbered z) cases) z) kept t)))
+  run c n (Loop b d e) kept t = turns n (turn (run_all c n b) (run_all c n d) (leave c e)) kept t
+  run c n Break kept t = Broke kept t
+  run c n Continue kept t = Continued kept t
+  run c n (Return v) kept t = returned c v kept t
+  run c n Kill kept t = Stopped Discarded (Discard ∷ t)
+  run c n (Barrier bits) kept t = ask_each (barrier_words bits) kept t
+  run c n (Act a xs r) kept t = with_all (used_all c kept xs) t (λ vs. with_result c.function a r kept (acted c a vs t))
+
+  pub run_all : Call → ℕ → Statements → Next Kept
+  run_all c n end kept t = Done kept t
+  run_all c n (then s ss) kept t = and_then (run c n s kept t) (run_all c n ss)
+
+  -- from the case with this label on
+  pub run_cases : Call → ℕ → Cases → Label → Next Kept
+  run_cases c n no_case x kept t = Done kept t
+  run_cases c n (case l b falls cs) x kept t =
+      cond (same_label x l) (and_then (run_all c n b kept t) (λ kept1 t1. cond falls (run_on c n cs kept1 t1) (Done kept1 t1))) (run_cases c n cs x kept t)
+
+  -- on from a case that fell through
+  pub run_on : Call → ℕ → Cases → Next Kept
+  run_on c n no_case kept t = Done kept t
+  run_on c n (case l b falls cs) kept t =
+      and_then (run_all c n b kept t) (λ kept1 t1. cond falls (run_on c n cs kept1 t1) (Done kept1 t1))
+
+-- all values, if they are there
+abbrev pub all_of : (ℕ → Option Value) → List ℕ → Option (List Value)
+all_of value [] = Some []
+all_of value (x ∷ xs) = also (value x) (all_of value xs)
+
+-- a constant's own value, or what its operands give
+abbrev pub or_constant : Environment → Meaning → Option Expression → Option Value → Option Value
+or_constant env m (Some (Constant e)) o = constant_value env m e
+or_constant env m _ o = o
+
+-- the value of a constant tree, over its operands' values
+abbrev pub constant_as : Environment → Meaning → (ℕ → Option Value) → Option Expression → Option Value
+constant_as env m value e = or_constant env m e (gathered m e (all_of value (operands_of e)))
+
+-- the values of constant trees up to a bound on their handles
+abbrev pub constant_below : Function → Environment → Meaning → ℕ → Kept
+constant_below f env m zero h = None
+constant_below f env m (suc n) h = constant_as env m (constant_below f env m n) (expression_of f h)
+
+-- the values of constant trees are there from the start
+abbrev pub constants_kept : Function → Environment → Meaning → Kept
+constants_kept f env m = constant_below f env m (length f.expressions)
+
+-- one more first value
+abbrev pub with_first : Option (Option Value) → Option (List (Option Value)) → Option (List (Option Value))
+with_first None firsts = None
+with_first (Some v) None = None
+with_first (Some v) (Some firsts) = Some (v ∷ firsts)
+
+-- a first value that is there
+abbrev pub wrapped : Option Value → Option (Option Value)
+wrapped None = None
+wrapped (Some v) = Some (Some v)
+
+-- a local has no first value, or that of its initialiser
+abbrev pub first_used : Call → Kept → Option ℕ → Option (Option Value)
+first_used c kept None = Some None
+first_used c kept (Some h) = wrapped (used c kept h)
+
+-- the first values of all locals
+abbrev pub first_used_all : Call → Kept → List (Option ℕ) → Option (List (Option Value))
+first_used_all c kept [] = Some []
+first_used_all c kept (o ∷ os) = with_first (first_used c kept o) (first_used_all c kept os)
+
+-- a body's run behind the entry, with the first values of the locals
+abbrev pub entered : ℕ → List Value → Option (List (Option Value)) → List Event → (List Event → Reached (Option Value)) → Reached (Option Value)
+entered g vs None t body = Halts Stuck t
+entered g vs (Some firsts) t body = body (Entry g vs firsts ∷ t)
+
+-- a body, from the first values of its locals on
+abbrev pub run_body : Call → ℕ → ℕ → List Value → List Event → Reached (Option Value)
+run_body c n g vs t =
+    let kept = constants_kept c.function c.environment c.meaning in
+    entered g vs (first_used_all c kept c.function.first_values) t (λ t1. answer (run_all c n c.function.body kept t1))
+
+-- a call with another number of arguments is stuck
+abbrev pub called : Bool → Reached (Option Value) → List Event → Reached (Option Value)
+called true a t = a
+called false a t = Halts Stuck t
+
+-- a call of one of these functions, the last one first: its number is that of the functions behind it
+abbrev pub run_call : Environment → World → Meaning → ℕ → List Function → ℕ → List Value → List Event → Reached (Option Value)
+run_call env w m n [] g vs t = Halts Stuck t
+run_call env w m n (f ∷ fs) g vs t =
+    let c : Call = record { function = f; callees = fs; environment = env; world = w; meaning = m; arguments = vs; frame = entries t; calls = run_call env w m n fs } in
+    let own = called (nat_eq (length vs) (argument_count f)) (run_body c n (length fs) vs t) t in
+    let other = run_call env w m n fs g vs t in
+    cond (nat_eq g (length fs)) own other

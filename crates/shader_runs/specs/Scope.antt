@@ -1,0 +1,264 @@
+-- What is bound and what is in scope at each point of a function, and the check of both.
+use Rattle.std.specs.Prelude.{ℕ, zero, suc, Bool, true, false, cond, not, nat_lt, List, [], ◌∷◌, length, Option, Some, None, ◌&&◌, ◌||◌}
+use Rattle.shader_runs.specs.Value.{Bytes}
+use Rattle.shader_runs.specs.World.{update}
+use Rattle.shader_runs.specs.Program.{Expression, Constant, Argument, Local, Global, Load, Operator, Access, AccessIndex, Logical, Request, Statement, Emit, Store, Block, If, Switch, Loop, Return, Act, Statements, end, then, Cases, no_case, case, Function, argument_count, local_count, expression_of, operands_of, is_given, binds, from, holds_continue}
+
+-- a handle at a point: not emitted here; emitted where an operand was out of scope; a constant tree that wasn't emitted here;
+-- written where it is used; or bound under a name
+pub data Standing : Type 0 where
+  Absent : Standing
+  Barred : Standing
+  Everywhere : Standing
+  Inline : Standing
+  Named : Bytes → Standing
+
+-- the standing of each handle
+abbrev pub Handles : Type 0
+Handles = ℕ → Standing
+
+-- the names of a module's items. is_request: the words that ask for an event
+pub record ModuleNames : Type 0 where
+  pub constant : ℕ → Bytes
+  pub global : ℕ → Bytes
+  pub function : ℕ → Bytes
+  pub is_request : Bytes → Bool
+
+-- the names that a function's text uses. given: the front ends' names, in text order; numbered: those by the handle;
+-- earlier: how many functions stand before this one
+pub record Names : Type 0 where
+  pub outer : ModuleNames
+  pub argument : ℕ → Bytes
+  pub local_ : ℕ → Bytes
+  pub given : ℕ → Bytes
+  pub numbered : ℕ → Bytes
+  pub earlier : ℕ
+
+-- a function with its names
+pub record Naming : Type 0 where
+  pub function : Function
+  pub names : Names
+
+-- an emitted handle's name, behind k given ones
+abbrev pub bound_name : Naming → ℕ → ℕ → Bytes
+bound_name f k h = cond (is_given f.function h) (f.names.given k) (f.names.numbered h)
+
+-- it may be written
+abbrev pub is_present : Standing → Bool
+is_present Absent = false
+is_present Barred = false
+is_present Everywhere = true
+is_present Inline = true
+is_present (Named x) = true
+
+-- an Emit may give it: no Emit in this block or an enclosing one did
+abbrev pub is_new : Standing → Bool
+is_new Absent = true
+is_new Barred = false
+is_new Everywhere = true
+is_new Inline = false
+is_new (Named x) = false
+
+-- leaves are in scope everywhere, and other expressions by their standing
+abbrev pub usable_as : Function → Option Expression → Standing → Bool
+usable_as f (Some (Constant e)) s = true
+usable_as f (Some (Argument i)) s = nat_lt i (argument_count f)
+usable_as f (Some (Local i)) s = nat_lt i (local_count f)
+usable_as f (Some (Global i)) s = true
+usable_as f None s = false
+usable_as f _ s = is_present s
+
+-- a handle in scope
+abbrev pub usable : Function → Handles → ℕ → Bool
+usable f s h = usable_as f (expression_of f h) (s h)
+
+-- all these handles are in scope
+abbrev pub usable_all : Function → Handles → List ℕ → Bool
+usable_all f s [] = true
+usable_all f s (x ∷ xs) = usable f s x && usable_all f s xs
+
+-- a handle is in scope, if one is wanted
+abbrev pub usable_if : Function → Handles → Option ℕ → Bool
+usable_if f s None = true
+usable_if f s (Some h) = usable f s h
+
+-- an operator, which makes no event
+abbrev pub is_pure : Option Expression → Bool
+is_pure (Some (Operator w xs)) = true
+is_pure (Some (Access b i)) = true
+is_pure (Some (AccessIndex x b)) = true
+is_pure (Some (Logical j l r)) = true
+is_pure _ = false
+
+-- the test holds of all these handles
+abbrev pub all_constant : (ℕ → Bool) → List ℕ → Bool
+all_constant test [] = true
+all_constant test (x ∷ xs) = test x && all_constant test xs
+
+-- a constant by itself
+abbrev pub is_constant_leaf : Option Expression → Bool
+is_constant_leaf (Some (Constant e)) = true
+is_constant_leaf _ = false
+
+-- a constant, or an operator over constant trees
+abbrev pub constant_test : (ℕ → Bool) → Option Expression → Bool
+constant_test test e = is_constant_leaf e || (is_pure e && all_constant test (operands_of e))
+
+-- the test up to a bound on the handles
+abbrev pub is_constant_below : Function → ℕ → ℕ → Bool
+is_constant_below f zero h = false
+is_constant_below f (suc n) h = constant_test (is_constant_below f n) (expression_of f h)
+
+-- a constant tree at the start
+abbrev pub start_standing : Bool → Standing
+start_standing true = Everywhere
+start_standing false = Absent
+
+-- constant trees are in scope from the start
+abbrev pub start_below : Function → ℕ → Handles
+start_below f n h = start_standing (is_pure (expression_of f h) && is_constant_below f n h)
+
+-- the handles in scope at the start of a function
+abbrev pub at_start : Function → Handles
+at_start f = start_below f (length f.expressions)
+
+-- an operator that no name binds is written where it is used, if its operands are in scope here
+abbrev pub unbound : Bool → Standing → Standing
+unbound true s = Inline
+unbound false Absent = Barred
+unbound false s = s
+
+-- a read that isn't bound is never in scope
+abbrev pub emitted : (is_bound is_operator has_operands : Bool) → Bytes → Handles → ℕ → Handles
+emitted true o u x s h = update s h (Named x)
+emitted false true u x s h = update s h (unbound u (s h))
+emitted false false u x s h = s
+
+-- the handles in scope after one is emitted, k names having been given
+abbrev pub after_one : Naming → ℕ → ℕ → Handles → Handles
+after_one f k h s =
+    let e = expression_of f.function h in
+    emitted (binds f.function h) (is_pure e) (usable_all f.function s (operands_of e)) (bound_name f k h) s h
+
+-- how many names are given after a handle
+abbrev pub given_after : Function → ℕ → ℕ → ℕ
+given_after f h k = cond (is_given f h) (suc k) k
+
+-- how many names are given after these handles
+abbrev pub given_after_all : Function → List ℕ → ℕ → ℕ
+given_after_all f [] k = k
+given_after_all f (h ∷ hs) k = given_after_all f hs (given_after f h k)
+
+-- the handles in scope after an Emit
+abbrev pub after_emit : Naming → ℕ → List ℕ → Handles → Handles
+after_emit f k [] s = s
+after_emit f k (h ∷ hs) s = after_emit f (given_after f.function h k) hs (after_one f k h s)
+
+-- how many names are given after a statement
+abbrev mutual
+  pub given_by : Function → Statement → ℕ → ℕ
+  given_by f (Emit first count) k = given_after_all f (from first count) k
+  given_by f (Block b) k = given_by_all f b k
+  given_by f (If c a b) k = given_by_all f b (given_by_all f a k)
+  given_by f (Switch h cases) k = given_by_cases f cases k
+  given_by f (Loop b d e) k = given_by_all f d (given_by_all f b k)
+  given_by f _ k = k
+
+  pub given_by_all : Function → Statements → ℕ → ℕ
+  given_by_all f end k = k
+  given_by_all f (then s ss) k = given_by_all f ss (given_by f s k)
+
+  pub given_by_cases : Function → Cases → ℕ → ℕ
+  given_by_cases f no_case k = k
+  given_by_cases f (case l b falls cs) k = given_by_cases f cs (given_by_all f b k)
+
+-- a result is bound to its own name
+abbrev pub after_result : Names → Option ℕ → Handles → Handles
+after_result n None s = s
+after_result n (Some h) s = update s h (Named (n.numbered h))
+
+-- the handles in scope after a statement
+abbrev pub after : Naming → ℕ → Statement → Handles → Handles
+after f k (Emit first count) s = after_emit f k (from first count) s
+after f k (Act a xs r) s = after_result f.names r s
+after f k _ s = s
+
+-- a constant tree that was emitted meanwhile isn't emitted again, and is written where it is used
+abbrev pub forgotten_one : Standing → Standing → Standing
+forgotten_one Everywhere now = cond (is_new now) Everywhere Inline
+forgotten_one Absent now = Absent
+forgotten_one Barred now = Barred
+forgotten_one Inline now = Inline
+forgotten_one (Named x) now = Named x
+
+-- the same for all handles
+abbrev pub forgotten : Handles → Handles → Handles
+forgotten s now h = forgotten_one (s h) (now h)
+
+-- names are forgotten behind a statement that holds a `continue`
+abbrev pub forgotten_if : Bool → Handles → Handles → Handles
+forgotten_if true s now = forgotten s now
+forgotten_if false s now = now
+
+-- those that a list leaves to its loop's `continuing`: no name from the first statement with a `continue` on
+abbrev pub after_all : Naming → ℕ → Statements → Handles → Handles
+after_all f k end s = s
+after_all f k (then st ss) s =
+    forgotten_if (holds_continue st) s (after_all f (given_by f.function st k) ss (after f k st s))
+
+-- an Emit of a result, or of what is in scope everywhere, is refused
+abbrev pub is_emittable : Option Expression → Bool
+is_emittable (Some (Load p)) = true
+is_emittable (Some (Request a w xs es)) = true
+is_emittable e = is_pure e
+
+-- a handle may be emitted, and what a name binds has its operands in scope
+abbrev pub may_emit : Function → ℕ → Handles → Bool
+may_emit f h s =
+    is_new (s h) && (is_emittable (expression_of f h) && (not (binds f h) || usable_all f s (operands_of (expression_of f h))))
+
+-- an Emit of these handles
+abbrev pub may_emit_all : Naming → ℕ → List ℕ → Handles → Bool
+may_emit_all f k [] s = true
+may_emit_all f k (h ∷ hs) s =
+    may_emit f.function h s && may_emit_all f (given_after f.function h k) hs (after_one f k h s)
+
+-- a result is given where its handle isn't in scope
+abbrev pub may_give : Option ℕ → Handles → Bool
+may_give None s = true
+may_give (Some h) s = is_new (s h)
+
+-- every operand is in scope where it is used, and no Emit is refused
+abbrev mutual
+  pub fits : Naming → ℕ → Statement → Handles → Bool
+  fits f k (Emit first count) s = may_emit_all f k (from first count) s
+  fits f k (Store p v) s = usable f.function s p && usable f.function s v
+  fits f k (Block b) s = fits_all f k b s
+  fits f k (If c a b) s =
+      usable f.function s c && (fits_all f k a s && fits_all f (given_by_all f.function a k) b s)
+  fits f k (Switch h cases) s = usable f.function s h && fits_cases f k cases s
+  fits f k (Loop b d e) s =
+      let s1 = after_all f k b s in
+      let k1 = given_by_all f.function b k in
+      fits_all f k b s && (fits_all f k1 d s1 && usable_if f.function (after_all f k1 d s1) e)
+  fits f k (Return v) s = usable_if f.function s v
+  fits f k (Act a xs r) s = usable_all f.function s xs && may_give r s
+  fits f k _ s = true
+
+  pub fits_all : Naming → ℕ → Statements → Handles → Bool
+  fits_all f k end s = true
+  fits_all f k (then st ss) s = fits f k st s && fits_all f (given_by f.function st k) ss (after f k st s)
+
+  pub fits_cases : Naming → ℕ → Cases → Handles → Bool
+  fits_cases f k no_case s = true
+  fits_cases f k (case l b falls cs) s = fits_all f k b s && fits_cases f (given_by_all f.function b k) cs s
+
+-- the initialisers of locals are in scope at the start
+abbrev pub first_values_fit : Function → List (Option ℕ) → Bool
+first_values_fit f [] = true
+first_values_fit f (o ∷ os) = usable_if f (at_start f) o && first_values_fit f os
+
+-- the check of a function: false is the refusal 'operand out of scope'
+abbrev pub fits_function : Naming → Bool
+fits_function f =
+    first_values_fit f.function f.function.first_values && fits_all f 0 f.function.body (at_start f.function)

@@ -1,0 +1,301 @@
+-- A text's run: each expression is evaluated anew where it stands, and names are looked up.
+use Rattle.std.specs.Prelude.{ℕ, suc, Bool, true, false, cond, nat_eq, List, [], ◌∷◌, length, Option, Some, None, ◌||◌}
+use Rattle.shader_runs.specs.Value.{Bytes, same_bytes, Place, Rooted, GlobalRoot, LocalRoot, Part, At, Selector, step_of, Value, Truth, Whole, Pointer, Opaque, Spelled, PartWord, IndexWord, ShortCircuit}
+use Rattle.shader_runs.specs.World.{Event, Entry, Ask, Read, Write, Discard, entries, World, Meaning, GlobalValue, Stored, Held, Environment, bind}
+use Rattle.shader_runs.specs.Outcome.{Stuck, Discarded, Outcome, Done, Continued, Broke, Returned, Stopped, Reached, Gives, Halts, answer, Next, and_then, turn, turns, after_switch, chosen, with_integer, closed, closed_if}
+use Rattle.shader_runs.specs.Program.{Label, Numbered}
+use Rattle.shader_runs.specs.ProgramRun.{called, decides, undecided, same_label, label_if}
+use Rattle.shader_runs.specs.Text.{Tree, Name, LiteralOf, Apply, Deref, AddressOf, Index, PartOf, LogicalOf, Trees, no_more, more, Line, Let, Assign, Braces, IfElse, SwitchOn, LoopOf, BreakLine, ContinueLine, ReturnLine, DiscardLine, Perform, Lines, last, before, Groups, no_group, group, Variable, TextFunction, TextModule}
+
+-- what an expression stands for: a value, or a reference, the place of a variable or of a part of one
+pub data Denoted : Type 0 where
+  IsValue : Value → Denoted
+  IsPlace : Place → Denoted
+
+-- what each name stands for
+abbrev pub Scope : Type 0
+Scope = Bytes → Option Denoted
+
+-- what a word with operands does: a function's name, a word that asks for an event, or an operator
+pub record Words : Type 0 where
+  pub world : World
+  pub meaning : Meaning
+  pub respond : Bytes → List Value → List Event → Reached (Option Value)
+
+-- a name that stands for nothing
+abbrev pub named : Option Denoted → List Event → Reached Denoted
+named None t = Halts Stuck t
+named (Some d) t = Gives d t
+
+-- a reference where a value is wanted is read
+abbrev pub valued : World → Reached Denoted → Reached Value
+valued w (Gives (IsValue v) t) = Gives v t
+valued w (Gives (IsPlace p) t) = Gives (w t (Read p)) (Read p ∷ t)
+valued w (Halts x t) = Halts x t
+
+-- one more value
+abbrev pub put_before : Value → Reached (List Value) → Reached (List Value)
+put_before v (Halts x t) = Halts x t
+put_before v (Gives vs t) = Gives (v ∷ vs) t
+
+-- operands are evaluated in their order
+abbrev pub followed_by : Reached Value → (List Event → Reached (List Value)) → Reached (List Value)
+followed_by (Halts x t) rest = Halts x t
+followed_by (Gives v t) rest = put_before v (rest t)
+
+-- a word with its operands
+abbrev pub responded : Words → Bytes → Reached (List Value) → Reached (Option Value)
+responded l w (Halts x t) = Halts x t
+responded l w (Gives vs t) = l.respond w vs t
+
+-- a variable's name hides a function or an operator of that name
+abbrev pub unhidden : Option Denoted → List Event → Reached (Option Value) → Reached (Option Value)
+unhidden None t q = q
+unhidden (Some d) t q = Halts Stuck t
+
+-- a word where it stands
+abbrev pub word_reached : Words → Bytes → Scope → List Event → Reached (List Value) → Reached (Option Value)
+word_reached l word names t vs = unhidden (names word) t (responded l word vs)
+
+-- a value is wanted
+abbrev pub as_value : Reached (Option Value) → Reached Denoted
+as_value (Halts x t) = Halts x t
+as_value (Gives None t) = Halts Stuck t
+as_value (Gives (Some v) t) = Gives (IsValue v) t
+
+-- `*` makes a reference of a pointer
+abbrev pub dereferenced : Reached Value → Reached Denoted
+dereferenced (Halts x t) = Halts x t
+dereferenced (Gives (Pointer p) t) = Gives (IsPlace p) t
+dereferenced (Gives (Truth b) t) = Halts Stuck t
+dereferenced (Gives (Whole spelling z) t) = Halts Stuck t
+dereferenced (Gives (Opaque spelling payload) t) = Halts Stuck t
+
+-- `&` makes a pointer of a reference
+abbrev pub addressed : Reached Denoted → Reached Denoted
+addressed (Halts x t) = Halts x t
+addressed (Gives (IsPlace p) t) = Gives (IsValue (Pointer p)) t
+addressed (Gives (IsValue v) t) = Halts Stuck t
+
+-- an integer leads to a part
+abbrev pub part_reached : Place → Reached Value → Reached Denoted
+part_reached p (Halts x t) = Halts x t
+part_reached p (Gives (Whole spelling z) t) = Gives (IsPlace (Part p (At z))) t
+part_reached p (Gives (Truth b) t) = Halts Stuck t
+part_reached p (Gives (Pointer q) t) = Halts Stuck t
+part_reached p (Gives (Opaque spelling payload) t) = Halts Stuck t
+
+-- an index into a value
+abbrev pub index_reached : Meaning → Value → Reached Value → Reached Denoted
+index_reached m v (Halts x t) = Halts x t
+index_reached m v (Gives i t) = Gives (IsValue (m IndexWord (v ∷ i ∷ []))) t
+
+-- an index; a pointer has none
+abbrev pub indexed : Meaning → Reached Denoted → (List Event → Reached Value) → Reached Denoted
+indexed m (Halts x t) rest = Halts x t
+indexed m (Gives (IsPlace p) t) rest = part_reached p (rest t)
+indexed m (Gives (IsValue (Pointer p)) t) rest = Halts Stuck t
+indexed m (Gives (IsValue (Truth b)) t) rest = index_reached m (Truth b) (rest t)
+indexed m (Gives (IsValue (Whole spelling z)) t) rest = index_reached m (Whole spelling z) (rest t)
+indexed m (Gives (IsValue (Opaque spelling payload)) t) rest = index_reached m (Opaque spelling payload) (rest t)
+
+-- a member or an element; a pointer has none
+abbrev pub part_picked : Meaning → Selector → Reached Denoted → Reached Denoted
+part_picked m x (Halts y t) = Halts y t
+part_picked m x (Gives (IsPlace p) t) = Gives (IsPlace (Part p (step_of x))) t
+part_picked m x (Gives (IsValue (Pointer p)) t) = Halts Stuck t
+part_picked m x (Gives (IsValue (Truth b)) t) = Gives (IsValue (m (PartWord x) (Truth b ∷ []))) t
+part_picked m x (Gives (IsValue (Whole spelling z)) t) = Gives (IsValue (m (PartWord x) (Whole spelling z ∷ []))) t
+part_picked m x (Gives (IsValue (Opaque spelling payload)) t) = Gives (IsValue (m (PartWord x) (Opaque spelling payload ∷ []))) t
+
+-- the right side was evaluated
+abbrev pub undecided_reached : Meaning → ShortCircuit → Value → Reached Value → Reached Denoted
+undecided_reached m j l (Halts x t) = Halts x t
+undecided_reached m j l (Gives r t) = Gives (IsValue (undecided m j l r)) t
+
+-- the right side is evaluated only where it decides
+abbrev pub logical_reached : Meaning → ShortCircuit → Reached Value → (List Event → Reached Value) → Reached Denoted
+logical_reached m j (Halts x t) rest = Halts x t
+logical_reached m j (Gives l t) rest =
+    elim (decides j l) [ true ↦ Gives (IsValue l) t | false ↦ undecided_reached m j l (rest t) ]
+
+abbrev mutual
+  pub evaluate : Words → Tree → Scope → List Event → Reached Denoted
+  evaluate l (Name x) names t = named (names x) t
+  evaluate l (LiteralOf v) names t = Gives (IsValue v) t
+  evaluate l (Apply word es) names t = as_value (word_reached l word names t (evaluate_all l es names t))
+  evaluate l (Deref e) names t = dereferenced (valued l.world (evaluate l e names t))
+  evaluate l (AddressOf e) names t = addressed (evaluate l e names t)
+  evaluate l (Index e i) names t = indexed l.meaning (evaluate l e names t) (λ t1. valued l.world (evaluate l i names t1))
+  evaluate l (PartOf x e) names t = part_picked l.meaning x (evaluate l e names t)
+  evaluate l (LogicalOf j a b) names t = logical_reached l.meaning j (valued l.world (evaluate l a names t)) (λ t1. valued l.world (evaluate l b names t1))
+
+  pub evaluate_all : Words → Trees → Scope → List Event → Reached (List Value)
+  evaluate_all l no_more names t = Gives [] t
+  evaluate_all l (more e es) names t = followed_by (valued l.world (evaluate l e names t)) (evaluate_all l es names)
+
+-- a tree in a value's position
+abbrev pub value_of : Words → Tree → Scope → List Event → Reached Value
+value_of l e names t = valued l.world (evaluate l e names t)
+
+-- goes on with a value
+abbrev pub with_value : {S : Type 0} → Reached Value → (Value → List Event → Outcome S) → Outcome S
+with_value (Halts x t) go = Stopped x t
+with_value (Gives v t) go = go v t
+
+-- goes on with a reference
+abbrev pub with_place : {S : Type 0} → Reached Denoted → (Place → List Event → Outcome S) → Outcome S
+with_place (Halts x t) go = Stopped x t
+with_place (Gives (IsValue v) t) go = Stopped Stuck t
+with_place (Gives (IsPlace p) t) go = go p t
+
+-- a call whose result is not wanted
+abbrev pub performed : Scope → Reached (Option Value) → Outcome Scope
+performed names (Halts x t) = Stopped x t
+performed names (Gives v t) = Done names t
+
+abbrev mutual
+  -- a `continue` of the loop in whose body the line stands
+  pub has_continue : Line → Bool
+  has_continue (Let x e) = false
+  has_continue (Assign p e) = false
+  has_continue (Braces b) = some_continue b
+  has_continue (IfElse e a b) = some_continue a || some_continue b
+  has_continue (SwitchOn e groups) = some_group_continues groups
+  has_continue (LoopOf b d e) = false
+  has_continue BreakLine = false
+  has_continue ContinueLine = true
+  has_continue (ReturnLine e) = false
+  has_continue DiscardLine = false
+  has_continue (Perform w es) = false
+
+  pub some_continue : Lines → Bool
+  some_continue last = false
+  some_continue (before l ls) = has_continue l || some_continue ls
+
+  pub some_group_continues : Groups → Bool
+  some_group_continues no_group = false
+  some_group_continues (group labels b gs) = some_continue b || some_group_continues gs
+
+-- `break if` leaves the loop
+abbrev pub break_line : Words → Option Tree → Next Scope
+break_line l None names t = Done names t
+break_line l (Some e) names t =
+    with_value (value_of l e names t) (λ v t1. chosen v t1 (Broke names t1) (Done names t1))
+
+-- what is returned
+abbrev pub return_line : Words → Option Tree → Next Scope
+return_line l None names t = Returned None t
+return_line l (Some e) names t = with_value (value_of l e names t) (λ v t1. Returned (Some v) t1)
+
+-- a label among those of a group
+abbrev pub among : Label → List Label → Bool
+among x [] = false
+among x (l ∷ ls) = same_label x l || among x ls
+
+-- some group has this label
+abbrev pub group_has : Label → Groups → Bool
+group_has x no_group = false
+group_has x (group labels b gs) = among x labels || group_has x gs
+
+abbrev mutual
+  pub follow : Words → ℕ → Line → Next Scope
+  follow l n (Let x e) names t =
+      with_value (value_of l e names t) (λ v t1. Done (bind names x (Some (IsValue v))) t1)
+  follow l n (Assign p e) names t =
+      with_place (evaluate l p names t) (λ place t1. with_value (value_of l e names t1) (λ v t2. Done names (Write place v ∷ t2)))
+  follow l n (Braces b) names t = closed names (follow_all l n b names t)
+  follow l n (IfElse e a b) names t =
+      with_value (value_of l e names t) (λ v t1. closed names (chosen v t1 (follow_all l n a names t1) (follow_all l n b names t1)))
+  follow l n (SwitchOn e groups) names t =
+      with_value (value_of l e names t) (λ v t1. closed names (with_integer v t1 (λ z. after_switch (follow_groups l n groups (label_if (group_has (Numbered z) groups) z) names t1))))
+  follow l n (LoopOf b d e) names t =
+      turns n (λ names1 t1. closed names1 (turn (follow_all l n b) (follow_all l n d) (break_line l e) names1 t1)) names t
+  follow l n BreakLine names t = Broke names t
+  follow l n ContinueLine names t = Continued names t
+  follow l n (ReturnLine e) names t = return_line l e names t
+  follow l n DiscardLine names t = Stopped Discarded (Discard ∷ t)
+  follow l n (Perform w es) names t = performed names (word_reached l w names t (evaluate_all l es names t))
+
+  -- the names that a list leaves are those for its loop's `continuing`: none from the first line with a `continue` on
+  pub follow_all : Words → ℕ → Lines → Next Scope
+  follow_all l n last names t = Done names t
+  follow_all l n (before x ls) names t = closed_if (has_continue x) names (and_then (follow l n x names t) (follow_all l n ls))
+
+  -- the first group with this label
+  pub follow_groups : Words → ℕ → Groups → Label → Next Scope
+  follow_groups l n no_group x names t = Done names t
+  follow_groups l n (group labels b gs) x names t =
+      cond (among x labels) (follow_all l n b names t) (follow_groups l n gs x names t)
+
+-- parameters with their values
+abbrev pub with_parameters : List Bytes → List Value → Scope → Scope
+with_parameters [] vs names = names
+with_parameters (x ∷ xs) [] names = names
+with_parameters (x ∷ xs) (v ∷ vs) names = bind (with_parameters xs vs names) x (Some (IsValue v))
+
+-- a function's variables with their places, in scope in the whole function
+abbrev pub with_variables : List Variable → (entries index : ℕ) → Scope → Scope
+with_variables [] k i names = names
+with_variables (x ∷ xs) k i names =
+    bind (with_variables xs k (suc i) names) x.name (Some (IsPlace (Rooted (LocalRoot k i))))
+
+-- what a variable's name stands for
+abbrev pub global_denoted : ℕ → GlobalValue → Denoted
+global_denoted i Stored = IsPlace (Rooted (GlobalRoot i))
+global_denoted i (Held v) = IsValue v
+
+-- module-level variables with their places or values
+abbrev pub with_globals : List Bytes → List GlobalValue → ℕ → Scope → Scope
+with_globals [] gs i names = names
+with_globals (x ∷ xs) [] i names = names
+with_globals (x ∷ xs) (g ∷ gs) i names = bind (with_globals xs gs (suc i) names) x (Some (global_denoted i g))
+
+-- nothing is in scope
+abbrev pub no_names : Scope
+no_names x = None
+
+-- the names of a module: its constants and overrides, and its variables
+abbrev pub module_scope : TextModule → Environment → Scope
+module_scope text env = with_parameters text.constants env.constants (with_globals text.globals env.globals 0 no_names)
+
+-- a word of no function: one that asks for an event, or an operator
+abbrev pub respond_by_table : World → Meaning → (Bytes → Bool) → Bytes → List Value → List Event → Reached (Option Value)
+respond_by_table w m is_request word vs t =
+    cond (is_request word) (Gives (Some (w t (Ask word vs))) (Ask word vs ∷ t)) (Gives (Some (m (Spelled word) vs)) t)
+
+-- one more first value
+abbrev pub put_first : Option Value → Reached (List (Option Value)) → Reached (List (Option Value))
+put_first v (Halts x t) = Halts x t
+put_first v (Gives vs t) = Gives (v ∷ vs) t
+
+-- first values are evaluated in their order
+abbrev pub first_followed : Reached Value → (List Event → Reached (List (Option Value))) → Reached (List (Option Value))
+first_followed (Halts x t) rest = Halts x t
+first_followed (Gives v t) rest = put_first (Some v) (rest t)
+
+-- the first values of a function's variables, in their order
+abbrev pub first_of_each : Words → List Variable → Scope → List Event → Reached (List (Option Value))
+first_of_each l [] names t = Gives [] t
+first_of_each l (x ∷ xs) names t =
+    elim x.first_value [ None ↦ put_first None (first_of_each l xs names t) | Some e ↦ first_followed (value_of l e names t) (first_of_each l xs names) ]
+
+-- the entry, with the first values
+abbrev pub entered_by : ℕ → List Value → Reached (List (Option Value)) → (List Event → Reached (Option Value)) → Reached (Option Value)
+entered_by g vs (Halts x t) body = Halts x t
+entered_by g vs (Gives firsts t) body = body (Entry g vs firsts ∷ t)
+
+-- a body, from the first values of its variables on
+abbrev pub follow_body : Words → ℕ → ℕ → TextFunction → List Value → Scope → List Event → Reached (Option Value)
+follow_body l n g f vs names t =
+    entered_by g vs (first_of_each l f.variables names t) (λ t1. answer (follow_all l n f.lines names t1))
+
+-- a word among these functions, the last one first
+abbrev pub follow_call : Scope → World → Meaning → (Bytes → Bool) → ℕ → List TextFunction → Bytes → List Value → List Event → Reached (Option Value)
+follow_call outer w m is_request n [] word vs t = respond_by_table w m is_request word vs t
+follow_call outer w m is_request n (f ∷ fs) word vs t =
+    let l : Words = record { world = w; meaning = m; respond = follow_call outer w m is_request n fs } in
+    let names = with_parameters f.parameters vs (with_variables f.variables (entries t) 0 outer) in
+    let own = called (nat_eq (length vs) (length f.parameters)) (follow_body l n (length fs) f vs names t) t in
+    let other = follow_call outer w m is_request n fs word vs t in
+    cond (same_bytes word f.name) own other

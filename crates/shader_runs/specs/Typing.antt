@@ -1,0 +1,73 @@
+-- When a module's operators are typed consistently.
+use Rattle.std.specs.Prelude.{◌≡◌, ℕ, List, [], ◌∷◌, ◌++◌, Option, Some, slice_get}
+use Rattle.shader_runs.specs.Value.{ValueType, BooleanType, IntegerType, PointerType, Word, Spelled, PartWord, IndexWord, short_circuit_word}
+use Rattle.shader_runs.specs.Program.{ConstantTree, Fixed, NamedConstant, Constructed, ConstantTrees, no_constant, constant, Expression, Constant, Operator, Access, AccessIndex, Logical, Request, Function, expression_of, handle_type, Module}
+use Rattle.shader_runs.specs.Premises.{constant_types_of, handle_types}
+
+-- a spelled operator with its operands' types and its result's
+pub record Signature : Type 0 where
+  pub word : Word
+  pub operands : List ValueType
+  pub result : ValueType
+
+abbrev mutual
+  pub constant_signatures : Module → ConstantTree → List Signature
+  constant_signatures p (Fixed v) = []
+  constant_signatures p (NamedConstant i) = []
+  constant_signatures p (Constructed w ty es) =
+      record { word = Spelled w; operands = constant_types_of p es; result = ty } ∷ constants_signatures p es
+
+  pub constants_signatures : Module → ConstantTrees → List Signature
+  constants_signatures p no_constant = []
+  constants_signatures p (constant e es) = constant_signatures p e ++ constants_signatures p es
+
+-- the operators that an expression of this type spells
+abbrev pub signatures_of : Module → Function → ValueType → Option Expression → List Signature
+signatures_of p f k (Some (Constant e)) = constant_signatures p e
+signatures_of p f k (Some (Operator w xs)) = record { word = Spelled w; operands = handle_types f xs; result = k } ∷ []
+signatures_of p f k (Some (Access b i)) = record { word = IndexWord; operands = handle_types f (b ∷ i ∷ []); result = k } ∷ []
+signatures_of p f k (Some (AccessIndex x b)) = record { word = PartWord x; operands = handle_types f (b ∷ []); result = k } ∷ []
+signatures_of p f k (Some (Logical j l r)) = record { word = Spelled (short_circuit_word j); operands = handle_types f (l ∷ r ∷ []); result = k } ∷ []
+signatures_of p f k (Some (Request a w xs es)) = constants_signatures p es
+signatures_of p f k _ = []
+
+-- in a list
+pub data IsOneOf (x : Signature) : List Signature → Type 0 where
+  first_of : {xs : List Signature} → IsOneOf x (x ∷ xs)
+  later_of : {y : Signature} {xs : List Signature} → IsOneOf x xs → IsOneOf x (y ∷ xs)
+
+-- a function of the module has an expression that spells it
+pub record IsSpelled (p : Module) (x : Signature) : Type 0 where
+  pub place : ℕ
+  pub function : Function
+  pub there : slice_get p.functions place ≡ Some function
+  pub handle : ℕ
+  pub among : IsOneOf x (signatures_of p function (handle_type function handle) (expression_of function handle))
+
+-- an integer's index through a pointer gives a pointer
+abbrev pub AccessFits : (base index result : ValueType) → Type 0
+AccessFits PointerType (IntegerType spelling) PointerType = Unit {0}
+AccessFits PointerType i k = ⊥
+AccessFits b i k = Unit {0}
+
+-- a member or element through a pointer gives a pointer
+abbrev pub AccessIndexFits : (base result : ValueType) → Type 0
+AccessIndexFits PointerType k = k ≡ PointerType
+AccessIndexFits b k = Unit {0}
+
+-- `&&` and `||` on `bool` give `bool`
+abbrev pub LogicalFits : (left result : ValueType) → Type 0
+LogicalFits BooleanType k = k ≡ BooleanType
+LogicalFits l k = Unit {0}
+
+-- what an expression over pointers or truth values gives
+abbrev pub PartsFit : Function → ValueType → Option Expression → Type 0
+PartsFit f k (Some (Access b i)) = AccessFits (handle_type f b) (handle_type f i) k
+PartsFit f k (Some (AccessIndex x b)) = AccessIndexFits (handle_type f b) k
+PartsFit f k (Some (Logical j l r)) = LogicalFits (handle_type f l) k
+PartsFit f k _ = Unit {0}
+
+-- what is spelled alike over operands of types alike has a result of types alike
+pub record IsConsistent (p : Module) : Type 0 where
+  pub alike : (x y : Signature) → IsSpelled p x → IsSpelled p y → x.word ≡ y.word → x.operands ≡ y.operands → x.result ≡ y.result
+  pub parts : (place : ℕ) (f : Function) → slice_get p.functions place ≡ Some f → (h : ℕ) → PartsFit f (handle_type f h) (expression_of f h)
