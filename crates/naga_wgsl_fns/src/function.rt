@@ -4,7 +4,7 @@ use crate::error::{Error, custom, not_yet_written};
 use crate::literal::{scalar_word, write_literal};
 use naga_ir::{
     Block, Expression, Function, FunctionArgument, FunctionResult, Handle, Module, Statement,
-    TypeInner, Type_,
+    Type_, TypeInner,
 };
 use naga_names::namer::NameKey;
 use naga_words::{Level, TextSink};

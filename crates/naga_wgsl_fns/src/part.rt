@@ -79,11 +79,8 @@ fn expression_is_written(expression: &Expression) -> bool {
 
 fn literal_is_written(literal: Literal) -> bool {
     match literal {
-        Literal::Bool(_)
-        | Literal::I32(_)
-        | Literal::U32(_)
-        | Literal::I64(_)
-        | Literal::U64(_) => true,
+        Literal::Bool(_) | Literal::I32(_) | Literal::U32(_) | Literal::I64(_) | Literal::U64(_) =>
+            true,
         _ => false,
     }
 }
