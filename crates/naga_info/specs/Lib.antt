@@ -1,3 +1,6 @@
 pub mod Resolution
 pub mod Operands
 pub mod Counts
+pub mod Types
+pub mod Accepted
+pub mod Part

@@ -1,5 +1,9 @@
 //! Whether a module and what is known of it fit together.
 
+ghost use Rattle.std.specs.Prelude.{◌≡◌};
+ghost use Rattle.naga_info.specs.Accepted.{is_accepted};
+ghost use Rattle.naga_info.specs.Part.{is_written_so_far};
+
 use crate::info::{FunctionInfo, ModuleInfo, TypeResolution};
 use naga_ir::{
     AddressSpace, Arena, Block, Expression, Function, FunctionResult, Handle, Literal,
@@ -13,7 +17,9 @@ use naga_ir::{
 ///
 /// So far this looks no farther than modules that declare nothing but scalar types and at most one
 /// function, without calls or control flow: each other module is answered `false`.
-pub fn accepts(module: &Module, info: &ModuleInfo) -> bool {
+pub fn accepts(module: &Module, info: &ModuleInfo) -> bool
+    ensures { result ≡ is_accepted «module».now info.now }
+{
     declares_only_functions(module)
         && types_are_served(&module.types)
         && special_types_are_in_range(&module.special_types, module.types.len())
