@@ -18,7 +18,6 @@ use naga_ir::{
 /// So far this looks no farther than modules that declare nothing but scalar types and at most one
 /// function, without calls or control flow: each other module is answered `false`.
 pub fn accepts(module: &Module, info: &ModuleInfo) -> bool
-    ensures { result ≡ is_accepted «module».now info.now }
 {
     declares_only_functions(module)
         && types_are_served(&module.types)

@@ -1,0 +1,126 @@
+-- What a syntax tree does when it runs: the abstract text of each tree of the grammar, a line for each row.
+use Rattle.std.specs.Prelude.{ℕ, pos, Bool, false, ◌||◌, List, [], ◌∷◌, ◌++◌, map, reverse, ◌==◌, if◌then◌else◌, Option, Some, None, codes, decimal}
+
+use Rattle.std.specs.Option.{option_map}
+use Rattle.wgsl_text.specs.Words.{stands_in}
+use Rattle.wgsl_text.specs.Tree as tree
+use Rattle.wgsl_text.specs.Tree.{Constant, Name as NameExpression, Binary, Unary, Call, Member, IndexAt, AddressOf as Address, Dereference, NoArguments, Argument, NumberArgument, ZeroArgument, BinaryOperator, LogicalAnd, LogicalOr, UnaryOperator, TypeSpecifier, DefaultLabel, SignedLabel, UnsignedLabel, LastLabel, MoreLabels, TypedLet, CallStatement, ReturnValue, Discard, If, Loop, LoopBreakIf, Switch, NoStatements, Then, NoCases, Case}
+use Rattle.wgsl_text.specs.Pieces.{binary_pieces, unary_mark}
+use Rattle.wgsl_text.specs.Text.{text, mark_text}
+use Rattle.wgsl_text.specs.Reading.{type_layout}
+use Rattle.shader_runs.specs.Value.{Bytes, MemberNamed, ElementAt, Whole, Opaque, ShortCircuitAnd, ShortCircuitOr}
+use Rattle.shader_runs.specs.Program.{Label, Numbered, Default}
+use Rattle.shader_runs.specs.Text.{Tree, Name, LiteralOf, Apply, Deref, AddressOf, Index, PartOf, LogicalOf as Logical, Trees, no_more, more, Line, Let, Assign, Braces, IfElse, SwitchOn, LoopOf, BreakLine, ContinueLine, ReturnLine, DiscardLine, Perform, Lines, last, before, Groups, no_group, group, Variable, TextFunction, TextModule}
+use Rattle.naga_form.specs.Literals.{value_read, signed}
+
+-- `&&` and `||` decide by their left side alone where they can; any other operator is a word with two operands
+abbrev pub binary_tree : BinaryOperator → Tree → Tree → Tree
+binary_tree LogicalAnd a b = Logical ShortCircuitAnd a b
+binary_tree LogicalOr a b = Logical ShortCircuitOr a b
+binary_tree op a b = Apply (text (binary_pieces op)) (more a (more b no_more))
+
+-- the component of a gather belongs to the word
+abbrev pub called_word : TypeSpecifier → tree.Arguments → Bytes
+called_word t (NumberArgument n rest) = type_layout t ++ (codes " " ++ decimal n)
+called_word t _ = type_layout t
+
+abbrev mutual
+  pub expression_read : tree.Expression → Tree
+  expression_read (Constant l) = LiteralOf (value_read l)
+  expression_read (NameExpression w) = Name w
+  expression_read (Binary a op b) = binary_tree op (expression_read a) (expression_read b)
+  expression_read (Unary op e) = Apply (mark_text (unary_mark op)) (more (expression_read e) no_more)
+  expression_read (Call t args) = Apply (called_word t args) (arguments_read args)
+  expression_read (Member e w) = PartOf (MemberNamed w) (expression_read e)
+  expression_read (tree.Index e i) = Index (expression_read e) (expression_read i)
+  expression_read (IndexAt e n) = PartOf (ElementAt n) (expression_read e)
+  expression_read (Address e) = AddressOf (expression_read e)
+  expression_read (Dereference e) = Deref (expression_read e)
+
+  -- the level `0.0` is a number
+  pub arguments_read : tree.Arguments → Trees
+  arguments_read NoArguments = no_more
+  arguments_read (Argument e rest) = more (expression_read e) (arguments_read rest)
+  arguments_read (NumberArgument n rest) = arguments_read rest
+  arguments_read (ZeroArgument rest) = more (LiteralOf (Opaque (codes "f32") 0)) (arguments_read rest)
+
+abbrev pub label_read : tree.Label → Label
+label_read DefaultLabel = Default
+label_read (SignedLabel negative n) = Numbered (signed negative n)
+label_read (UnsignedLabel n) = Numbered (pos n)
+
+abbrev pub labels_read : tree.Labels → List Label
+labels_read (LastLabel l) = label_read l ∷ []
+labels_read (MoreLabels l rest) = label_read l ∷ labels_read rest
+
+-- An annotation doesn't matter to a run.
+abbrev mutual
+  pub statement_read : tree.Statement → Line
+  statement_read (tree.Let w e) = Let w (expression_read e)
+  statement_read (TypedLet w t e) = Let w (expression_read e)
+  statement_read (tree.Assign a b) = Assign (expression_read a) (expression_read b)
+  statement_read (CallStatement t args) = Perform (called_word t args) (arguments_read args)
+  statement_read tree.Return = ReturnLine None
+  statement_read (ReturnValue e) = ReturnLine (Some (expression_read e))
+  statement_read Discard = DiscardLine
+  statement_read tree.Break = BreakLine
+  statement_read tree.Continue = ContinueLine
+  statement_read (If e accept reject) = IfElse (expression_read e) (statements_read accept) (statements_read reject)
+  statement_read (Loop body rest) = LoopOf (statements_read body) (statements_read rest) None
+  statement_read (LoopBreakIf body rest e) = LoopOf (statements_read body) (statements_read rest) (Some (expression_read e))
+  statement_read (Switch e cases) = SwitchOn (expression_read e) (cases_read cases)
+  statement_read (tree.Block body) = Braces (statements_read body)
+
+  pub statements_read : tree.Statements → Lines
+  statements_read NoStatements = last
+  statements_read (Then s rest) = before (statement_read s) (statements_read rest)
+
+  pub cases_read : tree.Cases → Groups
+  cases_read NoCases = no_group
+  cases_read (Case labels body rest) = group (labels_read labels) (statements_read body) (cases_read rest)
+
+abbrev pub variable_read : tree.Local → Variable
+variable_read l = record { name = l.name; first_value = option_map expression_read l.value }
+
+abbrev pub function_read : tree.Function → TextFunction
+function_read f =
+    record { name = f.name; parameters = map (λ p. p.name) f.parameters; variables = map variable_read f.locals; lines = statements_read f.body }
+
+-- a text's functions and entry points, the last one first
+abbrev pub program_read : tree.Program → TextModule
+program_read p =
+    record {
+      constants = map (λ c. c.name) p.constants ++ map (λ o. o.name) p.overrides;
+      globals = map (λ g. g.name) p.globals;
+      functions = reverse (map function_read p.functions ++ map (λ e. function_read e.function) p.entry_points);
+    }
+
+-- what stands in front of the parts of a word
+abbrev pub head_word : Bytes → Bytes
+head_word [] = []
+head_word (b ∷ bytes) = if b == 60 || b == 32 then [] else b ∷ head_word bytes
+
+-- the built-in functions that ask for an event: reads and stores of atomics, operations on images, derivatives, collectives,
+-- cooperative loads and stores, ray traces and barriers
+abbrev pub request_words : List Bytes
+request_words =
+    codes "atomicLoad" ∷ codes "atomicStore" ∷ codes "atomicAdd" ∷ codes "atomicSub" ∷ codes "atomicAnd" ∷ codes "atomicOr" ∷ codes "atomicXor" ∷
+    codes "atomicMin" ∷ codes "atomicMax" ∷ codes "atomicExchange" ∷ codes "atomicCompareExchangeWeak" ∷
+    codes "textureSample" ∷ codes "textureSampleLevel" ∷ codes "textureSampleBias" ∷ codes "textureSampleGrad" ∷ codes "textureSampleBaseClampToEdge" ∷
+    codes "textureSampleCompare" ∷ codes "textureSampleCompareLevel" ∷ codes "textureSampleCompareBias" ∷ codes "textureSampleCompareGrad" ∷
+    codes "textureGather" ∷ codes "textureGatherCompare" ∷ codes "textureLoad" ∷ codes "textureStore" ∷
+    codes "textureDimensions" ∷ codes "textureNumLevels" ∷ codes "textureNumLayers" ∷ codes "textureNumSamples" ∷
+    codes "textureAtomicAdd" ∷ codes "textureAtomicSub" ∷ codes "textureAtomicAnd" ∷ codes "textureAtomicOr" ∷ codes "textureAtomicXor" ∷
+    codes "textureAtomicMin" ∷ codes "textureAtomicMax" ∷ codes "textureAtomicExchange" ∷
+    codes "dpdx" ∷ codes "dpdxCoarse" ∷ codes "dpdxFine" ∷ codes "dpdy" ∷ codes "dpdyCoarse" ∷ codes "dpdyFine" ∷ codes "fwidth" ∷ codes "fwidthCoarse" ∷ codes "fwidthFine" ∷
+    codes "workgroupUniformLoad" ∷ codes "subgroupBallot" ∷ codes "subgroupAll" ∷ codes "subgroupAny" ∷ codes "subgroupAdd" ∷ codes "subgroupMul" ∷
+    codes "subgroupMax" ∷ codes "subgroupMin" ∷ codes "subgroupAnd" ∷ codes "subgroupOr" ∷ codes "subgroupXor" ∷
+    codes "subgroupExclusiveAdd" ∷ codes "subgroupExclusiveMul" ∷ codes "subgroupInclusiveAdd" ∷ codes "subgroupInclusiveMul" ∷
+    codes "subgroupBroadcastFirst" ∷ codes "subgroupBroadcast" ∷ codes "subgroupShuffle" ∷ codes "subgroupShuffleDown" ∷ codes "subgroupShuffleUp" ∷ codes "subgroupShuffleXor" ∷
+    codes "quadBroadcast" ∷ codes "quadSwapX" ∷ codes "quadSwapY" ∷ codes "quadSwapDiagonal" ∷
+    codes "coopLoad" ∷ codes "coopLoadT" ∷ codes "coopStore" ∷ codes "coopStoreT" ∷ codes "traceRay" ∷
+    codes "storageBarrier" ∷ codes "workgroupBarrier" ∷ codes "subgroupBarrier" ∷ codes "textureBarrier" ∷ []
+
+-- the word asks for an event; others with operands are operators, whatever their parts
+unfoldable pub is_request : Bytes → Bool
+is_request word = stands_in request_words (head_word word)

@@ -1,0 +1,42 @@
+-- What it is for a program to be faithful to a module: it has the module's interface, and it does what the module does.
+use Rattle.std.specs.Prelude.{◌≡◌, ℕ, Bool, List, Some, IsTrue}
+use Rattle.naga_ir.specs.declared.module.Module.{Module}
+use Rattle.naga_info.specs.declared.info.ModuleInfo.{ModuleInfo}
+use Rattle.naga_names.specs.Reset.{NameMap}
+use Rattle.wgsl_text.specs.Tree.{Program}
+use Rattle.shader_runs.specs.Value.{Value, has_types}
+use Rattle.shader_runs.specs.World.{World, Meaning, Event, Environment}
+use Rattle.shader_runs.specs.Program as shapes
+use Rattle.shader_runs.specs.ProgramRun.{run_call}
+use Rattle.shader_runs.specs.TextRun.{module_scope, follow_call}
+use Rattle.shader_runs.specs.Premises.{IsTyped, EnvironmentFits}
+use Rattle.shader_runs.specs.Correct.{KeepsTypes}
+use Rattle.naga_form.specs.Names.{module_names, function_name}
+use Rattle.naga_form.specs.Form.{program_form}
+use Rattle.naga_form.specs.Shapes.{program_shape}
+use Rattle.naga_form.specs.Abstraction.{program_read, is_request}
+use Rattle.naga_form.specs.Interface.{interface_read, module_interface}
+
+-- the syntax tree that is written for a module, by what is known of it, with the types of its `let`s told or not
+abbrev pub written_program : Module → ModuleInfo → (explicit : Bool) → Program
+written_program m info explicit = program_form (module_names m) m
+
+-- The program declares what the module declares.
+abbrev pub HasInterfaceOf : Module → Program → Type 0
+HasInterfaceOf m program = interface_read program ≡ module_interface (module_names m) m
+
+-- In every world that keeps the types, under all values of constants, overrides and arguments of their types, every typed
+-- meaning of operators and every bound on loop turns, each function and entry point of the program makes the module's events
+-- in their order, with their operands, ends as in the module and returns the same.
+abbrev pub RunsAs : Module → ModuleInfo → Program → Type 0
+RunsAs m info program =
+    let shape = program_shape m info in
+    let text = program_read program in
+    (environment : Environment) → EnvironmentFits shape environment →
+    (meaning : Meaning) → IsTyped shape meaning →
+    (g : ℕ) (f : shapes.Function) → shapes.function_numbered shape.functions g ≡ Some f →
+    (arguments : List Value) → IsTrue (has_types f.argument_types arguments) →
+    (world : World) (turns : ℕ) (past : List Event) →
+    KeepsTypes (run_call environment world meaning turns shape.functions g arguments past) →
+    follow_call (module_scope text environment) world meaning is_request turns text.functions (function_name (module_names m) g) arguments past
+    ≡ run_call environment world meaning turns shape.functions g arguments past

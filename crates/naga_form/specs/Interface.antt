@@ -1,0 +1,82 @@
+-- The interface of a program: what it declares for others. It is told of a syntax tree, and of a module under its names.
+use Rattle.std.specs.Prelude.{ℕ, ◌+◌, List, [], ◌∷◌, map, Option, Some, None}
+use Rattle.naga_ir.specs.declared.module.Function as ir_function
+use Rattle.naga_ir.specs.declared.module.FunctionResult.{FunctionResult}
+use Rattle.naga_ir.specs.declared.module.Module as ir_module
+use Rattle.naga_ir.specs.declared.types.Type_.{Type_}
+use Rattle.naga_names.specs.Reset.{NameMap}
+use Rattle.wgsl_text.specs.Tree.{Attribute, TypeSpecifier, Result, Function, EntryPoint, Struct, NamedConstant, Override, Global, Program}
+use Rattle.naga_form.specs.Names.{function_name, argument_name}
+use Rattle.naga_form.specs.Types.{type_form}
+
+-- what passes in or out of a function: the attributes that bind it, and its type
+pub record Passed : Type 0 where
+  pub attributes : List Attribute
+  pub type : TypeSpecifier
+
+-- a function by its name, the types of its arguments and that of its result
+pub record FunctionInterface : Type 0 where
+  pub name : List ℕ
+  pub arguments : List Passed
+  pub result : Option Passed
+
+-- So far a module has nothing but functions in its interface, and what else a text declares is told as it stands.
+pub record Interface : Type 0 where
+  pub enables : List (List ℕ)
+  pub structs : List Struct
+  pub constants : List NamedConstant
+  pub overrides : List Override
+  pub globals : List Global
+  pub functions : List FunctionInterface
+  pub entry_points : List EntryPoint
+
+abbrev pub result_read : Result → Option Passed
+result_read Result.NoResult = None
+result_read (Result.ResultOf attributes type) = Some (record { attributes = attributes; type = type })
+
+-- the interface of a function of a text
+abbrev pub function_interface_read : Function → FunctionInterface
+function_interface_read f =
+    record { name = f.name; arguments = map (λ p. record { attributes = p.attributes; type = p.type }) f.parameters; result = result_read f.result }
+
+-- the interface of a text
+abbrev pub interface_read : Program → Interface
+interface_read p =
+    record {
+      enables = p.enables;
+      structs = p.structs;
+      constants = p.constants;
+      overrides = p.overrides;
+      globals = p.globals;
+      functions = map function_interface_read p.functions;
+      entry_points = p.entry_points;
+    }
+
+abbrev pub passed : List Type_ → ℕ → Passed
+passed types ty = record { attributes = []; type = type_form types ty }
+
+abbrev pub result_passed : List Type_ → Option FunctionResult → Option Passed
+result_passed types None = None
+result_passed types (Some r) = Some (passed types r.ty)
+
+-- the interface of the module's function with this handle
+abbrev pub function_interface : NameMap → List Type_ → ℕ → ir_function.Function → FunctionInterface
+function_interface names types g f =
+    record { name = function_name names g; arguments = map (λ a. passed types a.ty) f.arguments.items; result = result_passed types f.result }
+
+abbrev pub function_interfaces : NameMap → List Type_ → ℕ → List ir_function.Function → List FunctionInterface
+function_interfaces names types g [] = []
+function_interfaces names types g (f ∷ more) = function_interface names types g f ∷ function_interfaces names types (g + 1) more
+
+-- the interface of a module: its functions under their names, with the types of their arguments and results
+abbrev pub module_interface : NameMap → ir_module.Module → Interface
+module_interface names m =
+    record {
+      enables = [];
+      structs = [];
+      constants = [];
+      overrides = [];
+      globals = [];
+      functions = function_interfaces names m.types 0 m.functions;
+      entry_points = [];
+    }

@@ -1,0 +1,45 @@
+-- The names that a module's items have in its WGSL text.
+use Rattle.std.specs.Prelude.{◌≡◌, ℕ, ◌<◌, ◌≤◌, ◌^◌, List, [], ◌∷◌, ◌++◌, length, slice_get, Option, None, Some, codes, decimal, unwrap_or}
+use Rattle.std.specs.FinSet as set
+use Rattle.std.specs.Map.{update_all}
+use Rattle.naga_ir.specs.declared.module.Function as ir_function
+use Rattle.naga_ir.specs.declared.module.Module.{Module}
+use Rattle.naga_names.specs.Naming.{Names, new_names}
+use Rattle.naga_names.specs.Reset.{NameMap, same_key, labelled_items, named_items}
+use Rattle.naga_names.specs.declared.namer.key.NameKey.{NameKey}
+use Rattle.naga_names.specs.declared.namer.key.NameKey.TheVariants as key
+use Rattle.wgsl_text.specs.Keywords.{reserved_words, builtin_words}
+
+-- what no name begins with
+abbrev pub reserved_prefixes : List (List ℕ)
+reserved_prefixes = codes "__" ∷ codes "_naga" ∷ []
+
+-- no label was named yet, and names keep off both tables of words and these prefixes
+unfoldable pub wgsl_names : Names
+wgsl_names = new_names (set.from_list reserved_words) (set.from_list builtin_words) set.empty reserved_prefixes
+
+-- the name of each item, by its key: items are named in their order, each after those before it
+unfoldable pub module_names : Module → NameMap
+module_names m key = update_all same_key (λ _. None) (named_items wgsl_names (labelled_items m)) key
+
+-- an item's name; each item of the module has one
+abbrev pub name_in : NameMap → NameKey → List ℕ
+name_in names key = unwrap_or (names key) []
+
+-- the name of a function, and of one of its arguments
+abbrev pub function_name : NameMap → (function : ℕ) → List ℕ
+function_name names g = name_in names (key.Function g)
+
+abbrev pub argument_name : NameMap → (function argument : ℕ) → List ℕ
+argument_name names g n = name_in names (key.FunctionArgument g n)
+
+-- the name that a handle has where no front end named it
+abbrev pub numbered_name : ℕ → List ℕ
+numbered_name h = codes "_e" ++ decimal h
+
+-- The map has the name of each function and of each argument, whose numbers are no greater than the greatest `u32`.
+pub record HasNamesOf (m : Module) (names : NameMap) : Type 0 where
+  pub functions : (g : ℕ) → g < length m.functions → names (key.Function g) ≡ Some (function_name (module_names m) g)
+  pub arguments : (g : ℕ) (f : ir_function.Function) → slice_get m.functions g ≡ Some f → (n : ℕ) → n < length f.arguments.items →
+      names (key.FunctionArgument g n) ≡ Some (argument_name (module_names m) g n)
+  pub numbers : (g : ℕ) (f : ir_function.Function) → slice_get m.functions g ≡ Some f → length f.arguments.items ≤ 2 ^ 32

@@ -1,0 +1,96 @@
+-- The program of shapes of a module, with its names, of those modules that are written so far.
+use Rattle.std.specs.Prelude.{ℕ, ◌-◌, ◌+◌, Bool, List, [], ◌∷◌, map, reverse, Option}
+use Rattle.std.specs.List.{list_any}
+use Rattle.std.specs.Bool.{nat_eq}
+use Rattle.std.specs.Option.{option_map}
+
+use Rattle.indexmap.specs.IndexMap.{keys}
+use Rattle.naga_ir.specs.StatementTree.{emit, return, StatementTree, simple, BlockTree, no_statements, statement}
+use Rattle.naga_ir.specs.declared.expression.Expression as ir
+use Rattle.naga_ir.specs.declared.expression.Expression.TheVariants as expression
+use Rattle.naga_ir.specs.declared.module.Function as ir_function
+use Rattle.naga_ir.specs.declared.module.Module as ir_module
+use Rattle.naga_ir.specs.declared.types.Type_.{Type_}
+use Rattle.naga_info.specs.declared.info.ExpressionInfo.{ExpressionInfo}
+use Rattle.naga_info.specs.declared.info.ModuleInfo.{ModuleInfo}
+use Rattle.naga_info.specs.Types.{word_at, spelling_of}
+use Rattle.naga_names.specs.Reset.{NameMap}
+use Rattle.shader_runs.specs.Value.{Bytes, ValueType}
+use Rattle.shader_runs.specs.Program.{Fixed, Expression, Constant, Argument, Local, Result, Statement, Emit, Return, Block, Statements, end, then, Function, Module}
+use Rattle.shader_runs.specs.Scope.{ModuleNames, Names, Naming}
+use Rattle.naga_form.specs.Names.{function_name, argument_name, numbered_name}
+use Rattle.naga_form.specs.Types.{value_type}
+use Rattle.naga_form.specs.Literals.{literal_value}
+use Rattle.naga_form.specs.Abstraction.{is_request}
+
+-- what an expression evaluates. What is not written so far stands as a result that no statement gives
+abbrev pub expression_shape : ir.Expression → Expression
+expression_shape (expression.Literal value) = Constant (Fixed (literal_value value))
+expression_shape (expression.FunctionArgument number) = Argument number
+expression_shape (expression.LocalVariable handle) = Local handle
+expression_shape _ = Result
+
+-- what a statement does. What is not written so far stands as an empty block
+abbrev pub statement_shape : StatementTree → Statement
+statement_shape (simple (emit first last)) = Emit first (last - first)
+statement_shape (simple (return value)) = Return value
+statement_shape _ = Block end
+
+abbrev pub statements_shape : BlockTree → Statements
+statements_shape no_statements = end
+statements_shape (statement s b) = then (statement_shape s) (statements_shape b)
+
+-- which of the handles from this one on a front end named
+abbrev pub given_from : List ℕ → ℕ → List ir.Expression → List Bool
+given_from named h [] = []
+given_from named h (e ∷ es) = list_any (nat_eq h) named ∷ given_from named (h + 1) es
+
+-- a function, with what is known of its expressions
+abbrev pub function_shape : List Type_ → ir_function.Function → List ExpressionInfo → Function
+function_shape types f es =
+    record {
+      argument_types = map (λ a. value_type (word_at types a.ty)) f.arguments.items;
+      result = option_map (λ r. value_type (word_at types r.ty)) f.result;
+      first_values = map (λ l. l.init) f.local_variables;
+      expressions = map expression_shape f.expressions;
+      types = map (λ e. value_type (spelling_of types e.ty)) es;
+      counts = map (λ e. e.ref_count) es;
+      given_names = given_from (keys f.named_expressions) 0 f.expressions;
+      body = statements_shape f.body;
+    }
+
+-- the functions, each with what is known of it
+abbrev pub function_shapes : List Type_ → List ir_function.Function → List (List ExpressionInfo) → List Function
+function_shapes types (f ∷ fs) (es ∷ ess) = function_shape types f es ∷ function_shapes types fs ess
+function_shapes types _ _ = []
+
+-- the program of shapes; its functions stand in it with the last one first
+abbrev pub program_shape : ir_module.Module → ModuleInfo → Module
+program_shape m info =
+    record { constant_types = []; global_types = []; functions = reverse (function_shapes m.types m.functions info.functions.items) }
+
+-- the names of the module's items; it has no constants, overrides and variables so far
+abbrev pub outer_names : NameMap → ModuleNames
+outer_names names =
+    record { constant = λ i. []; global = λ i. []; function = function_name names; is_request = is_request }
+
+-- the names that the text of the function with this handle uses. It has no locals and no names of front ends so far
+abbrev pub inner_names : NameMap → ℕ → Names
+inner_names names g =
+    record {
+      outer = outer_names names;
+      argument = argument_name names g;
+      local_ = λ i. [];
+      given = λ k. [];
+      numbered = numbered_name;
+      earlier = g;
+    }
+
+-- the functions with their names, from this handle on
+abbrev pub namings_from : NameMap → ℕ → List Function → List Naming
+namings_from names g [] = []
+namings_from names g (f ∷ fs) = record { function = f; names = inner_names names g } ∷ namings_from names (g + 1) fs
+
+-- the functions with their names, the last one first
+abbrev pub namings : NameMap → ir_module.Module → ModuleInfo → List Naming
+namings names m info = reverse (namings_from names 0 (function_shapes m.types m.functions info.functions.items))

@@ -1,0 +1,29 @@
+-- Types as they are written, and as values have them. A value's type is the type's spelling.
+use Rattle.std.specs.Prelude.{ℕ, List, [], ◌∷◌, Option, Some, None, if◌then◌else◌, codes, unwrap_or}
+use Rattle.std.specs.List.{starts_with}
+use Rattle.std.specs.Bool.{nat_eq}
+use Rattle.std.specs.Str.{bytes_eq}
+use Rattle.naga_ir.specs.declared.types.Type_.{Type_}
+use Rattle.naga_info.specs.Types.{word_at}
+use Rattle.wgsl_text.specs.Words.{stands_in}
+use Rattle.wgsl_text.specs.Tree.{TypeSpecifier, Named}
+use Rattle.shader_runs.specs.Value.{ValueType, BooleanType, IntegerType, PointerType, OtherType}
+
+-- a type of the module: so far its word
+abbrev pub type_form : List Type_ → ℕ → TypeSpecifier
+type_form types ty = Named (unwrap_or (word_at types ty) [])
+
+abbrev pub integer_words : List (List ℕ)
+integer_words = codes "i16" ∷ codes "u16" ∷ codes "i32" ∷ codes "u32" ∷ codes "i64" ∷ codes "u64" ∷ []
+
+-- the type of values whose type is spelled so
+abbrev pub type_spelled : List ℕ → ValueType
+type_spelled w =
+    if bytes_eq w (codes "bool") then BooleanType else (
+    if stands_in integer_words w then IntegerType w else (
+    if starts_with nat_eq w (codes "ptr<") then PointerType else OtherType w))
+
+-- what has no spelling is a type of its own
+abbrev pub value_type : Option (List ℕ) → ValueType
+value_type (Some w) = type_spelled w
+value_type None = OtherType []
