@@ -5,7 +5,7 @@ use Rattle.naga_ir.specs.declared.module.FunctionResult.{FunctionResult}
 use Rattle.naga_ir.specs.declared.module.Module as ir_module
 use Rattle.naga_ir.specs.declared.types.Type_.{Type_}
 use Rattle.naga_names.specs.Reset.{NameMap}
-use Rattle.wgsl_text.specs.Tree.{Attribute, TypeSpecifier, Result, Function, EntryPoint, Struct, NamedConstant, Override, Global, Program}
+use Rattle.wgsl_text.specs.Tree.{Attribute, TypeSpecifier, Parameter, Result, NoResult, ResultOf, Function, EntryPoint, Struct, NamedConstant, Override, Global, Program}
 use Rattle.naga_form.specs.Names.{function_name, argument_name}
 use Rattle.naga_form.specs.Types.{type_form}
 
@@ -30,14 +30,17 @@ pub record Interface : Type 0 where
   pub functions : List FunctionInterface
   pub entry_points : List EntryPoint
 
+abbrev pub parameter_read : Parameter → Passed
+parameter_read p = record { attributes = p.attributes; type = p.type }
+
 abbrev pub result_read : Result → Option Passed
-result_read Result.NoResult = None
-result_read (Result.ResultOf attributes type) = Some (record { attributes = attributes; type = type })
+result_read NoResult = None
+result_read (ResultOf attributes type) = Some (record { attributes = attributes; type = type })
 
 -- the interface of a function of a text
 abbrev pub function_interface_read : Function → FunctionInterface
 function_interface_read f =
-    record { name = f.name; arguments = map (λ p. record { attributes = p.attributes; type = p.type }) f.parameters; result = result_read f.result }
+    record { name = f.name; arguments = map parameter_read f.parameters; result = result_read f.result }
 
 -- the interface of a text
 abbrev pub interface_read : Program → Interface

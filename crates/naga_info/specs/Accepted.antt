@@ -17,7 +17,7 @@ use Rattle.naga_ir.specs.declared.module.SpecialTypes.{SpecialTypes}
 use Rattle.naga_ir.specs.declared.types.Type_.{Type_}
 use Rattle.naga_info.specs.declared.info.ExpressionInfo.{ExpressionInfo}
 use Rattle.naga_info.specs.declared.info.ModuleInfo.{ModuleInfo}
-use Rattle.naga_info.specs.Types.{word_of_type, word_at, local_pointer, spelling_at, spelling_of, is_alike, literal_word}
+use Rattle.naga_info.specs.Types.{word_of_type, word_at, local_pointer, spelling_at, spelling_of, is_alike, literal_word, literal_is_within}
 
 -- nothing is declared but types and at most one function
 abbrev pub declares_one_function : Module → Bool
@@ -54,9 +54,14 @@ expected_type types f (FunctionArgument number) = option_and_then (λ a. word_at
 expected_type types f (LocalVariable handle) = option_and_then (λ l. option_map local_pointer (word_at types l.ty)) (slice_get f.local_variables handle)
 expected_type types f _ = None
 
+-- the value of a literal is one of its type
+abbrev pub is_within : Expression → Bool
+is_within (Literal value) = literal_is_within value
+is_within _ = true
+
 -- what is known of an expression is its type
 abbrev pub expression_fits : List Type_ → Function → Expression → ExpressionInfo → Bool
-expression_fits types f e known = is_alike (spelling_of types known.ty) (expected_type types f e)
+expression_fits types f e known = is_alike (spelling_of types known.ty) (expected_type types f e) && is_within e
 
 -- of each expression one thing is known, and it fits
 abbrev pub expressions_fit : List Type_ → Function → List Expression → List ExpressionInfo → Bool

@@ -1,5 +1,5 @@
 -- How types are spelled, of those that are told apart so far. Types are alike where they are spelled alike.
-use Rattle.std.specs.Prelude.{ℕ, Bool, false, List, ◌++◌, Option, Some, None, ◌==◌, if◌then◌else◌, codes, slice_get}
+use Rattle.std.specs.Prelude.{ℕ, ℤ, pos, negsuc, ◌^◌, nat_lt, Bool, true, false, List, ◌++◌, Option, Some, None, ◌==◌, if◌then◌else◌, codes, slice_get}
 use Rattle.std.specs.Option.{option_map, option_and_then}
 use Rattle.std.specs.Str.{bytes_eq}
 use Rattle.naga_ir.specs.declared.expression.Literal.{Literal}
@@ -72,3 +72,16 @@ literal_word (U32 value) = Some (codes "u32")
 literal_word (I64 value) = Some (codes "i64")
 literal_word (U64 value) = Some (codes "u64")
 literal_word _ = None
+
+-- an integer of so many bits with a sign, counted without it
+abbrev pub is_signed_within : ℕ → ℤ → Bool
+is_signed_within limit (pos n) = nat_lt n limit
+is_signed_within limit (negsuc n) = nat_lt n limit
+
+-- a literal's integer is one of its type
+abbrev pub literal_is_within : Literal → Bool
+literal_is_within (I32 value) = is_signed_within (2 ^ 31) value
+literal_is_within (U32 value) = nat_lt value (2 ^ 32)
+literal_is_within (I64 value) = is_signed_within (2 ^ 63) value
+literal_is_within (U64 value) = nat_lt value (2 ^ 64)
+literal_is_within _ = true

@@ -4,8 +4,9 @@ ghost use Rattle.std.specs.Prelude.{◌≡◌, nat_lt};
 ghost use Rattle.std.specs.List.{list_all};
 ghost use Rattle.indexmap.specs.IndexMap.{values};
 ghost use Rattle.naga_ir.specs.StatementViews.{tree_of};
-ghost use Rattle.naga_info.specs.Accepted.{block_fits, declares_one_function, expected_type, expression_fits, expressions_fit, function_fits, functions_fit, is_accepted, is_below, is_scalar_type, local_fits, names_fit, return_fits, signature_fits, special_types_fit, statement_fits, value_fits};
+ghost use Rattle.naga_info.specs.Accepted.{block_fits, declares_one_function, expected_type, expression_fits, is_within, expressions_fit, function_fits, functions_fit, is_accepted, is_below, is_within, is_scalar_type, local_fits, names_fit, return_fits, signature_fits, special_types_fit, statement_fits, value_fits};
 ghost use Rattle.naga_info.specs.Spelled.{spelled};
+ghost use Rattle.naga_info.specs.Types.{literal_is_within};
 
 use crate::info::{ExpressionInfo, FunctionInfo, ModuleInfo};
 use crate::spelling::{
@@ -13,7 +14,7 @@ use crate::spelling::{
     spelled_pointer_to, spelled_resolution,
 };
 use naga_ir::{
-    Arena, Expression, Function, FunctionArgument, Handle, LocalVariable, Module, Place,
+    Arena, Expression, Function, FunctionArgument, Handle, Literal, LocalVariable, Module, Place,
     SpecialTypes, Statement, Type_, UniqueArena,
 };
 
@@ -188,7 +189,26 @@ fn expression_fits(
     are_alike(
         spelled_resolution(types, &info.ty),
         expected_type(types, function, expression),
-    )
+    ) && is_within(expression)
+}
+
+/// Whether the value of a literal is one of its type, as it always is.
+fn is_within(expression: &Expression) -> bool
+    ensures { result ≡ is_within expression.now }
+{
+    match expression {
+        Expression::Literal(literal) => literal_is_within(*literal),
+        _ => true,
+    }
+}
+
+fn literal_is_within(literal: Literal) -> bool
+    ensures { result ≡ literal_is_within literal }
+{
+    match literal {
+        Literal::I32(_) | Literal::U32(_) | Literal::I64(_) | Literal::U64(_) => true,
+        _ => true,
+    }
 }
 
 /// The spelling of the type that an expression has by what it stands for.

@@ -1,0 +1,43 @@
+-- The program that is written for a module has the module's interface.
+use Rattle.std.proofs.Common.{◌≡◌, ℕ, ◌+◌, Bool, List, [], ◌∷◌, map, Option, Some, None, refl, ap, ◌∙◌}
+use Rattle.naga_ir.specs.declared.module.Function as ir_function
+use Rattle.naga_ir.specs.declared.module.FunctionArgument.{FunctionArgument}
+use Rattle.naga_ir.specs.declared.module.FunctionResult.{FunctionResult}
+use Rattle.naga_ir.specs.declared.module.Module.{Module}
+use Rattle.naga_ir.specs.declared.types.Type_.{Type_}
+use Rattle.naga_info.specs.declared.info.ModuleInfo.{ModuleInfo}
+use Rattle.naga_names.specs.Reset.{NameMap}
+use Rattle.naga_form.specs.Names.{module_names}
+use Rattle.naga_form.specs.Form.{parameters_form, result_form, function_form, functions_form}
+use Rattle.naga_form.specs.Interface.{Passed, FunctionInterface, Interface, parameter_read, result_read, function_interface_read, passed, result_passed, function_interface, function_interfaces}
+use Rattle.naga_form.specs.Faithful.{written_program, HasInterfaceOf}
+
+parameters_passed : (names : NameMap) (types : List Type_) (g n : ℕ) (args : List FunctionArgument) → map parameter_read (parameters_form names types g n args) ≡ map (λ a. passed types a.ty) args
+parameters_passed names types g n [] = refl
+parameters_passed names types g n (a ∷ more) = ap (λ ps. passed types a.ty ∷ ps) (parameters_passed names types g (n + 1) more)
+
+results_passed : (types : List Type_) (r : Option FunctionResult) → result_read (result_form types r) ≡ result_passed types r
+results_passed types None = refl
+results_passed types (Some r) = refl
+
+function_interface_form : (names : NameMap) (types : List Type_) (g : ℕ) (f : ir_function.Function) → function_interface_read (function_form names types g f) ≡ function_interface names types g f
+function_interface_form names types g f = λ i. record {
+  name = (function_interface names types g f).name;
+  arguments = parameters_passed names types g 0 f.arguments.items i;
+  result = results_passed types f.result i;
+}
+
+function_interfaces_form : (names : NameMap) (types : List Type_) (g : ℕ) (fs : List ir_function.Function) → map function_interface_read (functions_form names types g fs) ≡ function_interfaces names types g fs
+function_interfaces_form names types g [] = refl
+function_interfaces_form names types g (f ∷ more) = λ i. function_interface_form names types g f i ∷ function_interfaces_form names types (g + 1) more i
+
+pub has_interface : (m : Module) (info : ModuleInfo) (explicit : Bool) → HasInterfaceOf m (written_program m info explicit)
+has_interface m info explicit = λ i. record {
+  enables = [];
+  structs = [];
+  constants = [];
+  overrides = [];
+  globals = [];
+  functions = function_interfaces_form (module_names m) m.types 0 m.functions i;
+  entry_points = [];
+}
