@@ -1,1 +1,5 @@
 pub mod Interfaces
+pub mod Facts
+pub mod Runs
+pub mod Abstractions
+pub mod Fits

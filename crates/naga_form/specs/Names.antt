@@ -1,5 +1,5 @@
 -- The names that a module's items have in its WGSL text.
-use Rattle.std.specs.Prelude.{◌≡◌, ℕ, ◌<◌, ◌≤◌, ◌^◌, List, [], ◌∷◌, ◌++◌, length, slice_get, Option, None, Some, codes, decimal, unwrap_or}
+use Rattle.std.specs.Prelude.{◌≡◌, ℕ, ◌<◌, ◌≤◌, ◌^◌, List, [], ◌∷◌, ◌++◌, length, replicate, slice_get, if◌then◌else◌, nat_lt, Option, None, Some, codes, decimal, unwrap_or}
 use Rattle.std.specs.FinSet as set
 use Rattle.std.specs.Map.{update_all}
 use Rattle.naga_ir.specs.declared.module.Function as ir_function
@@ -33,9 +33,10 @@ function_name names g = name_in names (key.Function g)
 abbrev pub argument_name : NameMap → (function argument : ℕ) → List ℕ
 argument_name names g n = name_in names (key.FunctionArgument g n)
 
--- the name that a handle has where no front end named it
-abbrev pub numbered_name : ℕ → List ℕ
-numbered_name h = codes "_e" ++ decimal h
+-- the name that a handle has where no front end named it: a handle is less than 2 ^ 64, and a greater number has blanks
+-- for a name, so that no two numbers have one
+unfoldable pub numbered_name : ℕ → List ℕ
+numbered_name h = if nat_lt h (2 ^ 64) then codes "_e" ++ decimal h else replicate h 32
 
 -- The map has the name of each function and of each argument, whose numbers are no greater than the greatest `u32`.
 pub record HasNamesOf (m : Module) (names : NameMap) : Type 0 where

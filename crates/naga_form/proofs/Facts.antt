@@ -1,0 +1,134 @@
+-- What is known of each expression and statement of an accepted function that is written.
+use Rattle.std.proofs.Common.{◌≡◌, ◌≢◌, ℕ, suc, zero, Bool, true, false, ◌&&◌, List, [], ◌∷◌, map, length, ◌<◌, Option, Some, None, refl, sym, ap, subst, ◌∙◌}
+use Rattle.std.specs.Prelude.{IsTrue, slice_get, unwrap_or, ◌==◌}
+use Rattle.std.specs.List.{list_all}
+use Rattle.std.specs.Option.{option_map, option_and_then, is_some}
+use Rattle.std.specs.Str.{bytes_eq}
+use Rattle.std.proofs.lemmas.Slice.Eq.{bytes_eq-Decides}
+use Rattle.indexmap.specs.IndexMap.{keys}
+use Rattle.naga_ir.specs.StatementTree.{StatementTree, simple, return}
+use Rattle.naga_ir.specs.declared.expression.Expression.{Expression}
+use Rattle.naga_ir.specs.declared.expression.Expression.TheVariants as expression
+use Rattle.naga_ir.specs.declared.expression.Literal.{Literal}
+use Rattle.naga_ir.specs.declared.module.Function.{Function}
+use Rattle.naga_ir.specs.declared.module.FunctionResult.{FunctionResult}
+use Rattle.naga_ir.specs.declared.types.Type_.{Type_}
+use Rattle.naga_info.specs.declared.info.ExpressionInfo.{ExpressionInfo}
+use Rattle.naga_info.specs.Types.{word_at, spelling_of, spelling_at, is_alike}
+use Rattle.naga_info.specs.Accepted.{expected_type, is_within, signature_fits, names_fit, expression_fits, expressions_fit, local_fits, return_fits, block_fits, function_fits}
+use Rattle.naga_info.specs.Part.{expression_is_written, statement_is_written, block_is_written, is_unbound, function_is_written}
+
+pub and_left : (a b : Bool) → IsTrue (a && b) → IsTrue a
+and_left true b h = refl
+and_left false b h = h
+
+pub and_right : (a b : Bool) → IsTrue (a && b) → IsTrue b
+and_right true b h = h
+and_right false b h = absurd (cc)
+
+-- alike spellings are one word
+pub record HaveOneWord (a b : Option (List ℕ)) : Type 0 where
+  pub word : List ℕ
+  pub first : a ≡ Some word
+  pub second : b ≡ Some word
+
+pub alike_word : (a b : Option (List ℕ)) → IsTrue (is_alike a b) → HaveOneWord a b
+alike_word (Some a) (Some b) e = record { word = a; first = refl; second = ap Some (sym ((bytes_eq-Decides a b).0 e)) }
+alike_word (Some a) None e = absurd (cc)
+alike_word None b e = absurd (cc)
+
+-- what is found in a list passes the test that all of it passes
+pub all_at : {X : Type 0} (test : X → Bool) (xs : List X) (i : ℕ) (x : X) → IsTrue (list_all test xs) → slice_get xs i ≡ Some x → IsTrue (test x)
+all_at test [] i x all found = absurd (cc)
+all_at test (y ∷ xs) zero x all found = subst (λ z. IsTrue (test z)) (ap (λ o. unwrap_or o y) found) (and_left (test y) (list_all test xs) all)
+all_at test (y ∷ xs) (suc i) x all found = all_at test xs i x (and_right (test y) (list_all test xs) all) found
+
+-- an expression of an accepted function, and what is known of it
+pub record IsKnown (types : List Type_) (f : Function) (es : List ExpressionInfo) (h : ℕ) (e : Expression) : Type 0 where
+  pub known : ExpressionInfo
+  pub there : slice_get es h ≡ Some known
+  pub fits : IsTrue (expression_fits types f e known)
+
+pub known_at : (types : List Type_) (f : Function) (exprs : List Expression) (es : List ExpressionInfo) (h : ℕ) (e : Expression) → IsTrue (expressions_fit types f exprs es) → slice_get exprs h ≡ Some e → IsKnown types f es h e
+known_at types f [] es h e fit found = absurd (cc)
+known_at types f (x ∷ xs) [] h e fit found = absurd (cc)
+known_at types f (x ∷ xs) (k ∷ ks) zero e fit found =
+    record { known = k; there = refl; fits = subst (λ y. IsTrue (expression_fits types f y k)) (ap (λ o. unwrap_or o x) found) (and_left (expression_fits types f x k) (expressions_fit types f xs ks) fit) }
+known_at types f (x ∷ xs) (k ∷ ks) (suc h) e fit found =
+    let rest = known_at types f xs ks h e (and_right (expression_fits types f x k) (expressions_fit types f xs ks) fit) found in
+    record { known = rest.known; there = rest.there; fits = rest.fits }
+
+-- where something is known of a handle, there is an expression
+pub expression_at : (types : List Type_) (f : Function) (exprs : List Expression) (es : List ExpressionInfo) (h : ℕ) (k : ExpressionInfo) → IsTrue (expressions_fit types f exprs es) → slice_get es h ≡ Some k → (e : Expression) × (slice_get exprs h ≡ Some e)
+expression_at types f exprs [] h k fit found = absurd (cc)
+expression_at types f [] (k' ∷ ks) h k fit found = absurd (cc)
+expression_at types f (x ∷ xs) (k' ∷ ks) zero k fit found = (x, refl)
+expression_at types f (x ∷ xs) (k' ∷ ks) (suc h) k fit found = expression_at types f xs ks h k (and_right (expression_fits types f x k') (expressions_fit types f xs ks) fit) found
+
+-- an optional value, through an optional function
+pub then_some : {A B : Type 0} (f : A → Option B) (o : Option A) (b : B) → option_and_then f o ≡ Some b → (a : A) × (o ≡ Some a) × (f a ≡ Some b)
+then_some f None b e = absurd (cc)
+then_some f (Some a) b e = (a, refl, e)
+
+-- a returned handle: its expression, and the word of its type, which is the result's
+pub record IsReturned (types : List Type_) (f : Function) (es : List ExpressionInfo) (h : ℕ) : Type 0 where
+  pub expression : Expression
+  pub there : slice_get f.expressions h ≡ Some expression
+  pub answer : FunctionResult
+  pub answers : f.result ≡ Some answer
+  pub alike : HaveOneWord (spelling_at types es h) (word_at types answer.ty)
+
+pub returned_at : (types : List Type_) (f : Function) (es : List ExpressionInfo) (h : ℕ) → IsTrue (expressions_fit types f f.expressions es) → (r : Option FunctionResult) → f.result ≡ r → IsTrue (return_fits types es r (Some h)) → IsReturned types f es h
+returned_at types f es h fit None is fits = absurd (cc)
+returned_at types f es h fit (Some answer) is fits =
+    let one = alike_word (spelling_at types es h) (word_at types answer.ty) fits in
+    let known = then_some (λ e. spelling_of types e.ty) (slice_get es h) one.word one.first in
+    let e = expression_at types f f.expressions es h known.0 fit known.1 in
+    record { expression = e.0; there = e.1; answer = answer; answers = is; alike = one }
+
+-- a written statement returns
+pub is_return : (s : StatementTree) → IsTrue (statement_is_written s) → (v : Option ℕ) × (s ≡ simple (return v))
+is_return (simple (return v)) e = (v, refl)
+is_return _ e = absurd (cc)
+
+-- a written expression is a literal or an argument
+pub data IsLeaf : Expression → Type 0 where
+  literal_leaf : (v : Literal) → IsLeaf (expression.Literal v)
+  argument_leaf : (n : ℕ) → IsLeaf (expression.FunctionArgument n)
+
+pub is_leaf : (e : Expression) → IsTrue (expression_is_written e) → IsLeaf e
+is_leaf (expression.Literal v) w = literal_leaf v
+is_leaf (expression.FunctionArgument n) w = argument_leaf n
+is_leaf _ w = absurd (cc)
+
+-- what an accepted function that is written is known by
+pub record FunctionFacts (types : List Type_) (f : Function) (es : List ExpressionInfo) : Type 0 where
+  pub signature : IsTrue (signature_fits (length types) f)
+  pub known : IsTrue (expressions_fit types f f.expressions es)
+  pub fits : IsTrue (block_fits types es f.result f.body)
+  pub no_locals : IsTrue (length f.local_variables == 0)
+  pub written : IsTrue (list_all expression_is_written f.expressions)
+  pub returns : IsTrue (block_is_written f.body)
+
+pub function_facts : (types : List Type_) (f : Function) (es : List ExpressionInfo) → IsTrue (function_fits types f es) → IsTrue (function_is_written f) → FunctionFacts types f es
+function_facts types f es fits written =
+    let a = signature_fits (length types) f in
+    let b = names_fit f in
+    let c = expressions_fit types f f.expressions es in
+    let d = list_all (local_fits types es) f.local_variables in
+    let e = block_fits types es f.result f.body in
+    let cde = and_right b (c && (d && e)) (and_right a (b && (c && (d && e))) fits) in
+    let v = length f.local_variables == 0 in
+    let w = length (keys f.named_expressions) == 0 in
+    let x = is_unbound f in
+    let y = list_all expression_is_written f.expressions in
+    let z = block_is_written f.body in
+    let yz = and_right x (y && z) (and_right w (x && (y && z)) (and_right v (w && (x && (y && z))) written)) in
+    record {
+      signature = and_left a (b && (c && (d && e))) fits;
+      known = and_left c (d && e) cde;
+      fits = and_right d e (and_right c (d && e) cde);
+      no_locals = and_left v (w && (x && (y && z))) written;
+      written = and_left y z yz;
+      returns = and_right y z yz;
+    }

@@ -1,0 +1,107 @@
+-- An accepted function that is written meets what the law of runs asks of its shape.
+use Rattle.std.proofs.Common.{◌≡◌, ◌≢◌, ℕ, suc, zero, Bool, true, false, ◌&&◌, ◌<◌, pos, negsuc, List, [], ◌∷◌, map, length, Option, Some, None, refl, sym, ap, subst, ◌∙◌, arith}
+use Rattle.std.specs.Prelude.{IsTrue, slice_get, get_or, unwrap_or, nat_lt, ◌==◌}
+use Rattle.std.specs.List.{list_all}
+use Rattle.std.specs.Option.{option_map, option_and_then}
+use Rattle.std.specs.Fmt.{decimal}
+use Rattle.std.proofs.lemmas.Bool.{eqb-true, lt-ltb}
+use Rattle.std.proofs.lemmas.Option.{slice_get_within}
+use Rattle.naga_ir.specs.StatementTree.{BlockTree, no_statements, statement, StatementTree, simple, return}
+use Rattle.naga_ir.specs.declared.expression.Expression as ir
+use Rattle.naga_ir.specs.declared.expression.Expression.TheVariants as expression
+use Rattle.naga_ir.specs.declared.expression.Literal as ir_literal
+use Rattle.naga_ir.specs.declared.expression.Literal.TheVariants as literal
+use Rattle.naga_ir.specs.declared.module.Function as ir_function
+use Rattle.naga_ir.specs.declared.module.LocalVariable.{LocalVariable}
+use Rattle.naga_ir.specs.declared.types.Type_.{Type_}
+use Rattle.naga_info.specs.declared.info.ExpressionInfo.{ExpressionInfo}
+use Rattle.naga_info.specs.Types.{word_at, spelling_of, literal_word, literal_is_within, is_alike}
+use Rattle.naga_info.specs.Accepted.{expected_type, is_within, function_fits, expressions_fit, statement_fits, return_fits, block_fits}
+use Rattle.naga_info.specs.Part.{expression_is_written, block_is_written, statement_is_written, function_is_written}
+use Rattle.naga_names.specs.Reset.{NameMap}
+use Rattle.shader_runs.specs.Value.{ValueType, type_at, type_of}
+use Rattle.shader_runs.specs.Program as shapes
+use Rattle.shader_runs.specs.Program.{operands_of, handle_type, argument_count}
+use Rattle.shader_runs.specs.Scope.{Naming, at_start, usable_as, usable_if, fits_all, fits_function, first_values_fit, given_by_all}
+use Rattle.shader_runs.specs.Premises.{AllBelow, WordFits, LeafFits, ReturnFits, AreRegular, AreDistinct, FunctionFits, NameKey, FixedKey, NumberedKey, GivenKey, ArgumentName, LocalName, ConstantName, GlobalName}
+use Rattle.naga_form.specs.Names.{argument_name, numbered_name}
+use Rattle.naga_form.specs.Types.{value_type}
+use Rattle.naga_form.specs.Literals.{literal_value}
+use Rattle.naga_form.specs.Shapes.{expression_shape, statements_shape, function_shape, inner_names, outer_names}
+use Rattle.naga_form.proofs.Facts.{and_left, and_right, all_at, alike_word, known_at, then_some, returned_at, is_return, IsLeaf, literal_leaf, argument_leaf, is_leaf, FunctionFacts, function_facts}
+use Rattle.naga_form.proofs.Abstractions.{named, shape_at}
+
+-- what holds of no shape and of each leaf's holds of the shape of any handle
+at_shape : (exprs : List ir.Expression) → IsTrue (list_all expression_is_written exprs) → (h : ℕ) (P : Option shapes.Expression → Type 0) → P None → ((e : ir.Expression) → slice_get exprs h ≡ Some e → IsLeaf e → P (Some (expression_shape e))) → P (slice_get (map expression_shape exprs) h)
+at_shape [] written h P none some = none
+at_shape (x ∷ xs) written zero P none some = some x refl (is_leaf x (and_left (expression_is_written x) (list_all expression_is_written xs) written))
+at_shape (x ∷ xs) written (suc h) P none some = at_shape xs (and_right (expression_is_written x) (list_all expression_is_written xs) written) h P none some
+
+-- the type at an index of a list of types made from other things
+type_at_mapped : {X : Type 0} (t : X → ValueType) (xs : List X) (i : ℕ) (x : X) → slice_get xs i ≡ Some x → type_at (map t xs) i ≡ t x
+type_at_mapped t [] i x found = absurd (cc)
+type_at_mapped t (y ∷ xs) zero x found = ap t (ap (λ o. unwrap_or o y) found)
+type_at_mapped t (y ∷ xs) (suc i) x found = type_at_mapped t xs i x found
+
+literal_type : (v : ir_literal.Literal) (w : List ℕ) → literal_word v ≡ Some w → value_type (literal_word v) ≡ type_of (literal_value v)
+literal_type (literal.Bool b) w e = refl
+literal_type (literal.I32 z) w e = refl
+literal_type (literal.U32 n) w e = refl
+literal_type (literal.I64 z) w e = refl
+literal_type (literal.U64 n) w e = refl
+literal_type _ w e = absurd (cc)
+
+mapped_length : {X Y : Type 0} (f : X → Y) (xs : List X) → length (map f xs) ≡ length xs
+mapped_length f [] = refl
+mapped_length f (x ∷ xs) = ap suc (mapped_length f xs)
+
+-- what is known of a function's names: its arguments' are distinct, and none is a numbered name
+pub record NameFacts (names : NameMap) (g count : ℕ) : Type 0 where
+  pub distinct : (i j : ℕ) → i < count → j < count → argument_name names g i ≡ argument_name names g j → i ≡ j
+  pub numbered : (i h : ℕ) → i < count → argument_name names g i ≢ numbered_name h
+
+module _ (names : NameMap) (types : List Type_) (g : ℕ) (f : ir_function.Function) (es : List ExpressionInfo) (facts : FunctionFacts types f es) (p : shapes.Module) where
+  abbrev shape : shapes.Function
+  shape = function_shape types f es
+
+  -- the type of a known handle
+  type_of_known : (h : ℕ) (k : ExpressionInfo) (o : Option (List ℕ)) → slice_get es h ≡ Some k → spelling_of types k.ty ≡ o → handle_type shape h ≡ value_type o
+  type_of_known h k o found spelled = type_at_mapped (λ e. value_type (spelling_of types e.ty)) es h k found ∙ ap value_type spelled
+
+  leaf_fits : (h : ℕ) (e : ir.Expression) → slice_get f.expressions h ≡ Some e → IsLeaf e → LeafFits p shape (handle_type shape h) (Some (expression_shape e))
+  leaf_fits h _ found (literal_leaf v) =
+      let k = known_at types f f.expressions es h _ facts.known found in
+      let one = alike_word (spelling_of types k.known.ty) (literal_word v) (and_left (is_alike (spelling_of types k.known.ty) (literal_word v)) (literal_is_within v) k.fits) in
+      (tt, type_of_known h k.known (Some one.word) k.there one.first ∙ (ap value_type (sym one.second) ∙ literal_type v one.word one.second))
+  leaf_fits h _ found (argument_leaf n) =
+      let k = known_at types f f.expressions es h _ facts.known found in
+      let expected = option_and_then (λ a. word_at types a.ty) (slice_get f.arguments.items n) in
+      let one = alike_word (spelling_of types k.known.ty) expected (and_left (is_alike (spelling_of types k.known.ty) expected) true k.fits) in
+      let a = then_some (λ a. word_at types a.ty) (slice_get f.arguments.items n) one.word one.second in
+      type_of_known h k.known (Some one.word) k.there one.first
+      ∙ (ap value_type (sym a.2) ∙ sym (type_at_mapped (λ a. value_type (word_at types a.ty)) f.arguments.items n a.0 a.1))
+
+  -- an argument that is named is one of the function's
+  argument_within : (h n : ℕ) → slice_get f.expressions h ≡ Some (expression.FunctionArgument n) → n < length f.arguments.items
+  argument_within h n found =
+      let k = known_at types f f.expressions es h _ facts.known found in
+      let expected = option_and_then (λ a. word_at types a.ty) (slice_get f.arguments.items n) in
+      let one = alike_word (spelling_of types k.known.ty) expected (and_left (is_alike (spelling_of types k.known.ty) expected) true k.fits) in
+      let a = then_some (λ a. word_at types a.ty) (slice_get f.arguments.items n) one.word one.second in
+      slice_get_within f.arguments.items n a.0 a.1
+
+  usable_leaf : (h : ℕ) (e : ir.Expression) → slice_get f.expressions h ≡ Some e → IsLeaf e → IsTrue (usable_as shape (Some (expression_shape e)) (at_start shape h))
+  usable_leaf h _ found (literal_leaf v) = refl
+  usable_leaf h _ found (argument_leaf n) = lt-ltb n (argument_count shape) (subst (λ k. n < k) (sym (mapped_length (λ a. value_type (word_at types a.ty)) f.arguments.items)) (argument_within h n found))
+
+  -- a returned handle: of the result's type, and in scope
+  return_fits_shape : (v : Option ℕ) → IsTrue (return_fits types es f.result v) → ReturnFits shape v × IsTrue (usable_if shape (at_start shape) v)
+  return_fits_shape None fits = (tt, refl)
+  return_fits_shape (Some h) fits =
+      let r = returned_at types f es h facts.known f.result refl fits in
+      let k = then_some (λ e. spelling_of types e.ty) (slice_get es h) r.alike.word r.alike.first in
+      let leaf = is_leaf r.expression (all_at expression_is_written f.expressions h r.expression facts.written r.there) in
+      ( ap (option_map (λ a. value_type (word_at types a.ty))) r.answers ∙ ap (λ w. Some (value_type w)) (r.alike.second ∙ sym k.2) ∙ ap Some (sym (type_at_mapped (λ e. value_type (spelling_of types e.ty)) es h k.0 k.1))
+      , subst (λ o. IsTrue (usable_as shape o (at_start shape h))) (sym (shape_at f.expressions h r.expression r.there)) (usable_leaf h r.expression r.there leaf)
+      )
+
