@@ -1,4 +1,8 @@
+pub mod NameKeys
+pub mod NamedItems
+pub mod BaseShapes
 mod Examples
+pub mod NameShapes
 pub mod NamerLemmas
 pub mod Plains
 pub mod ResetLemmas

@@ -15,7 +15,7 @@ use Rattle.naga_names.specs.Words.{Words}
 use Rattle.naga_names.specs.declared.namer.key.NameKey.{NameKey}
 use Rattle.naga_names.specs.Naming.{Names, Uses, name_of, with_use, name_after, HasNamed, new_names}
 use Rattle.naga_names.specs.Reset.{Labelled, NameMap, labelled_arguments, labels_of, named_items, same_key, names_in, HasNamedItems, PutsBeginning, NamesItems, NamesBeginning}
-use Rattle.naga_names.proofs.NamerLemmas.{name_of-after, has_named-push, has_named_nothing}
+use Rattle.naga_names.proofs.NamerLemmas.{name_of-after, has_named_nothing}
 
 labels_of-push : (items : List Labelled) (item : Labelled) → labels_of (items ++ item ∷ []) ≡ labels_of items ++ item.1 ∷ []
 labels_of-push [] item = refl
@@ -45,11 +45,11 @@ with_use-words old start label same = ap (λ (n : Names). record n { uses = (wit
 
 module _ where
   -- one more item, after whatever was named before
-  pub names_one : (old : Names) (before now : NameMap) (key : NameKey) (label name : List ℕ) (new : Names) → name ≡ name_of old label → new ≡ with_use old label → ((q : NameKey) → now q ≡ cond (same_key key q) (Some name) (before q)) → NamesItems old before ((key, label) ∷ []) new now
-  names_one old before now key label name new name_is new_is now_is = record {
+  pub names_one : (old : Names) (before now : NameMap) (key : NameKey) (label name : List ℕ) (new : Names) → name ≡ name_of old label → new ≡ with_use old label → ((earlier : List (List ℕ)) → HasNamed old earlier → HasNamed new (earlier ++ label ∷ [])) → ((q : NameKey) → now q ≡ cond (same_key key q) (Some name) (before q)) → NamesItems old before ((key, label) ∷ []) new now
+  names_one old before now key label name new name_is new_is named_is now_is = record {
     more = λ start first earlier has. record {
       words = subst (λ n. n ≡ record start { uses = n.uses }) (sym new_is) (with_use-words old start label has.words);
-      labels = subst (HasNamed new) (sym (labels_of-push earlier (key, label))) (subst (λ n. HasNamed n (labels_of earlier ++ label ∷ [])) (sym new_is) (has_named-push old (labels_of earlier) label has.labels));
+      labels = subst (HasNamed new) (sym (labels_of-push earlier (key, label))) (named_is (labels_of earlier) has.labels);
       put = record {
         finds = λ q.
             now_is q

@@ -131,15 +131,15 @@ pub spelling-nil : spelling [] ≡ []
 unfolding spelling
 spelling-nil = refl
 
-spelled-mark : (c : ℕ) → is_mark c ≡ true → spelled c ≡ codes "_"
+pub spelled-mark : (c : ℕ) → is_mark c ≡ true → spelled c ≡ codes "_"
 spelled-mark c mark = ap (λ b. cond b (codes "_") (cond (is_identifier_char c) (c ∷ []) (codes "_" ++ by_number c))) mark
 
-spelled-plain : (c : ℕ) → is_mark c ≡ false → is_identifier_char c ≡ true → spelled c ≡ c ∷ []
+pub spelled-plain : (c : ℕ) → is_mark c ≡ false → is_identifier_char c ≡ true → spelled c ≡ c ∷ []
 spelled-plain c mark plain =
     ap (λ b. cond b (codes "_") (cond (is_identifier_char c) (c ∷ []) (codes "_" ++ by_number c))) mark
     ∙ ap (λ b. cond b (c ∷ []) (codes "_" ++ by_number c)) plain
 
-spelled-foreign : (c : ℕ) → is_foreign c ≡ true → spelled c ≡ 95 ∷ by_number c
+pub spelled-foreign : (c : ℕ) → is_foreign c ≡ true → spelled c ≡ 95 ∷ by_number c
 spelled-foreign c foreign =
     let parts = both_true (not (is_mark c)) (not (is_identifier_char c)) foreign in
     ap (λ b. cond b (codes "_") (cond (is_identifier_char c) (c ∷ []) (codes "_" ++ by_number c))) (not_true (is_mark c) parts.0)
@@ -152,10 +152,10 @@ squeezed-by_number c =
     ∙ with_separator-not (117 ∷ hexadecimal c) (unseparated-ends (117 ∷ hexadecimal c) (unseparated-hexadecimal c))
 
 -- the spelled characters, of a foreign first one without its `_`
-body : List ℕ → List ℕ
+unfoldable pub body : List ℕ → List ℕ
 body cs = cond (begins_foreign cs) (drop 1 (flat_map spelled cs)) (flat_map spelled cs)
 
-spelling-body : (cs : List ℕ) → spelling cs ≡ squeezed (body cs)
+pub spelling-body : (cs : List ℕ) → spelling cs ≡ squeezed (body cs)
 unfolding spelling body
 spelling-body [] = refl
 spelling-body (c ∷ cs) = either (is_foreign c) refl

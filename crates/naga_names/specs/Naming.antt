@@ -1,5 +1,5 @@
 -- The names that a `Namer` gives.
-use Rattle.std.specs.Prelude.{◌≡◌, ℕ, ◌+◌, ◌-◌, ◌^◌, Bool, ◌||◌, ◌==◌, if◌then◌else◌, List, ◌++◌, length, slice_index, [], codes, count_by, unwrap_or, decimal, refl, string_bytes}
+use Rattle.std.specs.Prelude.{◌≡◌, ℕ, ◌+◌, ◌-◌, ◌^◌, ◌≤◌, Bool, ◌||◌, ◌==◌, if◌then◌else◌, List, ◌++◌, length, slice_index, [], codes, count_by, unwrap_or, decimal, refl, string_bytes}
 use Rattle.std.specs.Option.{option_map_or}
 use Rattle.std.specs.declared.option.Option.{Option}
 use Rattle.std.specs.declared.string.String.{String}
@@ -97,6 +97,7 @@ labels_with_base names labels base = count_by (λ label. bytes_eq (label_base na
 abbrev pub name_after : Names → List (List ℕ) → List ℕ → List ℕ
 name_after names earlier label = let base = label_base names label in name_of_base names base (labels_with_base names earlier base)
 
--- the uses so far are those of these labels
+-- the uses so far are those of these labels, and none of them are more than can be counted
 pub record HasNamed (names : Names) (labels : List (List ℕ)) : Type 0 where
   pub uses_are : (base : List ℕ) → uses_of names.uses base ≡ labels_with_base names labels base
+  pub few : (base : List ℕ) → labels_with_base names labels base ≤ 2 ^ 32

@@ -2,10 +2,17 @@
 use Rattle.std.specs.Prelude.{◌≡◌, ℕ, List, [], ◌∷◌, ◌++◌, Bool, true, false, not, ◌&&◌, ◌||◌, ◌==◌}
 use Rattle.std.specs.List.{list_all}
 use Rattle.std.specs.Char.{is_ascii_digit, is_ascii_alphanumeric}
+use Rattle.std.specs.FinSet as set
+use Rattle.naga_names.specs.Words.{Words}
 
 -- an ASCII letter, a digit or `_`
 abbrev pub is_identifier_char : ℕ → Bool
 is_identifier_char c = is_ascii_alphanumeric c || c == 95
+
+-- a word has ASCII letters, digits and `_` alone, at least one of them, and begins with no digit
+abbrev pub is_word : List ℕ → Bool
+is_word [] = false
+is_word (c ∷ cs) = list_all is_identifier_char (c ∷ cs) && not (is_ascii_digit c)
 
 -- nothing more, or a `_`
 abbrev pub is_empty_or_separated : List ℕ → Bool
@@ -26,3 +33,7 @@ has_plain_end (c ∷ cs) = not (c == 95 && list_all is_ascii_digit cs) && has_pl
 pub record IsPlain (word : List ℕ) : Type 0 where
   pub identifier : is_identifier word ≡ true
   pub no_end : (front digits : List ℕ) → list_all is_ascii_digit digits ≡ true → word ≡ front ++ 95 ∷ digits → ⊥
+
+-- no word of the set ends in `_`, or in `_` and digits
+pub record HasPlainEnds (words : Words) : Type 0 where
+  pub no_end : (front digits : List ℕ) → list_all is_ascii_digit digits ≡ true → set.contains words (front ++ 95 ∷ digits) ≡ false

@@ -1,0 +1,247 @@
+-- The names of a list of items: where they stand, that none comes twice, and what a map has of them.
+use Rattle.std.proofs.Common.{◌≡◌, ℕ, ◌+◌, ◌<◌, ◌≤◌, ◌^◌, zero, suc, List, [], ◌∷◌, ◌++◌, map, take, Some, None, true, false, cond, refl, ap, sym, subst, ◌∙◌, arith, codes, append_assoc, append-nil, unwrap_or, slice_get}
+use Rattle.std.specs.Prelude.{◌⊎◌}
+use mathlib.Core.Logic.{inl, inr}
+use Rattle.std.specs.List.{AllByRecursion, IsDistinct, scan, flat_map, enumerate_from}
+use Rattle.std.specs.Map.{keys_of, lookup}
+use Rattle.std.specs.Option.{option_or}
+use Rattle.std.proofs.lemmas.Map.Made.{update_all_distinct}
+use Rattle.std.proofs.lemmas.List.{map-append}
+use Rattle.naga_ir.specs.declared.module.Module.{Module}
+use Rattle.naga_ir.specs.declared.module.Function.{Function}
+use Rattle.naga_ir.specs.declared.module.FunctionArgument.{FunctionArgument}
+use Rattle.naga_ir.specs.declared.types.Type_.{Type_}
+use Rattle.naga_names.specs.declared.namer.key.NameKey.{NameKey}
+use Rattle.naga_names.specs.declared.namer.key.NameKey.TheVariants as key
+use Rattle.naga_names.specs.Naming.{Names, name_after, labels_with_base, label_or}
+use Rattle.naga_names.specs.Reset.{Labelled, NameMap, labels_of, named_items, labelled_types, labelled_arguments, labelled_function, labelled_functions, labelled_items, same_key, PutsInto, HasNamedItems}
+use Rattle.naga_names.proofs.NameKeys.{AreApart, same_key_laws, items_apart}
+use Rattle.naga_names.proofs.NameShapes.{names_differ}
+
+nothing_there : {A X : Type 0} (x : X) → None ≡ Some x → A
+nothing_there x e = absurd (cc)
+
+wrong : {A : Type 0} → true ≡ false → A
+wrong e = absurd (cc)
+
+it_is : {X : Type 0} (x y : X) → Some x ≡ Some y → x ≡ y
+it_is x y e = ap (λ o. unwrap_or o x) e
+
+-- ---- the name of the item at a place
+abbrev named_from : Names → List (List ℕ) → List Labelled → List (NameKey × List ℕ)
+named_from start earlier items = scan (λ earlier item. earlier ++ item.1 ∷ []) (λ earlier item. (item.0, name_after start earlier item.1)) earlier items
+
+named_from_at : (start : Names) (earlier : List (List ℕ)) (items : List Labelled) (i : ℕ) (item : Labelled) → slice_get items i ≡ Some item → slice_get (named_from start earlier items) i ≡ Some (item.0, name_after start (earlier ++ labels_of (take i items)) item.1)
+named_from_at start earlier [] i item e = nothing_there item e
+named_from_at start earlier (x ∷ items) zero item e =
+    let same = it_is x item e in
+    λ j. Some ((same j).0, name_after start (sym (append-nil earlier) j) (same j).1)
+named_from_at start earlier (x ∷ items) (suc i) item e =
+    named_from_at start (earlier ++ x.1 ∷ []) items i item e
+    ∙ ap (λ labels. Some (item.0, name_after start labels item.1)) (append_assoc earlier (x.1 ∷ []) (labels_of (take i items)))
+
+-- the item at a place is named after the labels before it
+pub named_items_at : (start : Names) (items : List Labelled) (i : ℕ) (item : Labelled) → slice_get items i ≡ Some item → slice_get (named_items start items) i ≡ Some (item.0, name_after start (labels_of (take i items)) item.1)
+named_items_at start items i item e = named_from_at start [] items i item e
+
+-- ---- no name comes twice
+split_one : (xs : List Labelled) (j : ℕ) (y : Labelled) → slice_get xs j ≡ Some y → (rest : List Labelled) × (xs ≡ take j xs ++ y ∷ rest)
+split_one [] j y e = nothing_there y e
+split_one (x ∷ xs) zero y e = (xs, ap (λ z. z ∷ xs) (it_is x y e))
+split_one (x ∷ xs) (suc j) y e = let rest = split_one xs j y e in (rest.0, ap (λ t. x ∷ t) rest.1)
+
+record Split (xs : List Labelled) (i j : ℕ) (x y : Labelled) : Type 0 where
+  middle : List Labelled
+  rest : List Labelled
+  all : xs ≡ (take i xs ++ x ∷ middle) ++ y ∷ rest
+  before : take j xs ≡ take i xs ++ x ∷ middle
+
+split_two : (xs : List Labelled) (i j : ℕ) (x y : Labelled) → i < j → slice_get xs i ≡ Some x → slice_get xs j ≡ Some y → Split xs i j x y
+split_two [] i j x y lt ex ey = nothing_there x ex
+split_two (z ∷ xs) zero zero x y lt ex ey = absurd (omega (arith, lt))
+split_two (z ∷ xs) zero (suc j) x y lt ex ey =
+    let after = split_one xs j y ey in
+    let same = it_is z x ex in
+    record { middle = take j xs; rest = after.0; all = λ k. same k ∷ after.1 k; before = λ k. same k ∷ take j xs }
+split_two (z ∷ xs) (suc i) zero x y lt ex ey = absurd (omega (arith, lt))
+split_two (z ∷ xs) (suc i) (suc j) x y lt ex ey =
+    let inner = split_two xs i j x y (omega (arith, lt)) ex ey in
+    record { middle = inner.middle; rest = inner.rest; all = ap (λ t. z ∷ t) inner.all; before = ap (λ t. z ∷ t) inner.before }
+
+labels_of-append : (xs ys : List Labelled) → labels_of (xs ++ ys) ≡ labels_of xs ++ labels_of ys
+labels_of-append xs ys = map-append (λ item. item.1) xs ys
+
+module _ (start : Names) (items : List Labelled) (few : (base : List ℕ) → labels_with_base start (labels_of items) base ≤ 2 ^ 32) where
+  -- items at two places have different names
+  pub item_names_differ : (i j : ℕ) (x y : Labelled) → i < j → slice_get items i ≡ Some x → slice_get items j ≡ Some y → name_after start (labels_of (take i items)) x.1 ≡ name_after start (labels_of (take j items)) y.1 → ⊥
+  item_names_differ i j x y lt ex ey same =
+      let parts = split_two items i j x y lt ex ey in
+      let front : List (List ℕ) = labels_of (take i items) in
+      let before : labels_of (take j items) ≡ front ++ x.1 ∷ labels_of parts.middle = ap labels_of parts.before ∙ labels_of-append (take i items) (x ∷ parts.middle) in
+      let all : labels_of items ≡ (front ++ x.1 ∷ labels_of parts.middle) ++ y.1 ∷ labels_of parts.rest =
+      ap labels_of parts.all ∙ labels_of-append (take i items ++ x ∷ parts.middle) (y ∷ parts.rest)
+      ∙ ap (λ labels. labels ++ y.1 ∷ labels_of parts.rest) (labels_of-append (take i items) (x ∷ parts.middle)) in
+      names_differ start front x.1 (labels_of parts.middle) y.1 (labels_of parts.rest) (λ base. subst (λ labels. labels_with_base start labels base ≤ 2 ^ 32) all (few base)) (same ∙ ap (λ labels. name_after start labels y.1) before)
+
+  order : (i j : ℕ) → (i ≡ j) ⊎ ((i < j) ⊎ (j < i))
+  order zero zero = inl refl
+  order zero (suc j) = inr (inl (omega arith))
+  order (suc i) zero = inr (inr (omega arith))
+  order (suc i) (suc j) = next (order i j)
+    where
+      next : (i ≡ j) ⊎ ((i < j) ⊎ (j < i)) → (suc i ≡ suc j) ⊎ ((suc i < suc j) ⊎ (suc j < suc i))
+      next (inl e) = inl (ap suc e)
+      next (inr (inl lt)) = inr (inl (omega (arith, lt)))
+      next (inr (inr lt)) = inr (inr (omega (arith, lt)))
+
+  -- two places with one name are one place
+  pub item_names_tell : (i j : ℕ) (x y : Labelled) → slice_get items i ≡ Some x → slice_get items j ≡ Some y → name_after start (labels_of (take i items)) x.1 ≡ name_after start (labels_of (take j items)) y.1 → i ≡ j
+  item_names_tell i j x y ex ey same = either (order i j)
+    where
+      either : (i ≡ j) ⊎ ((i < j) ⊎ (j < i)) → i ≡ j
+      either (inl e) = e
+      either (inr (inl lt)) = absurd (item_names_differ i j x y lt ex ey same)
+      either (inr (inr lt)) = absurd (item_names_differ j i y x lt ey ex (sym same))
+
+-- ---- what a map has of the names that were put into it
+apart_from : (start : Names) (k : NameKey) (earlier : List (List ℕ)) (items : List Labelled) → AllByRecursion (λ y. same_key k y.0 ≡ false) items → AllByRecursion (λ y. same_key k y ≡ false) (keys_of (named_from start earlier items))
+apart_from start k earlier [] all = tt
+apart_from start k earlier (x ∷ items) all = (all.0, apart_from start k (earlier ++ x.1 ∷ []) items all.1)
+
+keys_distinct : (start : Names) (earlier : List (List ℕ)) (items : List Labelled) → AreApart items → IsDistinct same_key (keys_of (named_from start earlier items))
+unfolding IsDistinct
+keys_distinct start earlier [] apart = tt
+keys_distinct start earlier (x ∷ items) apart = (apart_from start x.0 (earlier ++ x.1 ∷ []) items apart.0, keys_distinct start (earlier ++ x.1 ∷ []) items apart.1)
+
+at_place : (P : Labelled → Type 0) (xs : List Labelled) (i : ℕ) (y : Labelled) → AllByRecursion P xs → slice_get xs i ≡ Some y → P y
+at_place P [] i y all e = nothing_there y e
+at_place P (x ∷ xs) zero y all e = subst P (it_is x y e) all.0
+at_place P (x ∷ xs) (suc i) y all e = at_place P xs i y all.1 e
+
+found : (start : Names) (earlier : List (List ℕ)) (items : List Labelled) (i : ℕ) (item : Labelled) → AreApart items → slice_get items i ≡ Some item → lookup (same_key item.0) (named_from start earlier items) ≡ Some (name_after start (earlier ++ labels_of (take i items)) item.1)
+found start earlier [] i item apart e = nothing_there item e
+found start earlier (x ∷ items) zero item apart e =
+    let same = it_is x item e in
+    let yes = ap (same_key item.0) (ap (λ (y : Labelled). y.0) same) ∙ same_key_laws.refl item.0 in
+    ap (λ b. cond b (Some (name_after start earlier x.1)) (lookup (same_key item.0) (named_from start (earlier ++ x.1 ∷ []) items))) yes
+    ∙ (λ j. Some (name_after start (sym (append-nil earlier) j) (same j).1))
+found start earlier (x ∷ items) (suc i) item apart e =
+    let other = same_key_laws.symm item.0 x.0 ∙ at_place (λ y. same_key x.0 y.0 ≡ false) items i item apart.0 e in
+    ap (λ b. cond b (Some (name_after start earlier x.1)) (lookup (same_key item.0) (named_from start (earlier ++ x.1 ∷ []) items))) other
+    ∙ found start (earlier ++ x.1 ∷ []) items i item apart.1 e
+    ∙ ap (λ labels. Some (name_after start labels item.1)) (append_assoc earlier (x.1 ∷ []) (labels_of (take i items)))
+
+-- the name of the item at a place is in the map
+pub put_at : (start : Names) (before now : NameMap) (items : List Labelled) → PutsInto before (named_items start items) now → AreApart items → (i : ℕ) (item : Labelled) → slice_get items i ≡ Some item → now item.0 ≡ Some (name_after start (labels_of (take i items)) item.1)
+put_at start before now items put apart i item e =
+    put.finds item.0
+    ∙ update_all_distinct same_key_laws same_key (λ x y. refl) before (named_items start items) item.0 (keys_distinct start [] items apart)
+    ∙ ap (λ o. option_or o (before item.0)) (found start [] items i item apart e)
+
+-- a map has at a key that no item has what it had
+pub put_elsewhere : (start : Names) (before now : NameMap) (items : List Labelled) → PutsInto before (named_items start items) now → AreApart items → (key : NameKey) → AllByRecursion (λ y. same_key key y.0 ≡ false) items → now key ≡ before key
+put_elsewhere start before now items put apart k none =
+    put.finds k
+    ∙ update_all_distinct same_key_laws same_key (λ x y. refl) before (named_items start items) k (keys_distinct start [] items apart)
+    ∙ ap (λ o. option_or o (before k)) (absent [] items none)
+  where
+    absent : (earlier : List (List ℕ)) (items : List Labelled) → AllByRecursion (λ y. same_key k y.0 ≡ false) items → lookup (same_key k) (named_from start earlier items) ≡ None
+    absent earlier [] all = refl
+    absent earlier (x ∷ items) all =
+        ap (λ b. cond b (Some (name_after start earlier x.1)) (lookup (same_key k) (named_from start (earlier ++ x.1 ∷ []) items))) all.0
+        ∙ absent (earlier ++ x.1 ∷ []) items all.1
+
+-- ---- where an item stands
+-- the item stands among these
+pub record Stands (items : List Labelled) (item : Labelled) : Type 0 where
+  pub place : ℕ
+  pub there : slice_get items place ≡ Some item
+
+pub stands_first : (item : Labelled) (items : List Labelled) → Stands (item ∷ items) item
+stands_first item items = record { place = 0; there = refl }
+
+pub stands_left : (xs ys : List Labelled) (item : Labelled) → Stands xs item → Stands (xs ++ ys) item
+stands_left xs ys item s = record { place = s.place; there = at xs s.place s.there }
+  where
+    at : (xs : List Labelled) (i : ℕ) → slice_get xs i ≡ Some item → slice_get (xs ++ ys) i ≡ Some item
+    at [] i e = nothing_there item e
+    at (x ∷ xs) zero e = e
+    at (x ∷ xs) (suc i) e = at xs i e
+
+pub stands_right : (xs ys : List Labelled) (item : Labelled) → Stands ys item → Stands (xs ++ ys) item
+stands_right [] ys item s = s
+stands_right (x ∷ xs) ys item s = let inner = stands_right xs ys item s in record { place = suc inner.place; there = inner.there }
+
+pub stands_in_section : {X : Type 0} (section : ℕ → X → List Labelled) (n i : ℕ) (xs : List X) (x : X) (item : Labelled) → slice_get xs i ≡ Some x → Stands (section (n + i) x) item → Stands (flat_map (λ p. section p.0 p.1) (enumerate_from n xs)) item
+stands_in_section section n i [] x item e s = nothing_there x e
+stands_in_section section n zero (y ∷ xs) x item e s =
+    let here : n + zero ≡ n = omega arith in
+    stands_left (section n y) (flat_map (λ p. section p.0 p.1) (enumerate_from (n + 1) xs)) item (subst (λ z. Stands (section n z) item) (sym (it_is y x e)) (subst (λ m. Stands (section m x) item) here s))
+stands_in_section section n (suc i) (y ∷ xs) x item e s =
+    let next : n + suc i ≡ n + 1 + i = omega arith in
+    stands_right (section n y) (flat_map (λ p. section p.0 p.1) (enumerate_from (n + 1) xs)) item (stands_in_section section (n + 1) i xs x item e (subst (λ m. Stands (section m x) item) next s))
+
+single : {A : Type 0} (g : A → Labelled) (xs : List A) → flat_map (λ a. g a ∷ []) xs ≡ map g xs
+single g [] = refl
+single g (x ∷ xs) = ap (λ items. g x ∷ items) (single g xs)
+
+-- ---- the items of a module, each where its arena has it
+module _ («module» : Module) where
+  pub type_stands : (t : ℕ) (ty : Type_) → slice_get «module».types t ≡ Some ty → Stands (labelled_items «module») (key.Type_ t, label_or ty.name (codes "type"))
+  type_stands t ty e =
+      stands_left (labelled_types «module».types) (labelled_functions «module».functions) (key.Type_ t, label_or ty.name (codes "type"))
+      (subst (λ items. Stands items (key.Type_ t, label_or ty.name (codes "type"))) (single (λ p. (key.Type_ p.0, label_or p.1.name (codes "type"))) (enumerate_from 0 «module».types))
+      (stands_in_section (λ n ty. (key.Type_ n, label_or ty.name (codes "type")) ∷ []) 0 t «module».types ty (key.Type_ t, label_or ty.name (codes "type")) e (first_at t)))
+    where
+      first_at : (t : ℕ) → Stands ((key.Type_ (0 + t), label_or ty.name (codes "type")) ∷ []) (key.Type_ t, label_or ty.name (codes "type"))
+      first_at t = let same : 0 + t ≡ t = omega arith in record { place = 0; there = ap (λ n. Some (key.Type_ n, label_or ty.name (codes "type"))) same }
+
+  in_function : (h : ℕ) (function : Function) (item : Labelled) → slice_get «module».functions h ≡ Some function → Stands (labelled_function h function) item → Stands (labelled_items «module») item
+  in_function h function item e s =
+      let same : h ≡ 0 + h = omega arith in
+      stands_right (labelled_types «module».types) (labelled_functions «module».functions) item
+      (stands_in_section labelled_function 0 h «module».functions function item e (subst (λ n. Stands (labelled_function n function) item) same s))
+
+  pub function_stands : (h : ℕ) (function : Function) → slice_get «module».functions h ≡ Some function → Stands (labelled_items «module») (key.Function h, label_or function.name (codes "function"))
+  function_stands h function e = in_function h function (key.Function h, label_or function.name (codes "function")) e (stands_first _ _)
+
+  pub argument_stands : (h : ℕ) (function : Function) (n : ℕ) (argument : FunctionArgument) → slice_get «module».functions h ≡ Some function → slice_get function.arguments.items n ≡ Some argument → Stands (labelled_items «module») (key.FunctionArgument h n, label_or argument.name (codes "param"))
+  argument_stands h function n argument e a =
+      in_function h function item e (stands_right ((key.Function h, label_or function.name (codes "function")) ∷ []) (labelled_arguments h function.arguments.items) item
+      (subst (λ items. Stands items item) (single (λ p. (key.FunctionArgument h p.0, label_or p.1.name (codes "param"))) (enumerate_from 0 function.arguments.items))
+      (stands_in_section (λ m (b : FunctionArgument). (key.FunctionArgument h m, label_or b.name (codes "param")) ∷ []) 0 n function.arguments.items argument item a (first_at n))))
+    where
+      item : Labelled
+      item = (key.FunctionArgument h n, label_or argument.name (codes "param"))
+
+      first_at : (n : ℕ) → Stands ((key.FunctionArgument h (0 + n), label_or argument.name (codes "param")) ∷ []) (key.FunctionArgument h n, label_or argument.name (codes "param"))
+      first_at n = let same : 0 + n ≡ n = omega arith in record { place = 0; there = ap (λ m. Some (key.FunctionArgument h m, label_or argument.name (codes "param"))) same }
+
+-- ---- after a `reset`
+module _ (start : Names) (before : NameMap) («module» : Module) (names : Names) (now : NameMap) (has : HasNamedItems start before (labelled_items «module») names now) where
+  -- each item has its name in the map
+  pub named_there : (item : Labelled) (s : Stands (labelled_items «module») item) → now item.0 ≡ Some (name_after start (labels_of (take s.place (labelled_items «module»))) item.1)
+  named_there item s = put_at start before now (labelled_items «module») has.put (items_apart «module») s.place item s.there
+
+  few_labels : (base : List ℕ) → labels_with_base start (labels_of (labelled_items «module»)) base ≤ 2 ^ 32
+  few_labels base = subst (λ n. n ≤ 2 ^ 32) (ap (λ (n : Names). labels_with_base n (labels_of (labelled_items «module»)) base) has.words) (has.labels.few base)
+
+  -- items with one name are one item
+  pub names_tell : (a b : Labelled) → Stands (labelled_items «module») a → Stands (labelled_items «module») b → now a.0 ≡ now b.0 → a ≡ b
+  names_tell a b s t same =
+      let one = name_of_some (sym (named_there a s) ∙ same ∙ named_there b t) in
+      let place = item_names_tell start (labelled_items «module») few_labels s.place t.place a b s.there t.there one in
+      it_is a b (sym s.there ∙ ap (slice_get (labelled_items «module»)) place ∙ t.there)
+    where
+      name_of_some : {x y : List ℕ} → Some x ≡ Some y → x ≡ y
+      name_of_some {x} {y} e = ap (λ o. unwrap_or o x) e
+
+  -- a function has its name, and each of its arguments
+  pub function_named : (h : ℕ) (function : Function) → slice_get «module».functions h ≡ Some function → (name : List ℕ) × (now (key.Function h) ≡ Some name)
+  function_named h function e = (_, named_there (key.Function h, label_or function.name (codes "function")) (function_stands «module» h function e))
+
+  pub argument_named : (h : ℕ) (function : Function) (n : ℕ) (argument : FunctionArgument) → slice_get «module».functions h ≡ Some function → slice_get function.arguments.items n ≡ Some argument → (name : List ℕ) × (now (key.FunctionArgument h n) ≡ Some name)
+  argument_named h function n argument e a = (_, named_there (key.FunctionArgument h n, label_or argument.name (codes "param")) (argument_stands «module» h function n argument e a))
+
+  pub type_named : (t : ℕ) (ty : Type_) → slice_get «module».types t ≡ Some ty → (name : List ℕ) × (now (key.Type_ t) ≡ Some name)
+  type_named t ty e = (_, named_there (key.Type_ t, label_or ty.name (codes "type")) (type_stands «module» t ty e))
