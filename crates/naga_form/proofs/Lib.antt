@@ -3,3 +3,4 @@ pub mod Facts
 pub mod Runs
 pub mod Abstractions
 pub mod Fits
+pub mod Named

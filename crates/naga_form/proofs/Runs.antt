@@ -9,6 +9,7 @@ use Rattle.naga_form.specs.Faithful.{written_program, RunsAs}
 use Rattle.naga_form.proofs.Facts.{known_at, alike_word}
 use Rattle.naga_form.proofs.Abstractions.{function_reads}
 use Rattle.naga_form.proofs.Fits.{NameFacts}
+use Rattle.naga_form.proofs.Named.{items_tell}
 
 pub runs_as : (m : Module) (info : ModuleInfo) (explicit : Bool) → IsTrue (is_accepted m info) → IsTrue (is_written_so_far m) → RunsAs m info (written_program m info explicit)
 runs_as m info explicit accepted written = ?

@@ -4,8 +4,8 @@ use Rattle.std.specs.FinSet as set
 use Rattle.std.specs.Map.{update_all}
 use Rattle.naga_ir.specs.declared.module.Function as ir_function
 use Rattle.naga_ir.specs.declared.module.Module.{Module}
-use Rattle.naga_names.specs.Naming.{Names, new_names}
-use Rattle.naga_names.specs.Reset.{NameMap, same_key, labelled_items, named_items}
+use Rattle.naga_names.specs.Naming.{Names, new_names, labels_with_base}
+use Rattle.naga_names.specs.Reset.{NameMap, same_key, labelled_items, labels_of, named_items}
 use Rattle.naga_names.specs.declared.namer.key.NameKey.{NameKey}
 use Rattle.naga_names.specs.declared.namer.key.NameKey.TheVariants as key
 use Rattle.wgsl_text.specs.Keywords.{reserved_words, builtin_words}
@@ -37,6 +37,10 @@ argument_name names g n = name_in names (key.FunctionArgument g n)
 -- for a name, so that no two numbers have one
 unfoldable pub numbered_name : ℕ → List ℕ
 numbered_name h = if nat_lt h (2 ^ 64) then codes "_e" ++ decimal h else replicate h 32
+
+-- no label's base is used more often than a counter of its uses can tell
+abbrev pub NamesAreCounted : Module → Type 0
+NamesAreCounted m = (base : List ℕ) → labels_with_base wgsl_names (labels_of (labelled_items m)) base ≤ 2 ^ 32
 
 -- The map has the name of each function and of each argument, whose numbers are no greater than the greatest `u32`.
 pub record HasNamesOf (m : Module) (names : NameMap) : Type 0 where

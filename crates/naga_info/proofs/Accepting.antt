@@ -14,7 +14,7 @@ use Rattle.naga_ir.specs.declared.types.Type_.{Type_}
 use Rattle.naga_info.specs.declared.info.ExpressionInfo.{ExpressionInfo}
 use Rattle.naga_info.specs.declared.info.ModuleInfo.{ModuleInfo}
 use Rattle.naga_info.specs.Types.{word_of_type, word_at, spelling_at, spelling_of, is_alike}
-use Rattle.naga_info.specs.Accepted.{declares_one_function, is_scalar_type, special_types_fit, signature_fits, names_fit, expected_type, expression_fits, expressions_fit, value_fits, local_fits, statement_fits, block_fits, function_fits, functions_fit, is_accepted}
+use Rattle.naga_info.specs.Accepted.{declares_one_function, is_scalar_type, special_types_fit, signature_fits, names_fit, expected_type, is_within, expression_fits, expressions_fit, value_fits, local_fits, statement_fits, block_fits, function_fits, functions_fit, is_accepted}
 
 -- ---- an accepted module
 
@@ -108,7 +108,7 @@ module _ (types : List Type_) where
   expressions_fit_at f (e1 ∷ es) [] h e fit here = absurd cc
   expressions_fit_at f (e1 ∷ es) (k ∷ ks) zero e fit here =
       let same : e1 ≡ e = cc
-      in (k, refl, ap (λ x. expression_fits types f x k) (sym same) ∙ (and_parts (expression_fits types f e1 k) (expressions_fit types f es ks) fit).0)
+      in (k, refl, (and_parts (is_alike (spelling_of types k.ty) (expected_type types f e)) (is_within e) (ap (λ x. expression_fits types f x k) (sym same) ∙ (and_parts (expression_fits types f e1 k) (expressions_fit types f es ks) fit).0)).0)
   expressions_fit_at f (e1 ∷ es) (k ∷ ks) (suc h) e fit here = expressions_fit_at f es ks h e (and_parts (expression_fits types f e1 k) (expressions_fit types f es ks) fit).1 here
 
   -- ---- a function and what is known of its expressions

@@ -1,0 +1,169 @@
+-- The names of a module's items: identifiers of WGSL, no two alike, and none that a handle has.
+use Rattle.std.proofs.Common.{◌≡◌, ◌≢◌, ℕ, suc, zero, Bool, true, false, not, ◌&&◌, ◌||◌, ◌<◌, ◌≤◌, ◌^◌, List, [], ◌∷◌, ◌++◌, map, length, take, drop, codes, decimal, replicate, get_or, nat_lt, Option, Some, None, refl, sym, ap, subst, ◌∙◌, arith}
+use Rattle.std.specs.Prelude.{IsTrue, IsFalse, slice_get, unwrap_or, ◌==◌, if◌then◌else◌}
+use Rattle.std.specs.FinSet as set
+use Rattle.std.specs.Bool.{Decides, one_answer}
+use Rattle.std.specs.Char.{is_ascii_digit, is_ascii_uppercase, is_ascii_lowercase}
+use Rattle.std.specs.List.{list_all, list_any}
+use Rattle.std.specs.Str.{bytes_eq}
+use Rattle.std.proofs.lemmas.Bool.{ltb-true}
+use Rattle.std.proofs.lemmas.Fmt.{decimal_injective}
+use Rattle.std.proofs.lemmas.Slice.Eq.{bytes_eq-Decides}
+use Rattle.naga_ir.specs.declared.module.Function as ir_function
+use Rattle.naga_ir.specs.declared.module.FunctionArgument.{FunctionArgument}
+use Rattle.naga_ir.specs.declared.module.Module.{Module}
+use Rattle.naga_names.specs.Naming.{label_or, name_after}
+use Rattle.naga_names.specs.Plain.{is_identifier_char, is_word}
+use Rattle.naga_names.specs.Reset.{Labelled, labelled_items, labels_of, named_items, PutsInto}
+use Rattle.naga_names.specs.declared.keywords.TheConstants.{RESERVED, BUILTIN_IDENTIFIERS}
+use Rattle.naga_names.specs.declared.namer.key.NameKey.{NameKey}
+use Rattle.naga_names.specs.declared.namer.key.NameKey.TheVariants as key
+use Rattle.naga_names.proofs.Plains.{words_are}
+use Rattle.naga_names.proofs.SetLemmas.{texts_of, contains-texts_of}
+use Rattle.naga_names.proofs.NameShapes.{name_after_is_word, name_after_no_keyword, name_after_no_builtin, plain_ends, name_after_not_numbered}
+use Rattle.naga_names.proofs.NamedItems.{Stands, items_apart, put_at, item_names_tell, function_stands, argument_stands}
+use Rattle.wgsl_text.specs.Keywords.{reserved_words, builtin_words}
+use Rattle.wgsl_text.specs.Words.{is_letter, is_word_byte, all_word_bytes, is_word_text, stands_in, is_reserved, is_builtin, IsWord, IsIdentifier}
+use Rattle.naga_form.specs.Names.{wgsl_names, module_names, name_in, function_name, argument_name, numbered_name, NamesAreCounted}
+use Rattle.naga_form.proofs.Facts.{and_left, and_right}
+
+-- ---- words
+letter_of : (d u l s : Bool) → (((d || u) || l) || s) ≡ true → not d ≡ true → (l || (u || s)) ≡ true
+letter_of true u l s e n = absurd (cc)
+letter_of false u true s e n = refl
+letter_of false true false s e n = refl
+letter_of false false false s e n = e
+
+byte_of : (d u l s : Bool) → (((d || u) || l) || s) ≡ true → ((l || (u || s)) || d) ≡ true
+byte_of d u true s e = refl
+byte_of d true false s e = refl
+byte_of d false false true e = refl
+byte_of true false false false e = refl
+byte_of false false false false e = e
+
+all_bytes : (w : List ℕ) → list_all is_identifier_char w ≡ true → all_word_bytes w ≡ true
+all_bytes [] e = refl
+all_bytes (c ∷ w) e =
+    both (is_word_byte c) (all_word_bytes w) (byte_of (is_ascii_digit c) (is_ascii_uppercase c) (is_ascii_lowercase c) (c == 95) (and_left (is_identifier_char c) (list_all is_identifier_char w) e)) (all_bytes w (and_right (is_identifier_char c) (list_all is_identifier_char w) e))
+  where
+    both : (a b : Bool) → a ≡ true → b ≡ true → (a && b) ≡ true
+    both true true e f = refl
+    both true false e f = f
+    both false b e f = e
+
+word_text : (w : List ℕ) → is_word w ≡ true → is_word_text w ≡ true
+word_text [] e = absurd (cc)
+word_text (c ∷ w) e =
+    let chars = list_all is_identifier_char (c ∷ w) in
+    let each = and_left chars (not (is_ascii_digit c)) e in
+    both (is_letter c) (all_word_bytes w)
+    (letter_of (is_ascii_digit c) (is_ascii_uppercase c) (is_ascii_lowercase c) (c == 95) (and_left (is_identifier_char c) (list_all is_identifier_char w) each) (and_right chars (not (is_ascii_digit c)) e))
+    (all_bytes w (and_right (is_identifier_char c) (list_all is_identifier_char w) each))
+  where
+    both : (a b : Bool) → a ≡ true → b ≡ true → (a && b) ≡ true
+    both true true e f = refl
+    both true false e f = f
+    both false b e f = e
+
+-- ---- the two tables
+same_either_way : (a b : List ℕ) → bytes_eq a b ≡ bytes_eq b a
+same_either_way a b = one_answer (bytes_eq a b) (bytes_eq b a) (bytes_eq-Decides a b) ((λ e. sym ((bytes_eq-Decides b a).0 e)), (λ e. (bytes_eq-Decides b a).1 (sym e)))
+
+stands_as_any : {K : Type 0} (read : K → List ℕ) (ks : List K) (w : List ℕ) → list_any (λ k. bytes_eq w (read k)) ks ≡ stands_in (map read ks) w
+stands_as_any read [] w = refl
+stands_as_any read (k ∷ ks) w = λ i. same_either_way w (read k) i || stands_as_any read ks w i
+
+contains_words : {K : Type 0} (read : K → List ℕ) (ks : List K) (w : List ℕ) → set.contains (set.from_list (map read ks)) w ≡ stands_in (map read ks) w
+contains_words read ks w = contains-texts_of read ks w ∙ stands_as_any read ks w
+
+keeps_off_reserved : (earlier : List (List ℕ)) (label : List ℕ) → is_reserved (name_after wgsl_names earlier label) ≡ false
+unfolding wgsl_names reserved_words is_reserved
+keeps_off_reserved earlier label =
+    sym (contains_words (λ word. word.now) RESERVED.now (name_after wgsl_names earlier label))
+    ∙ name_after_no_keyword wgsl_names earlier label (plain_ends (map (λ word. word.now) RESERVED.now) (words_are (map (λ word. word.now) RESERVED.now) refl))
+
+keeps_off_builtin : (earlier : List (List ℕ)) (label : List ℕ) → is_builtin (name_after wgsl_names earlier label) ≡ false
+unfolding wgsl_names builtin_words is_builtin
+keeps_off_builtin earlier label =
+    sym (contains_words (λ word. word.now) BUILTIN_IDENTIFIERS.now (name_after wgsl_names earlier label))
+    ∙ name_after_no_builtin wgsl_names earlier label (plain_ends (map (λ word. word.now) BUILTIN_IDENTIFIERS.now) (words_are (map (λ word. word.now) BUILTIN_IDENTIFIERS.now) refl))
+
+pub is_identifier : (earlier : List (List ℕ)) (label : List ℕ) → IsIdentifier (name_after wgsl_names earlier label)
+is_identifier earlier label = record {
+  word = record { text = word_text _ (name_after_is_word wgsl_names earlier label); free = keeps_off_reserved earlier label };
+  own = keeps_off_builtin earlier label;
+}
+
+-- ---- numbered names
+unnumbered : (w : List ℕ) (h : ℕ) → is_word w ≡ true → (w ≡ codes "_e" ++ decimal h → ⊥) → w ≡ numbered_name h → ⊥
+unfolding numbered_name
+unnumbered w h word not_so is = by (nat_lt h (2 ^ 64)) is
+  where
+    blank : (h : ℕ) → w ≡ replicate h 32 → ⊥
+    blank zero e = absurd (no (sym (ap is_word e) ∙ word))
+      where
+        no : false ≡ true → ⊥
+        no q = cc
+    blank (suc h) e = absurd (no (sym (ap is_word e) ∙ word))
+      where
+        no : false ≡ true → ⊥
+        no q = cc
+
+    by : (b : Bool) → w ≡ (if b then codes "_e" ++ decimal h else replicate h 32) → ⊥
+    by true e = not_so e
+    by false e = blank h e
+
+pub numbered_distinct : (h k : ℕ) → numbered_name h ≡ numbered_name k → h ≡ k
+unfolding numbered_name
+numbered_distinct h k e = by (nat_lt h (2 ^ 64)) (nat_lt k (2 ^ 64)) refl refl e
+  where
+    length-replicate : (n : ℕ) → length (replicate n 32) ≡ n
+    length-replicate zero = refl
+    length-replicate (suc n) = ap suc (length-replicate n)
+
+    no_blank : (k : ℕ) (w : List ℕ) → codes "_e" ++ w ≡ replicate k 32 → ⊥
+    no_blank zero w e = cc
+    no_blank (suc k) w e = cc
+
+    by : (a b : Bool) → nat_lt h (2 ^ 64) ≡ a → nat_lt k (2 ^ 64) ≡ b → (if a then codes "_e" ++ decimal h else replicate h 32) ≡ (if b then codes "_e" ++ decimal k else replicate k 32) → h ≡ k
+    by true true p q e = decimal_injective h k (ltb-true h (2 ^ 64) p) (ltb-true k (2 ^ 64) q) (ap (drop 2) e)
+    by true false p q e = absurd (no_blank k (decimal h) e)
+    by false true p q e = absurd (no_blank h (decimal k) (sym e))
+    by false false p q e = sym (length-replicate h) ∙ ap length e ∙ length-replicate k
+
+-- ---- the items of a module
+module _ (m : Module) where
+  puts : PutsInto (λ _. None) (named_items wgsl_names (labelled_items m)) (module_names m)
+  unfolding module_names
+  puts = record { finds = λ key. refl }
+
+  -- an item's name is that of its label after those before it
+  pub name_there : (item : Labelled) (s : Stands (labelled_items m) item) → module_names m item.0 ≡ Some (name_after wgsl_names (labels_of (take s.place (labelled_items m))) item.1)
+  name_there item s = put_at wgsl_names (λ _. None) (module_names m) (labelled_items m) puts (items_apart m) s.place item s.there
+
+  pub name_is : (item : Labelled) (s : Stands (labelled_items m) item) → name_in (module_names m) item.0 ≡ name_after wgsl_names (labels_of (take s.place (labelled_items m))) item.1
+  name_is item s = ap (λ o. unwrap_or o []) (name_there item s)
+
+  pub item_is_identifier : (item : Labelled) → Stands (labelled_items m) item → IsIdentifier (name_in (module_names m) item.0)
+  item_is_identifier item s = subst IsIdentifier (sym (name_is item s)) (is_identifier _ item.1)
+
+  pub item_not_numbered : (item : Labelled) (h : ℕ) → Stands (labelled_items m) item → name_in (module_names m) item.0 ≢ numbered_name h
+  item_not_numbered item h s e = unnumbered _ h (name_after_is_word wgsl_names _ item.1) (name_after_not_numbered wgsl_names _ item.1 h) (sym (name_is item s) ∙ e)
+
+  pub items_tell : NamesAreCounted m → (a b : Labelled) → Stands (labelled_items m) a → Stands (labelled_items m) b → name_in (module_names m) a.0 ≡ name_in (module_names m) b.0 → a ≡ b
+  items_tell few a b s t e =
+      let place = item_names_tell wgsl_names (labelled_items m) few s.place t.place a b s.there t.there (sym (name_is a s) ∙ e ∙ name_is b t) in
+      ap (λ o. unwrap_or o a) (sym s.there ∙ ap (slice_get (labelled_items m)) place ∙ t.there)
+
+  -- the items of functions and arguments
+  abbrev pub function_item : ℕ → ir_function.Function → Labelled
+  function_item g f = (key.Function g, label_or f.name (codes "function"))
+
+  abbrev pub argument_item : ℕ → ℕ → FunctionArgument → Labelled
+  argument_item g n a = (key.FunctionArgument g n, label_or a.name (codes "param"))
+
+  pub function_there : (g : ℕ) (f : ir_function.Function) → slice_get m.functions g ≡ Some f → Stands (labelled_items m) (function_item g f)
+  function_there g f e = function_stands m g f e
+
+  pub argument_there : (g : ℕ) (f : ir_function.Function) (n : ℕ) (a : FunctionArgument) → slice_get m.functions g ≡ Some f → slice_get f.arguments.items n ≡ Some a → Stands (labelled_items m) (argument_item g n a)
+  argument_there g f n a e there = argument_stands m g f n a e there
