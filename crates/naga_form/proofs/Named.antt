@@ -1,5 +1,5 @@
 -- The names of a module's items: identifiers of WGSL, no two alike, and none that a handle has.
-use Rattle.std.proofs.Common.{◌≡◌, ◌≢◌, ℕ, suc, zero, Bool, true, false, not, ◌&&◌, ◌||◌, ◌<◌, ◌≤◌, ◌^◌, List, [], ◌∷◌, ◌++◌, map, length, take, drop, codes, decimal, replicate, get_or, nat_lt, Option, Some, None, refl, sym, ap, subst, ◌∙◌, arith}
+use Rattle.std.proofs.Common.{◌≡◌, ◌≢◌, ℕ, suc, zero, Bool, true, false, not, ◌&&◌, ◌||◌, ◌<◌, ◌≤◌, ◌^◌, List, [], ◌∷◌, ◌++◌, map, length, take, drop, codes, decimal, replicate, get_or, nat_lt, Option, Some, None, refl, sym, ap, subst, ◌∙◌, arith, true≢false, nat_eq}
 use Rattle.std.specs.Prelude.{IsTrue, IsFalse, slice_get, unwrap_or, ◌==◌, if◌then◌else◌}
 use Rattle.std.specs.FinSet as set
 use Rattle.std.specs.Bool.{Decides, one_answer}
@@ -21,10 +21,11 @@ use Rattle.naga_names.specs.declared.namer.key.NameKey.TheVariants as key
 use Rattle.naga_names.proofs.Plains.{words_are}
 use Rattle.naga_names.proofs.SetLemmas.{texts_of, contains-texts_of}
 use Rattle.naga_names.proofs.NameShapes.{name_after_is_word, name_after_no_keyword, name_after_no_builtin, plain_ends, name_after_not_numbered}
-use Rattle.naga_names.proofs.NamedItems.{Stands, items_apart, put_at, item_names_tell, function_stands, argument_stands}
+use Rattle.naga_names.proofs.NameKeys.{items_apart}
+use Rattle.naga_names.proofs.NamedItems.{Stands, put_at, item_names_tell, function_stands, argument_stands}
 use Rattle.wgsl_text.specs.Keywords.{reserved_words, builtin_words}
 use Rattle.wgsl_text.specs.Words.{is_letter, is_word_byte, all_word_bytes, is_word_text, stands_in, is_reserved, is_builtin, IsWord, IsIdentifier}
-use Rattle.naga_form.specs.Names.{wgsl_names, module_names, name_in, function_name, argument_name, numbered_name, NamesAreCounted}
+use Rattle.naga_form.specs.Names.{wgsl_names, module_names, name_in, function_name, argument_name, numbered_text, numbered_name, NamesAreCounted}
 use Rattle.naga_form.proofs.Facts.{and_left, and_right}
 
 -- ---- words
@@ -73,7 +74,7 @@ stands_as_any : {K : Type 0} (read : K → List ℕ) (ks : List K) (w : List ℕ
 stands_as_any read [] w = refl
 stands_as_any read (k ∷ ks) w = λ i. same_either_way w (read k) i || stands_as_any read ks w i
 
-contains_words : {K : Type 0} (read : K → List ℕ) (ks : List K) (w : List ℕ) → set.contains (set.from_list (map read ks)) w ≡ stands_in (map read ks) w
+contains_words : {K : Type 0} (read : K → List ℕ) (ks : List K) (w : List ℕ) → set.contains (texts_of read ks) w ≡ stands_in (map read ks) w
 contains_words read ks w = contains-texts_of read ks w ∙ stands_as_any read ks w
 
 keeps_off_reserved : (earlier : List (List ℕ)) (label : List ℕ) → is_reserved (name_after wgsl_names earlier label) ≡ false
@@ -90,46 +91,51 @@ keeps_off_builtin earlier label =
 
 pub is_identifier : (earlier : List (List ℕ)) (label : List ℕ) → IsIdentifier (name_after wgsl_names earlier label)
 is_identifier earlier label = record {
-  word = record { text = word_text _ (name_after_is_word wgsl_names earlier label); free = keeps_off_reserved earlier label };
+  word = record { text = word_text (name_after wgsl_names earlier label) (name_after_is_word wgsl_names earlier label); free = keeps_off_reserved earlier label };
   own = keeps_off_builtin earlier label;
 }
 
 -- ---- numbered names
+no_blanks : (w : List ℕ) (h : ℕ) → is_word w ≡ true → w ≡ replicate h 32 → ⊥
+no_blanks w zero word e = absurd (no (sym (ap is_word e) ∙ word))
+  where
+    no : false ≡ true → ⊥
+    no q = cc
+no_blanks w (suc h) word e = absurd (no (sym (ap is_word e) ∙ word))
+  where
+    no : false ≡ true → ⊥
+    no q = cc
+
+not_text : (w : List ℕ) (b : Bool) (h : ℕ) → is_word w ≡ true → (w ≡ codes "_e" ++ decimal h → ⊥) → w ≡ numbered_text b h → ⊥
+not_text w true h word not_so is = not_so is
+not_text w false h word not_so is = no_blanks w h word is
+
 unnumbered : (w : List ℕ) (h : ℕ) → is_word w ≡ true → (w ≡ codes "_e" ++ decimal h → ⊥) → w ≡ numbered_name h → ⊥
 unfolding numbered_name
-unnumbered w h word not_so is = by (nat_lt h (2 ^ 64)) is
-  where
-    blank : (h : ℕ) → w ≡ replicate h 32 → ⊥
-    blank zero e = absurd (no (sym (ap is_word e) ∙ word))
-      where
-        no : false ≡ true → ⊥
-        no q = cc
-    blank (suc h) e = absurd (no (sym (ap is_word e) ∙ word))
-      where
-        no : false ≡ true → ⊥
-        no q = cc
+unnumbered w h word not_so is = not_text w (nat_lt h (2 ^ 64)) h word not_so is
 
-    by : (b : Bool) → w ≡ (if b then codes "_e" ++ decimal h else replicate h 32) → ⊥
-    by true e = not_so e
-    by false e = blank h e
+length-replicate : (n : ℕ) → length {A = ℕ} (replicate n 32) ≡ n
+length-replicate zero = refl
+length-replicate (suc n) = ap suc (length-replicate n)
+
+-- the first byte is a `_`
+abbrev begins : List ℕ → Bool
+begins [] = false
+begins (b ∷ bytes) = nat_eq b 95
+
+no_blank : (k : ℕ) (w : List ℕ) → codes "_e" ++ w ≡ replicate k 32 → ⊥
+no_blank zero w e = true≢false (ap begins e)
+no_blank (suc k) w e = true≢false (ap begins e)
+
+texts_distinct : (a b : Bool) (h k : ℕ) → (a ≡ true → h < 2 ^ 64) → (b ≡ true → k < 2 ^ 64) → numbered_text a h ≡ numbered_text b k → h ≡ k
+texts_distinct true true h k p q e = decimal_injective h k (p refl) (q refl) (ap (drop 2) e)
+texts_distinct true false h k p q e = absurd (no_blank k (decimal h) e)
+texts_distinct false true h k p q e = absurd (no_blank h (decimal k) (sym e))
+texts_distinct false false h k p q e = sym (length-replicate h) ∙ ap length e ∙ length-replicate k
 
 pub numbered_distinct : (h k : ℕ) → numbered_name h ≡ numbered_name k → h ≡ k
 unfolding numbered_name
-numbered_distinct h k e = by (nat_lt h (2 ^ 64)) (nat_lt k (2 ^ 64)) refl refl e
-  where
-    length-replicate : (n : ℕ) → length (replicate n 32) ≡ n
-    length-replicate zero = refl
-    length-replicate (suc n) = ap suc (length-replicate n)
-
-    no_blank : (k : ℕ) (w : List ℕ) → codes "_e" ++ w ≡ replicate k 32 → ⊥
-    no_blank zero w e = cc
-    no_blank (suc k) w e = cc
-
-    by : (a b : Bool) → nat_lt h (2 ^ 64) ≡ a → nat_lt k (2 ^ 64) ≡ b → (if a then codes "_e" ++ decimal h else replicate h 32) ≡ (if b then codes "_e" ++ decimal k else replicate k 32) → h ≡ k
-    by true true p q e = decimal_injective h k (ltb-true h (2 ^ 64) p) (ltb-true k (2 ^ 64) q) (ap (drop 2) e)
-    by true false p q e = absurd (no_blank k (decimal h) e)
-    by false true p q e = absurd (no_blank h (decimal k) (sym e))
-    by false false p q e = sym (length-replicate h) ∙ ap length e ∙ length-replicate k
+numbered_distinct h k e = texts_distinct (nat_lt h (2 ^ 64)) (nat_lt k (2 ^ 64)) h k (ltb-true h (2 ^ 64)) (ltb-true k (2 ^ 64)) e
 
 -- ---- the items of a module
 module _ (m : Module) where
@@ -145,10 +151,12 @@ module _ (m : Module) where
   name_is item s = ap (λ o. unwrap_or o []) (name_there item s)
 
   pub item_is_identifier : (item : Labelled) → Stands (labelled_items m) item → IsIdentifier (name_in (module_names m) item.0)
-  item_is_identifier item s = subst IsIdentifier (sym (name_is item s)) (is_identifier _ item.1)
+  item_is_identifier item s = subst IsIdentifier (sym (name_is item s)) (is_identifier (labels_of (take s.place (labelled_items m))) item.1)
 
   pub item_not_numbered : (item : Labelled) (h : ℕ) → Stands (labelled_items m) item → name_in (module_names m) item.0 ≢ numbered_name h
-  item_not_numbered item h s e = unnumbered _ h (name_after_is_word wgsl_names _ item.1) (name_after_not_numbered wgsl_names _ item.1 h) (sym (name_is item s) ∙ e)
+  item_not_numbered item h s e =
+      let earlier = labels_of (take s.place (labelled_items m)) in
+      unnumbered (name_after wgsl_names earlier item.1) h (name_after_is_word wgsl_names earlier item.1) (name_after_not_numbered wgsl_names earlier item.1 h) (sym (name_is item s) ∙ e)
 
   pub items_tell : NamesAreCounted m → (a b : Labelled) → Stands (labelled_items m) a → Stands (labelled_items m) b → name_in (module_names m) a.0 ≡ name_in (module_names m) b.0 → a ≡ b
   items_tell few a b s t e =

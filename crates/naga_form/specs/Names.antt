@@ -1,5 +1,5 @@
 -- The names that a module's items have in its WGSL text.
-use Rattle.std.specs.Prelude.{◌≡◌, ℕ, ◌<◌, ◌≤◌, ◌^◌, List, [], ◌∷◌, ◌++◌, length, replicate, slice_get, if◌then◌else◌, nat_lt, Option, None, Some, codes, decimal, unwrap_or}
+use Rattle.std.specs.Prelude.{◌≡◌, ℕ, Bool, true, false, ◌<◌, ◌≤◌, ◌^◌, List, [], ◌∷◌, ◌++◌, length, replicate, slice_get, nat_lt, Option, None, Some, codes, decimal, unwrap_or}
 use Rattle.std.specs.FinSet as set
 use Rattle.std.specs.Map.{update_all}
 use Rattle.naga_ir.specs.declared.module.Function as ir_function
@@ -33,10 +33,14 @@ function_name names g = name_in names (key.Function g)
 abbrev pub argument_name : NameMap → (function argument : ℕ) → List ℕ
 argument_name names g n = name_in names (key.FunctionArgument g n)
 
--- the name that a handle has where no front end named it: a handle is less than 2 ^ 64, and a greater number has blanks
--- for a name, so that no two numbers have one
+-- the name of a handle, or of a greater number, which has blanks for a name, so that no two numbers have one
+abbrev pub numbered_text : (is_handle : Bool) → ℕ → List ℕ
+numbered_text true h = codes "_e" ++ decimal h
+numbered_text false h = replicate h 32
+
+-- the name that a handle has where no front end named it; a handle is less than 2 ^ 64
 unfoldable pub numbered_name : ℕ → List ℕ
-numbered_name h = if nat_lt h (2 ^ 64) then codes "_e" ++ decimal h else replicate h 32
+numbered_name h = numbered_text (nat_lt h (2 ^ 64)) h
 
 -- no label's base is used more often than a counter of its uses can tell
 abbrev pub NamesAreCounted : Module → Type 0
