@@ -6,6 +6,7 @@ ghost use Rattle.naga_ir.specs.declared.module.Module.{Module};
 ghost use Rattle.naga_info.specs.Accepted.{is_accepted};
 ghost use Rattle.naga_info.specs.Part.{is_written_so_far};
 ghost use Rattle.naga_info.specs.declared.info.ModuleInfo.{ModuleInfo};
+ghost use Rattle.naga_form.specs.Names.{NamesAreCounted};
 ghost use Rattle.naga_form.specs.Faithful.{written_program, HasInterfaceOf, RunsAs};
 ghost use Rattle.wgsl_text.specs.GrammarOfLines.{IsProgram};
 
@@ -16,10 +17,10 @@ pub fn is_a_program()
 
 /// It declares what the module declares.
 pub fn has_the_interface()
-    ensures { (m : Module) (info : ModuleInfo) (explicit : Bool) → IsTrue (is_accepted m info) → IsTrue (is_written_so_far m) → HasInterfaceOf m (written_program m info explicit) }
+    ensures { (m : Module) (info : ModuleInfo) (explicit : Bool) → HasInterfaceOf m (written_program m info explicit) }
 {}
 
 /// It does what the module does.
 pub fn runs_as_the_module()
-    ensures { (m : Module) (info : ModuleInfo) (explicit : Bool) → IsTrue (is_accepted m info) → IsTrue (is_written_so_far m) → RunsAs m info (written_program m info explicit) }
+    ensures { (m : Module) (info : ModuleInfo) (explicit : Bool) → IsTrue (is_accepted m info) → IsTrue (is_written_so_far m) → NamesAreCounted m → RunsAs m info (written_program m info explicit) }
 {}
