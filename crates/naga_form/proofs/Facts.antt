@@ -4,6 +4,7 @@ use Rattle.std.specs.Prelude.{IsTrue, slice_get, unwrap_or, ◌==◌}
 use Rattle.std.specs.List.{list_all}
 use Rattle.std.specs.Option.{option_map, option_and_then, is_some}
 use Rattle.std.specs.Str.{bytes_eq}
+use Rattle.std.proofs.lemmas.Option.{slice_get_within}
 use Rattle.std.proofs.lemmas.Slice.Eq.{bytes_eq-Decides}
 use Rattle.indexmap.specs.IndexMap.{keys}
 use Rattle.naga_ir.specs.StatementTree.{StatementTree, simple, return}
@@ -100,6 +101,15 @@ pub is_leaf : (e : Expression) → IsTrue (expression_is_written e) → IsLeaf e
 is_leaf (expression.Literal v) w = literal_leaf v
 is_leaf (expression.FunctionArgument n) w = argument_leaf n
 is_leaf _ w = absurd (cc)
+
+-- an argument that is named is one of the function's
+pub argument_within : (types : List Type_) (f : Function) (es : List ExpressionInfo) → IsTrue (expressions_fit types f f.expressions es) → (h n : ℕ) → slice_get f.expressions h ≡ Some (expression.FunctionArgument n) → n < length f.arguments.items
+argument_within types f es known h n found =
+    let k = known_at types f f.expressions es h (expression.FunctionArgument n) known found in
+    let expected = option_and_then (λ a. word_at types a.ty) (slice_get f.arguments.items n) in
+    let one = alike_word (spelling_of types k.known.ty) expected (and_left (is_alike (spelling_of types k.known.ty) expected) true k.fits) in
+    let a = then_some (λ a. word_at types a.ty) (slice_get f.arguments.items n) one.word one.second in
+    slice_get_within f.arguments.items n a.0 a.1
 
 -- what an accepted function that is written is known by
 pub record FunctionFacts (types : List Type_) (f : Function) (es : List ExpressionInfo) : Type 0 where

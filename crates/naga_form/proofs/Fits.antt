@@ -29,7 +29,7 @@ use Rattle.naga_form.specs.Types.{value_type}
 use Rattle.naga_form.specs.Literals.{literal_value}
 use Rattle.naga_form.specs.Shapes.{expression_shape, statements_shape, function_shape, inner_names, outer_names}
 use Rattle.naga_form.proofs.Named.{numbered_distinct}
-use Rattle.naga_form.proofs.Facts.{and_left, and_right, all_at, alike_word, known_at, then_some, returned_at, is_return, IsLeaf, literal_leaf, argument_leaf, is_leaf, FunctionFacts, function_facts}
+use Rattle.naga_form.proofs.Facts.{and_left, and_right, all_at, alike_word, known_at, then_some, returned_at, is_return, IsLeaf, literal_leaf, argument_leaf, is_leaf, argument_within, FunctionFacts}
 use Rattle.naga_form.proofs.Abstractions.{named, shape_at}
 
 -- what holds of no shape and of each leaf's holds of the shape of any handle
@@ -89,15 +89,6 @@ module _ (names : NameMap) (types : List Type_) (g : ℕ) (f : ir_function.Funct
       type_of_known h k.known (Some one.word) k.there one.first
       ∙ (ap value_type (sym a.2) ∙ sym (type_at_mapped (λ a. value_type (word_at types a.ty)) f.arguments.items n a.0 a.1))
 
-  -- an argument that is named is one of the function's
-  argument_within : (h n : ℕ) → slice_get f.expressions h ≡ Some (expression.FunctionArgument n) → n < length f.arguments.items
-  argument_within h n found =
-      let k = known_at types f f.expressions es h _ facts.known found in
-      let expected = option_and_then (λ a. word_at types a.ty) (slice_get f.arguments.items n) in
-      let one = alike_word (spelling_of types k.known.ty) expected (and_left (is_alike (spelling_of types k.known.ty) expected) true k.fits) in
-      let a = then_some (λ a. word_at types a.ty) (slice_get f.arguments.items n) one.word one.second in
-      slice_get_within f.arguments.items n a.0 a.1
-
   leaf_ordered : (h : ℕ) (e : ir.Expression) → IsLeaf e → AllBelow h (operands_of (Some (expression_shape e)))
   leaf_ordered h _ (literal_leaf v) = tt
   leaf_ordered h _ (argument_leaf n) = tt
@@ -108,7 +99,7 @@ module _ (names : NameMap) (types : List Type_) (g : ℕ) (f : ir_function.Funct
 
   usable_leaf : (h : ℕ) (e : ir.Expression) → slice_get f.expressions h ≡ Some e → IsLeaf e → IsTrue (usable_as shape (Some (expression_shape e)) (at_start shape h))
   usable_leaf h _ found (literal_leaf v) = refl
-  usable_leaf h _ found (argument_leaf n) = lt-ltb n (argument_count shape) (subst (λ k. n < k) (sym (mapped_length (λ a. value_type (word_at types a.ty)) f.arguments.items)) (argument_within h n found))
+  usable_leaf h _ found (argument_leaf n) = lt-ltb n (argument_count shape) (subst (λ k. n < k) (sym (mapped_length (λ a. value_type (word_at types a.ty)) f.arguments.items)) (argument_within types f es facts.known h n found))
 
   -- a returned handle: of the result's type, and in scope
   return_fits_shape : (v : Option ℕ) → IsTrue (return_fits types es f.result v) → ReturnFits shape v × IsTrue (usable_if shape (at_start shape) v)

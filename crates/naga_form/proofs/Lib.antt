@@ -4,3 +4,4 @@ pub mod Runs
 pub mod Abstractions
 pub mod Fits
 pub mod Named
+pub mod Programs

@@ -60,7 +60,7 @@ length-functions_of [] = refl
 length-functions_of (n ∷ ns) = ap suc (length-functions_of ns)
 
 -- what stands in a list below its length
-element : {X : Type 0} (xs : List X) (i : ℕ) → i < length xs → (x : X) × (slice_get xs i ≡ Some x)
+pub element : {X : Type 0} (xs : List X) (i : ℕ) → i < length xs → (x : X) × (slice_get xs i ≡ Some x)
 element [] i lt = absurd (omega (arith, lt))
 element (x ∷ xs) zero lt = (x, refl)
 element (x ∷ xs) (suc i) lt = element xs i (omega (arith, lt))
@@ -87,11 +87,11 @@ all_fit names types p constants globals g (f ∷ fs) (es ∷ ess) fits written o
     later : (i : ℕ) (f1 : ir_function.Function) → slice_get fs i ≡ Some f1 → NameFacts names ((g + 1) + i) (length f1.arguments.items)
     later i f1 found = let moved : g + suc i ≡ (g + 1) + i = omega arith in subst (λ h. NameFacts names h (length f1.arguments.items)) moved (own (suc i) f1 found)
 
-module _ (m : Module) (info : ModuleInfo) (accepted : IsTrue (is_accepted m info)) (written : IsTrue (is_written_so_far m)) (counted : NamesAreCounted m) where
-  functions_are_written : IsTrue (list_all function_is_written m.functions)
-  unfolding is_written_so_far
-  functions_are_written = and_right (list_all is_scalar_type m.types) (list_all function_is_written m.functions) (and_right (declares_one_function m) (list_all is_scalar_type m.types && list_all function_is_written m.functions) written)
+pub functions_are_written : (m : Module) → IsTrue (is_written_so_far m) → IsTrue (list_all function_is_written m.functions)
+unfolding is_written_so_far
+functions_are_written m written = and_right (list_all is_scalar_type m.types) (list_all function_is_written m.functions) (and_right (declares_one_function m) (list_all is_scalar_type m.types && list_all function_is_written m.functions) written)
 
+module _ (m : Module) (info : ModuleInfo) (accepted : IsTrue (is_accepted m info)) (written : IsTrue (is_written_so_far m)) (counted : NamesAreCounted m) where
   own_names : (g : ℕ) (f : ir_function.Function) → slice_get m.functions g ≡ Some f → NameFacts (module_names m) g (length f.arguments.items)
   own_names g f found = record {
     distinct = λ i j li lj e.
@@ -122,7 +122,7 @@ module _ (m : Module) (info : ModuleInfo) (accepted : IsTrue (is_accepted m info
               let b = element m.functions k (subst (λ n. k < n) count lk) in
               one_function g k (ap (λ item. item.0) (items_tell m counted (function_item m g a.0) (function_item m k b.0) (function_there m g a.0 a.1) (function_there m k b.0 b.1) e));
         };
-        all = all_fit (module_names m) m.types (program_shape m info) refl refl 0 m.functions info.functions.items parts.5 functions_are_written (λ i f found. subst (λ g. NameFacts (module_names m) g (length f.arguments.items)) (from_zero i) (own_names i f found)) [] refl tt;
+        all = all_fit (module_names m) m.types (program_shape m info) refl refl 0 m.functions info.functions.items parts.5 (functions_are_written m written) (λ i f found. subst (λ g. NameFacts (module_names m) g (length f.arguments.items)) (from_zero i) (own_names i f found)) [] refl tt;
       }
     where
       one_function : (g k : ℕ) → key.Function g ≡ key.Function k → g ≡ k
@@ -133,7 +133,7 @@ module _ (m : Module) (info : ModuleInfo) (accepted : IsTrue (is_accepted m info
   program_reads explicit =
       let parts = accepted_parts m info accepted in
       let listed = namings_from (module_names m) 0 (function_shapes m.types m.functions info.functions.items) in
-      let each = functions_read (module_names m) m.types 0 m.functions info.functions.items parts.5 functions_are_written in
+      let each = functions_read (module_names m) m.types 0 m.functions info.functions.items parts.5 (functions_are_written m written) in
       λ i. record {
         constants = [];
         globals = [];

@@ -1,0 +1,5 @@
+use Rattle.naga_form.proofs.Programs.{is_program}
+use Rattle.naga_form.proofs.is_a_program.Goals as goal
+
+pub returns : goal.returns
+returns c = is_program
