@@ -290,7 +290,7 @@ abbrev AreFew : Names → List (List ℕ) → Type 0
 AreFew start labels = (base : List ℕ) → labels_with_base start labels base ≤ 2 ^ 32
 
 module _ (start : Names) where
-  counted_more : (first : List (List ℕ)) (a : List ℕ) (rest : List (List ℕ)) (base : List ℕ) → label_base start a ≡ base → labels_with_base start (first ++ a ∷ rest) base ≡ labels_with_base start first base + (1 + labels_with_base start rest base)
+  pub counted_more : (first : List (List ℕ)) (a : List ℕ) (rest : List (List ℕ)) (base : List ℕ) → label_base start a ≡ base → labels_with_base start (first ++ a ∷ rest) base ≡ labels_with_base start first base + (1 + labels_with_base start rest base)
   counted_more first a rest base same =
       sum_by-append (λ l. cond (bytes_eq (label_base start l) base) 1 0) first (a ∷ rest)
       ∙ ap (λ n. labels_with_base start first base + n)

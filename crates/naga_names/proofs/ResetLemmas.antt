@@ -1,5 +1,6 @@
 -- Names given to one item after another.
-use Rattle.std.proofs.Common.{◌≡◌, ℕ, Bool, true, false, cond, List, [], ◌∷◌, ◌++◌, map, length, get_or, take, drop, ◌+◌, ◌<◌, codes, arith, add-zero, add-one, drop-cons, OnErr, Bor, Some, String, HashMap, string_bytes, refl, sym, ap, subst, ◌∙◌, append_assoc, append-nil}
+use Rattle.std.proofs.Common.{◌≡◌, ℕ, ◌^◌, ◌≤◌, Bool, true, false, ◌&&◌, nat_lt, cond, List, [], ◌∷◌, ◌++◌, map, length, get_or, take, drop, ◌+◌, ◌<◌, codes, arith, add-zero, add-one, drop-cons, IfErr, IsErrAnd, Bor, Some, String, HashMap, string_bytes, refl, sym, ap, subst, ◌∙◌, append_assoc, append-nil}
+use borrow.Author.Tests.{ltb-true}
 use Rattle.std.specs.List.{scan, fold, flat_map, enumerate_from}
 use Rattle.std.specs.declared.result.Result.{Result}
 use Rattle.std.specs.declared.result.Result.TheVariants.{Ok, Err}
@@ -13,8 +14,13 @@ use Rattle.std.specs.Option.{option_map, option_map_or}
 use Rattle.std.specs.FinMap as finite
 use Rattle.naga_names.specs.Words.{Words}
 use Rattle.naga_names.specs.declared.namer.key.NameKey.{NameKey}
-use Rattle.naga_names.specs.Naming.{Names, Uses, name_of, with_use, name_after, HasNamed, new_names}
-use Rattle.naga_names.specs.Reset.{Labelled, NameMap, labelled_arguments, labels_of, named_items, same_key, names_in, HasNamedItems, PutsBeginning, NamesItems, NamesBeginning}
+use Rattle.naga_names.specs.Naming.{Names, Uses, name_of, with_use, label_base, labels_with_base, name_after, HasNamed, new_names}
+use Rattle.naga_names.specs.Reset.{Labelled, NameMap, labelled_arguments, labels_of, key_fits, keys_fit, named_items, same_key, names_in, HasNamedItems, PutsBeginning, NamesItems}
+use Rattle.naga_names.specs.Refusal.{IsRefusalOf, SomeNameIsFull, IsRefusalOfItems, RefusesItems}
+use Rattle.naga_names.specs.declared.namer.NamerError.{NamerError}
+use Rattle.naga_names.specs.declared.namer.NamerError.TheVariants.{Full, KeyFull, Memory}
+use Rattle.std.proofs.lemmas.List.Folds.{list_all-append}
+use Rattle.naga_names.proofs.NameShapes.{counted_more}
 use Rattle.naga_names.proofs.NamerLemmas.{name_of-after, has_named_nothing}
 
 labels_of-push : (items : List Labelled) (item : Labelled) → labels_of (items ++ item ∷ []) ≡ labels_of items ++ item.1 ∷ []
@@ -45,11 +51,12 @@ with_use-words old start label same = ap (λ (n : Names). record n { uses = (wit
 
 module _ where
   -- one more item, after whatever was named before
-  pub names_one : (old : Names) (before now : NameMap) (key : NameKey) (label name : List ℕ) (new : Names) → name ≡ name_of old label → new ≡ with_use old label → ((earlier : List (List ℕ)) → HasNamed old earlier → HasNamed new (earlier ++ label ∷ [])) → ((q : NameKey) → now q ≡ cond (same_key key q) (Some name) (before q)) → NamesItems old before ((key, label) ∷ []) new now
-  names_one old before now key label name new name_is new_is named_is now_is = record {
+  pub names_one : (old : Names) (before now : NameMap) (key : NameKey) (label name : List ℕ) (new : Names) → key_fits key ≡ true → name ≡ name_of old label → new ≡ with_use old label → ((earlier : List (List ℕ)) → HasNamed old earlier → HasNamed new (earlier ++ label ∷ [])) → ((q : NameKey) → now q ≡ cond (same_key key q) (Some name) (before q)) → NamesItems old before ((key, label) ∷ []) new now
+  names_one old before now key label name new fits name_is new_is named_is now_is = record {
     more = λ start first earlier has. record {
       words = subst (λ n. n ≡ record start { uses = n.uses }) (sym new_is) (with_use-words old start label has.words);
       labels = subst (HasNamed new) (sym (labels_of-push earlier (key, label))) (named_is (labels_of earlier) has.labels);
+      keys = list_all-append (λ item. key_fits item.0) earlier ((key, label) ∷ []) ∙ (λ i. has.keys i && (fits i && true));
       put = record {
         finds = λ q.
             now_is q
@@ -68,36 +75,9 @@ module _ where
     more = λ start first earlier has. subst (λ all. HasNamedItems start first all new now) (append_assoc earlier items others) (second_part.more start first (earlier ++ items) (first_part.more start first earlier has));
   }
 
-  pub names_then_some : (old middle : Names) (before between now : NameMap) (items others : List Labelled) → NamesItems old before items middle between → NamesBeginning middle between others now → NamesBeginning old before (items ++ others) now
-  names_then_some old middle before between now items others first_part second_part = record {
-    some = λ start first earlier has. subst (λ all. PutsBeginning start first all now) (append_assoc earlier items others) (second_part.some start first (earlier ++ items) (first_part.more start first earlier has));
-  }
-
-  -- the beginning of some items is the beginning of more
-  pub names_some_of_more : (old : Names) (before now : NameMap) (items others : List Labelled) → NamesBeginning old before items now → NamesBeginning old before (items ++ others) now
-  names_some_of_more old before now items others part = record {
-    some = λ start first earlier has. let p = part.some start first earlier has in record {
-      named = p.named;
-      left = p.left ++ others;
-      all = sym (append_assoc earlier items others) ∙ ap (λ all. all ++ others) p.all ∙ append_assoc p.named p.left others;
-      put = p.put;
-    };
-  }
-
-  -- a map that stays as it was
-  pub names_unchanged : (old : Names) (before now : NameMap) (items : List Labelled) → ((q : NameKey) → now q ≡ before q) → NamesBeginning old before items now
-  names_unchanged old before now items same = record {
-    some = λ start first earlier has. record {
-      named = earlier;
-      left = items;
-      all = refl;
-      put = record { finds = λ q. same q ∙ has.put.finds q };
-    };
-  }
-
   -- a `Namer` that begins
   pub begins : (start : Names) (before : NameMap) → HasNamed start [] → HasNamedItems start before [] start before
-  begins start before none = record { words = refl; labels = none; put = record { finds = λ q. refl } }
+  begins start before none = record { words = refl; labels = none; keys = refl; put = record { finds = λ q. refl } }
 
 -- these words and prefixes, with no uses
 pub starts : (keywords builtins caseless : Words) (uses : Uses) (prefixes given : List (Bor (List ℕ))) → uses ≡ finite.empty → prefixes ≡ given → record { keywords = keywords; builtin_identifiers = builtins; caseless_keywords = caseless; reserved_prefixes = map (λ p. p.now) prefixes; uses = uses } ≡ new_names keywords builtins caseless (map (λ p. p.now) given)
@@ -113,8 +93,124 @@ module _ (start began : Names) (same : began ≡ start) (none : start.uses ≡ f
   all_named new named = named.more start before [] began_so
 
   -- some of them were
-  pub some_named : NamesBeginning began before items now → PutsBeginning start before items now
-  some_named named = named.some start before [] began_so
+  pub some_named : (error : NamerError) → RefusesItems began before items now error → PutsBeginning start before items now
+  some_named error named = named.some start before [] began_so
+
+  -- and the others weren't, for a reason
+  pub refused_for : (error : NamerError) → RefusesItems began before items now error → IsRefusalOfItems start items error
+  refused_for error named = named.why start before [] began_so
+
+-- ---- why items are refused
+pub if_err : {T E : Type 0} (r : Result T E) (e : E) (P : E → Type 0) → IsErrAnd r (λ y. y ≡ e) → P e → IfErr r P
+if_err (Ok x) e P is p = tt
+if_err (Err y) e P is p = subst P (sym is) p
+
+-- the same of items that are said in another way
+pub if_err_at : {T : Type 0} (r : Result T NamerError) (e : NamerError) (P : List Labelled → NamerError → Type 0) → IsErrAnd r (λ y. y ≡ e) → {xs ys : List Labelled} → xs ≡ ys → P xs e → IfErr r (P ys)
+if_err_at (Ok x) e P is same p = tt
+if_err_at (Err y) e P is {xs} {ys} same p = subst (P ys) (sym is) (subst (λ zs. P zs e) same p)
+
+pub if_err_more : {T E : Type 0} (r : Result T E) (P Q : E → Type 0) → IfErr r P → ((e : E) → P e → Q e) → IfErr r Q
+if_err_more (Ok x) P Q p f = tt
+if_err_more (Err y) P Q p f = f y p
+
+full_more : (start : Names) (items others : List Labelled) → SomeNameIsFull start items → SomeNameIsFull start (items ++ others)
+full_more start items others full = record {
+  named = full.named;
+  item = full.item;
+  left = full.left ++ others;
+  all = ap (λ all. all ++ others) full.all ∙ append_assoc full.named (full.item ∷ full.left) others;
+  full = full.full;
+}
+
+refusal_more : (start : Names) (items others : List Labelled) (error : NamerError) → IsRefusalOfItems start items error → IsRefusalOfItems start (items ++ others) error
+refusal_more start items others Full why = full_more start items others why
+refusal_more start items others KeyFull why = list_all-append (λ item. key_fits item.0) items others ∙ ap (λ b. b && keys_fit others) why
+refusal_more start items others (Memory e) why = tt
+
+-- a beginning of some items is one of more
+beginning_more : (start : Names) (first now : NameMap) (items others : List Labelled) → PutsBeginning start first items now → PutsBeginning start first (items ++ others) now
+beginning_more start first now items others p = record {
+  named = p.named;
+  left = p.left ++ others;
+  all = ap (λ all. all ++ others) p.all ∙ append_assoc p.named p.left others;
+  put = p.put;
+}
+
+pub refuses_more : (old : Names) (before now : NameMap) (items others : List Labelled) (error : NamerError) → RefusesItems old before items now error → RefusesItems old before (items ++ others) now error
+refuses_more old before now items others error part = record {
+  some = λ start first earlier has.
+      subst (λ all. PutsBeginning start first all now) (append_assoc earlier items others) (beginning_more start first now (earlier ++ items) others (part.some start first earlier has));
+  why = λ start first earlier has.
+      subst (λ all. IsRefusalOfItems start all error) (append_assoc earlier items others) (refusal_more start (earlier ++ items) others error (part.why start first earlier has));
+}
+
+pub refuses_then : (old middle : Names) (before between now : NameMap) (items others : List Labelled) (error : NamerError) → NamesItems old before items middle between → RefusesItems middle between others now error → RefusesItems old before (items ++ others) now error
+refuses_then old middle before between now items others error first_part second_part = record {
+  some = λ start first earlier has.
+      subst (λ all. PutsBeginning start first all now) (append_assoc earlier items others) (second_part.some start first (earlier ++ items) (first_part.more start first earlier has));
+  why = λ start first earlier has.
+      subst (λ all. IsRefusalOfItems start all error) (append_assoc earlier items others) (second_part.why start first (earlier ++ items) (first_part.more start first earlier has));
+}
+
+-- a map that stays as it was
+beginning_unchanged : (start : Names) (first before now : NameMap) (earlier items : List Labelled) (old : Names) → ((q : NameKey) → now q ≡ before q) → HasNamedItems start first earlier old before → PutsBeginning start first (earlier ++ items) now
+beginning_unchanged start first before now earlier items old same has = record {
+  named = earlier;
+  left = items;
+  all = refl;
+  put = record { finds = λ q. same q ∙ has.put.finds q };
+}
+
+-- one item is refused for the reason that its label is
+pub refuses_one : (old : Names) (before now : NameMap) (key : NameKey) (label : List ℕ) (error : NamerError) → ((q : NameKey) → now q ≡ before q) → IsRefusalOf old label error → RefusesItems old before ((key, label) ∷ []) now error
+refuses_one old before now key label error same refused = record {
+  some = λ start first earlier has. beginning_unchanged start first before now earlier ((key, label) ∷ []) old same has;
+  why = λ start first earlier has. reason error refused start first earlier has;
+}
+  where
+    reason : (error : NamerError) → IsRefusalOf old label error → (start : Names) (first : NameMap) (earlier : List Labelled) → HasNamedItems start first earlier old before → IsRefusalOfItems start (earlier ++ (key, label) ∷ []) error
+    reason Full full start first earlier has = record {
+      named = earlier;
+      item = (key, label);
+      left = [];
+      all = refl;
+      full =
+          sym (ap (λ (n : Names). labels_with_base n (labels_of earlier) (label_base n label)) has.words)
+          ∙ sym (has.labels.uses_are (label_base old label)) ∙ full;
+    }
+    reason KeyFull never start first earlier has = absurd never
+    reason (Memory e) full start first earlier has = tt
+
+pub not_below : (n m : ℕ) → (n < m → ⊥) → nat_lt n m ≡ false
+not_below n m no_less = either (nat_lt n m) refl
+  where
+    either : (b : Bool) → nat_lt n m ≡ b → b ≡ false
+    either true e = absurd (no_less (ltb-true n m e))
+    either false e = refl
+
+-- an item whose key can't be told
+pub refuses_key : (old : Names) (before : NameMap) (item : Labelled) (others : List Labelled) → key_fits item.0 ≡ false → RefusesItems old before (item ∷ others) before KeyFull
+refuses_key old before item others not_so = record {
+  some = λ start first earlier has. beginning_unchanged start first before before earlier (item ∷ others) old (λ q. refl) has;
+  why = λ start first earlier has.
+      list_all-append (λ item. key_fits item.0) earlier (item ∷ others) ∙ ap (λ b. keys_fit earlier && (b && keys_fit others)) not_so ∙ and_false (keys_fit earlier);
+}
+  where
+    and_false : (b : Bool) → (b && false) ≡ false
+    and_false true = refl
+    and_false false = refl
+
+-- where all items got their names, none met a full base
+pub none_full : (start : Names) (before : NameMap) (items : List Labelled) (names : Names) (now : NameMap) → HasNamedItems start before items names now → SomeNameIsFull start items → ⊥
+none_full start before items names now has full =
+    let base : List ℕ = label_base start full.item.1 in
+    let all : labels_of items ≡ labels_of full.named ++ full.item.1 ∷ labels_of full.left = ap labels_of full.all ∙ map-append (λ item. item.1) full.named (full.item ∷ full.left) in
+    let few : labels_with_base start (labels_of items) base ≤ 2 ^ 32 = subst (λ n. n ≤ 2 ^ 32) (ap (λ (n : Names). labels_with_base n (labels_of items) base) has.words) (has.labels.few base) in
+    let count : labels_with_base start (labels_of items) base ≡ labels_with_base start (labels_of full.named) base + (1 + labels_with_base start (labels_of full.left) base) =
+    ap (λ labels. labels_with_base start labels base) all ∙ counted_more start (labels_of full.named) full.item.1 (labels_of full.left) base refl in
+    let met : labels_with_base start (labels_of full.named) base ≡ 2 ^ 32 = full.full in
+    omega (arith, few, count, met)
 
 -- what a map says after `insert`, by the names that it has
 pub names_in-insert : {Y S : Type 0} (old new : HashMap NameKey (String Y) S) (key : NameKey) (name : String Y) → hash.Updates same_key old new key (Some name) → (q : NameKey) → names_in new q ≡ cond (same_key key q) (Some (string_bytes name)) (names_in old q)
@@ -127,10 +223,6 @@ pub names_in-unchanged : {Y S : Type 0} (old new : HashMap NameKey (String Y) S)
 names_in-unchanged old new same q = ap (λ es. option_map string_bytes (lookup (same_key q) es)) same
 
 -- ---- loops over items
-pub on_err : {T E P : Type 0} (r : Result T E) → P → OnErr r P
-on_err (Ok x) p = tt
-on_err (Err e) p = p
-
 module _ {A B : Type 0} (v : A → B) where
   flat_map-shown : (g : B → List Labelled) (xs : List A) → flat_map g (map v xs) ≡ flat_map (λ a. g (v a)) xs
   flat_map-shown g [] = refl
@@ -159,6 +251,12 @@ module _ {A B : Type 0} (v : A → B) where
   map_so_far g all xs so_far =
       ap (map g) (sym (take-append-drop (length xs) all)) ∙ map-append g (take (length xs) all) (drop (length xs) all)
       ∙ ap (λ items. items ++ map g (drop (length xs) all)) (ap (map g) (sym so_far) ∙ map-shown g xs)
+
+  pub map_at_turn : (g : B → Labelled) (all : List B) (xs : List A) (y : B) → map v xs ≡ take (length xs) all → length xs < length all → y ≡ get_or all (length xs) y → map g all ≡ map (λ a. g (v a)) xs ++ (g y ∷ [] ++ map g (drop (length xs + 1) all))
+  map_at_turn g all xs y so_far lt is =
+      let split : drop (length xs) all ≡ get_or all (length xs) y ∷ drop (length xs + 1) all = rw add-one (drop-cons all (length xs) y lt) in
+      map_so_far g all xs so_far ∙ ap (λ items. map (λ a. g (v a)) xs ++ map g items) split
+      ∙ ap (λ b. map (λ a. g (v a)) xs ++ g b ∷ map g (drop (length xs + 1) all)) (sym is)
 
   pub map_at_end : (g : B → Labelled) (all : List B) (xs : List A) → map v xs ≡ all → map g all ≡ map (λ a. g (v a)) xs
   map_at_end g all xs is = ap (map g) (sym is) ∙ map-shown g xs
@@ -190,3 +288,9 @@ module _ (function : ℕ) where
       ∙ ap (map argument_item) (enumerate_from-append 0 (take i arguments) (argument ∷ []))
       ∙ map-append argument_item (enumerate_from 0 (take i arguments)) ((0 + length (take i arguments), argument) ∷ [])
       ∙ (λ j. labelled_arguments function (take i arguments) ++ (key.FunctionArgument function ((long ∙ sym index_is) j), sym label_is j) ∷ []))
+
+  pub labelled_arguments_at : (arguments : List FunctionArgument) (i : ℕ) (argument : FunctionArgument) (label : List ℕ) → i < length arguments → argument ≡ get_or arguments i argument → label ≡ option_map_or string_bytes argument.name (codes "param") → labelled_arguments function arguments ≡ labelled_arguments function (take i arguments) ++ ((key.FunctionArgument function i, label) ∷ [] ++ labelled_arguments_left arguments (i + 1))
+  labelled_arguments_at arguments i argument label lt argument_is label_is =
+      labelled_arguments_so_far arguments (i + 1)
+      ∙ ap (λ items. items ++ labelled_arguments_left arguments (i + 1)) (sym (labelled_arguments-more arguments i i argument label lt refl argument_is label_is))
+      ∙ append_assoc (labelled_arguments function (take i arguments)) ((key.FunctionArgument function i, label) ∷ []) (labelled_arguments_left arguments (i + 1))

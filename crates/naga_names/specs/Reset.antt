@@ -1,7 +1,7 @@
 -- What `reset` names, and in which order.
-use Rattle.std.specs.Prelude.{◌≡◌, ℕ, List, [], ◌∷◌, ◌++◌, map, Option, Bool, codes, string_bytes}
+use Rattle.std.specs.Prelude.{◌≡◌, ℕ, ◌^◌, List, [], ◌∷◌, ◌++◌, map, Option, Bool, true, ◌&&◌, nat_lt, codes, string_bytes}
 use Rattle.std.specs.declared.string.String.{String}
-use Rattle.std.specs.List.{scan, flat_map, enumerate_from}
+use Rattle.std.specs.List.{scan, flat_map, enumerate_from, list_all}
 use Rattle.std.specs.Map.{update_all}
 use Rattle.std.specs.HashMap as hash
 use Rattle.std.specs.Option.{option_map}
@@ -37,6 +37,21 @@ labelled_functions functions = flat_map (λ p. labelled_function p.0 p.1) (enume
 abbrev pub labelled_items : Module → List Labelled
 labelled_items module_ = labelled_types module_.types ++ labelled_functions module_.functions
 
+-- the key can be told: the index of an entry point is a `u16`, and that of a member or an argument a `u32`
+abbrev pub key_fits : NameKey → Bool
+key_fits (key.StructMember t n) = nat_lt n (2 ^ 32)
+key_fits (key.FunctionArgument f n) = nat_lt n (2 ^ 32)
+key_fits (key.ExternalTextureFunctionArgument f n part) = nat_lt n (2 ^ 32)
+key_fits (key.EntryPoint e) = nat_lt e (2 ^ 16)
+key_fits (key.EntryPointArgument e n) = nat_lt e (2 ^ 16) && nat_lt n (2 ^ 32)
+key_fits (key.EntryPointLocal e l) = nat_lt e (2 ^ 16)
+key_fits (key.EntryPointOobLocal e t) = nat_lt e (2 ^ 16)
+key_fits other = true
+
+-- each of these items has a key that can be told
+abbrev pub keys_fit : List Labelled → Bool
+keys_fit items = list_all (λ item. key_fits item.0) items
+
 abbrev pub labels_of : List Labelled → List (List ℕ)
 labels_of items = map (λ item. item.1) items
 
@@ -63,6 +78,7 @@ pub record PutsInto (before : NameMap) (pairs : List (NameKey × List ℕ)) (now
 pub record HasNamedItems (start : Names) (before : NameMap) (items : List Labelled) (names : Names) (now : NameMap) : Type 0 where
   pub words : names ≡ record start { uses = names.uses }
   pub labels : HasNamed names (labels_of items)
+  pub keys : keys_fit items ≡ true
   pub put : PutsInto before (named_items start items) now
 
 -- a map into which the names of some beginning of these items were put
@@ -75,7 +91,3 @@ pub record PutsBeginning (start : Names) (before : NameMap) (items : List Labell
 -- after any items that were named before, the `Namer` and the map also have the names of these
 pub record NamesItems (old : Names) (before : NameMap) (items : List Labelled) (new : Names) (now : NameMap) : Type 0 where
   pub more : (start : Names) (first : NameMap) (earlier : List Labelled) → HasNamedItems start first earlier old before → HasNamedItems start first (earlier ++ items) new now
-
--- the same of the map and some beginning of these items
-pub record NamesBeginning (old : Names) (before : NameMap) (items : List Labelled) (now : NameMap) : Type 0 where
-  pub some : (start : Names) (first : NameMap) (earlier : List Labelled) → HasNamedItems start first earlier old before → PutsBeginning start first (earlier ++ items) now

@@ -1,9 +1,8 @@
 //! Identifiers from labels.
-ghost use Rattle.std.specs.Prelude.{◌≡◌, ◌∷◌, [], ◌++◌, List, ℕ, map, IfOk, IfErr, OnOk, OnErr, IsErr, string_bytes};
+ghost use Rattle.std.specs.Prelude.{◌≡◌, true, ◌∷◌, [], ◌++◌, List, ℕ, map, IfOk, IfErr, OnOk, OnErr, IsErr, string_bytes};
 ghost use Rattle.naga_names.specs.Naming.{Names, names_code, no_names, new_names, label_or, first_name, is_taken, name_of, with_use, IsFull, HasNamed, name_after};
-ghost use Rattle.std.specs.HashMap as hash;
-ghost use Rattle.naga_names.specs.Refusal.{IsRefusalOf};
-ghost use Rattle.naga_names.specs.Reset.{labelled_types, labelled_arguments, labelled_function, labelled_functions, labelled_items, names_in, HasNamedItems, PutsBeginning, NamesItems, NamesBeginning};
+ghost use Rattle.naga_names.specs.Refusal.{IsRefusalOf, IsResetRefusal, RefusesItems, SomeNameIsFull, SomeKeyIsFull};
+ghost use Rattle.naga_names.specs.Reset.{labelled_types, labelled_arguments, labelled_function, labelled_functions, labelled_items, key_fits, names_in, HasNamedItems, PutsBeginning, NamesItems};
 
 use crate::keyword_set::{CaseInsensitiveKeywordSet, KeywordSet};
 use crate::namer::uses::Uses;
@@ -154,9 +153,10 @@ impl Namer {
     ///
     /// From then on identifiers keep off the words and prefixes given, and the names given before are
     /// forgotten. An item without a label is named `type`, `function` or `param`. The map keeps its
-    /// other keys. The answer is `NamerError::KeyFull` only where a function has more arguments than a
-    /// `u32` can count. After a refusal the `Namer` is as a new one, and the names of some first items
-    /// stand in the map.
+    /// other keys. The answer is `NamerError::Full` only where a label comes whose base the labels before
+    /// it used up, and `NamerError::KeyFull` only where a function has more arguments than a `u32` can
+    /// count; such a module is always refused. After a refusal the `Namer` is as a new one, and the
+    /// names of some first items stand in the map.
     pub fn reset(
         &mut self,
         module: &Module,
@@ -171,6 +171,13 @@ impl Namer {
         ensures err { OnErr result (self.new ≡ no_names) }
         ensures beginning { let start = new_names reserved_keywords builtin_identifiers keywords_case_insensitive (map (λ p. p.now) reserved_prefixes.now) in
             OnErr result (PutsBeginning start (names_in output.old) (labelled_items «module».now) (names_in output.new)) }
+
+        // A refusal has a reason, and a module that gives a reason is refused.
+        ensures reason { let start = new_names reserved_keywords builtin_identifiers keywords_case_insensitive (map (λ p. p.now) reserved_prefixes.now) in
+            IfErr result (IsResetRefusal start «module».now) }
+        ensures full { let start = new_names reserved_keywords builtin_identifiers keywords_case_insensitive (map (λ p. p.now) reserved_prefixes.now) in
+            SomeNameIsFull start (labelled_items «module».now) → IsErr result }
+        ensures key_full { SomeKeyIsFull (labelled_items «module».now) → IsErr result }
     {
         let alloc = self.alloc;
         let prefixes = match Vec::from_slice(alloc, reserved_prefixes) {
@@ -203,7 +210,7 @@ impl Namer {
         output: &mut HashMap<NameKey, String>,
     ) -> Result<(), NamerError>
         ensures ok { OnOk result (NamesItems self.old (names_in output.old) (labelled_items «module».now) self.new (names_in output.new)) }
-        ensures err { OnErr result (NamesBeginning self.old (names_in output.old) (labelled_items «module».now) (names_in output.new)) }
+        ensures err { IfErr result (RefusesItems self.old (names_in output.old) (labelled_items «module».now) (names_in output.new)) }
     {
         self.name_types(&module.types, output)?;
         self.name_functions(&module.functions, output)
@@ -215,7 +222,7 @@ impl Namer {
         output: &mut HashMap<NameKey, String>,
     ) -> Result<(), NamerError>
         ensures ok { OnOk result (NamesItems self.old (names_in output.old) (labelled_types types.now) self.new (names_in output.new)) }
-        ensures err { OnErr result (NamesBeginning self.old (names_in output.old) (labelled_types types.now) (names_in output.new)) }
+        ensures err { IfErr result (RefusesItems self.old (names_in output.old) (labelled_types types.now) (names_in output.new)) }
     {
         for (handle, ty) in types.iter() {
             self.name_item(NameKey::Type_(handle), label_or(&ty.name, "type"), output)?;
@@ -229,7 +236,7 @@ impl Namer {
         output: &mut HashMap<NameKey, String>,
     ) -> Result<(), NamerError>
         ensures ok { OnOk result (NamesItems self.old (names_in output.old) (labelled_functions functions.now) self.new (names_in output.new)) }
-        ensures err { OnErr result (NamesBeginning self.old (names_in output.old) (labelled_functions functions.now) (names_in output.new)) }
+        ensures err { IfErr result (RefusesItems self.old (names_in output.old) (labelled_functions functions.now) (names_in output.new)) }
     {
         for (handle, function) in functions.iter() {
             self.name_function(handle, function, output)?;
@@ -244,7 +251,7 @@ impl Namer {
         output: &mut HashMap<NameKey, String>,
     ) -> Result<(), NamerError>
         ensures ok { OnOk result (NamesItems self.old (names_in output.old) (labelled_function handle function.now) self.new (names_in output.new)) }
-        ensures err { OnErr result (NamesBeginning self.old (names_in output.old) (labelled_function handle function.now) (names_in output.new)) }
+        ensures err { IfErr result (RefusesItems self.old (names_in output.old) (labelled_function handle function.now) (names_in output.new)) }
     {
         self.name_item(
             NameKey::Function(handle),
@@ -261,7 +268,7 @@ impl Namer {
         output: &mut HashMap<NameKey, String>,
     ) -> Result<(), NamerError>
         ensures ok { OnOk result (NamesItems self.old (names_in output.old) (labelled_arguments function arguments.now) self.new (names_in output.new)) }
-        ensures err { OnErr result (NamesBeginning self.old (names_in output.old) (labelled_arguments function arguments.now) (names_in output.new)) }
+        ensures err { IfErr result (RefusesItems self.old (names_in output.old) (labelled_arguments function arguments.now) (names_in output.new)) }
     {
         for (index, argument) in arguments.iter().enumerate() {
             let Ok(index) = u32::try_from(index) else {
@@ -280,8 +287,9 @@ impl Namer {
         label: &str,
         output: &mut HashMap<NameKey, String>,
     ) -> Result<(), NamerError>
+        requires { key_fits key ≡ true }
         ensures ok { OnOk result (NamesItems self.old (names_in output.old) ((key, label.now) ∷ []) self.new (names_in output.new)) }
-        ensures err { OnErr result (hash.IsUnchanged output.old output.new) }
+        ensures err { IfErr result (RefusesItems self.old (names_in output.old) ((key, label.now) ∷ []) (names_in output.new)) }
     {
         let name = self.call(label)?;
         output.insert(key, name)?;

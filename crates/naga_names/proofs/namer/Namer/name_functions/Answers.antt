@@ -1,8 +1,9 @@
 use Rattle.std.proofs.Common.{sym, subst}
 use Rattle.std.specs.List.{enumerate_from}
 use Rattle.std.proofs.lemmas.Iterator.Consumers.{YieldsList-from_first, YieldsList-at, YieldsList-so_far, YieldsList-turn, YieldsList-end}
-use Rattle.naga_names.specs.Reset.{NamesItems, NamesBeginning, names_in, labelled_function}
-use Rattle.naga_names.proofs.ResetLemmas.{on_err, names_then_some, names_some_of_more, flat_map_at_turn, flat_map_at_end}
+use Rattle.naga_names.specs.Reset.{NamesItems, names_in, labelled_function}
+use Rattle.naga_names.specs.Refusal.{RefusesItems}
+use Rattle.naga_names.proofs.ResetLemmas.{if_err_at, refuses_then, refuses_more, flat_map_at_turn, flat_map_at_end}
 use Rattle.naga_names.proofs.namer.Namer.name_functions.Goals as goal
 
 pub returns-in_err-name_function-clause-err : goal.returns-in_err-name_function-clause-err
@@ -11,9 +12,9 @@ returns-in_err-name_function-clause-err c =
     let so_far = YieldsList-so_far road c.loop-handle.yielded c.loop-handle.handle-iterator c.loop-handle.yielded_by in
     let turn = YieldsList-turn road c.loop-handle.yielded c.loop-handle.handle-iterator c.loop-handle.yielded_by c.next.result c.next.new.self (c.in-Some.handle, c.in-Some.function) c.in-Some.is c.next.ensures.steps in
     let all = enumerate_from 0 c.args.functions.now in
-    on_err c.from_residual.result
-    (subst (λ items. NamesBeginning c.args.self.now (names_in c.args.output.now) items (names_in c.name_function.new.output)) (sym (flat_map_at_turn (λ p. (p.0, p.1.now)) (λ p. labelled_function p.0 p.1) all c.loop-handle.yielded (c.in-Some.handle, c.in-Some.function.now) so_far turn.0 turn.1))
-    (names_then_some _ _ _ _ _ _ _ c.loop-handle.invariant (names_some_of_more _ _ _ _ _ c.in_err-name_function.ensures.err)))
+    if_err_at c.from_residual.result c.in_err-name_function.field-0.0 (λ items. RefusesItems c.args.self.now (names_in c.args.output.now) items (names_in c.name_function.new.output)) c.from_residual.ensures.1
+    (sym (flat_map_at_turn (λ p. (p.0, p.1.now)) (λ p. labelled_function p.0 p.1) all c.loop-handle.yielded (c.in-Some.handle, c.in-Some.function.now) so_far turn.0 turn.1))
+    (refuses_then _ _ _ _ _ _ _ _ c.loop-handle.invariant (refuses_more _ _ _ _ _ _ c.in_err-name_function.ensures.err))
 
 pub returns-clause-ok : goal.returns-clause-ok
 returns-clause-ok c =

@@ -1,19 +1,21 @@
-use Rattle.std.proofs.Common.{codes, string_bytes, sym, subst}
+use Rattle.std.proofs.Common.{[], ◌∷◌, codes, string_bytes, sym, subst}
 use Rattle.std.specs.List.{enumerate_from}
 use Rattle.std.specs.Option.{option_map_or}
-use Rattle.std.proofs.lemmas.Iterator.Consumers.{YieldsList-from_first, YieldsList-at, YieldsList-so_far, YieldsList-end}
+use Rattle.std.proofs.lemmas.Iterator.Consumers.{YieldsList-from_first, YieldsList-at, YieldsList-so_far, YieldsList-turn, YieldsList-end}
 use Rattle.naga_names.specs.declared.namer.key.NameKey.TheVariants as key
-use Rattle.naga_names.specs.Reset.{NamesItems, NamesBeginning, names_in}
-use Rattle.naga_names.proofs.ResetLemmas.{on_err, names_then_some, names_unchanged, names_in-unchanged, map_so_far, map_at_end}
+use Rattle.naga_names.specs.Reset.{NamesItems, names_in}
+use Rattle.naga_names.specs.Refusal.{RefusesItems}
+use Rattle.naga_names.proofs.ResetLemmas.{if_err_at, refuses_then, refuses_more, map_at_turn, map_at_end}
 use Rattle.naga_names.proofs.namer.Namer.name_types.Goals as goal
 
 pub returns-in_err-name_item-clause-err : goal.returns-in_err-name_item-clause-err
 returns-in_err-name_item-clause-err c =
     let road = YieldsList-at c.into_iter-handle-iterator.ensures.into_iter_gives (YieldsList-from_first (λ p. (p.0, p.1.now)) (λ s. s) (enumerate_from 0 c.args.types.now) c.iter-handle-items.ensures) in
     let so_far = YieldsList-so_far road c.loop-handle.yielded c.loop-handle.handle-iterator c.loop-handle.yielded_by in
-    on_err c.from_residual.result
-    (subst (λ items. NamesBeginning c.args.self.now (names_in c.args.output.now) items (names_in c.name_item.new.output)) (sym (map_so_far (λ p. (p.0, p.1.now)) (λ p. (key.Type_ p.0, option_map_or string_bytes p.1.name (codes "type"))) (enumerate_from 0 c.args.types.now) c.loop-handle.yielded so_far))
-    (names_then_some _ _ _ _ _ _ _ c.loop-handle.invariant (names_unchanged _ _ _ _ (names_in-unchanged c.loop-handle.output c.name_item.new.output c.in_err-name_item.ensures.err))))
+    let turn = YieldsList-turn road c.loop-handle.yielded c.loop-handle.handle-iterator c.loop-handle.yielded_by c.next.result c.next.new.self (c.in-Some.handle, c.in-Some.ty) c.in-Some.is c.next.ensures.steps in
+    if_err_at c.from_residual.result c.in_err-name_item.field-0.0 (λ items. RefusesItems c.args.self.now (names_in c.args.output.now) items (names_in c.name_item.new.output)) c.from_residual.ensures.1
+    (sym (map_at_turn (λ p. (p.0, p.1.now)) (λ p. (key.Type_ p.0, option_map_or string_bytes p.1.name (codes "type"))) (enumerate_from 0 c.args.types.now) c.loop-handle.yielded (c.in-Some.handle, c.in-Some.ty.now) so_far turn.0 turn.1))
+    (refuses_then _ _ _ _ _ _ _ _ c.loop-handle.invariant (refuses_more _ _ _ _ _ _ (subst (λ label. RefusesItems c.loop-handle.self (names_in c.loop-handle.output) ((key.Type_ c.in-Some.handle, label) ∷ []) (names_in c.name_item.new.output) c.in_err-name_item.field-0.0) c.label_or.ensures c.in_err-name_item.ensures.err)))
 
 pub returns-clause-ok : goal.returns-clause-ok
 returns-clause-ok c =

@@ -1,11 +1,21 @@
-use Rattle.std.proofs.Common.{refl}
-use Rattle.naga_names.proofs.ResetLemmas.{starts, all_named, some_named}
+use Rattle.std.proofs.Common.{refl, sym, ◌∙◌}
+use Rattle.naga_names.proofs.ResetLemmas.{starts, all_named, some_named, refused_for, none_full}
 use Rattle.naga_names.proofs.namer.Namer.reset.Goals as goal
 
 pub returns-in-Ok-name_items-clause-ok : goal.returns-in-Ok-name_items-clause-ok
 returns-in-Ok-name_items-clause-ok c =
     all_named _ _ (starts c.args.reserved_keywords c.args.builtin_identifiers c.args.keywords_case_insensitive c.new.result c.in-Ok.prefixes.items c.args.reserved_prefixes.now c.new.ensures c.in-Ok.ensures.items) refl _ _ _ _ c.in-Ok-name_items.ensures.ok
 
+pub returns-in-Ok-name_items-clause-full : goal.returns-in-Ok-name_items-clause-full
+returns-in-Ok-name_items-clause-full c = λ full. absurd (none_full _ _ _ _ _ (returns-in-Ok-name_items-clause-ok c) full)
+
+pub returns-in-Ok-name_items-clause-key_full : goal.returns-in-Ok-name_items-clause-key_full
+returns-in-Ok-name_items-clause-key_full c = λ full. sym full ∙ (returns-in-Ok-name_items-clause-ok c).keys
+
 pub returns-in-Err-name_items-clause-beginning : goal.returns-in-Err-name_items-clause-beginning
 returns-in-Err-name_items-clause-beginning c =
-    some_named _ _ (starts c.args.reserved_keywords c.args.builtin_identifiers c.args.keywords_case_insensitive c.new.result c.in-Ok.prefixes.items c.args.reserved_prefixes.now c.new.ensures c.in-Ok.ensures.items) refl _ _ _ c.in-Err-name_items.ensures.err
+    some_named _ _ (starts c.args.reserved_keywords c.args.builtin_identifiers c.args.keywords_case_insensitive c.new.result c.in-Ok.prefixes.items c.args.reserved_prefixes.now c.new.ensures c.in-Ok.ensures.items) refl _ _ _ _ c.in-Err-name_items.ensures.err
+
+pub returns-in-Err-name_items-clause-reason : goal.returns-in-Err-name_items-clause-reason
+returns-in-Err-name_items-clause-reason c =
+    refused_for _ _ (starts c.args.reserved_keywords c.args.builtin_identifiers c.args.keywords_case_insensitive c.new.result c.in-Ok.prefixes.items c.args.reserved_prefixes.now c.new.ensures c.in-Ok.ensures.items) refl _ _ _ _ c.in-Err-name_items.ensures.err
