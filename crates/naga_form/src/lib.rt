@@ -1,25 +1,2 @@
 //! What is written for a module, and why it does what the module does. The public functions are laws.
 #![tactic(auto)]
-
-ghost use Rattle.std.specs.Prelude.{◌≡◌, ℕ, List, IsTrue, Bool};
-ghost use Rattle.naga_ir.specs.declared.module.Module.{Module};
-ghost use Rattle.naga_info.specs.Accepted.{is_accepted};
-ghost use Rattle.naga_info.specs.Part.{is_written_so_far};
-ghost use Rattle.naga_info.specs.declared.info.ModuleInfo.{ModuleInfo};
-ghost use Rattle.naga_form.specs.Faithful.{written_program, HasInterfaceOf, RunsAs};
-ghost use Rattle.wgsl_text.specs.GrammarOfLines.{IsProgram};
-
-/// The program that is written for a module is one of the grammar, so that its text has one reading.
-pub fn is_a_program()
-    ensures { (m : Module) (info : ModuleInfo) (explicit : Bool) → IsTrue (is_accepted m info) → IsTrue (is_written_so_far m) → IsProgram (written_program m info explicit) }
-{}
-
-/// It declares what the module declares.
-pub fn has_the_interface()
-    ensures { (m : Module) (info : ModuleInfo) (explicit : Bool) → IsTrue (is_accepted m info) → IsTrue (is_written_so_far m) → HasInterfaceOf m (written_program m info explicit) }
-{}
-
-/// It does what the module does.
-pub fn runs_as_the_module()
-    ensures { (m : Module) (info : ModuleInfo) (explicit : Bool) → IsTrue (is_accepted m info) → IsTrue (is_written_so_far m) → RunsAs m info (written_program m info explicit) }
-{}
