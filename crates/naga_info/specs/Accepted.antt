@@ -2,7 +2,7 @@
 -- lists, each expression has the type that its operands and declarations give it, and statements get what they want.
 -- The counts don't matter. So far no module is accepted that declares more than scalar types and one function, or whose
 -- expressions are others than literals, arguments and locals, or whose statements are others than `Emit` and `Return`.
-use Rattle.std.specs.Prelude.{ℕ, Bool, true, false, ◌&&◌, List, [], ◌∷◌, length, map, Option, Some, None, ◌==◌, nat_lt, nat_le, slice_get}
+use Rattle.std.specs.Prelude.{ℕ, Bool, true, false, ◌&&◌, List, [], ◌∷◌, length, Option, Some, None, ◌==◌, nat_lt, nat_le, slice_get}
 use Rattle.std.specs.List.{list_all}
 use Rattle.std.specs.Option.{option_map, option_map_or, is_some, option_and_then}
 use Rattle.indexmap.specs.IndexMap.{keys, values}
@@ -18,7 +18,6 @@ use Rattle.naga_ir.specs.declared.types.Type_.{Type_}
 use Rattle.naga_info.specs.declared.info.ExpressionInfo.{ExpressionInfo}
 use Rattle.naga_info.specs.declared.info.ModuleInfo.{ModuleInfo}
 use Rattle.naga_info.specs.Types.{word_of_type, word_at, local_pointer, spelling_at, spelling_of, is_alike, literal_word}
-
 
 -- nothing is declared but types and at most one function
 abbrev pub declares_one_function : Module → Bool

@@ -2,5 +2,6 @@ pub mod Resolution
 pub mod Operands
 pub mod Counts
 pub mod Types
+pub mod Spelled
 pub mod Accepted
 pub mod Part

@@ -1,34 +1,52 @@
 //! Whether a module and what is known of it fit together.
 
-ghost use Rattle.std.specs.Prelude.{◌≡◌};
-ghost use Rattle.naga_info.specs.Accepted.{is_accepted};
-ghost use Rattle.naga_info.specs.Part.{is_written_so_far};
+ghost use Rattle.std.specs.Prelude.{◌≡◌, nat_lt};
+ghost use Rattle.std.specs.List.{list_all};
+ghost use Rattle.indexmap.specs.IndexMap.{values};
+ghost use Rattle.naga_ir.specs.StatementViews.{tree_of};
+ghost use Rattle.naga_info.specs.Accepted.{block_fits, declares_one_function, expected_type, expression_fits, expressions_fit, function_fits, functions_fit, is_accepted, is_below, is_scalar_type, local_fits, names_fit, return_fits, signature_fits, special_types_fit, statement_fits, value_fits};
+ghost use Rattle.naga_info.specs.Spelled.{spelled};
 
-use crate::info::{FunctionInfo, ModuleInfo, TypeResolution};
+use crate::info::{ExpressionInfo, FunctionInfo, ModuleInfo};
+use crate::spelling::{
+    Spelled, are_alike, scalar_of, scalar_word, spelled_at, spelled_expression, spelled_literal,
+    spelled_pointer_to, spelled_resolution,
+};
 use naga_ir::{
-    AddressSpace, Arena, Block, Expression, Function, FunctionResult, Handle, Literal,
-    LocalVariable, Module, Range, Scalar, SpecialTypes, Statement, Type_, TypeInner, UniqueArena,
+    Arena, Expression, Function, FunctionArgument, Handle, LocalVariable, Module, Place,
+    SpecialTypes, Statement, Type_, UniqueArena,
 };
 
-/// Whether the module is accepted, with what is known of it: each handle, `Emit` range and argument
-/// number lies in its arena or list, the info has an entry for each expression, each expression has
-/// the type that its operands and declarations give it, and each statement gets operands of the
-/// types that it wants. The counts are not looked at.
+/// Whether the module is accepted, with what is known of it. So far these are accepted:
 ///
-/// So far this looks no farther than modules that declare nothing but scalar types and at most one
-/// function, without calls or control flow: each other module is answered `false`.
+/// - The module declares nothing but types, each of them `bool`, `i32`, `u32`, `i64` or `u64`, and at
+///   most one function. Its special types lie in the types.
+/// - The info has one entry for each function and none for anything else; the entry has one for each
+///   of the function's expressions.
+/// - The types of the arguments, of the result and of the locals lie in the types, and the
+///   expressions that have names lie in the expressions.
+/// - Each expression is a literal, an argument or a local that there is, and the info gives it the
+///   literal's type, the argument's type, or a pointer to the local's type in the space of functions.
+///   Types are alike where they are spelled alike.
+/// - The first value of a local has the local's type.
+/// - Each statement is an `Emit` of a range within the expressions, or a `Return`: of a value of the
+///   result's type, or of none where the function has no result.
+///
+/// The counts are not looked at. Each other module is answered `false`.
+#[tactic(auto, unfolding(crate::specs::Accepted::is_accepted))]
 pub fn accepts(module: &Module, info: &ModuleInfo) -> bool
 {
-    declares_only_functions(module)
-        && types_are_served(&module.types)
-        && special_types_are_in_range(&module.special_types, module.types.len())
-        && info.functions.len() == module.functions.len()
+    declares_one_function(module)
+        && types_are_scalar(&module.types)
+        && special_types_fit(module.types.len(), &module.special_types)
         && info.entry_points.is_empty()
         && info.const_expression_types.is_empty()
-        && functions_are_accepted(module, info)
+        && functions_fit(&module.types, &module.functions, info.functions.as_slice())
 }
 
-fn declares_only_functions(module: &Module) -> bool {
+fn declares_one_function(module: &Module) -> bool
+    ensures { result ≡ declares_one_function «module».now }
+{
     module.constants.is_empty()
         && module.overrides.is_empty()
         && module.global_variables.is_empty()
@@ -37,83 +55,102 @@ fn declares_only_functions(module: &Module) -> bool {
         && module.entry_points.is_empty()
 }
 
-fn types_are_served(types: &UniqueArena<Type_>) -> bool {
+fn types_are_scalar(types: &UniqueArena<Type_>) -> bool
+    ensures { result ≡ list_all is_scalar_type types.now }
+{
     for (_, ty) in types.iter() {
-        if !is_served_scalar(&ty.inner) {
+        if !is_scalar_type(ty) {
             return false;
         }
     }
     true
 }
 
-fn is_served_scalar(inner: &TypeInner) -> bool {
-    match inner {
-        TypeInner::Scalar(scalar) => {
-            *scalar == Scalar::BOOL
-                || *scalar == Scalar::I32
-                || *scalar == Scalar::U32
-                || *scalar == Scalar::I64
-                || *scalar == Scalar::U64
-        }
-        _ => false,
+fn is_scalar_type(ty: &Type_) -> bool
+    ensures { result ≡ is_scalar_type ty.now }
+{
+    match scalar_of(&ty.inner) {
+        Some(scalar) => scalar_word(scalar).is_some(),
+        None => false,
     }
 }
 
-fn special_types_are_in_range(special_types: &SpecialTypes, type_count: usize) -> bool {
-    special_types
-        .predeclared_types
-        .values()
-        .all(|handle| handle.index() < type_count)
-        && is_absent_or_below(special_types.external_texture_params, type_count)
-        && is_absent_or_below(special_types.external_texture_transfer_function, type_count)
-}
-
-fn is_absent_or_below(handle: Option<Handle<Type_>>, type_count: usize) -> bool {
+fn is_below(bound: usize, handle: Option<Handle<Type_>>) -> bool
+    ensures { result ≡ is_below bound handle }
+{
     match handle {
-        Some(handle) => handle.index() < type_count,
+        Some(handle) => handle.index() < bound,
         None => true,
     }
 }
 
-fn functions_are_accepted(module: &Module, info: &ModuleInfo) -> bool {
-    for (handle, function) in module.functions.iter() {
-        match info.functions.get(handle.index()) {
-            Some(function_info) => {
-                if !function_is_accepted(&module.types, function, function_info) {
-                    return false;
-                }
-            }
-            None => return false,
+fn special_types_fit(type_count: usize, special_types: &SpecialTypes) -> bool
+    ensures { result ≡ special_types_fit type_count special_types.now }
+{
+    predeclared_types_fit(type_count, special_types)
+        && is_below(type_count, special_types.external_texture_params)
+        && is_below(type_count, special_types.external_texture_transfer_function)
+}
+
+fn predeclared_types_fit(type_count: usize, special_types: &SpecialTypes) -> bool
+    ensures { result ≡ list_all (λ h. nat_lt h type_count) (values special_types.now.predeclared_types) }
+{
+    special_types
+        .predeclared_types
+        .values()
+        .all(|handle| handle.index() < type_count)
+}
+
+fn functions_fit(
+    types: &UniqueArena<Type_>,
+    functions: &Arena<Function>,
+    infos: &[FunctionInfo],
+) -> bool
+    ensures { result ≡ functions_fit types.now functions.now infos.now }
+{
+    if functions.len() != infos.len() {
+        return false;
+    }
+    for (index, info) in infos.iter().enumerate() {
+        let function = &functions[Place::from_index(index)];
+        if !function_fits(types, function, info.expressions.as_slice()) {
+            return false;
         }
     }
     true
 }
 
-fn function_is_accepted(
-    types: &UniqueArena<Type_>,
-    function: &Function,
-    info: &FunctionInfo,
-) -> bool {
-    signature_is_in_range(types.len(), function)
-        && names_are_in_range(function)
-        && info.expressions.len() == function.expressions.len()
-        && expressions_are_accepted(types, function, info)
-        && locals_are_accepted(types, &function.local_variables, info)
-        && body_is_accepted(types, function.result.as_ref(), &function.body, info)
+fn function_fits(types: &UniqueArena<Type_>, function: &Function, infos: &[ExpressionInfo]) -> bool
+    ensures { result ≡ function_fits types.now function.now infos.now }
+{
+    signature_fits(types.len(), function)
+        && names_fit(function)
+        && expressions_fit(types, function, infos)
+        && locals_fit(types, infos, &function.local_variables)
+        && block_fits(types, infos, function)
 }
 
-fn signature_is_in_range(type_count: usize, function: &Function) -> bool {
-    function
-        .arguments
-        .iter()
-        .all(|argument| argument.ty.index() < type_count)
+fn signature_fits(type_count: usize, function: &Function) -> bool
+    ensures { result ≡ signature_fits type_count function.now }
+{
+    arguments_fit(type_count, &function.arguments)
         && match &function.result {
             Some(answer) => answer.ty.index() < type_count,
             None => true,
         }
 }
 
-fn names_are_in_range(function: &Function) -> bool {
+fn arguments_fit(type_count: usize, arguments: &[FunctionArgument]) -> bool
+    ensures { result ≡ list_all (λ a. nat_lt a.ty type_count) arguments.now }
+{
+    arguments
+        .iter()
+        .all(|argument| argument.ty.index() < type_count)
+}
+
+fn names_fit(function: &Function) -> bool
+    ensures { result ≡ names_fit function.now }
+{
     let count = function.expressions.len();
     function
         .named_expressions
@@ -121,201 +158,140 @@ fn names_are_in_range(function: &Function) -> bool {
         .all(|handle| handle.index() < count)
 }
 
-/// The type itself, unless its handle lies outside the types.
-fn resolve<'a>(
-    resolution: &'a TypeResolution,
-    types: &'a UniqueArena<Type_>,
-) -> Option<&'a TypeInner> {
-    match resolution {
-        TypeResolution::Handle(handle) => {
-            if handle.index() < types.len() {
-                Some(&types[*handle].inner)
-            } else {
-                None
-            }
-        }
-        TypeResolution::Value(inner) => Some(inner),
-    }
-}
-
-fn is_scalar(inner: &TypeInner, wanted: Scalar) -> bool {
-    match inner {
-        TypeInner::Scalar(scalar) => *scalar == wanted,
-        _ => false,
-    }
-}
-
-/// Whether the type is one like that of the handle. Only scalars are told alike so far.
-fn is_like(inner: &TypeInner, wanted: Handle<Type_>, types: &UniqueArena<Type_>) -> bool {
-    if wanted.index() >= types.len() {
-        return false;
-    }
-    match &types[wanted].inner {
-        TypeInner::Scalar(scalar) => is_scalar(inner, *scalar),
-        _ => false,
-    }
-}
-
-/// Whether the type is a pointer to a local variable of a type like that of the handle.
-fn is_local_pointer(inner: &TypeInner, wanted: Handle<Type_>, types: &UniqueArena<Type_>) -> bool {
-    match inner {
-        TypeInner::Pointer { base, space } => {
-            *space == AddressSpace::Function
-                && base.index() < types.len()
-                && is_like(&types[*base].inner, wanted, types)
-        }
-        _ => false,
-    }
-}
-
-fn literal_scalar(literal: Literal) -> Option<Scalar> {
-    match literal {
-        Literal::Bool(_) => Some(Scalar::BOOL),
-        Literal::I32(_) => Some(Scalar::I32),
-        Literal::U32(_) => Some(Scalar::U32),
-        Literal::I64(_) => Some(Scalar::I64),
-        Literal::U64(_) => Some(Scalar::U64),
-        _ => None,
-    }
-}
-
-fn literal_is_accepted(literal: Literal, inner: &TypeInner) -> bool {
-    match literal_scalar(literal) {
-        Some(scalar) => is_scalar(inner, scalar),
-        None => false,
-    }
-}
-
-fn expressions_are_accepted(
+fn expressions_fit(
     types: &UniqueArena<Type_>,
     function: &Function,
-    info: &FunctionInfo,
-) -> bool {
-    for (handle, expression) in function.expressions.iter() {
-        match type_of(types, info, handle) {
-            Some(inner) => {
-                if !expression_is_accepted(types, function, expression, inner) {
-                    return false;
-                }
-            }
-            None => return false,
+    infos: &[ExpressionInfo],
+) -> bool
+    ensures { result ≡ expressions_fit types.now function.now function.now.expressions infos.now }
+{
+    if function.expressions.len() != infos.len() {
+        return false;
+    }
+    for (index, info) in infos.iter().enumerate() {
+        let expression = &function.expressions[Place::from_index(index)];
+        if !expression_fits(types, function, expression, info) {
+            return false;
         }
     }
     true
 }
 
-fn type_of<'a>(
-    types: &'a UniqueArena<Type_>,
-    info: &'a FunctionInfo,
-    handle: Handle<Expression>,
-) -> Option<&'a TypeInner> {
-    let expression_info = info.expressions.get(handle.index())?;
-    resolve(&expression_info.ty, types)
-}
-
-fn expression_is_accepted(
+fn expression_fits(
     types: &UniqueArena<Type_>,
     function: &Function,
     expression: &Expression,
-    inner: &TypeInner,
-) -> bool {
+    info: &ExpressionInfo,
+) -> bool
+    ensures { result ≡ expression_fits types.now function.now expression.now info.now }
+{
+    are_alike(
+        spelled_resolution(types, &info.ty),
+        expected_type(types, function, expression),
+    )
+}
+
+/// The spelling of the type that an expression has by what it stands for.
+fn expected_type(
+    types: &UniqueArena<Type_>,
+    function: &Function,
+    expression: &Expression,
+) -> Spelled
+    ensures { spelled result ≡ expected_type types.now function.now expression.now }
+{
     match expression {
-        Expression::Literal(literal) => literal_is_accepted(*literal, inner),
-        Expression::FunctionArgument(number) => {
-            argument_is_accepted(types, function, *number, inner)
-        }
+        Expression::Literal(literal) => spelled_literal(*literal),
+        Expression::FunctionArgument(number) => match function.arguments.get(*number as usize) {
+            Some(argument) => spelled_at(types, argument.ty),
+            None => Spelled::Nothing,
+        },
         Expression::LocalVariable(local) => {
-            local_is_accepted(types, &function.local_variables, *local, inner)
+            if local.index() < function.local_variables.len() {
+                spelled_pointer_to(types, function.local_variables[*local].ty)
+            } else {
+                Spelled::Nothing
+            }
         }
+        _ => Spelled::Nothing,
+    }
+}
+
+fn locals_fit(
+    types: &UniqueArena<Type_>,
+    infos: &[ExpressionInfo],
+    locals: &Arena<LocalVariable>,
+) -> bool
+    ensures { result ≡ list_all (local_fits types.now infos.now) locals.now }
+{
+    for (_, local) in locals.iter() {
+        if !local_fits(types, infos, local) {
+            return false;
+        }
+    }
+    true
+}
+
+fn local_fits(types: &UniqueArena<Type_>, infos: &[ExpressionInfo], local: &LocalVariable) -> bool
+    ensures { result ≡ local_fits types.now infos.now local.now }
+{
+    local.ty.index() < types.len() && value_fits(types, infos, local.ty, local.init)
+}
+
+/// Whether the expression, if there is one, has a type like that of the type's handle.
+fn value_fits(
+    types: &UniqueArena<Type_>,
+    infos: &[ExpressionInfo],
+    ty: Handle<Type_>,
+    value: Option<Handle<Expression>>,
+) -> bool
+    ensures { result ≡ value_fits types.now infos.now ty value }
+{
+    match value {
+        Some(value) => are_alike(
+            spelled_expression(types, infos, value),
+            spelled_at(types, ty),
+        ),
+        None => true,
+    }
+}
+
+fn block_fits(types: &UniqueArena<Type_>, infos: &[ExpressionInfo], function: &Function) -> bool
+    ensures { result ≡ block_fits types.now infos.now function.now.result function.now.body }
+{
+    for statement in function.body.as_slice() {
+        if !statement_fits(types, infos, function, statement) {
+            return false;
+        }
+    }
+    true
+}
+
+fn statement_fits(
+    types: &UniqueArena<Type_>,
+    infos: &[ExpressionInfo],
+    function: &Function,
+    statement: &Statement,
+) -> bool
+    ensures { result ≡ statement_fits types.now infos.now function.now.result (tree_of statement.now) }
+{
+    match statement {
+        Statement::Emit(range) => range.first <= range.end && range.end <= infos.len(),
+        Statement::Return { value } => return_fits(types, infos, function, *value),
         _ => false,
     }
 }
 
-fn argument_is_accepted(
+fn return_fits(
     types: &UniqueArena<Type_>,
+    infos: &[ExpressionInfo],
     function: &Function,
-    number: u32,
-    inner: &TypeInner,
-) -> bool {
-    match function.arguments.get(number as usize) {
-        Some(argument) => is_like(inner, argument.ty, types),
-        None => false,
-    }
-}
-
-fn local_is_accepted(
-    types: &UniqueArena<Type_>,
-    locals: &Arena<LocalVariable>,
-    local: Handle<LocalVariable>,
-    inner: &TypeInner,
-) -> bool {
-    local.index() < locals.len() && is_local_pointer(inner, locals[local].ty, types)
-}
-
-fn locals_are_accepted(
-    types: &UniqueArena<Type_>,
-    locals: &Arena<LocalVariable>,
-    info: &FunctionInfo,
-) -> bool {
-    for (_, local) in locals.iter() {
-        if local.ty.index() >= types.len() {
-            return false;
-        }
-        if let Some(init) = local.init {
-            if !has_type_like(types, info, init, local.ty) {
-                return false;
-            }
-        }
-    }
-    true
-}
-
-fn has_type_like(
-    types: &UniqueArena<Type_>,
-    info: &FunctionInfo,
-    handle: Handle<Expression>,
-    wanted: Handle<Type_>,
-) -> bool {
-    match type_of(types, info, handle) {
-        Some(inner) => is_like(inner, wanted, types),
-        None => false,
-    }
-}
-
-fn body_is_accepted(
-    types: &UniqueArena<Type_>,
-    answer: Option<&FunctionResult>,
-    body: &Block,
-    info: &FunctionInfo,
-) -> bool {
-    for statement in body.as_slice() {
-        let accepted = match statement {
-            Statement::Emit(range) => range_is_accepted(*range, info.expressions.len()),
-            Statement::Return { value } => return_is_accepted(types, answer, *value, info),
-            _ => false,
-        };
-        if !accepted {
-            return false;
-        }
-    }
-    true
-}
-
-fn range_is_accepted(range: Range, count: usize) -> bool {
-    range.first <= range.end && range.end <= count
-}
-
-fn return_is_accepted(
-    types: &UniqueArena<Type_>,
-    answer: Option<&FunctionResult>,
     value: Option<Handle<Expression>>,
-    info: &FunctionInfo,
-) -> bool {
-    match value {
-        Some(handle) => match answer {
-            Some(answer) => has_type_like(types, info, handle, answer.ty),
-            None => false,
-        },
-        None => answer.is_none(),
+) -> bool
+    ensures { result ≡ return_fits types.now infos.now function.now.result value }
+{
+    match (&function.result, value) {
+        (Some(answer), Some(_)) => value_fits(types, infos, answer.ty, value),
+        (None, None) => true,
+        _ => false,
     }
 }
