@@ -1,7 +1,7 @@
 //! How types are spelled, of those that are told apart so far. Types are alike where they are spelled
 //! alike.
 
-ghost use Rattle.std.specs.Prelude.{◌≡◌, slice_get, Some, None};
+ghost use Rattle.std.specs.Prelude.{◌≡◌};
 ghost use Rattle.std.specs.Option.{option_and_then, option_map};
 ghost use Rattle.naga_info.specs.Spelled.{spelled};
 ghost use Rattle.naga_info.specs.Types.{is_alike, literal_word, local_pointer, scalar_word, spelling, spelling_at, spelling_of, word_at, word_of_type};

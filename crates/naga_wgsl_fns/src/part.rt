@@ -1,39 +1,67 @@
 //! The part of the modules that is written so far.
 
-use crate::literal::scalar_word;
-use naga_ir::{Block, Expression, Function, Literal, Module, Statement, TypeInner};
+ghost use Rattle.std.specs.Prelude.{◌≡◌};
+ghost use Rattle.std.specs.List.{list_all};
+ghost use Rattle.std.specs.Option.{is_none, is_some};
+ghost use Rattle.naga_ir.specs.StatementViews.{tree_of};
+ghost use Rattle.naga_info.specs.Accepted.{declares_one_function, is_scalar_type};
+ghost use Rattle.naga_info.specs.Part.{block_is_written, expression_is_written, function_is_written, is_unbound, is_written_so_far, statement_is_written};
+ghost use Rattle.naga_info.specs.Types.{literal_word};
+
+use naga_info::scalar_word;
+use naga_ir::{
+    Arena, Block, Expression, Function, FunctionArgument, Literal, Module, Statement, Type_,
+    TypeInner, UniqueArena,
+};
 
 /// Whether the module holds nothing but what is written so far: the types `bool`, `i32`, `u32`,
 /// `i64` and `u64`, and at most one function, without locals or names of its expressions, whose
-/// expressions are arguments and literals of these types and whose statements are `Return`s.
-pub fn is_written_so_far(module: &Module) -> bool {
+/// arguments and result are bound to nothing, whose expressions are arguments and literals of these
+/// types and whose statements are `Return`s.
+#[tactic(auto, unfolding(naga_info::specs::Part::is_written_so_far))]
+pub fn is_written_so_far(module: &Module) -> bool
+    ensures { result ≡ is_written_so_far «module».now }
+{
+    declares_one_function(module)
+        && types_are_scalar(&module.types)
+        && functions_are_written(&module.functions)
+}
+
+fn declares_one_function(module: &Module) -> bool
+    ensures { result ≡ declares_one_function «module».now }
+{
     module.constants.is_empty()
         && module.overrides.is_empty()
         && module.global_variables.is_empty()
-        && module.entry_points.is_empty()
+        && module.global_expressions.is_empty()
         && module.functions.len() <= 1
-        && types_are_written(module)
-        && functions_are_written(module)
+        && module.entry_points.is_empty()
 }
 
-fn types_are_written(module: &Module) -> bool {
-    for (_, ty) in module.types.iter() {
-        if !type_is_written(&ty.inner) {
+fn types_are_scalar(types: &UniqueArena<Type_>) -> bool
+    ensures { result ≡ list_all is_scalar_type types.now }
+{
+    for (_, ty) in types.iter() {
+        if !is_scalar_type(ty) {
             return false;
         }
     }
     true
 }
 
-fn type_is_written(inner: &TypeInner) -> bool {
-    match inner {
+fn is_scalar_type(ty: &Type_) -> bool
+    ensures { result ≡ is_scalar_type ty.now }
+{
+    match &ty.inner {
         TypeInner::Scalar(scalar) => scalar_word(*scalar).is_some(),
         _ => false,
     }
 }
 
-fn functions_are_written(module: &Module) -> bool {
-    for (_, function) in module.functions.iter() {
+fn functions_are_written(functions: &Arena<Function>) -> bool
+    ensures { result ≡ list_all function_is_written functions.now }
+{
+    for (_, function) in functions.iter() {
         if !function_is_written(function) {
             return false;
         }
@@ -41,27 +69,36 @@ fn functions_are_written(module: &Module) -> bool {
     true
 }
 
-fn function_is_written(function: &Function) -> bool {
+fn function_is_written(function: &Function) -> bool
+    ensures { result ≡ function_is_written function.now }
+{
     function.local_variables.is_empty()
         && function.named_expressions.is_empty()
-        && signature_is_written(function)
-        && expressions_are_written(function)
-        && body_is_written(&function.body)
+        && is_unbound(function)
+        && expressions_are_written(&function.expressions)
+        && block_is_written(&function.body)
 }
 
-fn signature_is_written(function: &Function) -> bool {
-    function
-        .arguments
-        .iter()
-        .all(|argument| argument.binding.is_none())
+fn is_unbound(function: &Function) -> bool
+    ensures { result ≡ is_unbound function.now }
+{
+    arguments_are_unbound(&function.arguments)
         && match &function.result {
             Some(answer) => answer.binding.is_none(),
             None => true,
         }
 }
 
-fn expressions_are_written(function: &Function) -> bool {
-    for (_, expression) in function.expressions.iter() {
+fn arguments_are_unbound(arguments: &[FunctionArgument]) -> bool
+    ensures { result ≡ list_all (λ a. is_none a.binding) arguments.now }
+{
+    arguments.iter().all(|argument| argument.binding.is_none())
+}
+
+fn expressions_are_written(expressions: &Arena<Expression>) -> bool
+    ensures { result ≡ list_all expression_is_written expressions.now }
+{
+    for (_, expression) in expressions.iter() {
         if !expression_is_written(expression) {
             return false;
         }
@@ -69,7 +106,9 @@ fn expressions_are_written(function: &Function) -> bool {
     true
 }
 
-fn expression_is_written(expression: &Expression) -> bool {
+fn expression_is_written(expression: &Expression) -> bool
+    ensures { result ≡ expression_is_written expression.now }
+{
     match expression {
         Expression::FunctionArgument(_) => true,
         Expression::Literal(literal) => literal_is_written(*literal),
@@ -77,7 +116,9 @@ fn expression_is_written(expression: &Expression) -> bool {
     }
 }
 
-fn literal_is_written(literal: Literal) -> bool {
+fn literal_is_written(literal: Literal) -> bool
+    ensures { result ≡ is_some (literal_word literal) }
+{
     match literal {
         Literal::Bool(_) | Literal::I32(_) | Literal::U32(_) | Literal::I64(_) | Literal::U64(_) =>
             true,
@@ -85,12 +126,22 @@ fn literal_is_written(literal: Literal) -> bool {
     }
 }
 
-fn body_is_written(body: &Block) -> bool {
+fn block_is_written(body: &Block) -> bool
+    ensures { result ≡ block_is_written body.now }
+{
     for statement in body.as_slice() {
-        match statement {
-            Statement::Return { .. } => {}
-            _ => return false,
+        if !statement_is_written(statement) {
+            return false;
         }
     }
     true
+}
+
+fn statement_is_written(statement: &Statement) -> bool
+    ensures { result ≡ statement_is_written (tree_of statement.now) }
+{
+    match statement {
+        Statement::Return { .. } => true,
+        _ => false,
+    }
 }
