@@ -10,7 +10,6 @@ ghost use Rattle.naga_wgsl_fns.specs.Appends.{Appends};
 
 use crate::error::Error;
 use crate::sinks::put;
-pub use naga_info::scalar_word;
 use naga_ir::Literal;
 use naga_words::TextSink;
 use std::alloc::Global;
