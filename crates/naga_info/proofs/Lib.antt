@@ -1,3 +1,4 @@
+pub mod Accepting
 pub mod Counting
 pub mod Fitting
 pub mod Writing
