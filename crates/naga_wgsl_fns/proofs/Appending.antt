@@ -53,3 +53,30 @@ appends_stopped (Err e) {held} {text} {now} {failed} {failures} is s = subst (λ
 -- the same text said in another way
 pub appends_as : (r : Result Unit Error) (held : List ℕ) (failed : ℕ) (text same now : List ℕ) (failures : ℕ) → text ≡ same → Appends r held failed text now failures → Appends r held failed same now failures
 appends_as r held failed text same now failures e a = subst (λ t. Appends r held failed t now failures) e a
+
+-- so far along a text: some of it was written, and this is left
+pub record IsAlong (whole held : List ℕ) (failed : ℕ) (now : List ℕ) (failures : ℕ) (left : List ℕ) : Type 0 where
+  pub done : List ℕ
+  pub all : done ++ left ≡ whole
+  pub wrote : Wrote held failed done now failures
+
+pub along_start : (whole held : List ℕ) (failed : ℕ) → IsAlong whole held failed held failed whole
+along_start whole held failed = record { done = []; all = refl; wrote = wrote_nothing held failed }
+
+pub along_more : {whole held middle left text now : List ℕ} {failed among failures : ℕ} (more : List ℕ) → IsAlong whole held failed middle among left → left ≡ text ++ more
+    → Wrote middle among text now failures → IsAlong whole held failed now failures more
+along_more {text = text} more a is w = record { done = a.done ++ text; all = append_assoc a.done text more ∙ ap (λ t. a.done ++ t) (sym is) ∙ a.all; wrote = wrote_then a.wrote w }
+
+pub along_stopped : {whole held middle left text now : List ℕ} {failed among failures : ℕ} {error : Error} (more : List ℕ) → IsAlong whole held failed middle among left → left ≡ text ++ more
+    → Stopped middle among text now failures error → Stopped held failed whole now failures error
+along_stopped {held = held} {now = now} {failed = failed} {failures = failures} {error = error} more a is s =
+    subst (λ t. Stopped held failed t now failures error) (ap (λ t. a.done ++ t) (sym is) ∙ a.all) (stopped_then a.wrote (stopped_first more s))
+
+-- what is left is written by the last call
+pub along_end : (r : Result Unit Error) {whole held middle left : List ℕ} {failed among : ℕ} (now : List ℕ) (failures : ℕ) → IsAlong whole held failed middle among left
+    → Appends r middle among left now failures → Appends r held failed whole now failures
+along_end r {whole} {held} {failed = failed} now failures a last = appends_as r held failed _ whole now failures a.all (appends_then r _ now failures a.wrote last)
+
+-- nothing is left
+pub along_done : {whole held now left : List ℕ} {failed failures : ℕ} → IsAlong whole held failed now failures left → left ≡ [] → Wrote held failed whole now failures
+along_done {whole} {held} {now} {left} {failed} {failures} a none = subst (λ t. Wrote held failed t now failures) (sym (append-nil a.done) ∙ ap (λ t. a.done ++ t) (sym none) ∙ a.all) a.wrote

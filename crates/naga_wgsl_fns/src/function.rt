@@ -6,6 +6,7 @@ ghost use Rattle.naga_form.specs.Names.{HasNamesOf, module_names, name_in};
 ghost use Rattle.naga_info.specs.Accepted.{is_accepted, is_below};
 ghost use Rattle.naga_info.specs.Part.{is_written_so_far};
 ghost use Rattle.naga_names.specs.Reset.{names_in};
+ghost use Rattle.naga_words.specs.Indentation.{indentation};
 ghost use Rattle.naga_words.specs.Sink.{IsBehind};
 ghost use Rattle.wgsl_text.specs.Declarations.{function_pieces, parameter_pieces, parameters_pieces, result_pieces};
 ghost use Rattle.wgsl_text.specs.Lines.{statement_pieces, statements_pieces};
@@ -166,7 +167,7 @@ impl FunctionText<'_> {
         requires value { IsTrue (is_below (length self.now.function.now.expressions) value) }
         ensures { Appends result (W.text out.old) (W.failures out.old) (text (statement_pieces (return_form (module_names self.now.module.now) self.now.handle self.now.function.now.expressions value) level.0)) (W.text out.new) (W.failures out.new) }
     {
-        put(level.to_string(alloc)?.as_str(), out)?;
+        write_indentation(alloc, level, out)?;
         match value {
             None => put("return;\n", out),
             Some(handle) => {
@@ -195,6 +196,13 @@ impl FunctionText<'_> {
             _ => unreachable!(),
         }
     }
+}
+
+/// The blanks before a line.
+fn write_indentation<W: TextSink>(alloc: Global, level: Level, out: &mut W) -> Result<(), Error>
+    ensures { Appends result (W.text out.old) (W.failures out.old) (indentation level.0) (W.text out.new) (W.failures out.new) }
+{
+    put(level.to_string(alloc)?.as_str(), out)
 }
 
 /// What stands before the argument with this number.
