@@ -1,0 +1,4 @@
+pub mod Appending
+pub mod Rows
+pub mod Wanted
+pub mod Accepted

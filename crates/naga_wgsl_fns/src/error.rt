@@ -1,8 +1,8 @@
 //! Why a module is not written.
 
-ghost use Rattle.std.specs.Prelude.{◌≡◌};
+ghost use Rattle.std.specs.Prelude.{◌≡◌, codes};
 ghost use Rattle.naga_wgsl_fns.specs.declared.error.Error.TheVariants.{Memory};
-ghost use Rattle.naga_wgsl_fns.specs.Errors.{error_of_sink};
+ghost use Rattle.naga_wgsl_fns.specs.Errors.{error_of_sink, IsNotYetWritten, IsCustom};
 
 use naga_ir::RelationalFunction;
 use naga_words::SinkError;
@@ -59,7 +59,9 @@ impl From<AllocError> for Error {
 
 /// The refusal of a module that holds more than this writer writes so far; want of memory where
 /// there is none for its text.
-pub fn not_yet_written(alloc: Global) -> Error {
+pub fn not_yet_written(alloc: Global) -> Error
+    ensures { IsNotYetWritten result }
+{
     match String::from_str(alloc, "not yet written") {
         Ok(text) => Error::Unimplemented(text),
         Err(error) => Error::Memory(error),
@@ -67,7 +69,9 @@ pub fn not_yet_written(alloc: Global) -> Error {
 }
 
 /// The refusal that says `text`; want of memory where there is none for the text.
-pub fn custom(alloc: Global, text: &str) -> Error {
+pub fn custom(alloc: Global, text: &str) -> Error
+    ensures { IsCustom text.now result }
+{
     match String::from_str(alloc, text) {
         Ok(text) => Error::Custom(text),
         Err(error) => Error::Memory(error),

@@ -1,10 +1,28 @@
 //! Functions.
 
-use crate::error::{Error, custom, not_yet_written};
-use crate::literal::{scalar_word, write_literal};
+ghost use Rattle.std.specs.Prelude.{◌≡◌, ◌<◌, ◌++◌, IfErr, IsTrue, OnErr, OnOk, Some, length, slice_get};
+ghost use Rattle.naga_form.specs.Form.{expression_form, function_form, parameter_form, parameters_form, result_form, return_form, statements_form};
+ghost use Rattle.naga_form.specs.Names.{HasNamesOf, module_names, name_in};
+ghost use Rattle.naga_info.specs.Accepted.{is_accepted, is_below};
+ghost use Rattle.naga_info.specs.Part.{is_written_so_far};
+ghost use Rattle.naga_names.specs.Reset.{names_in};
+ghost use Rattle.naga_words.specs.Indentation.{indentation};
+ghost use Rattle.naga_words.specs.Sink.{IsBehind};
+ghost use Rattle.wgsl_text.specs.Declarations.{function_pieces, parameter_pieces, parameters_pieces, result_pieces};
+ghost use Rattle.wgsl_text.specs.Lines.{statement_pieces, statements_pieces};
+ghost use Rattle.wgsl_text.specs.Pieces.{expression_pieces};
+ghost use Rattle.wgsl_text.specs.Text.{text};
+ghost use Rattle.naga_wgsl_fns.specs.Appends.{Appends};
+ghost use Rattle.naga_wgsl_fns.specs.Errors.{IsWant};
+ghost use Rattle.naga_wgsl_fns.specs.Texts.{CanWrite, has_word, returns_below, separator, text_of_function, type_word};
+
+use crate::error::Error;
+use crate::literal::write_literal;
+use crate::sinks::put;
+use naga_info::{ModuleInfo, scalar_word};
 use naga_ir::{
-    Block, Expression, Function, FunctionArgument, FunctionResult, Handle, Module, Statement,
-    Type_, TypeInner,
+    Block, Expression, Function, FunctionArgument, Handle, Module, Statement, Type_, TypeInner,
+    UniqueArena,
 };
 use naga_names::namer::NameKey;
 use naga_words::{Level, TextSink};
@@ -13,27 +31,34 @@ use std::collections::HashMap;
 
 /// Writes the declaration of a function, with the line end behind its last line: the function and
 /// its arguments under their names in `names`, which has them all.
+///
+/// The module is accepted with what is known of it, and is one of those that are written so far.
+/// Where the call gives up, for want of memory or because the sink failed, a beginning of the text
+/// stands behind what the sink held.
 pub fn write_function<W: TextSink>(
     alloc: Global,
     module: &Module,
+    info: &ModuleInfo,
     names: &HashMap<NameKey, String>,
     handle: Handle<Function>,
     out: &mut W,
-) -> Result<(), Error> {
-    if handle.index() >= module.functions.len() {
-        return Err(not_yet_written(alloc));
-    }
-    let function = &module.functions[handle];
+) -> Result<(), Error>
+    requires accepted { IsTrue (is_accepted «module».now info.now) }
+    requires written { IsTrue (is_written_so_far «module».now) }
+    requires handle { handle < length «module».now.functions }
+    requires names { HasNamesOf «module».now (names_in names.now) }
+    ensures text_ok { OnOk result (W.text out.new ≡ W.text out.old ++ text_of_function «module».now handle) }
+    ensures text_err { OnErr result (IsBehind (W.text out.old) (text_of_function «module».now handle) (W.text out.new)) }
+    ensures failures_ok { OnOk result (W.failures out.new ≡ W.failures out.old) }
+    ensures reason { IfErr result (IsWant (W.failures out.old) (W.failures out.new)) }
+{
     let text = FunctionText {
         module,
         names,
         handle,
-        function,
+        function: &module.functions[handle],
     };
-    text.write_signature(alloc, out)?;
-    out.write_str(" {\n")?;
-    text.write_block(alloc, Level(1), &function.body, out)?;
-    Ok(out.write_str("}\n")?)
+    text.write_declaration(alloc, out)
 }
 
 /// What the text of a function is made from.
@@ -46,83 +71,68 @@ struct FunctionText<'a> {
 }
 
 impl FunctionText<'_> {
-    fn write_signature<W: TextSink>(&self, alloc: Global, out: &mut W) -> Result<(), Error> {
-        out.write_str("fn ")?;
-        self.write_name(alloc, &NameKey::Function(self.handle), out)?;
-        out.write_str("(")?;
+    fn write_declaration<W: TextSink>(&self, alloc: Global, out: &mut W) -> Result<(), Error>
+        requires { CanWrite self.now.module.now (names_in self.now.names.now) self.now.handle self.now.function.now }
+        ensures { Appends result (W.text out.old) (W.failures out.old) (text (function_pieces (function_form (module_names self.now.module.now) self.now.module.now.types self.now.handle self.now.function.now))) (W.text out.new) (W.failures out.new) }
+    {
+        put("fn ", out)?;
+        self.write_name(&NameKey::Function(self.handle), out)?;
+        put("(", out)?;
+        self.write_arguments(out)?;
+        self.write_result(out)?;
+        put(" {\n", out)?;
+        self.write_block(alloc, Level(1), &self.function.body, out)?;
+        put("}\n", out)
+    }
+
+    /// The arguments, and the parenthesis behind the last.
+    fn write_arguments<W: TextSink>(&self, out: &mut W) -> Result<(), Error>
+        requires { CanWrite self.now.module.now (names_in self.now.names.now) self.now.handle self.now.function.now }
+        ensures { Appends result (W.text out.old) (W.failures out.old) (text (parameters_pieces (parameters_form (module_names self.now.module.now) self.now.module.now.types self.now.handle 0 self.now.function.now.arguments.items))) (W.text out.new) (W.failures out.new) }
+    {
         for (number, argument) in self.function.arguments.iter().enumerate() {
-            if number > 0 {
-                out.write_str(", ")?;
-            }
-            self.write_argument(alloc, number, argument, out)?;
+            write_separator(number, out)?;
+            self.write_argument(number, argument, out)?;
         }
-        out.write_str(")")?;
-        self.write_result(alloc, self.function.result.as_ref(), out)
+        put(")", out)
     }
 
     fn write_argument<W: TextSink>(
         &self,
-        alloc: Global,
         number: usize,
         argument: &FunctionArgument,
         out: &mut W,
-    ) -> Result<(), Error> {
-        self.write_argument_name(alloc, number, out)?;
-        out.write_str(": ")?;
-        self.write_type(alloc, argument.ty, out)
+    ) -> Result<(), Error>
+        requires can { CanWrite self.now.module.now (names_in self.now.names.now) self.now.handle self.now.function.now }
+        requires argument { slice_get self.now.function.now.arguments.items number ≡ Some argument.now }
+        ensures { Appends result (W.text out.old) (W.failures out.old) (text (parameter_pieces (parameter_form (module_names self.now.module.now) self.now.module.now.types self.now.handle number argument.now))) (W.text out.new) (W.failures out.new) }
+    {
+        let key = NameKey::FunctionArgument(self.handle, number as u32);
+        self.write_name(&key, out)?;
+        put(": ", out)?;
+        write_type(&self.module.types, argument.ty, out)
     }
 
-    fn write_result<W: TextSink>(
-        &self,
-        alloc: Global,
-        answer: Option<&FunctionResult>,
-        out: &mut W,
-    ) -> Result<(), Error> {
-        if let Some(answer) = answer {
-            out.write_str(" -> ")?;
-            self.write_type(alloc, answer.ty, out)?;
-        }
-        Ok(())
-    }
-
-    fn write_argument_name<W: TextSink>(
-        &self,
-        alloc: Global,
-        number: usize,
-        out: &mut W,
-    ) -> Result<(), Error> {
-        match u32::try_from(number) {
-            Ok(number) => {
-                self.write_name(alloc, &NameKey::FunctionArgument(self.handle, number), out)
+    fn write_result<W: TextSink>(&self, out: &mut W) -> Result<(), Error>
+        requires { CanWrite self.now.module.now (names_in self.now.names.now) self.now.handle self.now.function.now }
+        ensures { Appends result (W.text out.old) (W.failures out.old) (text (result_pieces (result_form self.now.module.now.types self.now.function.now.result))) (W.text out.new) (W.failures out.new) }
+    {
+        match &self.function.result {
+            Some(answer) => {
+                put(" -> ", out)?;
+                write_type(&self.module.types, answer.ty, out)
             }
-            Err(_) => Err(custom(alloc, "name key out of range")),
+            None => Ok(()),
         }
     }
 
-    fn write_name<W: TextSink>(
-        &self,
-        alloc: Global,
-        key: &NameKey,
-        out: &mut W,
-    ) -> Result<(), Error> {
+    fn write_name<W: TextSink>(&self, key: &NameKey, out: &mut W) -> Result<(), Error>
+        requires { names_in self.now.names.now key.now ≡ Some (name_in (module_names self.now.module.now) key.now) }
+        ensures { Appends result (W.text out.old) (W.failures out.old) (name_in (module_names self.now.module.now) key.now) (W.text out.new) (W.failures out.new) }
+    {
         match self.names.get(key) {
-            Some(name) => Ok(out.write_str(name)?),
-            None => Err(not_yet_written(alloc)),
-        }
-    }
-
-    fn write_type<W: TextSink>(
-        &self,
-        alloc: Global,
-        handle: Handle<Type_>,
-        out: &mut W,
-    ) -> Result<(), Error> {
-        if handle.index() >= self.module.types.len() {
-            return Err(not_yet_written(alloc));
-        }
-        match scalar_word_of(&self.module.types[handle].inner) {
-            Some(word) => Ok(out.write_str(word)?),
-            None => Err(not_yet_written(alloc)),
+            Some(name) => put(name, out),
+            None => unreachable!(),
         }
     }
 
@@ -132,11 +142,15 @@ impl FunctionText<'_> {
         level: Level,
         block: &Block,
         out: &mut W,
-    ) -> Result<(), Error> {
+    ) -> Result<(), Error>
+        requires can { CanWrite self.now.module.now (names_in self.now.names.now) self.now.handle self.now.function.now }
+        requires block { IsTrue (returns_below (length self.now.function.now.expressions) block.now) }
+        ensures { Appends result (W.text out.old) (W.failures out.old) (text (statements_pieces (statements_form (module_names self.now.module.now) self.now.handle self.now.function.now.expressions block.now) level.0)) (W.text out.new) (W.failures out.new) }
+    {
         for statement in block.as_slice() {
             match statement {
                 Statement::Return { value } => self.write_return(alloc, level, *value, out)?,
-                _ => return Err(not_yet_written(alloc)),
+                _ => unreachable!(),
             }
         }
         Ok(())
@@ -148,14 +162,18 @@ impl FunctionText<'_> {
         level: Level,
         value: Option<Handle<Expression>>,
         out: &mut W,
-    ) -> Result<(), Error> {
-        out.write_str(level.to_string(alloc)?.as_str())?;
+    ) -> Result<(), Error>
+        requires can { CanWrite self.now.module.now (names_in self.now.names.now) self.now.handle self.now.function.now }
+        requires value { IsTrue (is_below (length self.now.function.now.expressions) value) }
+        ensures { Appends result (W.text out.old) (W.failures out.old) (text (statement_pieces (return_form (module_names self.now.module.now) self.now.handle self.now.function.now.expressions value) level.0)) (W.text out.new) (W.failures out.new) }
+    {
+        write_indentation(alloc, level, out)?;
         match value {
-            None => Ok(out.write_str("return;\n")?),
+            None => put("return;\n", out),
             Some(handle) => {
-                out.write_str("return ")?;
+                put("return ", out)?;
                 self.write_expression(alloc, handle, out)?;
-                Ok(out.write_str(";\n")?)
+                put(";\n", out)
             }
         }
     }
@@ -165,25 +183,56 @@ impl FunctionText<'_> {
         alloc: Global,
         handle: Handle<Expression>,
         out: &mut W,
-    ) -> Result<(), Error> {
-        if handle.index() >= self.function.expressions.len() {
-            return Err(not_yet_written(alloc));
-        }
+    ) -> Result<(), Error>
+        requires can { CanWrite self.now.module.now (names_in self.now.names.now) self.now.handle self.now.function.now }
+        requires handle { handle < length self.now.function.now.expressions }
+        ensures { Appends result (W.text out.old) (W.failures out.old) (text (expression_pieces (expression_form (module_names self.now.module.now) self.now.handle self.now.function.now.expressions handle))) (W.text out.new) (W.failures out.new) }
+    {
         match &self.function.expressions[handle] {
             Expression::Literal(literal) => write_literal(alloc, *literal, out),
-            Expression::FunctionArgument(number) => self.write_name(
-                alloc,
-                &NameKey::FunctionArgument(self.handle, *number),
-                out,
-            ),
-            _ => Err(not_yet_written(alloc)),
+            Expression::FunctionArgument(number) => {
+                self.write_name(&NameKey::FunctionArgument(self.handle, *number), out)
+            }
+            _ => unreachable!(),
         }
     }
 }
 
-fn scalar_word_of(inner: &TypeInner) -> Option<&'static str> {
-    match inner {
-        TypeInner::Scalar(scalar) => scalar_word(*scalar),
-        _ => None,
+/// The blanks before a line.
+fn write_indentation<W: TextSink>(alloc: Global, level: Level, out: &mut W) -> Result<(), Error>
+    ensures { Appends result (W.text out.old) (W.failures out.old) (indentation level.0) (W.text out.new) (W.failures out.new) }
+{
+    put(level.to_string(alloc)?.as_str(), out)
+}
+
+/// What stands before the argument with this number.
+fn write_separator<W: TextSink>(number: usize, out: &mut W) -> Result<(), Error>
+    ensures { Appends result (W.text out.old) (W.failures out.old) (separator number) (W.text out.new) (W.failures out.new) }
+{
+    put(if number == 0 { "" } else { ", " }, out)
+}
+
+fn write_type<W: TextSink>(
+    types: &UniqueArena<Type_>,
+    ty: Handle<Type_>,
+    out: &mut W,
+) -> Result<(), Error>
+    requires { IsTrue (has_word types.now ty) }
+    ensures { Appends result (W.text out.old) (W.failures out.old) (type_word types.now ty) (W.text out.new) (W.failures out.new) }
+{
+    put(type_word(types, ty), out)
+}
+
+/// The word of a type that has one.
+fn type_word(types: &UniqueArena<Type_>, ty: Handle<Type_>) -> &'static str
+    requires { IsTrue (has_word types.now ty) }
+    ensures { result.now ≡ type_word types.now ty }
+{
+    match &types[ty].inner {
+        TypeInner::Scalar(scalar) => match scalar_word(*scalar) {
+            Some(word) => word,
+            None => unreachable!(),
+        },
+        _ => unreachable!(),
     }
 }

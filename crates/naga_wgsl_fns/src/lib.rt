@@ -8,6 +8,7 @@ pub mod flags;
 pub mod function;
 pub mod literal;
 pub mod part;
+mod sinks;
 
 pub use error::Error;
 pub use flags::WriterFlags;

@@ -1,58 +1,63 @@
-//! Literals and the scalar types that they have.
+//! Literals.
 
-use crate::error::{Error, not_yet_written};
-use naga_ir::{Literal, Scalar, ScalarKind};
+ghost use Rattle.std.specs.Prelude.{IsTrue, ◌++◌};
+ghost use Rattle.std.specs.Option.{is_some};
+ghost use Rattle.naga_info.specs.Types.{literal_word};
+ghost use Rattle.naga_form.specs.Literals.{integer_form, long_form, literal_form};
+ghost use Rattle.wgsl_text.specs.Pieces.{literal_pieces};
+ghost use Rattle.wgsl_text.specs.Text.{text};
+ghost use Rattle.naga_wgsl_fns.specs.Appends.{Appends};
+
+use crate::error::Error;
+use crate::sinks::put;
+use naga_ir::Literal;
 use naga_words::TextSink;
 use std::alloc::Global;
 
 /// Writes a literal as one expression: `5i`, `-5i`, `5u`, `5li`, `5lu`, `true`. The least `i32` and
 /// the least `i64` have no literal in WGSL, whose `-` stands outside, and are written
 /// `i32(-2147483648)` and `i64(-9223372036854775807 - 1)`.
-pub fn write_literal<W: TextSink>(
+pub(crate) fn write_literal<W: TextSink>(
     alloc: Global,
     literal: Literal,
     out: &mut W,
-) -> Result<(), Error> {
+) -> Result<(), Error>
+    requires { IsTrue (is_some (literal_word literal)) }
+    ensures { Appends result (W.text out.old) (W.failures out.old) (text (literal_pieces (literal_form literal))) (W.text out.new) (W.failures out.new) }
+{
     match literal {
-        Literal::Bool(value) => Ok(out.write_str(if value { "true" } else { "false" })?),
+        Literal::Bool(value) => put(if value { "true" } else { "false" }, out),
         Literal::I32(value) => write_i32(alloc, value, out),
-        Literal::U32(value) => {
-            out.write_str(value.to_string(alloc)?.as_str())?;
-            Ok(out.write_str("u")?)
-        }
+        Literal::U32(value) => write_number(value.to_string(alloc)?.as_str(), "u", out),
         Literal::I64(value) => write_i64(alloc, value, out),
-        Literal::U64(value) => {
-            out.write_str(value.to_string(alloc)?.as_str())?;
-            Ok(out.write_str("lu")?)
-        }
-        _ => Err(not_yet_written(alloc)),
+        Literal::U64(value) => write_number(value.to_string(alloc)?.as_str(), "lu", out),
+        _ => unreachable!(),
     }
 }
 
-fn write_i32<W: TextSink>(alloc: Global, value: i32, out: &mut W) -> Result<(), Error> {
+fn write_i32<W: TextSink>(alloc: Global, value: i32, out: &mut W) -> Result<(), Error>
+    ensures { Appends result (W.text out.old) (W.failures out.old) (text (literal_pieces (integer_form value))) (W.text out.new) (W.failures out.new) }
+{
     if value == i32::MIN {
-        return Ok(out.write_str("i32(-2147483648)")?);
+        return put("i32(-2147483648)", out);
     }
-    out.write_str(value.to_string(alloc)?.as_str())?;
-    Ok(out.write_str("i")?)
+    write_number(value.to_string(alloc)?.as_str(), "i", out)
 }
 
-fn write_i64<W: TextSink>(alloc: Global, value: i64, out: &mut W) -> Result<(), Error> {
+fn write_i64<W: TextSink>(alloc: Global, value: i64, out: &mut W) -> Result<(), Error>
+    ensures { Appends result (W.text out.old) (W.failures out.old) (text (literal_pieces (long_form value))) (W.text out.new) (W.failures out.new) }
+{
     if value == i64::MIN {
-        return Ok(out.write_str("i64(-9223372036854775807 - 1)")?);
+        return put("i64(-9223372036854775807 - 1)", out);
     }
-    out.write_str(value.to_string(alloc)?.as_str())?;
-    Ok(out.write_str("li")?)
+    write_number(value.to_string(alloc)?.as_str(), "li", out)
 }
 
-/// WGSL's word for a scalar type, of those that are written so far.
-pub fn scalar_word(scalar: Scalar) -> Option<&'static str> {
-    match (scalar.kind, scalar.width) {
-        (ScalarKind::Bool, 1) => Some("bool"),
-        (ScalarKind::Sint, 4) => Some("i32"),
-        (ScalarKind::Uint, 4) => Some("u32"),
-        (ScalarKind::Sint, 8) => Some("i64"),
-        (ScalarKind::Uint, 8) => Some("u64"),
-        _ => None,
-    }
+/// Writes the digits of a number, perhaps behind a sign, and its suffix.
+#[tactic(auto, using(crate::proofs::Appending::appends_then))]
+fn write_number<W: TextSink>(digits: &str, suffix: &str, out: &mut W) -> Result<(), Error>
+    ensures { Appends result (W.text out.old) (W.failures out.old) (digits.now ++ suffix.now) (W.text out.new) (W.failures out.new) }
+{
+    put(digits, out)?;
+    put(suffix, out)
 }
