@@ -1,6 +1,19 @@
--- What contracts see of a writer.
+-- What contracts see of a writer, and the text that it writes.
+use Rattle.std.specs.Prelude.{ℕ, Bool, List, bit_and, ◌==◌}
+use Rattle.naga_ir.specs.declared.module.Module.{Module}
+use Rattle.naga_info.specs.declared.info.ModuleInfo.{ModuleInfo}
+use Rattle.naga_form.specs.Faithful.{written_program}
+use Rattle.wgsl_text.specs.Reading.{layout}
 use Rattle.naga_wgsl_fns.specs.declared.flags.WriterFlags.{WriterFlags}
 
 pub record Writing (W : Type 0) : Type 0 where
   pub sink : W
   pub flags : WriterFlags
+
+-- each `let` tells its type
+abbrev pub tells_types : WriterFlags → Bool
+tells_types flags = bit_and flags.0 1 == 1
+
+-- the text of a module: it follows from the module, from what is known of it, and from the flags
+abbrev pub written_text : Module → ModuleInfo → WriterFlags → List ℕ
+written_text m info flags = layout (written_program m info (tells_types flags))

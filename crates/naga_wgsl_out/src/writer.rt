@@ -1,10 +1,18 @@
 //! The writer of modules.
 
-ghost use Rattle.std.specs.Prelude.{◌≡◌};
-ghost use Rattle.naga_wgsl_out.specs.Writing.{Writing};
+ghost use Rattle.std.specs.Prelude.{◌≡◌, ◌++◌, [], IfErr, IfOk, IsTrue, OnErr, OnOk, string_bytes};
+ghost use Rattle.naga_info.specs.Accepted.{is_accepted};
+ghost use Rattle.naga_info.specs.Part.{is_written_so_far};
+ghost use Rattle.naga_names.specs.Reset.{names_in};
+ghost use Rattle.naga_words.specs.Sink.{IsBehind};
+ghost use Rattle.naga_form.specs.Names.{HasNamesOf};
+ghost use Rattle.naga_wgsl_fns.specs.Appends.{Appends};
+ghost use Rattle.naga_wgsl_out.specs.Headline.{FaithfulWriting, answer_of, text_of};
+ghost use Rattle.naga_wgsl_out.specs.Refusals.{HasAllNames, IsNamesRefusal};
+ghost use Rattle.naga_wgsl_out.specs.Writing.{Writing, written_text};
 
 use naga_info::ModuleInfo;
-use naga_ir::{Arena, Function, Module};
+use naga_ir::Module;
 use naga_names::keyword_set::{CaseInsensitiveKeywordSet, KeywordSet};
 use naga_names::keywords::{BUILTIN_IDENTIFIERS, RESERVED};
 use naga_names::namer::{NameKey, Namer, NamerError};
@@ -50,28 +58,43 @@ impl<W: TextSink> Writer<W> {
         out
     }
 
-    /// Writes the module behind what the sink holds.
+    /// Writes the module behind what the sink holds: a text that is read as one program, which has the
+    /// module's interface and does what the module does. The module is accepted with what is known of it.
     ///
-    /// Where it is refused, the sink holds what it held, and behind that whatever its contract says of
-    /// the pieces written; the next call starts afresh. So far a module is refused as
-    /// `Unimplemented`, `not yet written`, unless it declares nothing but scalar types and at most one
-    /// function whose statements are returns of literals and arguments.
-    pub fn write(&mut self, module: &Module, _info: &ModuleInfo) -> Result<(), Error> {
+    /// The text depends on the module, on what is known of it and on the flags alone, whatever was written
+    /// or refused before. Where the module is refused, a beginning of its text stands behind what the sink held, and the
+    /// next call starts afresh. So far a module is refused as `Unimplemented`, `not yet written`, unless
+    /// it declares nothing but scalar types and at most one function whose statements are returns of
+    /// literals and arguments.
+    pub fn write(&mut self, module: &Module, info: &ModuleInfo) -> Result<(), Error>
+        requires accepted { IsTrue (is_accepted «module».now info.now) }
+        ensures faithful { FaithfulWriting «module».now info.now result (W.text self.old.sink) (W.text self.new.sink) (W.failures self.old.sink) (W.failures self.new.sink) }
+        ensures text_ok { OnOk result (W.text self.new.sink ≡ W.text self.old.sink ++ written_text «module».now info.now self.old.flags) }
+        ensures text_err { OnErr result (IsBehind (W.text self.old.sink) (written_text «module».now info.now self.old.flags) (W.text self.new.sink)) }
+        ensures failures_ok { OnOk result (W.failures self.new.sink ≡ W.failures self.old.sink) }
+        ensures flags { self.new.flags ≡ self.old.flags }
+    {
         if !is_written_so_far(module) {
             return Err(not_yet_written(self.alloc));
         }
         let names = names_of(self.alloc, module)?;
-        self.write_functions(&module.functions, module, &names)
+        self.write_functions(module, info, &names)
     }
 
     fn write_functions(
         &mut self,
-        functions: &Arena<Function>,
         module: &Module,
+        info: &ModuleInfo,
         names: &HashMap<NameKey, String>,
-    ) -> Result<(), Error> {
-        for (handle, _) in functions.iter() {
-            write_function(self.alloc, module, names, handle, &mut self.out)?;
+    ) -> Result<(), Error>
+        requires accepted { IsTrue (is_accepted «module».now info.now) }
+        requires written { IsTrue (is_written_so_far «module».now) }
+        requires names { HasNamesOf «module».now (names_in names.now) }
+        ensures { Appends result (W.text self.old.sink) (W.failures self.old.sink) (written_text «module».now info.now self.old.flags) (W.text self.new.sink) (W.failures self.new.sink) }
+        ensures flags { self.new.flags ≡ self.old.flags }
+    {
+        for (handle, _) in module.functions.iter() {
+            write_function(self.alloc, module, info, names, handle, &mut self.out)?;
             self.out.write_str("\n")?;
         }
         Ok(())
@@ -79,7 +102,10 @@ impl<W: TextSink> Writer<W> {
 }
 
 /// The names of a module in WGSL.
-fn names_of(alloc: Global, module: &Module) -> Result<HashMap<NameKey, String>, Error> {
+fn names_of(alloc: Global, module: &Module) -> Result<HashMap<NameKey, String>, Error>
+    ensures ok { IfOk result (λ names. HasAllNames «module».now (names_in names)) }
+    ensures err { IfErr result (IsNamesRefusal «module».now) }
+{
     let mut names = HashMap::new(alloc);
     let mut namer = Namer::default(alloc);
     let reset = namer.reset(
@@ -98,14 +124,19 @@ fn names_of(alloc: Global, module: &Module) -> Result<HashMap<NameKey, String>, 
     }
 }
 
-/// The WGSL text of a module. Want of memory is told as [`Error::Memory`]; otherwise the refusals are
-/// those of [`Writer::write`].
+/// The WGSL text of a module, which is accepted with what is known of it. Want of memory is told as
+/// [`Error::Memory`]; otherwise the refusals are those of [`Writer::write`], and never
+/// [`Error::FmtError`].
 pub fn write_string(
     alloc: Global,
     module: &Module,
     info: &ModuleInfo,
     flags: WriterFlags,
-) -> Result<String, Error> {
+) -> Result<String, Error>
+    requires accepted { IsTrue (is_accepted «module».now info.now) }
+    ensures faithful { FaithfulWriting «module».now info.now (answer_of result) [] (text_of result) 0 0 }
+    ensures text { IfOk result (λ text. string_bytes text ≡ written_text «module».now info.now flags) }
+{
     let mut writer = Writer::new(alloc, String::new(alloc), flags);
     writer.write(module, info)?;
     Ok(writer.finish())

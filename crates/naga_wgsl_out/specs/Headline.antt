@@ -1,0 +1,43 @@
+-- Faithful writing: what is promised of each call that writes an accepted module.
+use Rattle.std.specs.Prelude.{◌≡◌, ℕ, List, [], ◌++◌, string_bytes, Result, Ok, Err, OnOk}
+use Rattle.std.specs.declared.string.String.{String}
+use Rattle.naga_ir.specs.declared.module.Module.{Module}
+use Rattle.naga_info.specs.declared.info.ModuleInfo.{ModuleInfo}
+use Rattle.wgsl_text.specs.Reading.{Reads, HasOneReading}
+use Rattle.wgsl_text.specs.Text.{tokens}
+use Rattle.wgsl_text.specs.Tree.{Program}
+use Rattle.naga_form.specs.Faithful.{HasInterfaceOf, RunsAs}
+use Rattle.naga_wgsl_fns.specs.declared.error.Error.{Error}
+use Rattle.naga_wgsl_out.specs.Refusals.{RefusesOnlyFor}
+
+-- a text stands behind what the sink held, and it is read as one program and as no other
+pub record AppendsOneReading (held now : List ℕ) : Type 0 where
+  pub text : List ℕ
+  pub appended : now ≡ held ++ text
+  pub program : Program
+  pub reading : HasOneReading Reads text program
+
+-- each program that the appended text is read as is such a one
+abbrev pub EachReading : (held now : List ℕ) → (Program → Type 0) → Type 0
+EachReading held now Q = (text : List ℕ) → now ≡ held ++ text → (program : Program) → Reads (tokens text) program → Q program
+
+-- A call was asked to write the module, of which this is known, behind the text that its sink held; it answered, and the sink holds another text now.
+-- The sink had failed so often before, and has failed so often now.
+pub record FaithfulWriting (m : Module) (info : ModuleInfo) (answer : Result Unit Error) (held now : List ℕ) (before after : ℕ) : Type 0 where
+  -- It refuses only for a listed construct that stands in the module, a full counter or key, memory or the sink; and where it does not, none stands there.
+  pub refusals : RefusesOnlyFor answer m before after
+  -- Otherwise it appends a text with exactly one reading,
+  pub reading : OnOk answer (AppendsOneReading held now)
+  -- a program with the module's interface,
+  pub interface : OnOk answer (EachReading held now (HasInterfaceOf m))
+  -- that in every world, under every typed meaning of operators and every bound on loop turns makes the module's events, operands and result.
+  pub runs : OnOk answer (EachReading held now (RunsAs m info))
+
+-- the answer of a call that makes a string of its own, and the string
+abbrev pub answer_of : {Y : Type 0} → Result (String Y) Error → Result Unit Error
+answer_of (Ok text) = Ok tt
+answer_of (Err error) = Err error
+
+abbrev pub text_of : {Y : Type 0} → Result (String Y) Error → List ℕ
+text_of (Ok text) = string_bytes text
+text_of (Err error) = []
