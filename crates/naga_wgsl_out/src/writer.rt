@@ -1,18 +1,20 @@
 //! The writer of modules.
 
-ghost use Rattle.std.specs.Prelude.{◌≡◌, ◌++◌, [], IfErr, IfOk, IsTrue, OnErr, OnOk, string_bytes};
+ghost use Rattle.std.specs.Prelude.{◌≡◌, ◌<◌, ◌++◌, [], IfErr, IfOk, IsTrue, OnErr, OnOk, codes, length, string_bytes};
+ghost use Rattle.std.specs.List.{enumerate_from};
 ghost use Rattle.naga_info.specs.Accepted.{is_accepted};
 ghost use Rattle.naga_info.specs.Part.{is_written_so_far};
 ghost use Rattle.naga_names.specs.Reset.{names_in};
 ghost use Rattle.naga_words.specs.Sink.{IsBehind};
 ghost use Rattle.naga_form.specs.Names.{HasNamesOf};
 ghost use Rattle.naga_wgsl_fns.specs.Appends.{Appends};
+ghost use Rattle.naga_wgsl_fns.specs.Texts.{text_of_function};
 ghost use Rattle.naga_wgsl_out.specs.Headline.{FaithfulWriting, answer_of, text_of};
 ghost use Rattle.naga_wgsl_out.specs.Refusals.{HasAllNames, IsNamesRefusal};
-ghost use Rattle.naga_wgsl_out.specs.Writing.{Writing, written_text};
+ghost use Rattle.naga_wgsl_out.specs.Writing.{Writing, lines_of, written_text};
 
 use naga_info::ModuleInfo;
-use naga_ir::Module;
+use naga_ir::{Function, Handle, Module};
 use naga_names::keyword_set::{CaseInsensitiveKeywordSet, KeywordSet};
 use naga_names::keywords::{BUILTIN_IDENTIFIERS, RESERVED};
 use naga_names::namer::{NameKey, Namer, NamerError};
@@ -78,27 +80,46 @@ impl<W: TextSink> Writer<W> {
             return Err(not_yet_written(self.alloc));
         }
         let names = names_of(self.alloc, module)?;
-        self.write_functions(module, info, &names)
+        write_functions(self.alloc, module, info, &names, &mut self.out)
     }
+}
 
-    fn write_functions(
-        &mut self,
-        module: &Module,
-        info: &ModuleInfo,
-        names: &HashMap<NameKey, String>,
-    ) -> Result<(), Error>
-        requires accepted { IsTrue (is_accepted «module».now info.now) }
-        requires written { IsTrue (is_written_so_far «module».now) }
-        requires names { HasNamesOf «module».now (names_in names.now) }
-        ensures { Appends result (W.text self.old.sink) (W.failures self.old.sink) (written_text «module».now info.now self.old.flags) (W.text self.new.sink) (W.failures self.new.sink) }
-        ensures flags { self.new.flags ≡ self.old.flags }
-    {
-        for (handle, _) in module.functions.iter() {
-            write_function(self.alloc, module, info, names, handle, &mut self.out)?;
-            self.out.write_str("\n")?;
-        }
-        Ok(())
+/// Writes the functions of the module, an empty line behind each.
+fn write_functions<W: TextSink>(
+    alloc: Global,
+    module: &Module,
+    info: &ModuleInfo,
+    names: &HashMap<NameKey, String>,
+    out: &mut W,
+) -> Result<(), Error>
+    requires accepted { IsTrue (is_accepted «module».now info.now) }
+    requires written { IsTrue (is_written_so_far «module».now) }
+    requires names { HasNamesOf «module».now (names_in names.now) }
+    ensures { Appends result (W.text out.old) (W.failures out.old) (lines_of «module».now (enumerate_from 0 «module».now.functions)) (W.text out.new) (W.failures out.new) }
+{
+    for (handle, _) in module.functions.iter() {
+        write_function_line(alloc, module, info, names, handle, out)?;
     }
+    Ok(())
+}
+
+fn write_function_line<W: TextSink>(
+    alloc: Global,
+    module: &Module,
+    info: &ModuleInfo,
+    names: &HashMap<NameKey, String>,
+    handle: Handle<Function>,
+    out: &mut W,
+) -> Result<(), Error>
+    requires accepted { IsTrue (is_accepted «module».now info.now) }
+    requires written { IsTrue (is_written_so_far «module».now) }
+    requires handle { handle < length «module».now.functions }
+    requires names { HasNamesOf «module».now (names_in names.now) }
+    ensures { Appends result (W.text out.old) (W.failures out.old) (text_of_function «module».now handle ++ codes "\n") (W.text out.new) (W.failures out.new) }
+{
+    write_function(alloc, module, info, names, handle, out)?;
+    out.write_str("\n")?;
+    Ok(())
 }
 
 /// The names of a module in WGSL.
