@@ -1,5 +1,5 @@
 -- Each function of a module that is accepted and written so far can be written.
-use Rattle.std.proofs.Common.{◌≡◌, ℕ, ◌<◌, zero, suc, Bool, true, ◌&&◌, List, [], ◌∷◌, length, Option, None, Some, refl, ap, ◌∙◌, arith, slice_get, nat_lt}
+use Rattle.std.proofs.Common.{◌≡◌, ℕ, ◌<◌, zero, suc, Bool, true, List, [], ◌∷◌, length, Option, None, Some, refl, ap, ◌∙◌, arith, slice_get, nat_lt}
 use Rattle.std.specs.List.{list_all}
 use Rattle.std.specs.Option.{is_some, option_map, option_map_or, option_and_then}
 use Rattle.std.proofs.lemmas.Bool.{and_parts, ltb-true, lt-ltb}
@@ -15,7 +15,7 @@ use Rattle.naga_form.specs.Names.{HasNamesOf}
 use Rattle.naga_info.specs.declared.info.ExpressionInfo.{ExpressionInfo}
 use Rattle.naga_info.specs.declared.info.ModuleInfo.{ModuleInfo}
 use Rattle.naga_info.specs.Types.{spelling_of}
-use Rattle.naga_info.specs.Accepted.{is_accepted, is_below, is_scalar_type, signature_fits, expected_type, return_fits, block_fits, function_fits}
+use Rattle.naga_info.specs.Accepted.{is_accepted, is_below, is_scalar_type, expected_type, return_fits, block_fits}
 use Rattle.naga_info.specs.Part.{expression_is_written, block_is_written, is_unbound, function_is_written, is_written_so_far}
 use Rattle.naga_info.proofs.Accepting.{accepted_types_are_scalar, accepted_functions_fit, list_all_at, scalar_types_word_at, functions_fit_at, function_fits_signature, function_fits_block, function_fits_length, function_fits_word_at, value_fits_word}
 use Rattle.naga_wgsl_fns.specs.Texts.{CanWrite, has_word, can_be_written, returns_below}

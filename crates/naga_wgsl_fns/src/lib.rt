@@ -6,7 +6,7 @@
 pub mod error;
 pub mod flags;
 pub mod function;
-pub mod literal;
+mod literal;
 pub mod part;
 mod sinks;
 

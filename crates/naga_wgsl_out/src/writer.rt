@@ -56,22 +56,23 @@ impl<W: TextSink> Writer<W> {
     /// the pieces written; the next call starts afresh. So far a module is refused as
     /// `Unimplemented`, `not yet written`, unless it declares nothing but scalar types and at most one
     /// function whose statements are returns of literals and arguments.
-    pub fn write(&mut self, module: &Module, _info: &ModuleInfo) -> Result<(), Error> {
+    pub fn write(&mut self, module: &Module, info: &ModuleInfo) -> Result<(), Error> {
         if !is_written_so_far(module) {
             return Err(not_yet_written(self.alloc));
         }
         let names = names_of(self.alloc, module)?;
-        self.write_functions(&module.functions, module, &names)
+        self.write_functions(&module.functions, module, info, &names)
     }
 
     fn write_functions(
         &mut self,
         functions: &Arena<Function>,
         module: &Module,
+        info: &ModuleInfo,
         names: &HashMap<NameKey, String>,
     ) -> Result<(), Error> {
         for (handle, _) in functions.iter() {
-            write_function(self.alloc, module, names, handle, &mut self.out)?;
+            write_function(self.alloc, module, info, names, handle, &mut self.out)?;
             self.out.write_str("\n")?;
         }
         Ok(())
