@@ -1,5 +1,5 @@
 -- Each function of a module that is accepted and written so far can be written.
-use Rattle.std.proofs.Common.{◌≡◌, ℕ, ◌<◌, zero, suc, Bool, true, ◌&&◌, List, [], ◌∷◌, length, Option, None, Some, refl, ap, ◌∙◌, arith, slice_get, nat_lt}
+use Rattle.std.proofs.Common.{◌≡◌, ℕ, ◌<◌, zero, suc, Bool, true, List, [], ◌∷◌, length, Option, None, Some, refl, ap, ◌∙◌, arith, slice_get, nat_lt}
 use Rattle.std.specs.List.{list_all}
 use Rattle.std.specs.Option.{is_some, option_map, option_map_or, option_and_then}
 use Rattle.std.proofs.lemmas.Bool.{and_parts, ltb-true, lt-ltb}
@@ -11,14 +11,17 @@ use Rattle.naga_ir.specs.declared.module.FunctionResult.{FunctionResult}
 use Rattle.naga_ir.specs.declared.module.Module.{Module}
 use Rattle.naga_ir.specs.declared.types.Type_.{Type_}
 use Rattle.naga_names.specs.Reset.{NameMap}
-use Rattle.naga_form.specs.Names.{HasNamesOf}
+use Rattle.naga_form.specs.Names.{HasNamesOf, module_names}
+use Rattle.naga_form.specs.Form.{function_form}
+use Rattle.wgsl_text.specs.Declarations.{function_pieces}
+use Rattle.wgsl_text.specs.Text.{text}
 use Rattle.naga_info.specs.declared.info.ExpressionInfo.{ExpressionInfo}
 use Rattle.naga_info.specs.declared.info.ModuleInfo.{ModuleInfo}
 use Rattle.naga_info.specs.Types.{spelling_of}
-use Rattle.naga_info.specs.Accepted.{is_accepted, is_below, is_scalar_type, signature_fits, expected_type, return_fits, block_fits, function_fits}
+use Rattle.naga_info.specs.Accepted.{is_accepted, is_below, is_scalar_type, expected_type, return_fits, block_fits}
 use Rattle.naga_info.specs.Part.{expression_is_written, block_is_written, is_unbound, function_is_written, is_written_so_far}
 use Rattle.naga_info.proofs.Accepting.{accepted_types_are_scalar, accepted_functions_fit, list_all_at, scalar_types_word_at, functions_fit_at, function_fits_signature, function_fits_block, function_fits_length, function_fits_word_at, value_fits_word}
-use Rattle.naga_wgsl_fns.specs.Texts.{CanWrite, has_word, can_be_written, returns_below}
+use Rattle.naga_wgsl_fns.specs.Texts.{CanWrite, has_word, can_be_written, returns_below, text_of_function}
 
 list_all_weaker : {X : Type 0} (p q : X → Bool) → ((x : X) → p x ≡ true → q x ≡ true) → (xs : List X) → list_all p xs ≡ true → list_all q xs ≡ true
 list_all_weaker p q weaker [] all = refl
@@ -98,3 +101,7 @@ can_write m info names g f accepted written named here =
           in expression_can m.types f e word.0 (list_all_at expression_is_written f.expressions h e parts.0 at) word.2);
       body = ap (λ n. returns_below n f.body) (function_fits_length m.types f known.0 known.2) ∙ body_can m.types known.0 f.result f.body (function_fits_block m.types f known.0 known.2) parts.1;
     }
+
+-- the text of a function that there is
+pub text_of_function_at : (m : Module) (g : ℕ) (f : Function) → slice_get m.functions g ≡ Some f → text_of_function m g ≡ text (function_pieces (function_form (module_names m) m.types g f))
+text_of_function_at m g f here = ap (λ o. option_map_or (λ x. text (function_pieces (function_form (module_names m) m.types g x))) o []) here

@@ -1,7 +1,7 @@
 -- How calls that write texts one behind another write the texts together.
 use Rattle.std.proofs.Common.{◌≡◌, ℕ, List, [], ◌++◌, append_assoc, Result, Ok, Err, refl, sym, ap, ◌∙◌, subst}
 use Rattle.std.proofs.lemmas.List.{append-nil}
-use Rattle.std.specs.Result.{IsErrAnd}
+use Rattle.std.specs.Result.{IsErrAnd, IfErr, OnOk, OnErr}
 use Rattle.std.specs.declared.alloc.AllocError.{AllocError}
 use Rattle.naga_words.specs.Sink.{IsBehind}
 use Rattle.naga_wgsl_fns.specs.declared.error.Error.{Error}
@@ -80,3 +80,9 @@ along_end r {whole} {held} {failed = failed} now failures a last = appends_as r 
 -- nothing is left
 pub along_done : {whole held now left : List ℕ} {failed failures : ℕ} → IsAlong whole held failed now failures left → left ≡ [] → Wrote held failed whole now failures
 along_done {whole} {held} {now} {left} {failed} {failures} a none = subst (λ t. Wrote held failed t now failures) (sym (append-nil a.done) ∙ ap (λ t. a.done ++ t) (sym none) ∙ a.all) a.wrote
+
+-- the same by the four clauses of a public call
+pub appends_from : (r : Result Unit Error) (held text now : List ℕ) (failed failures : ℕ) → OnOk r (now ≡ held ++ text) → OnErr r (IsBehind held text now) → OnOk r (failures ≡ failed) → IfErr r (IsWant failed failures)
+    → Appends r held failed text now failures
+appends_from (Ok x) held text now failed failures appended behind kept reason = record { appended = appended; kept = kept }
+appends_from (Err e) held text now failed failures appended behind kept reason = record { behind = behind; reason = reason }

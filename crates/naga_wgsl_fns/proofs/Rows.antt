@@ -18,7 +18,7 @@ use Rattle.wgsl_text.specs.Pieces.{expression_pieces}
 use Rattle.wgsl_text.specs.Lines.{statement_pieces, statements_pieces}
 use Rattle.wgsl_text.specs.Declarations.{parameter_pieces, parameters_pieces, more_parameters_pieces, result_pieces, function_pieces}
 use Rattle.wgsl_text.specs.Text.{text}
-use Rattle.wgsl_text.proofs.RowText.{text-append, function_text, return_text, then_text, next_parameter_text, parameters_text}
+use Rattle.wgsl_text.proofs.RowText.{text-append, function_text, return_text, then_text}
 use Rattle.naga_wgsl_fns.specs.Texts.{separator, type_word}
 
 -- the blanks before a line
@@ -59,8 +59,8 @@ module _ (names : NameMap) (types : List Type_) (g : ℕ) where
 
   pub function_row : (f : Function)
       → codes "fn " ++ (function_name names g ++ (codes "(" ++ (text (parameters_pieces (parameters_form names types g 0 f.arguments.items)) ++ (text (result_pieces (result_form types f.result)) ++ (codes " {\n" ++ (
-        text (statements_pieces (statements_form names g f.expressions f.body) 1) ++ codes "}\n"))))))
-        ≡ text (function_pieces (function_form names types g f))
+      text (statements_pieces (statements_form names g f.expressions f.body) 1) ++ codes "}\n"))))))
+      ≡ text (function_pieces (function_form names types g f))
   function_row f = sym (function_text (function_form names types g f))
 
 -- a list from an item of it on

@@ -1,8 +1,8 @@
 -- The text of a function, and what it wants of its module.
-use Rattle.std.specs.Prelude.{◌≡◌, ℕ, Bool, true, false, ◌&&◌, List, [], ◌++◌, length, nat_lt, Option, Some, None, IsTrue, codes, slice_get, unwrap_or, ◌==◌, if◌then◌else◌}
+use Rattle.std.specs.Prelude.{◌≡◌, ℕ, Bool, true, false, ◌&&◌, List, [], length, nat_lt, Some, IsTrue, codes, slice_get, unwrap_or, ◌==◌, if◌then◌else◌}
 use Rattle.std.specs.List.{list_all}
 use Rattle.std.specs.Option.{option_map_or, is_some}
-use Rattle.naga_ir.specs.StatementTree.{return, StatementTree, simple, BlockTree, no_statements, statement}
+use Rattle.naga_ir.specs.StatementTree.{return, simple, BlockTree, no_statements, statement}
 use Rattle.naga_ir.specs.declared.expression.Expression.{Expression}
 use Rattle.naga_ir.specs.declared.expression.Expression.TheVariants.{Literal, FunctionArgument}
 use Rattle.naga_ir.specs.declared.module.Function.{Function}

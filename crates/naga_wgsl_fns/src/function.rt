@@ -53,7 +53,7 @@ pub fn write_function<W: TextSink>(
     ensures reason { IfErr result (IsWant (W.failures out.old) (W.failures out.new)) }
 {
     let text = FunctionText {
-        module,
+        shader: module,
         names,
         handle,
         function: &module.functions[handle],
@@ -64,7 +64,7 @@ pub fn write_function<W: TextSink>(
 /// What the text of a function is made from.
 #[derive(Clone, Copy)]
 struct FunctionText<'a> {
-    module: &'a Module,
+    shader: &'a Module,
     names: &'a HashMap<NameKey, String>,
     handle: Handle<Function>,
     function: &'a Function,
@@ -72,8 +72,8 @@ struct FunctionText<'a> {
 
 impl FunctionText<'_> {
     fn write_declaration<W: TextSink>(&self, alloc: Global, out: &mut W) -> Result<(), Error>
-        requires { CanWrite self.now.module.now (names_in self.now.names.now) self.now.handle self.now.function.now }
-        ensures { Appends result (W.text out.old) (W.failures out.old) (text (function_pieces (function_form (module_names self.now.module.now) self.now.module.now.types self.now.handle self.now.function.now))) (W.text out.new) (W.failures out.new) }
+        requires { CanWrite self.now.shader.now (names_in self.now.names.now) self.now.handle self.now.function.now }
+        ensures { Appends result (W.text out.old) (W.failures out.old) (text (function_pieces (function_form (module_names self.now.shader.now) self.now.shader.now.types self.now.handle self.now.function.now))) (W.text out.new) (W.failures out.new) }
     {
         put("fn ", out)?;
         self.write_name(&NameKey::Function(self.handle), out)?;
@@ -87,8 +87,8 @@ impl FunctionText<'_> {
 
     /// The arguments, and the parenthesis behind the last.
     fn write_arguments<W: TextSink>(&self, out: &mut W) -> Result<(), Error>
-        requires { CanWrite self.now.module.now (names_in self.now.names.now) self.now.handle self.now.function.now }
-        ensures { Appends result (W.text out.old) (W.failures out.old) (text (parameters_pieces (parameters_form (module_names self.now.module.now) self.now.module.now.types self.now.handle 0 self.now.function.now.arguments.items))) (W.text out.new) (W.failures out.new) }
+        requires { CanWrite self.now.shader.now (names_in self.now.names.now) self.now.handle self.now.function.now }
+        ensures { Appends result (W.text out.old) (W.failures out.old) (text (parameters_pieces (parameters_form (module_names self.now.shader.now) self.now.shader.now.types self.now.handle 0 self.now.function.now.arguments.items))) (W.text out.new) (W.failures out.new) }
     {
         for (number, argument) in self.function.arguments.iter().enumerate() {
             write_separator(number, out)?;
@@ -103,32 +103,32 @@ impl FunctionText<'_> {
         argument: &FunctionArgument,
         out: &mut W,
     ) -> Result<(), Error>
-        requires can { CanWrite self.now.module.now (names_in self.now.names.now) self.now.handle self.now.function.now }
+        requires can { CanWrite self.now.shader.now (names_in self.now.names.now) self.now.handle self.now.function.now }
         requires argument { slice_get self.now.function.now.arguments.items number ≡ Some argument.now }
-        ensures { Appends result (W.text out.old) (W.failures out.old) (text (parameter_pieces (parameter_form (module_names self.now.module.now) self.now.module.now.types self.now.handle number argument.now))) (W.text out.new) (W.failures out.new) }
+        ensures { Appends result (W.text out.old) (W.failures out.old) (text (parameter_pieces (parameter_form (module_names self.now.shader.now) self.now.shader.now.types self.now.handle number argument.now))) (W.text out.new) (W.failures out.new) }
     {
         let key = NameKey::FunctionArgument(self.handle, number as u32);
         self.write_name(&key, out)?;
         put(": ", out)?;
-        write_type(&self.module.types, argument.ty, out)
+        write_type(&self.shader.types, argument.ty, out)
     }
 
     fn write_result<W: TextSink>(&self, out: &mut W) -> Result<(), Error>
-        requires { CanWrite self.now.module.now (names_in self.now.names.now) self.now.handle self.now.function.now }
-        ensures { Appends result (W.text out.old) (W.failures out.old) (text (result_pieces (result_form self.now.module.now.types self.now.function.now.result))) (W.text out.new) (W.failures out.new) }
+        requires { CanWrite self.now.shader.now (names_in self.now.names.now) self.now.handle self.now.function.now }
+        ensures { Appends result (W.text out.old) (W.failures out.old) (text (result_pieces (result_form self.now.shader.now.types self.now.function.now.result))) (W.text out.new) (W.failures out.new) }
     {
         match &self.function.result {
             Some(answer) => {
                 put(" -> ", out)?;
-                write_type(&self.module.types, answer.ty, out)
+                write_type(&self.shader.types, answer.ty, out)
             }
             None => Ok(()),
         }
     }
 
     fn write_name<W: TextSink>(&self, key: &NameKey, out: &mut W) -> Result<(), Error>
-        requires { names_in self.now.names.now key.now ≡ Some (name_in (module_names self.now.module.now) key.now) }
-        ensures { Appends result (W.text out.old) (W.failures out.old) (name_in (module_names self.now.module.now) key.now) (W.text out.new) (W.failures out.new) }
+        requires { names_in self.now.names.now key.now ≡ Some (name_in (module_names self.now.shader.now) key.now) }
+        ensures { Appends result (W.text out.old) (W.failures out.old) (name_in (module_names self.now.shader.now) key.now) (W.text out.new) (W.failures out.new) }
     {
         match self.names.get(key) {
             Some(name) => put(name, out),
@@ -143,9 +143,9 @@ impl FunctionText<'_> {
         block: &Block,
         out: &mut W,
     ) -> Result<(), Error>
-        requires can { CanWrite self.now.module.now (names_in self.now.names.now) self.now.handle self.now.function.now }
+        requires can { CanWrite self.now.shader.now (names_in self.now.names.now) self.now.handle self.now.function.now }
         requires block { IsTrue (returns_below (length self.now.function.now.expressions) block.now) }
-        ensures { Appends result (W.text out.old) (W.failures out.old) (text (statements_pieces (statements_form (module_names self.now.module.now) self.now.handle self.now.function.now.expressions block.now) level.0)) (W.text out.new) (W.failures out.new) }
+        ensures { Appends result (W.text out.old) (W.failures out.old) (text (statements_pieces (statements_form (module_names self.now.shader.now) self.now.handle self.now.function.now.expressions block.now) level.0)) (W.text out.new) (W.failures out.new) }
     {
         for statement in block.as_slice() {
             match statement {
@@ -163,9 +163,9 @@ impl FunctionText<'_> {
         value: Option<Handle<Expression>>,
         out: &mut W,
     ) -> Result<(), Error>
-        requires can { CanWrite self.now.module.now (names_in self.now.names.now) self.now.handle self.now.function.now }
+        requires can { CanWrite self.now.shader.now (names_in self.now.names.now) self.now.handle self.now.function.now }
         requires value { IsTrue (is_below (length self.now.function.now.expressions) value) }
-        ensures { Appends result (W.text out.old) (W.failures out.old) (text (statement_pieces (return_form (module_names self.now.module.now) self.now.handle self.now.function.now.expressions value) level.0)) (W.text out.new) (W.failures out.new) }
+        ensures { Appends result (W.text out.old) (W.failures out.old) (text (statement_pieces (return_form (module_names self.now.shader.now) self.now.handle self.now.function.now.expressions value) level.0)) (W.text out.new) (W.failures out.new) }
     {
         write_indentation(alloc, level, out)?;
         match value {
@@ -184,9 +184,9 @@ impl FunctionText<'_> {
         handle: Handle<Expression>,
         out: &mut W,
     ) -> Result<(), Error>
-        requires can { CanWrite self.now.module.now (names_in self.now.names.now) self.now.handle self.now.function.now }
+        requires can { CanWrite self.now.shader.now (names_in self.now.names.now) self.now.handle self.now.function.now }
         requires handle { handle < length self.now.function.now.expressions }
-        ensures { Appends result (W.text out.old) (W.failures out.old) (text (expression_pieces (expression_form (module_names self.now.module.now) self.now.handle self.now.function.now.expressions handle))) (W.text out.new) (W.failures out.new) }
+        ensures { Appends result (W.text out.old) (W.failures out.old) (text (expression_pieces (expression_form (module_names self.now.shader.now) self.now.handle self.now.function.now.expressions handle))) (W.text out.new) (W.failures out.new) }
     {
         match &self.function.expressions[handle] {
             Expression::Literal(literal) => write_literal(alloc, *literal, out),

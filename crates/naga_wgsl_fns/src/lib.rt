@@ -6,11 +6,12 @@
 pub mod error;
 pub mod flags;
 pub mod function;
-pub mod literal;
+mod literal;
 pub mod part;
-mod sinks;
+pub mod sinks;
 
 pub use error::Error;
 pub use flags::WriterFlags;
 pub use function::write_function;
 pub use part::is_written_so_far;
+pub use sinks::put;

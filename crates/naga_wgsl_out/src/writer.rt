@@ -19,7 +19,7 @@ use naga_names::keyword_set::{CaseInsensitiveKeywordSet, KeywordSet};
 use naga_names::keywords::{BUILTIN_IDENTIFIERS, RESERVED};
 use naga_names::namer::{NameKey, Namer, NamerError};
 use naga_wgsl_fns::error::{custom, not_yet_written};
-use naga_wgsl_fns::{Error, WriterFlags, is_written_so_far, write_function};
+use naga_wgsl_fns::{Error, WriterFlags, is_written_so_far, put, write_function};
 use naga_words::TextSink;
 use std::alloc::Global;
 use std::collections::HashMap;
@@ -118,8 +118,7 @@ fn write_function_line<W: TextSink>(
     ensures { Appends result (W.text out.old) (W.failures out.old) (text_of_function «module».now handle ++ codes "\n") (W.text out.new) (W.failures out.new) }
 {
     write_function(alloc, module, info, names, handle, out)?;
-    out.write_str("\n")?;
-    Ok(())
+    put("\n", out)
 }
 
 /// The names of a module in WGSL.

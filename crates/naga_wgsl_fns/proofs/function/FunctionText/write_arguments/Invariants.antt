@@ -9,6 +9,6 @@ use Rattle.naga_wgsl_fns.proofs.function.FunctionText.write_arguments.Given as g
 
 abbrev pub invariant-loop-number : goal.invariant-loop-number
 invariant-loop-number g l =
-    IsAlong (text (parameters_pieces (parameters_form (module_names l.self.module.now) l.self.module.now.types l.self.handle 0 l.self.function.now.arguments.items)))
+    IsAlong (text (parameters_pieces (parameters_form (module_names l.self.shader.now) l.self.shader.now.types l.self.handle 0 l.self.function.now.arguments.items)))
     (g.W.TextSink.text l.initial.out) (g.W.TextSink.failures l.initial.out) (g.W.TextSink.text l.out) (g.W.TextSink.failures l.out)
-    (arguments_left (module_names l.self.module.now) l.self.module.now.types l.self.handle l.number (drop l.number l.argument-items))
+    (arguments_left (module_names l.self.shader.now) l.self.shader.now.types l.self.handle l.number (drop l.number l.argument-items))

@@ -1,4 +1,4 @@
-use Rattle.std.proofs.Common.{length, refl, sym, ap, ◌∙◌, subst, drop, ◌≤◌, ◌+◌, IsTrue}
+use Rattle.std.proofs.Common.{length, sym, ap, ◌∙◌, subst, drop, ◌≤◌, ◌+◌}
 use Rattle.std.proofs.lemmas.List.{drop_all}
 use Rattle.naga_ir.specs.StatementTree.{BlockTree}
 use Rattle.naga_ir.specs.StatementViews.{block_of}
@@ -17,7 +17,7 @@ loop-statement-init g c =
     let self = c.args.self.now in
     let held = g.W.TextSink.text c.args.out.now in
     let failed = g.W.TextSink.failures c.args.out.now in
-    let left = λ (b : BlockTree). text (statements_pieces (statements_form (module_names self.module.now) self.handle self.function.now.expressions b) c.args.level.0) in
+    let left = λ (b : BlockTree). text (statements_pieces (statements_form (module_names self.shader.now) self.handle self.function.now.expressions b) c.args.level.0) in
     record {
       along = subst (λ b. IsAlong (left c.args.block.now) held failed held failed (left b)) (sym c.as_slice-statement-items.ensures) (along_start (left c.args.block.now) held failed);
       block = ap (λ b. returns_below (length self.function.now.expressions) b) c.as_slice-statement-items.ensures ∙ c.requires.block;
@@ -30,14 +30,14 @@ write_return-requires-clause-value g c =
 pub returns-in_err-write_return-in-Return : goal.returns-in_err-write_return-in-Return
 returns-in_err-write_return-in-Return g c =
     let self = c.args.self.now in
-    let names = module_names self.module.now in
+    let names = module_names self.shader.now in
     let items = c.as_slice-statement-items.result.now in
     let index = c.loop-statement.statement-index in
     appends_stopped c.from_residual.result c.from_residual.ensures.1
     (along_stopped _ c.loop-statement.invariant.along
-      (ap (λ b. text (statements_pieces (statements_form names self.handle self.function.now.expressions b) c.args.level.0)) (block_step items index c.statement-item.result c.in-Return.value c.loop-statement-test.true c.statement-item.is c.in-Return.is)
-        ∙ statements_row names self.handle self.function.now.expressions c.args.level.0 c.in-Return.value (block_of (drop (index + 1) items)))
-      c.in_err-write_return-in-Return.ensures)
+    (ap (λ b. text (statements_pieces (statements_form names self.handle self.function.now.expressions b) c.args.level.0)) (block_step items index c.statement-item.result c.in-Return.value c.loop-statement-test.true c.statement-item.is c.in-Return.is)
+    ∙ statements_row names self.handle self.function.now.expressions c.args.level.0 c.in-Return.value (block_of (drop (index + 1) items)))
+    c.in_err-write_return-in-Return.ensures)
 
 pub unreachable-requires : goal.unreachable-requires
 unreachable-requires g c =
@@ -46,13 +46,13 @@ unreachable-requires g c =
 pub loop-statement-preserved : goal.loop-statement-preserved
 loop-statement-preserved g c =
     let self = c.args.self.now in
-    let names = module_names self.module.now in
+    let names = module_names self.shader.now in
     let items = c.as_slice-statement-items.result.now in
     let index = c.loop-statement.statement-index in
     record {
       along = along_more _ c.loop-statement.invariant.along
           (ap (λ b. text (statements_pieces (statements_form names self.handle self.function.now.expressions b) c.args.level.0)) (block_step items index c.statement-item.result c.in-Return.value c.loop-statement-test.true c.statement-item.is c.in-Return.is)
-            ∙ statements_row names self.handle self.function.now.expressions c.args.level.0 c.in-Return.value (block_of (drop (index + 1) items)))
+          ∙ statements_row names self.handle self.function.now.expressions c.args.level.0 c.in-Return.value (block_of (drop (index + 1) items)))
           c.in_ok-write_return-in-Return.ensures;
       block = (return_wants _ items index c.statement-item.result c.in-Return.value c.loop-statement-test.true c.statement-item.is c.in-Return.is c.loop-statement.invariant.block).1;
     }
@@ -64,4 +64,4 @@ returns g c =
     let index = c.loop-statement.statement-index in
     let past : length items ≤ index = c.loop-statement-test.false in
     along_done c.loop-statement.invariant.along
-    (ap (λ ss. text (statements_pieces (statements_form (module_names self.module.now) self.handle self.function.now.expressions (block_of ss)) c.args.level.0)) (drop_all index items past))
+    (ap (λ ss. text (statements_pieces (statements_form (module_names self.shader.now) self.handle self.function.now.expressions (block_of ss)) c.args.level.0)) (drop_all index items past))

@@ -11,5 +11,5 @@ pub returns-in_err-put-in-Some : goal.returns-in_err-put-in-Some
 returns-in_err-put-in-Some g c =
     let self = c.args.self.now in
     appends_as c.from_residual.result _ _ _ _ _ _
-    (result_row (module_names self.module.now) self.module.now.types self.handle c.in-Some.answer ∙ ap (λ r. text (result_pieces (result_form self.module.now.types r))) (sym c.in-Some.is))
+    (result_row (module_names self.shader.now) self.shader.now.types self.handle c.in-Some.answer ∙ ap (λ r. text (result_pieces (result_form self.shader.now.types r))) (sym c.in-Some.is))
     (appends_stopped c.from_residual.result c.from_residual.ensures.1 (stopped_first _ c.in_err-put-in-Some.ensures))
