@@ -86,3 +86,8 @@ pub appends_from : (r : Result Unit Error) (held text now : List ℕ) (failed fa
     → Appends r held failed text now failures
 appends_from (Ok x) held text now failed failures appended behind kept reason = record { appended = appended; kept = kept }
 appends_from (Err e) held text now failed failures appended behind kept reason = record { behind = behind; reason = reason }
+
+-- the parts of an answer's contract together
+pub appends_of : (r : Result Unit Error) (held : List ℕ) (failed : ℕ) (text now : List ℕ) (failures : ℕ) → OnOk r (now ≡ held ++ text) → OnErr r (IsBehind held text now) → OnOk r (failures ≡ failed) → IfErr r (IsWant failed failures) → Appends r held failed text now failures
+appends_of (Ok x) held failed text now failures appended behind kept reason = record { appended = appended; kept = kept }
+appends_of (Err e) held failed text now failures appended behind kept reason = record { behind = behind; reason = reason }

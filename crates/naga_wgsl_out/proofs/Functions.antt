@@ -1,6 +1,7 @@
 -- The text of a module from those of its functions.
-use Rattle.std.proofs.Common.{◌≡◌, ℕ, ◌+◌, ◌<◌, Bool, List, [], ◌∷◌, ◌++◌, length, drop, get_or, codes, append_assoc, append-nil, add-one, drop-cons, refl, sym, ap, ◌∙◌}
+use Rattle.std.proofs.Common.{◌≡◌, ℕ, zero, suc, Some, arith, subst, slice_get, ◌+◌, ◌<◌, Bool, List, [], ◌∷◌, ◌++◌, length, drop, get_or, codes, append_assoc, append-nil, add-one, drop-cons, refl, sym, ap, ◌∙◌}
 use Rattle.std.specs.List.{flat_map, enumerate_from}
+use Rattle.std.specs.Option.{option_map_or}
 use Rattle.naga_ir.specs.declared.module.Function.{Function}
 use Rattle.naga_ir.specs.declared.module.Module.{Module}
 use Rattle.naga_ir.specs.declared.types.Type_.{Type_}
@@ -12,6 +13,7 @@ use Rattle.wgsl_text.specs.Token.{LineEnd}
 use Rattle.wgsl_text.proofs.RowText.{text-append}
 use Rattle.naga_form.specs.Form.{function_form, functions_form}
 use Rattle.naga_form.specs.Names.{module_names}
+use Rattle.naga_wgsl_fns.specs.Texts.{text_of_function}
 use Rattle.naga_wgsl_fns.specs.declared.flags.WriterFlags.{WriterFlags}
 use Rattle.naga_wgsl_out.specs.Writing.{lines_of, written_text}
 
@@ -32,3 +34,40 @@ pub next_line : (m : Module) (all : List (ℕ × Function)) (n : ℕ) (f : ℕ �
 next_line m all n f lt is =
     let split : drop n all ≡ get_or all n f ∷ drop (n + 1) all = rw add-one (drop-cons all n f lt) in
     ap (lines_of m) split ∙ ap (λ q. lines_of m (q ∷ drop (n + 1) all)) (sym is)
+
+-- ---- along the functions
+at_enumerated : (n : ℕ) (fs : List Function) (i : ℕ) (f : ℕ × Function) → i < length (enumerate_from n fs) → f ≡ get_or (enumerate_from n fs) i f → (f.0 ≡ n + i) × (i < length fs) × (slice_get fs i ≡ Some f.1)
+at_enumerated n [] i f lt is = absurd (omega (arith, lt))
+at_enumerated n (x ∷ fs) zero f lt is = let first : n ≡ n + 0 = omega arith in (ap (λ p. p.0) is ∙ first, omega arith, ap Some (sym (ap (λ p. p.1) is)))
+at_enumerated n (x ∷ fs) (suc i) f lt is =
+    let rest = at_enumerated (n + 1) fs i f (omega (arith, lt)) is in
+    let moved : (n + 1) + i ≡ n + suc i = omega arith in
+    (rest.0 ∙ moved, omega (arith, rest.1), rest.2)
+
+-- the handle is one of the module's
+pub within : (fs : List Function) (n : ℕ) (f : ℕ × Function) → n < length (enumerate_from 0 fs) → f ≡ get_or (enumerate_from 0 fs) n f → f.0 < length fs
+within fs n f lt is = let at = at_enumerated 0 fs n f lt is in let same : 0 + n ≡ n = omega arith in subst (λ h. h < length fs) (sym (at.0 ∙ same)) at.1
+
+text_is : (m : Module) (n : ℕ) (f : ℕ × Function) → n < length (enumerate_from 0 m.functions) → f ≡ get_or (enumerate_from 0 m.functions) n f → text (function_pieces (function_form (module_names m) m.types f.0 f.1)) ≡ text_of_function m f.0
+text_is m n f lt is =
+    let at = at_enumerated 0 m.functions n f lt is in
+    let same : 0 + n ≡ n = omega arith in
+    let found : slice_get m.functions f.0 ≡ Some f.1 = ap (slice_get m.functions) (at.0 ∙ same) ∙ at.2 in
+    sym (ap (λ o. option_map_or (λ g. text (function_pieces (function_form (module_names m) m.types f.0 g))) o []) found)
+
+-- the lines that are left begin with those of the next function
+pub here_line : (m : Module) (n : ℕ) (f : ℕ × Function) → n < length (enumerate_from 0 m.functions) → f ≡ get_or (enumerate_from 0 m.functions) n f → lines_of m (drop n (enumerate_from 0 m.functions)) ≡ (text_of_function m f.0 ++ codes "\n") ++ lines_of m (drop (n + 1) (enumerate_from 0 m.functions))
+here_line m n f lt is =
+    next_line m (enumerate_from 0 m.functions) n f lt is
+    ∙ ap (λ t. (t ++ codes "\n") ++ lines_of m (drop (n + 1) (enumerate_from 0 m.functions))) (text_is m n f lt is)
+
+pub one_more : {A : Type 0} (xs : List A) (x : A) → length xs + 1 ≡ length (xs ++ x ∷ [])
+one_more [] x = refl
+one_more (y ∷ xs) x = let out : suc (length xs) + 1 ≡ suc (length xs + 1) = omega arith in out ∙ ap suc (one_more xs x)
+
+pub all_written : (m : Module) (all : List (ℕ × Function)) (n : ℕ) → n ≡ length all → lines_of m (drop n all) ≡ []
+all_written m all n is = ap (lines_of m) (ap (λ k. drop k all) is ∙ nothing_left all)
+  where
+    nothing_left : {A : Type 0} (xs : List A) → drop (length xs) xs ≡ []
+    nothing_left [] = refl
+    nothing_left (x ∷ xs) = nothing_left xs

@@ -38,7 +38,7 @@ IsRefusal m before now _ = ⊥
 -- no reason stands in the module
 pub record IsWritable (m : Module) : Type 0 where
   pub written : IsTrue (is_written_so_far m)
-  pub names : NamerIsFull m → ⊥
+  pub told : NamerIsFull m → ⊥
   pub keys : KeyIsOutOfRange m → ⊥
 
 -- an error has its reason, and where there is none no reason stands in the module
@@ -50,5 +50,5 @@ RefusesOnlyFor (Err error) m before now = IsRefusal m before now error
 pub record HasAllNames (m : Module) (names : NameMap) : Type 0 where
   pub named : HasNamesOf m names
   pub counted : NamesAreCounted m
-  pub names : NamerIsFull m → ⊥
+  pub told : NamerIsFull m → ⊥
   pub keys : KeyIsOutOfRange m → ⊥
