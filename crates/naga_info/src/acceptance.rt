@@ -36,6 +36,7 @@ use naga_ir::{
 /// The counts are not looked at. Each other module is answered `false`.
 #[tactic(auto, unfolding(crate::specs::Accepted::is_accepted))]
 pub fn accepts(module: &Module, info: &ModuleInfo) -> bool
+    ensures { result ≡ is_accepted «module».now info.now }
 {
     declares_one_function(module)
         && types_are_scalar(&module.types)
