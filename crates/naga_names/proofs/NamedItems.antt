@@ -223,7 +223,7 @@ module _ (start : Names) (before : NameMap) («module» : Module) (names : Names
   pub named_there : (item : Labelled) (s : Stands (labelled_items «module») item) → now item.0 ≡ Some (name_after start (labels_of (take s.place (labelled_items «module»))) item.1)
   named_there item s = put_at start before now (labelled_items «module») has.put (items_apart «module») s.place item s.there
 
-  few_labels : (base : List ℕ) → labels_with_base start (labels_of (labelled_items «module»)) base ≤ 2 ^ 32
+  pub few_labels : (base : List ℕ) → labels_with_base start (labels_of (labelled_items «module»)) base ≤ 2 ^ 32
   few_labels base = subst (λ n. n ≤ 2 ^ 32) (ap (λ (n : Names). labels_with_base n (labels_of (labelled_items «module»)) base) has.words) (has.labels.few base)
 
   -- items with one name are one item

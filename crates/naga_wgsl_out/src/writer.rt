@@ -128,16 +128,25 @@ fn names_of(alloc: Global, module: &Module) -> Result<HashMap<NameKey, String>, 
 {
     let mut names = HashMap::new(alloc);
     let mut namer = Namer::default(alloc);
-    let reset = namer.reset(
-        module,
-        KeywordSet::from_slice(alloc, RESERVED)?,
-        KeywordSet::from_slice(alloc, BUILTIN_IDENTIFIERS)?,
-        CaseInsensitiveKeywordSet::new(alloc),
-        &RESERVED_PREFIXES,
-        &mut names,
-    );
-    match reset {
-        Ok(()) => Ok(names),
+    name_items(alloc, module, &mut namer, &mut names)?;
+    Ok(names)
+}
+
+/// Gives the items of a module names that are identifiers of WGSL, and puts these into the map.
+fn name_items(
+    alloc: Global,
+    module: &Module,
+    namer: &mut Namer,
+    names: &mut HashMap<NameKey, String>,
+) -> Result<(), Error>
+    ensures ok { OnOk result (HasAllNames «module».now (names_in names.new)) }
+    ensures err { IfErr result (IsNamesRefusal «module».now) }
+{
+    let reserved = KeywordSet::from_slice(alloc, RESERVED)?;
+    let builtin = KeywordSet::from_slice(alloc, BUILTIN_IDENTIFIERS)?;
+    let caseless = CaseInsensitiveKeywordSet::new(alloc);
+    match namer.reset(module, reserved, builtin, caseless, &RESERVED_PREFIXES, names) {
+        Ok(()) => Ok(()),
         Err(NamerError::Full) => Err(custom(alloc, "namer is full")),
         Err(NamerError::KeyFull) => Err(custom(alloc, "name key out of range")),
         Err(NamerError::Memory(error)) => Err(Error::Memory(error)),

@@ -1,0 +1,56 @@
+-- What a `Namer` that was reset by a module knows of the module's names.
+use Rattle.std.proofs.Common.{◌≡◌, ℕ, zero, suc, ◌<◌, ◌≤◌, ◌^◌, Bool, true, List, ◌∷◌, length, take, codes, Some, refl, sym, ap, subst, ◌∙◌, arith, inl, inr}
+use Rattle.std.specs.Prelude.{IsTrue, slice_get}
+use Rattle.std.specs.List.{list_all}
+use Rattle.std.proofs.lemmas.Bool.{ltb-true}
+use Rattle.naga_ir.specs.declared.module.Function.{Function}
+use Rattle.naga_ir.specs.declared.module.Module.{Module}
+use Rattle.naga_names.specs.Naming.{Names, label_or, name_after}
+use Rattle.naga_names.specs.Reset.{NameMap, labelled_items, labels_of, key_fits, HasNamedItems}
+use Rattle.naga_names.specs.declared.namer.key.NameKey.TheVariants as key
+use Rattle.naga_names.proofs.NamedItems.{named_there, few_labels}
+use Rattle.naga_form.specs.Names.{wgsl_names, module_names, function_name, argument_name, HasNamesOf, NamesAreCounted}
+use Rattle.naga_form.proofs.Facts.{all_at}
+use Rattle.naga_form.proofs.Named.{name_there, name_is, function_item, argument_item, function_there, argument_there}
+use Rattle.naga_form.proofs.Runs.{element}
+use Rattle.naga_wgsl_fns.specs.Errors.{IsCustom}
+use Rattle.naga_wgsl_fns.specs.declared.error.Error.{Error}
+use Rattle.naga_wgsl_fns.specs.declared.error.Error.TheVariants.{Custom, Memory}
+use Rattle.naga_wgsl_out.specs.Refusals.{NamerIsFull, KeyIsOutOfRange, IsNamesRefusal, HasAllNames}
+
+pub told_full : (m : Module) (e : Error) → IsCustom (codes "namer is full") e → NamerIsFull m → IsNamesRefusal m e
+told_full m (Custom message) is full = inl (is, full)
+told_full m (Memory e) is full = tt
+told_full m _ is full = absurd is
+
+pub told_out_of_range : (m : Module) (e : Error) → IsCustom (codes "name key out of range") e → KeyIsOutOfRange m → IsNamesRefusal m e
+told_out_of_range m (Custom message) is full = inr (is, full)
+told_out_of_range m (Memory e) is full = tt
+told_out_of_range m _ is full = absurd is
+
+module _ (m : Module) (before now : NameMap) (names : Names) (has : HasNamedItems wgsl_names before (labelled_items m) names now) where
+  -- the map has an item's name
+  function_is : (g : ℕ) (f : Function) → slice_get m.functions g ≡ Some f → now (key.Function g) ≡ Some (function_name (module_names m) g)
+  function_is g f found =
+      let s = function_there m g f found in
+      named_there wgsl_names before m names now has (function_item m g f) s ∙ ap Some (sym (name_is m (function_item m g f) s))
+
+  pub has_names : HasNamesOf m now
+  has_names = record {
+    functions = λ g lt. let f = element m.functions g lt in function_is g f.0 f.1;
+    arguments = λ g f found n lt.
+        let a = element f.arguments.items n lt in
+        let s = argument_there m g f n a.0 found a.1 in
+        named_there wgsl_names before m names now has (argument_item m g n a.0) s ∙ ap Some (sym (name_is m (argument_item m g n a.0) s));
+    numbers = λ g f found. at_most (length f.arguments.items) (λ n lt.
+        let a = element f.arguments.items n lt in
+        let s = argument_there m g f n a.0 found a.1 in
+        ltb-true n (2 ^ 32) (all_at (λ item. key_fits item.0) (labelled_items m) s.place (argument_item m g n a.0) has.keys s.there));
+  }
+    where
+      at_most : (k : ℕ) → ((n : ℕ) → n < k → n < 2 ^ 32) → k ≤ 2 ^ 32
+      at_most zero below = omega arith
+      at_most (suc k) below = let last : k < 2 ^ 32 = below k (omega arith) in omega (arith, last)
+
+  pub has_all : (NamerIsFull m → ⊥) → (KeyIsOutOfRange m → ⊥) → HasAllNames m now
+  has_all told keys = record { named = has_names; counted = few_labels wgsl_names before m names now has; told = told; keys = keys }
