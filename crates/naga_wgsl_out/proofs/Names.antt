@@ -1,15 +1,22 @@
 -- What a `Namer` that was reset by a module knows of the module's names.
-use Rattle.std.proofs.Common.{◌≡◌, ℕ, zero, suc, ◌<◌, ◌≤◌, ◌^◌, Bool, true, List, ◌∷◌, length, take, codes, Some, refl, sym, ap, subst, ◌∙◌, arith, inl, inr}
-use Rattle.std.specs.Prelude.{IsTrue, slice_get}
+use Rattle.std.proofs.Common.{◌≡◌, ℕ, zero, suc, ◌<◌, ◌≤◌, ◌^◌, Bool, true, false, List, ◌∷◌, length, take, codes, Some, refl, sym, ap, subst, ◌∙◌, arith, inl, inr}
+use Rattle.std.specs.Prelude.{IsTrue, slice_get, map}
+use Rattle.std.specs.FinSet as set
 use Rattle.std.specs.List.{list_all}
 use Rattle.std.proofs.lemmas.Bool.{ltb-true}
 use Rattle.naga_ir.specs.declared.module.Function.{Function}
 use Rattle.naga_ir.specs.declared.module.Module.{Module}
-use Rattle.naga_names.specs.Naming.{Names, label_or, name_after}
+use Rattle.naga_names.specs.Words.{Words}
+use Rattle.naga_names.specs.declared.keywords.TheConstants.{RESERVED, BUILTIN_IDENTIFIERS}
+use Rattle.naga_names.specs.Naming.{Names, new_names, label_or, name_after}
+use Rattle.naga_names.specs.Refusal.{SomeNameIsFull, SomeKeyIsFull, IsResetRefusal}
+use Rattle.naga_names.specs.declared.namer.NamerError.{NamerError}
+use Rattle.naga_names.specs.declared.namer.NamerError.TheVariants.{Full}
+use Rattle.wgsl_text.specs.Keywords.{reserved_words, builtin_words}
 use Rattle.naga_names.specs.Reset.{NameMap, labelled_items, labels_of, key_fits, HasNamedItems}
 use Rattle.naga_names.specs.declared.namer.key.NameKey.TheVariants as key
 use Rattle.naga_names.proofs.NamedItems.{named_there, few_labels}
-use Rattle.naga_form.specs.Names.{wgsl_names, module_names, function_name, argument_name, HasNamesOf, NamesAreCounted}
+use Rattle.naga_form.specs.Names.{reserved_prefixes, wgsl_names, module_names, function_name, argument_name, HasNamesOf, NamesAreCounted}
 use Rattle.naga_form.proofs.Facts.{all_at}
 use Rattle.naga_form.proofs.Named.{name_there, name_is, function_item, argument_item, function_there, argument_there}
 use Rattle.naga_form.proofs.Runs.{element}
@@ -54,3 +61,20 @@ module _ (m : Module) (before now : NameMap) (names : Names) (has : HasNamedItem
 
   pub has_all : (NamerIsFull m → ⊥) → (KeyIsOutOfRange m → ⊥) → HasAllNames m now
   has_all told keys = record { named = has_names; counted = few_labels wgsl_names before m names now has; told = told; keys = keys }
+
+-- the words and prefixes of WGSL
+pub start_is : (reserved builtin caseless : Words) (prefixes : List (List ℕ)) → reserved ≡ set.from_list (map (λ word. word.now) RESERVED.now) → builtin ≡ set.from_list (map (λ word. word.now) BUILTIN_IDENTIFIERS.now) → caseless ≡ set.empty → prefixes ≡ reserved_prefixes → new_names reserved builtin caseless prefixes ≡ wgsl_names
+unfolding wgsl_names reserved_words builtin_words
+start_is reserved builtin caseless prefixes r b c p = λ i. new_names (r i) (b i) (c i) (p i)
+
+-- after a `reset` with these that succeeded
+pub after_reset : (m : Module) (start : Names) (before now : NameMap) (names : Names) → start ≡ wgsl_names → HasNamedItems start before (labelled_items m) names now → (SomeNameIsFull start (labelled_items m) → ⊥) → (SomeKeyIsFull (labelled_items m) → ⊥) → HasAllNames m now
+after_reset m start before now names is has told keys =
+    has_all m before now names (subst (λ s. HasNamedItems s before (labelled_items m) names now) is has) (λ full. told (subst (λ s. SomeNameIsFull s (labelled_items m)) (sym is) full)) keys
+
+-- where it answered that a counter is full
+pub reason_full : (m : Module) (start : Names) (e : NamerError) → start ≡ wgsl_names → e ≡ Full → IsResetRefusal start m e → NamerIsFull m
+reason_full m start e is full reason = subst (λ s. SomeNameIsFull s (labelled_items m)) is (subst (λ e. IsResetRefusal start m e) full reason)
+
+pub no_error : false ≡ true → ⊥
+no_error e = cc
