@@ -1,0 +1,86 @@
+-- What was written is faithful to the module.
+use Rattle.std.proofs.Common.{◌≡◌, ℕ, false, List, [], ◌∷◌, ◌++◌, drop, refl, sym, ap, subst, ◌∙◌, Ok, Err}
+use Rattle.std.specs.Prelude.{IsTrue, Result, OnOk, OnErr}
+use Rattle.std.specs.List.{enumerate_from}
+use Rattle.naga_ir.specs.declared.module.Module.{Module}
+use Rattle.naga_info.specs.Accepted.{is_accepted}
+use Rattle.naga_info.specs.Part.{is_written_so_far}
+use Rattle.naga_info.specs.declared.info.ModuleInfo.{ModuleInfo}
+use Rattle.naga_names.specs.Reset.{NameMap}
+use Rattle.wgsl_text.specs.Reading.{Reads, HasOneReading, layout}
+use Rattle.wgsl_text.specs.Text.{tokens}
+use Rattle.wgsl_text.specs.Tree.{Program}
+use Rattle.wgsl_text.proofs.OneReading.{program_has_one_reading}
+use Rattle.naga_form.specs.Faithful.{written_program, HasInterfaceOf, RunsAs}
+use Rattle.naga_form.proofs.Interfaces.{has_interface}
+use Rattle.naga_form.proofs.Programs.{is_program}
+use Rattle.naga_form.proofs.Runs.{runs_as}
+use Rattle.naga_words.specs.Sink.{IsBehind}
+use Rattle.naga_wgsl_fns.specs.Appends.{Appends}
+use Rattle.naga_wgsl_fns.proofs.Appending.{appends_as}
+use Rattle.naga_wgsl_fns.specs.Errors.{IsWant, IsNotYetWritten}
+use Rattle.naga_wgsl_fns.specs.declared.error.Error.{Error}
+use Rattle.naga_wgsl_fns.specs.declared.error.Error.TheVariants.{FmtError, Custom, Unimplemented, Memory}
+use Rattle.naga_wgsl_fns.specs.declared.flags.WriterFlags.{WriterFlags}
+use Rattle.naga_wgsl_out.specs.Writing.{tells_types, lines_of, written_text}
+use Rattle.naga_wgsl_out.proofs.Functions.{written_lines}
+use Rattle.naga_wgsl_out.specs.Refusals.{IsNamesRefusal, IsRefusal, HasAllNames}
+use Rattle.naga_wgsl_out.specs.Headline.{AppendsOneReading, EachReading, FaithfulWriting}
+
+-- what stands behind the same text is the same
+same_behind : (held a b : List ℕ) → held ++ a ≡ held ++ b → a ≡ b
+same_behind [] a b e = e
+same_behind (x ∷ held) a b e = same_behind held a b (ap (drop 1) e)
+
+-- a refusal
+pub refused : (m : Module) (info : ModuleInfo) (error : Error) (held now : List ℕ) (before after : ℕ) → IsRefusal m before after error → FaithfulWriting m info (Err error) held now before after
+refused m info error held now before after is = record { refusals = is; reading = tt; interface = tt; runs = tt }
+
+-- names that can't be told are a reason
+pub for_names : (m : Module) (error : Error) (before after : ℕ) → IsNamesRefusal m error → IsRefusal m before after error
+for_names m (Custom message) before after is = is
+for_names m (Memory e) before after is = tt
+for_names m _ before after is = absurd is
+
+-- so are a sink that failed and want of memory
+pub for_want : (m : Module) (error : Error) (before after : ℕ) → IsWant before after error → IsRefusal m before after error
+for_want m (FmtError e) before after is = is
+for_want m (Memory e) before after is = tt
+for_want m _ before after is = absurd is
+
+-- and so is what is not written so far
+pub for_part : (m : Module) (error : Error) (before after : ℕ) → IsNotYetWritten error → is_written_so_far m ≡ false → IsRefusal m before after error
+for_part m (Unimplemented message) before after is part = (is, part)
+for_part m (Memory e) before after is part = tt
+for_part m _ before after is part = absurd is
+
+-- a text that was appended
+module _ (m : Module) (info : ModuleInfo) (flags : WriterFlags) (accepted : IsTrue (is_accepted m info)) (written : IsTrue (is_written_so_far m)) (names : NameMap) (has : HasAllNames m names) where
+  one : HasOneReading Reads (written_text m info flags) (written_program m info (tells_types flags))
+  one = program_has_one_reading (written_program m info (tells_types flags)) (is_program m info (tells_types flags) accepted written)
+
+  each : (held now : List ℕ) → now ≡ held ++ written_text m info flags → (Q : Program → Type 0) → Q (written_program m info (tells_types flags)) → EachReading held now Q
+  each held now appended Q holds text is program reads =
+      let same = same_behind held text (written_text m info flags) (sym is ∙ appended) in
+      subst Q (sym (one.only program (subst (λ t. Reads (tokens t) program) same reads))) holds
+
+  pub faithful : (held now : List ℕ) (before after : ℕ) → now ≡ held ++ written_text m info flags → FaithfulWriting m info (Ok tt) held now before after
+  faithful held now before after appended = record {
+    refusals = record { written = written; told = has.told; keys = has.keys };
+    reading = record { text = written_text m info flags; appended = appended; program = written_program m info (tells_types flags); reading = one };
+    interface = each held now appended (HasInterfaceOf m) (has_interface m info (tells_types flags));
+    runs = each held now appended (RunsAs m info) (runs_as m info (tells_types flags) accepted written has.counted);
+  }
+
+  -- the answer of the call that wrote the lines
+  pub record Concludes (r : Result Unit Error) (held now : List ℕ) (before after : ℕ) : Type 0 where
+    pub is_faithful : FaithfulWriting m info r held now before after
+    pub text_ok : OnOk r (now ≡ held ++ written_text m info flags)
+    pub text_err : OnErr r (IsBehind held (written_text m info flags) now)
+
+  pub concludes : (r : Result Unit Error) (held now : List ℕ) (before after : ℕ) → Appends r held before (lines_of m (enumerate_from 0 m.functions)) now after → Concludes r held now before after
+  concludes r held now before after a = by r (appends_as r held before (lines_of m (enumerate_from 0 m.functions)) (written_text m info flags) now after (written_lines m info flags) a)
+    where
+      by : (r : Result Unit Error) → Appends r held before (written_text m info flags) now after → Concludes r held now before after
+      by (Ok _) w = record { is_faithful = faithful held now before after w.appended; text_ok = w.appended; text_err = tt }
+      by (Err e) s = record { is_faithful = refused m info e held now before after (for_want m e before after s.reason); text_ok = tt; text_err = s.behind }
