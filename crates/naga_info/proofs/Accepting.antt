@@ -74,11 +74,12 @@ some_word : (o : Option (List ℕ)) → is_some o ≡ true → (w : List ℕ) ×
 some_word (Some w) is = (w, refl)
 some_word None is = absurd cc
 
-then_some : {A B : Type 0} (f : A → Option B) (o : Option A) (b : B) → option_and_then f o ≡ Some b → (a : A) × (o ≡ Some a) × (f a ≡ Some b)
+-- an optional value, through an optional function
+pub then_some : {A B : Type 0} (f : A → Option B) (o : Option A) (b : B) → option_and_then f o ≡ Some b → (a : A) × (o ≡ Some a) × (f a ≡ Some b)
 then_some f None b is = absurd cc
 then_some f (Some a) b is = (a, refl, is)
 
-map_some : {A B : Type 0} (f : A → B) (o : Option A) (b : B) → option_map f o ≡ Some b → (a : A) × (o ≡ Some a) × (f a ≡ b)
+pub map_some : {A B : Type 0} (f : A → B) (o : Option A) (b : B) → option_map f o ≡ Some b → (a : A) × (o ≡ Some a) × (f a ≡ b)
 map_some f None b is = absurd cc
 map_some f (Some a) b is = (a, refl, cc)
 
