@@ -17,6 +17,7 @@ use Rattle.naga_ir.specs.declared.types.Type_.{Type_}
 use Rattle.naga_info.specs.declared.info.ExpressionInfo.{ExpressionInfo}
 use Rattle.naga_info.specs.Types.{word_at, spelling_of, spelling_at, is_alike}
 use Rattle.naga_info.specs.Accepted.{expected_type, is_within, signature_fits, names_fit, expression_fits, expressions_fit, local_fits, return_fits, block_fits, function_fits}
+use Rattle.naga_info.proofs.Accepting.{expressions_fit_known, expressions_fit_length}
 use Rattle.naga_info.specs.Part.{expression_is_written, statement_is_written, block_is_written, is_unbound, function_is_written}
 
 pub and_left : (a b : Bool) → IsTrue (a && b) → IsTrue a
@@ -48,23 +49,22 @@ all_at test (y ∷ xs) (suc i) x all found = all_at test xs i x (and_right (test
 pub record IsKnown (types : List Type_) (f : Function) (es : List ExpressionInfo) (h : ℕ) (e : Expression) : Type 0 where
   pub known : ExpressionInfo
   pub there : slice_get es h ≡ Some known
-  pub fits : IsTrue (expression_fits types f e known)
+  pub fits : IsTrue (expression_fits types f es h e known)
 
 pub known_at : (types : List Type_) (f : Function) (exprs : List Expression) (es : List ExpressionInfo) (h : ℕ) (e : Expression) → IsTrue (expressions_fit types f exprs es) → slice_get exprs h ≡ Some e → IsKnown types f es h e
-known_at types f [] es h e fit found = absurd (cc)
-known_at types f (x ∷ xs) [] h e fit found = absurd (cc)
-known_at types f (x ∷ xs) (k ∷ ks) zero e fit found =
-    record { known = k; there = refl; fits = subst (λ y. IsTrue (expression_fits types f y k)) (ap (λ o. unwrap_or o x) found) (and_left (expression_fits types f x k) (expressions_fit types f xs ks) fit) }
-known_at types f (x ∷ xs) (k ∷ ks) (suc h) e fit found =
-    let rest = known_at types f xs ks h e (and_right (expression_fits types f x k) (expressions_fit types f xs ks) fit) found in
-    record { known = rest.known; there = rest.there; fits = rest.fits }
+known_at types f exprs es h e fit found =
+    let k = expressions_fit_known types f exprs es h e fit found in
+    record { known = k.0; there = k.1; fits = k.2 }
 
 -- where something is known of a handle, there is an expression
+known_has_one : {X Y : Type 0} (xs : List X) (ys : List Y) (h : ℕ) (y : Y) → length xs ≡ length ys → slice_get ys h ≡ Some y → (x : X) × (slice_get xs h ≡ Some x)
+known_has_one xs [] h y same found = absurd (cc)
+known_has_one [] (y1 ∷ ys) h y same found = absurd (cc)
+known_has_one (x ∷ xs) (y1 ∷ ys) zero y same found = (x, refl)
+known_has_one (x ∷ xs) (y1 ∷ ys) (suc h) y same found = known_has_one xs ys h y (cc) found
+
 pub expression_at : (types : List Type_) (f : Function) (exprs : List Expression) (es : List ExpressionInfo) (h : ℕ) (k : ExpressionInfo) → IsTrue (expressions_fit types f exprs es) → slice_get es h ≡ Some k → (e : Expression) × (slice_get exprs h ≡ Some e)
-expression_at types f exprs [] h k fit found = absurd (cc)
-expression_at types f [] (k' ∷ ks) h k fit found = absurd (cc)
-expression_at types f (x ∷ xs) (k' ∷ ks) zero k fit found = (x, refl)
-expression_at types f (x ∷ xs) (k' ∷ ks) (suc h) k fit found = expression_at types f xs ks h k (and_right (expression_fits types f x k') (expressions_fit types f xs ks) fit) found
+expression_at types f exprs es h k fit found = known_has_one exprs es h k (expressions_fit_length types f exprs es fit) found
 
 -- an optional value, through an optional function
 pub then_some : {A B : Type 0} (f : A → Option B) (o : Option A) (b : B) → option_and_then f o ≡ Some b → (a : A) × (o ≡ Some a) × (f a ≡ Some b)

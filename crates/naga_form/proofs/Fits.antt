@@ -107,11 +107,10 @@ module _ (names : NameMap) (types : List Type_) (g : ℕ) (f : ir_function.Funct
   return_fits_shape (Some h) fits =
       let r = returned_at types f es h facts.known f.result refl fits in
       let k = then_some (λ e. spelling_of types e.ty) (slice_get es h) r.alike.word r.alike.first in
-      let leaf = is_leaf r.expression (all_at expression_is_written f.expressions h r.expression facts.written r.there) in
-      ( ap (option_map (λ a. value_type (word_at types a.ty))) r.answers ∙ ap (λ w. Some (value_type w)) (r.alike.second ∙ sym k.2) ∙ ap Some (sym (type_at_mapped (λ e. value_type (spelling_of types e.ty)) es h k.0 k.1))
-      , subst (λ o. IsTrue (usable_as shape o (at_start shape h))) (sym (shape_at f.expressions h r.expression r.there)) (usable_leaf h r.expression r.there leaf)
+      let leaf = is_leaf r.expression (all_at expression_is_written f.expressions h r.expression facts.written r.there) in (
+        ap (option_map (λ a. value_type (word_at types a.ty))) r.answers ∙ ap (λ w. Some (value_type w)) (r.alike.second ∙ sym k.2) ∙ ap Some (sym (type_at_mapped (λ e. value_type (spelling_of types e.ty)) es h k.0 k.1)),
+        subst (λ o. IsTrue (usable_as shape o (at_start shape h))) (sym (shape_at f.expressions h r.expression r.there)) (usable_leaf h r.expression r.there leaf),
       )
-
 
   -- a body of returns gives no names, its statements are regular and its handles in scope
   record BodyFits (callees : List shapes.Function) (b : BlockTree) : Type 0 where

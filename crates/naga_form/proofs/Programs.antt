@@ -138,9 +138,9 @@ module _ (m : Module) (g : ℕ) (f : ir_function.Function) (found : slice_get m.
   parameters_are n (a ∷ args) size fits =
       let lt : n < length f.arguments.items = omega (arith, size) in
       let next : (n + 1) + length args ≡ length f.arguments.items = omega (arith, size) in
-      let here = and_left (nat_lt a.ty (length m.types)) (list_all (λ a. nat_lt a.ty (length m.types)) args) fits in
-      ( record { attributes = tt; binding = refl; name = argument_is n lt; type = is_type_at m.types scalars a.ty (ltb-true a.ty (length m.types) here) }
-      , parameters_are (n + 1) args next (and_right (nat_lt a.ty (length m.types)) (list_all (λ a. nat_lt a.ty (length m.types)) args) fits)
+      let here = and_left (nat_lt a.ty (length m.types)) (list_all (λ a. nat_lt a.ty (length m.types)) args) fits in (
+        record { attributes = tt; binding = refl; name = argument_is n lt; type = is_type_at m.types scalars a.ty (ltb-true a.ty (length m.types) here) },
+        parameters_are (n + 1) args next (and_right (nat_lt a.ty (length m.types)) (list_all (λ a. nat_lt a.ty (length m.types)) args) fits),
       )
 
   result_is : (r : Option FunctionResult) → IsTrue (is_below (length m.types) (option_map (λ r. r.ty) r)) → IsResult (result_form m.types r)
@@ -168,9 +168,9 @@ functions_are m g (f ∷ fs) (es ∷ ess) there fits written scalars =
     let fit = and_left (function_fits m.types f es) (functions_fit m.types fs ess) fits in
     let is = and_left (function_is_written f) (list_all function_is_written fs) written in
     let here : g + 0 ≡ g = omega arith in
-    let found = subst (λ h. slice_get m.functions h ≡ Some f) here (there 0 f refl) in
-    ( function_is m g f found es (function_facts m.types f es fit is) scalars
-    , functions_are m (g + 1) fs ess later (and_right (function_fits m.types f es) (functions_fit m.types fs ess) fits) (and_right (function_is_written f) (list_all function_is_written fs) written) scalars
+    let found = subst (λ h. slice_get m.functions h ≡ Some f) here (there 0 f refl) in (
+      function_is m g f found es (function_facts m.types f es fit is) scalars,
+      functions_are m (g + 1) fs ess later (and_right (function_fits m.types f es) (functions_fit m.types fs ess) fits) (and_right (function_is_written f) (list_all function_is_written fs) written) scalars,
     )
   where
     later : (i : ℕ) (f1 : ir_function.Function) → slice_get fs i ≡ Some f1 → slice_get m.functions ((g + 1) + i) ≡ Some f1

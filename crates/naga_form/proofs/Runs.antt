@@ -8,8 +8,8 @@ use Rattle.indexmap.proofs.ReorderLemmas.{map-reverse}
 use Rattle.naga_ir.specs.declared.module.Function as ir_function
 use Rattle.naga_ir.specs.declared.module.Module.{Module}
 use Rattle.naga_ir.specs.declared.types.Type_.{Type_}
-use Rattle.naga_info.specs.Accepted.{declares_one_function, is_scalar_type, is_accepted, function_fits, functions_fit}
-use Rattle.naga_info.specs.Part.{is_written_so_far, function_is_written}
+use Rattle.naga_info.specs.Accepted.{is_scalar_type, is_accepted, function_fits, functions_fit}
+use Rattle.naga_info.specs.Part.{declares_one_function, is_written_so_far, function_is_written}
 use Rattle.naga_info.specs.declared.info.ExpressionInfo.{ExpressionInfo}
 use Rattle.naga_info.specs.declared.info.ModuleInfo.{ModuleInfo}
 use Rattle.naga_info.proofs.Accepting.{accepted_parts}

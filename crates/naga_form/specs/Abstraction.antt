@@ -1,6 +1,5 @@
 -- What a syntax tree does when it runs: the abstract text of each tree of the grammar, a line for each row.
 use Rattle.std.specs.Prelude.{ℕ, pos, Bool, false, ◌||◌, List, [], ◌∷◌, ◌++◌, map, reverse, ◌==◌, if◌then◌else◌, Option, Some, None, codes, decimal}
-
 use Rattle.std.specs.Option.{option_map}
 use Rattle.wgsl_text.specs.Words.{stands_in}
 use Rattle.wgsl_text.specs.Tree as tree

@@ -7,7 +7,7 @@ use Rattle.naga_ir.specs.declared.expression.Expression.{Expression}
 use Rattle.naga_ir.specs.declared.module.Function.{Function}
 use Rattle.naga_ir.specs.declared.types.Type_.{Type_}
 use Rattle.naga_info.specs.declared.info.ExpressionInfo.{ExpressionInfo}
-use Rattle.naga_info.specs.Accepted.{expression_fits, expressions_fit, function_fits, functions_fit}
+use Rattle.naga_info.specs.Accepted.{expression_fits, expressions_fit_from, function_fits, functions_fit}
 
 -- an arena's items with their handles, tested by the items alone
 pub list_all-pairs : {X : Type 0} (test : X → Bool) (n : ℕ) (xs : List X) → list_all (λ p. test p.1) (enumerate_from n xs) ≡ list_all test xs
@@ -32,30 +32,30 @@ false-and_same true b c e h = absurd cc
 false-and_same false b c e h = e
 
 module _ (types : List Type_) where
-  pub expressions_fit-unequal : (f : Function) (es : List Expression) (ks : List ExpressionInfo) → length es ≢ length ks → expressions_fit types f es ks ≡ false
-  expressions_fit-unequal f [] [] other = absurd (other refl)
-  expressions_fit-unequal f [] (k ∷ ks) other = refl
-  expressions_fit-unequal f (e ∷ es) [] other = refl
-  expressions_fit-unequal f (e ∷ es) (k ∷ ks) other =
-      and_right (expression_fits types f e k) (expressions_fit types f es ks) (expressions_fit-unequal f es ks (λ same. other (ap suc same)))
+  pub expressions_fit-unequal : (f : Function) (ks0 : List ExpressionInfo) (n : ℕ) (es : List Expression) (ks : List ExpressionInfo) → length es ≢ length ks → expressions_fit_from types f ks0 n es ks ≡ false
+  expressions_fit-unequal f ks0 n [] [] other = absurd (other refl)
+  expressions_fit-unequal f ks0 n [] (k ∷ ks) other = refl
+  expressions_fit-unequal f ks0 n (e ∷ es) [] other = refl
+  expressions_fit-unequal f ks0 n (e ∷ es) (k ∷ ks) other =
+      and_right (expression_fits types f ks0 n e k) (expressions_fit_from types f ks0 (n + 1) es ks) (expressions_fit-unequal f ks0 (n + 1) es ks (λ same. other (ap suc same)))
 
   pub expressions_fit-step : (f : Function) (es : List Expression) (ks : List ExpressionInfo) (i : ℕ) (e : Expression) (d : ExpressionInfo)
       → i < length es → i < length ks → slice_get es i ≡ Some e
-      → expressions_fit types f (drop i es) (drop i ks) ≡ (expression_fits types f e (slice_index_or ks i d) && expressions_fit types f (drop (i + 1) es) (drop (i + 1) ks))
+      → expressions_fit_from types f ks i (drop i es) (drop i ks) ≡ (expression_fits types f ks i e (slice_index_or ks i d) && expressions_fit_from types f ks (i + 1) (drop (i + 1) es) (drop (i + 1) ks))
   expressions_fit-step f es ks i e d in_es in_ks here =
-      (λ j. expressions_fit types f (drop_first i es e in_es j) (drop_first i ks d in_ks j))
-      ∙ ap (λ x. expression_fits types f x (slice_index_or ks i d) && expressions_fit types f (drop (i + 1) es) (drop (i + 1) ks)) (item_at es i e in_es here)
+      (λ j. expressions_fit_from types f ks i (drop_first i es e in_es j) (drop_first i ks d in_ks j))
+      ∙ ap (λ x. expression_fits types f ks i x (slice_index_or ks i d) && expressions_fit_from types f ks (i + 1) (drop (i + 1) es) (drop (i + 1) ks)) (item_at es i e in_es here)
 
   -- the item at this place fits: what is left decides
   pub expressions_fit-next : (f : Function) (es : List Expression) (ks : List ExpressionInfo) (i : ℕ) (e : Expression) (d : ExpressionInfo)
-      → i < length es → i < length ks → slice_get es i ≡ Some e → expression_fits types f e (slice_index_or ks i d) ≡ true
-      → expressions_fit types f (drop i es) (drop i ks) ≡ expressions_fit types f (drop (i + 1) es) (drop (i + 1) ks)
+      → i < length es → i < length ks → slice_get es i ≡ Some e → expression_fits types f ks i e (slice_index_or ks i d) ≡ true
+      → expressions_fit_from types f ks i (drop i es) (drop i ks) ≡ expressions_fit_from types f ks (i + 1) (drop (i + 1) es) (drop (i + 1) ks)
   expressions_fit-next f es ks i e d in_es in_ks here fits = true-and_same _ _ _ (expressions_fit-step f es ks i e d in_es in_ks here) fits
 
   -- the item at this place doesn't
   pub expressions_fit-not : (f : Function) (es : List Expression) (ks : List ExpressionInfo) (i : ℕ) (e : Expression) (d : ExpressionInfo)
-      → i < length es → i < length ks → slice_get es i ≡ Some e → expression_fits types f e (slice_index_or ks i d) ≡ false
-      → expressions_fit types f (drop i es) (drop i ks) ≡ false
+      → i < length es → i < length ks → slice_get es i ≡ Some e → expression_fits types f ks i e (slice_index_or ks i d) ≡ false
+      → expressions_fit_from types f ks i (drop i es) (drop i ks) ≡ false
   expressions_fit-not f es ks i e d in_es in_ks here fits = false-and_same _ _ _ (expressions_fit-step f es ks i e d in_es in_ks here) fits
 
   pub functions_fit-unequal : (fs : List Function) (ess : List (List ExpressionInfo)) → length fs ≢ length ess → functions_fit types fs ess ≡ false

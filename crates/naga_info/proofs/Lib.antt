@@ -1,4 +1,6 @@
 pub mod Accepting
+pub mod Agreeing
 pub mod Counting
 pub mod Fitting
+pub mod Numbering
 pub mod Writing

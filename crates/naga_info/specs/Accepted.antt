@@ -1,14 +1,15 @@
 -- Whether a module and what is known of it fit together: handles, `Emit` ranges and argument numbers lie in their arenas and
 -- lists, each expression has the type that its operands and declarations give it, and statements get what they want.
--- The counts don't matter. So far no module is accepted that declares more than scalar types and one function, or whose
--- expressions are others than literals, arguments and locals, or whose statements are others than `Emit` and `Return`.
-use Rattle.std.specs.Prelude.{ℕ, Bool, true, false, ◌&&◌, List, [], ◌∷◌, length, Option, Some, None, ◌==◌, nat_lt, nat_le, slice_get}
+-- The counts don't matter. So far no module is accepted that declares more than scalar types and functions, or whose
+-- expressions are others than literals, arguments, locals, loads of locals and sums, differences and products, or whose
+-- statements are others than `Emit`, `Store` and `Return`.
+use Rattle.std.specs.Prelude.{ℕ, Bool, true, false, ◌&&◌, List, [], ◌∷◌, length, Option, Some, None, ◌==◌, nat_lt, nat_le, ◌+◌, if◌then◌else◌, slice_get}
 use Rattle.std.specs.List.{list_all}
 use Rattle.std.specs.Option.{option_map, option_map_or, is_some, option_and_then}
 use Rattle.indexmap.specs.IndexMap.{keys, values}
-use Rattle.naga_ir.specs.StatementTree.{SimpleStatement, emit, return, StatementTree, simple, BlockTree, no_statements, statement}
+use Rattle.naga_ir.specs.StatementTree.{SimpleStatement, emit, store, return, StatementTree, simple, BlockTree, no_statements, statement}
 use Rattle.naga_ir.specs.declared.expression.Expression.{Expression}
-use Rattle.naga_ir.specs.declared.expression.Expression.TheVariants.{Literal, FunctionArgument, LocalVariable}
+use Rattle.naga_ir.specs.declared.expression.Expression.TheVariants.{Literal, FunctionArgument, LocalVariable, Load, Binary}
 use Rattle.naga_ir.specs.declared.module.Function.{Function}
 use Rattle.naga_ir.specs.declared.module.FunctionResult.{FunctionResult}
 use Rattle.naga_ir.specs.declared.module.LocalVariable.{LocalVariable as Local}
@@ -17,13 +18,13 @@ use Rattle.naga_ir.specs.declared.module.SpecialTypes.{SpecialTypes}
 use Rattle.naga_ir.specs.declared.types.Type_.{Type_}
 use Rattle.naga_info.specs.declared.info.ExpressionInfo.{ExpressionInfo}
 use Rattle.naga_info.specs.declared.info.ModuleInfo.{ModuleInfo}
-use Rattle.naga_info.specs.Types.{word_of_type, word_at, local_pointer, spelling_at, spelling_of, is_alike, literal_word, literal_is_within}
+use Rattle.naga_info.specs.Types.{word_of_type, word_at, local_pointer, spelling_at, spelling_of, pointee_at, operator_word, is_alike, literal_word, literal_is_within}
 
--- nothing is declared but types and at most one function
-abbrev pub declares_one_function : Module → Bool
-declares_one_function m =
+-- nothing is declared but types and functions
+abbrev pub declares_functions : Module → Bool
+declares_functions m =
     length m.constants == 0 && (length m.overrides == 0 && (length m.global_variables == 0 &&
-    (length m.global_expressions == 0 && (nat_le (length m.functions) 1 && length m.entry_points.items == 0))))
+    (length m.global_expressions == 0 && length m.entry_points.items == 0)))
 
 -- the type is one of the scalar types that are told apart
 abbrev pub is_scalar_type : Type_ → Bool
@@ -47,27 +48,39 @@ signature_fits count f =
 abbrev pub names_fit : Function → Bool
 names_fit f = list_all (λ h. nat_lt h (length f.expressions)) (keys f.named_expressions)
 
--- the spelling of the type that an expression has by what it stands for
-abbrev pub expected_type : List Type_ → Function → Expression → Option (List ℕ)
-expected_type types f (Literal value) = literal_word value
-expected_type types f (FunctionArgument number) = option_and_then (λ a. word_at types a.ty) (slice_get f.arguments.items number)
-expected_type types f (LocalVariable handle) = option_and_then (λ l. option_map local_pointer (word_at types l.ty)) (slice_get f.local_variables handle)
-expected_type types f _ = None
+-- the operand stands before the expression with this handle, and its type is spelled
+abbrev pub operand_fits : List Type_ → List ExpressionInfo → (here : ℕ) → (operand : ℕ) → Bool
+operand_fits types es here operand = nat_lt operand here && is_some (spelling_at types es operand)
+
+-- the spelling of the type that the expression with the handle `here` has by what it stands for, its operands standing before
+-- it. That of an operator between two operands is its own, whichever it is, where those of the operands are spelled.
+abbrev pub expected_type : List Type_ → Function → List ExpressionInfo → (here : ℕ) → Expression → Option (List ℕ)
+expected_type types f es here (Literal value) = literal_word value
+expected_type types f es here (FunctionArgument number) = option_and_then (λ a. word_at types a.ty) (slice_get f.arguments.items number)
+expected_type types f es here (LocalVariable handle) = option_and_then (λ l. option_map local_pointer (word_at types l.ty)) (slice_get f.local_variables handle)
+expected_type types f es here (Load pointer) = if nat_lt pointer here then pointee_at types es pointer else None
+expected_type types f es here (Binary op left right) =
+    if is_some (operator_word op) && (operand_fits types es here left && operand_fits types es here right) then spelling_at types es here else None
+expected_type types f es here _ = None
 
 -- the value of a literal is one of its type
 abbrev pub is_within : Expression → Bool
 is_within (Literal value) = literal_is_within value
 is_within _ = true
 
--- what is known of an expression is its type
-abbrev pub expression_fits : List Type_ → Function → Expression → ExpressionInfo → Bool
-expression_fits types f e known = is_alike (spelling_of types known.ty) (expected_type types f e) && is_within e
+-- what is known of the expression with this handle is its type; `es` is what is known of all
+abbrev pub expression_fits : List Type_ → Function → (es : List ExpressionInfo) → (here : ℕ) → Expression → ExpressionInfo → Bool
+expression_fits types f es here e known = is_alike (spelling_of types known.ty) (expected_type types f es here e) && is_within e
+
+-- of each expression, from this handle on, one thing is known, and it fits
+abbrev pub expressions_fit_from : List Type_ → Function → (es : List ExpressionInfo) → (here : ℕ) → List Expression → List ExpressionInfo → Bool
+expressions_fit_from types f es here [] [] = true
+expressions_fit_from types f es here (e ∷ xs) (k ∷ ks) = expression_fits types f es here e k && expressions_fit_from types f es (here + 1) xs ks
+expressions_fit_from types f es here _ _ = false
 
 -- of each expression one thing is known, and it fits
 abbrev pub expressions_fit : List Type_ → Function → List Expression → List ExpressionInfo → Bool
-expressions_fit types f [] [] = true
-expressions_fit types f (e ∷ es) (k ∷ ks) = expression_fits types f e k && expressions_fit types f es ks
-expressions_fit types f _ _ = false
+expressions_fit types f xs es = expressions_fit_from types f es 0 xs es
 
 -- the expression, if there is one, has a type like that of the type's handle
 abbrev pub value_fits : List Type_ → List ExpressionInfo → ℕ → Option ℕ → Bool
@@ -85,6 +98,7 @@ return_fits types es _ _ = false
 
 abbrev pub simple_fits : List Type_ → List ExpressionInfo → Option FunctionResult → SimpleStatement → Bool
 simple_fits types es answer (emit first end) = nat_le first end && nat_le end (length es)
+simple_fits types es answer (store pointer value) = is_alike (spelling_at types es value) (pointee_at types es pointer)
 simple_fits types es answer (return value) = return_fits types es answer value
 simple_fits types es answer _ = false
 
@@ -111,6 +125,6 @@ functions_fit types _ _ = false
 -- the module is accepted with what is known of it
 unfoldable pub is_accepted : Module → ModuleInfo → Bool
 is_accepted m info =
-    declares_one_function m && (list_all is_scalar_type m.types && (special_types_fit (length m.types) m.special_types &&
+    declares_functions m && (list_all is_scalar_type m.types && (special_types_fit (length m.types) m.special_types &&
     (length info.entry_points.items == 0 && (length info.const_expression_types.items == 0 &&
     functions_fit m.types m.functions info.functions.items))))

@@ -5,3 +5,5 @@ pub mod Types
 pub mod Spelled
 pub mod Accepted
 pub mod Part
+pub mod Operations
+pub mod Table

@@ -1,5 +1,5 @@
 -- What is written so far of the modules. Others are refused as not yet written.
-use Rattle.std.specs.Prelude.{Bool, true, false, ◌&&◌, length, ◌==◌}
+use Rattle.std.specs.Prelude.{Bool, true, false, ◌&&◌, length, ◌==◌, nat_le}
 use Rattle.std.specs.List.{list_all}
 use Rattle.std.specs.Option.{option_map_or, is_some, is_none}
 use Rattle.indexmap.specs.IndexMap.{keys}
@@ -9,7 +9,13 @@ use Rattle.naga_ir.specs.declared.expression.Expression.TheVariants.{Literal, Fu
 use Rattle.naga_ir.specs.declared.module.Function.{Function}
 use Rattle.naga_ir.specs.declared.module.Module.{Module}
 use Rattle.naga_info.specs.Types.{literal_word}
-use Rattle.naga_info.specs.Accepted.{declares_one_function, is_scalar_type}
+use Rattle.naga_info.specs.Accepted.{is_scalar_type}
+
+-- nothing is declared but types and at most one function
+abbrev pub declares_one_function : Module → Bool
+declares_one_function m =
+    length m.constants == 0 && (length m.overrides == 0 && (length m.global_variables == 0 &&
+    (length m.global_expressions == 0 && (nat_le (length m.functions) 1 && length m.entry_points.items == 0))))
 
 -- an argument, or a literal of one of the scalar types
 abbrev pub expression_is_written : Expression → Bool

@@ -4,6 +4,8 @@ use Rattle.std.specs.Option.{option_map, option_and_then}
 use Rattle.std.specs.Str.{bytes_eq}
 use Rattle.naga_ir.specs.declared.expression.Literal.{Literal}
 use Rattle.naga_ir.specs.declared.expression.Literal.TheVariants.{U32, I32, U64, I64, Bool as BoolLiteral}
+use Rattle.naga_ir.specs.declared.operators.BinaryOperator.{BinaryOperator}
+use Rattle.naga_ir.specs.declared.operators.BinaryOperator.TheVariants.{Add, Subtract, Multiply}
 use Rattle.naga_ir.specs.declared.types.AddressSpace.{AddressSpace}
 use Rattle.naga_ir.specs.declared.types.AddressSpace.TheVariants.{Function}
 use Rattle.naga_ir.specs.declared.types.Scalar.{Scalar}
@@ -51,6 +53,16 @@ spelling types (ScalarType s) = scalar_word s
 spelling types (Pointer base space) = pointer_spelling space (word_at types base)
 spelling types _ = None
 
+-- what is pointed at, by the space and the pointee's word: known of pointers to locals alone
+abbrev pub local_word : AddressSpace → Option (List ℕ) → Option (List ℕ)
+local_word Function word = word
+local_word _ word = None
+
+-- the word of what a pointer to a local points at, and none for another type
+abbrev pub pointee_word : List Type_ → TypeInner → Option (List ℕ)
+pointee_word types (Pointer base space) = local_word space (word_at types base)
+pointee_word types _ = None
+
 -- the spelling of what a `TypeResolution` stands for
 abbrev pub spelling_of : List Type_ → TypeResolution → Option (List ℕ)
 spelling_of types ty = option_and_then (spelling types) (inner_of ty types)
@@ -59,10 +71,25 @@ spelling_of types ty = option_and_then (spelling types) (inner_of ty types)
 abbrev pub spelling_at : List Type_ → List ExpressionInfo → ℕ → Option (List ℕ)
 spelling_at types es handle = option_and_then (λ e. spelling_of types e.ty) (slice_get es handle)
 
+-- the word of what is pointed at, where a `TypeResolution` stands for a pointer to a local
+abbrev pub pointee_of : List Type_ → TypeResolution → Option (List ℕ)
+pointee_of types ty = option_and_then (pointee_word types) (inner_of ty types)
+
+-- the word of what the expression with this handle points at, if it is a pointer to a local
+abbrev pub pointee_at : List Type_ → List ExpressionInfo → ℕ → Option (List ℕ)
+pointee_at types es handle = option_and_then (λ e. pointee_of types e.ty) (slice_get es handle)
+
 -- both are spelled, and alike
 abbrev pub is_alike : Option (List ℕ) → Option (List ℕ) → Bool
 is_alike (Some a) (Some b) = bytes_eq a b
 is_alike _ _ = false
+
+-- how an operator is written, of those that are written so far
+abbrev pub operator_word : BinaryOperator → Option (List ℕ)
+operator_word Add = Some (codes "+")
+operator_word Subtract = Some (codes "-")
+operator_word Multiply = Some (codes "*")
+operator_word _ = None
 
 -- the word of a literal's type
 abbrev pub literal_word : Literal → Option (List ℕ)

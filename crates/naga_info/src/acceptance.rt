@@ -4,14 +4,14 @@ ghost use Rattle.std.specs.Prelude.{◌≡◌, nat_lt};
 ghost use Rattle.std.specs.List.{list_all};
 ghost use Rattle.indexmap.specs.IndexMap.{values};
 ghost use Rattle.naga_ir.specs.StatementViews.{tree_of};
-ghost use Rattle.naga_info.specs.Accepted.{block_fits, declares_one_function, expected_type, expression_fits, is_within, expressions_fit, function_fits, functions_fit, is_accepted, is_below, is_within, is_scalar_type, local_fits, names_fit, return_fits, signature_fits, special_types_fit, statement_fits, value_fits};
+ghost use Rattle.naga_info.specs.Accepted.{block_fits, declares_functions, expected_type, expression_fits, is_within, expressions_fit, function_fits, functions_fit, is_accepted, is_below, is_within, is_scalar_type, local_fits, names_fit, operand_fits, return_fits, signature_fits, special_types_fit, statement_fits, value_fits};
 ghost use Rattle.naga_info.specs.Spelled.{spelled};
 ghost use Rattle.naga_info.specs.Types.{literal_is_within};
 
 use crate::info::{ExpressionInfo, FunctionInfo, ModuleInfo};
 use crate::spelling::{
-    Spelled, are_alike, scalar_of, scalar_word, spelled_at, spelled_expression, spelled_literal,
-    spelled_pointer_to, spelled_resolution,
+    Spelled, are_alike, is_spelled, operator_word, scalar_of, scalar_word, spelled_at,
+    spelled_expression, spelled_literal, spelled_pointee, spelled_pointer_to, spelled_resolution,
 };
 use naga_ir::{
     Arena, Expression, Function, FunctionArgument, Handle, Literal, LocalVariable, Module, Place,
@@ -20,25 +20,28 @@ use naga_ir::{
 
 /// Whether the module is accepted, with what is known of it. So far these are accepted:
 ///
-/// - The module declares nothing but types, each of them `bool`, `i32`, `u32`, `i64` or `u64`, and at
-///   most one function. Its special types lie in the types.
+/// - The module declares nothing but types, each of them `bool`, `i32`, `u32`, `i64` or `u64`, and
+///   functions. Its special types lie in the types.
 /// - The info has one entry for each function and none for anything else; the entry has one for each
 ///   of the function's expressions.
 /// - The types of the arguments, of the result and of the locals lie in the types, and the
 ///   expressions that have names lie in the expressions.
-/// - Each expression is a literal, an argument or a local that there is, and the info gives it the
-///   literal's type, the argument's type, or a pointer to the local's type in the space of functions.
-///   Types are alike where they are spelled alike.
+/// - Each expression is a literal, an argument or a local that there is, a `Load`, or an addition,
+///   subtraction or multiplication. Operands stand before the expression. The info gives it the
+///   literal's type, the argument's type, a pointer to the local's type in the space of functions, or
+///   for a `Load` what such a pointer points at. The types of the others and of their operands are
+///   scalars or pointers to locals. Types are alike where they are spelled alike.
 /// - The first value of a local has the local's type.
-/// - Each statement is an `Emit` of a range within the expressions, or a `Return`: of a value of the
-///   result's type, or of none where the function has no result.
+/// - Each statement is an `Emit` of a range within the expressions, a `Store` of a value of the type
+///   that a pointer to a local points at, or a `Return`: of a value of the result's type, or of none
+///   where the function has no result.
 ///
 /// The counts are not looked at. Each other module is answered `false`.
 #[tactic(auto, unfolding(crate::specs::Accepted::is_accepted))]
 pub fn accepts(module: &Module, info: &ModuleInfo) -> bool
     ensures { result ≡ is_accepted «module».now info.now }
 {
-    declares_one_function(module)
+    declares_functions(module)
         && types_are_scalar(&module.types)
         && special_types_fit(module.types.len(), &module.special_types)
         && info.entry_points.is_empty()
@@ -46,14 +49,13 @@ pub fn accepts(module: &Module, info: &ModuleInfo) -> bool
         && functions_fit(&module.types, &module.functions, info.functions.as_slice())
 }
 
-fn declares_one_function(module: &Module) -> bool
-    ensures { result ≡ declares_one_function «module».now }
+fn declares_functions(module: &Module) -> bool
+    ensures { result ≡ declares_functions «module».now }
 {
     module.constants.is_empty()
         && module.overrides.is_empty()
         && module.global_variables.is_empty()
         && module.global_expressions.is_empty()
-        && module.functions.len() <= 1
         && module.entry_points.is_empty()
 }
 
@@ -171,25 +173,29 @@ fn expressions_fit(
         return false;
     }
     for (index, info) in infos.iter().enumerate() {
-        let expression = &function.expressions[Place::from_index(index)];
-        if !expression_fits(types, function, expression, info) {
+        let here = Place::from_index(index);
+        let expression = &function.expressions[here];
+        if !expression_fits(types, function, infos, here, expression, info) {
             return false;
         }
     }
     true
 }
 
+/// Whether what is known of the expression with the handle `here` is its type.
 fn expression_fits(
     types: &UniqueArena<Type_>,
     function: &Function,
+    infos: &[ExpressionInfo],
+    here: Handle<Expression>,
     expression: &Expression,
     info: &ExpressionInfo,
 ) -> bool
-    ensures { result ≡ expression_fits types.now function.now expression.now info.now }
+    ensures { result ≡ expression_fits types.now function.now infos.now here expression.now info.now }
 {
     are_alike(
         spelled_resolution(types, &info.ty),
-        expected_type(types, function, expression),
+        expected_type(types, function, infos, here, expression),
     ) && is_within(expression)
 }
 
@@ -212,13 +218,28 @@ fn literal_is_within(literal: Literal) -> bool
     }
 }
 
-/// The spelling of the type that an expression has by what it stands for.
+/// Whether the operand stands before the expression with the handle `here`, and its type is spelled.
+fn operand_fits(
+    types: &UniqueArena<Type_>,
+    infos: &[ExpressionInfo],
+    here: Handle<Expression>,
+    operand: Handle<Expression>,
+) -> bool
+    ensures { result ≡ operand_fits types.now infos.now here operand }
+{
+    operand.index() < here.index() && is_spelled(spelled_expression(types, infos, operand))
+}
+
+/// The spelling of the type that the expression with the handle `here` has by what it stands for.
+/// That of an operator between two operands is its own.
 fn expected_type(
     types: &UniqueArena<Type_>,
     function: &Function,
+    infos: &[ExpressionInfo],
+    here: Handle<Expression>,
     expression: &Expression,
 ) -> Spelled
-    ensures { spelled result ≡ expected_type types.now function.now expression.now }
+    ensures { spelled result ≡ expected_type types.now function.now infos.now here expression.now }
 {
     match expression {
         Expression::Literal(literal) => spelled_literal(*literal),
@@ -229,6 +250,23 @@ fn expected_type(
         Expression::LocalVariable(local) => {
             if local.index() < function.local_variables.len() {
                 spelled_pointer_to(types, function.local_variables[*local].ty)
+            } else {
+                Spelled::Nothing
+            }
+        }
+        Expression::Load { pointer } => {
+            if pointer.index() < here.index() {
+                spelled_pointee(types, infos, *pointer)
+            } else {
+                Spelled::Nothing
+            }
+        }
+        Expression::Binary { op, left, right } => {
+            if operator_word(*op).is_some()
+                && operand_fits(types, infos, here, *left)
+                && operand_fits(types, infos, here, *right)
+            {
+                spelled_expression(types, infos, here)
             } else {
                 Spelled::Nothing
             }
@@ -297,6 +335,10 @@ fn statement_fits(
 {
     match statement {
         Statement::Emit(range) => range.first <= range.end && range.end <= infos.len(),
+        Statement::Store { pointer, value } => are_alike(
+            spelled_expression(types, infos, *value),
+            spelled_pointee(types, infos, *pointer),
+        ),
         Statement::Return { value } => return_fits(types, infos, function, *value),
         _ => false,
     }

@@ -2,13 +2,14 @@
 //! alike.
 
 ghost use Rattle.std.specs.Prelude.{◌≡◌};
-ghost use Rattle.std.specs.Option.{option_and_then, option_map};
+ghost use Rattle.std.specs.Option.{is_some, option_and_then, option_map};
 ghost use Rattle.naga_info.specs.Spelled.{spelled};
-ghost use Rattle.naga_info.specs.Types.{is_alike, literal_word, local_pointer, scalar_word, spelling, spelling_at, spelling_of, word_at, word_of_type};
+ghost use Rattle.naga_info.specs.Types.{is_alike, literal_word, local_pointer, operator_word, pointee_at, pointee_of, pointee_word, scalar_word, spelling, spelling_at, spelling_of, word_at, word_of_type};
 
 use crate::info::{ExpressionInfo, TypeResolution};
 use naga_ir::{
-    AddressSpace, Expression, Handle, Literal, Scalar, ScalarKind, Type_, TypeInner, UniqueArena,
+    AddressSpace, BinaryOperator, Expression, Handle, Literal, Scalar, ScalarKind, Type_,
+    TypeInner, UniqueArena,
 };
 
 /// WGSL's word for a scalar type, of those that are written so far: `bool`, `i32`, `u32`, `i64` and
@@ -45,6 +46,16 @@ pub(crate) fn are_alike(a: Spelled, b: Spelled) -> bool
         (Spelled::Scalar(a), Spelled::Scalar(b)) => have_one_word(a, b),
         (Spelled::LocalPointer(a), Spelled::LocalPointer(b)) => have_one_word(a, b),
         _ => false,
+    }
+}
+
+/// Whether it is spelled.
+pub(crate) fn is_spelled(a: Spelled) -> bool
+    ensures { result ≡ is_some (spelled a) }
+{
+    match a {
+        Spelled::Nothing => false,
+        Spelled::Scalar(a) | Spelled::LocalPointer(a) => scalar_word(a).is_some(),
     }
 }
 
@@ -137,6 +148,59 @@ pub(crate) fn spelled_expression(
     match infos.get(handle.index()) {
         Some(info) => spelled_resolution(types, &info.ty),
         None => Spelled::Nothing,
+    }
+}
+
+fn spelled_pointee_of_type(types: &UniqueArena<Type_>, inner: &TypeInner) -> Spelled
+    ensures { spelled result ≡ pointee_word types.now inner.now }
+{
+    match inner {
+        TypeInner::Pointer {
+            base,
+            space: AddressSpace::Function,
+        } => spelled_at(types, *base),
+        _ => Spelled::Nothing,
+    }
+}
+
+fn spelled_pointee_of(types: &UniqueArena<Type_>, ty: &TypeResolution) -> Spelled
+    ensures { spelled result ≡ pointee_of types.now ty.now }
+{
+    match ty {
+        TypeResolution::Handle(handle) => {
+            if handle.index() < types.len() {
+                spelled_pointee_of_type(types, &types[*handle].inner)
+            } else {
+                Spelled::Nothing
+            }
+        }
+        TypeResolution::Value(inner) => spelled_pointee_of_type(types, inner),
+    }
+}
+
+/// The spelling of what the expression with this handle points at, if it is a pointer to a local.
+pub(crate) fn spelled_pointee(
+    types: &UniqueArena<Type_>,
+    infos: &[ExpressionInfo],
+    handle: Handle<Expression>,
+) -> Spelled
+    ensures { spelled result ≡ pointee_at types.now infos.now handle }
+{
+    match infos.get(handle.index()) {
+        Some(info) => spelled_pointee_of(types, &info.ty),
+        None => Spelled::Nothing,
+    }
+}
+
+/// How an operator is written, of those that are written so far: `+`, `-` and `*`.
+pub(crate) fn operator_word(op: BinaryOperator) -> Option<&'static str>
+    ensures { option_map (λ word. word.now) result ≡ operator_word op }
+{
+    match op {
+        BinaryOperator::Add => Some("+"),
+        BinaryOperator::Subtract => Some("-"),
+        BinaryOperator::Multiply => Some("*"),
+        _ => None,
     }
 }
 

@@ -4,8 +4,8 @@ ghost use Rattle.std.specs.Prelude.{◌≡◌};
 ghost use Rattle.std.specs.List.{list_all};
 ghost use Rattle.std.specs.Option.{is_none, is_some};
 ghost use Rattle.naga_ir.specs.StatementViews.{tree_of};
-ghost use Rattle.naga_info.specs.Accepted.{declares_one_function, is_scalar_type};
-ghost use Rattle.naga_info.specs.Part.{block_is_written, expression_is_written, function_is_written, is_unbound, is_written_so_far, statement_is_written};
+ghost use Rattle.naga_info.specs.Accepted.{is_scalar_type};
+ghost use Rattle.naga_info.specs.Part.{block_is_written, declares_one_function, expression_is_written, function_is_written, is_unbound, is_written_so_far, statement_is_written};
 ghost use Rattle.naga_info.specs.Types.{literal_word};
 
 use naga_info::scalar_word;
