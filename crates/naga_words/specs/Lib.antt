@@ -1,2 +1,5 @@
 pub mod Sink
 pub mod Indentation
+pub mod Baking
+pub mod Kinds
+pub mod Operators

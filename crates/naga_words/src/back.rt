@@ -5,6 +5,14 @@ ghost use Rattle.naga_words.specs.Indentation.{indentation};
 
 use std::fmt;
 
+mod baking;
+mod kinds;
+mod operators;
+
+pub use baking::{BakeRefCount, Baked, NeedBakeExpressions};
+pub use kinds::{IsHandle, IsTerminator};
+pub use operators::{COMPONENTS, binary_operation_str};
+
 /// What each level of nesting is indented by.
 pub const INDENT: &str = "    ";
 
