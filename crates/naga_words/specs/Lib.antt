@@ -3,3 +3,4 @@ pub mod Indentation
 pub mod Baking
 pub mod Kinds
 pub mod Operators
+pub mod FunctionContext
