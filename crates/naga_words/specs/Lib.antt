@@ -4,3 +4,4 @@ pub mod Baking
 pub mod Kinds
 pub mod Operators
 pub mod FunctionContext
+pub mod FixedInput

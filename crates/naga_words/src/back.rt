@@ -7,6 +7,7 @@ use std::fmt;
 
 mod baking;
 mod context;
+mod fixed_input;
 mod kinds;
 mod operators;
 mod rays;
