@@ -5,6 +5,7 @@ ghost use Rattle.std.specs.Option.{option_to_list};
 ghost use Rattle.std.specs.List.{flat_map};
 ghost use Rattle.naga_ir.specs.StatementViews.{tree_of, cases_of};
 ghost use Rattle.naga_info.specs.Operands.{level_operands, query_operands, cooperative_operands, expression_operands, atomic_operands, gather_operands, ray_operands, statement_operands, block_operands, cases_operands};
+ghost use Rattle.naga_info.specs.Accepted.{is_accepted};
 ghost use Rattle.naga_info.specs.Counts.{counted, all_counted, functions_of, with_use, with_uses, without_uses};
 
 use crate::info::{ExpressionInfo, FunctionInfo, ModuleInfo};
@@ -342,7 +343,7 @@ fn count_entry_points(infos: &mut [FunctionInfo], entry_points: &[EntryPoint])
 /// Sets each `ref_count` to the number of operand places in its function's expressions and
 /// statements that hold the expression's handle, at most the greatest `usize`. The results of
 /// statements and the initialisers of locals are no operand places. Nothing else changes; it takes
-/// no memory and always succeeds.
+/// no memory and always succeeds. A module that was accepted before is accepted afterwards.
 ///
 /// Where the module has no function or entry point at some place of the info, what stands there
 /// stays as it was, and a handle outside the info counts for nothing.
@@ -350,6 +351,7 @@ pub fn count(info: &mut ModuleInfo, module: &Module)
     ensures functions { info.new.functions.items ≡ all_counted «module».now.functions info.old.functions.items }
     ensures entry_points { info.new.entry_points.items ≡ all_counted (functions_of «module».now.entry_points.items) info.old.entry_points.items }
     ensures types { info.new.const_expression_types ≡ info.old.const_expression_types }
+    ensures accepted { is_accepted «module».now info.new ≡ is_accepted «module».now info.old }
 {
     count_functions(info.functions.as_mut_slice(), &module.functions);
     count_entry_points(info.entry_points.as_mut_slice(), &module.entry_points);

@@ -1,3 +1,6 @@
 //! Helpers of the writer.
 
-pub use naga_words::{INDENT, Level};
+pub use naga_words::back::{
+    BakeRefCount, Baked, COMPONENTS, FunctionCtx, FunctionType, INDENT, IsHandle, IsTerminator,
+    Level, NeedBakeExpressions, RayFlag, RayIntersectionType, binary_operation_str,
+};

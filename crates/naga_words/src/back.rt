@@ -5,6 +5,19 @@ ghost use Rattle.naga_words.specs.Indentation.{indentation};
 
 use std::fmt;
 
+mod baking;
+mod context;
+mod fixed_input;
+mod kinds;
+mod operators;
+mod rays;
+
+pub use baking::{BakeRefCount, Baked, NeedBakeExpressions};
+pub use context::{FunctionCtx, FunctionType};
+pub use kinds::{IsHandle, IsTerminator};
+pub use operators::{COMPONENTS, binary_operation_str};
+pub use rays::{RayFlag, RayIntersectionType};
+
 /// What each level of nesting is indented by.
 pub const INDENT: &str = "    ";
 
