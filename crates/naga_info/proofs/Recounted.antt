@@ -1,5 +1,5 @@
 -- Whether a module is accepted doesn't depend on the counts.
-use Rattle.std.proofs.Common.{◌≡◌, ℕ, zero, suc, ◌+◌, Bool, true, false, ◌&&◌, List, [], ◌∷◌, map, length, Option, Some, None, refl, sym, ap, ◌∙◌, slice_get, nat_lt, nat_le, cond}
+use Rattle.std.proofs.Common.{◌≡◌, ℕ, zero, suc, ◌+◌, ◌&&◌, List, [], ◌∷◌, length, Option, Some, None, refl, ap, ◌∙◌, nat_lt, nat_le, nat_eq, cond}
 use Rattle.std.specs.List.{list_all}
 use Rattle.std.specs.Option.{option_map, option_map_or, option_and_then, is_some}
 use Rattle.naga_ir.specs.StatementTree.{SimpleStatement, emit, return, store, StatementTree, simple, BlockTree, no_statements, statement}
@@ -84,9 +84,9 @@ same_functions types [] (es ∷ ess) = refl
 same_functions types (f ∷ fs) [] = refl
 same_functions types (f ∷ fs) (es ∷ ess) = λ i. same_function types f (use_count (operand_places f)) es i && same_functions types fs ess i
 
-pub same_acceptance : (m : Module) (old now : ModuleInfo) → now.functions.items ≡ all_counted m.functions old.functions.items → length now.entry_points.items ≡ length old.entry_points.items → now.const_expression_types ≡ old.const_expression_types → is_accepted m now ≡ is_accepted m old
+pub same_acceptance : (m : Module) (old new : ModuleInfo) → new.functions.items ≡ all_counted m.functions old.functions.items → length new.entry_points.items ≡ length old.entry_points.items → new.const_expression_types ≡ old.const_expression_types → is_accepted m new ≡ is_accepted m old
 unfolding is_accepted
-same_acceptance m old now functions entries types = λ i.
+same_acceptance m old new functions entries types = λ i.
     declares_functions m && (list_all is_scalar_type m.types && (special_types_fit (length m.types) m.special_types &&
     (nat_eq (entries i) 0 && (nat_eq (length (types i).items) 0 &&
     (ap (functions_fit m.types m.functions) functions ∙ same_functions m.types m.functions old.functions.items) i))))
