@@ -1,5 +1,5 @@
 -- Names given to one item after another.
-use Rattle.std.proofs.Common.{◌≡◌, ℕ, ◌^◌, ◌≤◌, Bool, true, false, ◌&&◌, nat_lt, cond, List, [], ◌∷◌, ◌++◌, map, length, get_or, take, drop, ◌+◌, ◌<◌, codes, arith, add-zero, add-one, drop-cons, IfErr, IsErrAnd, Bor, Option, Some, None, String, HashMap, string_bytes, refl, sym, ap, subst, ◌∙◌, append_assoc, append-nil}
+use Rattle.std.proofs.Common.{◌≡◌, ℕ, ◌^◌, ◌≤◌, Bool, true, false, ◌&&◌, nat_lt, cond, List, [], ◌∷◌, ◌++◌, map, length, get_or, take, drop, ◌+◌, ◌<◌, arith, add-zero, add-one, drop-cons, IfErr, IsErrAnd, Bor, Option, Some, None, String, HashMap, string_bytes, refl, sym, ap, subst, ◌∙◌, append_assoc, append-nil}
 use borrow.Author.Tests.{ltb-true}
 use Rattle.std.specs.List.{scan, fold, flat_map, enumerate_from}
 use Rattle.std.specs.declared.result.Result.{Result}
@@ -7,7 +7,6 @@ use Rattle.std.specs.declared.result.Result.TheVariants.{Ok, Err}
 use Rattle.std.proofs.lemmas.Grind.{flat_map-append}
 use Rattle.std.proofs.lemmas.List.{take-append-drop, map-append, take_more, length-take-le}
 use Rattle.naga_ir.specs.declared.module.EntryPoint.{EntryPoint}
-use Rattle.naga_names.specs.declared.namer.key.NameKey.TheVariants as key
 use Rattle.std.specs.Map.{update, update_all, lookup}
 use Rattle.std.specs.HashMap as hash
 use Rattle.std.specs.Option.{option_map, option_or}

@@ -9,8 +9,8 @@ use crate::keyword_set::{CaseInsensitiveKeywordSet, KeywordSet};
 use crate::namer::uses::Uses;
 pub use key::{ExternalTextureNameKey, NameKey};
 use naga_ir::{
-    Arena, EntryPoint, Function, FunctionArgument, GlobalVariable, Handle, ImageClass, LocalVariable,
-    Module, ShaderStage, TypeInner, Type_, UniqueArena,
+    Arena, EntryPoint, Function, FunctionArgument, GlobalVariable, Handle, ImageClass,
+    LocalVariable, Module, ShaderStage, Type_, TypeInner, UniqueArena,
 };
 use std::alloc::{AllocError, AllocFailed, Global};
 use std::collections::HashMap;
@@ -265,7 +265,11 @@ impl Namer {
         ensures err { IfErr result (RefusesItems self.old (names_in output.old) (labelled_entry_point index entry_point.now) (names_in output.new)) }
     {
         let function = &entry_point.function;
-        self.name_item(NameKey::EntryPoint(index), entry_point.name.as_str(), output)?;
+        self.name_item(
+            NameKey::EntryPoint(index),
+            entry_point.name.as_str(),
+            output,
+        )?;
         self.name_entry_arguments(index, &function.arguments, output)?;
         self.name_entry_locals(index, &function.local_variables, output)
     }
@@ -372,10 +376,26 @@ impl Namer {
             return Ok(());
         }
         self.name_parts(
-            NameKey::ExternalTextureFunctionArgument(function, index, ExternalTextureNameKey::Plane(0)),
-            NameKey::ExternalTextureFunctionArgument(function, index, ExternalTextureNameKey::Plane(1)),
-            NameKey::ExternalTextureFunctionArgument(function, index, ExternalTextureNameKey::Plane(2)),
-            NameKey::ExternalTextureFunctionArgument(function, index, ExternalTextureNameKey::Params),
+            NameKey::ExternalTextureFunctionArgument(
+                function,
+                index,
+                ExternalTextureNameKey::Plane(0),
+            ),
+            NameKey::ExternalTextureFunctionArgument(
+                function,
+                index,
+                ExternalTextureNameKey::Plane(1),
+            ),
+            NameKey::ExternalTextureFunctionArgument(
+                function,
+                index,
+                ExternalTextureNameKey::Plane(2),
+            ),
+            NameKey::ExternalTextureFunctionArgument(
+                function,
+                index,
+                ExternalTextureNameKey::Params,
+            ),
             label,
             output,
         )
@@ -527,7 +547,11 @@ fn type_label<'a>(entry_points: &[EntryPoint], handle: Handle<Type_>, ty: &'a Ty
     }
 }
 
-fn unnamed_label(entry_points: &[EntryPoint], handle: Handle<Type_>, inner: &TypeInner) -> &'static str
+fn unnamed_label(
+    entry_points: &[EntryPoint],
+    handle: Handle<Type_>,
+    inner: &TypeInner,
+) -> &'static str
     ensures { result.now ≡ (if is_struct inner.now then unwrap_or (output_label handle entry_points.now) (codes "type") else codes "type") }
 {
     if is_struct(inner) {

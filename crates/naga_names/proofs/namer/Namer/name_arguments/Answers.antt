@@ -1,14 +1,12 @@
-use Rattle.std.proofs.Common.{ℕ, List, map, cond, nat_lt, refl, sym, subst, [], ◌∷◌, ◌++◌, ◌^◌, codes, string_bytes}
+use Rattle.std.proofs.Common.{List, cond, sym, subst, [], ◌^◌, codes}
 use Rattle.std.specs.List.{flat_map, enumerate_from}
-use Rattle.naga_ir.specs.declared.module.EntryPoint.{EntryPoint}
 use Rattle.naga_ir.specs.declared.module.FunctionArgument.{FunctionArgument}
 use Rattle.naga_names.specs.declared.namer.key.NameKey.TheVariants as key
-use Rattle.naga_names.specs.declared.namer.key.ExternalTextureNameKey.TheVariants.{Plane, Params}
 use Rattle.naga_names.specs.declared.namer.NamerError.TheVariants.{KeyFull}
 use Rattle.naga_names.specs.Naming.{label_or}
-use Rattle.naga_names.specs.Reset.{NamesItems, names_in, is_external, labelled_argument, labelled_parts, labelled_locals, labelled_entry_point, labelled_entry_arguments, labelled_entry_locals}
+use Rattle.naga_names.specs.Reset.{NamesItems, names_in, is_external, labelled_argument, labelled_parts}
 use Rattle.naga_names.specs.Refusal.{RefusesItems}
-use Rattle.naga_names.proofs.ResetLemmas.{if_err_at, names_then, refuses_then, refuses_more, refuses_key, not_below, or_not_this, items_at, items_left, items_more, sections_grown, sections_single, entries_grown}
+use Rattle.naga_names.proofs.ResetLemmas.{if_err_at, names_then, refuses_then, refuses_more, refuses_key, not_below, items_at, items_left, items_more, sections_grown, sections_single}
 use Rattle.naga_names.proofs.namer.Namer.name_arguments.Goals as goal
 
 pub returns-in_default-clause-err : goal.returns-in_default-clause-err

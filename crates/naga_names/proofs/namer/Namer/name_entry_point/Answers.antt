@@ -1,7 +1,6 @@
-use Rattle.std.proofs.Common.{ap, sym, cond, [], ◌∷◌, ◌++◌, codes, string_bytes}
+use Rattle.std.proofs.Common.{ap, [], ◌∷◌, ◌++◌}
 use Rattle.naga_names.specs.declared.namer.key.NameKey.TheVariants as key
-use Rattle.naga_names.specs.Naming.{label_or}
-use Rattle.naga_names.specs.Reset.{names_in, is_external, labelled_types, labelled_parts, labelled_arguments, labelled_locals, labelled_functions, labelled_entry_arguments, labelled_entry_locals, labelled_entry_points, labelled_globals}
+use Rattle.naga_names.specs.Reset.{names_in, labelled_entry_arguments, labelled_entry_locals}
 use Rattle.naga_names.specs.Refusal.{RefusesItems}
 use Rattle.naga_names.proofs.ResetLemmas.{if_err_at, refuses_then, refuses_more}
 use Rattle.naga_names.proofs.namer.Namer.name_entry_point.Goals as goal

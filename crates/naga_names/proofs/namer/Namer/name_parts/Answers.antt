@@ -1,7 +1,5 @@
-use Rattle.std.proofs.Common.{ap, sym, cond, [], ◌∷◌, ◌++◌, codes, string_bytes}
-use Rattle.naga_names.specs.declared.namer.key.NameKey.TheVariants as key
-use Rattle.naga_names.specs.Naming.{label_or}
-use Rattle.naga_names.specs.Reset.{names_in, is_external, labelled_types, labelled_parts, labelled_arguments, labelled_locals, labelled_functions, labelled_entry_arguments, labelled_entry_locals, labelled_entry_points, labelled_globals}
+use Rattle.std.proofs.Common.{[], ◌∷◌, ◌++◌, codes}
+use Rattle.naga_names.specs.Reset.{names_in}
 use Rattle.naga_names.specs.Refusal.{RefusesItems}
 use Rattle.naga_names.proofs.ResetLemmas.{if_err, refuses_then, refuses_more}
 use Rattle.naga_names.proofs.namer.Namer.name_parts.Goals as goal
