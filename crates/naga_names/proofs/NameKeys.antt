@@ -13,8 +13,10 @@ use Rattle.naga_names.specs.declared.namer.key.ExternalTextureNameKey.{ExternalT
 use Rattle.naga_names.specs.declared.namer.key.ExternalTextureNameKey.TheVariants.{Plane, Params}
 use Rattle.naga_names.specs.contracts.namer.key.ExternalTextureNameKeyPartialEq.TheImpl as part_eq
 use Rattle.naga_names.specs.contracts.namer.key.NameKeyEq.TheImpl.Laws.{laws-law}
-use Rattle.naga_names.specs.Naming.{label_or}
-use Rattle.naga_names.specs.Reset.{Labelled, same_key, type_label, is_external, labelled_parts, with_parts, labelled_types, labelled_argument, labelled_arguments, labelled_locals, labelled_function, labelled_functions, labelled_entry_arguments, labelled_entry_locals, labelled_entry_point, labelled_entry_points, labelled_global, labelled_globals, labelled_items}
+use Rattle.naga_names.specs.Naming.{Names, label_or}
+use Rattle.naga_names.specs.Reset.{Labelled, same_key, type_label, is_external, labelled_parts, with_parts, labelled_types, labelled_argument, labelled_arguments, labelled_locals, labelled_function, labelled_functions, labelled_entry_arguments, labelled_entry_locals, labelled_entry_point, labelled_entry_points, labelled_global, labelled_globals, labelled_declarations, value_label, type_name, labelled_constants, labelled_overrides, labelled_values, labelled_items}
+use Rattle.naga_ir.specs.declared.module.Constant.{Constant as AConstant}
+use Rattle.naga_ir.specs.declared.module.Override.{Override as AnOverride}
 use Rattle.naga_ir.specs.declared.module.EntryPoint.{EntryPoint as AnEntryPoint}
 use Rattle.naga_ir.specs.declared.module.GlobalVariable.{GlobalVariable as AGlobal}
 use Rattle.naga_ir.specs.declared.module.LocalVariable.{LocalVariable as ALocal}
@@ -303,7 +305,7 @@ types_all entry_points P own types = entries_all (λ t (ty : AType). (Type_ t, t
 types_apart : (entry_points : List AnEntryPoint) (types : List AType) → AreApart (labelled_types entry_points types)
 types_apart entry_points types = entries_apart (λ t (ty : AType). (Type_ t, type_label entry_points t ty)) 1 (λ t ty. refl) types
 
--- no item of a module has the key of another one
+-- what a module declares
 module _ («module» : Module) where
   abbrev the_types : List Labelled
   the_types = labelled_types «module».entry_points.items «module».types
@@ -317,8 +319,8 @@ module _ («module» : Module) where
   abbrev the_globals : List Labelled
   the_globals = labelled_globals «module».types «module».global_variables
 
-  pub items_apart : AreApart (labelled_items «module»)
-  items_apart =
+  pub declarations_apart : AreApart (labelled_declarations «module»)
+  declarations_apart =
       let m = «module» in
       let low = types_all m.entry_points.items (λ x. digit_of 0 x.0 < 1) (λ t label. omega arith) m.types in
       let entry_low = entry_points_all (λ x. digit_of 0 x.0 < 2) (λ e label. omega arith) (λ e n label. omega arith) (λ e l label. omega arith) m.entry_points.items in
@@ -335,3 +337,31 @@ module _ («module» : Module) where
       (all_append (λ x. 2 ≤ digit_of 0 x.0) the_functions the_globals functions_high (less 3 2 (omega arith) the_globals globals_high))
       (entry_points_apart m.entry_points.items)
       (apart_append (digit_of 0) (same_digit 0) 3 the_functions the_globals functions_low globals_high (functions_apart m.types m.functions) (globals_apart m.types m.global_variables)))
+
+  declarations_low : AllByRecursion (λ x. digit_of 0 x.0 < 4) (labelled_declarations «module»)
+  declarations_low =
+      let m = «module» in
+      all_append (λ x. digit_of 0 x.0 < 4) the_types (the_entry_points ++ (the_functions ++ the_globals)) (types_all m.entry_points.items (λ x. digit_of 0 x.0 < 4) (λ t label. omega arith) m.types)
+      (all_append (λ x. digit_of 0 x.0 < 4) the_entry_points (the_functions ++ the_globals) (entry_points_all (λ x. digit_of 0 x.0 < 4) (λ e label. omega arith) (λ e n label. omega arith) (λ e l label. omega arith) m.entry_points.items)
+      (all_append (λ x. digit_of 0 x.0 < 4) the_functions the_globals (functions_all m.types (λ x. digit_of 0 x.0 < 4) (λ h label. omega arith) (λ h n label. omega arith) (λ h n part label. omega arith) (λ h l label. omega arith) m.functions)
+      (globals_all m.types (λ x. digit_of 0 x.0 < 4) (λ g label. omega arith) (λ g part label. omega arith) m.global_variables)))
+
+  values_apart : (names : ℕ → List ℕ) → AreApart (labelled_values names «module»)
+  values_apart names =
+      let constant : ℕ → AConstant → Labelled = λ c v. (Constant c, value_label names (codes "const_") v.name v.ty) in
+      let override_ : ℕ → AnOverride → Labelled = λ o v. (Override o, value_label names (codes "override_") v.name v.ty) in
+      apart_append (digit_of 0) (same_digit 0) 5 (labelled_constants names «module».constants) (labelled_overrides names «module».overrides)
+      (entries_all constant (λ x. digit_of 0 x.0 < 5) (λ c v. omega arith) 0 «module».constants) (entries_all override_ (λ x. 5 ≤ digit_of 0 x.0) (λ o v. omega arith) 0 «module».overrides)
+      (entries_apart constant 1 (λ c v. refl) «module».constants) (entries_apart override_ 1 (λ o v. refl) «module».overrides)
+
+  values_high : (names : ℕ → List ℕ) → AllByRecursion (λ x. 4 ≤ digit_of 0 x.0) (labelled_values names «module»)
+  values_high names =
+      let constant : ℕ → AConstant → Labelled = λ c v. (Constant c, value_label names (codes "const_") v.name v.ty) in
+      let override_ : ℕ → AnOverride → Labelled = λ o v. (Override o, value_label names (codes "override_") v.name v.ty) in
+      all_append (λ x. 4 ≤ digit_of 0 x.0) (labelled_constants names «module».constants) (labelled_overrides names «module».overrides)
+      (entries_all constant (λ x. 4 ≤ digit_of 0 x.0) (λ c v. omega arith) 0 «module».constants) (entries_all override_ (λ x. 4 ≤ digit_of 0 x.0) (λ o v. omega arith) 0 «module».overrides)
+
+-- no item of a module has the key of another one
+pub items_apart : (start : Names) («module» : Module) → AreApart (labelled_items start «module»)
+items_apart start m =
+    apart_append (digit_of 0) (same_digit 0) 4 (labelled_declarations m) (labelled_values (type_name start m) m) (declarations_low m) (values_high m (type_name start m)) (declarations_apart m) (values_apart m (type_name start m))

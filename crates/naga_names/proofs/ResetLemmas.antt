@@ -1,11 +1,12 @@
 -- Names given to one item after another.
-use Rattle.std.proofs.Common.{◌≡◌, ℕ, ◌^◌, ◌≤◌, Bool, true, false, ◌&&◌, nat_lt, cond, List, [], ◌∷◌, ◌++◌, map, length, get_or, take, drop, ◌+◌, ◌<◌, arith, add-zero, add-one, drop-cons, IfErr, IsErrAnd, Bor, Option, Some, None, String, HashMap, string_bytes, refl, sym, ap, subst, ◌∙◌, append_assoc, append-nil}
+use Rattle.std.proofs.Common.{◌≡◌, ℕ, ◌^◌, ◌≤◌, Bool, true, false, ◌&&◌, nat_lt, unwrap_or, cond, List, [], ◌∷◌, ◌++◌, map, length, get_or, take, drop, ◌+◌, ◌<◌, arith, add-zero, add-one, drop-cons, IfErr, IsErrAnd, Bor, Option, Some, None, String, HashMap, string_bytes, refl, sym, ap, subst, ◌∙◌, append_assoc, append-nil}
 use borrow.Author.Tests.{ltb-true}
 use Rattle.std.specs.List.{scan, fold, flat_map, enumerate_from}
 use Rattle.std.specs.declared.result.Result.{Result}
 use Rattle.std.specs.declared.result.Result.TheVariants.{Ok, Err}
 use Rattle.std.proofs.lemmas.Grind.{flat_map-append}
 use Rattle.std.proofs.lemmas.List.{take-append-drop, map-append, take_more, length-take-le}
+use Rattle.naga_ir.specs.declared.module.Module.{Module}
 use Rattle.naga_ir.specs.declared.module.EntryPoint.{EntryPoint}
 use Rattle.std.specs.Map.{update, update_all, lookup}
 use Rattle.std.specs.HashMap as hash
@@ -13,9 +14,10 @@ use Rattle.std.specs.Option.{option_map, option_or}
 use Rattle.std.specs.FinMap as finite
 use Rattle.naga_names.specs.Words.{Words}
 use Rattle.naga_names.specs.declared.namer.key.NameKey.{NameKey}
+use Rattle.naga_names.specs.declared.namer.key.NameKey.TheVariants as key
 use Rattle.naga_names.specs.Naming.{Names, Uses, name_of, with_use, label_base, labels_with_base, name_after, HasNamed, new_names}
-use Rattle.naga_names.specs.Reset.{Labelled, NameMap, output_label, output_word, returns, labels_of, key_fits, keys_fit, named_items, same_key, names_in, HasNamedItems, PutsBeginning, NamesItems}
-use Rattle.naga_names.specs.Refusal.{IsRefusalOf, SomeNameIsFull, IsRefusalOfItems, RefusesItems}
+use Rattle.naga_names.specs.Reset.{Labelled, NameMap, output_label, output_word, returns, labels_of, key_fits, keys_fit, named_items, same_key, names_in, HasNamedItems, labelled_items, type_names_in, PutsBeginning, NamesItems, NamesModule}
+use Rattle.naga_names.specs.Refusal.{IsRefusalOf, SomeNameIsFull, IsRefusalOfItems, IsResetRefusal, RefusesItems, RefusesModule}
 use Rattle.naga_names.specs.declared.namer.NamerError.{NamerError}
 use Rattle.naga_names.specs.declared.namer.NamerError.TheVariants.{Full, KeyFull, Memory}
 use Rattle.std.proofs.lemmas.List.Folds.{list_all-append}
@@ -83,21 +85,21 @@ pub starts : (keywords builtins caseless : Words) (uses : Uses) (prefixes given 
 starts keywords builtins caseless uses prefixes given none same =
     λ i. record { keywords = keywords; builtin_identifiers = builtins; caseless_keywords = caseless; reserved_prefixes = map (λ p. p.now) (same i); uses = none i }
 
-module _ (start began : Names) (same : began ≡ start) (none : start.uses ≡ finite.empty) (before now : NameMap) (items : List Labelled) where
+module _ (start began : Names) (same : began ≡ start) (none : start.uses ≡ finite.empty) (before now : NameMap) («module» : Module) where
   began_so : HasNamedItems start before [] began before
   began_so = subst (λ names. HasNamedItems start before [] names before) (sym same) (begins start before (has_named_nothing start none))
 
   -- all of the items were named
-  pub all_named : (new : Names) → NamesItems began before items new now → HasNamedItems start before items new now
-  all_named new named = named.more start before [] began_so
+  pub all_named : (new : Names) → NamesModule began before «module» new now → HasNamedItems start before (labelled_items start «module») new now
+  all_named new named = named.more start before began_so
 
   -- some of them were
-  pub some_named : (error : NamerError) → RefusesItems began before items now error → PutsBeginning start before items now
-  some_named error named = named.some start before [] began_so
+  pub some_named : (error : NamerError) → RefusesModule began before «module» now error → PutsBeginning start before (labelled_items start «module») now
+  some_named error named = named.some start before began_so
 
   -- and the others weren't, for a reason
-  pub refused_for : (error : NamerError) → RefusesItems began before items now error → IsRefusalOfItems start items error
-  refused_for error named = named.why start before [] began_so
+  pub refused_for : (error : NamerError) → RefusesModule began before «module» now error → IsResetRefusal start «module» error
+  refused_for error named = named.why start before began_so
 
 -- ---- why items are refused
 pub if_err : {T E : Type 0} (r : Result T E) (e : E) (P : E → Type 0) → IsErrAnd r (λ y. y ≡ e) → P e → IfErr r P
@@ -327,3 +329,10 @@ output_label-push t (first ∷ entry_points) entry_point =
 pub output_label-more : (t : ℕ) (entry_points : List EntryPoint) (i : ℕ) (entry_point : EntryPoint) → i < length entry_points → entry_point ≡ get_or entry_points i entry_point → output_label t (take (i + 1) entry_points) ≡ option_or (cond (returns t entry_point) (output_word entry_point.stage) None) (output_label t (take i entry_points))
 output_label-more t entry_points i entry_point lt is =
     ap (output_label t) (take_more entry_points i entry_point lt ∙ ap (λ e. take i entry_points ++ e ∷ []) (sym is)) ∙ output_label-push t (take i entry_points) entry_point
+
+-- a map that has the same names for types
+pub same_type_names : (before now : NameMap) (count : ℕ) → ((t : ℕ) → now (key.Type_ t) ≡ before (key.Type_ t)) → type_names_in now count ≡ type_names_in before count
+same_type_names before now count same = λ i t. cond (nat_lt t count) (unwrap_or (same t i) []) []
+
+pub map_pushed : {A : Type 0} (g : A → Labelled) (xs : List A) (x : A) → map g (xs ++ x ∷ []) ≡ map g xs ++ g x ∷ []
+map_pushed g xs x = map-append g xs (x ∷ [])

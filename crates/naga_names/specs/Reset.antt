@@ -8,7 +8,9 @@ use Rattle.std.specs.Option.{option_map, option_map_or, option_or}
 use Rattle.naga_ir.specs.declared.module.Module.{Module}
 use Rattle.naga_ir.specs.declared.module.Function.{Function}
 use Rattle.naga_ir.specs.declared.module.FunctionArgument.{FunctionArgument}
+use Rattle.naga_ir.specs.declared.module.Constant.{Constant}
 use Rattle.naga_ir.specs.declared.module.EntryPoint.{EntryPoint}
+use Rattle.naga_ir.specs.declared.module.Override.{Override}
 use Rattle.naga_ir.specs.declared.module.GlobalVariable.{GlobalVariable}
 use Rattle.naga_ir.specs.declared.module.LocalVariable.{LocalVariable}
 use Rattle.naga_ir.specs.declared.module.ShaderStage.{ShaderStage}
@@ -115,9 +117,9 @@ labelled_global types g global = with_parts (is_external types global.ty) (key.E
 abbrev pub labelled_globals : List Type_ → List GlobalVariable → List Labelled
 labelled_globals types globals = flat_map (λ p. labelled_global types p.0 p.1) (enumerate_from 0 globals)
 
--- the items that are named, in the order of their names
-abbrev pub labelled_items : Module → List Labelled
-labelled_items module_ =
+-- what a module declares beside its values, in the order of the names
+abbrev pub labelled_declarations : Module → List Labelled
+labelled_declarations module_ =
     labelled_types module_.entry_points.items module_.types
     ++ (labelled_entry_points module_.entry_points.items ++ (labelled_functions module_.types module_.functions ++ labelled_globals module_.types module_.global_variables))
 
@@ -158,6 +160,33 @@ names_in names key = option_map string_bytes (hash.get same_key names key)
 pub record PutsInto (before : NameMap) (pairs : List (NameKey × List ℕ)) (now : NameMap) : Type 0 where
   pub finds : (key : NameKey) → now key ≡ update_all same_key before pairs key
 
+-- ---- constants and overrides, which are labelled by their types' names where they have no label
+-- a value of the module: its own label, or the word and the name of its type
+abbrev pub value_label : {Y : Type 0} → (ℕ → List ℕ) → List ℕ → Option (String Y) → ℕ → List ℕ
+value_label names word label ty = label_or label (word ++ names ty)
+
+abbrev pub labelled_constants : (ℕ → List ℕ) → List Constant → List Labelled
+labelled_constants names constants = map (λ p. (key.Constant p.0, value_label names (codes "const_") p.1.name p.1.ty)) (enumerate_from 0 constants)
+
+abbrev pub labelled_overrides : (ℕ → List ℕ) → List Override → List Labelled
+labelled_overrides names overrides = map (λ p. (key.Override p.0, value_label names (codes "override_") p.1.name p.1.ty)) (enumerate_from 0 overrides)
+
+-- the constants and then the overrides
+abbrev pub labelled_values : (ℕ → List ℕ) → Module → List Labelled
+labelled_values names module_ = labelled_constants names module_.constants ++ labelled_overrides names module_.overrides
+
+-- the name of a type of the module; there is none for a type that isn't there
+abbrev pub type_name : Names → Module → ℕ → List ℕ
+type_name start module_ t = option_map_or (λ p. p.1) (slice_get (named_items start (labelled_types module_.entry_points.items module_.types)) t) []
+
+-- the items that are named, in the order of their names
+abbrev pub labelled_items : Names → Module → List Labelled
+labelled_items start module_ = labelled_declarations module_ ++ labelled_values (type_name start module_) module_
+
+-- the names that a map has for types, of which there are so many
+abbrev pub type_names_in : NameMap → ℕ → ℕ → List ℕ
+type_names_in names count t = if nat_lt t count then unwrap_or (names (key.Type_ t)) [] else []
+
 -- a `Namer` that began as `start`, with no uses, and gave these items their names, which were put into a map
 pub record HasNamedItems (start : Names) (before : NameMap) (items : List Labelled) (names : Names) (now : NameMap) : Type 0 where
   pub words : names ≡ record start { uses = names.uses }
@@ -175,3 +204,7 @@ pub record PutsBeginning (start : Names) (before : NameMap) (items : List Labell
 -- after any items that were named before, the `Namer` and the map also have the names of these
 pub record NamesItems (old : Names) (before : NameMap) (items : List Labelled) (new : Names) (now : NameMap) : Type 0 where
   pub more : (start : Names) (first : NameMap) (earlier : List Labelled) → HasNamedItems start first earlier old before → HasNamedItems start first (earlier ++ items) new now
+
+-- a `Namer` and a map without names of their own then have those of the module
+pub record NamesModule (old : Names) (before : NameMap) (module_ : Module) (new : Names) (now : NameMap) : Type 0 where
+  pub more : (start : Names) (first : NameMap) → HasNamedItems start first [] old before → HasNamedItems start first (labelled_items start module_) new now

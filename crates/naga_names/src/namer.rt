@@ -1,16 +1,17 @@
 //! Identifiers from labels.
-ghost use Rattle.std.specs.Prelude.{◌≡◌, true, ◌∷◌, [], ◌++◌, List, ℕ, map, unwrap_or, codes, if◌then◌else◌, IfOk, IfErr, OnOk, OnErr, IsErr, string_bytes};
+ghost use Rattle.std.specs.Prelude.{◌≡◌, true, ◌∷◌, [], ◌++◌, List, ℕ, map, length, false, unwrap_or, codes, if◌then◌else◌, IfOk, IfErr, OnOk, OnErr, IsErr, string_bytes};
 ghost use Rattle.std.specs.Option.{option_map};
+ghost use Rattle.naga_names.specs.declared.namer.key.NameKey.TheVariants as keys;
 ghost use Rattle.naga_names.specs.Naming.{Names, names_code, no_names, new_names, label_or, first_name, is_taken, name_of, with_use, IsFull, HasNamed, name_after};
-ghost use Rattle.naga_names.specs.Refusal.{IsRefusalOf, IsResetRefusal, RefusesItems, SomeNameIsFull, SomeKeyIsFull};
-ghost use Rattle.naga_names.specs.Reset.{output_word, returns, output_label, is_struct, type_label, is_external_inner, is_external, labelled_types, labelled_argument, labelled_arguments, labelled_locals, labelled_function, labelled_functions, labelled_entry_arguments, labelled_entry_locals, labelled_entry_point, labelled_entry_points, labelled_global, labelled_globals, labelled_items, key_fits, names_in, HasNamedItems, PutsBeginning, NamesItems};
+ghost use Rattle.naga_names.specs.Refusal.{IsRefusalOf, IsResetRefusal, RefusesItems, RefusesModule, SomeNameIsFull, SomeKeyIsFull};
+ghost use Rattle.naga_names.specs.Reset.{output_word, returns, output_label, is_struct, type_label, is_external_inner, is_external, labelled_types, labelled_argument, labelled_arguments, labelled_locals, labelled_function, labelled_functions, labelled_entry_arguments, labelled_entry_locals, labelled_entry_point, labelled_entry_points, labelled_global, labelled_globals, labelled_declarations, value_label, labelled_constants, labelled_overrides, labelled_values, labelled_items, type_names_in, same_key, key_fits, NamesModule, names_in, HasNamedItems, PutsBeginning, NamesItems};
 
 use crate::keyword_set::{CaseInsensitiveKeywordSet, KeywordSet};
 use crate::namer::uses::Uses;
 pub use key::{ExternalTextureNameKey, NameKey};
 use naga_ir::{
-    Arena, EntryPoint, Function, FunctionArgument, GlobalVariable, Handle, ImageClass,
-    LocalVariable, Module, ShaderStage, Type_, TypeInner, UniqueArena,
+    Arena, Constant, EntryPoint, Function, FunctionArgument, GlobalVariable, Handle, ImageClass,
+    LocalVariable, Module, Override, ShaderStage, Type_, TypeInner, UniqueArena,
 };
 use std::alloc::{AllocError, AllocFailed, Global};
 use std::collections::HashMap;
@@ -152,15 +153,22 @@ impl Namer {
         self.call(label_or(label, fallback))
     }
 
-    /// Gives names to the module's types and functions, and to the functions' arguments, and puts them
-    /// into the map under their keys.
+    /// Gives names to what the module declares outside its structs, and puts them into the map under
+    /// their keys: to its types, its entry points and its functions with their arguments and variables,
+    /// its globals, its constants and its overrides, in this order.
     ///
     /// From then on identifiers keep off the words and prefixes given, and the names given before are
-    /// forgotten. An item without a label is named `type`, `function` or `param`. The map keeps its
-    /// other keys. The answer is `NamerError::Full` only where a label comes whose base the labels before
-    /// it used up, and `NamerError::KeyFull` only where a function has more arguments than a `u32` can
-    /// count; such a module is always refused. After a refusal the `Namer` is as a new one, and the
-    /// names of some first items stand in the map.
+    /// forgotten. An item without a label is named `type`, `param`, `local`, `function` or `global`; a
+    /// struct without one that entry points return `VertexOutput`, `FragmentOutput` or `ComputeOutput`,
+    /// by the last of them that has such a word; a constant `const_` and its type's name, an override
+    /// `override_` and its type's name. A global or a function's argument that is an external image has
+    /// four names more, for its planes and its parameters.
+    ///
+    /// The map keeps its other keys. The answer is `NamerError::Full` only where a label comes whose base
+    /// the labels before it used up, and `NamerError::KeyFull` only where there are more entry points than
+    /// an `EntryPointIndex` can tell apart, or more arguments than a `u32` can count; such a module is
+    /// always refused. After a refusal the `Namer` is as a new one, and the names of some first items
+    /// stand in the map.
     pub fn reset(
         &mut self,
         module: &Module,
@@ -171,17 +179,18 @@ impl Namer {
         output: &mut HashMap<NameKey, String>,
     ) -> Result<(), NamerError>
         ensures ok { let start = new_names reserved_keywords builtin_identifiers keywords_case_insensitive (map (λ p. p.now) reserved_prefixes.now) in
-            OnOk result (HasNamedItems start (names_in output.old) (labelled_items «module».now) self.new (names_in output.new)) }
+            OnOk result (HasNamedItems start (names_in output.old) (labelled_items start «module».now) self.new (names_in output.new)) }
         ensures err { OnErr result (self.new ≡ no_names) }
         ensures beginning { let start = new_names reserved_keywords builtin_identifiers keywords_case_insensitive (map (λ p. p.now) reserved_prefixes.now) in
-            OnErr result (PutsBeginning start (names_in output.old) (labelled_items «module».now) (names_in output.new)) }
+            OnErr result (PutsBeginning start (names_in output.old) (labelled_items start «module».now) (names_in output.new)) }
 
         // A refusal has a reason, and a module that gives a reason is refused.
         ensures reason { let start = new_names reserved_keywords builtin_identifiers keywords_case_insensitive (map (λ p. p.now) reserved_prefixes.now) in
             IfErr result (IsResetRefusal start «module».now) }
         ensures full { let start = new_names reserved_keywords builtin_identifiers keywords_case_insensitive (map (λ p. p.now) reserved_prefixes.now) in
-            SomeNameIsFull start (labelled_items «module».now) → IsErr result }
-        ensures key_full { SomeKeyIsFull (labelled_items «module».now) → IsErr result }
+            SomeNameIsFull start (labelled_items start «module».now) → IsErr result }
+        ensures key_full { let start = new_names reserved_keywords builtin_identifiers keywords_case_insensitive (map (λ p. p.now) reserved_prefixes.now) in
+            SomeKeyIsFull (labelled_items start «module».now) → IsErr result }
     {
         let alloc = self.alloc;
         let prefixes = match Vec::from_slice(alloc, reserved_prefixes) {
@@ -213,8 +222,20 @@ impl Namer {
         module: &Module,
         output: &mut HashMap<NameKey, String>,
     ) -> Result<(), NamerError>
-        ensures ok { OnOk result (NamesItems self.old (names_in output.old) (labelled_items «module».now) self.new (names_in output.new)) }
-        ensures err { IfErr result (RefusesItems self.old (names_in output.old) (labelled_items «module».now) (names_in output.new)) }
+        ensures ok { OnOk result (NamesModule self.old (names_in output.old) «module».now self.new (names_in output.new)) }
+        ensures err { IfErr result (RefusesModule self.old (names_in output.old) «module».now (names_in output.new)) }
+    {
+        self.name_declarations(module, output)?;
+        self.name_values(module, output)
+    }
+
+    fn name_declarations(
+        &mut self,
+        module: &Module,
+        output: &mut HashMap<NameKey, String>,
+    ) -> Result<(), NamerError>
+        ensures ok { OnOk result (NamesItems self.old (names_in output.old) (labelled_declarations «module».now) self.new (names_in output.new)) }
+        ensures err { IfErr result (RefusesItems self.old (names_in output.old) (labelled_declarations «module».now) (names_in output.new)) }
     {
         self.name_types(&module.entry_points, &module.types, output)?;
         self.name_entry_points(&module.entry_points, output)?;
@@ -457,6 +478,76 @@ impl Namer {
         )
     }
 
+    /// Gives the constants and the overrides their names, by those of the types.
+    fn name_values(
+        &mut self,
+        module: &Module,
+        output: &mut HashMap<NameKey, String>,
+    ) -> Result<(), NamerError>
+        ensures ok { OnOk result (NamesItems self.old (names_in output.old) (labelled_values (type_names_in (names_in output.old) (length «module».now.types)) «module».now) self.new (names_in output.new)) }
+        ensures err { IfErr result (RefusesItems self.old (names_in output.old) (labelled_values (type_names_in (names_in output.old) (length «module».now.types)) «module».now) (names_in output.new)) }
+    {
+        self.name_constants(&module.types, &module.constants, output)?;
+        self.name_overrides(&module.types, &module.overrides, output)
+    }
+
+    fn name_constants(
+        &mut self,
+        types: &UniqueArena<Type_>,
+        constants: &Arena<Constant>,
+        output: &mut HashMap<NameKey, String>,
+    ) -> Result<(), NamerError>
+        ensures ok { OnOk result (NamesItems self.old (names_in output.old) (labelled_constants (type_names_in (names_in output.old) (length types.now)) constants.now) self.new (names_in output.new)) }
+        ensures err { IfErr result (RefusesItems self.old (names_in output.old) (labelled_constants (type_names_in (names_in output.old) (length types.now)) constants.now) (names_in output.new)) }
+        ensures kept { (t : ℕ) → names_in output.new (keys.Type_ t) ≡ names_in output.old (keys.Type_ t) }
+    {
+        for (handle, constant) in constants.iter() {
+            let key = NameKey::Constant(handle);
+            self.name_value(key, &constant.name, "const_", types, constant.ty, output)?;
+        }
+        Ok(())
+    }
+
+    fn name_overrides(
+        &mut self,
+        types: &UniqueArena<Type_>,
+        overrides: &Arena<Override>,
+        output: &mut HashMap<NameKey, String>,
+    ) -> Result<(), NamerError>
+        ensures ok { OnOk result (NamesItems self.old (names_in output.old) (labelled_overrides (type_names_in (names_in output.old) (length types.now)) overrides.now) self.new (names_in output.new)) }
+        ensures err { IfErr result (RefusesItems self.old (names_in output.old) (labelled_overrides (type_names_in (names_in output.old) (length types.now)) overrides.now) (names_in output.new)) }
+    {
+        for (handle, value) in overrides.iter() {
+            let key = NameKey::Override(handle);
+            self.name_value(key, &value.name, "override_", types, value.ty, output)?;
+        }
+        Ok(())
+    }
+
+    fn name_value(
+        &mut self,
+        key: NameKey,
+        label: &Option<String>,
+        word: &str,
+        types: &UniqueArena<Type_>,
+        ty: Handle<Type_>,
+        output: &mut HashMap<NameKey, String>,
+    ) -> Result<(), NamerError>
+        requires fits { key_fits key ≡ true }
+        requires no_type { (t : ℕ) → same_key key (keys.Type_ t) ≡ false }
+        ensures ok { OnOk result (NamesItems self.old (names_in output.old) ((key, value_label (type_names_in (names_in output.old) (length types.now)) word.now label.now ty) ∷ []) self.new (names_in output.new)) }
+        ensures err { IfErr result (RefusesItems self.old (names_in output.old) ((key, value_label (type_names_in (names_in output.old) (length types.now)) word.now label.now ty) ∷ []) (names_in output.new)) }
+        ensures kept { (t : ℕ) → names_in output.new (keys.Type_ t) ≡ names_in output.old (keys.Type_ t) }
+    {
+        match label {
+            Some(label) => self.name_item(key, label.as_str(), output),
+            None => {
+                let label = value_label(self.alloc, word, types, ty, output)?;
+                self.name_item(key, label.as_str(), output)
+            }
+        }
+    }
+
     /// Gives the parts of an external image their names, by the image's label.
     fn name_parts(
         &mut self,
@@ -502,6 +593,7 @@ impl Namer {
         requires { key_fits key ≡ true }
         ensures ok { OnOk result (NamesItems self.old (names_in output.old) ((key, label.now) ∷ []) self.new (names_in output.new)) }
         ensures err { IfErr result (RefusesItems self.old (names_in output.old) ((key, label.now) ∷ []) (names_in output.new)) }
+        ensures others { (q : NameKey) → same_key key q ≡ false → names_in output.new q ≡ names_in output.old q }
     {
         let name = self.call(label)?;
         output.insert(key, name)?;
@@ -622,4 +714,34 @@ fn is_external_inner(inner: &TypeInner) -> bool
             ..
         }
     )
+}
+
+/// The word and the name that the map has for the type.
+fn value_label(
+    alloc: Global,
+    word: &str,
+    types: &UniqueArena<Type_>,
+    ty: Handle<Type_>,
+    names: &HashMap<NameKey, String>,
+) -> Result<String, AllocError>
+    ensures { IfOk result (λ label. string_bytes label ≡ word.now ++ type_names_in (names_in names.now) (length types.now) ty) }
+{
+    let name = type_name(types, ty, names);
+    format!(in alloc; "{word}{name}")
+}
+
+fn type_name<'a>(
+    types: &UniqueArena<Type_>,
+    ty: Handle<Type_>,
+    names: &'a HashMap<NameKey, String>,
+) -> &'a str
+    ensures { result.now ≡ type_names_in (names_in names.now) (length types.now) ty }
+{
+    if ty.index() >= types.len() {
+        return "";
+    }
+    match names.get(&NameKey::Type_(ty)) {
+        Some(name) => name.as_str(),
+        None => "",
+    }
 }
