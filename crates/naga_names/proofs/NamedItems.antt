@@ -356,3 +356,13 @@ module _ (start : Names) (before : NameMap) («module» : Module) (names : Names
 
   pub type_named : (t : ℕ) (ty : Type_) → slice_get «module».types t ≡ Some ty → (name : List ℕ) × (now (key.Type_ t) ≡ Some name)
   type_named t ty e = (_, named_there (key.Type_ t, type_label «module».entry_points.items t ty) (type_stands start «module» t ty e))
+
+  -- the same by places
+  pub named_at : (i : ℕ) (item : Labelled) → slice_get (labelled_items start «module») i ≡ Some item → now item.0 ≡ Some (name_after start (labels_of (take i (labelled_items start «module»))) item.1)
+  named_at i item e = put_at start before now (labelled_items start «module») has.put (items_apart start «module») i item e
+
+  pub told_at : (i j : ℕ) (a b : Labelled) → slice_get (labelled_items start «module») i ≡ Some a → slice_get (labelled_items start «module») j ≡ Some b → now a.0 ≡ now b.0 → i ≡ j
+  told_at i j a b ea eb same = item_names_tell start (labelled_items start «module») few_labels i j a b ea eb (name_of_some (sym (named_at i a ea) ∙ same ∙ named_at j b eb))
+    where
+      name_of_some : {x y : List ℕ} → Some x ≡ Some y → x ≡ y
+      name_of_some {x} {y} e = ap (λ o. unwrap_or o x) e
