@@ -1,8 +1,8 @@
 use super::*;
 use crate::keywords::{BUILTIN_IDENTIFIERS, RESERVED};
 use naga_ir::{
-    AddressSpace, Constant, EntryPoint, Expression, FunctionResult, GlobalVariable, ImageClass, ImageDimension,
-    MemoryDecorations, Scalar, ShaderStage, TypeInner,
+    AddressSpace, Constant, EntryPoint, Expression, FunctionResult, GlobalVariable, ImageClass,
+    ImageDimension, MemoryDecorations, Scalar, ShaderStage, TypeInner,
 };
 use std::process::Abort;
 use std::test::Fail;
@@ -265,11 +265,7 @@ fn resets(rt: HostRuntime) -> Result<(), Fail> {
 }
 
 /// The map has these names for these keys.
-fn has_names(
-    rt: &impl Abort,
-    names: &HashMap<NameKey, String>,
-    rows: &[(NameKey, &str)],
-) {
+fn has_names(rt: &impl Abort, names: &HashMap<NameKey, String>, rows: &[(NameKey, &str)]) {
     for (key, want) in rows {
         assert!(rt;
             names.get(key).is_some_and(|found| found.as_str() == *want),
@@ -304,20 +300,31 @@ fn parts_of_a_global(rt: HostRuntime) -> Result<(), Fail> {
         binding: None,
         ty,
         init: None,
-        memory_decorations: MemoryDecorations::empty(),
+        memory_decorations: MemoryDecorations::COHERENT,
     })?;
     let mut names = HashMap::new(alloc);
     reset_for_wgsl(alloc, &module, &mut names)?;
-    let part = |part| NameKey::ExternalTextureGlobalVariable(global, part);
     has_names(
         &rt,
         &names,
         &[
             (NameKey::GlobalVariable(global), "t"),
-            (part(ExternalTextureNameKey::Plane(0)), "t_plane0_"),
-            (part(ExternalTextureNameKey::Plane(1)), "t_plane1_"),
-            (part(ExternalTextureNameKey::Plane(2)), "t_plane2_"),
-            (part(ExternalTextureNameKey::Params), "t_params"),
+            (
+                NameKey::ExternalTextureGlobalVariable(global, ExternalTextureNameKey::Plane(0)),
+                "t_plane0_",
+            ),
+            (
+                NameKey::ExternalTextureGlobalVariable(global, ExternalTextureNameKey::Plane(1)),
+                "t_plane1_",
+            ),
+            (
+                NameKey::ExternalTextureGlobalVariable(global, ExternalTextureNameKey::Plane(2)),
+                "t_plane2_",
+            ),
+            (
+                NameKey::ExternalTextureGlobalVariable(global, ExternalTextureNameKey::Params),
+                "t_params",
+            ),
         ],
     );
     Ok(())
@@ -346,15 +353,39 @@ fn parts_of_arguments(rt: HostRuntime) -> Result<(), Fail> {
         &[
             (NameKey::Function(f), "f"),
             (NameKey::FunctionArgument(f, 0), "param"),
-            (part_of(f, 0, ExternalTextureNameKey::Plane(0)), "param_plane0_"),
-            (part_of(f, 0, ExternalTextureNameKey::Plane(1)), "param_plane1_"),
-            (part_of(f, 0, ExternalTextureNameKey::Plane(2)), "param_plane2_"),
-            (part_of(f, 0, ExternalTextureNameKey::Params), "param_params"),
+            (
+                part_of(f, 0, ExternalTextureNameKey::Plane(0)),
+                "param_plane0_",
+            ),
+            (
+                part_of(f, 0, ExternalTextureNameKey::Plane(1)),
+                "param_plane1_",
+            ),
+            (
+                part_of(f, 0, ExternalTextureNameKey::Plane(2)),
+                "param_plane2_",
+            ),
+            (
+                part_of(f, 0, ExternalTextureNameKey::Params),
+                "param_params",
+            ),
             (NameKey::FunctionArgument(f, 1), "param_1"),
-            (part_of(f, 1, ExternalTextureNameKey::Plane(0)), "param_plane0_1"),
-            (part_of(f, 1, ExternalTextureNameKey::Plane(1)), "param_plane1_1"),
-            (part_of(f, 1, ExternalTextureNameKey::Plane(2)), "param_plane2_1"),
-            (part_of(f, 1, ExternalTextureNameKey::Params), "param_params_1"),
+            (
+                part_of(f, 1, ExternalTextureNameKey::Plane(0)),
+                "param_plane0_1",
+            ),
+            (
+                part_of(f, 1, ExternalTextureNameKey::Plane(1)),
+                "param_plane1_1",
+            ),
+            (
+                part_of(f, 1, ExternalTextureNameKey::Plane(2)),
+                "param_plane2_1",
+            ),
+            (
+                part_of(f, 1, ExternalTextureNameKey::Params),
+                "param_params_1",
+            ),
         ],
     );
     Ok(())
@@ -394,7 +425,11 @@ fn outputs_of_entry_points(rt: HostRuntime) -> Result<(), Fail> {
             span: 0,
         },
     })?;
-    for stage in [ShaderStage::Vertex, ShaderStage::Fragment, ShaderStage::Mesh] {
+    for stage in [
+        ShaderStage::Vertex,
+        ShaderStage::Fragment,
+        ShaderStage::Mesh,
+    ] {
         module.entry_points.push(returning(alloc, stage, ty)?)?;
     }
     let mut names = HashMap::new(alloc);
@@ -421,8 +456,16 @@ fn constants_without_labels(rt: HostRuntime) -> Result<(), Fail> {
         inner: TypeInner::Scalar(Scalar::I32),
     })?;
     let init = module.global_expressions.append(Expression::ZeroValue(ty))?;
-    let first = module.constants.append(Constant { name: None, ty, init })?;
-    let second = module.constants.append(Constant { name: None, ty, init })?;
+    let first = module.constants.append(Constant {
+        name: None,
+        ty,
+        init,
+    })?;
+    let second = module.constants.append(Constant {
+        name: None,
+        ty,
+        init,
+    })?;
     let mut names = HashMap::new(alloc);
     reset_for_wgsl(alloc, &module, &mut names)?;
     has_names(
