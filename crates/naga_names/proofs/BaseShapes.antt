@@ -269,3 +269,69 @@ unfolding base_of
 base_ends prefixes characters =
     kept_end prefixes (or_unnamed (without_last_separators (spelling (after_numerics characters)))) (before_prefix characters)
     (unnamed_end (without_last_separators (spelling (after_numerics characters))) (without-end (spelling (after_numerics characters))))
+
+-- ---- the first two characters
+-- the text begins with `__`
+abbrev pub begins_double : List ℕ → Bool
+begins_double [] = false
+begins_double (c ∷ []) = false
+begins_double (c ∷ d ∷ cs) = c == 95 && d == 95
+
+and_false : (b : Bool) → (b && false) ≡ false
+and_false true = refl
+and_false false = refl
+
+squeezed-double : (text : List ℕ) → begins_double (squeezed text) ≡ false
+unfolding begins_by
+squeezed-double [] = refl
+squeezed-double (c ∷ []) = either (c == 95)
+  where
+    either : (b : Bool) → begins_double (cond (b && false) [] (c ∷ [])) ≡ false
+    either true = refl
+    either false = refl
+squeezed-double (c ∷ d ∷ cs) = either (c == 95) (d == 95) refl refl (squeezed (d ∷ cs)) (squeezed-double (d ∷ cs)) (squeezed-first (λ x. x == 95) (d ∷ cs))
+  where
+    either : (x y : Bool) → (c == 95) ≡ x → (d == 95) ≡ y → (rest : List ℕ) → begins_double rest ≡ false → begins_by (λ x. x == 95) rest ≡ begins_by (λ x. x == 95) (d ∷ cs) → begins_double (cond (x && y) rest (c ∷ rest)) ≡ false
+    either true true ex ey rest single first = single
+    either true false ex ey [] single first = refl
+    either true false ex ey (e ∷ rest) single first = ap (λ b. (c == 95) && b) (first ∙ ey) ∙ and_false (c == 95)
+    either false y ex ey [] single first = refl
+    either false y ex ey (e ∷ rest) single first = ap (λ b. b && e == 95) ex
+
+without-double : (text : List ℕ) → begins_double text ≡ false → begins_double (without_last_separators text) ≡ false
+without-double [] e = refl
+without-double (c ∷ []) e = either (c == 95)
+  where
+    either : (b : Bool) → begins_double (cond b [] (c ∷ [])) ≡ false
+    either true = refl
+    either false = refl
+without-double (c ∷ d ∷ cs) e = kept (without_last_separators cs)
+  where
+    one : (b x : Bool) → begins_double (cond b [] (c ∷ [])) ≡ false
+    one true x = refl
+    one false x = refl
+
+    inner : (b : Bool) → begins_double (kept_before c (cond b [] (d ∷ []))) ≡ false
+    inner true = one (c == 95) true
+    inner false = e
+
+    kept : (rest : List ℕ) → begins_double (kept_before c (kept_before d rest)) ≡ false
+    kept [] = inner (d == 95)
+    kept (f ∷ rest) = e
+
+unnamed-double : (text : List ℕ) → begins_double text ≡ false → begins_double (or_unnamed text) ≡ false
+unnamed-double [] e = refl
+unnamed-double (c ∷ cs) e = e
+
+kept-double : (prefixes : List (List ℕ)) (text : List ℕ) → begins_double text ≡ false → begins_double (kept_off prefixes text) ≡ false
+kept-double prefixes text e = either (list_any (starts_with nat_eq text) prefixes)
+  where
+    either : (b : Bool) → begins_double (cond b (codes "gen_" ++ text) text) ≡ false
+    either true = refl
+    either false = e
+
+pub base_not_double : (prefixes : List (List ℕ)) (characters : List ℕ) → begins_double (base_of prefixes characters) ≡ false
+unfolding base_of
+base_not_double prefixes characters =
+    let cs = after_numerics characters in
+    kept-double prefixes (or_unnamed (without_last_separators (spelling cs))) (unnamed-double (without_last_separators (spelling cs)) (without-double (spelling cs) (ap begins_double (spelling-body cs) ∙ squeezed-double (body cs))))

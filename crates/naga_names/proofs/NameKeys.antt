@@ -1,8 +1,7 @@
 -- Keys of names tell each other apart.
-use Rattle.std.proofs.Common.{◌≡◌, ℕ, ◌+◌, ◌<◌, ◌≤◌, List, [], ◌∷◌, ◌++◌, map, get_or, Bool, true, false, ◌==◌, ◌&&◌, refl, ap, subst, arith, codes, string_bytes}
+use Rattle.std.proofs.Common.{◌≡◌, ℕ, ◌+◌, ◌<◌, ◌≤◌, List, [], ◌∷◌, ◌++◌, map, get_or, Bool, true, false, ◌==◌, ◌&&◌, cond, refl, ap, sym, ◌∙◌, subst, arith, codes, string_bytes}
 use Rattle.std.specs.List.{AllByRecursion, flat_map, enumerate_from}
 use Rattle.std.specs.Cmp.{IsEquivalence}
-use Rattle.std.specs.Option.{option_map_or}
 use Rattle.naga_ir.specs.declared.module.Module.{Module}
 use Rattle.naga_ir.specs.declared.module.Function.{Function as AFunction}
 use Rattle.naga_ir.specs.declared.module.FunctionArgument.{FunctionArgument as AnArgument}
@@ -14,7 +13,13 @@ use Rattle.naga_names.specs.declared.namer.key.ExternalTextureNameKey.{ExternalT
 use Rattle.naga_names.specs.declared.namer.key.ExternalTextureNameKey.TheVariants.{Plane, Params}
 use Rattle.naga_names.specs.contracts.namer.key.ExternalTextureNameKeyPartialEq.TheImpl as part_eq
 use Rattle.naga_names.specs.contracts.namer.key.NameKeyEq.TheImpl.Laws.{laws-law}
-use Rattle.naga_names.specs.Reset.{Labelled, same_key, labelled_types, labelled_arguments, labelled_function, labelled_functions, labelled_items}
+use Rattle.naga_names.specs.Naming.{Names, label_or}
+use Rattle.naga_names.specs.Reset.{Labelled, same_key, type_label, is_external, labelled_parts, with_parts, labelled_types, labelled_argument, labelled_arguments, labelled_locals, labelled_function, labelled_functions, labelled_entry_arguments, labelled_entry_locals, labelled_entry_point, labelled_entry_points, labelled_global, labelled_globals, labelled_declarations, value_label, type_name, labelled_constants, labelled_overrides, labelled_values, labelled_items}
+use Rattle.naga_ir.specs.declared.module.Constant.{Constant as AConstant}
+use Rattle.naga_ir.specs.declared.module.Override.{Override as AnOverride}
+use Rattle.naga_ir.specs.declared.module.EntryPoint.{EntryPoint as AnEntryPoint}
+use Rattle.naga_ir.specs.declared.module.GlobalVariable.{GlobalVariable as AGlobal}
+use Rattle.naga_ir.specs.declared.module.LocalVariable.{LocalVariable as ALocal}
 
 abbrev pub part_code : ExternalTextureNameKey → ℕ
 part_code (Plane n) = n + 2
@@ -168,40 +173,195 @@ single : {A : Type 0} (g : A → Labelled) (xs : List A) → flat_map (λ a. g a
 single g [] = refl
 single g (x ∷ xs) = ap (λ items. g x ∷ items) (single g xs)
 
-arguments_apart : (h : ℕ) (arguments : List AnArgument) → AreApart (labelled_arguments h arguments)
-arguments_apart h arguments =
-    subst AreApart (single (λ p. (FunctionArgument h p.0, option_map_or string_bytes p.1.name (codes "param"))) (enumerate_from 0 arguments))
-    (sections_apart (digit_of 3) (same_digit 3) (λ n (a : AnArgument). (FunctionArgument h n, option_map_or string_bytes a.name (codes "param")) ∷ []) (λ n a. (refl, tt)) (λ n a. (tt, tt)) 0 arguments)
+module _ {X : Type 0} (entry : ℕ → X → Labelled) where
+  entries_all : (P : Labelled → Type 0) → ((n : ℕ) (x : X) → P (entry n x)) → (n : ℕ) (xs : List X) → AllByRecursion P (map (λ p. entry p.0 p.1) (enumerate_from n xs))
+  entries_all P each n [] = tt
+  entries_all P each n (x ∷ xs) = (each n x, entries_all P each (n + 1) xs)
 
-arguments_all : (P : Labelled → Type 0) (h : ℕ) → ((n : ℕ) (label : List ℕ) → P (FunctionArgument h n, label)) → (arguments : List AnArgument) → AllByRecursion P (labelled_arguments h arguments)
-arguments_all P h each arguments =
-    subst (AllByRecursion P) (single (λ p. (FunctionArgument h p.0, option_map_or string_bytes p.1.name (codes "param"))) (enumerate_from 0 arguments))
-    (each_section P (λ n (a : AnArgument). (FunctionArgument h n, option_map_or string_bytes a.name (codes "param")) ∷ []) (λ n a. (each n (option_map_or string_bytes a.name (codes "param")), tt)) 0 arguments)
+  entries_apart : (i : ℕ) → ((n : ℕ) (x : X) → digit_of i (entry n x).0 ≡ n) → (xs : List X) → AreApart (map (λ p. entry p.0 p.1) (enumerate_from 0 xs))
+  entries_apart i own xs = subst AreApart (single (λ p. entry p.0 p.1) (enumerate_from 0 xs)) (sections_apart (digit_of i) (same_digit i) (λ n x. entry n x ∷ []) (λ n x. (own n x, tt)) (λ n x. (tt, tt)) 0 xs)
 
-function_apart : (h : ℕ) (function : AFunction) → AreApart (labelled_function h function)
-function_apart h function =
-    apart_append (digit_of 2) (same_digit 2) 1 ((Function h, option_map_or string_bytes function.name (codes "function")) ∷ []) (labelled_arguments h function.arguments.items)
-    (omega arith, tt) (arguments_all (λ y. 1 ≤ digit_of 2 y.0) h (λ n label. omega arith) function.arguments.items) (tt, tt) (arguments_apart h function.arguments.items)
+unlike : (a b : NameKey) (m n : ℕ) → digit_of 4 a ≡ m → digit_of 4 b ≡ n → (m ≡ n → ⊥) → same_key a b ≡ false
+unlike a b m n e f apart = different (digit_of 4) (same_digit 4) a b (λ same. apart (sym e ∙ same ∙ f))
 
-function_all : (P : Labelled → Type 0) (h : ℕ) → ((label : List ℕ) → P (Function h, label)) → ((n : ℕ) (label : List ℕ) → P (FunctionArgument h n, label)) → (function : AFunction) → AllByRecursion P (labelled_function h function)
-function_all P h own each function = (own (option_map_or string_bytes function.name (codes "function")), arguments_all P h each function.arguments.items)
+module _ (external : Bool) (make : ExternalTextureNameKey → NameKey) (item : Labelled) where
+  with_parts_all : (P : Labelled → Type 0) → P item → ((part : ExternalTextureNameKey) (label : List ℕ) → P (make part, label)) → AllByRecursion P (with_parts external make item)
+  with_parts_all P own each = (own, either external)
+    where
+      either : (b : Bool) → AllByRecursion P (cond b (labelled_parts make item.1) [])
+      either true = (each (Plane 0) _, (each (Plane 1) _, (each (Plane 2) _, (each Params _, tt))))
+      either false = tt
 
-functions_apart : (functions : List AFunction) → AreApart (labelled_functions functions)
-functions_apart functions = sections_apart (digit_of 1) (same_digit 1) labelled_function (λ h f. function_all (λ item. digit_of 1 item.0 ≡ h) h (λ label. refl) (λ n label. refl) f) function_apart 0 functions
+  with_parts_apart : digit_of 4 item.0 ≡ 0 → ((part : ExternalTextureNameKey) → digit_of 4 (make part) ≡ part_code part) → AreApart (with_parts external make item)
+  with_parts_apart none own = either external
+    where
+      apart : (p q : ExternalTextureNameKey) → (part_code p ≡ part_code q → ⊥) → same_key (make p) (make q) ≡ false
+      apart p q differ = unlike (make p) (make q) (part_code p) (part_code q) (own p) (own q) differ
 
-types_apart : (types : List AType) → AreApart (labelled_types types)
-types_apart types =
-    subst AreApart (single (λ p. (Type_ p.0, option_map_or string_bytes p.1.name (codes "type"))) (enumerate_from 0 types))
-    (sections_apart (digit_of 1) (same_digit 1) (λ n (t : AType). (Type_ n, option_map_or string_bytes t.name (codes "type")) ∷ []) (λ n t. (refl, tt)) (λ n t. (tt, tt)) 0 types)
+      first : (p : ExternalTextureNameKey) → (0 ≡ part_code p → ⊥) → same_key item.0 (make p) ≡ false
+      first p differ = unlike item.0 (make p) 0 (part_code p) none (own p) differ
 
-types_low : (types : List AType) → AllByRecursion (λ item. digit_of 0 item.0 < 1) (labelled_types types)
-types_low types =
-    subst (AllByRecursion (λ item. digit_of 0 item.0 < 1)) (single (λ p. (Type_ p.0, option_map_or string_bytes p.1.name (codes "type"))) (enumerate_from 0 types))
-    (each_section (λ item. digit_of 0 item.0 < 1) (λ n (t : AType). (Type_ n, option_map_or string_bytes t.name (codes "type")) ∷ []) (λ n t. (omega arith, tt)) 0 types)
+      either : (b : Bool) → AreApart (item ∷ cond b (labelled_parts make item.1) [])
+      either true = (
+        (first (Plane 0) (λ e. omega (arith, e)), (first (Plane 1) (λ e. omega (arith, e)), (first (Plane 2) (λ e. omega (arith, e)), (first Params (λ e. omega (arith, e)), tt)))),
+        (
+          (apart (Plane 0) (Plane 1) (λ e. omega (arith, e)), (apart (Plane 0) (Plane 2) (λ e. omega (arith, e)), (apart (Plane 0) Params (λ e. omega (arith, e)), tt))),
+          (
+            (apart (Plane 1) (Plane 2) (λ e. omega (arith, e)), (apart (Plane 1) Params (λ e. omega (arith, e)), tt)),
+            ((apart (Plane 2) Params (λ e. omega (arith, e)), tt), (tt, tt)),
+          ),
+        ),
+      )
+      either false = (tt, tt)
+
+-- ---- functions
+module _ (types : List AType) (h : ℕ) where
+  arguments_all : (P : Labelled → Type 0) → ((n : ℕ) (label : List ℕ) → P (FunctionArgument h n, label)) → ((n : ℕ) (part : ExternalTextureNameKey) (label : List ℕ) → P (ExternalTextureFunctionArgument h n part, label)) → (arguments : List AnArgument) → AllByRecursion P (labelled_arguments types h arguments)
+  arguments_all P own each arguments =
+      each_section P (labelled_argument types h) (λ n a. with_parts_all (is_external types a.ty) (ExternalTextureFunctionArgument h n) (FunctionArgument h n, label_or a.name (codes "param")) P (own n _) (each n)) 0 arguments
+
+  arguments_apart : (arguments : List AnArgument) → AreApart (labelled_arguments types h arguments)
+  arguments_apart arguments =
+      sections_apart (digit_of 3) (same_digit 3) (labelled_argument types h)
+      (λ n a. with_parts_all (is_external types a.ty) (ExternalTextureFunctionArgument h n) (FunctionArgument h n, label_or a.name (codes "param")) (λ item. digit_of 3 item.0 ≡ n) refl (λ part label. refl))
+      (λ n a. with_parts_apart (is_external types a.ty) (ExternalTextureFunctionArgument h n) (FunctionArgument h n, label_or a.name (codes "param")) refl (λ part. refl)) 0 arguments
+
+  function_all : (P : Labelled → Type 0) → ((label : List ℕ) → P (Function h, label)) → ((n : ℕ) (label : List ℕ) → P (FunctionArgument h n, label)) → ((n : ℕ) (part : ExternalTextureNameKey) (label : List ℕ) → P (ExternalTextureFunctionArgument h n part, label)) → ((l : ℕ) (label : List ℕ) → P (FunctionLocal h l, label)) → (function : AFunction) → AllByRecursion P (labelled_function types h function)
+  function_all P own arguments parts locals function = (
+    own _,
+    all_append P (labelled_arguments types h function.arguments.items) (labelled_locals h function.local_variables) (arguments_all P arguments parts function.arguments.items)
+        (entries_all (λ l (v : ALocal). (FunctionLocal h l, label_or v.name (codes "local"))) P (λ l v. locals l _) 0 function.local_variables),
+  )
+
+  function_apart : (function : AFunction) → AreApart (labelled_function types h function)
+  function_apart function =
+      let arguments = labelled_arguments types h function.arguments.items in
+      let locals = labelled_locals h function.local_variables in
+      let locals_kind = entries_all (λ l (v : ALocal). (FunctionLocal h l, label_or v.name (codes "local"))) in
+      apart_append (digit_of 2) (same_digit 2) 1 ((Function h, label_or function.name (codes "function")) ∷ []) (arguments ++ locals) (omega arith, tt)
+      (all_append (λ y. 1 ≤ digit_of 2 y.0) arguments locals (arguments_all (λ y. 1 ≤ digit_of 2 y.0) (λ n label. omega arith) (λ n part label. omega arith) function.arguments.items) (locals_kind (λ y. 1 ≤ digit_of 2 y.0) (λ l v. omega arith) 0 function.local_variables))
+      (tt, tt)
+      (apart_append (digit_of 2) (same_digit 2) 2 arguments locals
+      (arguments_all (λ y. digit_of 2 y.0 < 2) (λ n label. omega arith) (λ n part label. omega arith) function.arguments.items)
+      (locals_kind (λ y. 2 ≤ digit_of 2 y.0) (λ l v. omega arith) 0 function.local_variables)
+      (arguments_apart function.arguments.items)
+      (entries_apart (λ l (v : ALocal). (FunctionLocal h l, label_or v.name (codes "local"))) 3 (λ l v. refl) function.local_variables))
+
+functions_all : (types : List AType) (P : Labelled → Type 0) → ((h : ℕ) (label : List ℕ) → P (Function h, label)) → ((h n : ℕ) (label : List ℕ) → P (FunctionArgument h n, label)) → ((h n : ℕ) (part : ExternalTextureNameKey) (label : List ℕ) → P (ExternalTextureFunctionArgument h n part, label)) → ((h l : ℕ) (label : List ℕ) → P (FunctionLocal h l, label)) → (functions : List AFunction) → AllByRecursion P (labelled_functions types functions)
+functions_all types P own arguments parts locals functions = each_section P (labelled_function types) (λ h f. function_all types h P (own h) (arguments h) (parts h) (locals h) f) 0 functions
+
+functions_apart : (types : List AType) (functions : List AFunction) → AreApart (labelled_functions types functions)
+functions_apart types functions =
+    sections_apart (digit_of 1) (same_digit 1) (labelled_function types)
+    (λ h f. function_all types h (λ item. digit_of 1 item.0 ≡ h) (λ label. refl) (λ n label. refl) (λ n part label. refl) (λ l label. refl) f) (function_apart types) 0 functions
+
+-- ---- entry points
+module _ (e : ℕ) where
+  entry_point_all : (P : Labelled → Type 0) → ((label : List ℕ) → P (EntryPoint e, label)) → ((n : ℕ) (label : List ℕ) → P (EntryPointArgument e n, label)) → ((l : ℕ) (label : List ℕ) → P (EntryPointLocal e l, label)) → (entry_point : AnEntryPoint) → AllByRecursion P (labelled_entry_point e entry_point)
+  entry_point_all P own arguments locals entry_point = (
+    own _,
+    all_append P (labelled_entry_arguments e entry_point.function.arguments.items) (labelled_entry_locals e entry_point.function.local_variables)
+        (entries_all (λ n (a : AnArgument). (EntryPointArgument e n, label_or a.name (codes "param"))) P (λ n a. arguments n _) 0 entry_point.function.arguments.items)
+        (entries_all (λ l (v : ALocal). (EntryPointLocal e l, label_or v.name (codes "local"))) P (λ l v. locals l _) 0 entry_point.function.local_variables),
+  )
+
+  entry_point_apart : (entry_point : AnEntryPoint) → AreApart (labelled_entry_point e entry_point)
+  entry_point_apart entry_point =
+      let arguments = labelled_entry_arguments e entry_point.function.arguments.items in
+      let locals = labelled_entry_locals e entry_point.function.local_variables in
+      let arguments_kind = entries_all (λ n (a : AnArgument). (EntryPointArgument e n, label_or a.name (codes "param"))) in
+      let locals_kind = entries_all (λ l (v : ALocal). (EntryPointLocal e l, label_or v.name (codes "local"))) in
+      apart_append (digit_of 2) (same_digit 2) 1 ((EntryPoint e, string_bytes entry_point.name) ∷ []) (arguments ++ locals) (omega arith, tt)
+      (all_append (λ y. 1 ≤ digit_of 2 y.0) arguments locals (arguments_kind (λ y. 1 ≤ digit_of 2 y.0) (λ n a. omega arith) 0 entry_point.function.arguments.items) (locals_kind (λ y. 1 ≤ digit_of 2 y.0) (λ l v. omega arith) 0 entry_point.function.local_variables))
+      (tt, tt)
+      (apart_append (digit_of 2) (same_digit 2) 2 arguments locals
+      (arguments_kind (λ y. digit_of 2 y.0 < 2) (λ n a. omega arith) 0 entry_point.function.arguments.items)
+      (locals_kind (λ y. 2 ≤ digit_of 2 y.0) (λ l v. omega arith) 0 entry_point.function.local_variables)
+      (entries_apart (λ n (a : AnArgument). (EntryPointArgument e n, label_or a.name (codes "param"))) 3 (λ n a. refl) entry_point.function.arguments.items)
+      (entries_apart (λ l (v : ALocal). (EntryPointLocal e l, label_or v.name (codes "local"))) 3 (λ l v. refl) entry_point.function.local_variables))
+
+entry_points_all : (P : Labelled → Type 0) → ((e : ℕ) (label : List ℕ) → P (EntryPoint e, label)) → ((e n : ℕ) (label : List ℕ) → P (EntryPointArgument e n, label)) → ((e l : ℕ) (label : List ℕ) → P (EntryPointLocal e l, label)) → (entry_points : List AnEntryPoint) → AllByRecursion P (labelled_entry_points entry_points)
+entry_points_all P own arguments locals entry_points = each_section P labelled_entry_point (λ e p. entry_point_all e P (own e) (arguments e) (locals e) p) 0 entry_points
+
+entry_points_apart : (entry_points : List AnEntryPoint) → AreApart (labelled_entry_points entry_points)
+entry_points_apart entry_points =
+    sections_apart (digit_of 1) (same_digit 1) labelled_entry_point
+    (λ e p. entry_point_all e (λ item. digit_of 1 item.0 ≡ e) (λ label. refl) (λ n label. refl) (λ l label. refl) p) entry_point_apart 0 entry_points
+
+-- ---- globals and types
+globals_all : (types : List AType) (P : Labelled → Type 0) → ((g : ℕ) (label : List ℕ) → P (GlobalVariable g, label)) → ((g : ℕ) (part : ExternalTextureNameKey) (label : List ℕ) → P (ExternalTextureGlobalVariable g part, label)) → (globals : List AGlobal) → AllByRecursion P (labelled_globals types globals)
+globals_all types P own parts globals =
+    each_section P (labelled_global types) (λ g v. with_parts_all (is_external types v.ty) (ExternalTextureGlobalVariable g) (GlobalVariable g, label_or v.name (codes "global")) P (own g _) (parts g)) 0 globals
+
+globals_apart : (types : List AType) (globals : List AGlobal) → AreApart (labelled_globals types globals)
+globals_apart types globals =
+    sections_apart (digit_of 1) (same_digit 1) (labelled_global types)
+    (λ g v. with_parts_all (is_external types v.ty) (ExternalTextureGlobalVariable g) (GlobalVariable g, label_or v.name (codes "global")) (λ item. digit_of 1 item.0 ≡ g) refl (λ part label. refl))
+    (λ g v. with_parts_apart (is_external types v.ty) (ExternalTextureGlobalVariable g) (GlobalVariable g, label_or v.name (codes "global")) refl (λ part. refl)) 0 globals
+
+types_all : (entry_points : List AnEntryPoint) (P : Labelled → Type 0) → ((t : ℕ) (label : List ℕ) → P (Type_ t, label)) → (types : List AType) → AllByRecursion P (labelled_types entry_points types)
+types_all entry_points P own types = entries_all (λ t (ty : AType). (Type_ t, type_label entry_points t ty)) P (λ t ty. own t _) 0 types
+
+types_apart : (entry_points : List AnEntryPoint) (types : List AType) → AreApart (labelled_types entry_points types)
+types_apart entry_points types = entries_apart (λ t (ty : AType). (Type_ t, type_label entry_points t ty)) 1 (λ t ty. refl) types
+
+-- what a module declares
+module _ («module» : Module) where
+  abbrev the_types : List Labelled
+  the_types = labelled_types «module».entry_points.items «module».types
+
+  abbrev the_entry_points : List Labelled
+  the_entry_points = labelled_entry_points «module».entry_points.items
+
+  abbrev the_functions : List Labelled
+  the_functions = labelled_functions «module».types «module».functions
+
+  abbrev the_globals : List Labelled
+  the_globals = labelled_globals «module».types «module».global_variables
+
+  pub declarations_apart : AreApart (labelled_declarations «module»)
+  declarations_apart =
+      let m = «module» in
+      let low = types_all m.entry_points.items (λ x. digit_of 0 x.0 < 1) (λ t label. omega arith) m.types in
+      let entry_low = entry_points_all (λ x. digit_of 0 x.0 < 2) (λ e label. omega arith) (λ e n label. omega arith) (λ e l label. omega arith) m.entry_points.items in
+      let entry_high = entry_points_all (λ x. 1 ≤ digit_of 0 x.0) (λ e label. omega arith) (λ e n label. omega arith) (λ e l label. omega arith) m.entry_points.items in
+      let functions_low = functions_all m.types (λ x. digit_of 0 x.0 < 3) (λ h label. omega arith) (λ h n label. omega arith) (λ h n part label. omega arith) (λ h l label. omega arith) m.functions in
+      let functions_high = functions_all m.types (λ x. 2 ≤ digit_of 0 x.0) (λ h label. omega arith) (λ h n label. omega arith) (λ h n part label. omega arith) (λ h l label. omega arith) m.functions in
+      let globals_high = globals_all m.types (λ x. 3 ≤ digit_of 0 x.0) (λ g label. omega arith) (λ g part label. omega arith) m.global_variables in
+      let less = λ (k l : ℕ) (le : l ≤ k). all_weaken {P = λ x. k ≤ digit_of 0 x.0} {Q = λ x. l ≤ digit_of 0 x.0} (λ x e. omega (arith, e, le)) in
+      apart_append (digit_of 0) (same_digit 0) 1 the_types (the_entry_points ++ (the_functions ++ the_globals)) low
+      (all_append (λ x. 1 ≤ digit_of 0 x.0) the_entry_points (the_functions ++ the_globals) entry_high
+      (all_append (λ x. 1 ≤ digit_of 0 x.0) the_functions the_globals (less 2 1 (omega arith) the_functions functions_high) (less 3 1 (omega arith) the_globals globals_high)))
+      (types_apart m.entry_points.items m.types)
+      (apart_append (digit_of 0) (same_digit 0) 2 the_entry_points (the_functions ++ the_globals) entry_low
+      (all_append (λ x. 2 ≤ digit_of 0 x.0) the_functions the_globals functions_high (less 3 2 (omega arith) the_globals globals_high))
+      (entry_points_apart m.entry_points.items)
+      (apart_append (digit_of 0) (same_digit 0) 3 the_functions the_globals functions_low globals_high (functions_apart m.types m.functions) (globals_apart m.types m.global_variables)))
+
+  declarations_low : AllByRecursion (λ x. digit_of 0 x.0 < 4) (labelled_declarations «module»)
+  declarations_low =
+      let m = «module» in
+      all_append (λ x. digit_of 0 x.0 < 4) the_types (the_entry_points ++ (the_functions ++ the_globals)) (types_all m.entry_points.items (λ x. digit_of 0 x.0 < 4) (λ t label. omega arith) m.types)
+      (all_append (λ x. digit_of 0 x.0 < 4) the_entry_points (the_functions ++ the_globals) (entry_points_all (λ x. digit_of 0 x.0 < 4) (λ e label. omega arith) (λ e n label. omega arith) (λ e l label. omega arith) m.entry_points.items)
+      (all_append (λ x. digit_of 0 x.0 < 4) the_functions the_globals (functions_all m.types (λ x. digit_of 0 x.0 < 4) (λ h label. omega arith) (λ h n label. omega arith) (λ h n part label. omega arith) (λ h l label. omega arith) m.functions)
+      (globals_all m.types (λ x. digit_of 0 x.0 < 4) (λ g label. omega arith) (λ g part label. omega arith) m.global_variables)))
+
+  values_apart : (names : ℕ → List ℕ) → AreApart (labelled_values names «module»)
+  values_apart names =
+      let constant : ℕ → AConstant → Labelled = λ c v. (Constant c, value_label names (codes "const_") v.name v.ty) in
+      let override_ : ℕ → AnOverride → Labelled = λ o v. (Override o, value_label names (codes "override_") v.name v.ty) in
+      apart_append (digit_of 0) (same_digit 0) 5 (labelled_constants names «module».constants) (labelled_overrides names «module».overrides)
+      (entries_all constant (λ x. digit_of 0 x.0 < 5) (λ c v. omega arith) 0 «module».constants) (entries_all override_ (λ x. 5 ≤ digit_of 0 x.0) (λ o v. omega arith) 0 «module».overrides)
+      (entries_apart constant 1 (λ c v. refl) «module».constants) (entries_apart override_ 1 (λ o v. refl) «module».overrides)
+
+  values_high : (names : ℕ → List ℕ) → AllByRecursion (λ x. 4 ≤ digit_of 0 x.0) (labelled_values names «module»)
+  values_high names =
+      let constant : ℕ → AConstant → Labelled = λ c v. (Constant c, value_label names (codes "const_") v.name v.ty) in
+      let override_ : ℕ → AnOverride → Labelled = λ o v. (Override o, value_label names (codes "override_") v.name v.ty) in
+      all_append (λ x. 4 ≤ digit_of 0 x.0) (labelled_constants names «module».constants) (labelled_overrides names «module».overrides)
+      (entries_all constant (λ x. 4 ≤ digit_of 0 x.0) (λ c v. omega arith) 0 «module».constants) (entries_all override_ (λ x. 4 ≤ digit_of 0 x.0) (λ o v. omega arith) 0 «module».overrides)
 
 -- no item of a module has the key of another one
-pub items_apart : («module» : Module) → AreApart (labelled_items «module»)
-items_apart m =
-    apart_append (digit_of 0) (same_digit 0) 1 (labelled_types m.types) (labelled_functions m.functions) (types_low m.types)
-    (each_section (λ item. 1 ≤ digit_of 0 item.0) labelled_function (λ h f. function_all (λ item. 1 ≤ digit_of 0 item.0) h (λ label. omega arith) (λ n label. omega arith) f) 0 m.functions)
-    (types_apart m.types) (functions_apart m.functions)
+pub items_apart : (start : Names) («module» : Module) → AreApart (labelled_items start «module»)
+items_apart start m =
+    apart_append (digit_of 0) (same_digit 0) 4 (labelled_declarations m) (labelled_values (type_name start m) m) (declarations_low m) (values_high m (type_name start m)) (declarations_apart m) (values_apart m (type_name start m))

@@ -1,5 +1,5 @@
 -- What every name looks like, and that a name tells its base and its number.
-use Rattle.std.proofs.Common.{◌≡◌, ℕ, ◌+◌, ◌-◌, ◌<◌, ◌≤◌, ◌^◌, Bool, true, false, not, ◌&&◌, ◌||◌, ◌==◌, cond, List, [], ◌∷◌, ◌++◌, length, get_or, drop, codes, refl, sym, ap, ◌∙◌, arith, append_assoc, All}
+use Rattle.std.proofs.Common.{◌≡◌, ℕ, ◌+◌, ◌-◌, ◌<◌, ◌≤◌, ◌^◌, Bool, true, false, not, ◌&&◌, ◌||◌, ◌==◌, cond, List, [], ◌∷◌, ◌++◌, length, get_or, drop, codes, refl, sym, ap, ◌∙◌, arith, append_assoc, append-nil, All}
 use Rattle.std.specs.List.{list_all}
 use Rattle.std.specs.Prelude.{◌⊎◌}
 use mathlib.Core.Logic.{inl, inr}
@@ -15,10 +15,10 @@ use Rattle.std.proofs.lemmas.List.Sums.{sum_by-append, sum_by-cons}
 use Rattle.std.proofs.lemmas.Bool.Decides.{nat_tests}
 use Rattle.std.proofs.lemmas.Map.Text.{is_eq-slice_cmp}
 use Rattle.naga_names.specs.Label.{ends_separated}
-use Rattle.naga_names.specs.Plain.{is_identifier_char, is_word, HasPlainEnds, IsPlain}
+use Rattle.naga_names.specs.Plain.{is_identifier_char, is_word, is_identifier, is_empty_or_separated, HasPlainEnds, IsPlain}
 use Rattle.naga_names.specs.Words.{lowered}
 use Rattle.naga_names.specs.Naming.{Names, label_base, is_taken, ends_in_digit, first_name, later_name, name_of_base, labels_with_base, name_after}
-use Rattle.naga_names.proofs.BaseShapes.{base_is_word, base_ends, is_text, is_text-decimal, all_digits-decimal}
+use Rattle.naga_names.proofs.BaseShapes.{base_is_word, base_ends, begins_double, base_not_double, is_text, is_text-decimal, all_digits-decimal}
 
 and_both : (a b : Bool) → a ≡ true → b ≡ true → (a && b) ≡ true
 and_both true b x y = y
@@ -234,6 +234,31 @@ kept_three start word e =
     let outer = neither (set.contains start.keywords word || set.contains start.builtin_identifiers word) (set.contains start.caseless_keywords (lowered word)) e in
     let inner = neither (set.contains start.keywords word) (set.contains start.builtin_identifiers word) outer.0 in
     (inner.0, inner.1, outer.1)
+
+-- a word that does not begin with `__`, with more behind it, where it does not end in `_`
+identifier_more : (base more : List ℕ) → is_word base ≡ true → ends_separated base ≡ false → begins_double base ≡ false → is_word (base ++ more) ≡ true → is_identifier (base ++ more) ≡ true
+identifier_more [] more some ends single word = absurd (cc)
+identifier_more (c ∷ []) more some ends single word = and_both _ _ word (ap (λ b. not (b && is_empty_or_separated more)) ends)
+identifier_more (c ∷ d ∷ cs) more some ends single word = and_both _ _ word (ap not single)
+
+identifier_of_base : (names : Names) (base : List ℕ) (n : ℕ) → is_word base ≡ true → ends_separated base ≡ false → begins_double base ≡ false → is_identifier (name_of_base names base n) ≡ true
+identifier_of_base names base n some ends single = either (name_cases names base n) (word_of_base names base some n)
+  where
+    plain : is_word base ≡ true → is_identifier base ≡ true
+    plain word = ap is_identifier (sym (append-nil base)) ∙ identifier_more base [] some ends single (ap is_word (append-nil base) ∙ word)
+
+    first : (first_name names base ≡ base ++ 95 ∷ []) ⊎ ((first_name names base ≡ base) × (ends_in_digit base ≡ false) × (is_taken names base ≡ false)) → is_word (first_name names base) ≡ true → is_identifier (first_name names base) ≡ true
+    first (inl is) word = ap is_identifier is ∙ identifier_more base (95 ∷ []) some ends single (ap is_word (sym is) ∙ word)
+    first (inr is) word = ap is_identifier is.0 ∙ plain some
+
+    either : ((n ≡ 0) × (name_of_base names base n ≡ first_name names base)) ⊎ (name_of_base names base n ≡ base ++ 95 ∷ decimal n) → is_word (name_of_base names base n) ≡ true → is_identifier (name_of_base names base n) ≡ true
+    either (inl is) word = ap is_identifier is.1 ∙ first (first_cases names base) (ap is_word (sym is.1) ∙ word)
+    either (inr is) word = ap is_identifier is ∙ identifier_more base (95 ∷ decimal n) some ends single (ap is_word (sym is) ∙ word)
+
+-- a name is an identifier: a word that does not begin with `__`, and is not `_`
+pub name_after_is_identifier : (start : Names) (earlier : List (List ℕ)) (label : List ℕ) → is_identifier (name_after start earlier label) ≡ true
+name_after_is_identifier start earlier label =
+    identifier_of_base start (label_base start label) (labels_with_base start earlier (label_base start label)) (base_is_word start.reserved_prefixes (chars label)) (base_ends start.reserved_prefixes (chars label)) (base_not_double start.reserved_prefixes (chars label))
 
 -- no name is a word of the sets
 pub name_after_no_keyword : (start : Names) (earlier : List (List ℕ)) (label : List ℕ) → HasPlainEnds start.keywords → set.contains start.keywords (name_after start earlier label) ≡ false

@@ -1,5 +1,5 @@
 -- The names of a list of items: where they stand, that none comes twice, and what a map has of them.
-use Rattle.std.proofs.Common.{◌≡◌, ℕ, ◌+◌, ◌<◌, ◌≤◌, ◌^◌, zero, suc, List, [], ◌∷◌, ◌++◌, map, take, Some, None, true, false, cond, refl, ap, sym, subst, ◌∙◌, arith, codes, append_assoc, append-nil, unwrap_or, slice_get}
+use Rattle.std.proofs.Common.{◌≡◌, ℕ, ◌+◌, ◌<◌, ◌≤◌, ◌^◌, zero, suc, string_bytes, List, [], ◌∷◌, ◌++◌, map, take, Some, None, true, false, cond, refl, ap, sym, subst, ◌∙◌, arith, codes, append_assoc, append-nil, unwrap_or, slice_get}
 use Rattle.std.specs.Prelude.{◌⊎◌}
 use mathlib.Core.Logic.{inl, inr}
 use Rattle.std.specs.List.{AllByRecursion, IsDistinct, scan, flat_map, enumerate_from}
@@ -10,11 +10,16 @@ use Rattle.std.proofs.lemmas.List.{map-append}
 use Rattle.naga_ir.specs.declared.module.Module.{Module}
 use Rattle.naga_ir.specs.declared.module.Function.{Function}
 use Rattle.naga_ir.specs.declared.module.FunctionArgument.{FunctionArgument}
+use Rattle.naga_ir.specs.declared.module.Constant.{Constant}
+use Rattle.naga_ir.specs.declared.module.EntryPoint.{EntryPoint}
+use Rattle.naga_ir.specs.declared.module.Override.{Override}
+use Rattle.naga_ir.specs.declared.module.GlobalVariable.{GlobalVariable}
+use Rattle.naga_ir.specs.declared.module.LocalVariable.{LocalVariable}
 use Rattle.naga_ir.specs.declared.types.Type_.{Type_}
 use Rattle.naga_names.specs.declared.namer.key.NameKey.{NameKey}
 use Rattle.naga_names.specs.declared.namer.key.NameKey.TheVariants as key
 use Rattle.naga_names.specs.Naming.{Names, name_after, labels_with_base, label_or}
-use Rattle.naga_names.specs.Reset.{Labelled, NameMap, labels_of, named_items, labelled_types, labelled_arguments, labelled_function, labelled_functions, labelled_items, same_key, PutsInto, HasNamedItems}
+use Rattle.naga_names.specs.Reset.{Labelled, NameMap, labels_of, named_items, type_label, is_external, labelled_parts, labelled_types, labelled_argument, labelled_arguments, labelled_locals, labelled_function, labelled_functions, labelled_entry_arguments, labelled_entry_locals, labelled_entry_point, labelled_entry_points, labelled_global, labelled_globals, labelled_declarations, value_label, type_name, labelled_constants, labelled_overrides, labelled_values, labelled_items, same_key, PutsInto, HasNamedItems}
 use Rattle.naga_names.proofs.NameKeys.{AreApart, same_key_laws, items_apart}
 use Rattle.naga_names.proofs.NameShapes.{names_differ}
 
@@ -43,6 +48,15 @@ named_from_at start earlier (x ∷ items) (suc i) item e =
 -- the item at a place is named after the labels before it
 pub named_items_at : (start : Names) (items : List Labelled) (i : ℕ) (item : Labelled) → slice_get items i ≡ Some item → slice_get (named_items start items) i ≡ Some (item.0, name_after start (labels_of (take i items)) item.1)
 named_items_at start items i item e = named_from_at start [] items i item e
+
+named_from_past : (start : Names) (earlier : List (List ℕ)) (items : List Labelled) (i : ℕ) → slice_get items i ≡ None → slice_get (named_from start earlier items) i ≡ None
+named_from_past start earlier [] i e = refl
+named_from_past start earlier (x ∷ items) zero e = nothing_there x (sym e)
+named_from_past start earlier (x ∷ items) (suc i) e = named_from_past start (earlier ++ x.1 ∷ []) items i e
+
+-- behind the last item there is none
+pub named_items_past : (start : Names) (items : List Labelled) (i : ℕ) → slice_get items i ≡ None → slice_get (named_items start items) i ≡ None
+named_items_past start items i e = named_from_past start [] items i e
 
 -- ---- no name comes twice
 split_one : (xs : List Labelled) (j : ℕ) (y : Labelled) → slice_get xs j ≡ Some y → (rest : List Labelled) × (xs ≡ take j xs ++ y ∷ rest)
@@ -185,63 +199,170 @@ single : {A : Type 0} (g : A → Labelled) (xs : List A) → flat_map (λ a. g a
 single g [] = refl
 single g (x ∷ xs) = ap (λ items. g x ∷ items) (single g xs)
 
--- ---- the items of a module, each where its arena has it
-module _ («module» : Module) where
-  pub type_stands : (t : ℕ) (ty : Type_) → slice_get «module».types t ≡ Some ty → Stands (labelled_items «module») (key.Type_ t, label_or ty.name (codes "type"))
-  type_stands t ty e =
-      stands_left (labelled_types «module».types) (labelled_functions «module».functions) (key.Type_ t, label_or ty.name (codes "type"))
-      (subst (λ items. Stands items (key.Type_ t, label_or ty.name (codes "type"))) (single (λ p. (key.Type_ p.0, label_or p.1.name (codes "type"))) (enumerate_from 0 «module».types))
-      (stands_in_section (λ n ty. (key.Type_ n, label_or ty.name (codes "type")) ∷ []) 0 t «module».types ty (key.Type_ t, label_or ty.name (codes "type")) e (first_at t)))
-    where
-      first_at : (t : ℕ) → Stands ((key.Type_ (0 + t), label_or ty.name (codes "type")) ∷ []) (key.Type_ t, label_or ty.name (codes "type"))
-      first_at t = let same : 0 + t ≡ t = omega arith in record { place = 0; there = ap (λ n. Some (key.Type_ n, label_or ty.name (codes "type"))) same }
+pub stands_in_entries : {X : Type 0} (entry : ℕ → X → Labelled) (i : ℕ) (xs : List X) (x : X) → slice_get xs i ≡ Some x → Stands (map (λ p. entry p.0 p.1) (enumerate_from 0 xs)) (entry i x)
+stands_in_entries entry i xs x e =
+    let same : 0 + i ≡ i = omega arith in
+    subst (λ items. Stands items (entry i x)) (single (λ p. entry p.0 p.1) (enumerate_from 0 xs))
+    (stands_in_section (λ n x. entry n x ∷ []) 0 i xs x (entry i x) e (subst (λ n. Stands (entry n x ∷ []) (entry i x)) (sym same) (stands_first (entry i x) [])))
 
-  in_function : (h : ℕ) (function : Function) (item : Labelled) → slice_get «module».functions h ≡ Some function → Stands (labelled_function h function) item → Stands (labelled_items «module») item
+-- ---- the items of a module, each where its list has it
+module _ (start : Names) («module» : Module) where
+  abbrev the_values : List Labelled
+  the_values = labelled_values (type_name start «module») «module»
+
+  abbrev the_types : List Labelled
+  the_types = labelled_types «module».entry_points.items «module».types
+
+  abbrev the_entry_points : List Labelled
+  the_entry_points = labelled_entry_points «module».entry_points.items
+
+  abbrev the_functions : List Labelled
+  the_functions = labelled_functions «module».types «module».functions
+
+  abbrev the_globals : List Labelled
+  the_globals = labelled_globals «module».types «module».global_variables
+
+  -- what is declared beside the values
+  declared : (item : Labelled) → Stands (labelled_declarations «module») item → Stands (labelled_items start «module») item
+  declared item s = stands_left (labelled_declarations «module») the_values item s
+
+  pub type_stands : (t : ℕ) (ty : Type_) → slice_get «module».types t ≡ Some ty → Stands (labelled_items start «module») (key.Type_ t, type_label «module».entry_points.items t ty)
+  type_stands t ty e =
+      declared (key.Type_ t, type_label «module».entry_points.items t ty)
+      (stands_left the_types (the_entry_points ++ (the_functions ++ the_globals)) (key.Type_ t, type_label «module».entry_points.items t ty)
+      (stands_in_entries (λ n ty. (key.Type_ n, type_label «module».entry_points.items n ty)) t «module».types ty e))
+
+  in_entry_point : (n : ℕ) (entry_point : EntryPoint) (item : Labelled) → slice_get «module».entry_points.items n ≡ Some entry_point → Stands (labelled_entry_point n entry_point) item → Stands (labelled_items start «module») item
+  in_entry_point n entry_point item e s =
+      let same : n ≡ 0 + n = omega arith in
+      declared item (stands_right the_types (the_entry_points ++ (the_functions ++ the_globals)) item
+      (stands_left the_entry_points (the_functions ++ the_globals) item
+      (stands_in_section labelled_entry_point 0 n «module».entry_points.items entry_point item e (subst (λ k. Stands (labelled_entry_point k entry_point) item) same s))))
+
+  pub entry_point_stands : (n : ℕ) (entry_point : EntryPoint) → slice_get «module».entry_points.items n ≡ Some entry_point → Stands (labelled_items start «module») (key.EntryPoint n, string_bytes entry_point.name)
+  entry_point_stands n entry_point e = in_entry_point n entry_point (key.EntryPoint n, string_bytes entry_point.name) e (stands_first _ _)
+
+  pub entry_argument_stands : (n : ℕ) (entry_point : EntryPoint) (a : ℕ) (argument : FunctionArgument) → slice_get «module».entry_points.items n ≡ Some entry_point → slice_get entry_point.function.arguments.items a ≡ Some argument → Stands (labelled_items start «module») (key.EntryPointArgument n a, label_or argument.name (codes "param"))
+  entry_argument_stands n entry_point a argument e f =
+      let item : Labelled = (key.EntryPointArgument n a, label_or argument.name (codes "param")) in
+      let arguments = labelled_entry_arguments n entry_point.function.arguments.items in
+      let locals = labelled_entry_locals n entry_point.function.local_variables in
+      in_entry_point n entry_point item e (stands_right ((key.EntryPoint n, string_bytes entry_point.name) ∷ []) (arguments ++ locals) item
+      (stands_left arguments locals item (stands_in_entries (λ k (b : FunctionArgument). (key.EntryPointArgument n k, label_or b.name (codes "param"))) a entry_point.function.arguments.items argument f)))
+
+  pub entry_local_stands : (n : ℕ) (entry_point : EntryPoint) (l : ℕ) (local : LocalVariable) → slice_get «module».entry_points.items n ≡ Some entry_point → slice_get entry_point.function.local_variables l ≡ Some local → Stands (labelled_items start «module») (key.EntryPointLocal n l, label_or local.name (codes "local"))
+  entry_local_stands n entry_point l local e f =
+      let item : Labelled = (key.EntryPointLocal n l, label_or local.name (codes "local")) in
+      let arguments = labelled_entry_arguments n entry_point.function.arguments.items in
+      let locals = labelled_entry_locals n entry_point.function.local_variables in
+      in_entry_point n entry_point item e (stands_right ((key.EntryPoint n, string_bytes entry_point.name) ∷ []) (arguments ++ locals) item
+      (stands_right arguments locals item (stands_in_entries (λ k (v : LocalVariable). (key.EntryPointLocal n k, label_or v.name (codes "local"))) l entry_point.function.local_variables local f)))
+
+  in_function : (h : ℕ) (function : Function) (item : Labelled) → slice_get «module».functions h ≡ Some function → Stands (labelled_function «module».types h function) item → Stands (labelled_items start «module») item
   in_function h function item e s =
       let same : h ≡ 0 + h = omega arith in
-      stands_right (labelled_types «module».types) (labelled_functions «module».functions) item
-      (stands_in_section labelled_function 0 h «module».functions function item e (subst (λ n. Stands (labelled_function n function) item) same s))
+      declared item (stands_right the_types (the_entry_points ++ (the_functions ++ the_globals)) item
+      (stands_right the_entry_points (the_functions ++ the_globals) item
+      (stands_left the_functions the_globals item
+      (stands_in_section (labelled_function «module».types) 0 h «module».functions function item e (subst (λ n. Stands (labelled_function «module».types n function) item) same s)))))
 
-  pub function_stands : (h : ℕ) (function : Function) → slice_get «module».functions h ≡ Some function → Stands (labelled_items «module») (key.Function h, label_or function.name (codes "function"))
+  pub function_stands : (h : ℕ) (function : Function) → slice_get «module».functions h ≡ Some function → Stands (labelled_items start «module») (key.Function h, label_or function.name (codes "function"))
   function_stands h function e = in_function h function (key.Function h, label_or function.name (codes "function")) e (stands_first _ _)
 
-  pub argument_stands : (h : ℕ) (function : Function) (n : ℕ) (argument : FunctionArgument) → slice_get «module».functions h ≡ Some function → slice_get function.arguments.items n ≡ Some argument → Stands (labelled_items «module») (key.FunctionArgument h n, label_or argument.name (codes "param"))
-  argument_stands h function n argument e a =
-      in_function h function item e (stands_right ((key.Function h, label_or function.name (codes "function")) ∷ []) (labelled_arguments h function.arguments.items) item
-      (subst (λ items. Stands items item) (single (λ p. (key.FunctionArgument h p.0, label_or p.1.name (codes "param"))) (enumerate_from 0 function.arguments.items))
-      (stands_in_section (λ m (b : FunctionArgument). (key.FunctionArgument h m, label_or b.name (codes "param")) ∷ []) 0 n function.arguments.items argument item a (first_at n))))
-    where
-      item : Labelled
-      item = (key.FunctionArgument h n, label_or argument.name (codes "param"))
+  in_argument : (h : ℕ) (function : Function) (n : ℕ) (argument : FunctionArgument) (item : Labelled) → slice_get «module».functions h ≡ Some function → slice_get function.arguments.items n ≡ Some argument → Stands (labelled_argument «module».types h n argument) item → Stands (labelled_items start «module») item
+  in_argument h function n argument item e a s =
+      let same : n ≡ 0 + n = omega arith in
+      let arguments = labelled_arguments «module».types h function.arguments.items in
+      let locals = labelled_locals h function.local_variables in
+      in_function h function item e (stands_right ((key.Function h, label_or function.name (codes "function")) ∷ []) (arguments ++ locals) item
+      (stands_left arguments locals item
+      (stands_in_section (labelled_argument «module».types h) 0 n function.arguments.items argument item a (subst (λ k. Stands (labelled_argument «module».types h k argument) item) same s))))
 
-      first_at : (n : ℕ) → Stands ((key.FunctionArgument h (0 + n), label_or argument.name (codes "param")) ∷ []) (key.FunctionArgument h n, label_or argument.name (codes "param"))
-      first_at n = let same : 0 + n ≡ n = omega arith in record { place = 0; there = ap (λ m. Some (key.FunctionArgument h m, label_or argument.name (codes "param"))) same }
+  pub argument_stands : (h : ℕ) (function : Function) (n : ℕ) (argument : FunctionArgument) → slice_get «module».functions h ≡ Some function → slice_get function.arguments.items n ≡ Some argument → Stands (labelled_items start «module») (key.FunctionArgument h n, label_or argument.name (codes "param"))
+  argument_stands h function n argument e a = in_argument h function n argument (key.FunctionArgument h n, label_or argument.name (codes "param")) e a (stands_first _ _)
+
+  -- a part of an argument that is an external image
+  pub argument_part_stands : (h : ℕ) (function : Function) (n : ℕ) (argument : FunctionArgument) (part : Labelled) → slice_get «module».functions h ≡ Some function → slice_get function.arguments.items n ≡ Some argument → is_external «module».types argument.ty ≡ true → Stands (labelled_parts (key.ExternalTextureFunctionArgument h n) (label_or argument.name (codes "param"))) part → Stands (labelled_items start «module») part
+  argument_part_stands h function n argument part e a external s =
+      in_argument h function n argument part e a
+      (stands_right ((key.FunctionArgument h n, label_or argument.name (codes "param")) ∷ []) (cond (is_external «module».types argument.ty) (labelled_parts (key.ExternalTextureFunctionArgument h n) (label_or argument.name (codes "param"))) []) part
+      (subst (λ b. Stands (cond b (labelled_parts (key.ExternalTextureFunctionArgument h n) (label_or argument.name (codes "param"))) []) part) (sym external) s))
+
+  pub local_stands : (h : ℕ) (function : Function) (l : ℕ) (local : LocalVariable) → slice_get «module».functions h ≡ Some function → slice_get function.local_variables l ≡ Some local → Stands (labelled_items start «module») (key.FunctionLocal h l, label_or local.name (codes "local"))
+  local_stands h function l local e f =
+      let item : Labelled = (key.FunctionLocal h l, label_or local.name (codes "local")) in
+      let arguments = labelled_arguments «module».types h function.arguments.items in
+      let locals = labelled_locals h function.local_variables in
+      in_function h function item e (stands_right ((key.Function h, label_or function.name (codes "function")) ∷ []) (arguments ++ locals) item
+      (stands_right arguments locals item (stands_in_entries (λ k (v : LocalVariable). (key.FunctionLocal h k, label_or v.name (codes "local"))) l function.local_variables local f)))
+
+  in_global : (g : ℕ) (global : GlobalVariable) (item : Labelled) → slice_get «module».global_variables g ≡ Some global → Stands (labelled_global «module».types g global) item → Stands (labelled_items start «module») item
+  in_global g global item e s =
+      let same : g ≡ 0 + g = omega arith in
+      declared item (stands_right the_types (the_entry_points ++ (the_functions ++ the_globals)) item
+      (stands_right the_entry_points (the_functions ++ the_globals) item
+      (stands_right the_functions the_globals item
+      (stands_in_section (labelled_global «module».types) 0 g «module».global_variables global item e (subst (λ k. Stands (labelled_global «module».types k global) item) same s)))))
+
+  pub global_stands : (g : ℕ) (global : GlobalVariable) → slice_get «module».global_variables g ≡ Some global → Stands (labelled_items start «module») (key.GlobalVariable g, label_or global.name (codes "global"))
+  global_stands g global e = in_global g global (key.GlobalVariable g, label_or global.name (codes "global")) e (stands_first _ _)
+
+  -- a part of a global that is an external image
+  pub global_part_stands : (g : ℕ) (global : GlobalVariable) (part : Labelled) → slice_get «module».global_variables g ≡ Some global → is_external «module».types global.ty ≡ true → Stands (labelled_parts (key.ExternalTextureGlobalVariable g) (label_or global.name (codes "global"))) part → Stands (labelled_items start «module») part
+  global_part_stands g global part e external s =
+      in_global g global part e
+      (stands_right ((key.GlobalVariable g, label_or global.name (codes "global")) ∷ []) (cond (is_external «module».types global.ty) (labelled_parts (key.ExternalTextureGlobalVariable g) (label_or global.name (codes "global"))) []) part
+      (subst (λ b. Stands (cond b (labelled_parts (key.ExternalTextureGlobalVariable g) (label_or global.name (codes "global"))) []) part) (sym external) s))
+
+  pub constant_stands : (c : ℕ) (constant : Constant) → slice_get «module».constants c ≡ Some constant → Stands (labelled_items start «module») (key.Constant c, value_label (type_name start «module») (codes "const_") constant.name constant.ty)
+  constant_stands c constant e =
+      let item : Labelled = (key.Constant c, value_label (type_name start «module») (codes "const_") constant.name constant.ty) in
+      stands_right (labelled_declarations «module») the_values item
+      (stands_left (labelled_constants (type_name start «module») «module».constants) (labelled_overrides (type_name start «module») «module».overrides) item
+      (stands_in_entries (λ k (v : Constant). (key.Constant k, value_label (type_name start «module») (codes "const_") v.name v.ty)) c «module».constants constant e))
+
+  pub override_stands : (o : ℕ) (value : Override) → slice_get «module».overrides o ≡ Some value → Stands (labelled_items start «module») (key.Override o, value_label (type_name start «module») (codes "override_") value.name value.ty)
+  override_stands o value e =
+      let item : Labelled = (key.Override o, value_label (type_name start «module») (codes "override_") value.name value.ty) in
+      stands_right (labelled_declarations «module») the_values item
+      (stands_right (labelled_constants (type_name start «module») «module».constants) (labelled_overrides (type_name start «module») «module».overrides) item
+      (stands_in_entries (λ k (v : Override). (key.Override k, value_label (type_name start «module») (codes "override_") v.name v.ty)) o «module».overrides value e))
 
 -- ---- after a `reset`
-module _ (start : Names) (before : NameMap) («module» : Module) (names : Names) (now : NameMap) (has : HasNamedItems start before (labelled_items «module») names now) where
+module _ (start : Names) (before : NameMap) («module» : Module) (names : Names) (now : NameMap) (has : HasNamedItems start before (labelled_items start «module») names now) where
   -- each item has its name in the map
-  pub named_there : (item : Labelled) (s : Stands (labelled_items «module») item) → now item.0 ≡ Some (name_after start (labels_of (take s.place (labelled_items «module»))) item.1)
-  named_there item s = put_at start before now (labelled_items «module») has.put (items_apart «module») s.place item s.there
+  pub named_there : (item : Labelled) (s : Stands (labelled_items start «module») item) → now item.0 ≡ Some (name_after start (labels_of (take s.place (labelled_items start «module»))) item.1)
+  named_there item s = put_at start before now (labelled_items start «module») has.put (items_apart start «module») s.place item s.there
 
-  pub few_labels : (base : List ℕ) → labels_with_base start (labels_of (labelled_items «module»)) base ≤ 2 ^ 32
-  few_labels base = subst (λ n. n ≤ 2 ^ 32) (ap (λ (n : Names). labels_with_base n (labels_of (labelled_items «module»)) base) has.words) (has.labels.few base)
+  pub few_labels : (base : List ℕ) → labels_with_base start (labels_of (labelled_items start «module»)) base ≤ 2 ^ 32
+  few_labels base = subst (λ n. n ≤ 2 ^ 32) (ap (λ (n : Names). labels_with_base n (labels_of (labelled_items start «module»)) base) has.words) (has.labels.few base)
 
   -- items with one name are one item
-  pub names_tell : (a b : Labelled) → Stands (labelled_items «module») a → Stands (labelled_items «module») b → now a.0 ≡ now b.0 → a ≡ b
+  pub names_tell : (a b : Labelled) → Stands (labelled_items start «module») a → Stands (labelled_items start «module») b → now a.0 ≡ now b.0 → a ≡ b
   names_tell a b s t same =
       let one = name_of_some (sym (named_there a s) ∙ same ∙ named_there b t) in
-      let place = item_names_tell start (labelled_items «module») few_labels s.place t.place a b s.there t.there one in
-      it_is a b (sym s.there ∙ ap (slice_get (labelled_items «module»)) place ∙ t.there)
+      let place = item_names_tell start (labelled_items start «module») few_labels s.place t.place a b s.there t.there one in
+      it_is a b (sym s.there ∙ ap (slice_get (labelled_items start «module»)) place ∙ t.there)
     where
       name_of_some : {x y : List ℕ} → Some x ≡ Some y → x ≡ y
       name_of_some {x} {y} e = ap (λ o. unwrap_or o x) e
 
   -- a function has its name, and each of its arguments
   pub function_named : (h : ℕ) (function : Function) → slice_get «module».functions h ≡ Some function → (name : List ℕ) × (now (key.Function h) ≡ Some name)
-  function_named h function e = (_, named_there (key.Function h, label_or function.name (codes "function")) (function_stands «module» h function e))
+  function_named h function e = (_, named_there (key.Function h, label_or function.name (codes "function")) (function_stands start «module» h function e))
 
   pub argument_named : (h : ℕ) (function : Function) (n : ℕ) (argument : FunctionArgument) → slice_get «module».functions h ≡ Some function → slice_get function.arguments.items n ≡ Some argument → (name : List ℕ) × (now (key.FunctionArgument h n) ≡ Some name)
-  argument_named h function n argument e a = (_, named_there (key.FunctionArgument h n, label_or argument.name (codes "param")) (argument_stands «module» h function n argument e a))
+  argument_named h function n argument e a = (_, named_there (key.FunctionArgument h n, label_or argument.name (codes "param")) (argument_stands start «module» h function n argument e a))
 
   pub type_named : (t : ℕ) (ty : Type_) → slice_get «module».types t ≡ Some ty → (name : List ℕ) × (now (key.Type_ t) ≡ Some name)
-  type_named t ty e = (_, named_there (key.Type_ t, label_or ty.name (codes "type")) (type_stands «module» t ty e))
+  type_named t ty e = (_, named_there (key.Type_ t, type_label «module».entry_points.items t ty) (type_stands start «module» t ty e))
+
+  -- the same by places
+  pub named_at : (i : ℕ) (item : Labelled) → slice_get (labelled_items start «module») i ≡ Some item → now item.0 ≡ Some (name_after start (labels_of (take i (labelled_items start «module»))) item.1)
+  named_at i item e = put_at start before now (labelled_items start «module») has.put (items_apart start «module») i item e
+
+  pub told_at : (i j : ℕ) (a b : Labelled) → slice_get (labelled_items start «module») i ≡ Some a → slice_get (labelled_items start «module») j ≡ Some b → now a.0 ≡ now b.0 → i ≡ j
+  told_at i j a b ea eb same = item_names_tell start (labelled_items start «module») few_labels i j a b ea eb (name_of_some (sym (named_at i a ea) ∙ same ∙ named_at j b eb))
+    where
+      name_of_some : {x y : List ℕ} → Some x ≡ Some y → x ≡ y
+      name_of_some {x} {y} e = ap (λ o. unwrap_or o x) e

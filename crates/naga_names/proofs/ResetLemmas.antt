@@ -1,22 +1,23 @@
 -- Names given to one item after another.
-use Rattle.std.proofs.Common.{◌≡◌, ℕ, ◌^◌, ◌≤◌, Bool, true, false, ◌&&◌, nat_lt, cond, List, [], ◌∷◌, ◌++◌, map, length, get_or, take, drop, ◌+◌, ◌<◌, codes, arith, add-zero, add-one, drop-cons, IfErr, IsErrAnd, Bor, Some, String, HashMap, string_bytes, refl, sym, ap, subst, ◌∙◌, append_assoc, append-nil}
+use Rattle.std.proofs.Common.{◌≡◌, ℕ, ◌^◌, ◌≤◌, Bool, true, false, ◌&&◌, nat_lt, unwrap_or, cond, List, [], ◌∷◌, ◌++◌, map, length, get_or, take, drop, ◌+◌, ◌<◌, arith, add-zero, add-one, drop-cons, IfErr, IsErrAnd, Bor, Option, Some, None, String, HashMap, string_bytes, refl, sym, ap, subst, ◌∙◌, append_assoc, append-nil}
 use borrow.Author.Tests.{ltb-true}
 use Rattle.std.specs.List.{scan, fold, flat_map, enumerate_from}
 use Rattle.std.specs.declared.result.Result.{Result}
 use Rattle.std.specs.declared.result.Result.TheVariants.{Ok, Err}
 use Rattle.std.proofs.lemmas.Grind.{flat_map-append}
 use Rattle.std.proofs.lemmas.List.{take-append-drop, map-append, take_more, length-take-le}
-use Rattle.naga_ir.specs.declared.module.FunctionArgument.{FunctionArgument}
-use Rattle.naga_names.specs.declared.namer.key.NameKey.TheVariants as key
+use Rattle.naga_ir.specs.declared.module.Module.{Module}
+use Rattle.naga_ir.specs.declared.module.EntryPoint.{EntryPoint}
 use Rattle.std.specs.Map.{update, update_all, lookup}
 use Rattle.std.specs.HashMap as hash
-use Rattle.std.specs.Option.{option_map, option_map_or}
+use Rattle.std.specs.Option.{option_map, option_or}
 use Rattle.std.specs.FinMap as finite
 use Rattle.naga_names.specs.Words.{Words}
 use Rattle.naga_names.specs.declared.namer.key.NameKey.{NameKey}
+use Rattle.naga_names.specs.declared.namer.key.NameKey.TheVariants as key
 use Rattle.naga_names.specs.Naming.{Names, Uses, name_of, with_use, label_base, labels_with_base, name_after, HasNamed, new_names}
-use Rattle.naga_names.specs.Reset.{Labelled, NameMap, labelled_arguments, labels_of, key_fits, keys_fit, named_items, same_key, names_in, HasNamedItems, PutsBeginning, NamesItems}
-use Rattle.naga_names.specs.Refusal.{IsRefusalOf, SomeNameIsFull, IsRefusalOfItems, RefusesItems}
+use Rattle.naga_names.specs.Reset.{Labelled, NameMap, output_label, output_word, returns, labels_of, key_fits, keys_fit, named_items, same_key, names_in, HasNamedItems, labelled_items, type_names_in, PutsBeginning, NamesItems, NamesModule}
+use Rattle.naga_names.specs.Refusal.{IsRefusalOf, SomeNameIsFull, IsRefusalOfItems, IsResetRefusal, RefusesItems, RefusesModule}
 use Rattle.naga_names.specs.declared.namer.NamerError.{NamerError}
 use Rattle.naga_names.specs.declared.namer.NamerError.TheVariants.{Full, KeyFull, Memory}
 use Rattle.std.proofs.lemmas.List.Folds.{list_all-append}
@@ -84,21 +85,21 @@ pub starts : (keywords builtins caseless : Words) (uses : Uses) (prefixes given 
 starts keywords builtins caseless uses prefixes given none same =
     λ i. record { keywords = keywords; builtin_identifiers = builtins; caseless_keywords = caseless; reserved_prefixes = map (λ p. p.now) (same i); uses = none i }
 
-module _ (start began : Names) (same : began ≡ start) (none : start.uses ≡ finite.empty) (before now : NameMap) (items : List Labelled) where
+module _ (start began : Names) (same : began ≡ start) (none : start.uses ≡ finite.empty) (before now : NameMap) («module» : Module) where
   began_so : HasNamedItems start before [] began before
   began_so = subst (λ names. HasNamedItems start before [] names before) (sym same) (begins start before (has_named_nothing start none))
 
   -- all of the items were named
-  pub all_named : (new : Names) → NamesItems began before items new now → HasNamedItems start before items new now
-  all_named new named = named.more start before [] began_so
+  pub all_named : (new : Names) → NamesModule began before «module» new now → HasNamedItems start before (labelled_items start «module») new now
+  all_named new named = named.more start before began_so
 
   -- some of them were
-  pub some_named : (error : NamerError) → RefusesItems began before items now error → PutsBeginning start before items now
-  some_named error named = named.some start before [] began_so
+  pub some_named : (error : NamerError) → RefusesModule began before «module» now error → PutsBeginning start before (labelled_items start «module») now
+  some_named error named = named.some start before began_so
 
   -- and the others weren't, for a reason
-  pub refused_for : (error : NamerError) → RefusesItems began before items now error → IsRefusalOfItems start items error
-  refused_for error named = named.why start before [] began_so
+  pub refused_for : (error : NamerError) → RefusesModule began before «module» now error → IsResetRefusal start «module» error
+  refused_for error named = named.why start before began_so
 
 -- ---- why items are refused
 pub if_err : {T E : Type 0} (r : Result T E) (e : E) (P : E → Type 0) → IsErrAnd r (λ y. y ≡ e) → P e → IfErr r P
@@ -189,6 +190,10 @@ not_below n m no_less = either (nat_lt n m) refl
     either true e = absurd (no_less (ltb-true n m e))
     either false e = refl
 
+pub or_not_this : (a b : Bool) → b ≡ false → (a && b) ≡ false
+or_not_this true b e = e
+or_not_this false b e = refl
+
 -- an item whose key can't be told
 pub refuses_key : (old : Names) (before : NameMap) (item : Labelled) (others : List Labelled) → key_fits item.0 ≡ false → RefusesItems old before (item ∷ others) before KeyFull
 refuses_key old before item others not_so = record {
@@ -267,30 +272,67 @@ enumerate_from-append n (x ∷ xs) ys =
     let long : n + 1 + length xs ≡ n + length (x ∷ xs) = omega arith in
     ap (λ items. (n, x) ∷ items) (enumerate_from-append (n + 1) xs ys ∙ ap (λ m. enumerate_from (n + 1) xs ++ enumerate_from m ys) long)
 
-module _ (function : ℕ) where
-  abbrev argument_item : ℕ × FunctionArgument → Labelled
-  argument_item p = (key.FunctionArgument function p.0, option_map_or string_bytes p.1.name (codes "param"))
+-- items that come of a list, in order, each by its place and the entry there
+module _ {X : Type 0} (items : ℕ → List X → List Labelled) (own : ℕ → X → List Labelled) (grown : (n : ℕ) (xs ys : List X) → items n (xs ++ ys) ≡ items n xs ++ items (n + length xs) ys) (single : (n : ℕ) (x : X) → items n (x ∷ []) ≡ own n x) (xs : List X) (i : ℕ) (x : X) (lt : i < length xs) (is : x ≡ get_or xs i x) where
+  long : 0 + length (take i xs) ≡ i
+  long = omega (arith, length-take-le i xs (omega arith))
 
-  pub labelled_arguments_left : (arguments : List FunctionArgument) (i : ℕ) → List Labelled
-  labelled_arguments_left arguments i = map argument_item (enumerate_from (0 + length (take i arguments)) (drop i arguments))
+  -- the items of one entry more
+  pub items_more : items 0 (take (i + 1) xs) ≡ items 0 (take i xs) ++ own i x
+  items_more =
+      ap (items 0) (take_more xs i x lt ∙ ap (λ y. take i xs ++ y ∷ []) (sym is))
+      ∙ grown 0 (take i xs) (x ∷ [])
+      ∙ ap (λ n. items 0 (take i xs) ++ items n (x ∷ [])) long
+      ∙ ap (λ more. items 0 (take i xs) ++ more) (single i x)
 
-  pub labelled_arguments_so_far : (arguments : List FunctionArgument) (i : ℕ) → labelled_arguments function arguments ≡ labelled_arguments function (take i arguments) ++ labelled_arguments_left arguments i
-  unfolding labelled_arguments_left
-  labelled_arguments_so_far arguments i =
-      ap (labelled_arguments function) (sym (take-append-drop i arguments))
-      ∙ ap (map argument_item) (enumerate_from-append 0 (take i arguments) (drop i arguments))
-      ∙ map-append argument_item (enumerate_from 0 (take i arguments)) (enumerate_from (0 + length (take i arguments)) (drop i arguments))
+  pub items_left : List Labelled
+  items_left = items (0 + length (take (i + 1) xs)) (drop (i + 1) xs)
 
-  pub labelled_arguments-more : (arguments : List FunctionArgument) (i index : ℕ) (argument : FunctionArgument) (label : List ℕ) → i < length arguments → index ≡ i → argument ≡ get_or arguments i argument → label ≡ option_map_or string_bytes argument.name (codes "param") → labelled_arguments function (take i arguments) ++ (key.FunctionArgument function index, label) ∷ [] ≡ labelled_arguments function (take (i + 1) arguments)
-  labelled_arguments-more arguments i index argument label lt index_is argument_is label_is =
-      let long : 0 + length (take i arguments) ≡ i = omega (arith, length-take-le i arguments (omega arith)) in
-      sym (ap (labelled_arguments function) (take_more arguments i argument lt ∙ ap (λ a. take i arguments ++ a ∷ []) (sym argument_is))
-      ∙ ap (map argument_item) (enumerate_from-append 0 (take i arguments) (argument ∷ []))
-      ∙ map-append argument_item (enumerate_from 0 (take i arguments)) ((0 + length (take i arguments), argument) ∷ [])
-      ∙ (λ j. labelled_arguments function (take i arguments) ++ (key.FunctionArgument function ((long ∙ sym index_is) j), sym label_is j) ∷ []))
+  -- all of them, seen from the entry at i
+  pub items_at : items 0 xs ≡ items 0 (take i xs) ++ (own i x ++ items_left)
+  unfolding items_left
+  items_at =
+      ap (items 0) (sym (take-append-drop (i + 1) xs))
+      ∙ grown 0 (take (i + 1) xs) (drop (i + 1) xs)
+      ∙ ap (λ front. front ++ items_left) items_more
+      ∙ append_assoc (items 0 (take i xs)) (own i x) items_left
 
-  pub labelled_arguments_at : (arguments : List FunctionArgument) (i : ℕ) (argument : FunctionArgument) (label : List ℕ) → i < length arguments → argument ≡ get_or arguments i argument → label ≡ option_map_or string_bytes argument.name (codes "param") → labelled_arguments function arguments ≡ labelled_arguments function (take i arguments) ++ ((key.FunctionArgument function i, label) ∷ [] ++ labelled_arguments_left arguments (i + 1))
-  labelled_arguments_at arguments i argument label lt argument_is label_is =
-      labelled_arguments_so_far arguments (i + 1)
-      ∙ ap (λ items. items ++ labelled_arguments_left arguments (i + 1)) (sym (labelled_arguments-more arguments i i argument label lt refl argument_is label_is))
-      ∙ append_assoc (labelled_arguments function (take i arguments)) ((key.FunctionArgument function i, label) ∷ []) (labelled_arguments_left arguments (i + 1))
+module _ {X : Type 0} (section : ℕ → X → List Labelled) where
+  abbrev sections : ℕ → List X → List Labelled
+  sections n xs = flat_map (λ p. section p.0 p.1) (enumerate_from n xs)
+
+  pub sections_grown : (n : ℕ) (xs ys : List X) → flat_map (λ p. section p.0 p.1) (enumerate_from n (xs ++ ys)) ≡ flat_map (λ p. section p.0 p.1) (enumerate_from n xs) ++ flat_map (λ p. section p.0 p.1) (enumerate_from (n + length xs) ys)
+  sections_grown n xs ys = ap (flat_map (λ p. section p.0 p.1)) (enumerate_from-append n xs ys) ∙ flat_map-append (λ p. section p.0 p.1) (enumerate_from n xs) (enumerate_from (n + length xs) ys)
+
+  pub sections_single : (n : ℕ) (x : X) → flat_map (λ p. section p.0 p.1) (enumerate_from n (x ∷ [])) ≡ section n x
+  sections_single n x = append-nil (section n x)
+
+module _ {X : Type 0} (entry : ℕ → X → Labelled) where
+  pub entries_grown : (n : ℕ) (xs ys : List X) → map (λ p. entry p.0 p.1) (enumerate_from n (xs ++ ys)) ≡ map (λ p. entry p.0 p.1) (enumerate_from n xs) ++ map (λ p. entry p.0 p.1) (enumerate_from (n + length xs) ys)
+  entries_grown n xs ys = ap (map (λ p. entry p.0 p.1)) (enumerate_from-append n xs ys) ∙ map-append (λ p. entry p.0 p.1) (enumerate_from n xs) (enumerate_from (n + length xs) ys)
+
+-- the word of the last entry point, of one more
+option_or_assoc : {X : Type 0} (a b c : Option X) → option_or (option_or a b) c ≡ option_or a (option_or b c)
+option_or_assoc (Some x) b c = refl
+option_or_assoc None b c = refl
+
+option_or_none : {X : Type 0} (a : Option X) → option_or a None ≡ a
+option_or_none (Some x) = refl
+option_or_none None = refl
+
+pub output_label-push : (t : ℕ) (entry_points : List EntryPoint) (entry_point : EntryPoint) → output_label t (entry_points ++ entry_point ∷ []) ≡ option_or (cond (returns t entry_point) (output_word entry_point.stage) None) (output_label t entry_points)
+output_label-push t [] entry_point = sym (option_or_none (cond (returns t entry_point) (output_word entry_point.stage) None))
+output_label-push t (first ∷ entry_points) entry_point =
+    ap (λ o. option_or o (cond (returns t first) (output_word first.stage) None)) (output_label-push t entry_points entry_point)
+    ∙ option_or_assoc (cond (returns t entry_point) (output_word entry_point.stage) None) (output_label t entry_points) (cond (returns t first) (output_word first.stage) None)
+
+pub output_label-more : (t : ℕ) (entry_points : List EntryPoint) (i : ℕ) (entry_point : EntryPoint) → i < length entry_points → entry_point ≡ get_or entry_points i entry_point → output_label t (take (i + 1) entry_points) ≡ option_or (cond (returns t entry_point) (output_word entry_point.stage) None) (output_label t (take i entry_points))
+output_label-more t entry_points i entry_point lt is =
+    ap (output_label t) (take_more entry_points i entry_point lt ∙ ap (λ e. take i entry_points ++ e ∷ []) (sym is)) ∙ output_label-push t (take i entry_points) entry_point
+
+-- a map that has the same names for types
+pub same_type_names : (before now : NameMap) (count : ℕ) → ((t : ℕ) → now (key.Type_ t) ≡ before (key.Type_ t)) → type_names_in now count ≡ type_names_in before count
+same_type_names before now count same = λ i t. cond (nat_lt t count) (unwrap_or (same t i) []) []
+
+pub map_pushed : {A : Type 0} (g : A → Labelled) (xs : List A) (x : A) → map g (xs ++ x ∷ []) ≡ map g xs ++ g x ∷ []
+map_pushed g xs x = map-append g xs (x ∷ [])

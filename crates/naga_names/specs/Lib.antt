@@ -1,4 +1,5 @@
 pub mod Label
+pub mod Laws
 pub mod Naming
 pub mod Plain
 pub mod Refusal

@@ -1,5 +1,5 @@
 -- Why a label gets no name, and why a module gets none.
-use Rattle.std.specs.Prelude.{◌≡◌, ⊤, List, ℕ, ◌^◌, ◌∷◌, ◌++◌, false}
+use Rattle.std.specs.Prelude.{◌≡◌, ⊤, List, [], ℕ, ◌^◌, ◌∷◌, ◌++◌, false}
 use Rattle.naga_ir.specs.declared.module.Module.{Module}
 use Rattle.naga_names.specs.declared.namer.NamerError.{NamerError}
 use Rattle.naga_names.specs.declared.namer.NamerError.TheVariants.{Full, KeyFull, Memory}
@@ -32,9 +32,14 @@ IsRefusalOfItems start items (Memory e) = ⊤
 
 -- the same of all items of a module
 abbrev pub IsResetRefusal : Names → Module → NamerError → Type 0
-IsResetRefusal start module_ error = IsRefusalOfItems start (labelled_items module_) error
+IsResetRefusal start module_ error = IsRefusalOfItems start (labelled_items start module_) error
 
 -- after any items that were named before, these are refused for a reason, and the map has the names of some beginning
 pub record RefusesItems (old : Names) (before : NameMap) (items : List Labelled) (now : NameMap) (error : NamerError) : Type 0 where
   pub some : (start : Names) (first : NameMap) (earlier : List Labelled) → HasNamedItems start first earlier old before → PutsBeginning start first (earlier ++ items) now
   pub why : (start : Names) (first : NameMap) (earlier : List Labelled) → HasNamedItems start first earlier old before → IsRefusalOfItems start (earlier ++ items) error
+
+-- the same of a module, where no item was named before
+pub record RefusesModule (old : Names) (before : NameMap) (module_ : Module) (now : NameMap) (error : NamerError) : Type 0 where
+  pub some : (start : Names) (first : NameMap) → HasNamedItems start first [] old before → PutsBeginning start first (labelled_items start module_) now
+  pub why : (start : Names) (first : NameMap) → HasNamedItems start first [] old before → IsRefusalOfItems start (labelled_items start module_) error

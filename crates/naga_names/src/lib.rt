@@ -6,4 +6,5 @@
 
 pub mod keyword_set;
 pub mod keywords;
+pub mod laws;
 pub mod namer;

@@ -1,13 +1,18 @@
 //! Identifiers from labels.
-ghost use Rattle.std.specs.Prelude.{◌≡◌, true, ◌∷◌, [], ◌++◌, List, ℕ, map, IfOk, IfErr, OnOk, OnErr, IsErr, string_bytes};
+ghost use Rattle.std.specs.Prelude.{◌≡◌, true, ◌∷◌, [], ◌++◌, List, ℕ, map, length, false, unwrap_or, codes, if◌then◌else◌, IfOk, IfErr, OnOk, OnErr, IsErr, string_bytes};
+ghost use Rattle.std.specs.Option.{option_map};
+ghost use Rattle.naga_names.specs.declared.namer.key.NameKey.TheVariants as keys;
 ghost use Rattle.naga_names.specs.Naming.{Names, names_code, no_names, new_names, label_or, first_name, is_taken, name_of, with_use, IsFull, HasNamed, name_after};
-ghost use Rattle.naga_names.specs.Refusal.{IsRefusalOf, IsResetRefusal, RefusesItems, SomeNameIsFull, SomeKeyIsFull};
-ghost use Rattle.naga_names.specs.Reset.{labelled_types, labelled_arguments, labelled_function, labelled_functions, labelled_items, key_fits, names_in, HasNamedItems, PutsBeginning, NamesItems};
+ghost use Rattle.naga_names.specs.Refusal.{IsRefusalOf, IsResetRefusal, RefusesItems, RefusesModule, SomeNameIsFull, SomeKeyIsFull};
+ghost use Rattle.naga_names.specs.Reset.{output_word, returns, output_label, is_struct, type_label, is_external_inner, is_external, labelled_types, labelled_argument, labelled_arguments, labelled_locals, labelled_function, labelled_functions, labelled_entry_arguments, labelled_entry_locals, labelled_entry_point, labelled_entry_points, labelled_global, labelled_globals, labelled_declarations, value_label, labelled_constants, labelled_overrides, labelled_values, labelled_items, type_names_in, same_key, key_fits, NamesModule, names_in, HasNamedItems, PutsBeginning, NamesItems};
 
 use crate::keyword_set::{CaseInsensitiveKeywordSet, KeywordSet};
 use crate::namer::uses::Uses;
 pub use key::{ExternalTextureNameKey, NameKey};
-use naga_ir::{Arena, Function, FunctionArgument, Handle, Module, Type_, UniqueArena};
+use naga_ir::{
+    Arena, Constant, EntryPoint, Function, FunctionArgument, GlobalVariable, Handle, ImageClass,
+    LocalVariable, Module, Override, ShaderStage, Type_, TypeInner, UniqueArena,
+};
 use std::alloc::{AllocError, AllocFailed, Global};
 use std::collections::HashMap;
 use std::marker::Model;
@@ -148,15 +153,22 @@ impl Namer {
         self.call(label_or(label, fallback))
     }
 
-    /// Gives names to the module's types and functions, and to the functions' arguments, and puts them
-    /// into the map under their keys.
+    /// Gives names to what the module declares outside its structs, and puts them into the map under
+    /// their keys: to its types, its entry points and its functions with their arguments and variables,
+    /// its globals, its constants and its overrides, in this order.
     ///
     /// From then on identifiers keep off the words and prefixes given, and the names given before are
-    /// forgotten. An item without a label is named `type`, `function` or `param`. The map keeps its
-    /// other keys. The answer is `NamerError::Full` only where a label comes whose base the labels before
-    /// it used up, and `NamerError::KeyFull` only where a function has more arguments than a `u32` can
-    /// count; such a module is always refused. After a refusal the `Namer` is as a new one, and the
-    /// names of some first items stand in the map.
+    /// forgotten. An item without a label is named `type`, `param`, `local`, `function` or `global`; a
+    /// struct without one that entry points return `VertexOutput`, `FragmentOutput` or `ComputeOutput`,
+    /// by the last of them that has such a word; a constant `const_` and its type's name, an override
+    /// `override_` and its type's name. A global or a function's argument that is an external image has
+    /// four names more, for its planes and its parameters.
+    ///
+    /// The map keeps its other keys. The answer is `NamerError::Full` only where a label comes whose base
+    /// the labels before it used up, and `NamerError::KeyFull` only where there are more entry points than
+    /// an `EntryPointIndex` can tell apart, or more arguments than a `u32` can count; such a module is
+    /// always refused. After a refusal the `Namer` is as a new one, and the names of some first items
+    /// stand in the map.
     pub fn reset(
         &mut self,
         module: &Module,
@@ -167,17 +179,18 @@ impl Namer {
         output: &mut HashMap<NameKey, String>,
     ) -> Result<(), NamerError>
         ensures ok { let start = new_names reserved_keywords builtin_identifiers keywords_case_insensitive (map (λ p. p.now) reserved_prefixes.now) in
-            OnOk result (HasNamedItems start (names_in output.old) (labelled_items «module».now) self.new (names_in output.new)) }
+            OnOk result (HasNamedItems start (names_in output.old) (labelled_items start «module».now) self.new (names_in output.new)) }
         ensures err { OnErr result (self.new ≡ no_names) }
         ensures beginning { let start = new_names reserved_keywords builtin_identifiers keywords_case_insensitive (map (λ p. p.now) reserved_prefixes.now) in
-            OnErr result (PutsBeginning start (names_in output.old) (labelled_items «module».now) (names_in output.new)) }
+            OnErr result (PutsBeginning start (names_in output.old) (labelled_items start «module».now) (names_in output.new)) }
 
         // A refusal has a reason, and a module that gives a reason is refused.
         ensures reason { let start = new_names reserved_keywords builtin_identifiers keywords_case_insensitive (map (λ p. p.now) reserved_prefixes.now) in
             IfErr result (IsResetRefusal start «module».now) }
         ensures full { let start = new_names reserved_keywords builtin_identifiers keywords_case_insensitive (map (λ p. p.now) reserved_prefixes.now) in
-            SomeNameIsFull start (labelled_items «module».now) → IsErr result }
-        ensures key_full { SomeKeyIsFull (labelled_items «module».now) → IsErr result }
+            SomeNameIsFull start (labelled_items start «module».now) → IsErr result }
+        ensures key_full { let start = new_names reserved_keywords builtin_identifiers keywords_case_insensitive (map (λ p. p.now) reserved_prefixes.now) in
+            SomeKeyIsFull (labelled_items start «module».now) → IsErr result }
     {
         let alloc = self.alloc;
         let prefixes = match Vec::from_slice(alloc, reserved_prefixes) {
@@ -209,75 +222,365 @@ impl Namer {
         module: &Module,
         output: &mut HashMap<NameKey, String>,
     ) -> Result<(), NamerError>
-        ensures ok { OnOk result (NamesItems self.old (names_in output.old) (labelled_items «module».now) self.new (names_in output.new)) }
-        ensures err { IfErr result (RefusesItems self.old (names_in output.old) (labelled_items «module».now) (names_in output.new)) }
+        ensures ok { OnOk result (NamesModule self.old (names_in output.old) «module».now self.new (names_in output.new)) }
+        ensures err { IfErr result (RefusesModule self.old (names_in output.old) «module».now (names_in output.new)) }
     {
-        self.name_types(&module.types, output)?;
-        self.name_functions(&module.functions, output)
+        self.name_declarations(module, output)?;
+        self.name_values(module, output)
+    }
+
+    fn name_declarations(
+        &mut self,
+        module: &Module,
+        output: &mut HashMap<NameKey, String>,
+    ) -> Result<(), NamerError>
+        ensures ok { OnOk result (NamesItems self.old (names_in output.old) (labelled_declarations «module».now) self.new (names_in output.new)) }
+        ensures err { IfErr result (RefusesItems self.old (names_in output.old) (labelled_declarations «module».now) (names_in output.new)) }
+    {
+        self.name_types(&module.entry_points, &module.types, output)?;
+        self.name_entry_points(&module.entry_points, output)?;
+        self.name_functions(&module.types, &module.functions, output)?;
+        self.name_globals(&module.types, &module.global_variables, output)
     }
 
     fn name_types(
         &mut self,
+        entry_points: &[EntryPoint],
         types: &UniqueArena<Type_>,
         output: &mut HashMap<NameKey, String>,
     ) -> Result<(), NamerError>
-        ensures ok { OnOk result (NamesItems self.old (names_in output.old) (labelled_types types.now) self.new (names_in output.new)) }
-        ensures err { IfErr result (RefusesItems self.old (names_in output.old) (labelled_types types.now) (names_in output.new)) }
+        ensures ok { OnOk result (NamesItems self.old (names_in output.old) (labelled_types entry_points.now types.now) self.new (names_in output.new)) }
+        ensures err { IfErr result (RefusesItems self.old (names_in output.old) (labelled_types entry_points.now types.now) (names_in output.new)) }
     {
         for (handle, ty) in types.iter() {
-            self.name_item(NameKey::Type_(handle), label_or(&ty.name, "type"), output)?;
+            let label = type_label(entry_points, handle, ty);
+            self.name_item(NameKey::Type_(handle), label, output)?;
+        }
+        Ok(())
+    }
+
+    fn name_entry_points(
+        &mut self,
+        entry_points: &[EntryPoint],
+        output: &mut HashMap<NameKey, String>,
+    ) -> Result<(), NamerError>
+        ensures ok { OnOk result (NamesItems self.old (names_in output.old) (labelled_entry_points entry_points.now) self.new (names_in output.new)) }
+        ensures err { IfErr result (RefusesItems self.old (names_in output.old) (labelled_entry_points entry_points.now) (names_in output.new)) }
+    {
+        for (index, entry_point) in entry_points.iter().enumerate() {
+            let Ok(index) = EntryPointIndex::try_from(index) else {
+                return Err(NamerError::KeyFull);
+            };
+            self.name_entry_point(index, entry_point, output)?;
+        }
+        Ok(())
+    }
+
+    fn name_entry_point(
+        &mut self,
+        index: EntryPointIndex,
+        entry_point: &EntryPoint,
+        output: &mut HashMap<NameKey, String>,
+    ) -> Result<(), NamerError>
+        ensures ok { OnOk result (NamesItems self.old (names_in output.old) (labelled_entry_point index entry_point.now) self.new (names_in output.new)) }
+        ensures err { IfErr result (RefusesItems self.old (names_in output.old) (labelled_entry_point index entry_point.now) (names_in output.new)) }
+    {
+        let function = &entry_point.function;
+        self.name_item(
+            NameKey::EntryPoint(index),
+            entry_point.name.as_str(),
+            output,
+        )?;
+        self.name_entry_arguments(index, &function.arguments, output)?;
+        self.name_entry_locals(index, &function.local_variables, output)
+    }
+
+    fn name_entry_arguments(
+        &mut self,
+        entry_point: EntryPointIndex,
+        arguments: &[FunctionArgument],
+        output: &mut HashMap<NameKey, String>,
+    ) -> Result<(), NamerError>
+        ensures ok { OnOk result (NamesItems self.old (names_in output.old) (labelled_entry_arguments entry_point arguments.now) self.new (names_in output.new)) }
+        ensures err { IfErr result (RefusesItems self.old (names_in output.old) (labelled_entry_arguments entry_point arguments.now) (names_in output.new)) }
+    {
+        for (index, argument) in arguments.iter().enumerate() {
+            let Ok(index) = u32::try_from(index) else {
+                return Err(NamerError::KeyFull);
+            };
+            let key = NameKey::EntryPointArgument(entry_point, index);
+            self.name_item(key, label_or(&argument.name, "param"), output)?;
+        }
+        Ok(())
+    }
+
+    fn name_entry_locals(
+        &mut self,
+        entry_point: EntryPointIndex,
+        locals: &Arena<LocalVariable>,
+        output: &mut HashMap<NameKey, String>,
+    ) -> Result<(), NamerError>
+        ensures ok { OnOk result (NamesItems self.old (names_in output.old) (labelled_entry_locals entry_point locals.now) self.new (names_in output.new)) }
+        ensures err { IfErr result (RefusesItems self.old (names_in output.old) (labelled_entry_locals entry_point locals.now) (names_in output.new)) }
+    {
+        for (handle, local) in locals.iter() {
+            let key = NameKey::EntryPointLocal(entry_point, handle);
+            self.name_item(key, label_or(&local.name, "local"), output)?;
         }
         Ok(())
     }
 
     fn name_functions(
         &mut self,
+        types: &UniqueArena<Type_>,
         functions: &Arena<Function>,
         output: &mut HashMap<NameKey, String>,
     ) -> Result<(), NamerError>
-        ensures ok { OnOk result (NamesItems self.old (names_in output.old) (labelled_functions functions.now) self.new (names_in output.new)) }
-        ensures err { IfErr result (RefusesItems self.old (names_in output.old) (labelled_functions functions.now) (names_in output.new)) }
+        ensures ok { OnOk result (NamesItems self.old (names_in output.old) (labelled_functions types.now functions.now) self.new (names_in output.new)) }
+        ensures err { IfErr result (RefusesItems self.old (names_in output.old) (labelled_functions types.now functions.now) (names_in output.new)) }
     {
         for (handle, function) in functions.iter() {
-            self.name_function(handle, function, output)?;
+            self.name_function(types, handle, function, output)?;
         }
         Ok(())
     }
 
     fn name_function(
         &mut self,
+        types: &UniqueArena<Type_>,
         handle: Handle<Function>,
         function: &Function,
         output: &mut HashMap<NameKey, String>,
     ) -> Result<(), NamerError>
-        ensures ok { OnOk result (NamesItems self.old (names_in output.old) (labelled_function handle function.now) self.new (names_in output.new)) }
-        ensures err { IfErr result (RefusesItems self.old (names_in output.old) (labelled_function handle function.now) (names_in output.new)) }
+        ensures ok { OnOk result (NamesItems self.old (names_in output.old) (labelled_function types.now handle function.now) self.new (names_in output.new)) }
+        ensures err { IfErr result (RefusesItems self.old (names_in output.old) (labelled_function types.now handle function.now) (names_in output.new)) }
     {
-        self.name_item(
-            NameKey::Function(handle),
-            label_or(&function.name, "function"),
-            output,
-        )?;
-        self.name_arguments(handle, &function.arguments, output)
+        let label = label_or(&function.name, "function");
+        self.name_item(NameKey::Function(handle), label, output)?;
+        self.name_arguments(types, handle, &function.arguments, output)?;
+        self.name_locals(handle, &function.local_variables, output)
     }
 
     fn name_arguments(
         &mut self,
+        types: &UniqueArena<Type_>,
         function: Handle<Function>,
         arguments: &[FunctionArgument],
         output: &mut HashMap<NameKey, String>,
     ) -> Result<(), NamerError>
-        ensures ok { OnOk result (NamesItems self.old (names_in output.old) (labelled_arguments function arguments.now) self.new (names_in output.new)) }
-        ensures err { IfErr result (RefusesItems self.old (names_in output.old) (labelled_arguments function arguments.now) (names_in output.new)) }
+        ensures ok { OnOk result (NamesItems self.old (names_in output.old) (labelled_arguments types.now function arguments.now) self.new (names_in output.new)) }
+        ensures err { IfErr result (RefusesItems self.old (names_in output.old) (labelled_arguments types.now function arguments.now) (names_in output.new)) }
     {
         for (index, argument) in arguments.iter().enumerate() {
             let Ok(index) = u32::try_from(index) else {
                 return Err(NamerError::KeyFull);
             };
-            let label = label_or(&argument.name, "param");
-            self.name_item(NameKey::FunctionArgument(function, index), label, output)?;
+            self.name_argument(types, function, index, argument, output)?;
         }
         Ok(())
+    }
+
+    fn name_argument(
+        &mut self,
+        types: &UniqueArena<Type_>,
+        function: Handle<Function>,
+        index: u32,
+        argument: &FunctionArgument,
+        output: &mut HashMap<NameKey, String>,
+    ) -> Result<(), NamerError>
+        ensures ok { OnOk result (NamesItems self.old (names_in output.old) (labelled_argument types.now function index argument.now) self.new (names_in output.new)) }
+        ensures err { IfErr result (RefusesItems self.old (names_in output.old) (labelled_argument types.now function index argument.now) (names_in output.new)) }
+    {
+        let label = label_or(&argument.name, "param");
+        self.name_item(NameKey::FunctionArgument(function, index), label, output)?;
+        if !is_external(types, argument.ty) {
+            return Ok(());
+        }
+        self.name_parts(
+            NameKey::ExternalTextureFunctionArgument(
+                function,
+                index,
+                ExternalTextureNameKey::Plane(0),
+            ),
+            NameKey::ExternalTextureFunctionArgument(
+                function,
+                index,
+                ExternalTextureNameKey::Plane(1),
+            ),
+            NameKey::ExternalTextureFunctionArgument(
+                function,
+                index,
+                ExternalTextureNameKey::Plane(2),
+            ),
+            NameKey::ExternalTextureFunctionArgument(
+                function,
+                index,
+                ExternalTextureNameKey::Params,
+            ),
+            label,
+            output,
+        )
+    }
+
+    fn name_locals(
+        &mut self,
+        function: Handle<Function>,
+        locals: &Arena<LocalVariable>,
+        output: &mut HashMap<NameKey, String>,
+    ) -> Result<(), NamerError>
+        ensures ok { OnOk result (NamesItems self.old (names_in output.old) (labelled_locals function locals.now) self.new (names_in output.new)) }
+        ensures err { IfErr result (RefusesItems self.old (names_in output.old) (labelled_locals function locals.now) (names_in output.new)) }
+    {
+        for (handle, local) in locals.iter() {
+            let key = NameKey::FunctionLocal(function, handle);
+            self.name_item(key, label_or(&local.name, "local"), output)?;
+        }
+        Ok(())
+    }
+
+    fn name_globals(
+        &mut self,
+        types: &UniqueArena<Type_>,
+        globals: &Arena<GlobalVariable>,
+        output: &mut HashMap<NameKey, String>,
+    ) -> Result<(), NamerError>
+        ensures ok { OnOk result (NamesItems self.old (names_in output.old) (labelled_globals types.now globals.now) self.new (names_in output.new)) }
+        ensures err { IfErr result (RefusesItems self.old (names_in output.old) (labelled_globals types.now globals.now) (names_in output.new)) }
+    {
+        for (handle, global) in globals.iter() {
+            self.name_global(types, handle, global, output)?;
+        }
+        Ok(())
+    }
+
+    fn name_global(
+        &mut self,
+        types: &UniqueArena<Type_>,
+        handle: Handle<GlobalVariable>,
+        global: &GlobalVariable,
+        output: &mut HashMap<NameKey, String>,
+    ) -> Result<(), NamerError>
+        ensures ok { OnOk result (NamesItems self.old (names_in output.old) (labelled_global types.now handle global.now) self.new (names_in output.new)) }
+        ensures err { IfErr result (RefusesItems self.old (names_in output.old) (labelled_global types.now handle global.now) (names_in output.new)) }
+    {
+        let label = label_or(&global.name, "global");
+        self.name_item(NameKey::GlobalVariable(handle), label, output)?;
+        if !is_external(types, global.ty) {
+            return Ok(());
+        }
+        self.name_parts(
+            NameKey::ExternalTextureGlobalVariable(handle, ExternalTextureNameKey::Plane(0)),
+            NameKey::ExternalTextureGlobalVariable(handle, ExternalTextureNameKey::Plane(1)),
+            NameKey::ExternalTextureGlobalVariable(handle, ExternalTextureNameKey::Plane(2)),
+            NameKey::ExternalTextureGlobalVariable(handle, ExternalTextureNameKey::Params),
+            label,
+            output,
+        )
+    }
+
+    /// Gives the constants and the overrides their names, by those of the types.
+    fn name_values(
+        &mut self,
+        module: &Module,
+        output: &mut HashMap<NameKey, String>,
+    ) -> Result<(), NamerError>
+        ensures ok { OnOk result (NamesItems self.old (names_in output.old) (labelled_values (type_names_in (names_in output.old) (length «module».now.types)) «module».now) self.new (names_in output.new)) }
+        ensures err { IfErr result (RefusesItems self.old (names_in output.old) (labelled_values (type_names_in (names_in output.old) (length «module».now.types)) «module».now) (names_in output.new)) }
+    {
+        self.name_constants(&module.types, &module.constants, output)?;
+        self.name_overrides(&module.types, &module.overrides, output)
+    }
+
+    fn name_constants(
+        &mut self,
+        types: &UniqueArena<Type_>,
+        constants: &Arena<Constant>,
+        output: &mut HashMap<NameKey, String>,
+    ) -> Result<(), NamerError>
+        ensures ok { OnOk result (NamesItems self.old (names_in output.old) (labelled_constants (type_names_in (names_in output.old) (length types.now)) constants.now) self.new (names_in output.new)) }
+        ensures err { IfErr result (RefusesItems self.old (names_in output.old) (labelled_constants (type_names_in (names_in output.old) (length types.now)) constants.now) (names_in output.new)) }
+        ensures kept { (t : ℕ) → names_in output.new (keys.Type_ t) ≡ names_in output.old (keys.Type_ t) }
+    {
+        for (handle, constant) in constants.iter() {
+            let key = NameKey::Constant(handle);
+            self.name_value(key, &constant.name, "const_", types, constant.ty, output)?;
+        }
+        Ok(())
+    }
+
+    fn name_overrides(
+        &mut self,
+        types: &UniqueArena<Type_>,
+        overrides: &Arena<Override>,
+        output: &mut HashMap<NameKey, String>,
+    ) -> Result<(), NamerError>
+        ensures ok { OnOk result (NamesItems self.old (names_in output.old) (labelled_overrides (type_names_in (names_in output.old) (length types.now)) overrides.now) self.new (names_in output.new)) }
+        ensures err { IfErr result (RefusesItems self.old (names_in output.old) (labelled_overrides (type_names_in (names_in output.old) (length types.now)) overrides.now) (names_in output.new)) }
+    {
+        for (handle, value) in overrides.iter() {
+            let key = NameKey::Override(handle);
+            self.name_value(key, &value.name, "override_", types, value.ty, output)?;
+        }
+        Ok(())
+    }
+
+    fn name_value(
+        &mut self,
+        key: NameKey,
+        label: &Option<String>,
+        word: &str,
+        types: &UniqueArena<Type_>,
+        ty: Handle<Type_>,
+        output: &mut HashMap<NameKey, String>,
+    ) -> Result<(), NamerError>
+        requires fits { key_fits key ≡ true }
+        requires no_type { (t : ℕ) → same_key key (keys.Type_ t) ≡ false }
+        ensures ok { OnOk result (NamesItems self.old (names_in output.old) ((key, value_label (type_names_in (names_in output.old) (length types.now)) word.now label.now ty) ∷ []) self.new (names_in output.new)) }
+        ensures err { IfErr result (RefusesItems self.old (names_in output.old) ((key, value_label (type_names_in (names_in output.old) (length types.now)) word.now label.now ty) ∷ []) (names_in output.new)) }
+        ensures kept { (t : ℕ) → names_in output.new (keys.Type_ t) ≡ names_in output.old (keys.Type_ t) }
+    {
+        match label {
+            Some(label) => self.name_item(key, label.as_str(), output),
+            None => {
+                let label = value_label(self.alloc, word, types, ty, output)?;
+                self.name_item(key, label.as_str(), output)
+            }
+        }
+    }
+
+    /// Gives the parts of an external image their names, by the image's label.
+    fn name_parts(
+        &mut self,
+        plane0: NameKey,
+        plane1: NameKey,
+        plane2: NameKey,
+        params: NameKey,
+        label: &str,
+        output: &mut HashMap<NameKey, String>,
+    ) -> Result<(), NamerError>
+        requires keys { (key_fits plane0 ≡ true) × (key_fits plane1 ≡ true) × (key_fits plane2 ≡ true) × (key_fits params ≡ true) }
+        ensures ok { OnOk result (NamesItems self.old (names_in output.old) ((plane0, label.now ++ codes "__plane0") ∷ (plane1, label.now ++ codes "__plane1") ∷ (plane2, label.now ++ codes "__plane2") ∷ (params, label.now ++ codes "__params") ∷ []) self.new (names_in output.new)) }
+        ensures err { IfErr result (RefusesItems self.old (names_in output.old) ((plane0, label.now ++ codes "__plane0") ∷ (plane1, label.now ++ codes "__plane1") ∷ (plane2, label.now ++ codes "__plane2") ∷ (params, label.now ++ codes "__params") ∷ []) (names_in output.new)) }
+    {
+        self.name_part(plane0, label, "__plane0", output)?;
+        self.name_part(plane1, label, "__plane1", output)?;
+        self.name_part(plane2, label, "__plane2", output)?;
+        self.name_part(params, label, "__params", output)
+    }
+
+    fn name_part(
+        &mut self,
+        key: NameKey,
+        label: &str,
+        ending: &str,
+        output: &mut HashMap<NameKey, String>,
+    ) -> Result<(), NamerError>
+        requires { key_fits key ≡ true }
+        ensures ok { OnOk result (NamesItems self.old (names_in output.old) ((key, label.now ++ ending.now) ∷ []) self.new (names_in output.new)) }
+        ensures err { IfErr result (RefusesItems self.old (names_in output.old) ((key, label.now ++ ending.now) ∷ []) (names_in output.new)) }
+    {
+        let label = format!(in self.alloc; "{label}{ending}")?;
+        self.name_item(key, label.as_str(), output)
     }
 
     /// Gives one item its name.
@@ -290,6 +593,7 @@ impl Namer {
         requires { key_fits key ≡ true }
         ensures ok { OnOk result (NamesItems self.old (names_in output.old) ((key, label.now) ∷ []) self.new (names_in output.new)) }
         ensures err { IfErr result (RefusesItems self.old (names_in output.old) ((key, label.now) ∷ []) (names_in output.new)) }
+        ensures others { (q : NameKey) → same_key key q ≡ false → names_in output.new q ≡ names_in output.old q }
     {
         let name = self.call(label)?;
         output.insert(key, name)?;
@@ -322,5 +626,122 @@ fn label_or<'a>(label: &'a Option<String>, fallback: &'a str) -> &'a str
     match label {
         Some(label) => label.as_str(),
         None => fallback,
+    }
+}
+
+/// The label of the type; without one, what it is labelled by the entry points that return it.
+fn type_label<'a>(entry_points: &[EntryPoint], handle: Handle<Type_>, ty: &'a Type_) -> &'a str
+    ensures { result.now ≡ type_label entry_points.now handle ty.now }
+{
+    match &ty.name {
+        Some(label) => label.as_str(),
+        None => unnamed_label(entry_points, handle, &ty.inner),
+    }
+}
+
+fn unnamed_label(
+    entry_points: &[EntryPoint],
+    handle: Handle<Type_>,
+    inner: &TypeInner,
+) -> &'static str
+    ensures { result.now ≡ (if is_struct inner.now then unwrap_or (output_label handle entry_points.now) (codes "type") else codes "type") }
+{
+    if is_struct(inner) {
+        if let Some(label) = output_label(entry_points, handle) {
+            return label;
+        }
+    }
+    "type"
+}
+
+fn is_struct(inner: &TypeInner) -> bool
+    ensures { result ≡ is_struct inner.now }
+{
+    matches!(inner, TypeInner::Struct { .. })
+}
+
+/// The word for what the last of these entry points gives that returns the type and has such a word.
+fn output_label(entry_points: &[EntryPoint], ty: Handle<Type_>) -> Option<&'static str>
+    ensures { option_map (λ word. word.now) result ≡ output_label ty entry_points.now }
+{
+    let mut label = None;
+    for entry_point in entry_points {
+        if !returns(entry_point, ty) {
+            continue;
+        }
+        if let Some(word) = output_word(entry_point.stage) {
+            label = Some(word);
+        }
+    }
+    label
+}
+
+fn returns(entry_point: &EntryPoint, ty: Handle<Type_>) -> bool
+    ensures { result ≡ returns ty entry_point.now }
+{
+    match &entry_point.function.result {
+        Some(result) => result.ty.index() == ty.index(),
+        None => false,
+    }
+}
+
+/// The word for what an entry point of this stage returns.
+fn output_word(stage: ShaderStage) -> Option<&'static str>
+    ensures { option_map (λ word. word.now) result ≡ output_word stage }
+{
+    match stage {
+        ShaderStage::Vertex => Some("VertexOutput"),
+        ShaderStage::Fragment => Some("FragmentOutput"),
+        ShaderStage::Compute => Some("ComputeOutput"),
+        _ => None,
+    }
+}
+
+/// Whether the type is an image from outside the graphics interface.
+fn is_external(types: &UniqueArena<Type_>, ty: Handle<Type_>) -> bool
+    ensures { result ≡ is_external types.now ty }
+{
+    ty.index() < types.len() && is_external_inner(&types[ty].inner)
+}
+
+fn is_external_inner(inner: &TypeInner) -> bool
+    ensures { result ≡ is_external_inner inner.now }
+{
+    matches!(
+        inner,
+        TypeInner::Image {
+            class: ImageClass::External,
+            ..
+        }
+    )
+}
+
+/// The word and the name that the map has for the type.
+fn value_label(
+    alloc: Global,
+    word: &str,
+    types: &UniqueArena<Type_>,
+    ty: Handle<Type_>,
+    names: &HashMap<NameKey, String>,
+) -> Result<String, AllocError>
+    ensures { IfOk result (λ label. string_bytes label ≡ word.now ++ type_names_in (names_in names.now) (length types.now) ty) }
+{
+    let name = type_name(types, ty, names);
+    format!(in alloc; "{word}{name}")
+}
+
+fn type_name<'a>(
+    types: &UniqueArena<Type_>,
+    ty: Handle<Type_>,
+    names: &'a HashMap<NameKey, String>,
+) -> &'a str
+    ensures { result.now ≡ type_names_in (names_in names.now) (length types.now) ty }
+{
+    if ty.index() >= types.len() {
+        return "";
+    }
+    match names.get(&NameKey::Type_(ty)) {
+        Some(name) => name.as_str(),
+        None => "",
     }
 }

@@ -1,6 +1,9 @@
 use super::*;
 use crate::keywords::{BUILTIN_IDENTIFIERS, RESERVED};
-use naga_ir::{Scalar, TypeInner};
+use naga_ir::{
+    AddressSpace, Constant, EntryPoint, Expression, FunctionResult, GlobalVariable, ImageClass,
+    ImageDimension, MemoryDecorations, Scalar, ShaderStage, TypeInner,
+};
 use std::process::Abort;
 use std::test::Fail;
 
@@ -258,5 +261,240 @@ fn resets(rt: HostRuntime) -> Result<(), Fail> {
         &["_naga", "\u{e9}", "1x"],
         &["type_", "gen__naga", "u00e9_", "x"],
     )?;
+    Ok(())
+}
+
+/// The map has these names for these keys.
+fn has_names(rt: &impl Abort, names: &HashMap<NameKey, String>, rows: &[(NameKey, &str)]) {
+    for (key, want) in rows {
+        assert!(rt;
+            names.get(key).is_some_and(|found| found.as_str() == *want),
+            "{key:?}"
+        );
+    }
+}
+
+fn external_image() -> Type_ {
+    Type_ {
+        name: None,
+        inner: TypeInner::Image {
+            dim: ImageDimension::D2,
+            arrayed: false,
+            class: ImageClass::External,
+        },
+    }
+}
+
+fn text(alloc: Global, label: &str) -> Result<Option<String>, AllocError> {
+    Ok(Some(String::from_str(alloc, label)?))
+}
+
+#[test]
+fn parts_of_a_global(rt: HostRuntime) -> Result<(), Fail> {
+    let alloc = rt.alloc();
+    let mut module = Module::new(alloc);
+    let ty = module.types.insert(external_image())?;
+    let global = module.global_variables.append(GlobalVariable {
+        name: text(alloc, "t")?,
+        space: AddressSpace::Handle,
+        binding: None,
+        ty,
+        init: None,
+        memory_decorations: MemoryDecorations::COHERENT,
+    })?;
+    let mut names = HashMap::new(alloc);
+    reset_for_wgsl(alloc, &module, &mut names)?;
+    has_names(
+        &rt,
+        &names,
+        &[
+            (NameKey::GlobalVariable(global), "t"),
+            (
+                NameKey::ExternalTextureGlobalVariable(global, ExternalTextureNameKey::Plane(0)),
+                "t_plane0_",
+            ),
+            (
+                NameKey::ExternalTextureGlobalVariable(global, ExternalTextureNameKey::Plane(1)),
+                "t_plane1_",
+            ),
+            (
+                NameKey::ExternalTextureGlobalVariable(global, ExternalTextureNameKey::Plane(2)),
+                "t_plane2_",
+            ),
+            (
+                NameKey::ExternalTextureGlobalVariable(global, ExternalTextureNameKey::Params),
+                "t_params",
+            ),
+        ],
+    );
+    Ok(())
+}
+
+#[test]
+fn parts_of_arguments(rt: HostRuntime) -> Result<(), Fail> {
+    let alloc = rt.alloc();
+    let mut module = Module::new(alloc);
+    let ty = module.types.insert(external_image())?;
+    let mut function = Function::new(alloc);
+    function.name = text(alloc, "f")?;
+    for _ in 0..2 {
+        function.arguments.push(FunctionArgument {
+            name: None,
+            ty,
+            binding: None,
+        })?;
+    }
+    let f = module.functions.append(function)?;
+    let mut names = HashMap::new(alloc);
+    reset_for_wgsl(alloc, &module, &mut names)?;
+    has_names(
+        &rt,
+        &names,
+        &[
+            (NameKey::Function(f), "f"),
+            (NameKey::FunctionArgument(f, 0), "param"),
+            (
+                part_of(f, 0, ExternalTextureNameKey::Plane(0)),
+                "param_plane0_",
+            ),
+            (
+                part_of(f, 0, ExternalTextureNameKey::Plane(1)),
+                "param_plane1_",
+            ),
+            (
+                part_of(f, 0, ExternalTextureNameKey::Plane(2)),
+                "param_plane2_",
+            ),
+            (
+                part_of(f, 0, ExternalTextureNameKey::Params),
+                "param_params",
+            ),
+            (NameKey::FunctionArgument(f, 1), "param_1"),
+            (
+                part_of(f, 1, ExternalTextureNameKey::Plane(0)),
+                "param_plane0_1",
+            ),
+            (
+                part_of(f, 1, ExternalTextureNameKey::Plane(1)),
+                "param_plane1_1",
+            ),
+            (
+                part_of(f, 1, ExternalTextureNameKey::Plane(2)),
+                "param_plane2_1",
+            ),
+            (
+                part_of(f, 1, ExternalTextureNameKey::Params),
+                "param_params_1",
+            ),
+        ],
+    );
+    Ok(())
+}
+
+fn part_of(function: Handle<Function>, index: u32, part: ExternalTextureNameKey) -> NameKey {
+    NameKey::ExternalTextureFunctionArgument(function, index, part)
+}
+
+/// An entry point of this stage that returns this type.
+fn returning(
+    alloc: Global,
+    stage: ShaderStage,
+    ty: Handle<Type_>,
+) -> Result<EntryPoint, AllocError> {
+    let mut function = Function::new(alloc);
+    function.result = Some(FunctionResult { ty, binding: None });
+    Ok(EntryPoint {
+        name: String::from_str(alloc, "main")?,
+        stage,
+        workgroup_size: [1, 1, 1],
+        function,
+        mesh_info: None,
+        task_payload: None,
+        incoming_ray_payload: None,
+    })
+}
+
+#[test]
+fn outputs_of_entry_points(rt: HostRuntime) -> Result<(), Fail> {
+    let alloc = rt.alloc();
+    let mut module = Module::new(alloc);
+    let ty = module.types.insert(Type_ {
+        name: None,
+        inner: TypeInner::Struct {
+            members: Vec::new(alloc),
+            span: 0,
+        },
+    })?;
+    for stage in [
+        ShaderStage::Vertex,
+        ShaderStage::Fragment,
+        ShaderStage::Mesh,
+    ] {
+        module.entry_points.push(returning(alloc, stage, ty)?)?;
+    }
+    let mut names = HashMap::new(alloc);
+    reset_for_wgsl(alloc, &module, &mut names)?;
+    has_names(
+        &rt,
+        &names,
+        &[
+            (NameKey::Type_(ty), "FragmentOutput"),
+            (NameKey::EntryPoint(0), "main"),
+            (NameKey::EntryPoint(1), "main_1"),
+            (NameKey::EntryPoint(2), "main_2"),
+        ],
+    );
+    Ok(())
+}
+
+#[test]
+fn constants_without_labels(rt: HostRuntime) -> Result<(), Fail> {
+    let alloc = rt.alloc();
+    let mut module = Module::new(alloc);
+    let ty = module.types.insert(Type_ {
+        name: None,
+        inner: TypeInner::Scalar(Scalar::I32),
+    })?;
+    let init = module.global_expressions.append(Expression::ZeroValue(ty))?;
+    let first = module.constants.append(Constant {
+        name: None,
+        ty,
+        init,
+    })?;
+    let second = module.constants.append(Constant {
+        name: None,
+        ty,
+        init,
+    })?;
+    let mut names = HashMap::new(alloc);
+    reset_for_wgsl(alloc, &module, &mut names)?;
+    has_names(
+        &rt,
+        &names,
+        &[
+            (NameKey::Type_(ty), "type_"),
+            (NameKey::Constant(first), "const_type"),
+            (NameKey::Constant(second), "const_type_1"),
+        ],
+    );
+    Ok(())
+}
+
+/// Where memory refuses a `reset`, the `Namer` is as a new one, and the map keeps its other keys.
+#[test]
+fn a_refused_reset_forgets(rt: HostRuntime) -> Result<(), Fail> {
+    let alloc = rt.alloc();
+    let module = sample(alloc, &["f", "x", "x"])?;
+    let mut names = HashMap::new(alloc);
+    names.insert(NameKey::EntryPoint(7), String::from_str(alloc, "kept")?)?;
+    let keywords = KeywordSet::from_slice(alloc, RESERVED)?;
+    let builtin = KeywordSet::new(alloc);
+    let caseless = CaseInsensitiveKeywordSet::new(alloc);
+    let mut namer = Namer::default(alloc);
+    let done = namer.reset(&module, keywords, builtin, caseless, &["__"], &mut names);
+    has_names(&rt, &names, &[(NameKey::EntryPoint(7), "kept")]);
+    if done.is_err() {
+        gives(&rt, &mut namer, &[("fn", "fn"), ("x", "x")])?;
+    }
     Ok(())
 }

@@ -13,7 +13,7 @@ returns-in_err-name_function-clause-err c =
     let turn = YieldsList-turn road c.loop-handle.yielded c.loop-handle.handle-iterator c.loop-handle.yielded_by c.next.result c.next.new.self (c.in-Some.handle, c.in-Some.function) c.in-Some.is c.next.ensures.steps in
     let all = enumerate_from 0 c.args.functions.now in
     if_err_at c.from_residual.result c.in_err-name_function.field-0.0 (λ items. RefusesItems c.args.self.now (names_in c.args.output.now) items (names_in c.name_function.new.output)) c.from_residual.ensures.1
-    (sym (flat_map_at_turn (λ p. (p.0, p.1.now)) (λ p. labelled_function p.0 p.1) all c.loop-handle.yielded (c.in-Some.handle, c.in-Some.function.now) so_far turn.0 turn.1))
+    (sym (flat_map_at_turn (λ p. (p.0, p.1.now)) (λ p. labelled_function c.args.types.now p.0 p.1) all c.loop-handle.yielded (c.in-Some.handle, c.in-Some.function.now) so_far turn.0 turn.1))
     (refuses_then _ _ _ _ _ _ _ _ c.loop-handle.invariant (refuses_more _ _ _ _ _ _ c.in_err-name_function.ensures.err))
 
 pub returns-clause-ok : goal.returns-clause-ok
@@ -21,4 +21,4 @@ returns-clause-ok c =
     let road = YieldsList-at c.into_iter-handle-iterator.ensures.into_iter_gives (YieldsList-from_first (λ p. (p.0, p.1.now)) (λ s. s) (enumerate_from 0 c.args.functions.now) c.iter-handle-items.ensures) in
     let done = YieldsList-end road c.loop-handle.yielded c.loop-handle.handle-iterator c.loop-handle.yielded_by c.next.result c.next.new.self c.in-None.is c.next.ensures.steps in
     subst (λ items. NamesItems c.args.self.now (names_in c.args.output.now) items c.loop-handle.self (names_in c.loop-handle.output))
-    (sym (flat_map_at_end (λ p. (p.0, p.1.now)) (λ p. labelled_function p.0 p.1) (enumerate_from 0 c.args.functions.now) c.loop-handle.yielded done.0)) c.loop-handle.invariant
+    (sym (flat_map_at_end (λ p. (p.0, p.1.now)) (λ p. labelled_function c.args.types.now p.0 p.1) (enumerate_from 0 c.args.functions.now) c.loop-handle.yielded done.0)) c.loop-handle.invariant

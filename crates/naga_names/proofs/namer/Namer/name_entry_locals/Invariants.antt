@@ -1,0 +1,8 @@
+use Rattle.std.proofs.Common.{map, codes}
+use Rattle.naga_names.specs.declared.namer.key.NameKey.TheVariants as key
+use Rattle.naga_names.specs.Naming.{label_or}
+use Rattle.naga_names.specs.Reset.{NamesItems, names_in}
+use Rattle.naga_names.proofs.namer.Namer.name_entry_locals.Given as goal
+
+abbrev pub invariant-loop-handle : goal.invariant-loop-handle
+invariant-loop-handle l = NamesItems l.initial.self (names_in l.initial.output) (map (λ p. (key.EntryPointLocal l.entry_point p.0, label_or p.1.now.name (codes "local"))) l.yielded) l.self (names_in l.output)

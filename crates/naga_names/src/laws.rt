@@ -1,0 +1,49 @@
+//! Laws of names, each on a function that does nothing: its contract says the law.
+ghost use Rattle.std.specs.Prelude.{map};
+ghost use Rattle.std.specs.Cmp.{IsEquivalence};
+ghost use Rattle.std.specs.FinSet as set;
+ghost use Rattle.naga_names.specs.Laws.{NamesAreIdentifiers, NamesAreNoKeywords, NamesAreNoBuiltins, NamesAreNoCaselessKeywords, NamesAreNotNumbered, NamesDiffer, ItemsAreNamed, ItemsAreTold};
+ghost use Rattle.naga_names.specs.Plain.{HasPlainEnds};
+ghost use Rattle.naga_names.specs.Reset.{same_key};
+
+use crate::keywords::{BUILTIN_IDENTIFIERS, RESERVED};
+
+/// Every name has ASCII letters, digits and `_` alone, begins with no digit and not with `__`, and is
+/// not `_`.
+pub fn names_are_identifiers()
+    ensures { NamesAreIdentifiers }
+{}
+
+/// No name is a word of the sets, where none of these words ends in `_`, or in `_` and digits.
+pub fn names_are_not_taken()
+    ensures keywords { NamesAreNoKeywords }
+    ensures builtins { NamesAreNoBuiltins }
+    ensures caseless { NamesAreNoCaselessKeywords }
+{}
+
+/// The words of WGSL have no such end.
+pub fn words_of_wgsl_have_plain_ends()
+    ensures reserved { HasPlainEnds (set.from_list (map (λ word. word.now) RESERVED.now)) }
+    ensures builtin { HasPlainEnds (set.from_list (map (λ word. word.now) BUILTIN_IDENTIFIERS.now)) }
+{}
+
+/// No name is `_e` and a number behind it.
+pub fn names_are_not_numbered()
+    ensures { NamesAreNotNumbered }
+{}
+
+/// No two labels get one name.
+pub fn names_differ()
+    ensures { NamesDiffer }
+{}
+
+/// After a `reset` each item of the module has its name in the map, and no other item has it too.
+pub fn items_have_their_names()
+    ensures named { ItemsAreNamed }
+    ensures told { ItemsAreTold }
+{}
+
+/// Keys are compared as an equivalence does.
+pub fn keys_are_compared()
+    ensures { IsEquivalence same_key }
+{}
