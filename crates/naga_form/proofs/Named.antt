@@ -139,29 +139,29 @@ numbered_distinct h k e = texts_distinct (nat_lt h (2 ^ 64)) (nat_lt k (2 ^ 64))
 
 -- ---- the items of a module
 module _ (m : Module) where
-  puts : PutsInto (λ _. None) (named_items wgsl_names (labelled_items m)) (module_names m)
+  puts : PutsInto (λ _. None) (named_items wgsl_names (labelled_items wgsl_names m)) (module_names m)
   unfolding module_names
   puts = record { finds = λ key. refl }
 
   -- an item's name is that of its label after those before it
-  pub name_there : (item : Labelled) (s : Stands (labelled_items m) item) → module_names m item.0 ≡ Some (name_after wgsl_names (labels_of (take s.place (labelled_items m))) item.1)
-  name_there item s = put_at wgsl_names (λ _. None) (module_names m) (labelled_items m) puts (items_apart m) s.place item s.there
+  pub name_there : (item : Labelled) (s : Stands (labelled_items wgsl_names m) item) → module_names m item.0 ≡ Some (name_after wgsl_names (labels_of (take s.place (labelled_items wgsl_names m))) item.1)
+  name_there item s = put_at wgsl_names (λ _. None) (module_names m) (labelled_items wgsl_names m) puts (items_apart wgsl_names m) s.place item s.there
 
-  pub name_is : (item : Labelled) (s : Stands (labelled_items m) item) → name_in (module_names m) item.0 ≡ name_after wgsl_names (labels_of (take s.place (labelled_items m))) item.1
+  pub name_is : (item : Labelled) (s : Stands (labelled_items wgsl_names m) item) → name_in (module_names m) item.0 ≡ name_after wgsl_names (labels_of (take s.place (labelled_items wgsl_names m))) item.1
   name_is item s = ap (λ o. unwrap_or o []) (name_there item s)
 
-  pub item_is_identifier : (item : Labelled) → Stands (labelled_items m) item → IsIdentifier (name_in (module_names m) item.0)
-  item_is_identifier item s = subst IsIdentifier (sym (name_is item s)) (is_identifier (labels_of (take s.place (labelled_items m))) item.1)
+  pub item_is_identifier : (item : Labelled) → Stands (labelled_items wgsl_names m) item → IsIdentifier (name_in (module_names m) item.0)
+  item_is_identifier item s = subst IsIdentifier (sym (name_is item s)) (is_identifier (labels_of (take s.place (labelled_items wgsl_names m))) item.1)
 
-  pub item_not_numbered : (item : Labelled) (h : ℕ) → Stands (labelled_items m) item → name_in (module_names m) item.0 ≢ numbered_name h
+  pub item_not_numbered : (item : Labelled) (h : ℕ) → Stands (labelled_items wgsl_names m) item → name_in (module_names m) item.0 ≢ numbered_name h
   item_not_numbered item h s e =
-      let earlier = labels_of (take s.place (labelled_items m)) in
+      let earlier = labels_of (take s.place (labelled_items wgsl_names m)) in
       unnumbered (name_after wgsl_names earlier item.1) h (name_after_is_word wgsl_names earlier item.1) (name_after_not_numbered wgsl_names earlier item.1 h) (sym (name_is item s) ∙ e)
 
-  pub items_tell : NamesAreCounted m → (a b : Labelled) → Stands (labelled_items m) a → Stands (labelled_items m) b → name_in (module_names m) a.0 ≡ name_in (module_names m) b.0 → a ≡ b
+  pub items_tell : NamesAreCounted m → (a b : Labelled) → Stands (labelled_items wgsl_names m) a → Stands (labelled_items wgsl_names m) b → name_in (module_names m) a.0 ≡ name_in (module_names m) b.0 → a ≡ b
   items_tell few a b s t e =
-      let place = item_names_tell wgsl_names (labelled_items m) few s.place t.place a b s.there t.there (sym (name_is a s) ∙ e ∙ name_is b t) in
-      ap (λ o. unwrap_or o a) (sym s.there ∙ ap (slice_get (labelled_items m)) place ∙ t.there)
+      let place = item_names_tell wgsl_names (labelled_items wgsl_names m) few s.place t.place a b s.there t.there (sym (name_is a s) ∙ e ∙ name_is b t) in
+      ap (λ o. unwrap_or o a) (sym s.there ∙ ap (slice_get (labelled_items wgsl_names m)) place ∙ t.there)
 
   -- the items of functions and arguments
   abbrev pub function_item : ℕ → ir_function.Function → Labelled
@@ -170,8 +170,8 @@ module _ (m : Module) where
   abbrev pub argument_item : ℕ → ℕ → FunctionArgument → Labelled
   argument_item g n a = (key.FunctionArgument g n, label_or a.name (codes "param"))
 
-  pub function_there : (g : ℕ) (f : ir_function.Function) → slice_get m.functions g ≡ Some f → Stands (labelled_items m) (function_item g f)
-  function_there g f e = function_stands m g f e
+  pub function_there : (g : ℕ) (f : ir_function.Function) → slice_get m.functions g ≡ Some f → Stands (labelled_items wgsl_names m) (function_item g f)
+  function_there g f e = function_stands wgsl_names m g f e
 
-  pub argument_there : (g : ℕ) (f : ir_function.Function) (n : ℕ) (a : FunctionArgument) → slice_get m.functions g ≡ Some f → slice_get f.arguments.items n ≡ Some a → Stands (labelled_items m) (argument_item g n a)
-  argument_there g f n a e there = argument_stands m g f n a e there
+  pub argument_there : (g : ℕ) (f : ir_function.Function) (n : ℕ) (a : FunctionArgument) → slice_get m.functions g ≡ Some f → slice_get f.arguments.items n ≡ Some a → Stands (labelled_items wgsl_names m) (argument_item g n a)
+  argument_there g f n a e there = argument_stands wgsl_names m g f n a e there

@@ -20,7 +20,7 @@ wgsl_names = new_names (set.from_list reserved_words) (set.from_list builtin_wor
 
 -- the name of each item, by its key: items are named in their order, each after those before it
 unfoldable pub module_names : Module → NameMap
-module_names m key = update_all same_key (λ _. None) (named_items wgsl_names (labelled_items m)) key
+module_names m key = update_all same_key (λ _. None) (named_items wgsl_names (labelled_items wgsl_names m)) key
 
 -- an item's name; each item of the module has one
 abbrev pub name_in : NameMap → NameKey → List ℕ
@@ -44,7 +44,7 @@ numbered_name h = numbered_text (nat_lt h (2 ^ 64)) h
 
 -- no label's base is used more often than a counter of its uses can tell
 abbrev pub NamesAreCounted : Module → Type 0
-NamesAreCounted m = (base : List ℕ) → labels_with_base wgsl_names (labels_of (labelled_items m)) base ≤ 2 ^ 32
+NamesAreCounted m = (base : List ℕ) → labels_with_base wgsl_names (labels_of (labelled_items wgsl_names m)) base ≤ 2 ^ 32
 
 -- The map has the name of each function and of each argument, whose numbers are no greater than the greatest `u32`.
 pub record HasNamesOf (m : Module) (names : NameMap) : Type 0 where

@@ -11,7 +11,7 @@ use Rattle.naga_names.specs.declared.keywords.TheConstants.{RESERVED, BUILTIN_ID
 use Rattle.naga_names.specs.Naming.{Names, new_names, label_or, name_after}
 use Rattle.naga_names.specs.Refusal.{SomeNameIsFull, SomeKeyIsFull, IsResetRefusal}
 use Rattle.naga_names.specs.declared.namer.NamerError.{NamerError}
-use Rattle.naga_names.specs.declared.namer.NamerError.TheVariants.{Full}
+use Rattle.naga_names.specs.declared.namer.NamerError.TheVariants.{Full, KeyFull}
 use Rattle.wgsl_text.specs.Keywords.{reserved_words, builtin_words}
 use Rattle.naga_names.specs.Reset.{NameMap, labelled_items, labels_of, key_fits, HasNamedItems}
 use Rattle.naga_names.specs.declared.namer.key.NameKey.TheVariants as key
@@ -35,7 +35,7 @@ told_out_of_range m (Custom message) is full = inr (is, full)
 told_out_of_range m (Memory e) is full = tt
 told_out_of_range m _ is full = absurd is
 
-module _ (m : Module) (before now : NameMap) (names : Names) (has : HasNamedItems wgsl_names before (labelled_items m) names now) where
+module _ (m : Module) (before now : NameMap) (names : Names) (has : HasNamedItems wgsl_names before (labelled_items wgsl_names m) names now) where
   -- the map has an item's name
   function_is : (g : ℕ) (f : Function) → slice_get m.functions g ≡ Some f → now (key.Function g) ≡ Some (function_name (module_names m) g)
   function_is g f found =
@@ -52,7 +52,7 @@ module _ (m : Module) (before now : NameMap) (names : Names) (has : HasNamedItem
     numbers = λ g f found. at_most (length f.arguments.items) (λ n lt.
         let a = element f.arguments.items n lt in
         let s = argument_there m g f n a.0 found a.1 in
-        ltb-true n (2 ^ 32) (all_at (λ item. key_fits item.0) (labelled_items m) s.place (argument_item m g n a.0) has.keys s.there));
+        ltb-true n (2 ^ 32) (all_at (λ item. key_fits item.0) (labelled_items wgsl_names m) s.place (argument_item m g n a.0) has.keys s.there));
   }
     where
       at_most : (k : ℕ) → ((n : ℕ) → n < k → n < 2 ^ 32) → k ≤ 2 ^ 32
@@ -68,13 +68,17 @@ unfolding wgsl_names reserved_words builtin_words
 start_is reserved builtin caseless prefixes r b c p = λ i. new_names (r i) (b i) (c i) (p i)
 
 -- after a `reset` with these that succeeded
-pub after_reset : (m : Module) (start : Names) (before now : NameMap) (names : Names) → start ≡ wgsl_names → HasNamedItems start before (labelled_items m) names now → (SomeNameIsFull start (labelled_items m) → ⊥) → (SomeKeyIsFull (labelled_items m) → ⊥) → HasAllNames m now
+pub after_reset : (m : Module) (start : Names) (before now : NameMap) (names : Names) → start ≡ wgsl_names → HasNamedItems start before (labelled_items start m) names now → (SomeNameIsFull start (labelled_items start m) → ⊥) → (SomeKeyIsFull (labelled_items start m) → ⊥) → HasAllNames m now
 after_reset m start before now names is has told keys =
-    has_all m before now names (subst (λ s. HasNamedItems s before (labelled_items m) names now) is has) (λ full. told (subst (λ s. SomeNameIsFull s (labelled_items m)) (sym is) full)) keys
+    has_all m before now names (subst (λ s. HasNamedItems s before (labelled_items s m) names now) is has) (λ full. told (subst (λ s. SomeNameIsFull s (labelled_items s m)) (sym is) full)) (λ full. keys (subst (λ s. SomeKeyIsFull (labelled_items s m)) (sym is) full))
 
 -- where it answered that a counter is full
 pub reason_full : (m : Module) (start : Names) (e : NamerError) → start ≡ wgsl_names → e ≡ Full → IsResetRefusal start m e → NamerIsFull m
-reason_full m start e is full reason = subst (λ s. SomeNameIsFull s (labelled_items m)) is (subst (λ e. IsResetRefusal start m e) full reason)
+reason_full m start e is full reason = subst (λ s. SomeNameIsFull s (labelled_items s m)) is (subst (λ e. IsResetRefusal start m e) full reason)
+
+-- where it answered that a key is out of range
+pub reason_out_of_range : (m : Module) (start : Names) (e : NamerError) → start ≡ wgsl_names → e ≡ KeyFull → IsResetRefusal start m e → KeyIsOutOfRange m
+reason_out_of_range m start e is full reason = subst (λ s. SomeKeyIsFull (labelled_items s m)) is (subst (λ e. IsResetRefusal start m e) full reason)
 
 pub no_error : false ≡ true → ⊥
 no_error e = cc

@@ -11,10 +11,10 @@ use Rattle.naga_wgsl_fns.specs.declared.error.Error.TheVariants.{FmtError, Custo
 
 -- the names of some items of the module can't be told: so many of them have one base, or the key of one is out of range
 abbrev pub NamerIsFull : Module → Type 0
-NamerIsFull m = SomeNameIsFull wgsl_names (labelled_items m)
+NamerIsFull m = SomeNameIsFull wgsl_names (labelled_items wgsl_names m)
 
 abbrev pub KeyIsOutOfRange : Module → Type 0
-KeyIsOutOfRange m = SomeKeyIsFull (labelled_items m)
+KeyIsOutOfRange m = SomeKeyIsFull (labelled_items wgsl_names m)
 
 -- what a `Custom` error says, and that it is so
 abbrev pub IsToldOf : Module → (message : List ℕ) → Type 0
