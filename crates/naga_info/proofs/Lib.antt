@@ -3,4 +3,5 @@ pub mod Agreeing
 pub mod Counting
 pub mod Fitting
 pub mod Numbering
+pub mod Operating
 pub mod Writing
