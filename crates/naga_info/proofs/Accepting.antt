@@ -21,6 +21,7 @@ use Rattle.naga_info.specs.declared.info.ExpressionInfo.{ExpressionInfo}
 use Rattle.naga_info.specs.declared.info.ModuleInfo.{ModuleInfo}
 use Rattle.naga_info.specs.declared.info.TypeResolution.{TypeResolution}
 use Rattle.naga_info.specs.Resolution.{inner_of}
+use Rattle.naga_info.specs.Operations.{operators_agree}
 use Rattle.naga_info.specs.Types.{word_of_type, word_at, local_pointer, pointee_word, pointee_of, pointee_at, spelling, spelling_at, spelling_of, operator_word, is_alike}
 use Rattle.naga_info.specs.Accepted.{declares_functions, is_scalar_type, special_types_fit, signature_fits, names_fit, operand_fits, expected_type, is_within, expression_fits, expressions_fit_from, expressions_fit, value_fits, local_fits, statement_fits, block_fits, function_fits, functions_fit, is_accepted}
 
@@ -30,6 +31,7 @@ use Rattle.naga_info.specs.Accepted.{declares_functions, is_scalar_type, special
 pub accepted_parts : (m : Module) (info : ModuleInfo) → is_accepted m info ≡ true
     → (declares_functions m ≡ true) × (list_all is_scalar_type m.types ≡ true) × (special_types_fit (length m.types) m.special_types ≡ true)
     × ((length info.entry_points.items == 0) ≡ true) × ((length info.const_expression_types.items == 0) ≡ true) × (functions_fit m.types m.functions info.functions.items ≡ true)
+    × (operators_agree m.types m.functions info.functions.items ≡ true)
 unfolding is_accepted
 accepted_parts m info accepted =
     let one = and_parts _ _ accepted
@@ -37,7 +39,8 @@ accepted_parts m info accepted =
     in let three = and_parts _ _ two.1
     in let four = and_parts _ _ three.1
     in let five = and_parts _ _ four.1
-    in (one.0, two.0, three.0, four.0, five.0, five.1)
+    in let six = and_parts _ _ five.1
+    in (one.0, two.0, three.0, four.0, five.0, six.0, six.1)
 
 pub accepted_declares_functions : (m : Module) (info : ModuleInfo) → is_accepted m info ≡ true → declares_functions m ≡ true
 accepted_declares_functions m info accepted = (accepted_parts m info accepted).0
@@ -50,6 +53,9 @@ accepted_special_types_fit m info accepted = (accepted_parts m info accepted).2
 
 pub accepted_functions_fit : (m : Module) (info : ModuleInfo) → is_accepted m info ≡ true → functions_fit m.types m.functions info.functions.items ≡ true
 accepted_functions_fit m info accepted = (accepted_parts m info accepted).5
+
+pub accepted_operators_agree : (m : Module) (info : ModuleInfo) → is_accepted m info ≡ true → operators_agree m.types m.functions info.functions.items ≡ true
+accepted_operators_agree m info accepted = (accepted_parts m info accepted).6
 
 -- ---- lists whose items all pass a test
 

@@ -1,14 +1,14 @@
 -- A table of the types that operators have given finds out whether any two operators agree.
-use Rattle.std.proofs.Common.{◌≡◌, ◌≢◌, ℕ, ◌+◌, ◌*◌, ◌<◌, zero, suc, Bool, true, false, ◌&&◌, ◌==◌, List, [], ◌∷◌, ◌++◌, length, Option, Some, None, refl, ap, sym, subst, ◌∙◌, arith, slice_get, slice_set, slice_index_or, eq-eqb, replicate}
-use Rattle.std.specs.Prelude.{if◌then◌else◌, codes}
+use Rattle.std.proofs.Common.{◌≡◌, ◌≢◌, ℕ, ◌+◌, ◌*◌, ◌<◌, suc, Bool, true, false, ◌&&◌, ◌==◌, List, [], ◌∷◌, ◌++◌, length, Option, Some, None, refl, ap, sym, ◌∙◌, arith, slice_set, slice_index_or, eq-eqb, replicate}
+use Rattle.std.specs.Prelude.{if◌then◌else◌}
 use Rattle.std.specs.List.{list_all}
-use Rattle.std.specs.Option.{is_some, option_map_or, option_and_then}
+use Rattle.std.specs.Option.{is_some, option_map, option_map_or, option_and_then}
 use Rattle.std.specs.Str.{bytes_eq}
 use Rattle.std.proofs.lemmas.Bool.{and_parts, eqb-true, eqb-false}
 use Rattle.std.proofs.lemmas.List.{length-set, get_or-set_same, get_or-set_other, get_or-replicate, length-replicate}
 use Rattle.std.proofs.lemmas.Slice.Eq.{bytes_eq-Decides}
-use Rattle.naga_info.specs.Operations.{Operation, agrees, all_agree}
-use Rattle.naga_info.specs.Table.{position, type_words, operator_words, type_number, operator_number, operation_place, entered_over, entered, all_entered}
+use Rattle.naga_info.specs.Operations.{Operation, agrees, all_agree, operation_of}
+use Rattle.naga_info.specs.Table.{position, type_words, operator_words, type_number, operator_number, operation_place, entered_over, entered, all_entered, entered_numbers, written}
 
 -- ---- tests
 
@@ -55,8 +55,8 @@ position_same (x ∷ xs) a b lt same = position_step x xs a b (bytes_eq x a) (by
 same_words : (xs : List (List ℕ)) (a b : List ℕ) → position xs a < length xs → bytes_eq a b ≡ (position xs a == position xs b)
 same_words xs a b lt =
     iff_same (bytes_eq a b) (position xs a == position xs b)
-      (λ e. eq-eqb (position xs a) (position xs b) (ap (position xs) ((bytes_eq-Decides a b).0 e)))
-      (λ e. (bytes_eq-Decides a b).1 (position_same xs a b lt (eqb-true (position xs a) (position xs b) e)))
+    (λ e. eq-eqb (position xs a) (position xs b) (ap (position xs) ((bytes_eq-Decides a b).0 e)))
+    (λ e. (bytes_eq-Decides a b).1 (position_same xs a b lt (eqb-true (position xs a) (position xs b) e)))
 
 -- all four words have numbers
 pub record IsNumbered (o : Operation) : Type 0 where
@@ -75,19 +75,19 @@ place_within o n = omega (arith, n.operator, n.left, n.right)
 same_place : (a b : Operation) → IsNumbered a → IsNumbered b → (bytes_eq a.operator b.operator && (bytes_eq a.left b.left && bytes_eq a.right b.right)) ≡ (operation_place a == operation_place b)
 same_place a b n m =
     iff_same _ _
-      (λ e.
-        let one = and_parts (bytes_eq a.operator b.operator) (bytes_eq a.left b.left && bytes_eq a.right b.right) e
-        in let two = and_parts (bytes_eq a.left b.left) (bytes_eq a.right b.right) one.1
-        in let o = (bytes_eq-Decides a.operator b.operator).0 one.0
-        in let l = (bytes_eq-Decides a.left b.left).0 two.0
-        in let r = (bytes_eq-Decides a.right b.right).0 two.1
-        in eq-eqb (operation_place a) (operation_place b) (λ i. (operator_number (o i) * 10 + type_number (l i)) * 10 + type_number (r i)))
-      (λ e.
-        let same = eqb-true (operation_place a) (operation_place b) e
-        in let o : operator_number a.operator ≡ operator_number b.operator = omega (arith, same, n.operator, n.left, n.right, m.operator, m.left, m.right)
-        in let l : type_number a.left ≡ type_number b.left = omega (arith, same, n.operator, n.left, n.right, m.operator, m.left, m.right)
-        in let r : type_number a.right ≡ type_number b.right = omega (arith, same, n.operator, n.left, n.right, m.operator, m.left, m.right)
-        in λ i. (same_words operator_words a.operator b.operator n.operator ∙ eq-eqb _ _ o) i && ((same_words type_words a.left b.left n.left ∙ eq-eqb _ _ l) i && (same_words type_words a.right b.right n.right ∙ eq-eqb _ _ r) i))
+    (λ e.
+    let one = and_parts (bytes_eq a.operator b.operator) (bytes_eq a.left b.left && bytes_eq a.right b.right) e
+    in let two = and_parts (bytes_eq a.left b.left) (bytes_eq a.right b.right) one.1
+    in let o = (bytes_eq-Decides a.operator b.operator).0 one.0
+    in let l = (bytes_eq-Decides a.left b.left).0 two.0
+    in let r = (bytes_eq-Decides a.right b.right).0 two.1
+    in eq-eqb (operation_place a) (operation_place b) (λ i. (operator_number (o i) * 10 + type_number (l i)) * 10 + type_number (r i)))
+    (λ e.
+    let same = eqb-true (operation_place a) (operation_place b) e
+    in let o : operator_number a.operator ≡ operator_number b.operator = omega (arith, same, n.operator, n.left, n.right, m.operator, m.left, m.right)
+    in let l : type_number a.left ≡ type_number b.left = omega (arith, same, n.operator, n.left, n.right, m.operator, m.left, m.right)
+    in let r : type_number a.right ≡ type_number b.right = omega (arith, same, n.operator, n.left, n.right, m.operator, m.left, m.right)
+    in λ i. (same_words operator_words a.operator b.operator n.operator ∙ eq-eqb _ _ o) i && ((same_words type_words a.left b.left n.left ∙ eq-eqb _ _ l) i && (same_words type_words a.right b.right n.right ∙ eq-eqb _ _ r) i))
 
 -- agreement by numbers
 agrees_numbers : (a b : Operation) → IsNumbered a → IsNumbered b → agrees a b ≡ (if operation_place a == operation_place b then type_number a.answer == type_number b.answer else true)
@@ -195,3 +195,22 @@ entered_where_all_agree os numbered =
 pub all_entered_append : (t : Option (List (Option ℕ))) (os ps : List Operation) → all_entered t (os ++ ps) ≡ all_entered (all_entered t os) ps
 all_entered_append t [] ps = refl
 all_entered_append t (o ∷ os) ps = all_entered_append (option_and_then (λ t. entered t (operation_place o) (type_number o.answer)) t) os ps
+
+-- an operation is entered by its numbers
+pub operation_entered : (t : List (Option ℕ)) (operator left right answer : Option (List ℕ))
+    → all_entered (Some t) (operation_of operator left right answer) ≡ entered_numbers t (option_map operator_number operator) (option_map type_number left) (option_map type_number right) (option_map type_number answer)
+operation_entered t (Some operator) (Some left) (Some right) (Some answer) = refl
+operation_entered t None left right answer = refl
+operation_entered t (Some operator) None right answer = refl
+operation_entered t (Some operator) (Some left) None answer = refl
+operation_entered t (Some operator) (Some left) (Some right) None = refl
+
+-- of what is left to enter, a part that didn't fit decides
+pub entered_not : (t after : List (Option ℕ)) (fitted : Bool) (os ps : List Operation) → written fitted after ≡ all_entered (Some t) os → fitted ≡ false → all_entered (Some t) (os ++ ps) ≡ None
+entered_not t after fitted os ps is not =
+    all_entered_append (Some t) os ps ∙ ap (λ x. all_entered x ps) (sym is ∙ ap (λ b. written b after) not) ∙ all_entered_none ps
+
+-- a part that did is in the table
+pub entered_next : (t after : List (Option ℕ)) (fitted : Bool) (os ps : List Operation) → written fitted after ≡ all_entered (Some t) os → fitted ≡ true → all_entered (Some after) ps ≡ all_entered (Some t) (os ++ ps)
+entered_next t after fitted os ps is does =
+    sym (all_entered_append (Some t) os ps ∙ ap (λ x. all_entered x ps) (sym is ∙ ap (λ b. written b after) does))

@@ -14,11 +14,12 @@ pub list_all-pairs : {X : Type 0} (test : X → Bool) (n : ℕ) (xs : List X) �
 list_all-pairs test n [] = refl
 list_all-pairs test n (x ∷ xs) = ap (λ b. test x && b) (list_all-pairs test (n + 1) xs)
 
-drop_first : {X : Type 0} (i : ℕ) (xs : List X) (d : X) → i < length xs → drop i xs ≡ slice_index_or xs i d ∷ drop (i + 1) xs
+-- what is left of a list begins with the item at this place
+pub drop_first : {X : Type 0} (i : ℕ) (xs : List X) (d : X) → i < length xs → drop i xs ≡ slice_index_or xs i d ∷ drop (i + 1) xs
 drop_first i xs d h = rw (add-one, drop-cons xs i d)
 
 -- the item at a place that a list has
-item_at : {X : Type 0} (xs : List X) (i : ℕ) (x : X) → i < length xs → slice_get xs i ≡ Some x → slice_index_or xs i x ≡ x
+pub item_at : {X : Type 0} (xs : List X) (i : ℕ) (x : X) → i < length xs → slice_get xs i ≡ Some x → slice_index_or xs i x ≡ x
 item_at xs i x h here =
     let got = slice_get-get_or xs i x h
     in cc

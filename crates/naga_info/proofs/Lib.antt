@@ -4,4 +4,5 @@ pub mod Counting
 pub mod Fitting
 pub mod Recounted
 pub mod Numbering
+pub mod Operating
 pub mod Writing

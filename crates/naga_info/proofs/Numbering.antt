@@ -1,8 +1,8 @@
 -- All words of types and operators that are written so far have numbers.
-use Rattle.std.proofs.Common.{◌≡◌, ℕ, ◌+◌, ◌<◌, Bool, true, false, ◌==◌, List, [], ◌∷◌, ◌++◌, Option, Some, None, refl, ap, sym, subst, ◌∙◌, arith, slice_get}
+use Rattle.std.proofs.Common.{◌≡◌, ℕ, ◌+◌, ◌<◌, Bool, true, false, ◌==◌, List, [], ◌∷◌, ◌++◌, Option, Some, None, length, drop, replicate, refl, ap, sym, subst, ◌∙◌, arith, slice_get, slice_index_or}
 use Rattle.std.specs.Prelude.{if◌then◌else◌, codes}
 use Rattle.std.specs.List.{flat_map, enumerate_from}
-use Rattle.std.specs.Option.{option_map, option_and_then}
+use Rattle.std.specs.Option.{is_some, option_map}
 use Rattle.naga_ir.specs.declared.expression.Expression.{Expression}
 use Rattle.naga_ir.specs.declared.expression.Expression.TheVariants.{Binary}
 use Rattle.naga_ir.specs.declared.module.Function.{Function}
@@ -18,10 +18,11 @@ use Rattle.naga_ir.specs.declared.types.TypeInner.TheVariants.{Scalar as ScalarT
 use Rattle.naga_info.specs.declared.info.ExpressionInfo.{ExpressionInfo}
 use Rattle.naga_info.specs.Resolution.{inner_of}
 use Rattle.naga_info.specs.Types.{word_of_width, scalar_word, word_of_type, word_at, local_pointer, spelling, spelling_of, spelling_at, operator_word}
-use Rattle.naga_info.specs.Operations.{Operation, operation_of, expression_operations, function_operations, all_operations}
-use Rattle.naga_info.specs.Table.{type_number, operator_number}
+use Rattle.naga_info.specs.Operations.{Operation, operation_of, expression_operations, function_operations, all_operations, operators_agree}
+use Rattle.naga_info.specs.Table.{type_number, operator_number, all_entered}
 use Rattle.naga_info.proofs.Accepting.{then_some, map_some}
-use Rattle.naga_info.proofs.Agreeing.{IsNumbered, AreNumbered}
+use Rattle.naga_info.proofs.Agreeing.{AreNumbered, entered_where_all_agree}
+use Rattle.naga_info.proofs.Fitting.{drop_first, item_at}
 
 -- one of the five words of scalars: its number, and that of a pointer to a local of this type
 pub record IsScalarWord (w : List ℕ) : Type 0 where
@@ -119,7 +120,7 @@ module _ (types : List Type_) where
   expression_numbered : (es : List ExpressionInfo) (here : ℕ) (e : Expression) → AreNumbered (expression_operations types es here e)
   expression_numbered es here (Binary op left right) =
       operation_numbered (operator_word op) (spelling_at types es left) (spelling_at types es right) (spelling_at types es here)
-        (operator_numbered op) (spelling_at_numbered types es left) (spelling_at_numbered types es right) (spelling_at_numbered types es here)
+      (operator_numbered op) (spelling_at_numbered types es left) (spelling_at_numbered types es right) (spelling_at_numbered types es here)
   expression_numbered es here _ = tt
 
   function_numbered : (es : List ExpressionInfo) (n : ℕ) (xs : List Expression) → AreNumbered (flat_map (λ p. expression_operations types es p.0 p.1) (enumerate_from n xs))
@@ -130,3 +131,16 @@ module _ (types : List Type_) where
   all_numbered [] ess = tt
   all_numbered (f ∷ fs) [] = tt
   all_numbered (f ∷ fs) (es ∷ ess) = numbered_append (function_operations types f.expressions es) (all_operations types fs ess) (function_numbered es 0 f.expressions) (all_numbered fs ess)
+
+  -- of the functions that are left, the first one's operations stand first
+  pub operations_step : (fs : List Function) (ess : List (List ExpressionInfo)) (i : ℕ) (f : Function) (d : List ExpressionInfo)
+      → i < length fs → i < length ess → slice_get fs i ≡ Some f
+      → all_operations types (drop i fs) (drop i ess) ≡ function_operations types f.expressions (slice_index_or ess i d) ++ all_operations types (drop (i + 1) fs) (drop (i + 1) ess)
+  operations_step fs ess i f d in_fs in_ess here =
+      (λ j. all_operations types (drop_first i fs f in_fs j) (drop_first i ess d in_ess j))
+      ∙ ap (λ x. function_operations types x.expressions (slice_index_or ess i d) ++ all_operations types (drop (i + 1) fs) (drop (i + 1) ess)) (item_at fs i f in_fs here)
+
+  -- a table that took them all, or none
+  pub agree_by_table : (fs : List Function) (ess : List (List ExpressionInfo)) (found : Option (List (Option ℕ)))
+      → found ≡ all_entered (Some (replicate 300 None)) (all_operations types fs ess) → is_some found ≡ operators_agree types fs ess
+  agree_by_table fs ess found is = ap is_some is ∙ entered_where_all_agree (all_operations types fs ess) (all_numbered fs ess)

@@ -1,6 +1,6 @@
 -- Whether a module is accepted doesn't depend on the counts.
-use Rattle.std.proofs.Common.{◌≡◌, ℕ, zero, suc, ◌+◌, ◌&&◌, List, [], ◌∷◌, length, Option, Some, None, refl, ap, ◌∙◌, nat_lt, nat_le, nat_eq, cond}
-use Rattle.std.specs.List.{list_all}
+use Rattle.std.proofs.Common.{◌≡◌, ℕ, zero, suc, ◌+◌, ◌&&◌, List, [], ◌∷◌, ◌++◌, length, Option, Some, None, refl, ap, ◌∙◌, nat_lt, nat_le, nat_eq, cond}
+use Rattle.std.specs.List.{list_all, flat_map, enumerate_from}
 use Rattle.std.specs.Option.{option_map, option_map_or, option_and_then, is_some}
 use Rattle.naga_ir.specs.StatementTree.{SimpleStatement, emit, return, store, StatementTree, simple, BlockTree, no_statements, statement}
 use Rattle.naga_ir.specs.declared.expression.Expression.{Expression}
@@ -14,6 +14,7 @@ use Rattle.naga_info.specs.declared.info.ExpressionInfo.{ExpressionInfo}
 use Rattle.naga_info.specs.declared.info.ModuleInfo.{ModuleInfo}
 use Rattle.naga_info.specs.Types.{word_at, spelling_at, spelling_of, pointee_of, pointee_at, operator_word, is_alike}
 use Rattle.naga_info.specs.Accepted.{declares_functions, is_scalar_type, special_types_fit, signature_fits, names_fit, operand_fits, expected_type, is_within, expression_fits, expressions_fit_from, expressions_fit, value_fits, local_fits, return_fits, simple_fits, statement_fits, block_fits, function_fits, functions_fit, is_accepted}
+use Rattle.naga_info.specs.Operations.{operation_of, expression_operations, all_operations, all_agree, operators_agree}
 use Rattle.naga_info.specs.Counts.{counted_from, counted, all_counted, use_count, operand_places}
 
 -- the counts don't change the types, nor how many there are
@@ -78,6 +79,20 @@ module _ (types : List Type_) (f : Function) (c : ℕ → ℕ) (es : List Expres
   same_function : function_fits types f now ≡ function_fits types f es
   same_function = λ i. signature_fits (length types) f && (names_fit f && (same_expressions 0 0 f.expressions es i && (same_locals f.local_variables i && same_block f.result f.body i)))
 
+same_operations : (types : List Type_) (c : ℕ → ℕ) (es : List ExpressionInfo) (here : ℕ) (e : Expression) → expression_operations types (counted_from c 0 es) here e ≡ expression_operations types es here e
+same_operations types c es here (expression.Binary op left right) = λ i. operation_of (operator_word op) (same_spelling types c 0 es left i) (same_spelling types c 0 es right i) (same_spelling types c 0 es here i)
+same_operations types c es here _ = refl
+
+same_operations_from : (types : List Type_) (c : ℕ → ℕ) (es : List ExpressionInfo) (ps : List (ℕ × Expression)) → flat_map (λ p. expression_operations types (counted_from c 0 es) p.0 p.1) ps ≡ flat_map (λ p. expression_operations types es p.0 p.1) ps
+same_operations_from types c es [] = refl
+same_operations_from types c es (p ∷ ps) = λ i. same_operations types c es p.0 p.1 i ++ same_operations_from types c es ps i
+
+same_all_operations : (types : List Type_) (fs : List Function) (ess : List (List ExpressionInfo)) → all_operations types fs (all_counted fs ess) ≡ all_operations types fs ess
+same_all_operations types [] [] = refl
+same_all_operations types [] (es ∷ ess) = refl
+same_all_operations types (f ∷ fs) [] = refl
+same_all_operations types (f ∷ fs) (es ∷ ess) = λ i. same_operations_from types (use_count (operand_places f)) es (enumerate_from 0 f.expressions) i ++ same_all_operations types fs ess i
+
 same_functions : (types : List Type_) (fs : List Function) (ess : List (List ExpressionInfo)) → functions_fit types fs (all_counted fs ess) ≡ functions_fit types fs ess
 same_functions types [] [] = refl
 same_functions types [] (es ∷ ess) = refl
@@ -89,7 +104,8 @@ unfolding is_accepted
 same_acceptance m old new functions entries types = λ i.
     declares_functions m && (list_all is_scalar_type m.types && (special_types_fit (length m.types) m.special_types &&
     (nat_eq (entries i) 0 && (nat_eq (length (types i).items) 0 &&
-    (ap (functions_fit m.types m.functions) functions ∙ same_functions m.types m.functions old.functions.items) i))))
+    ((ap (functions_fit m.types m.functions) functions ∙ same_functions m.types m.functions old.functions.items) i &&
+    (ap (operators_agree m.types m.functions) functions ∙ ap all_agree (same_all_operations m.types m.functions old.functions.items)) i)))))
 
 pub entries_kept : (fs : List Function) (ess : List (List ExpressionInfo)) → length (all_counted fs ess) ≡ length ess
 entries_kept [] [] = refl

@@ -1,5 +1,6 @@
 -- Whether a module and what is known of it fit together: handles, `Emit` ranges and argument numbers lie in their arenas and
--- lists, each expression has the type that its operands and declarations give it, and statements get what they want.
+-- lists, each expression has the type that its operands and declarations give it, statements get what they want, and operators
+-- that are spelled alike have types alike where their operands have.
 -- The counts don't matter. So far no module is accepted that declares more than scalar types and functions, or whose
 -- expressions are others than literals, arguments, locals, loads of locals and sums, differences and products, or whose
 -- statements are others than `Emit`, `Store` and `Return`.
@@ -18,6 +19,7 @@ use Rattle.naga_ir.specs.declared.module.SpecialTypes.{SpecialTypes}
 use Rattle.naga_ir.specs.declared.types.Type_.{Type_}
 use Rattle.naga_info.specs.declared.info.ExpressionInfo.{ExpressionInfo}
 use Rattle.naga_info.specs.declared.info.ModuleInfo.{ModuleInfo}
+use Rattle.naga_info.specs.Operations.{operators_agree}
 use Rattle.naga_info.specs.Types.{word_of_type, word_at, local_pointer, spelling_at, spelling_of, pointee_at, operator_word, is_alike, literal_word, literal_is_within}
 
 -- nothing is declared but types and functions
@@ -127,4 +129,4 @@ unfoldable pub is_accepted : Module → ModuleInfo → Bool
 is_accepted m info =
     declares_functions m && (list_all is_scalar_type m.types && (special_types_fit (length m.types) m.special_types &&
     (length info.entry_points.items == 0 && (length info.const_expression_types.items == 0 &&
-    functions_fit m.types m.functions info.functions.items))))
+    (functions_fit m.types m.functions info.functions.items && operators_agree m.types m.functions info.functions.items)))))

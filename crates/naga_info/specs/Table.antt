@@ -1,6 +1,6 @@
 -- The code's table of the types that operators have given so far. Words are numbered, and a table has a place for each operator
 -- and the types of its operands: the number of the type that it gave, if it stood anywhere.
-use Rattle.std.specs.Prelude.{ℕ, suc, ◌+◌, ◌*◌, List, [], ◌∷◌, Option, Some, None, ◌==◌, if◌then◌else◌, codes, slice_index_or, slice_set}
+use Rattle.std.specs.Prelude.{ℕ, Bool, suc, ◌+◌, ◌*◌, List, [], ◌∷◌, Option, Some, None, ◌==◌, if◌then◌else◌, codes, slice_index_or, slice_set}
 use Rattle.std.specs.Option.{option_and_then}
 use Rattle.std.specs.Str.{bytes_eq}
 use Rattle.naga_info.specs.Types.{local_pointer}
@@ -46,3 +46,12 @@ entered table place answer = entered_over (slice_index_or table place None) tabl
 abbrev pub all_entered : Option (List (Option ℕ)) → List Operation → Option (List (Option ℕ))
 all_entered table [] = table
 all_entered table (o ∷ os) = all_entered (option_and_then (λ t. entered t (operation_place o) (type_number o.answer)) table) os
+
+-- the table with an operation entered that has these numbers, where there are all
+abbrev pub entered_numbers : List (Option ℕ) → (operator left right answer : Option ℕ) → Option (List (Option ℕ))
+entered_numbers table (Some operator) (Some left) (Some right) (Some answer) = entered table (place_of operator left right) answer
+entered_numbers table _ _ _ _ = Some table
+
+-- a table that was written, where what was entered fitted
+abbrev pub written : (fitted : Bool) → List (Option ℕ) → Option (List (Option ℕ))
+written fitted table = if fitted then Some table else None

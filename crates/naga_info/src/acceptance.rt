@@ -9,6 +9,7 @@ ghost use Rattle.naga_info.specs.Spelled.{spelled};
 ghost use Rattle.naga_info.specs.Types.{literal_is_within};
 
 use crate::info::{ExpressionInfo, FunctionInfo, ModuleInfo};
+use crate::operations::operators_agree;
 use crate::spelling::{
     Spelled, are_alike, is_spelled, operator_word, scalar_of, scalar_word, spelled_at,
     spelled_expression, spelled_literal, spelled_pointee, spelled_pointer_to, spelled_resolution,
@@ -31,13 +32,15 @@ use naga_ir::{
 ///   literal's type, the argument's type, a pointer to the local's type in the space of functions, or
 ///   for a `Load` what such a pointer points at. The types of the others and of their operands are
 ///   scalars or pointers to locals. Types are alike where they are spelled alike.
+/// - Operators that are spelled alike, over operands of types alike, have types alike, across all
+///   functions.
 /// - The first value of a local has the local's type.
 /// - Each statement is an `Emit` of a range within the expressions, a `Store` of a value of the type
 ///   that a pointer to a local points at, or a `Return`: of a value of the result's type, or of none
 ///   where the function has no result.
 ///
 /// The counts are not looked at. Each other module is answered `false`.
-#[tactic(auto, unfolding(crate::specs::Accepted::is_accepted))]
+#[tactic(auto, using(crate::proofs::Accepting::functions_fit_length), unfolding(crate::specs::Accepted::is_accepted))]
 pub fn accepts(module: &Module, info: &ModuleInfo) -> bool
     ensures { result ≡ is_accepted «module».now info.now }
 {
@@ -47,6 +50,7 @@ pub fn accepts(module: &Module, info: &ModuleInfo) -> bool
         && info.entry_points.is_empty()
         && info.const_expression_types.is_empty()
         && functions_fit(&module.types, &module.functions, info.functions.as_slice())
+        && operators_agree(&module.types, &module.functions, info.functions.as_slice())
 }
 
 fn declares_functions(module: &Module) -> bool

@@ -7,6 +7,7 @@
 pub mod acceptance;
 pub mod counts;
 pub mod info;
+mod operations;
 pub mod spelling;
 
 pub use acceptance::accepts;
