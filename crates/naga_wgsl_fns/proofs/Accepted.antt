@@ -65,10 +65,10 @@ module _ (types : List Type_) where
   answer_can scalar None below = refl
   answer_can scalar (Some r) below = type_has_word scalar r.ty below
 
-  expression_can : (f : Function) (e : Expression) (w : List ℕ) → expression_is_written e ≡ true → expected_type types f e ≡ Some w → can_be_written f e ≡ true
-  expression_can f (Literal value) w written is = written
-  expression_can f (FunctionArgument n) w written is = lt-ltb n (length f.arguments.items) (some_within _ f.arguments.items n w is)
-  expression_can f _ w written is = absurd cc
+  expression_can : (f : Function) (es : List ExpressionInfo) (h : ℕ) (e : Expression) (w : List ℕ) → expression_is_written e ≡ true → expected_type types f es h e ≡ Some w → can_be_written f e ≡ true
+  expression_can f es h (Literal value) w written is = written
+  expression_can f es h (FunctionArgument n) w written is = lt-ltb n (length f.arguments.items) (some_within _ f.arguments.items n w is)
+  expression_can f es h _ w written is = absurd cc
 
   value_below : (es : List ExpressionInfo) (answer : Option FunctionResult) (value : Option ℕ) → return_fits types es answer value ≡ true → is_below (length es) value ≡ true
   value_below es answer None fits = refl
@@ -98,7 +98,7 @@ can_write m info names g f accepted written named here =
       answer = answer_can m.types scalar f.result signature.1;
       expressions = list_all_from_each (can_be_written f) f.expressions
           (λ h e at. let word = function_fits_word_at m.types f known.0 h e known.2 at
-          in expression_can m.types f e word.0 (list_all_at expression_is_written f.expressions h e parts.0 at) word.2);
+          in expression_can m.types f known.0 h e word.0 (list_all_at expression_is_written f.expressions h e parts.0 at) word.2);
       body = ap (λ n. returns_below n f.body) (function_fits_length m.types f known.0 known.2) ∙ body_can m.types known.0 f.result f.body (function_fits_block m.types f known.0 known.2) parts.1;
     }
 
