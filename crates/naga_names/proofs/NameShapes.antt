@@ -1,6 +1,7 @@
 -- What every name looks like, and that a name tells its base and its number.
 use Rattle.std.proofs.Common.{◌≡◌, ℕ, ◌+◌, ◌-◌, ◌<◌, ◌≤◌, ◌^◌, Bool, true, false, not, ◌&&◌, ◌||◌, ◌==◌, cond, List, [], ◌∷◌, ◌++◌, length, get_or, drop, codes, refl, sym, ap, ◌∙◌, arith, append_assoc, append-nil, All}
-use Rattle.std.specs.List.{list_all}
+use Rattle.std.specs.List.{list_all, starts_with}
+use Rattle.std.specs.Bool.{nat_eq}
 use Rattle.std.specs.Prelude.{◌⊎◌}
 use mathlib.Core.Logic.{inl, inr}
 use Rattle.std.specs.Char.{is_ascii_digit, to_ascii_lowercase}
@@ -14,7 +15,7 @@ use Rattle.std.proofs.lemmas.List.Folds.{list_all-append, list_any_none}
 use Rattle.std.proofs.lemmas.List.Sums.{sum_by-append, sum_by-cons}
 use Rattle.std.proofs.lemmas.Bool.Decides.{nat_tests}
 use Rattle.std.proofs.lemmas.Map.Text.{is_eq-slice_cmp}
-use Rattle.naga_names.specs.Label.{ends_separated}
+use Rattle.naga_names.specs.Label.{ends_separated, after_numerics, spelling, without_last_separators, or_unnamed, kept_off, base_of}
 use Rattle.naga_names.specs.Plain.{is_identifier_char, is_word, is_identifier, is_empty_or_separated, HasPlainEnds, IsPlain}
 use Rattle.naga_names.specs.Words.{lowered}
 use Rattle.naga_names.specs.Naming.{Names, label_base, is_taken, ends_in_digit, first_name, later_name, name_of_base, labels_with_base, name_after}
@@ -259,6 +260,46 @@ identifier_of_base names base n some ends single = either (name_cases names base
 pub name_after_is_identifier : (start : Names) (earlier : List (List ℕ)) (label : List ℕ) → is_identifier (name_after start earlier label) ≡ true
 name_after_is_identifier start earlier label =
     identifier_of_base start (label_base start label) (labels_with_base start earlier (label_base start label)) (base_is_word start.reserved_prefixes (chars label)) (base_ends start.reserved_prefixes (chars label)) (base_not_double start.reserved_prefixes (chars label))
+
+-- ---- the prefixes of WGSL's implementations
+abbrev naga : List ℕ → Bool
+naga text = starts_with nat_eq text (codes "_naga")
+
+naga_parted : (base more : List ℕ) → is_word base ≡ true → naga (base ++ 95 ∷ more) ≡ naga base
+naga_parted [] more some = absurd (cc)
+naga_parted (a ∷ []) more some = refl
+naga_parted (a ∷ b ∷ []) more some = refl
+naga_parted (a ∷ b ∷ c ∷ []) more some = refl
+naga_parted (a ∷ b ∷ c ∷ d ∷ []) more some = refl
+naga_parted (a ∷ b ∷ c ∷ d ∷ e ∷ rest) more some = refl
+
+base_no_naga : (prefixes : List (List ℕ)) (characters : List ℕ) → prefixes ≡ codes "__" ∷ codes "_naga" ∷ [] → naga (base_of prefixes characters) ≡ false
+unfolding base_of
+base_no_naga prefixes characters is =
+    ap (λ ps. naga (kept_off ps text)) is ∙ either (starts_with nat_eq text (codes "__") || (naga text || false)) refl
+  where
+    text : List ℕ
+    text = or_unnamed (without_last_separators (spelling (after_numerics characters)))
+
+    either : (b : Bool) → (starts_with nat_eq text (codes "__") || (naga text || false)) ≡ b → naga (cond b (codes "gen_" ++ text) text) ≡ false
+    either true e = refl
+    either false e = (neither (naga text) false (neither (starts_with nat_eq text (codes "__")) (naga text || false) e).1).0
+
+naga_of_base : (names : Names) (base : List ℕ) (n : ℕ) → is_word base ≡ true → naga base ≡ false → naga (name_of_base names base n) ≡ false
+naga_of_base names base n some off = either (name_cases names base n)
+  where
+    first : (first_name names base ≡ base ++ 95 ∷ []) ⊎ ((first_name names base ≡ base) × (ends_in_digit base ≡ false) × (is_taken names base ≡ false)) → naga (first_name names base) ≡ false
+    first (inl is) = ap naga is ∙ naga_parted base [] some ∙ off
+    first (inr is) = ap naga is.0 ∙ off
+
+    either : ((n ≡ 0) × (name_of_base names base n ≡ first_name names base)) ⊎ (name_of_base names base n ≡ base ++ 95 ∷ decimal n) → naga (name_of_base names base n) ≡ false
+    either (inl is) = ap naga is.1 ∙ first (first_cases names base)
+    either (inr is) = ap naga is ∙ naga_parted base (decimal n) some ∙ off
+
+-- under the prefixes `__` and `_naga` no name begins with `_naga`
+pub name_after_no_naga : (start : Names) (earlier : List (List ℕ)) (label : List ℕ) → start.reserved_prefixes ≡ codes "__" ∷ codes "_naga" ∷ [] → starts_with nat_eq (name_after start earlier label) (codes "_naga") ≡ false
+name_after_no_naga start earlier label prefixes =
+    naga_of_base start (label_base start label) (labels_with_base start earlier (label_base start label)) (base_is_word start.reserved_prefixes (chars label)) (base_no_naga start.reserved_prefixes (chars label) prefixes)
 
 -- no name is a word of the sets
 pub name_after_no_keyword : (start : Names) (earlier : List (List ℕ)) (label : List ℕ) → HasPlainEnds start.keywords → set.contains start.keywords (name_after start earlier label) ≡ false

@@ -1,5 +1,6 @@
 -- What holds of every name, after whatever was named before.
-use Rattle.std.specs.Prelude.{◌≡◌, ℕ, ◌≤◌, ◌^◌, List, ◌∷◌, ◌++◌, take, true, false, codes, decimal, slice_get, Some}
+use Rattle.std.specs.Prelude.{◌≡◌, ℕ, ◌≤◌, ◌^◌, List, [], ◌∷◌, nat_eq, ◌++◌, take, true, false, codes, decimal, slice_get, Some}
+use Rattle.std.specs.List.{starts_with}
 use Rattle.std.specs.FinSet as set
 use Rattle.naga_names.specs.Plain.{is_identifier, HasPlainEnds}
 use Rattle.naga_names.specs.Words.{lowered}
@@ -10,6 +11,10 @@ use Rattle.naga_ir.specs.declared.module.Module.{Module}
 -- a name has ASCII letters, digits and `_` alone, begins with no digit and not with `__`, and is not `_`
 abbrev pub NamesAreIdentifiers : Type 0
 NamesAreIdentifiers = (start : Names) (earlier : List (List ℕ)) (label : List ℕ) → is_identifier (name_after start earlier label) ≡ true
+
+-- where identifiers keep off the prefixes `__` and `_naga`, no name begins with `_naga`; none ever begins with `__`
+abbrev pub NamesKeepOffNaga : Type 0
+NamesKeepOffNaga = (start : Names) (earlier : List (List ℕ)) (label : List ℕ) → start.reserved_prefixes ≡ codes "__" ∷ codes "_naga" ∷ [] → starts_with nat_eq (name_after start earlier label) (codes "_naga") ≡ false
 
 -- where no word of a set ends in `_`, or in `_` and digits, no name is in the set
 abbrev pub NamesAreNoKeywords : Type 0

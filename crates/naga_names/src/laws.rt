@@ -2,7 +2,7 @@
 ghost use Rattle.std.specs.Prelude.{map};
 ghost use Rattle.std.specs.Cmp.{IsEquivalence};
 ghost use Rattle.std.specs.FinSet as set;
-ghost use Rattle.naga_names.specs.Laws.{NamesAreIdentifiers, NamesAreNoKeywords, NamesAreNoBuiltins, NamesAreNoCaselessKeywords, NamesAreNotNumbered, NamesDiffer, ItemsAreNamed, ItemsAreTold};
+ghost use Rattle.naga_names.specs.Laws.{NamesAreIdentifiers, NamesKeepOffNaga, NamesAreNoKeywords, NamesAreNoBuiltins, NamesAreNoCaselessKeywords, NamesAreNotNumbered, NamesDiffer, ItemsAreNamed, ItemsAreTold};
 ghost use Rattle.naga_names.specs.Plain.{HasPlainEnds};
 ghost use Rattle.naga_names.specs.Reset.{same_key};
 
@@ -12,6 +12,11 @@ use crate::keywords::{BUILTIN_IDENTIFIERS, RESERVED};
 /// not `_`.
 pub fn names_are_identifiers()
     ensures { NamesAreIdentifiers }
+{}
+
+/// Where identifiers keep off the prefixes `__` and `_naga`, no name begins with either.
+pub fn names_keep_off_prefixes()
+    ensures { NamesKeepOffNaga }
 {}
 
 /// No name is a word of the sets, where none of these words ends in `_`, or in `_` and digits.
