@@ -3,6 +3,8 @@
 
 pub mod back;
 pub mod sink;
+pub mod to_wgsl;
 
 pub use back::{INDENT, Level};
 pub use sink::{SinkError, TextSink};
+pub use to_wgsl::{ToWgsl, TryToWgsl};
