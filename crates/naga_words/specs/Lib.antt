@@ -1,3 +1,4 @@
 pub mod Sink
 pub mod Indentation
 pub mod Words
+pub mod Diagnostics

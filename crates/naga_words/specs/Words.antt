@@ -1,5 +1,5 @@
 -- The words that WGSL has for values of the IR: one table for each kind of value. `None` stands where WGSL has no word.
-use Rattle.std.specs.Prelude.{ℕ, true, false, List, Option, Some, None, codes, if◌then◌else◌, ◌==◌}
+use Rattle.std.specs.Prelude.{ℕ, true, false, List, Option, Some, None, codes, if◌then◌else◌, ◌==◌, Bool}
 use Rattle.naga_ir.specs.declared.binding.Interpolation.{Interpolation}
 use Rattle.naga_ir.specs.declared.binding.Interpolation.TheVariants as interpolation
 use Rattle.naga_ir.specs.declared.binding.Sampling.{Sampling}
@@ -14,7 +14,11 @@ use Rattle.naga_ir.specs.declared.operators.MathFunction.{MathFunction}
 use Rattle.naga_ir.specs.declared.operators.MathFunction.TheVariants as math
 use Rattle.naga_ir.specs.declared.binding.BuiltIn.{BuiltIn}
 use Rattle.naga_ir.specs.declared.binding.BuiltIn.TheVariants as builtin
+use Rattle.naga_ir.specs.declared.flags.StorageAccess.{StorageAccess}
+use Rattle.naga_ir.specs.declared.types.AddressSpace.{AddressSpace}
+use Rattle.naga_ir.specs.declared.types.AddressSpace.TheVariants as space
 use Rattle.naga_ir.specs.declared.types.Scalar.{Scalar}
+use Rattle.std.specs.Int.RustNames.{bit_and}
 use Rattle.naga_ir.specs.declared.types.ScalarKind.{ScalarKind}
 use Rattle.naga_ir.specs.declared.types.ScalarKind.TheVariants as kind
 
@@ -239,3 +243,45 @@ builtin_word builtin.CullDistance = None
 builtin_word builtin.PointSize = None
 builtin_word builtin.PointCoord = None
 builtin_word builtin.WorkGroupSize = None
+
+-- Are all bits of the mask set?
+abbrev pub has : ℕ → StorageAccess → Bool
+has mask access = bit_and access.0 mask == mask
+
+-- the bits of what may be done with a memory
+abbrev pub load_bit : ℕ
+load_bit = 1
+
+abbrev pub store_bit : ℕ
+store_bit = 2
+
+abbrev pub atomic_bit : ℕ
+atomic_bit = 4
+
+-- where a variable lives; the space of handles has no word
+abbrev pub space_word : AddressSpace → Option (List ℕ)
+space_word space.Function = Some (codes "function")
+space_word space.Private = Some (codes "private")
+space_word space.WorkGroup = Some (codes "workgroup")
+space_word space.Uniform = Some (codes "uniform")
+space_word (space.Storage access) = Some (codes "storage")
+space_word space.Handle = None
+space_word space.Immediate = Some (codes "immediate")
+space_word space.TaskPayload = Some (codes "task_payload")
+space_word space.RayPayload = Some (codes "ray_payload")
+space_word space.IncomingRayPayload = Some (codes "incoming_ray_payload")
+
+-- what may be done with a variable of a storage buffer; reading alone has no word
+abbrev pub buffer_access_word : StorageAccess → Option (List ℕ)
+buffer_access_word access = if has atomic_bit access then Some (codes "atomic") else (if has store_bit access then Some (codes "read_write") else None)
+
+-- what may be done with what lives there, where that needs a word
+abbrev pub space_access_word : AddressSpace → Option (List ℕ)
+space_access_word (space.Storage access) = buffer_access_word access
+space_access_word _ = None
+
+-- what may be done with a storage image
+abbrev pub image_access_word : StorageAccess → List ℕ
+image_access_word access =
+    if has atomic_bit access then codes "atomic" else (
+    if has load_bit access then (if has store_bit access then codes "read_write" else codes "read") else codes "write")

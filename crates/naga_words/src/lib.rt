@@ -7,4 +7,4 @@ pub mod to_wgsl;
 
 pub use back::{INDENT, Level};
 pub use sink::{SinkError, TextSink};
-pub use to_wgsl::{ToWgsl, TryToWgsl};
+pub use to_wgsl::{ToWgsl, TryToWgsl, address_space_str};

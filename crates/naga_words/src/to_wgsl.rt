@@ -2,12 +2,16 @@
 
 ghost use Rattle.std.specs.Prelude.{◌≡◌, ℕ, List, Option, ◌++◌, codes, IfOk, string_bytes};
 ghost use Rattle.std.specs.Option.{option_map};
-ghost use Rattle.naga_words.specs.Words.{interpolation_word, sampling_word, role_word, dimension_word, format_word, math_word, builtin_word, scalar_word};
+ghost use Rattle.naga_words.specs.Words.{interpolation_word, sampling_word, role_word, dimension_word, format_word, math_word, builtin_word, scalar_word, space_word, space_access_word, buffer_access_word, image_access_word};
+ghost use Rattle.naga_words.specs.Diagnostics.{IsWordOrBraced, IsScalarDiagnostic, braced_text};
 
+use bitflags::Flags;
 use naga_ir::{
-    BuiltIn, CooperativeRole, ImageDimension, Interpolation, MathFunction, Sampling, Scalar,
-    ScalarKind, StorageFormat,
+    AddressSpace, BuiltIn, CooperativeRole, ImageDimension, Interpolation, MathFunction, Sampling,
+    Scalar, ScalarKind, StorageAccess, StorageFormat,
 };
+use std::alloc::{AllocError, Global};
+use std::fmt::Debug;
 
 /// Values that all have a word in WGSL.
 pub trait ToWgsl: Sized {
@@ -123,16 +127,40 @@ impl ToWgsl for ImageDimension {
 
 /// Values that may have a word in WGSL.
 pub trait TryToWgsl: Sized {
+    /// What kind of value this is, in a diagnostic: `scalar type`.
+    const DESCRIPTION: &'static str;
+
     /// The word of a value, if it has one.
     ghost try_word: { Self → Option (List ℕ) };
+
+    /// What a diagnostic may call a value.
+    ghost Tells: { Self → List ℕ → Type 0 };
 
     /// WGSL's word for the value, if it has one.
     fn try_to_wgsl(self) -> Option<&'static str>
         ensures { option_map (λ s. s.now) result ≡ try_word self };
+
+    /// WGSL's word for the value, or for one without a word a text in braces that shows it.
+    fn to_wgsl_for_diagnostics(self, alloc: Global) -> Result<String, AllocError>
+        ensures { IfOk result (λ text. Tells self (string_bytes text)) };
 }
 
 impl TryToWgsl for MathFunction {
+    const DESCRIPTION: &'static str = "math function";
+
     ghost try_word = { math_word };
+
+    ghost Tells = { λ value. IsWordOrBraced (codes "math function") (math_word value) };
+
+    fn to_wgsl_for_diagnostics(self, alloc: Global) -> Result<String, AllocError> {
+        match self.try_to_wgsl() {
+            Some(word) => String::from_str(alloc, word),
+            None => {
+                let debug = format!(in alloc; "{self:?}")?;
+                braced(alloc, "math function", debug.as_str())
+            }
+        }
+    }
 
     fn try_to_wgsl(self) -> Option<&'static str> {
         match self {
@@ -219,7 +247,21 @@ impl TryToWgsl for MathFunction {
 }
 
 impl TryToWgsl for BuiltIn {
+    const DESCRIPTION: &'static str = "builtin value";
+
     ghost try_word = { builtin_word };
+
+    ghost Tells = { λ value. IsWordOrBraced (codes "builtin value") (builtin_word value) };
+
+    fn to_wgsl_for_diagnostics(self, alloc: Global) -> Result<String, AllocError> {
+        match self.try_to_wgsl() {
+            Some(word) => String::from_str(alloc, word),
+            None => {
+                let debug = format!(in alloc; "{self:?}")?;
+                braced(alloc, "builtin value", debug.as_str())
+            }
+        }
+    }
 
     fn try_to_wgsl(self) -> Option<&'static str> {
         match self {
@@ -278,7 +320,25 @@ impl TryToWgsl for BuiltIn {
 }
 
 impl TryToWgsl for Scalar {
+    const DESCRIPTION: &'static str = "scalar type";
+
     ghost try_word = { scalar_word };
+
+    ghost Tells = { IsScalarDiagnostic };
+
+    fn to_wgsl_for_diagnostics(self, alloc: Global) -> Result<String, AllocError> {
+        match self.try_to_wgsl() {
+            Some(word) => String::from_str(alloc, word),
+            None => match self.kind {
+                ScalarKind::AbstractInt => String::from_str(alloc, "{AbstractInt}"),
+                ScalarKind::AbstractFloat => String::from_str(alloc, "{AbstractFloat}"),
+                ScalarKind::Bool | ScalarKind::Sint | ScalarKind::Uint | ScalarKind::Float => {
+                    let debug = format!(in alloc; "{self:?}")?;
+                    braced(alloc, "scalar", debug.as_str())
+                }
+            },
+        }
+    }
 
     fn try_to_wgsl(self) -> Option<&'static str> {
         match self.kind {
@@ -306,5 +366,66 @@ impl TryToWgsl for Scalar {
             },
             ScalarKind::AbstractInt | ScalarKind::AbstractFloat => None,
         }
+    }
+}
+
+/// What stands for a value without a word: its debug text with its kind, in braces.
+fn braced(alloc: Global, description: &str, debug: &str) -> Result<String, AllocError>
+    ensures { IfOk result (λ text. string_bytes text ≡ braced_text description.now debug.now) }
+{
+    let mut text = String::from_str(alloc, "{non-WGSL ")?;
+    text.push_str(description)?;
+    text.push_str(" ")?;
+    text.push_str(debug)?;
+    text.push_str("}")?;
+    Ok(text)
+}
+
+/// WGSL's words for an address space and for what may be done with it, as they stand in `var<..>`
+/// and in the type of a pointer.
+pub fn address_space_str(space: AddressSpace) -> (Option<&'static str>, Option<&'static str>)
+    ensures space { option_map (λ s. s.now) result.0 ≡ space_word space }
+    ensures access { option_map (λ s. s.now) result.1 ≡ space_access_word space }
+{
+    match space {
+        AddressSpace::Private => (Some("private"), None),
+        AddressSpace::Uniform => (Some("uniform"), None),
+        AddressSpace::Storage { access } => (Some("storage"), buffer_access_str(access)),
+        AddressSpace::Handle => (None, None),
+        AddressSpace::Immediate => (Some("immediate"), None),
+        AddressSpace::WorkGroup => (Some("workgroup"), None),
+        AddressSpace::Function => (Some("function"), None),
+        AddressSpace::TaskPayload => (Some("task_payload"), None),
+        AddressSpace::IncomingRayPayload => (Some("incoming_ray_payload"), None),
+        AddressSpace::RayPayload => (Some("ray_payload"), None),
+    }
+}
+
+fn buffer_access_str(access: StorageAccess) -> Option<&'static str>
+    ensures { option_map (λ s. s.now) result ≡ buffer_access_word access }
+{
+    if access.contains(StorageAccess::ATOMIC) {
+        Some("atomic")
+    } else if access.contains(StorageAccess::STORE) {
+        Some("read_write")
+    } else {
+        None
+    }
+}
+
+/// WGSL's word for what may be done with a storage image.
+pub(crate) fn image_access_str(access: StorageAccess) -> &'static str
+    ensures { result.now ≡ image_access_word access }
+{
+    if access.contains(StorageAccess::ATOMIC) {
+        "atomic"
+    } else if access.contains(StorageAccess::LOAD) {
+        if access.contains(StorageAccess::STORE) {
+            "read_write"
+        } else {
+            "read"
+        }
+    } else {
+        "write"
     }
 }
