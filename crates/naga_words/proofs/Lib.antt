@@ -1,1 +1,2 @@
 pub mod Indentations
+pub mod PartTexts
