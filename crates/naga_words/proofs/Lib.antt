@@ -1,2 +1,3 @@
 pub mod Indentations
 pub mod PartTexts
+pub mod Arounds

@@ -33,6 +33,10 @@ begun_more_text (Missing ∷ ps) qs s NoParts = ([], NoParts)
 pub wrote_word : (w held now : List ℕ) → now ≡ held ++ w → HasWritten (Word w ∷ []) held now
 wrote_word w held now e = record { text = w ++ []; is_text = WordThen w NoParts; behind = e ∙ ap (λ v. held ++ v) (sym (append-nil w)) }
 
+-- a debug text was written
+pub wrote_shown : (d held now : List ℕ) → now ≡ held ++ d → HasWritten (Shown ∷ []) held now
+wrote_shown d held now e = record { text = d ++ []; is_text = ShownThen d NoParts; behind = e ∙ ap (λ v. held ++ v) (sym (append-nil d)) }
+
 -- parts were written, and then others
 pub wrote_more : (ps qs : List Part) (a b c : List ℕ) → HasWritten ps a b → HasWritten qs b c → HasWritten (ps ++ qs) a c
 wrote_more ps qs a b c p q = record {
@@ -51,6 +55,13 @@ begun_word w qs a b h = let r = some_text qs in record {
   is_text = WordThen w r.1;
   behind = (h.0, h.1 ++ r.0, ap (λ v. v ++ r.0) h.2 ∙ append_assoc h.0 h.1 r.0, h.3) }
 
+-- a beginning of a debug text was written
+pub begun_shown : (d : List ℕ) (qs : List Part) (a b : List ℕ) → IsBehind a d b → HasBegun (Shown ∷ qs) a b
+begun_shown d qs a b h = let r = some_text qs in record {
+  whole = d ++ r.0;
+  is_text = ShownThen d r.1;
+  behind = (h.0, h.1 ++ r.0, ap (λ v. v ++ r.0) h.2 ∙ append_assoc h.0 h.1 r.0, h.3) }
+
 -- parts were written, and then a beginning of others
 pub begun_behind : (ps qs : List Part) (a b c : List ℕ) → HasWritten ps a b → HasBegun qs b c → HasBegun (ps ++ qs) a c
 begun_behind ps qs a b c p q = record {
@@ -64,3 +75,12 @@ begun_before ps qs a b p = let r = begun_more_text ps qs p.whole p.is_text in re
   whole = p.whole ++ r.0;
   is_text = r.1;
   behind = (p.behind.0, p.behind.1 ++ r.0, ap (λ v. v ++ r.0) p.behind.2 ∙ append_assoc p.behind.0 p.behind.1 r.0, p.behind.3) }
+
+pub wrote_nothing : (a : List ℕ) → HasWritten [] a a
+wrote_nothing a = record { text = []; is_text = NoParts; behind = sym (append-nil a) }
+
+pub begun_written : (ps : List Part) (a b : List ℕ) → HasWritten ps a b → HasBegun ps a b
+begun_written ps a b p = record {
+  whole = p.text;
+  is_text = rw (sym (append-nil ps)) (rw (before_written [] p.is_text) (rw (append-nil ps) p.is_text));
+  behind = (p.text, [], sym (append-nil p.text), p.behind) }

@@ -15,6 +15,10 @@ pub data Part : Type 0 where
 abbrev pub shown_between : List ℕ → List ℕ → List Part
 shown_between head tail = Word head ∷ Shown ∷ Word tail ∷ []
 
+-- three words
+abbrev pub three : List ℕ → List ℕ → List ℕ → List Part
+three first second third = Word first ∷ Word second ∷ Word third ∷ []
+
 -- The bytes are a text of these parts. It says nothing of debug texts.
 pub data IsText : List Part → List ℕ → Type 0 where
   NoParts : IsText [] []

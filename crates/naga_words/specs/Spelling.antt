@@ -20,7 +20,7 @@ use Rattle.naga_ir.specs.declared.image.ImageClass.{ImageClass}
 use Rattle.naga_ir.specs.declared.image.ImageClass.TheVariants as class
 use Rattle.naga_ir.specs.declared.image.ImageDimension.{ImageDimension}
 use Rattle.naga_words.specs.Words.{scalar_word, space_word, space_access_word, image_access_word, role_word, dimension_word, format_word}
-use Rattle.naga_words.specs.Parts.{Part, Word, Shown, Missing, shown_between}
+use Rattle.naga_words.specs.Parts.{Part, Word, Shown, Missing, shown_between, three}
 
 -- how a context spells what is its own
 pub record Context : Type 0 where
@@ -60,10 +60,6 @@ scalar_parts_of refuses None kind = formless_scalar_parts refuses kind
 abbrev pub scalar_parts : Bool → Scalar → List Part
 scalar_parts refuses scalar = scalar_parts_of refuses (scalar_word scalar) scalar.kind
 
--- parts between two words
-abbrev pub around : List ℕ → List Part → List ℕ → List Part
-around head parts tail = Word head ∷ (parts ++ (Word tail ∷ []))
-
 -- the number in a vector's or a matrix's word
 abbrev pub size_text : VectorSize → List ℕ
 size_text Bi = codes "2"
@@ -85,8 +81,12 @@ matrix_word columns rows = codes "mat" ++ (size_text columns ++ (codes "x" ++ si
 abbrev pub cooperative_word : CooperativeSize → CooperativeSize → List ℕ
 cooperative_word columns rows = codes "coop_mat" ++ (cooperative_size_text columns ++ (codes "x" ++ cooperative_size_text rows))
 
+-- a word with a scalar in angle brackets, of which the tail has the closing one
+abbrev pub template_parts : List ℕ → List Part → List ℕ → List Part
+template_parts word parts tail = Word word ∷ Word (codes "<") ∷ (parts ++ (Word tail ∷ []))
+
 abbrev pub vector_parts : Bool → VectorSize → Scalar → List Part
-vector_parts refuses size scalar = around (vector_word size ++ codes "<") (scalar_parts refuses scalar) (codes ">")
+vector_parts refuses size scalar = template_parts (vector_word size) (scalar_parts refuses scalar) (codes ">")
 
 -- what a value pointer points to: one scalar, or a vector
 abbrev pub value_parts : Bool → Option VectorSize → Scalar → List Part
@@ -94,29 +94,32 @@ value_parts refuses None scalar = scalar_parts refuses scalar
 value_parts refuses (Some size) scalar = vector_parts refuses size scalar
 
 -- the end of a pointer, with what may be done through it where that has a word
-abbrev pub access_tail : Option (List ℕ) → List ℕ
-access_tail None = codes ">"
-access_tail (Some w) = codes ", " ++ (w ++ codes ">")
+abbrev pub access_parts : Option (List ℕ) → List Part
+access_parts None = Word (codes ">") ∷ []
+access_parts (Some w) = three (codes ", ") w (codes ">")
 
-abbrev pub pointer_head : List ℕ → List ℕ
-pointer_head space = codes "ptr<" ++ (space ++ codes ", ")
+-- a pointer in a space that has a word
+abbrev pub pointer_in : List ℕ → Option (List ℕ) → List Part → List Part
+pointer_in space access pointee = Word (codes "ptr<") ∷ Word space ∷ Word (codes ", ") ∷ (pointee ++ access_parts access)
 
 -- a pointer; where its space has no word, what it points to alone
 abbrev pub pointer_parts : Option (List ℕ) → Option (List ℕ) → List Part → List Part
 pointer_parts None access pointee = pointee
-pointer_parts (Some space) access pointee = around (pointer_head space) pointee (access_tail access)
+pointer_parts (Some space) access pointee = pointer_in space access pointee
 
 -- a pointer to a value; where its space has no word, it has no form
 abbrev pub value_pointer_parts : Bool → Option (List ℕ) → Option (List ℕ) → List Part → List Part
 value_pointer_parts refuses None access value = formless_parts refuses
-value_pointer_parts refuses (Some space) access value = around (pointer_head space) value (access_tail access)
+value_pointer_parts refuses (Some space) access value = pointer_in space access value
 
 -- an array of this word, by its length
+abbrev pub length_parts : Context → ArraySize → List Part
+length_parts c (size.Constant number) = three (codes ", ") (decimal (non_zero_u32_get number)) (codes ">")
+length_parts c (size.Pending override_handle) = Word (codes ", ") ∷ (c.override_parts override_handle ++ (Word (codes ">") ∷ []))
+length_parts c size.Dynamic = Word (codes ">") ∷ []
+
 abbrev pub array_parts : Context → List ℕ → List Part → ArraySize → List Part
-array_parts c word element (size.Constant number) = around (word ++ codes "<") element (codes ", " ++ (decimal (non_zero_u32_get number) ++ codes ">"))
-array_parts c word element (size.Pending override_handle) =
-    Word (word ++ codes "<") ∷ (element ++ (Word (codes ", ") ∷ (c.override_parts override_handle ++ (Word (codes ">") ∷ []))))
-array_parts c word element size.Dynamic = around (word ++ codes "<") element (codes ">")
+array_parts c word element size = Word word ∷ Word (codes "<") ∷ (element ++ length_parts c size)
 
 -- the words of images
 abbrev pub array_suffix : Bool → List ℕ
@@ -130,13 +133,21 @@ multisampled_prefix false = []
 abbrev pub image_word : List ℕ → Bool → ImageDimension → Bool → List ℕ
 image_word prefix multi dim arrayed = prefix ++ (multisampled_prefix multi ++ (dimension_word dim ++ array_suffix arrayed))
 
+-- a storage image, by its word, its format and what may be done with it; no blank stands behind the comma
+abbrev pub storage_image_parts : List ℕ → List ℕ → List ℕ → List Part
+storage_image_parts word format access = Word word ∷ Word (codes "<") ∷ Word format ∷ Word (codes ",") ∷ Word access ∷ Word (codes ">") ∷ []
+
 abbrev pub image_parts : Bool → ImageDimension → Bool → ImageClass → List Part
 image_parts refuses dim arrayed (class.Sampled kind multi) =
-    around (image_word (codes "texture_") multi dim arrayed ++ codes "<") (scalar_parts refuses (record { kind = kind; width = 4 })) (codes ">")
+    template_parts (image_word (codes "texture_") multi dim arrayed) (scalar_parts refuses (record { kind = kind; width = 4 })) (codes ">")
 image_parts refuses dim arrayed (class.Depth multi) = Word (image_word (codes "texture_depth_") multi dim arrayed) ∷ []
 image_parts refuses dim arrayed class.External = Word (codes "texture_external") ∷ []
 image_parts refuses dim arrayed (class.Storage format access) =
-    Word (image_word (codes "texture_storage_") false dim arrayed ++ (codes "<" ++ (format_word format ++ (codes "," ++ (image_access_word access ++ codes ">"))))) ∷ []
+    storage_image_parts (image_word (codes "texture_storage_") false dim arrayed) (format_word format) (image_access_word access)
+
+-- the end of a cooperative matrix; no blank stands behind the comma
+abbrev pub role_tail : CooperativeRole → List ℕ
+role_tail role = codes "," ++ (role_word role ++ codes ">")
 
 abbrev pub sampler_word : Bool → List ℕ
 sampler_word true = codes "sampler_comparison"
@@ -150,10 +161,10 @@ vertex_return_suffix false = []
 abbrev pub inner_parts_by : Context → (ℕ → List Part) → TypeInner → List Part
 inner_parts_by c f (inner.Scalar scalar) = scalar_parts c.refuses scalar
 inner_parts_by c f (inner.Vector size scalar) = vector_parts c.refuses size scalar
-inner_parts_by c f (inner.Matrix columns rows scalar) = around (matrix_word columns rows ++ codes "<") (scalar_parts c.refuses scalar) (codes ">")
+inner_parts_by c f (inner.Matrix columns rows scalar) = template_parts (matrix_word columns rows) (scalar_parts c.refuses scalar) (codes ">")
 inner_parts_by c f (inner.CooperativeMatrix columns rows scalar role) =
-    around (cooperative_word columns rows ++ codes "<") (scalar_parts c.refuses scalar) (codes "," ++ (role_word role ++ codes ">"))
-inner_parts_by c f (inner.Atomic scalar) = around (codes "atomic<") (scalar_parts c.refuses scalar) (codes ">")
+    template_parts (cooperative_word columns rows) (scalar_parts c.refuses scalar) (role_tail role)
+inner_parts_by c f (inner.Atomic scalar) = template_parts (codes "atomic") (scalar_parts c.refuses scalar) (codes ">")
 inner_parts_by c f (inner.Pointer base space) = pointer_parts (space_word space) (space_access_word space) (f base)
 inner_parts_by c f (inner.ValuePointer size scalar space) =
     value_pointer_parts c.refuses (space_word space) (space_access_word space) (value_parts c.refuses size scalar)
@@ -203,3 +214,7 @@ abbrev pub knows_override : Context → TypeInner → Bool
 knows_override c (inner.Array base size stride) = knows_size c size
 knows_override c (inner.BindingArray base size) = knows_size c size
 knows_override c _ = true
+
+abbrev pub is_struct : TypeInner → Bool
+is_struct (inner.Struct members span) = true
+is_struct _ = false

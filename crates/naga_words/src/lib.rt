@@ -4,7 +4,9 @@
 pub mod back;
 pub mod sink;
 pub mod to_wgsl;
+pub mod types;
 
 pub use back::{INDENT, Level};
 pub use sink::{SinkError, TextSink};
+pub use types::{TypeContext, TypeTextError};
 pub use to_wgsl::{ToWgsl, TryToWgsl, address_space_str};

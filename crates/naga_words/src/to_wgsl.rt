@@ -387,17 +387,42 @@ pub fn address_space_str(space: AddressSpace) -> (Option<&'static str>, Option<&
     ensures space { option_map (λ s. s.now) result.0 ≡ space_word space }
     ensures access { option_map (λ s. s.now) result.1 ≡ space_access_word space }
 {
+    (space_str(space), space_access_str(space))
+}
+
+/// WGSL's word for an address space.
+pub(crate) fn space_str(space: AddressSpace) -> Option<&'static str>
+    ensures { option_map (λ s. s.now) result ≡ space_word space }
+{
     match space {
-        AddressSpace::Private => (Some("private"), None),
-        AddressSpace::Uniform => (Some("uniform"), None),
-        AddressSpace::Storage { access } => (Some("storage"), buffer_access_str(access)),
-        AddressSpace::Handle => (None, None),
-        AddressSpace::Immediate => (Some("immediate"), None),
-        AddressSpace::WorkGroup => (Some("workgroup"), None),
-        AddressSpace::Function => (Some("function"), None),
-        AddressSpace::TaskPayload => (Some("task_payload"), None),
-        AddressSpace::IncomingRayPayload => (Some("incoming_ray_payload"), None),
-        AddressSpace::RayPayload => (Some("ray_payload"), None),
+        AddressSpace::Private => Some("private"),
+        AddressSpace::Uniform => Some("uniform"),
+        AddressSpace::Storage { .. } => Some("storage"),
+        AddressSpace::Handle => None,
+        AddressSpace::Immediate => Some("immediate"),
+        AddressSpace::WorkGroup => Some("workgroup"),
+        AddressSpace::Function => Some("function"),
+        AddressSpace::TaskPayload => Some("task_payload"),
+        AddressSpace::IncomingRayPayload => Some("incoming_ray_payload"),
+        AddressSpace::RayPayload => Some("ray_payload"),
+    }
+}
+
+/// WGSL's word for what may be done with what lives in an address space.
+pub(crate) fn space_access_str(space: AddressSpace) -> Option<&'static str>
+    ensures { option_map (λ s. s.now) result ≡ space_access_word space }
+{
+    match space {
+        AddressSpace::Storage { access } => buffer_access_str(access),
+        AddressSpace::Private
+        | AddressSpace::Uniform
+        | AddressSpace::Handle
+        | AddressSpace::Immediate
+        | AddressSpace::WorkGroup
+        | AddressSpace::Function
+        | AddressSpace::TaskPayload
+        | AddressSpace::IncomingRayPayload
+        | AddressSpace::RayPayload => None,
     }
 }
 
