@@ -1,3 +1,4 @@
 pub mod Indentations
 pub mod PartTexts
 pub mod Arounds
+pub mod Levels

@@ -1,6 +1,6 @@
 -- What a type is spelled as: its text, part by part, in a context that says how structs and overrides are named and
 -- whether what has no form is refused or shown in braces.
-use Rattle.std.specs.Prelude.{ℕ, zero, suc, ◌≤◌, ◌+◌, Bool, true, false, ◌&&◌, if◌then◌else◌, List, [], ◌∷◌, ◌++◌, Option, Some, None, codes, decimal, slice_get, length}
+use Rattle.std.specs.Prelude.{◌≡◌, ℕ, zero, suc, IsTrue, ◌≤◌, ◌+◌, Bool, true, false, ◌&&◌, if◌then◌else◌, List, [], ◌∷◌, ◌++◌, Option, Some, None, codes, decimal, slice_get, length}
 use Rattle.std.specs.Int.NonZero.{non_zero_u32_get}
 use Rattle.naga_ir.specs.declared.types.Type_.{Type_}
 use Rattle.naga_ir.specs.declared.types.TypeInner.{TypeInner}
@@ -112,12 +112,19 @@ abbrev pub value_pointer_parts : Bool → Option (List ℕ) → Option (List ℕ
 value_pointer_parts refuses None access value = formless_parts refuses
 value_pointer_parts refuses (Some space) access value = pointer_in space access value
 
--- an array of this word, by its length
+abbrev pub length_of_number : ℕ → List Part
+length_of_number number = three (codes ", ") (decimal number) (codes ">")
+
+abbrev pub length_of_override : List Part → List Part
+length_of_override name = Word (codes ", ") ∷ (name ++ (Word (codes ">") ∷ []))
+
+-- the length of an array, with the bracket that closes it
 abbrev pub length_parts : Context → ArraySize → List Part
-length_parts c (size.Constant number) = three (codes ", ") (decimal (non_zero_u32_get number)) (codes ">")
-length_parts c (size.Pending override_handle) = Word (codes ", ") ∷ (c.override_parts override_handle ++ (Word (codes ">") ∷ []))
+length_parts c (size.Constant number) = length_of_number (non_zero_u32_get number)
+length_parts c (size.Pending override_handle) = length_of_override (c.override_parts override_handle)
 length_parts c size.Dynamic = Word (codes ">") ∷ []
 
+-- an array of this word, by its length
 abbrev pub array_parts : Context → List ℕ → List Part → ArraySize → List Part
 array_parts c word element size = Word word ∷ Word (codes "<") ∷ (element ++ length_parts c size)
 
@@ -153,9 +160,14 @@ abbrev pub sampler_word : Bool → List ℕ
 sampler_word true = codes "sampler_comparison"
 sampler_word false = codes "sampler"
 
-abbrev pub vertex_return_suffix : Bool → List ℕ
-vertex_return_suffix true = codes "<vertex_return>"
-vertex_return_suffix false = []
+-- what rays are traced with, and with the vertices of a hit or without
+abbrev pub acceleration_structure_text : Bool → List ℕ
+acceleration_structure_text true = codes "acceleration_structure<vertex_return>"
+acceleration_structure_text false = codes "acceleration_structure"
+
+abbrev pub ray_query_text : Bool → List ℕ
+ray_query_text true = codes "ray_query<vertex_return>"
+ray_query_text false = codes "ray_query"
 
 -- a type by itself, with the spellings of the types that it names
 abbrev pub inner_parts_by : Context → (ℕ → List Part) → TypeInner → List Part
@@ -172,14 +184,17 @@ inner_parts_by c f (inner.Array base size stride) = array_parts c (codes "array"
 inner_parts_by c f (inner.Struct members span) = c.unnamed_parts
 inner_parts_by c f (inner.Image dim arrayed class) = image_parts c.refuses dim arrayed class
 inner_parts_by c f (inner.Sampler comparison) = Word (sampler_word comparison) ∷ []
-inner_parts_by c f (inner.AccelerationStructure vertex_return) = Word (codes "acceleration_structure" ++ vertex_return_suffix vertex_return) ∷ []
-inner_parts_by c f (inner.RayQuery vertex_return) = Word (codes "ray_query" ++ vertex_return_suffix vertex_return) ∷ []
+inner_parts_by c f (inner.AccelerationStructure vertex_return) = Word (acceleration_structure_text vertex_return) ∷ []
+inner_parts_by c f (inner.RayQuery vertex_return) = Word (ray_query_text vertex_return) ∷ []
 inner_parts_by c f (inner.BindingArray base size) = array_parts c (codes "binding_array") (f base) size
+
+abbrev pub is_struct : TypeInner → Bool
+is_struct (inner.Struct members span) = true
+is_struct _ = false
 
 -- the type at a handle: a struct by its name
 abbrev pub named_parts_by : Context → (ℕ → List Part) → ℕ → TypeInner → List Part
-named_parts_by c f handle (inner.Struct members span) = Word (c.name handle) ∷ []
-named_parts_by c f handle it = inner_parts_by c f it
+named_parts_by c f handle it = if is_struct it then Word (c.name handle) ∷ [] else inner_parts_by c f it
 
 abbrev pub found_parts_by : Context → (ℕ → List Part) → ℕ → Option Type_ → List Part
 found_parts_by c f handle None = []
@@ -215,6 +230,7 @@ knows_override c (inner.Array base size stride) = knows_size c size
 knows_override c (inner.BindingArray base size) = knows_size c size
 knows_override c _ = true
 
-abbrev pub is_struct : TypeInner → Bool
-is_struct (inner.Struct members span) = true
-is_struct _ = false
+-- A type's parts stand before it, and the context knows the overrides of their lengths.
+pub record IsInOrder (c : Context) : Type 0 where
+  pub before : (handle : ℕ) (t : Type_) → slice_get c.types handle ≡ Some t → end_of_base t.inner ≤ handle
+  pub known : (handle : ℕ) (t : Type_) → slice_get c.types handle ≡ Some t → IsTrue (knows_override c t.inner)

@@ -1,5 +1,5 @@
 -- What a type is read as, where it has a form: a syntax tree, by the names of structs and overrides.
-use Rattle.std.specs.Prelude.{ℕ, zero, suc, Bool, true, false, List, [], ◌∷◌, ◌++◌, Option, Some, None, codes, slice_get}
+use Rattle.std.specs.Prelude.{ℕ, zero, suc, Bool, true, false, if◌then◌else◌, List, [], ◌∷◌, ◌++◌, Option, Some, None, codes, slice_get}
 use Rattle.std.specs.Option.{option_map}
 use Rattle.std.specs.Int.NonZero.{non_zero_u32_get}
 use Rattle.wgsl_text.specs.Tree.{TypeSpecifier, Named, Template, TypeParts, NoParts, TypePart, SizePart}
@@ -14,7 +14,7 @@ use Rattle.naga_ir.specs.declared.image.ImageClass.{ImageClass}
 use Rattle.naga_ir.specs.declared.image.ImageClass.TheVariants as class
 use Rattle.naga_ir.specs.declared.image.ImageDimension.{ImageDimension}
 use Rattle.naga_words.specs.Words.{scalar_word, space_word, space_access_word, image_access_word, role_word, format_word}
-use Rattle.naga_words.specs.Spelling.{Context, vector_word, matrix_word, cooperative_word, image_word, sampler_word}
+use Rattle.naga_words.specs.Spelling.{Context, is_struct, vector_word, matrix_word, cooperative_word, image_word, sampler_word}
 use Rattle.naga_words.specs.Parts.{Word, Missing}
 
 -- types, and the names of structs and overrides by their handles
@@ -94,8 +94,7 @@ inner_tree_by n f (inner.BindingArray base size) = option_map (array_tree n (cod
 
 -- the type at a handle: a struct by its name
 abbrev pub named_tree_by : Names → (ℕ → Option TypeSpecifier) → ℕ → TypeInner → Option TypeSpecifier
-named_tree_by n f handle (inner.Struct members span) = Some (Named (n.struct_name handle))
-named_tree_by n f handle it = inner_tree_by n f it
+named_tree_by n f handle it = if is_struct it then Some (Named (n.struct_name handle)) else inner_tree_by n f it
 
 abbrev pub found_tree_by : Names → (ℕ → Option TypeSpecifier) → ℕ → Option Type_ → Option TypeSpecifier
 found_tree_by n f handle None = None

@@ -7,6 +7,7 @@ ghost use Rattle.naga_words.specs.Spelling.{Context, is_struct};
 
 pub(crate) mod words;
 pub(crate) mod scalars;
+pub(crate) mod spelling;
 
 use crate::sink::{SinkError, TextSink};
 use naga_ir::{Handle, Override, Type_, TypeInner};

@@ -1,7 +1,7 @@
 //! Words that types begin with.
 
-ghost use Rattle.std.specs.Prelude.{◌≡◌, ◌++◌, codes, false};
-ghost use Rattle.naga_words.specs.Spelling.{vector_word, matrix_word, cooperative_word, image_word, role_tail, sampler_word, vertex_return_suffix};
+ghost use Rattle.std.specs.Prelude.{◌≡◌, codes, false};
+ghost use Rattle.naga_words.specs.Spelling.{vector_word, matrix_word, cooperative_word, image_word, role_tail, sampler_word, acceleration_structure_text, ray_query_text};
 
 use naga_ir::{CooperativeRole, CooperativeSize, ImageDimension, VectorSize};
 
@@ -130,7 +130,7 @@ pub(crate) fn sampler_str(comparison: bool) -> &'static str
 }
 
 pub(crate) fn acceleration_structure_str(vertex_return: bool) -> &'static str
-    ensures { result.now ≡ codes "acceleration_structure" ++ vertex_return_suffix vertex_return }
+    ensures { result.now ≡ acceleration_structure_text vertex_return }
 {
     if vertex_return {
         "acceleration_structure<vertex_return>"
@@ -140,7 +140,7 @@ pub(crate) fn acceleration_structure_str(vertex_return: bool) -> &'static str
 }
 
 pub(crate) fn ray_query_str(vertex_return: bool) -> &'static str
-    ensures { result.now ≡ codes "ray_query" ++ vertex_return_suffix vertex_return }
+    ensures { result.now ≡ ray_query_text vertex_return }
 {
     if vertex_return {
         "ray_query<vertex_return>"
