@@ -7,7 +7,9 @@
 pub mod acceptance;
 pub mod counts;
 pub mod info;
+pub mod rules;
 
 pub use acceptance::accepts;
 pub use counts::count;
 pub use info::{ExpressionInfo, FunctionInfo, ModuleInfo, TypeResolution};
+pub use rules::{Conclusion, GlobalCtx, Rule};

@@ -42,7 +42,8 @@ pub wrote_more : (ps qs : List Part) (a b c : List ℕ) → HasWritten ps a b �
 wrote_more ps qs a b c p q = record {
   text = p.text ++ q.text;
   is_text = text_append p.is_text q.is_text;
-  behind = q.behind ∙ (ap (λ v. v ++ q.text) p.behind ∙ append_assoc a p.text q.text) }
+  behind = q.behind ∙ (ap (λ v. v ++ q.text) p.behind ∙ append_assoc a p.text q.text);
+}
 
 -- nothing was written
 pub begun_nothing : (ps : List Part) (a : List ℕ) → HasBegun ps a a
@@ -53,28 +54,32 @@ pub begun_word : (w : List ℕ) (qs : List Part) (a b : List ℕ) → IsBehind a
 begun_word w qs a b h = let r = some_text qs in record {
   whole = w ++ r.0;
   is_text = WordThen w r.1;
-  behind = (h.0, h.1 ++ r.0, ap (λ v. v ++ r.0) h.2 ∙ append_assoc h.0 h.1 r.0, h.3) }
+  behind = (h.0, h.1 ++ r.0, ap (λ v. v ++ r.0) h.2 ∙ append_assoc h.0 h.1 r.0, h.3);
+}
 
 -- a beginning of a debug text was written
 pub begun_shown : (d : List ℕ) (qs : List Part) (a b : List ℕ) → IsBehind a d b → HasBegun (Shown ∷ qs) a b
 begun_shown d qs a b h = let r = some_text qs in record {
   whole = d ++ r.0;
   is_text = ShownThen d r.1;
-  behind = (h.0, h.1 ++ r.0, ap (λ v. v ++ r.0) h.2 ∙ append_assoc h.0 h.1 r.0, h.3) }
+  behind = (h.0, h.1 ++ r.0, ap (λ v. v ++ r.0) h.2 ∙ append_assoc h.0 h.1 r.0, h.3);
+}
 
 -- parts were written, and then a beginning of others
 pub begun_behind : (ps qs : List Part) (a b c : List ℕ) → HasWritten ps a b → HasBegun qs b c → HasBegun (ps ++ qs) a c
 begun_behind ps qs a b c p q = record {
   whole = p.text ++ q.whole;
   is_text = rw (before_written qs p.is_text) (text_append p.is_text q.is_text);
-  behind = (p.text ++ q.behind.0, q.behind.1, ap (λ v. p.text ++ v) q.behind.2 ∙ sym (append_assoc p.text q.behind.0 q.behind.1), q.behind.3 ∙ (ap (λ v. v ++ q.behind.0) p.behind ∙ append_assoc a p.text q.behind.0)) }
+  behind = (p.text ++ q.behind.0, q.behind.1, ap (λ v. p.text ++ v) q.behind.2 ∙ sym (append_assoc p.text q.behind.0 q.behind.1), q.behind.3 ∙ (ap (λ v. v ++ q.behind.0) p.behind ∙ append_assoc a p.text q.behind.0));
+}
 
 -- a beginning of parts is one of these and more
 pub begun_before : (ps qs : List Part) (a b : List ℕ) → HasBegun ps a b → HasBegun (ps ++ qs) a b
 begun_before ps qs a b p = let r = begun_more_text ps qs p.whole p.is_text in record {
   whole = p.whole ++ r.0;
   is_text = r.1;
-  behind = (p.behind.0, p.behind.1 ++ r.0, ap (λ v. v ++ r.0) p.behind.2 ∙ append_assoc p.behind.0 p.behind.1 r.0, p.behind.3) }
+  behind = (p.behind.0, p.behind.1 ++ r.0, ap (λ v. v ++ r.0) p.behind.2 ∙ append_assoc p.behind.0 p.behind.1 r.0, p.behind.3);
+}
 
 pub wrote_nothing : (a : List ℕ) → HasWritten [] a a
 wrote_nothing a = record { text = []; is_text = NoParts; behind = sym (append-nil a) }
@@ -83,4 +88,5 @@ pub begun_written : (ps : List Part) (a b : List ℕ) → HasWritten ps a b → 
 begun_written ps a b p = record {
   whole = p.text;
   is_text = rw (sym (append-nil ps)) (rw (before_written [] p.is_text) (rw (append-nil ps) p.is_text));
-  behind = (p.text, [], sym (append-nil p.text), p.behind) }
+  behind = (p.text, [], sym (append-nil p.text), p.behind);
+}

@@ -5,3 +5,4 @@ pub mod Diagnostics
 pub mod Parts
 pub mod Spelling
 pub mod Trees
+pub mod Contexts

@@ -1,5 +1,6 @@
 -- Texts in parts: words, debug texts, and what a context refuses.
-use Rattle.std.specs.Prelude.{◌≡◌, ℕ, Bool, true, false, List, [], ◌∷◌, ◌++◌, IsTrue}
+use Rattle.std.specs.Prelude.{◌≡◌, ℕ, Bool, true, false, List, [], ◌∷◌, ◌++◌, Option, Some, None}
+use Rattle.std.specs.Option.{option_map}
 use Rattle.naga_words.specs.Sink.{IsBehind}
 
 -- a part of a spelling
@@ -24,6 +25,12 @@ pub data IsText : List Part → List ℕ → Type 0 where
   NoParts : IsText [] []
   WordThen : (word : List ℕ) {parts : List Part} {bytes : List ℕ} → IsText parts bytes → IsText (Word word ∷ parts) (word ++ bytes)
   ShownThen : (debug : List ℕ) {parts : List Part} {bytes : List ℕ} → IsText parts bytes → IsText (Shown ∷ parts) (debug ++ bytes)
+
+-- the text of parts that are words alone
+abbrev pub known_text : List Part → Option (List ℕ)
+known_text [] = Some []
+known_text (Word word ∷ parts) = option_map (λ bytes. word ++ bytes) (known_text parts)
+known_text (_ ∷ parts) = None
 
 -- Is a part of it refused?
 abbrev pub lacks : List Part → Bool

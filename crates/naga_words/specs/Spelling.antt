@@ -1,6 +1,6 @@
 -- What a type is spelled as: its text, part by part, in a context that says how structs and overrides are named and
 -- whether what has no form is refused or shown in braces.
-use Rattle.std.specs.Prelude.{◌≡◌, ℕ, zero, suc, IsTrue, ◌≤◌, ◌+◌, Bool, true, false, ◌&&◌, if◌then◌else◌, List, [], ◌∷◌, ◌++◌, Option, Some, None, codes, decimal, slice_get, length}
+use Rattle.std.specs.Prelude.{◌≡◌, ℕ, zero, suc, IsTrue, ◌≤◌, ◌<◌, ◌+◌, Bool, true, false, ◌&&◌, if◌then◌else◌, List, [], ◌∷◌, ◌++◌, Option, Some, None, codes, decimal, slice_get, length}
 use Rattle.std.specs.Int.NonZero.{non_zero_u32_get}
 use Rattle.naga_ir.specs.declared.types.Type_.{Type_}
 use Rattle.naga_ir.specs.declared.types.TypeInner.{TypeInner}
@@ -19,6 +19,9 @@ use Rattle.naga_ir.specs.declared.types.ScalarKind.TheVariants.{AbstractInt, Abs
 use Rattle.naga_ir.specs.declared.image.ImageClass.{ImageClass}
 use Rattle.naga_ir.specs.declared.image.ImageClass.TheVariants as class
 use Rattle.naga_ir.specs.declared.image.ImageDimension.{ImageDimension}
+use Rattle.naga_info.specs.declared.info.TypeResolution.{TypeResolution}
+use Rattle.naga_info.specs.declared.info.TypeResolution.TheVariants.{Handle, Value}
+use Rattle.std.specs.Option.{is_none}
 use Rattle.naga_words.specs.Words.{scalar_word, space_word, space_access_word, image_access_word, role_word, dimension_word, format_word}
 use Rattle.naga_words.specs.Parts.{Part, Word, Shown, Missing, shown_between, three}
 
@@ -197,12 +200,12 @@ abbrev pub named_parts_by : Context → (ℕ → List Part) → ℕ → TypeInne
 named_parts_by c f handle it = if is_struct it then Word (c.name handle) ∷ [] else inner_parts_by c f it
 
 abbrev pub found_parts_by : Context → (ℕ → List Part) → ℕ → Option Type_ → List Part
-found_parts_by c f handle None = []
+found_parts_by c f handle None = Missing ∷ []
 found_parts_by c f handle (Some t) = named_parts_by c f handle t.inner
 
 -- the type at a handle, at most so many levels deep
 abbrev pub parts_within : ℕ → Context → ℕ → List Part
-parts_within zero c handle = []
+parts_within zero c handle = Missing ∷ []
 parts_within (suc levels) c handle = found_parts_by c (parts_within levels c) handle (slice_get c.types handle)
 
 -- the spelling of the type at a handle, whose parts stand before it
@@ -229,6 +232,25 @@ abbrev pub knows_override : Context → TypeInner → Bool
 knows_override c (inner.Array base size stride) = knows_size c size
 knows_override c (inner.BindingArray base size) = knows_size c size
 knows_override c _ = true
+
+-- a value pointer in a space without a word
+abbrev pub is_formless_pointer : TypeInner → Bool
+is_formless_pointer (inner.ValuePointer size scalar space) = is_none (space_word space)
+is_formless_pointer _ = false
+
+-- the type of an expression: one of the context's, or one by itself
+abbrev pub resolution_parts : Context → TypeResolution → List Part
+resolution_parts c (Handle handle) = type_parts c handle
+resolution_parts c (Value it) = inner_parts c it
+
+-- What a type by itself names is known to the context.
+pub record Fits (c : Context) (it : TypeInner) : Type 0 where
+  pub in_range : end_of_base it ≤ length c.types
+  pub knows : IsTrue (knows_override c it)
+
+abbrev pub FitsResolution : Context → TypeResolution → Type 0
+FitsResolution c (Handle handle) = handle < length c.types
+FitsResolution c (Value it) = Fits c it
 
 -- A type's parts stand before it, and the context knows the overrides of their lengths.
 pub record IsInOrder (c : Context) : Type 0 where

@@ -121,4 +121,5 @@ writer_context n knows = record {
   knows = knows;
   override_parts = λ handle. Word (n.override_name handle) ∷ [];
   unnamed_parts = Missing ∷ [];
-  refuses = true }
+  refuses = true;
+}

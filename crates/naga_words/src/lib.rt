@@ -8,5 +8,5 @@ pub mod types;
 
 pub use back::{INDENT, Level};
 pub use sink::{SinkError, TextSink};
-pub use types::{TypeContext, TypeTextError};
 pub use to_wgsl::{ToWgsl, TryToWgsl, address_space_str};
+pub use types::{TypeContext, TypeTextError, WriterTypeContext};

@@ -1,16 +1,22 @@
 //! How types are spelled, in a context that names what they are made of.
 
-ghost use Rattle.std.specs.Prelude.{◌≡◌, ℕ, ◌<◌, true, List, length, OnOk, IsErrOf, IsTrue, slice_get, Some};
+ghost use Rattle.std.specs.Prelude.{◌≡◌, ℕ, ◌<◌, true, List, length, None, IfOk, string_bytes, OnOk, IsErrOf, IsTrue, slice_get, Some};
 ghost use Rattle.naga_words.specs.declared.types.TypeTextError.TheVariants as error;
-ghost use Rattle.naga_words.specs.Parts.{HasWritten, HasBegun, lacks};
-ghost use Rattle.naga_words.specs.Spelling.{Context, is_struct};
+ghost use Rattle.naga_words.specs.Parts.{HasWritten, HasBegun, IsText, lacks};
+ghost use Rattle.naga_words.specs.Words.{scalar_word};
+ghost use Rattle.naga_words.specs.Spelling.{Context, Fits, FitsResolution, IsInOrder, is_struct, is_formless_pointer, formless_parts, inner_parts, formless_scalar_parts, scalar_parts, type_parts, resolution_parts};
 
-pub(crate) mod words;
+pub mod contexts;
 pub(crate) mod scalars;
 pub(crate) mod spelling;
+pub(crate) mod words;
 
 use crate::sink::{SinkError, TextSink};
-use naga_ir::{Handle, Override, Type_, TypeInner};
+use crate::types::scalars::{write_formless_scalar, write_scalar_in};
+use crate::types::spelling::{write_formless_inner, write_inner_in, write_type_in};
+pub use contexts::WriterTypeContext;
+use naga_info::TypeResolution;
+use naga_ir::{Handle, Override, Scalar, Type_, TypeInner};
 use std::alloc::{AllocError, Global};
 use thiserror::Error;
 
@@ -91,4 +97,146 @@ pub trait TypeContext {
     /// Whether a type without a form is refused. Otherwise it is shown in braces.
     fn refuses(&self) -> bool
         ensures { result ≡ (context self.now).refuses };
+
+    /// Writes a type without a form, a value pointer in a space without a word, in braces, or refuses
+    /// it.
+    final fn write_non_wgsl_inner<W: TextSink>(
+        &self,
+        alloc: Global,
+        inner: &TypeInner,
+        out: &mut W,
+    ) -> Result<(), TypeTextError>
+        requires { IsTrue (is_formless_pointer inner.now) }
+        ensures written { OnOk result (HasWritten (formless_parts (context self.now).refuses) (W.text out.old) (W.text out.new)) }
+        ensures begun { HasBegun (formless_parts (context self.now).refuses) (W.text out.old) (W.text out.new) }
+        ensures no_form { IsErrOf result error.NoForm → ((context self.now).refuses ≡ true) × (lacks (formless_parts (context self.now).refuses) ≡ true) }
+        ensures failures_ok { OnOk result (W.failures out.new ≡ W.failures out.old) }
+        ensures failed { IsErrOf result (error.Sink SinkError.Failed) → W.failures out.old < W.failures out.new }
+    {
+        write_formless_inner(self, alloc, inner, out)
+    }
+
+    /// Writes a type by itself. A struct needs its handle; one by itself is written as an unnamed one.
+    final fn write_type_inner<W: TextSink>(
+        &self,
+        alloc: Global,
+        inner: &TypeInner,
+        out: &mut W,
+    ) -> Result<(), TypeTextError>
+        requires order { IsInOrder (context self.now) }
+        requires fits { Fits (context self.now) inner.now }
+        ensures written { OnOk result (HasWritten (inner_parts (context self.now) inner.now) (W.text out.old) (W.text out.new)) }
+        ensures begun { HasBegun (inner_parts (context self.now) inner.now) (W.text out.old) (W.text out.new) }
+        ensures no_form { IsErrOf result error.NoForm → ((context self.now).refuses ≡ true) × (lacks (inner_parts (context self.now) inner.now) ≡ true) }
+        ensures failures_ok { OnOk result (W.failures out.new ≡ W.failures out.old) }
+        ensures failed { IsErrOf result (error.Sink SinkError.Failed) → W.failures out.old < W.failures out.new }
+    {
+        write_inner_in(self, alloc, inner, out)
+    }
+
+    /// Writes a scalar without a word in braces, or refuses it.
+    final fn write_non_wgsl_scalar<W: TextSink>(
+        &self,
+        alloc: Global,
+        scalar: Scalar,
+        out: &mut W,
+    ) -> Result<(), TypeTextError>
+        requires { scalar_word scalar ≡ None }
+        ensures written { OnOk result (HasWritten (formless_scalar_parts (context self.now).refuses scalar.kind) (W.text out.old) (W.text out.new)) }
+        ensures begun { HasBegun (formless_scalar_parts (context self.now).refuses scalar.kind) (W.text out.old) (W.text out.new) }
+        ensures no_form { IsErrOf result error.NoForm → ((context self.now).refuses ≡ true) × (lacks (formless_scalar_parts (context self.now).refuses scalar.kind) ≡ true) }
+        ensures failures_ok { OnOk result (W.failures out.new ≡ W.failures out.old) }
+        ensures failed { IsErrOf result (error.Sink SinkError.Failed) → W.failures out.old < W.failures out.new }
+    {
+        write_formless_scalar(self, alloc, scalar, out)
+    }
+
+    /// Writes a scalar.
+    final fn write_scalar<W: TextSink>(
+        &self,
+        alloc: Global,
+        scalar: Scalar,
+        out: &mut W,
+    ) -> Result<(), TypeTextError>
+        ensures written { OnOk result (HasWritten (scalar_parts (context self.now).refuses scalar) (W.text out.old) (W.text out.new)) }
+        ensures begun { HasBegun (scalar_parts (context self.now).refuses scalar) (W.text out.old) (W.text out.new) }
+        ensures no_form { IsErrOf result error.NoForm → ((context self.now).refuses ≡ true) × (lacks (scalar_parts (context self.now).refuses scalar) ≡ true) }
+        ensures failures_ok { OnOk result (W.failures out.new ≡ W.failures out.old) }
+        ensures failed { IsErrOf result (error.Sink SinkError.Failed) → W.failures out.old < W.failures out.new }
+    {
+        write_scalar_in(self, alloc, scalar, out)
+    }
+
+    /// Writes the type at a handle, which lies in the context's types: a struct by its name.
+    final fn write_type<W: TextSink>(
+        &self,
+        alloc: Global,
+        handle: Handle<Type_>,
+        out: &mut W,
+    ) -> Result<(), TypeTextError>
+        requires order { IsInOrder (context self.now) }
+        requires in_range { handle < length (context self.now).types }
+        ensures written { OnOk result (HasWritten (type_parts (context self.now) handle) (W.text out.old) (W.text out.new)) }
+        ensures begun { HasBegun (type_parts (context self.now) handle) (W.text out.old) (W.text out.new) }
+        ensures no_form { IsErrOf result error.NoForm → ((context self.now).refuses ≡ true) × (lacks (type_parts (context self.now) handle) ≡ true) }
+        ensures failures_ok { OnOk result (W.failures out.new ≡ W.failures out.old) }
+        ensures failed { IsErrOf result (error.Sink SinkError.Failed) → W.failures out.old < W.failures out.new }
+    {
+        write_type_in(self, alloc, handle, out)
+    }
+
+    /// Writes the type of an expression.
+    final fn write_type_resolution<W: TextSink>(
+        &self,
+        alloc: Global,
+        resolution: &TypeResolution,
+        out: &mut W,
+    ) -> Result<(), TypeTextError>
+        requires order { IsInOrder (context self.now) }
+        requires fits { FitsResolution (context self.now) resolution.now }
+        ensures written { OnOk result (HasWritten (resolution_parts (context self.now) resolution.now) (W.text out.old) (W.text out.new)) }
+        ensures begun { HasBegun (resolution_parts (context self.now) resolution.now) (W.text out.old) (W.text out.new) }
+        ensures no_form { IsErrOf result error.NoForm → ((context self.now).refuses ≡ true) × (lacks (resolution_parts (context self.now) resolution.now) ≡ true) }
+        ensures failures_ok { OnOk result (W.failures out.new ≡ W.failures out.old) }
+        ensures failed { IsErrOf result (error.Sink SinkError.Failed) → W.failures out.old < W.failures out.new }
+    {
+        match resolution {
+            TypeResolution::Handle(handle) => write_type_in(self, alloc, *handle, out),
+            TypeResolution::Value(inner) => write_inner_in(self, alloc, inner, out),
+        }
+    }
+
+    /// The text of the type at a handle, which lies in the context's types.
+    final fn type_to_string(
+        &self,
+        alloc: Global,
+        handle: Handle<Type_>,
+    ) -> Result<String, TypeTextError>
+        requires order { IsInOrder (context self.now) }
+        requires in_range { handle < length (context self.now).types }
+        ensures text { IfOk result (λ text. IsText (type_parts (context self.now) handle) (string_bytes text)) }
+        ensures no_form { IsErrOf result error.NoForm → ((context self.now).refuses ≡ true) × (lacks (type_parts (context self.now) handle) ≡ true) }
+        ensures no_failure { IsErrOf result (error.Sink SinkError.Failed) → ⊥ }
+    {
+        let mut text = String::new(alloc);
+        self.write_type(alloc, handle, &mut text)?;
+        Ok(text)
+    }
+
+    /// The text of the type of an expression.
+    final fn type_resolution_to_string(
+        &self,
+        alloc: Global,
+        resolution: &TypeResolution,
+    ) -> Result<String, TypeTextError>
+        requires order { IsInOrder (context self.now) }
+        requires fits { FitsResolution (context self.now) resolution.now }
+        ensures text { IfOk result (λ text. IsText (resolution_parts (context self.now) resolution.now) (string_bytes text)) }
+        ensures no_form { IsErrOf result error.NoForm → ((context self.now).refuses ≡ true) × (lacks (resolution_parts (context self.now) resolution.now) ≡ true) }
+        ensures no_failure { IsErrOf result (error.Sink SinkError.Failed) → ⊥ }
+    {
+        let mut text = String::new(alloc);
+        self.write_type_resolution(alloc, resolution, &mut text)?;
+        Ok(text)
+    }
 }

@@ -20,8 +20,8 @@ use crate::types::words::{
 };
 use crate::types::{TypeContext, TypeTextError};
 use naga_ir::{
-    AddressSpace, ArraySize, Handle, ImageClass, ImageDimension, Override, Scalar, ScalarKind, Type_,
-    TypeInner, VectorSize,
+    AddressSpace, ArraySize, Handle, ImageClass, ImageDimension, Override, Scalar, ScalarKind,
+    Type_, TypeInner, VectorSize,
 };
 use std::alloc::Global;
 use std::num::NonZeroU32;
@@ -313,10 +313,26 @@ pub(crate) fn write_inner_in<C: TypeContext, W: TextSink>(
         TypeInner::Vector { size, scalar } => {
             write_template(context, alloc, vector_str(*size), *scalar, ">", out)
         }
-        TypeInner::Matrix { columns, rows, scalar } => {
-            write_template(context, alloc, matrix_str(*columns, *rows), *scalar, ">", out)
+        TypeInner::Matrix {
+            columns,
+            rows,
+            scalar,
+        } => {
+            write_template(
+                context,
+                alloc,
+                matrix_str(*columns, *rows),
+                *scalar,
+                ">",
+                out,
+            )
         }
-        TypeInner::CooperativeMatrix { columns, rows, scalar, role } => write_template(
+        TypeInner::CooperativeMatrix {
+            columns,
+            rows,
+            scalar,
+            role,
+        } => write_template(
             context,
             alloc,
             cooperative_str(*columns, *rows),
@@ -326,16 +342,20 @@ pub(crate) fn write_inner_in<C: TypeContext, W: TextSink>(
         ),
         TypeInner::Atomic(scalar) => write_template(context, alloc, "atomic", *scalar, ">", out),
         TypeInner::Pointer { base, space } => write_pointer(context, alloc, *base, *space, out),
-        TypeInner::ValuePointer { size, scalar, space } => {
-            write_value_pointer(context, alloc, inner, *size, *scalar, *space, out)
-        }
+        TypeInner::ValuePointer {
+            size,
+            scalar,
+            space,
+        } => { write_value_pointer(context, alloc, inner, *size, *scalar, *space, out) }
         TypeInner::Array { base, size, .. } => {
             write_array(context, alloc, "array", *base, *size, out)
         }
         TypeInner::Struct { .. } => context.write_unnamed_struct(alloc, inner, out),
-        TypeInner::Image { dim, arrayed, class } => {
-            write_image(context, alloc, *dim, *arrayed, *class, out)
-        }
+        TypeInner::Image {
+            dim,
+            arrayed,
+            class,
+        } => { write_image(context, alloc, *dim, *arrayed, *class, out) }
         TypeInner::Sampler { comparison } => write_word(sampler_str(*comparison), out),
         TypeInner::AccelerationStructure { vertex_return } => {
             write_word(acceleration_structure_str(*vertex_return), out)
@@ -389,5 +409,11 @@ pub(crate) fn write_type_in<C: TypeContext, W: TextSink>(
     ensures failures_ok { OnOk result (W.failures out.new ≡ W.failures out.old) }
     ensures failed { IsErrOf result (error.Sink SinkError.Failed) → W.failures out.old < W.failures out.new }
 {
-    write_named(context, alloc, handle, &context.lookup_type(handle).inner, out)
+    write_named(
+        context,
+        alloc,
+        handle,
+        &context.lookup_type(handle).inner,
+        out,
+    )
 }
