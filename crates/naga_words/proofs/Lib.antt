@@ -2,3 +2,4 @@ pub mod Indentations
 pub mod PartTexts
 pub mod Arounds
 pub mod Levels
+pub mod Forms

@@ -7,6 +7,7 @@ ghost use Rattle.naga_words.specs.Words.{scalar_word};
 ghost use Rattle.naga_words.specs.Spelling.{Context, Fits, FitsResolution, IsInOrder, is_struct, is_formless_pointer, formless_parts, inner_parts, formless_scalar_parts, scalar_parts, type_parts, resolution_parts};
 
 pub mod contexts;
+pub mod laws;
 pub(crate) mod scalars;
 pub(crate) mod spelling;
 pub(crate) mod words;
