@@ -3,3 +3,4 @@ pub mod PartTexts
 pub mod Arounds
 pub mod Levels
 pub mod Forms
+pub mod Orders

@@ -1,6 +1,6 @@
 -- What a type is spelled as: its text, part by part, in a context that says how structs and overrides are named and
 -- whether what has no form is refused or shown in braces.
-use Rattle.std.specs.Prelude.{◌≡◌, ℕ, zero, suc, IsTrue, ◌≤◌, ◌<◌, ◌+◌, Bool, true, false, ◌&&◌, if◌then◌else◌, List, [], ◌∷◌, ◌++◌, Option, Some, None, codes, decimal, slice_get, length}
+use Rattle.std.specs.Prelude.{◌≡◌, ℕ, zero, suc, IsTrue, nat_lt, ◌≤◌, ◌<◌, ◌+◌, Bool, true, false, ◌&&◌, if◌then◌else◌, List, [], ◌∷◌, ◌++◌, Option, Some, None, codes, decimal, slice_get, length}
 use Rattle.std.specs.Int.NonZero.{non_zero_u32_get}
 use Rattle.naga_ir.specs.declared.types.Type_.{Type_}
 use Rattle.naga_ir.specs.declared.types.TypeInner.{TypeInner}
@@ -256,3 +256,18 @@ FitsResolution c (Value it) = Fits c it
 pub record IsInOrder (c : Context) : Type 0 where
   pub before : (handle : ℕ) (t : Type_) → slice_get c.types handle ≡ Some t → end_of_base t.inner ≤ handle
   pub known : (handle : ℕ) (t : Type_) → slice_get c.types handle ≡ Some t → IsTrue (knows_override c t.inner)
+
+-- Is the override of the length one of so many?
+abbrev pub size_within : ℕ → ArraySize → Bool
+size_within overrides (size.Pending override_handle) = nat_lt override_handle overrides
+size_within overrides _ = true
+
+abbrev pub length_within : ℕ → TypeInner → Bool
+length_within overrides (inner.Array base size stride) = size_within overrides size
+length_within overrides (inner.BindingArray base size) = size_within overrides size
+length_within overrides _ = true
+
+-- A type names types before the first so many and overrides of so many.
+pub record StandsBehind (types overrides : ℕ) (it : TypeInner) : Type 0 where
+  pub before : end_of_base it ≤ types
+  pub known : IsTrue (length_within overrides it)

@@ -8,6 +8,7 @@ ghost use Rattle.naga_words.specs.Spelling.{Context, Fits, FitsResolution, IsInO
 
 pub mod contexts;
 pub mod laws;
+pub mod order;
 pub(crate) mod scalars;
 pub(crate) mod spelling;
 pub(crate) mod words;
@@ -16,6 +17,7 @@ use crate::sink::{SinkError, TextSink};
 use crate::types::scalars::{write_formless_scalar, write_scalar_in};
 use crate::types::spelling::{write_formless_inner, write_inner_in, write_type_in};
 pub use contexts::WriterTypeContext;
+pub use order::{type_fits, types_in_order};
 use naga_info::TypeResolution;
 use naga_ir::{Handle, Override, Scalar, Type_, TypeInner};
 use std::alloc::{AllocError, Global};
