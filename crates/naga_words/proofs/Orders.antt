@@ -23,7 +23,8 @@ knows_each c all _ = refl
 pub all_known : (c : Context) → ((h : ℕ) → IsTrue (c.knows h)) → (overrides : ℕ) → ((handle : ℕ) (t : Type_) → handle < length c.types → slice_get c.types handle ≡ Some t → StandsBehind handle overrides t.inner) → ((handle : ℕ) (t : Type_) → slice_get c.types handle ≡ Some t → handle < length c.types) → IsInOrder c
 all_known c all overrides behind found = record {
   before = λ handle t is. (behind handle t (found handle t is) is).before;
-  known = λ handle t is. knows_each c all t.inner }
+  known = λ handle t is. knows_each c all t.inner;
+}
 
 knows_size_within : (c : Context) (overrides : ℕ) → ((h : ℕ) → c.knows h ≡ size_within overrides (size.Pending h)) → (it : ArraySize) → IsTrue (size_within overrides it) → IsTrue (knows_size c it)
 knows_size_within c overrides same (size.Constant number) k = refl
@@ -39,7 +40,8 @@ knows_within c overrides same _ k = refl
 pub so_many_known : (c : Context) (overrides : ℕ) → ((h : ℕ) → c.knows h ≡ size_within overrides (size.Pending h)) → ((handle : ℕ) (t : Type_) → handle < length c.types → slice_get c.types handle ≡ Some t → StandsBehind handle overrides t.inner) → ((handle : ℕ) (t : Type_) → slice_get c.types handle ≡ Some t → handle < length c.types) → IsInOrder c
 so_many_known c overrides same behind found = record {
   before = λ handle t is. (behind handle t (found handle t is) is).before;
-  known = λ handle t is. knows_within c overrides same t.inner (behind handle t (found handle t is) is).known }
+  known = λ handle t is. knows_within c overrides same t.inner (behind handle t (found handle t is) is).known;
+}
 
 -- one type more
 pub one_more : (types : List Type_) (n overrides : ℕ) (here : Type_) → slice_get types n ≡ Some here → StandsBehind n overrides here.inner →

@@ -11,15 +11,17 @@ pub mod laws;
 pub mod order;
 pub(crate) mod scalars;
 pub(crate) mod spelling;
+#[cfg(test)]
+mod tests;
 pub(crate) mod words;
 
 use crate::sink::{SinkError, TextSink};
 use crate::types::scalars::{write_formless_scalar, write_scalar_in};
 use crate::types::spelling::{write_formless_inner, write_inner_in, write_type_in};
 pub use contexts::WriterTypeContext;
-pub use order::{type_fits, types_in_order};
 use naga_info::TypeResolution;
 use naga_ir::{Handle, Override, Scalar, Type_, TypeInner};
+pub use order::{type_fits, types_in_order};
 use std::alloc::{AllocError, Global};
 use thiserror::Error;
 

@@ -6,4 +6,5 @@ returns c = record {
   type_ = type_row c.text_of_appended.ensures;
   inner = inner_tree_row c.text_of_appended.ensures;
   only = only_text;
-  refused = lacks_unknown }
+  refused = lacks_unknown;
+}
