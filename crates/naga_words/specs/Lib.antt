@@ -6,3 +6,4 @@ pub mod Parts
 pub mod Spelling
 pub mod Trees
 pub mod Contexts
+pub mod Predeclared
