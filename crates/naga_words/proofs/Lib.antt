@@ -4,3 +4,4 @@ pub mod Arounds
 pub mod Levels
 pub mod Forms
 pub mod Orders
+pub mod Empties

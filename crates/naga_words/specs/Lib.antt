@@ -7,3 +7,4 @@ pub mod Spelling
 pub mod Trees
 pub mod Contexts
 pub mod Predeclared
+pub mod Rules

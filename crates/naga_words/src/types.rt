@@ -9,6 +9,7 @@ ghost use Rattle.naga_words.specs.Spelling.{Context, Fits, FitsResolution, IsInO
 pub mod contexts;
 pub mod laws;
 pub mod order;
+pub(crate) mod rules;
 pub(crate) mod scalars;
 pub(crate) mod spelling;
 #[cfg(test)]
