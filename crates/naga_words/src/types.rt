@@ -4,6 +4,7 @@ ghost use Rattle.std.specs.Prelude.{◌≡◌, ℕ, ◌<◌, true, List, length,
 ghost use Rattle.naga_words.specs.declared.types.TypeTextError.TheVariants as error;
 ghost use Rattle.naga_words.specs.Parts.{HasWritten, HasBegun, IsText, lacks};
 ghost use Rattle.naga_words.specs.Words.{scalar_word};
+ghost use Rattle.naga_words.specs.Rules.{conclusion_parts, rule_parts, AllFit, FitsConclusion};
 ghost use Rattle.naga_words.specs.Spelling.{Context, Fits, FitsResolution, IsInOrder, is_struct, is_formless_pointer, formless_parts, inner_parts, formless_scalar_parts, scalar_parts, type_parts, resolution_parts};
 
 pub mod contexts;
@@ -17,10 +18,11 @@ mod tests;
 pub(crate) mod words;
 
 use crate::sink::{SinkError, TextSink};
+use crate::types::rules::{write_conclusion_in, write_resolution_in, write_rule_in};
 use crate::types::scalars::{write_formless_scalar, write_scalar_in};
 use crate::types::spelling::{write_formless_inner, write_inner_in, write_type_in};
 pub use contexts::WriterTypeContext;
-use naga_info::TypeResolution;
+use naga_info::{Conclusion, Rule, TypeResolution};
 use naga_ir::{Handle, Override, Scalar, Type_, TypeInner};
 pub use order::{type_fits, types_in_order};
 use std::alloc::{AllocError, Global};
@@ -206,10 +208,45 @@ pub trait TypeContext {
         ensures failures_ok { OnOk result (W.failures out.new ≡ W.failures out.old) }
         ensures failed { IsErrOf result (error.Sink SinkError.Failed) → W.failures out.old < W.failures out.new }
     {
-        match resolution {
-            TypeResolution::Handle(handle) => write_type_in(self, alloc, *handle, out),
-            TypeResolution::Value(inner) => write_inner_in(self, alloc, inner, out),
-        }
+        write_resolution_in(self, alloc, resolution, out)
+    }
+
+    /// Writes what a function gives.
+    final fn write_type_conclusion<W: TextSink>(
+        &self,
+        alloc: Global,
+        conclusion: &Conclusion,
+        out: &mut W,
+    ) -> Result<(), TypeTextError>
+        requires order { IsInOrder (context self.now) }
+        requires fits { FitsConclusion (context self.now) conclusion.now }
+        ensures written { OnOk result (HasWritten (conclusion_parts (context self.now) conclusion.now) (W.text out.old) (W.text out.new)) }
+        ensures begun { HasBegun (conclusion_parts (context self.now) conclusion.now) (W.text out.old) (W.text out.new) }
+        ensures no_form { IsErrOf result error.NoForm → ((context self.now).refuses ≡ true) × (lacks (conclusion_parts (context self.now) conclusion.now) ≡ true) }
+        ensures failures_ok { OnOk result (W.failures out.new ≡ W.failures out.old) }
+        ensures failed { IsErrOf result (error.Sink SinkError.Failed) → W.failures out.old < W.failures out.new }
+    {
+        write_conclusion_in(self, alloc, conclusion, out)
+    }
+
+    /// Writes a rule by its function's name: `fn dot(vec3<f32>, vec3<f32>) -> f32`.
+    final fn write_type_rule<W: TextSink>(
+        &self,
+        alloc: Global,
+        name: &str,
+        rule: &Rule,
+        out: &mut W,
+    ) -> Result<(), TypeTextError>
+        requires order { IsInOrder (context self.now) }
+        requires fits { AllFit (context self.now) rule.now.arguments.items }
+        requires gives { FitsConclusion (context self.now) rule.now.conclusion }
+        ensures written { OnOk result (HasWritten (rule_parts (context self.now) name.now rule.now) (W.text out.old) (W.text out.new)) }
+        ensures begun { HasBegun (rule_parts (context self.now) name.now rule.now) (W.text out.old) (W.text out.new) }
+        ensures no_form { IsErrOf result error.NoForm → ((context self.now).refuses ≡ true) × (lacks (rule_parts (context self.now) name.now rule.now) ≡ true) }
+        ensures failures_ok { OnOk result (W.failures out.new ≡ W.failures out.old) }
+        ensures failed { IsErrOf result (error.Sink SinkError.Failed) → W.failures out.old < W.failures out.new }
+    {
+        write_rule_in(self, alloc, name, rule, out)
     }
 
     /// The text of the type at a handle, which lies in the context's types.
@@ -243,6 +280,25 @@ pub trait TypeContext {
     {
         let mut text = String::new(alloc);
         self.write_type_resolution(alloc, resolution, &mut text)?;
+        Ok(text)
+    }
+
+    /// The text of a rule by its function's name.
+    final fn type_rule_to_string(
+        &self,
+        alloc: Global,
+        name: &str,
+        rule: &Rule,
+    ) -> Result<String, TypeTextError>
+        requires order { IsInOrder (context self.now) }
+        requires fits { AllFit (context self.now) rule.now.arguments.items }
+        requires gives { FitsConclusion (context self.now) rule.now.conclusion }
+        ensures text { IfOk result (λ text. IsText (rule_parts (context self.now) name.now rule.now) (string_bytes text)) }
+        ensures no_form { IsErrOf result error.NoForm → ((context self.now).refuses ≡ true) × (lacks (rule_parts (context self.now) name.now rule.now) ≡ true) }
+        ensures no_failure { IsErrOf result (error.Sink SinkError.Failed) → ⊥ }
+    {
+        let mut text = String::new(alloc);
+        self.write_type_rule(alloc, name, rule, &mut text)?;
         Ok(text)
     }
 }
