@@ -1,9 +1,13 @@
 use super::*;
+use crate::to_wgsl::TryToWgsl;
 use naga_info::GlobalCtx;
 use naga_ir::{
-    AddressSpace, ArraySize, CooperativeRole, CooperativeSize, ImageClass, ImageDimension, Module,
-    ScalarKind, StorageAccess, StorageFormat, VectorSize,
+    AddressSpace, ArraySize, BuiltIn, CooperativeRole, CooperativeSize, ImageClass, ImageDimension,
+    MathFunction, Module, PredeclaredType, ScalarKind, StorageAccess, StorageFormat, UniqueArena,
+    VectorSize,
 };
+use naga_names::namer::NameKey;
+use std::collections::HashMap;
 use std::num::NonZeroU32;
 use std::process::Abort;
 use std::test::Fail;
@@ -479,5 +483,112 @@ fn braces_in(rt: &impl Abort, alloc: Global, module: &mut Module) -> Result<(), 
 fn braces(rt: HostRuntime) -> Result<(), Fail> {
     let alloc = rt.alloc();
     braces_in(&rt, alloc, &mut Module::new(alloc))?;
+    Ok(())
+}
+
+fn dot_in(rt: &impl Abort, alloc: Global) -> Result<(), Fail> {
+    let types: UniqueArena<Type_> = UniqueArena::new(alloc);
+    assert!(rt; types_in_order(&types, 0));
+    let first = TypeResolution::Value(TypeInner::Vector {
+        size: VectorSize::Tri,
+        scalar: Scalar::F32,
+    });
+    let second = TypeResolution::Value(TypeInner::Vector {
+        size: VectorSize::Tri,
+        scalar: Scalar::F32,
+    });
+    let rule = Rule {
+        arguments: vec![in alloc; first, second]?,
+        conclusion: Conclusion::Value(TypeInner::Scalar(Scalar::F32)),
+    };
+    let text = types.type_rule_to_string(alloc, "dot", &rule)?;
+    assert_eq!(rt; text.as_str(), "fn dot(vec3<f32>, vec3<f32>) -> f32");
+    Ok(())
+}
+
+fn modf_in(rt: &impl Abort, alloc: Global) -> Result<(), Fail> {
+    let types: UniqueArena<Type_> = UniqueArena::new(alloc);
+    assert!(rt; types_in_order(&types, 0));
+    let first = TypeResolution::Value(TypeInner::Scalar(Scalar::F32));
+    let rule = Rule {
+        arguments: vec![in alloc; first]?,
+        conclusion: Conclusion::Predeclared(PredeclaredType::ModfResult {
+            size: None,
+            scalar: Scalar::F32,
+        }),
+    };
+    let text = types.type_rule_to_string(alloc, "modf", &rule)?;
+    assert_eq!(rt; text.as_str(), "fn modf(f32) -> __modf_result_f32");
+    Ok(())
+}
+
+#[test]
+fn rules(rt: HostRuntime) -> Result<(), Fail> {
+    let alloc = rt.alloc();
+    dot_in(&rt, alloc)?;
+    modf_in(&rt, alloc)?;
+    Ok(())
+}
+
+fn writer_rows(rt: &impl Abort, alloc: Global, module: &mut Module) -> Result<(), Fail> {
+    let handles = fill(alloc, module)?;
+    let mut names = HashMap::new(alloc);
+    names.insert(
+        NameKey::Type_(handles.labelled),
+        String::from_str(alloc, "S_1")?,
+    )?;
+    let context = WriterTypeContext {
+        module,
+        names: &names,
+    };
+    assert!(rt; types_in_order(&module.types, module.overrides.len()));
+    assert!(rt; handles.labelled.index() < module.types.len());
+    let text = context.type_to_string(alloc, handles.labelled)?;
+    assert_eq!(rt; text.as_str(), "S_1");
+    let pointer = TypeResolution::Value(TypeInner::ValuePointer {
+        size: None,
+        scalar: Scalar::U32,
+        space: AddressSpace::Handle,
+    });
+    assert_eq!(rt;
+        context.type_resolution_to_string(alloc, &pointer),
+        Err(TypeTextError::NoForm)
+    );
+    Ok(())
+}
+
+#[test]
+fn the_writer_refuses_what_has_no_form(rt: HostRuntime) -> Result<(), Fail> {
+    let alloc = rt.alloc();
+    writer_rows(&rt, alloc, &mut Module::new(alloc))?;
+    Ok(())
+}
+
+fn words_in(rt: &impl Abort, alloc: Global) -> Result<(), AllocError> {
+    assert_eq!(rt; MathFunction::DESCRIPTION, "math function");
+    assert_eq!(rt; BuiltIn::DESCRIPTION, "builtin value");
+    assert_eq!(rt; <Scalar as TryToWgsl>::DESCRIPTION, "scalar type");
+    let known = MathFunction::SmoothStep.to_wgsl_for_diagnostics(alloc)?;
+    assert_eq!(rt; known.as_str(), "smoothstep");
+    let inverse = MathFunction::Inverse.to_wgsl_for_diagnostics(alloc)?;
+    assert_eq!(rt; inverse.as_str(), "{non-WGSL math function Inverse}");
+    let point = BuiltIn::PointSize.to_wgsl_for_diagnostics(alloc)?;
+    assert_eq!(rt; point.as_str(), "{non-WGSL builtin value PointSize}");
+    let odd = Scalar {
+        kind: ScalarKind::Uint,
+        width: 16,
+    };
+    let text = odd.to_wgsl_for_diagnostics(alloc)?;
+    assert_eq!(rt;
+        text.as_str(),
+        "{non-WGSL scalar Scalar { kind: Uint, width: 16 }}"
+    );
+    Ok(())
+}
+
+#[test]
+fn words_for_diagnostics(rt: HostRuntime) -> Result<(), Fail> {
+    let alloc = rt.alloc();
+    words_in(&rt, alloc)?;
     Ok(())
 }
