@@ -6,10 +6,12 @@
 pub mod error;
 pub mod flags;
 pub mod function;
+pub mod implemented;
 pub mod literal;
 pub mod part;
 
 pub use error::Error;
 pub use flags::WriterFlags;
 pub use function::write_function;
+pub use implemented::to_wgsl_if_implemented;
 pub use part::is_written_so_far;
