@@ -9,8 +9,10 @@ pub mod counts;
 pub mod info;
 mod operations;
 pub mod spelling;
+pub mod rules;
 
 pub use acceptance::accepts;
 pub use counts::count;
 pub use info::{ExpressionInfo, FunctionInfo, ModuleInfo, TypeResolution};
 pub use spelling::scalar_word;
+pub use rules::{Conclusion, GlobalCtx, Rule};

@@ -7,11 +7,13 @@ pub mod error;
 pub mod flags;
 pub mod function;
 mod literal;
+pub mod implemented;
 pub mod part;
 pub mod sinks;
 
 pub use error::Error;
 pub use flags::WriterFlags;
 pub use function::write_function;
+pub use implemented::to_wgsl_if_implemented;
 pub use part::is_written_so_far;
 pub use sinks::put;

@@ -1,2 +1,8 @@
 pub mod Indentations
 pub mod FixedInputs
+pub mod PartTexts
+pub mod Arounds
+pub mod Levels
+pub mod Forms
+pub mod Orders
+pub mod Empties

@@ -5,3 +5,11 @@ pub mod Kinds
 pub mod Operators
 pub mod FunctionContext
 pub mod FixedInput
+pub mod Words
+pub mod Diagnostics
+pub mod Parts
+pub mod Spelling
+pub mod Trees
+pub mod Contexts
+pub mod Predeclared
+pub mod Rules

@@ -1,0 +1,28 @@
+//! Words that WGSL may lack.
+
+ghost use Rattle.std.specs.Prelude.{◌≡◌, IfOk, IsErr, None, Some};
+
+use crate::error::Error;
+use naga_words::TryToWgsl;
+use std::alloc::Global;
+use std::fmt::Debug;
+
+/// WGSL's word for a value. One without a word is refused with its kind and its debug text.
+pub fn to_wgsl_if_implemented<T: TryToWgsl + Debug + Copy>(
+    alloc: Global,
+    value: T,
+) -> Result<&'static str, Error>
+    ensures word { IfOk result (λ word. T.try_word value ≡ Some word.now) }
+    ensures refused { IsErr result → T.try_word value ≡ None }
+{
+    match value.try_to_wgsl() {
+        Some(word) => Ok(word),
+        None => {
+            let text = format!(in alloc; "{value:?}")?;
+            Err(Error::Unsupported {
+                kind: T::DESCRIPTION,
+                value: text,
+            })
+        }
+    }
+}

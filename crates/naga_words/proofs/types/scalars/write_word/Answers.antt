@@ -1,0 +1,12 @@
+use Rattle.std.proofs.Common.{rules}
+use Rattle.naga_words.proofs.Arounds.{word_then, word_last, shown_then, parts_then, word_fails, shown_fails, parts_fail, word_then_fails, shown_then_fails, parts_then_fail, begun_all}
+use Rattle.naga_words.proofs.types.scalars.write_word.Goals as goal
+
+pub returns-in_err-write_str-clause-begun : goal.returns-in_err-write_str-clause-begun
+returns-in_err-write_str-clause-begun g c = word_fails _ _ _ _ c.in_err-write_str.ensures.text_err
+
+pub returns-clause-written : goal.returns-clause-written
+returns-clause-written g c = word_last _ _ _ c.in_ok-write_str.ensures.text_ok
+
+pub returns-clause-begun : goal.returns-clause-begun
+returns-clause-begun g c = begun_all _ _ _ (word_last _ _ _ c.in_ok-write_str.ensures.text_ok)

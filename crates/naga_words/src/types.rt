@@ -1,0 +1,304 @@
+//! How types are spelled, in a context that names what they are made of.
+
+ghost use Rattle.std.specs.Prelude.{◌≡◌, ℕ, ◌<◌, true, List, length, None, IfOk, string_bytes, OnOk, IsErrOf, IsTrue, slice_get, Some};
+ghost use Rattle.naga_words.specs.declared.types.TypeTextError.TheVariants as error;
+ghost use Rattle.naga_words.specs.Parts.{HasWritten, HasBegun, IsText, lacks};
+ghost use Rattle.naga_words.specs.Words.{scalar_word};
+ghost use Rattle.naga_words.specs.Rules.{conclusion_parts, rule_parts, AllFit, FitsConclusion};
+ghost use Rattle.naga_words.specs.Spelling.{Context, Fits, FitsResolution, IsInOrder, is_struct, is_formless_pointer, formless_parts, inner_parts, formless_scalar_parts, scalar_parts, type_parts, resolution_parts};
+
+pub mod contexts;
+pub mod laws;
+pub mod order;
+pub(crate) mod rules;
+pub(crate) mod scalars;
+pub(crate) mod spelling;
+#[cfg(test)]
+mod tests;
+pub(crate) mod words;
+
+use crate::sink::{SinkError, TextSink};
+use crate::types::rules::{write_conclusion_in, write_resolution_in, write_rule_in};
+use crate::types::scalars::{write_formless_scalar, write_scalar_in};
+use crate::types::spelling::{write_formless_inner, write_inner_in, write_type_in};
+pub use contexts::WriterTypeContext;
+use naga_info::{Conclusion, Rule, TypeResolution};
+use naga_ir::{Handle, Override, Scalar, Type_, TypeInner};
+pub use order::{type_fits, types_in_order};
+use std::alloc::{AllocError, Global};
+use thiserror::Error;
+
+/// Why a type was not written.
+#[derive(Clone, Copy, Debug, PartialEq, Eq, Error)]
+pub enum TypeTextError {
+    /// The sink refused a piece.
+    #[error("{0}")]
+    Sink(SinkError),
+    /// There was not enough memory for a text on the way.
+    #[error("out of memory")]
+    Memory(AllocError),
+    /// The type has no form in WGSL, and the context refuses such types.
+    #[error("type without a WGSL form")]
+    NoForm,
+}
+
+impl From<SinkError> for TypeTextError {
+    ghost from_gives = { λ s e. e ≡ error.Sink s };
+
+    fn from(error: SinkError) -> TypeTextError {
+        TypeTextError::Sink(error)
+    }
+}
+
+impl From<AllocError> for TypeTextError {
+    ghost from_gives = { λ a e. e ≡ error.Memory a };
+
+    fn from(error: AllocError) -> TypeTextError {
+        TypeTextError::Memory(error)
+    }
+}
+
+/// What the spelling of a type takes from around it: the types that it names, the names of structs
+/// and overrides, and what becomes of a type without a form.
+pub trait TypeContext {
+    /// What the context knows, as the spelling of a type takes it.
+    ghost context: { Self → Context };
+
+    /// The type at a handle, which lies in the context's types.
+    fn lookup_type(&self, handle: Handle<Type_>) -> &Type_
+        requires { handle < length (context self.now).types }
+        ensures { slice_get (context self.now).types handle ≡ Some result.now };
+
+    /// The name of the struct at a handle, which lies in the context's types.
+    fn type_name(&self, handle: Handle<Type_>) -> &str
+        requires { handle < length (context self.now).types }
+        ensures { result.now ≡ (context self.now).name handle };
+
+    /// Writes an override, which is one of those that the context knows.
+    fn write_override<W: TextSink>(
+        &self,
+        alloc: Global,
+        handle: Handle<Override>,
+        out: &mut W,
+    ) -> Result<(), TypeTextError>
+        requires { IsTrue ((context self.now).knows handle) }
+        ensures written { OnOk result (HasWritten ((context self.now).override_parts handle) (W.text out.old) (W.text out.new)) }
+        ensures begun { HasBegun ((context self.now).override_parts handle) (W.text out.old) (W.text out.new) }
+        ensures no_form { IsErrOf result error.NoForm → ((context self.now).refuses ≡ true) × (lacks ((context self.now).override_parts handle) ≡ true) }
+        ensures failures_ok { OnOk result (W.failures out.new ≡ W.failures out.old) }
+        ensures failed { IsErrOf result (error.Sink SinkError.Failed) → W.failures out.old < W.failures out.new };
+
+    /// Writes a struct that no handle names.
+    fn write_unnamed_struct<W: TextSink>(
+        &self,
+        alloc: Global,
+        inner: &TypeInner,
+        out: &mut W,
+    ) -> Result<(), TypeTextError>
+        requires { IsTrue (is_struct inner.now) }
+        ensures written { OnOk result (HasWritten (context self.now).unnamed_parts (W.text out.old) (W.text out.new)) }
+        ensures begun { HasBegun (context self.now).unnamed_parts (W.text out.old) (W.text out.new) }
+        ensures no_form { IsErrOf result error.NoForm → ((context self.now).refuses ≡ true) × (lacks (context self.now).unnamed_parts ≡ true) }
+        ensures failures_ok { OnOk result (W.failures out.new ≡ W.failures out.old) }
+        ensures failed { IsErrOf result (error.Sink SinkError.Failed) → W.failures out.old < W.failures out.new };
+
+    /// Whether a type without a form is refused. Otherwise it is shown in braces.
+    fn refuses(&self) -> bool
+        ensures { result ≡ (context self.now).refuses };
+
+    /// Writes a type without a form, a value pointer in a space without a word, in braces, or refuses
+    /// it.
+    final fn write_non_wgsl_inner<W: TextSink>(
+        &self,
+        alloc: Global,
+        inner: &TypeInner,
+        out: &mut W,
+    ) -> Result<(), TypeTextError>
+        requires { IsTrue (is_formless_pointer inner.now) }
+        ensures written { OnOk result (HasWritten (formless_parts (context self.now).refuses) (W.text out.old) (W.text out.new)) }
+        ensures begun { HasBegun (formless_parts (context self.now).refuses) (W.text out.old) (W.text out.new) }
+        ensures no_form { IsErrOf result error.NoForm → ((context self.now).refuses ≡ true) × (lacks (formless_parts (context self.now).refuses) ≡ true) }
+        ensures failures_ok { OnOk result (W.failures out.new ≡ W.failures out.old) }
+        ensures failed { IsErrOf result (error.Sink SinkError.Failed) → W.failures out.old < W.failures out.new }
+    {
+        write_formless_inner(self, alloc, inner, out)
+    }
+
+    /// Writes a type by itself. A struct needs its handle; one by itself is written as an unnamed one.
+    final fn write_type_inner<W: TextSink>(
+        &self,
+        alloc: Global,
+        inner: &TypeInner,
+        out: &mut W,
+    ) -> Result<(), TypeTextError>
+        requires order { IsInOrder (context self.now) }
+        requires fits { Fits (context self.now) inner.now }
+        ensures written { OnOk result (HasWritten (inner_parts (context self.now) inner.now) (W.text out.old) (W.text out.new)) }
+        ensures begun { HasBegun (inner_parts (context self.now) inner.now) (W.text out.old) (W.text out.new) }
+        ensures no_form { IsErrOf result error.NoForm → ((context self.now).refuses ≡ true) × (lacks (inner_parts (context self.now) inner.now) ≡ true) }
+        ensures failures_ok { OnOk result (W.failures out.new ≡ W.failures out.old) }
+        ensures failed { IsErrOf result (error.Sink SinkError.Failed) → W.failures out.old < W.failures out.new }
+    {
+        write_inner_in(self, alloc, inner, out)
+    }
+
+    /// Writes a scalar without a word in braces, or refuses it.
+    final fn write_non_wgsl_scalar<W: TextSink>(
+        &self,
+        alloc: Global,
+        scalar: Scalar,
+        out: &mut W,
+    ) -> Result<(), TypeTextError>
+        requires { scalar_word scalar ≡ None }
+        ensures written { OnOk result (HasWritten (formless_scalar_parts (context self.now).refuses scalar.kind) (W.text out.old) (W.text out.new)) }
+        ensures begun { HasBegun (formless_scalar_parts (context self.now).refuses scalar.kind) (W.text out.old) (W.text out.new) }
+        ensures no_form { IsErrOf result error.NoForm → ((context self.now).refuses ≡ true) × (lacks (formless_scalar_parts (context self.now).refuses scalar.kind) ≡ true) }
+        ensures failures_ok { OnOk result (W.failures out.new ≡ W.failures out.old) }
+        ensures failed { IsErrOf result (error.Sink SinkError.Failed) → W.failures out.old < W.failures out.new }
+    {
+        write_formless_scalar(self, alloc, scalar, out)
+    }
+
+    /// Writes a scalar.
+    final fn write_scalar<W: TextSink>(
+        &self,
+        alloc: Global,
+        scalar: Scalar,
+        out: &mut W,
+    ) -> Result<(), TypeTextError>
+        ensures written { OnOk result (HasWritten (scalar_parts (context self.now).refuses scalar) (W.text out.old) (W.text out.new)) }
+        ensures begun { HasBegun (scalar_parts (context self.now).refuses scalar) (W.text out.old) (W.text out.new) }
+        ensures no_form { IsErrOf result error.NoForm → ((context self.now).refuses ≡ true) × (lacks (scalar_parts (context self.now).refuses scalar) ≡ true) }
+        ensures failures_ok { OnOk result (W.failures out.new ≡ W.failures out.old) }
+        ensures failed { IsErrOf result (error.Sink SinkError.Failed) → W.failures out.old < W.failures out.new }
+    {
+        write_scalar_in(self, alloc, scalar, out)
+    }
+
+    /// Writes the type at a handle, which lies in the context's types: a struct by its name.
+    final fn write_type<W: TextSink>(
+        &self,
+        alloc: Global,
+        handle: Handle<Type_>,
+        out: &mut W,
+    ) -> Result<(), TypeTextError>
+        requires order { IsInOrder (context self.now) }
+        requires in_range { handle < length (context self.now).types }
+        ensures written { OnOk result (HasWritten (type_parts (context self.now) handle) (W.text out.old) (W.text out.new)) }
+        ensures begun { HasBegun (type_parts (context self.now) handle) (W.text out.old) (W.text out.new) }
+        ensures no_form { IsErrOf result error.NoForm → ((context self.now).refuses ≡ true) × (lacks (type_parts (context self.now) handle) ≡ true) }
+        ensures failures_ok { OnOk result (W.failures out.new ≡ W.failures out.old) }
+        ensures failed { IsErrOf result (error.Sink SinkError.Failed) → W.failures out.old < W.failures out.new }
+    {
+        write_type_in(self, alloc, handle, out)
+    }
+
+    /// Writes the type of an expression.
+    final fn write_type_resolution<W: TextSink>(
+        &self,
+        alloc: Global,
+        resolution: &TypeResolution,
+        out: &mut W,
+    ) -> Result<(), TypeTextError>
+        requires order { IsInOrder (context self.now) }
+        requires fits { FitsResolution (context self.now) resolution.now }
+        ensures written { OnOk result (HasWritten (resolution_parts (context self.now) resolution.now) (W.text out.old) (W.text out.new)) }
+        ensures begun { HasBegun (resolution_parts (context self.now) resolution.now) (W.text out.old) (W.text out.new) }
+        ensures no_form { IsErrOf result error.NoForm → ((context self.now).refuses ≡ true) × (lacks (resolution_parts (context self.now) resolution.now) ≡ true) }
+        ensures failures_ok { OnOk result (W.failures out.new ≡ W.failures out.old) }
+        ensures failed { IsErrOf result (error.Sink SinkError.Failed) → W.failures out.old < W.failures out.new }
+    {
+        write_resolution_in(self, alloc, resolution, out)
+    }
+
+    /// Writes what a function gives.
+    final fn write_type_conclusion<W: TextSink>(
+        &self,
+        alloc: Global,
+        conclusion: &Conclusion,
+        out: &mut W,
+    ) -> Result<(), TypeTextError>
+        requires order { IsInOrder (context self.now) }
+        requires fits { FitsConclusion (context self.now) conclusion.now }
+        ensures written { OnOk result (HasWritten (conclusion_parts (context self.now) conclusion.now) (W.text out.old) (W.text out.new)) }
+        ensures begun { HasBegun (conclusion_parts (context self.now) conclusion.now) (W.text out.old) (W.text out.new) }
+        ensures no_form { IsErrOf result error.NoForm → ((context self.now).refuses ≡ true) × (lacks (conclusion_parts (context self.now) conclusion.now) ≡ true) }
+        ensures failures_ok { OnOk result (W.failures out.new ≡ W.failures out.old) }
+        ensures failed { IsErrOf result (error.Sink SinkError.Failed) → W.failures out.old < W.failures out.new }
+    {
+        write_conclusion_in(self, alloc, conclusion, out)
+    }
+
+    /// Writes a rule by its function's name: `fn dot(vec3<f32>, vec3<f32>) -> f32`.
+    final fn write_type_rule<W: TextSink>(
+        &self,
+        alloc: Global,
+        name: &str,
+        rule: &Rule,
+        out: &mut W,
+    ) -> Result<(), TypeTextError>
+        requires order { IsInOrder (context self.now) }
+        requires fits { AllFit (context self.now) rule.now.arguments.items }
+        requires gives { FitsConclusion (context self.now) rule.now.conclusion }
+        ensures written { OnOk result (HasWritten (rule_parts (context self.now) name.now rule.now) (W.text out.old) (W.text out.new)) }
+        ensures begun { HasBegun (rule_parts (context self.now) name.now rule.now) (W.text out.old) (W.text out.new) }
+        ensures no_form { IsErrOf result error.NoForm → ((context self.now).refuses ≡ true) × (lacks (rule_parts (context self.now) name.now rule.now) ≡ true) }
+        ensures failures_ok { OnOk result (W.failures out.new ≡ W.failures out.old) }
+        ensures failed { IsErrOf result (error.Sink SinkError.Failed) → W.failures out.old < W.failures out.new }
+    {
+        write_rule_in(self, alloc, name, rule, out)
+    }
+
+    /// The text of the type at a handle, which lies in the context's types.
+    final fn type_to_string(
+        &self,
+        alloc: Global,
+        handle: Handle<Type_>,
+    ) -> Result<String, TypeTextError>
+        requires order { IsInOrder (context self.now) }
+        requires in_range { handle < length (context self.now).types }
+        ensures text { IfOk result (λ text. IsText (type_parts (context self.now) handle) (string_bytes text)) }
+        ensures no_form { IsErrOf result error.NoForm → ((context self.now).refuses ≡ true) × (lacks (type_parts (context self.now) handle) ≡ true) }
+        ensures no_failure { IsErrOf result (error.Sink SinkError.Failed) → ⊥ }
+    {
+        let mut text = String::new(alloc);
+        self.write_type(alloc, handle, &mut text)?;
+        Ok(text)
+    }
+
+    /// The text of the type of an expression.
+    final fn type_resolution_to_string(
+        &self,
+        alloc: Global,
+        resolution: &TypeResolution,
+    ) -> Result<String, TypeTextError>
+        requires order { IsInOrder (context self.now) }
+        requires fits { FitsResolution (context self.now) resolution.now }
+        ensures text { IfOk result (λ text. IsText (resolution_parts (context self.now) resolution.now) (string_bytes text)) }
+        ensures no_form { IsErrOf result error.NoForm → ((context self.now).refuses ≡ true) × (lacks (resolution_parts (context self.now) resolution.now) ≡ true) }
+        ensures no_failure { IsErrOf result (error.Sink SinkError.Failed) → ⊥ }
+    {
+        let mut text = String::new(alloc);
+        self.write_type_resolution(alloc, resolution, &mut text)?;
+        Ok(text)
+    }
+
+    /// The text of a rule by its function's name.
+    final fn type_rule_to_string(
+        &self,
+        alloc: Global,
+        name: &str,
+        rule: &Rule,
+    ) -> Result<String, TypeTextError>
+        requires order { IsInOrder (context self.now) }
+        requires fits { AllFit (context self.now) rule.now.arguments.items }
+        requires gives { FitsConclusion (context self.now) rule.now.conclusion }
+        ensures text { IfOk result (λ text. IsText (rule_parts (context self.now) name.now rule.now) (string_bytes text)) }
+        ensures no_form { IsErrOf result error.NoForm → ((context self.now).refuses ≡ true) × (lacks (rule_parts (context self.now) name.now rule.now) ≡ true) }
+        ensures no_failure { IsErrOf result (error.Sink SinkError.Failed) → ⊥ }
+    {
+        let mut text = String::new(alloc);
+        self.write_type_rule(alloc, name, rule, &mut text)?;
+        Ok(text)
+    }
+}

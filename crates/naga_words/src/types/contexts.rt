@@ -1,0 +1,176 @@
+//! Contexts: types alone, the arenas of a module, and a module with the names of its items.
+
+ghost use Rattle.std.specs.Prelude.{◌≡◌, ◌<◌, None, Some, slice_get, string_bytes, codes, OnOk, IsErrOf};
+ghost use Rattle.naga_names.specs.Reset.{names_in};
+ghost use Rattle.naga_words.specs.Contexts.{arena_context, global_context, names_context, name_or_nothing};
+ghost use Rattle.naga_words.specs.Parts.{HasWritten, HasBegun, shown_between};
+ghost use Rattle.naga_words.specs.declared.types.TypeTextError.TheVariants as error;
+
+use crate::sink::{SinkError, TextSink};
+use crate::types::scalars::{write_shown, write_word};
+use crate::types::{TypeContext, TypeTextError};
+use naga_info::GlobalCtx;
+use naga_ir::{Handle, Module, Override, Type_, TypeInner, UniqueArena};
+use naga_names::namer::NameKey;
+use std::alloc::Global;
+use std::collections::HashMap;
+
+/// What stands for a struct without a label.
+const ANONYMOUS_TYPE: &str = "{anonymous type}";
+
+/// Labels are names, and what has no form is shown in braces, with overrides and structs without a
+/// handle.
+#[tactic(auto, using(crate::proofs::Arounds::fails_at_once))]
+impl TypeContext for UniqueArena<Type_> {
+    ghost context = { arena_context };
+
+    fn lookup_type(&self, handle: Handle<Type_>) -> &Type_ {
+        &self[handle]
+    }
+
+    fn type_name(&self, handle: Handle<Type_>) -> &str {
+        match &self[handle].name {
+            Some(name) => name.as_str(),
+            None => ANONYMOUS_TYPE,
+        }
+    }
+
+    fn write_override<W: TextSink>(
+        &self,
+        alloc: Global,
+        handle: Handle<Override>,
+        out: &mut W,
+    ) -> Result<(), TypeTextError> {
+        let debug = format!(in alloc; "{handle:?}")?;
+        write_shown("{override ", debug.as_str(), "}", out)
+    }
+
+    fn write_unnamed_struct<W: TextSink>(
+        &self,
+        alloc: Global,
+        inner: &TypeInner,
+        out: &mut W,
+    ) -> Result<(), TypeTextError> {
+        let debug = format!(in alloc; "{inner:?}")?;
+        write_shown("{unnamed struct ", debug.as_str(), "}", out)
+    }
+
+    fn refuses(&self) -> bool {
+        false
+    }
+}
+
+/// Labels are names, and what has no form is shown in braces, with overrides without a label and
+/// structs without a handle.
+#[tactic(auto, using(crate::proofs::Arounds::fails_at_once))]
+impl TypeContext for GlobalCtx<'_> {
+    ghost context = { λ c. global_context c.types.now c.overrides.now };
+
+    fn lookup_type(&self, handle: Handle<Type_>) -> &Type_ {
+        &self.types[handle]
+    }
+
+    fn type_name(&self, handle: Handle<Type_>) -> &str {
+        match &self.types[handle].name {
+            Some(name) => name.as_str(),
+            None => ANONYMOUS_TYPE,
+        }
+    }
+
+    fn write_override<W: TextSink>(
+        &self,
+        alloc: Global,
+        handle: Handle<Override>,
+        out: &mut W,
+    ) -> Result<(), TypeTextError> {
+        match &self.overrides[handle].name {
+            Some(name) => write_word(name.as_str(), out),
+            None => write_anonymous_override(alloc, handle, out),
+        }
+    }
+
+    fn write_unnamed_struct<W: TextSink>(
+        &self,
+        _alloc: Global,
+        _inner: &TypeInner,
+        out: &mut W,
+    ) -> Result<(), TypeTextError> {
+        write_word("{unnamed struct}", out)
+    }
+
+    fn refuses(&self) -> bool {
+        false
+    }
+}
+
+/// A module with the names of its types and overrides. What has no form is refused, and so is a
+/// struct without a handle. What has no name is written as nothing, so the names should have all.
+#[derive(Clone, Copy)]
+pub struct WriterTypeContext<'a> {
+    /// The module.
+    pub module: &'a Module,
+    /// The names of its items.
+    pub names: &'a HashMap<NameKey, String>,
+}
+
+#[tactic(auto, using(crate::proofs::Arounds::fails_at_once))]
+impl TypeContext for WriterTypeContext<'_> {
+    ghost context = { λ c. names_context c.«module».now.types (names_in c.names.now) };
+
+    fn lookup_type(&self, handle: Handle<Type_>) -> &Type_ {
+        &self.module.types[handle]
+    }
+
+    fn type_name(&self, handle: Handle<Type_>) -> &str {
+        name_in(self.names, &NameKey::Type_(handle))
+    }
+
+    fn write_override<W: TextSink>(
+        &self,
+        _alloc: Global,
+        handle: Handle<Override>,
+        out: &mut W,
+    ) -> Result<(), TypeTextError> {
+        write_word(name_in(self.names, &NameKey::Override(handle)), out)
+    }
+
+    fn write_unnamed_struct<W: TextSink>(
+        &self,
+        _alloc: Global,
+        _inner: &TypeInner,
+        _out: &mut W,
+    ) -> Result<(), TypeTextError> {
+        Err(TypeTextError::NoForm)
+    }
+
+    fn refuses(&self) -> bool {
+        true
+    }
+}
+
+/// Writes an override without a label in braces.
+#[tactic(auto, using(crate::proofs::Arounds::fails_at_once))]
+fn write_anonymous_override<W: TextSink>(
+    alloc: Global,
+    handle: Handle<Override>,
+    out: &mut W,
+) -> Result<(), TypeTextError>
+    ensures written { OnOk result (HasWritten (shown_between (codes "{anonymous override ") (codes "}")) (W.text out.old) (W.text out.new)) }
+    ensures begun { HasBegun (shown_between (codes "{anonymous override ") (codes "}")) (W.text out.old) (W.text out.new) }
+    ensures form { IsErrOf result error.NoForm → ⊥ }
+    ensures failures_ok { OnOk result (W.failures out.new ≡ W.failures out.old) }
+    ensures failed { IsErrOf result (error.Sink SinkError.Failed) → W.failures out.old < W.failures out.new }
+{
+    let debug = format!(in alloc; "{handle:?}")?;
+    write_shown("{anonymous override ", debug.as_str(), "}", out)
+}
+
+/// The name at a key, and nothing where there is none.
+fn name_in<'a>(names: &'a HashMap<NameKey, String>, key: &NameKey) -> &'a str
+    ensures { result.now ≡ name_or_nothing (names_in names.now key.now) }
+{
+    match names.get(key) {
+        Some(name) => name.as_str(),
+        None => "",
+    }
+}
