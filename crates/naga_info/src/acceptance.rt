@@ -41,7 +41,9 @@ use naga_ir::{
 ///
 /// The counts are not looked at. Each other module is answered `false`.
 #[tactic(auto, using(crate::proofs::Accepting::functions_fit_length), unfolding(crate::specs::Accepted::is_accepted))]
-pub fn accepts(module: &Module, info: &ModuleInfo) -> bool {
+pub fn accepts(module: &Module, info: &ModuleInfo) -> bool
+    ensures { result ≡ is_accepted «module».now info.now }
+{
     declares_functions(module)
         && types_are_scalar(&module.types)
         && special_types_fit(module.types.len(), &module.special_types)
