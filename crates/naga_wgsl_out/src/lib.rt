@@ -13,3 +13,4 @@ mod writer;
 pub use naga_info as info;
 pub use naga_ir as ir;
 pub use naga_names::{keyword_set, keywords, namer};
+pub use naga_words::{predeclared, to_wgsl};

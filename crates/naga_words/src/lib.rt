@@ -1,4 +1,5 @@
-//! Words and texts: what text is written to, and how lines are indented.
+//! Words and texts: what text is written to, how lines are indented, WGSL's words, the spelling of
+//! types in a context, and the helpers that choose words, counts and keys.
 #![tactic(auto)]
 
 pub mod back;
