@@ -8,11 +8,11 @@ pub mod acceptance;
 pub mod counts;
 pub mod info;
 mod operations;
-pub mod spelling;
 pub mod rules;
+pub mod spelling;
 
 pub use acceptance::accepts;
 pub use counts::count;
 pub use info::{ExpressionInfo, FunctionInfo, ModuleInfo, TypeResolution};
-pub use spelling::scalar_word;
 pub use rules::{Conclusion, GlobalCtx, Rule};
+pub use spelling::scalar_word;

@@ -6,8 +6,8 @@
 pub mod error;
 pub mod flags;
 pub mod function;
-mod literal;
 pub mod implemented;
+mod literal;
 pub mod part;
 pub mod sinks;
 

@@ -145,7 +145,14 @@ fn name_items(
     let reserved = KeywordSet::from_slice(alloc, RESERVED)?;
     let builtin = KeywordSet::from_slice(alloc, BUILTIN_IDENTIFIERS)?;
     let caseless = CaseInsensitiveKeywordSet::new(alloc);
-    match namer.reset(module, reserved, builtin, caseless, &RESERVED_PREFIXES, names) {
+    match namer.reset(
+        module,
+        reserved,
+        builtin,
+        caseless,
+        &RESERVED_PREFIXES,
+        names,
+    ) {
         Ok(()) => Ok(()),
         Err(NamerError::Full) => Err(custom(alloc, "namer is full")),
         Err(NamerError::KeyFull) => Err(custom(alloc, "name key out of range")),
