@@ -10,7 +10,7 @@ mkdir -p "$copy/crates/bench_names/src" "$copy/crates/bench_names/specs" "$copy/
 for crate in naga_ir naga_names; do cp -r "$top/crates/$crate" "$copy/crates/"; done
 grep -E '^(naga_ir|naga_names):' "$top/crates.txt" > "$copy/crates.txt"
 echo 'bench_names: naga_ir naga_names' >> "$copy/crates.txt"
-cp "$top/bench/entry_points/main.rt" "$copy/crates/bench_names/src/main.rt"
+cp "$top/bench/entry_points/main.rt.txt" "$copy/crates/bench_names/src/main.rt"
 : > "$copy/crates/bench_names/specs/Lib.antt"
 : > "$copy/crates/bench_names/proofs/Lib.antt"
 cd "$copy/crates/bench_names"
