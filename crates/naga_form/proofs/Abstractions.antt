@@ -100,7 +100,7 @@ module _ (names : NameMap) (types : List Type_) (g : ℕ) (f : ir_function.Funct
       let rest = statements_reads known written b (and_right (statement_fits types es f.result s) (block_fits types es f.result b) fits) (and_right (statement_is_written s) (block_is_written b) returns) in
       subst (λ s. StatementsRead (statement s b)) (sym r.1) (return_reads known written r.0 b (subst (λ s. IsTrue (statement_fits types es f.result s)) r.1 (and_left (statement_fits types es f.result s) (block_fits types es f.result b) fits)) rest)
 
-names_counted : (names : NameMap) (types : List Type_) (g n : ℕ) (args : List FunctionArgument) → map (λ p. p.name) (parameters_form names types g n args) ≡ names_from (argument_name names g) n (length args)
+pub names_counted : (names : NameMap) (types : List Type_) (g n : ℕ) (args : List FunctionArgument) → map (λ p. p.name) (parameters_form names types g n args) ≡ names_from (argument_name names g) n (length args)
 names_counted names types g n [] = refl
 names_counted names types g n (a ∷ args) = ap (λ ns. argument_name names g n ∷ ns) (names_counted names types g (n + 1) args ∙ ap (λ k. names_from (argument_name names g) k (length args)) (add-one n))
 

@@ -5,3 +5,4 @@ pub mod Abstractions
 pub mod Fits
 pub mod Named
 pub mod Programs
+pub mod Straight

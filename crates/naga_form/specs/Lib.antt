@@ -1,8 +1,10 @@
 pub mod Names
 pub mod Types
 pub mod Literals
+pub mod Operators
 pub mod Form
 pub mod Shapes
 pub mod Abstraction
 pub mod Interface
+pub mod Lines
 pub mod Faithful

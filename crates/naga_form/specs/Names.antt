@@ -26,12 +26,15 @@ module_names m key = update_all same_key (λ _. None) (named_items wgsl_names (l
 abbrev pub name_in : NameMap → NameKey → List ℕ
 name_in names key = unwrap_or (names key) []
 
--- the name of a function, and of one of its arguments
+-- the name of a function, of one of its arguments and of one of its locals
 abbrev pub function_name : NameMap → (function : ℕ) → List ℕ
 function_name names g = name_in names (key.Function g)
 
 abbrev pub argument_name : NameMap → (function argument : ℕ) → List ℕ
 argument_name names g n = name_in names (key.FunctionArgument g n)
+
+abbrev pub local_name : NameMap → (function local : ℕ) → List ℕ
+local_name names g l = name_in names (key.FunctionLocal g l)
 
 -- the name of a handle, or of a greater number, which has blanks for a name, so that no two numbers have one
 abbrev pub numbered_text : (is_handle : Bool) → ℕ → List ℕ

@@ -4,7 +4,7 @@ use Rattle.std.specs.List.{list_any}
 use Rattle.std.specs.Bool.{nat_eq}
 use Rattle.std.specs.Option.{option_map}
 use Rattle.indexmap.specs.IndexMap.{keys}
-use Rattle.naga_ir.specs.StatementTree.{emit, return, StatementTree, simple, BlockTree, no_statements, statement}
+use Rattle.naga_ir.specs.StatementTree.{emit, store, return, StatementTree, simple, BlockTree, no_statements, statement}
 use Rattle.naga_ir.specs.declared.expression.Expression as ir
 use Rattle.naga_ir.specs.declared.expression.Expression.TheVariants as expression
 use Rattle.naga_ir.specs.declared.module.Function as ir_function
@@ -14,24 +14,37 @@ use Rattle.naga_info.specs.declared.info.ExpressionInfo.{ExpressionInfo}
 use Rattle.naga_info.specs.declared.info.ModuleInfo.{ModuleInfo}
 use Rattle.naga_info.specs.Types.{word_at, spelling_of}
 use Rattle.naga_names.specs.Reset.{NameMap}
-use Rattle.shader_runs.specs.Value.{Bytes, ValueType}
-use Rattle.shader_runs.specs.Program.{Fixed, Expression, Constant, Argument, Local, Result, Statement, Emit, Return, Block, Statements, end, then, Function, Module}
+use Rattle.shader_runs.specs.Value.{Bytes, ValueType, ShortCircuitAnd, ShortCircuitOr}
+use Rattle.shader_runs.specs.Program.{Fixed, Expression, Constant, Argument, Local, Load, Operator, Logical, Result, Statement, Emit, Store, Return, Block, Statements, end, then, Function, Module}
 use Rattle.shader_runs.specs.Scope.{ModuleNames, Names, Naming}
-use Rattle.naga_form.specs.Names.{function_name, argument_name, numbered_name}
+use Rattle.wgsl_text.specs.Pieces.{binary_pieces}
+use Rattle.wgsl_text.specs.Text.{text}
+use Rattle.wgsl_text.specs.Tree.{BinaryOperator, LogicalAnd, LogicalOr}
+use Rattle.naga_form.specs.Names.{function_name, argument_name, local_name, numbered_name}
+use Rattle.naga_form.specs.Operators.{operator_form}
 use Rattle.naga_form.specs.Types.{value_type}
 use Rattle.naga_form.specs.Literals.{literal_value}
 use Rattle.naga_form.specs.Abstraction.{is_request}
+
+-- `&&` and `||` evaluate their right side only where it decides; any other operator is its sign
+abbrev pub binary_shape : BinaryOperator → ℕ → ℕ → Expression
+binary_shape LogicalAnd left right = Logical ShortCircuitAnd left right
+binary_shape LogicalOr left right = Logical ShortCircuitOr left right
+binary_shape op left right = Operator (text (binary_pieces op)) (left ∷ right ∷ [])
 
 -- what an expression evaluates. What is not written so far stands as a result that no statement gives
 abbrev pub expression_shape : ir.Expression → Expression
 expression_shape (expression.Literal value) = Constant (Fixed (literal_value value))
 expression_shape (expression.FunctionArgument number) = Argument number
 expression_shape (expression.LocalVariable handle) = Local handle
+expression_shape (expression.Load pointer) = Load pointer
+expression_shape (expression.Binary op left right) = binary_shape (operator_form op) left right
 expression_shape _ = Result
 
 -- what a statement does. What is not written so far stands as an empty block
 abbrev pub statement_shape : StatementTree → Statement
 statement_shape (simple (emit first last)) = Emit first (last - first)
+statement_shape (simple (store pointer value)) = Store pointer value
 statement_shape (simple (return value)) = Return value
 statement_shape _ = Block end
 
@@ -73,13 +86,13 @@ abbrev pub outer_names : NameMap → ModuleNames
 outer_names names =
     record { constant = λ i. []; global = λ i. []; function = function_name names; is_request = is_request }
 
--- the names that the text of the function with this handle uses. It has no locals and no names of front ends so far
+-- the names that the text of the function with this handle uses. Front ends name nothing in it so far
 abbrev pub inner_names : NameMap → ℕ → Names
 inner_names names g =
     record {
       outer = outer_names names;
       argument = argument_name names g;
-      local_ = λ i. [];
+      local_ = local_name names g;
       given = λ k. [];
       numbered = numbered_name;
       earlier = g;

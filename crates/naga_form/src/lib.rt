@@ -2,7 +2,15 @@
 #![tactic(auto)]
 
 ghost use Rattle.std.specs.Prelude.{◌≡◌, ℕ, List, IsTrue, Bool};
+ghost use Rattle.naga_ir.specs.declared.module.Function.{Function};
 ghost use Rattle.naga_ir.specs.declared.module.Module.{Module};
+ghost use Rattle.naga_ir.specs.declared.types.Type_.{Type_};
+ghost use Rattle.naga_info.specs.declared.info.ExpressionInfo.{ExpressionInfo};
+ghost use Rattle.naga_names.specs.Reset.{NameMap};
+ghost use Rattle.shader_runs.specs.Form.{form_function};
+ghost use Rattle.naga_form.specs.Abstraction.{function_read};
+ghost use Rattle.naga_form.specs.Lines.{straight_form};
+ghost use Rattle.naga_form.specs.Shapes.{function_shape, inner_names};
 ghost use Rattle.naga_info.specs.Accepted.{is_accepted};
 ghost use Rattle.naga_info.specs.Part.{is_written_so_far};
 ghost use Rattle.naga_info.specs.declared.info.ModuleInfo.{ModuleInfo};
@@ -23,4 +31,9 @@ pub fn has_the_interface()
 /// It does what the module does.
 pub fn runs_as_the_module()
     ensures { (m : Module) (info : ModuleInfo) (explicit : Bool) → IsTrue (is_accepted m info) → IsTrue (is_written_so_far m) → NamesAreCounted m → RunsAs m info (written_program m info explicit) }
+{}
+
+/// A function of straight lines: what is written of it is read as its shape is written, whatever is known of it.
+pub fn straight_lines_are_read()
+    ensures { (explicit : Bool) (names : NameMap) (types : List Type_) (g : ℕ) (f : Function) (es : List ExpressionInfo) → function_read (straight_form explicit names types g f es) ≡ form_function (record { function = function_shape types f es; names = inner_names names g }) }
 {}

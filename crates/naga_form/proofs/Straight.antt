@@ -1,0 +1,144 @@
+-- What is written of straight lines is read as their shapes are written.
+use Rattle.std.proofs.Common.{◌≡◌, ℕ, suc, zero, ◌+◌, ◌-◌, Bool, true, false, List, [], ◌∷◌, map, length, Option, Some, None, refl, sym, ap, ◌∙◌, add-one}
+use Rattle.std.specs.Prelude.{slice_get}
+use Rattle.std.specs.Option.{option_map}
+use Rattle.std.proofs.lemmas.Option.{slice_get-map}
+use Rattle.naga_ir.specs.StatementTree.{emit, store, return, StatementTree, simple, BlockTree, no_statements, statement}
+use Rattle.naga_ir.specs.declared.expression.Expression as ir
+use Rattle.naga_ir.specs.declared.expression.Expression.TheVariants as expression
+use Rattle.naga_ir.specs.declared.operators.BinaryOperator.{BinaryOperator}
+use Rattle.naga_ir.specs.declared.operators.BinaryOperator.TheVariants as operator
+use Rattle.naga_ir.specs.declared.module.Function as ir_function
+use Rattle.naga_ir.specs.declared.module.LocalVariable.{LocalVariable}
+use Rattle.naga_ir.specs.declared.types.Type_.{Type_}
+use Rattle.naga_info.specs.Types.{word_at}
+use Rattle.naga_info.specs.declared.info.ExpressionInfo.{ExpressionInfo}
+use Rattle.naga_names.specs.Reset.{NameMap}
+use Rattle.wgsl_text.specs.Tree.{TypeSpecifier}
+use Rattle.wgsl_text.specs.Tree as tree
+use Rattle.wgsl_text.specs.Pieces.{binary_pieces}
+use Rattle.wgsl_text.specs.Text.{text}
+use Rattle.shader_runs.specs.Value.{ValueType, ShortCircuitAnd, ShortCircuitOr}
+use Rattle.shader_runs.specs.Program as shapes
+use Rattle.shader_runs.specs.Program.{handle_type, expression_of, binds, from}
+use Rattle.shader_runs.specs.Scope.{Standing, Absent, Barred, Everywhere, Inline, Named, Handles, Naming, at_start, bound_name, given_after, given_by, after_one, after}
+use Rattle.shader_runs.specs.Text.{LiteralOf, Apply, LogicalOf, more, no_more, before, Let, ReturnLine, Assign}
+use Rattle.shader_runs.specs.Form as runs
+use Rattle.shader_runs.specs.Form.{Plain, AsValue, AsPlace, written_below, form_function, names_from, variables_from, let_if}
+use Rattle.naga_form.specs.Names.{function_name, argument_name}
+use Rattle.naga_form.specs.Operators.{operator_form}
+use Rattle.naga_form.specs.Types.{value_type}
+use Rattle.naga_form.specs.Lines.{PlainForm, ValueForm, ReferenceForm, as_value, as_reference, own_plain, own_if, standing_plain, plain_below, plain_form, value_form, let_form, then_if, lets_form, return_line, line_form, lines_form, locals_form, told_type, straight_form}
+use Rattle.naga_form.specs.Shapes.{expression_shape, statement_shape, statements_shape, function_shape, inner_names}
+use Rattle.naga_form.specs.Abstraction.{expression_read, statement_read, statements_read, variable_read, function_read}
+use Rattle.naga_form.proofs.Abstractions.{literal_read, names_counted, named}
+use Rattle.naga_form.proofs.Fits.{mapped_length}
+
+-- what a plain form is read as
+abbrev plain_read : PlainForm → Plain
+plain_read (ValueForm e) = AsValue (expression_read e)
+plain_read (ReferenceForm e) = AsPlace (expression_read e)
+
+value_is : (p : PlainForm) → expression_read (as_value p) ≡ runs.value_form (plain_read p)
+value_is (ValueForm e) = refl
+value_is (ReferenceForm e) = refl
+
+place_is : (p : PlainForm) → expression_read (as_reference p) ≡ runs.place_form (plain_read p)
+place_is (ValueForm e) = refl
+place_is (ReferenceForm e) = refl
+
+module _ (n : Naming) where
+  own_reads : (operand : ℕ → PlainForm) (like : ℕ → Plain) → ((x : ℕ) → plain_read (operand x) ≡ like x) → (k : ValueType) (e : ir.Expression) → plain_read (own_plain n operand e) ≡ runs.own_form n like k (Some (expression_shape e))
+  own_reads operand like same k (expression.Literal value) = ap (λ v. AsValue (LiteralOf v)) (literal_read value)
+  own_reads operand like same k (expression.Load pointer) = ap AsValue (place_is (operand pointer) ∙ ap runs.place_form (same pointer))
+  own_reads operand like same k (expression.Binary op left right) = binary_reads op
+    where
+      left_is : expression_read (as_value (operand left)) ≡ runs.value_form (like left)
+      left_is = value_is (operand left) ∙ ap runs.value_form (same left)
+
+      right_is : expression_read (as_value (operand right)) ≡ runs.value_form (like right)
+      right_is = value_is (operand right) ∙ ap runs.value_form (same right)
+
+      binary_reads : (op : BinaryOperator) → plain_read (own_plain n operand (expression.Binary op left right)) ≡ runs.own_form n like k (Some (expression_shape (expression.Binary op left right)))
+      binary_reads operator.LogicalAnd = λ i. AsValue (LogicalOf ShortCircuitAnd (left_is i) (right_is i))
+      binary_reads operator.LogicalOr = λ i. AsValue (LogicalOf ShortCircuitOr (left_is i) (right_is i))
+      binary_reads op = λ i. AsValue (Apply (text (binary_pieces (operator_form op))) (more (left_is i) (more (right_is i) no_more)))
+  own_reads operand like same k _ = refl
+
+  own_if_reads : (operand : ℕ → PlainForm) (like : ℕ → Plain) → ((x : ℕ) → plain_read (operand x) ≡ like x) → (k : ValueType) (e : Option ir.Expression) → plain_read (own_if n operand e) ≡ runs.own_form n like k (option_map expression_shape e)
+  own_if_reads operand like same k (Some e) = own_reads operand like same k e
+  own_if_reads operand like same k None = refl
+
+  standing_reads : (s : Standing) (p : PlainForm) (q : Plain) → plain_read p ≡ q → plain_read (standing_plain s p) ≡ runs.standing_form s q
+  standing_reads (Named x) p q e = refl
+  standing_reads _ p q e = e
+
+module _ (names : NameMap) (types : List Type_) (g : ℕ) (f : ir_function.Function) (es : List ExpressionInfo) where
+  abbrev own : Naming
+  own = named names types g f es
+
+  below_reads : (s : Handles) (k h : ℕ) → plain_read (plain_below own f.expressions s k h) ≡ written_below own s k h
+  below_reads s zero h = refl
+  below_reads s (suc k) h =
+      standing_reads own (s h) (own_if own (plain_below own f.expressions s k) (slice_get f.expressions h)) (runs.own_form own (written_below own s k) (handle_type own.function h) (expression_of own.function h))
+      (own_if_reads own (plain_below own f.expressions s k) (written_below own s k) (below_reads s k) (handle_type own.function h) (slice_get f.expressions h)
+      ∙ ap (runs.own_form own (written_below own s k) (handle_type own.function h)) (sym (slice_get-map expression_shape f.expressions h)))
+
+  plain_reads : (s : Handles) (h : ℕ) → plain_read (plain_form own f.expressions s h) ≡ runs.written own s h
+  plain_reads s h = below_reads s (length f.expressions) h ∙ ap (λ k. written_below own s k h) (sym (mapped_length expression_shape f.expressions))
+
+  value_reads : (s : Handles) (h : ℕ) → expression_read (value_form own f.expressions s h) ≡ runs.value_at own s h
+  value_reads s h = value_is (plain_form own f.expressions s h) ∙ ap runs.value_form (plain_reads s h)
+
+  value_if_reads : (s : Handles) (v : Option ℕ) → option_map expression_read (option_map (value_form own f.expressions s) v) ≡ runs.value_if own s v
+  value_if_reads s None = refl
+  value_if_reads s (Some h) = ap Some (value_reads s h)
+
+  let_reads : (told : Option TypeSpecifier) (x : List ℕ) (e : tree.Expression) → statement_read (let_form told x e) ≡ Let x (expression_read e)
+  let_reads None x e = refl
+  let_reads (Some t) x e = refl
+
+  then_if_reads : (b : Bool) (told : Option TypeSpecifier) (x : List ℕ) (e : tree.Expression) (rest : tree.Statements) → statements_read (then_if b (let_form told x e) rest) ≡ let_if b x (expression_read e) (statements_read rest)
+  then_if_reads true told x e rest = ap (λ l. before l (statements_read rest)) (let_reads told x e)
+  then_if_reads false told x e rest = refl
+
+  lets_read : (told : ℕ → Option TypeSpecifier) (k : ℕ) (hs : List ℕ) (s : Handles) (rest : tree.Statements) → statements_read (lets_form own told f.expressions k hs s rest) ≡ runs.lets own k hs s (statements_read rest)
+  lets_read told k [] s rest = refl
+  lets_read told k (h ∷ hs) s rest =
+      let e = own_if own (plain_form own f.expressions s) (slice_get f.expressions h) in
+      let behind = lets_form own told f.expressions (given_after own.function h k) hs (after_one own k h s) rest in
+      then_if_reads (binds own.function h) (told h) (bound_name own k h) (as_value e) behind
+      ∙ λ i. let_if (binds own.function h) (bound_name own k h)
+          ((value_is e ∙ ap runs.value_form (own_if_reads own (plain_form own f.expressions s) (runs.written own s) (plain_reads s) (handle_type own.function h) (slice_get f.expressions h)
+            ∙ ap (runs.own_form own (runs.written own s) (handle_type own.function h)) (sym (slice_get-map expression_shape f.expressions h)))) i)
+          (lets_read told (given_after own.function h k) hs (after_one own k h s) rest i)
+
+  return_reads : (s : Handles) (v : Option ℕ) → statement_read (return_line own f.expressions s v) ≡ ReturnLine (runs.value_if own s v)
+  return_reads s None = refl
+  return_reads s (Some h) = ap (λ e. ReturnLine (Some e)) (value_reads s h)
+
+  line_reads : (told : ℕ → Option TypeSpecifier) (k : ℕ) (st : StatementTree) (s : Handles) (rest : tree.Statements) → statements_read (line_form own told f.expressions k st s rest) ≡ runs.form own k (statement_shape st) s (statements_read rest)
+  line_reads told k (simple (emit first end)) s rest = lets_read told k (from first (end - first)) s rest
+  line_reads told k (simple (store pointer value)) s rest = λ i. before (Assign ((place_is (plain_form own f.expressions s pointer) ∙ ap runs.place_form (plain_reads s pointer)) i) (value_reads s value i)) (statements_read rest)
+  line_reads told k (simple (return value)) s rest = ap (λ l. before l (statements_read rest)) (return_reads s value)
+  line_reads told k _ s rest = refl
+
+  lines_read : (told : ℕ → Option TypeSpecifier) (k : ℕ) (b : BlockTree) (s : Handles) → statements_read (lines_form own told f.expressions k b s) ≡ runs.form_all own k (statements_shape b) s
+  lines_read told k no_statements s = refl
+  lines_read told k (statement st b) s =
+      line_reads told k st s (lines_form own told f.expressions (given_by own.function (statement_shape st) k) b (after own k (statement_shape st) s))
+      ∙ ap (runs.form own k (statement_shape st) s) (lines_read told (given_by own.function (statement_shape st) k) b (after own k (statement_shape st) s))
+
+  locals_read : (l : ℕ) (vs : List LocalVariable) → map variable_read (locals_form own types f.expressions l vs) ≡ variables_from own l (map (λ v. v.init) vs)
+  locals_read l [] = refl
+  locals_read l (v ∷ vs) = λ i.
+      record { name = own.names.local_ l; first_value = value_if_reads (at_start own.function) v.init i }
+      ∷ (locals_read (l + 1) vs ∙ ap (λ m. variables_from own m (map (λ v. v.init) vs)) (add-one l)) i
+
+pub straight_reads : (explicit : Bool) (names : NameMap) (types : List Type_) (g : ℕ) (f : ir_function.Function) (es : List ExpressionInfo) → function_read (straight_form explicit names types g f es) ≡ form_function (named names types g f es)
+straight_reads explicit names types g f es = λ i. record {
+  name = function_name names g;
+  parameters = (names_counted names types g 0 f.arguments.items ∙ ap (names_from (argument_name names g) 0) (sym (mapped_length (λ a. value_type (word_at types a.ty)) f.arguments.items))) i;
+  variables = locals_read names types g f es 0 f.local_variables i;
+  lines = lines_read names types g f es (told_type explicit types es) 0 f.body (at_start (function_shape types f es)) i;
+}
