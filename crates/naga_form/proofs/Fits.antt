@@ -39,12 +39,12 @@ at_shape (x ∷ xs) written zero P none some = some x refl (is_leaf x (and_left 
 at_shape (x ∷ xs) written (suc h) P none some = at_shape xs (and_right (expression_is_written x) (list_all expression_is_written xs) written) h P none some
 
 -- the type at an index of a list of types made from other things
-type_at_mapped : {X : Type 0} (t : X → ValueType) (xs : List X) (i : ℕ) (x : X) → slice_get xs i ≡ Some x → type_at (map t xs) i ≡ t x
+pub type_at_mapped : {X : Type 0} (t : X → ValueType) (xs : List X) (i : ℕ) (x : X) → slice_get xs i ≡ Some x → type_at (map t xs) i ≡ t x
 type_at_mapped t [] i x found = absurd (cc)
 type_at_mapped t (y ∷ xs) zero x found = ap t (ap (λ o. unwrap_or o y) found)
 type_at_mapped t (y ∷ xs) (suc i) x found = type_at_mapped t xs i x found
 
-literal_type : (v : ir_literal.Literal) (w : List ℕ) → literal_word v ≡ Some w → value_type (literal_word v) ≡ type_of (literal_value v)
+pub literal_type : (v : ir_literal.Literal) (w : List ℕ) → literal_word v ≡ Some w → value_type (literal_word v) ≡ type_of (literal_value v)
 literal_type (literal.Bool b) w e = refl
 literal_type (literal.I32 z) w e = refl
 literal_type (literal.U32 n) w e = refl

@@ -6,3 +6,4 @@ pub mod Fits
 pub mod Named
 pub mod Programs
 pub mod Straight
+pub mod StraightFits
