@@ -7,3 +7,4 @@ pub mod Named
 pub mod Programs
 pub mod Straight
 pub mod StraightFits
+pub mod StraightRuns

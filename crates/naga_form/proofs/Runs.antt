@@ -43,19 +43,19 @@ module _ (names : NameMap) (types : List Type_) where
       λ i. function_reads names types g f es (and_left (function_fits types f es) (functions_fit types fs ess) fits) (and_left (function_is_written f) (list_all function_is_written fs) written) i
       ∷ functions_read (g + 1) fs ess (and_right (function_fits types f es) (functions_fit types fs ess) fits) (and_right (function_is_written f) (list_all function_is_written fs) written) i
 
-form_functions-map : (ns : List Naming) → form_functions ns ≡ map form_function ns
+pub form_functions-map : (ns : List Naming) → form_functions ns ≡ map form_function ns
 form_functions-map [] = refl
 form_functions-map (n ∷ ns) = ap (λ fs. form_function n ∷ fs) (form_functions-map ns)
 
-functions_of-map : (ns : List Naming) → functions_of ns ≡ map (λ n. n.function) ns
+pub functions_of-map : (ns : List Naming) → functions_of ns ≡ map (λ n. n.function) ns
 functions_of-map [] = refl
 functions_of-map (n ∷ ns) = ap (λ fs. n.function ∷ fs) (functions_of-map ns)
 
-functions_of_namings : (names : NameMap) (g : ℕ) (fs : List shapes.Function) → map (λ n. n.function) (namings_from names g fs) ≡ fs
+pub functions_of_namings : (names : NameMap) (g : ℕ) (fs : List shapes.Function) → map (λ n. n.function) (namings_from names g fs) ≡ fs
 functions_of_namings names g [] = refl
 functions_of_namings names g (f ∷ fs) = ap (λ fs. f ∷ fs) (functions_of_namings names (g + 1) fs)
 
-length-functions_of : (ns : List Naming) → length (functions_of ns) ≡ length ns
+pub length-functions_of : (ns : List Naming) → length (functions_of ns) ≡ length ns
 length-functions_of [] = refl
 length-functions_of (n ∷ ns) = ap suc (length-functions_of ns)
 
@@ -65,7 +65,7 @@ element [] i lt = absurd (omega (arith, lt))
 element (x ∷ xs) zero lt = (x, refl)
 element (x ∷ xs) (suc i) lt = element xs i (omega (arith, lt))
 
-shapes_counted : (types : List Type_) (fs : List ir_function.Function) (ess : List (List ExpressionInfo)) → IsTrue (functions_fit types fs ess) → length (function_shapes types fs ess) ≡ length fs
+pub shapes_counted : (types : List Type_) (fs : List ir_function.Function) (ess : List (List ExpressionInfo)) → IsTrue (functions_fit types fs ess) → length (function_shapes types fs ess) ≡ length fs
 shapes_counted types [] [] fits = refl
 shapes_counted types [] (es ∷ ess) fits = absurd (cc)
 shapes_counted types (f ∷ fs) [] fits = absurd (cc)

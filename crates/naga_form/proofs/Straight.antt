@@ -33,7 +33,7 @@ use Rattle.naga_form.specs.Shapes.{expression_shape, statement_shape, statements
 use Rattle.naga_form.specs.Abstraction.{expression_read, statement_read, statements_read, variable_read, function_read}
 use Rattle.naga_form.proofs.Abstractions.{literal_read, names_counted, named}
 use Rattle.naga_form.proofs.Fits.{mapped_length}
-use Rattle.naga_form.proofs.StraightFits.{sign_not_numbered}
+
 
 -- what a plain form is read as
 abbrev plain_read : PlainForm → Plain

@@ -65,7 +65,7 @@ not_numbered true h c rest one two e = true≢false (ap (λ l. nat_eq (get_or l 
 not_numbered false zero c rest one two e = absurd (cc)
 not_numbered false (suc h) c rest one two e = true≢false (ap (λ l. nat_eq (get_or l 0 0) 32) e ∙ two)
 
-pub sign_not_numbered : (h c : ℕ) (rest : List ℕ) → nat_eq c 95 ≡ false → nat_eq c 32 ≡ false → numbered_name h ≡ c ∷ rest → ⊥
+sign_not_numbered : (h c : ℕ) (rest : List ℕ) → nat_eq c 95 ≡ false → nat_eq c 32 ≡ false → numbered_name h ≡ c ∷ rest → ⊥
 unfolding numbered_name
 sign_not_numbered h c rest one two e = not_numbered _ h c rest one two e
 

@@ -1,25 +1,29 @@
 -- The syntax tree of a function of straight lines, with a `let` for each emitted handle that is bound. Which handles are bound, and where their
 -- names are in scope, is what the runs say of the function's shape.
-use Rattle.std.specs.Prelude.{ℕ, zero, suc, ◌+◌, ◌-◌, Bool, true, false, List, [], ◌∷◌, length, Option, Some, None, slice_get, unwrap_or}
+use Rattle.std.specs.Prelude.{ℕ, zero, suc, ◌+◌, ◌-◌, Bool, true, false, List, [], ◌∷◌, length, Option, Some, None, slice_get, unwrap_or, ◌==◌}
+use Rattle.std.specs.List.{list_all}
+use Rattle.indexmap.specs.IndexMap.{keys}
 use Rattle.std.specs.Option.{option_map, option_map_or}
 use Rattle.naga_ir.specs.StatementTree.{emit, store, return, StatementTree, simple, BlockTree, no_statements, statement}
 use Rattle.naga_ir.specs.declared.expression.Expression as ir
 use Rattle.naga_ir.specs.declared.expression.Expression.TheVariants as expression
 use Rattle.naga_ir.specs.declared.module.Function as ir_function
 use Rattle.naga_ir.specs.declared.module.LocalVariable.{LocalVariable}
+use Rattle.naga_ir.specs.declared.module.Module.{Module}
 use Rattle.naga_ir.specs.declared.types.Type_.{Type_}
 use Rattle.naga_info.specs.Types.{spelling_at}
 use Rattle.naga_info.specs.declared.info.ExpressionInfo.{ExpressionInfo}
+use Rattle.naga_info.specs.declared.info.ModuleInfo.{ModuleInfo}
 use Rattle.naga_names.specs.Reset.{NameMap}
-use Rattle.wgsl_text.specs.Tree.{TypeSpecifier, Named as NamedType, Truth, Expression, Constant, Name, Binary, AddressOf, Dereference, Statement, Let, TypedLet, Assign, Return, ReturnValue, Block, Statements, NoStatements, Then, Local, Function}
+use Rattle.wgsl_text.specs.Tree.{TypeSpecifier, Named as NamedType, Truth, Expression, Constant, Name, Binary, AddressOf, Dereference, Statement, Let, TypedLet, Assign, Return, ReturnValue, Block, Statements, NoStatements, Then, Local, Function, Program, no_declarations}
 use Rattle.shader_runs.specs.Program.{binds, from}
-use Rattle.shader_runs.specs.Scope.{Standing, Named, Handles, Naming, bound_name, at_start, given_after, given_by, after_one, after}
-use Rattle.naga_form.specs.Names.{function_name, local_name}
+use Rattle.shader_runs.specs.Scope.{Standing, Named, Handles, Naming, bound_name, at_start, given_after, given_by, after_one, after, fits_function}
+use Rattle.naga_form.specs.Names.{module_names, function_name}
 use Rattle.naga_form.specs.Types.{type_form}
 use Rattle.naga_form.specs.Literals.{literal_form}
 use Rattle.naga_form.specs.Operators.{operator_form}
 use Rattle.naga_form.specs.Form.{parameters_form, result_form}
-use Rattle.naga_form.specs.Shapes.{statement_shape, function_shape, inner_names}
+use Rattle.naga_form.specs.Shapes.{statement_shape, function_shape, inner_names, namings}
 
 -- a plain form: a value or a reference
 pub data PlainForm : Type 0 where
@@ -122,3 +126,21 @@ straight_form explicit names types g f es =
       locals = locals_form n types f.expressions 0 f.local_variables;
       body = lines_form n (told_type explicit types es) f.expressions 0 f.body (at_start n.function);
     }
+
+-- the functions from this handle on, each with what is known of its expressions
+abbrev pub straight_functions : (explicit : Bool) → NameMap → List Type_ → ℕ → List ir_function.Function → List (List ExpressionInfo) → List Function
+straight_functions explicit names types g (f ∷ fs) (es ∷ ess) = straight_form explicit names types g f es ∷ straight_functions explicit names types (g + 1) fs ess
+straight_functions explicit names types g _ _ = []
+
+-- the program of a module of straight lines
+abbrev pub straight_program : (explicit : Bool) → Module → ModuleInfo → Program
+straight_program explicit m info =
+    record no_declarations { functions = straight_functions explicit (module_names m) m.types 0 m.functions info.functions.items }
+
+-- no function has expressions that a front end named
+abbrev pub nothing_named : Module → Bool
+nothing_named m = list_all (λ f. length (keys f.named_expressions) == 0) m.functions
+
+-- each handle is in scope where it is used, and no `Emit` is refused
+abbrev pub scope_holds : Module → ModuleInfo → Bool
+scope_holds m info = list_all fits_function (namings (module_names m) m info)

@@ -9,7 +9,7 @@ ghost use Rattle.naga_info.specs.declared.info.ExpressionInfo.{ExpressionInfo};
 ghost use Rattle.naga_names.specs.Reset.{NameMap};
 ghost use Rattle.shader_runs.specs.Form.{form_function};
 ghost use Rattle.naga_form.specs.Abstraction.{function_read};
-ghost use Rattle.naga_form.specs.Lines.{straight_form};
+ghost use Rattle.naga_form.specs.Lines.{straight_form, straight_program, nothing_named, scope_holds};
 ghost use Rattle.naga_form.specs.Shapes.{function_shape, inner_names};
 ghost use Rattle.naga_info.specs.Accepted.{is_accepted};
 ghost use Rattle.naga_info.specs.Part.{is_written_so_far};
@@ -36,4 +36,9 @@ pub fn runs_as_the_module()
 /// A function of straight lines: what is written of it is read as its shape is written, whatever is known of it.
 pub fn straight_lines_are_read()
     ensures { (explicit : Bool) (names : NameMap) (types : List Type_) (g : ℕ) (f : Function) (es : List ExpressionInfo) → function_read (straight_form explicit names types g f es) ≡ form_function (record { function = function_shape types f es; names = inner_names names g }) }
+{}
+
+/// An accepted module of straight lines, whose handles are in scope where they are used, does by its text what it does.
+pub fn straight_lines_run()
+    ensures { (m : Module) (info : ModuleInfo) (explicit : Bool) → IsTrue (is_accepted m info) → IsTrue (nothing_named m) → IsTrue (scope_holds m info) → NamesAreCounted m → RunsAs m info (straight_program explicit m info) }
 {}

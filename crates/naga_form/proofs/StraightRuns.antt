@@ -1,0 +1,117 @@
+-- A module of straight lines does by its text what it does.
+use Rattle.std.proofs.Common.{◌≡◌, ℕ, suc, zero, ◌+◌, ◌<◌, Bool, true, false, ◌&&◌, List, [], ◌∷◌, map, length, Some, refl, sym, ap, subst, ◌∙◌, arith, add-one, append-nil}
+use Rattle.std.specs.Prelude.{IsTrue, slice_get, reverse, ◌==◌}
+use Rattle.std.specs.List.{list_all}
+use mathlib.Core.List.{reverse_aux}
+use Rattle.std.proofs.lemmas.List.{length-reverse}
+use Rattle.indexmap.proofs.ReorderLemmas.{map-reverse}
+use Rattle.indexmap.specs.IndexMap.{keys}
+use Rattle.naga_ir.specs.declared.module.Function as ir_function
+use Rattle.naga_ir.specs.declared.module.Module.{Module}
+use Rattle.naga_ir.specs.declared.types.Type_.{Type_}
+use Rattle.naga_info.specs.Accepted.{is_accepted, function_fits, functions_fit}
+use Rattle.naga_info.specs.declared.info.ExpressionInfo.{ExpressionInfo}
+use Rattle.naga_info.specs.declared.info.ModuleInfo.{ModuleInfo}
+use Rattle.naga_info.proofs.Accepting.{accepted_parts}
+use Rattle.naga_names.specs.Reset.{NameMap}
+use Rattle.naga_names.specs.declared.namer.key.NameKey.TheVariants as key
+use Rattle.shader_runs.specs.Program as shapes
+use Rattle.shader_runs.specs.Scope.{Naming, fits_function}
+use Rattle.shader_runs.specs.Text.{TextModule}
+use Rattle.shader_runs.specs.TextRun.{module_scope, follow_call}
+use Rattle.shader_runs.specs.Form.{form_function, form_module, functions_of}
+use Rattle.shader_runs.specs.Premises.{FunctionFits, AllFit}
+use Rattle.shader_runs.specs.Correct.{ModuleFits}
+use Rattle.shader_runs.proofs.Calls.{runs_alike}
+use Rattle.naga_form.specs.Names.{NamesAreCounted, module_names, function_name}
+use Rattle.naga_form.specs.Lines.{straight_functions, straight_program, nothing_named, scope_holds}
+use Rattle.naga_form.specs.Shapes.{function_shape, function_shapes, program_shape, namings_from, namings, outer_names}
+use Rattle.naga_form.specs.Abstraction.{function_read, program_read, is_request}
+use Rattle.naga_form.specs.Faithful.{RunsAs}
+use Rattle.naga_form.proofs.Facts.{and_left, and_right, all_at}
+use Rattle.naga_form.proofs.Abstractions.{named}
+use Rattle.naga_form.proofs.Named.{items_tell, function_item, function_there}
+use Rattle.naga_form.proofs.Runs.{element, form_functions-map, functions_of-map, functions_of_namings, length-functions_of, shapes_counted}
+use Rattle.naga_form.proofs.Straight.{straight_reads}
+use Rattle.naga_form.proofs.StraightFits.{straight_fits}
+
+functions_read : (explicit : Bool) (names : NameMap) (types : List Type_) (g : ℕ) (fs : List ir_function.Function) (ess : List (List ExpressionInfo)) → map function_read (straight_functions explicit names types g fs ess) ≡ map form_function (namings_from names g (function_shapes types fs ess))
+functions_read explicit names types g [] [] = refl
+functions_read explicit names types g [] (es ∷ ess) = refl
+functions_read explicit names types g (f ∷ fs) [] = refl
+functions_read explicit names types g (f ∷ fs) (es ∷ ess) = λ i. straight_reads explicit names types g f es i ∷ functions_read explicit names types (g + 1) fs ess i
+
+-- what holds of all of a list that is turned round onto another holds of all of both
+behind_all : {X : Type 0} (test : X → Bool) (xs behind : List X) → IsTrue (list_all test (reverse_aux xs behind)) → IsTrue (list_all test behind)
+behind_all test [] behind all = all
+behind_all test (x ∷ xs) behind all = and_right (test x) (list_all test behind) (behind_all test xs (x ∷ behind) all)
+
+all_reversed : {X : Type 0} (test : X → Bool) (xs behind : List X) → IsTrue (list_all test (reverse_aux xs behind)) → IsTrue (list_all test xs)
+all_reversed test [] behind all = refl
+all_reversed test (x ∷ xs) behind all = both (test x) (list_all test xs) (and_left (test x) (list_all test behind) (behind_all test xs (x ∷ behind) all)) (all_reversed test xs (x ∷ behind) all)
+  where
+    both : (a b : Bool) → IsTrue a → IsTrue b → IsTrue (a && b)
+    both true b e f = f
+    both false b e f = e
+
+module _ (m : Module) (info : ModuleInfo) (accepted : IsTrue (is_accepted m info)) (unnamed : IsTrue (nothing_named m)) (scope : IsTrue (scope_holds m info)) (counted : NamesAreCounted m) where
+  abbrev p : shapes.Module
+  p = program_shape m info
+
+  -- each function, behind those before it
+  all_fit : (g : ℕ) (fs : List ir_function.Function) (ess : List (List ExpressionInfo)) → IsTrue (functions_fit m.types fs ess) → ((i : ℕ) (f : ir_function.Function) → slice_get fs i ≡ Some f → slice_get m.functions (g + i) ≡ Some f) → IsTrue (list_all (λ f. length (keys f.named_expressions) == 0) fs) → IsTrue (list_all fits_function (namings_from (module_names m) g (function_shapes m.types fs ess))) → (behind : List Naming) → length behind ≡ g → AllFit p (outer_names (module_names m)) behind → AllFit p (outer_names (module_names m)) (reverse_aux (namings_from (module_names m) g (function_shapes m.types fs ess)) behind)
+  all_fit g [] [] fits there named_none scoped behind at so_far = so_far
+  all_fit g [] (es ∷ ess) fits there named_none scoped behind at so_far = so_far
+  all_fit g (f ∷ fs) [] fits there named_none scoped behind at so_far = so_far
+  all_fit g (f ∷ fs) (es ∷ ess) fits there named_none scoped behind at so_far =
+      let fit = and_left (function_fits m.types f es) (functions_fit m.types fs ess) fits in
+      let here : g + 0 ≡ g = omega arith in
+      let found = subst (λ h. slice_get m.functions h ≡ Some f) here (there 0 f refl) in
+      let own = named (module_names m) m.types g f es in
+      let unnamed_here = and_left (length (keys f.named_expressions) == 0) (list_all (λ f. length (keys f.named_expressions) == 0) fs) named_none in
+      let scoped_here = and_left (fits_function own) (list_all fits_function (namings_from (module_names m) (g + 1) (function_shapes m.types fs ess))) scoped in
+      let this = straight_fits m g f found es fit unnamed_here p refl refl (functions_of behind) (length-functions_of behind ∙ at) counted scoped_here in
+      all_fit (g + 1) fs ess (and_right (function_fits m.types f es) (functions_fit m.types fs ess) fits) later (and_right (length (keys f.named_expressions) == 0) (list_all (λ f. length (keys f.named_expressions) == 0) fs) named_none) (and_right (fits_function own) (list_all fits_function (namings_from (module_names m) (g + 1) (function_shapes m.types fs ess))) scoped) (own ∷ behind) (ap suc at ∙ sym (add-one g)) (this, so_far)
+    where
+      later : (i : ℕ) (f1 : ir_function.Function) → slice_get fs i ≡ Some f1 → slice_get m.functions ((g + 1) + i) ≡ Some f1
+      later i f1 e = let moved : g + suc i ≡ (g + 1) + i = omega arith in subst (λ h. slice_get m.functions h ≡ Some f1) moved (there (suc i) f1 e)
+
+  fits : ModuleFits p (outer_names (module_names m)) (namings (module_names m) m info)
+  fits =
+      let parts = accepted_parts m info accepted in
+      let listed = namings_from (module_names m) 0 (function_shapes m.types m.functions info.functions.items) in
+      let count : length (reverse (function_shapes m.types m.functions info.functions.items)) ≡ length m.functions = length-reverse (function_shapes m.types m.functions info.functions.items) ∙ shapes_counted m.types m.functions info.functions.items parts.5 in
+      record {
+        functions = functions_of-map (reverse listed) ∙ (map-reverse (λ n. n.function) listed ∙ ap reverse (functions_of_namings (module_names m) 0 (function_shapes m.types m.functions info.functions.items)));
+        distinct = record {
+          functions = λ g k lg lk e.
+              let a = element m.functions g (subst (λ n. g < n) count lg) in
+              let b = element m.functions k (subst (λ n. k < n) count lk) in
+              one_function g k (ap (λ item. item.0) (items_tell m counted (function_item m g a.0) (function_item m k b.0) (function_there m g a.0 a.1) (function_there m k b.0 b.1) e));
+        };
+        all = all_fit 0 m.functions info.functions.items parts.5 from_start unnamed (all_reversed fits_function listed [] scope) [] refl tt;
+      }
+    where
+      one_function : (g k : ℕ) → key.Function g ≡ key.Function k → g ≡ k
+      one_function g k e = cc
+
+      from_start : (i : ℕ) (f : ir_function.Function) → slice_get m.functions i ≡ Some f → slice_get m.functions (0 + i) ≡ Some f
+      from_start i f e = let same : i ≡ 0 + i = omega arith in subst (λ h. slice_get m.functions h ≡ Some f) same e
+
+  program_reads : (explicit : Bool) → program_read (straight_program explicit m info) ≡ form_module p (outer_names (module_names m)) (namings (module_names m) m info)
+  program_reads explicit =
+      let listed = namings_from (module_names m) 0 (function_shapes m.types m.functions info.functions.items) in
+      let each = functions_read explicit (module_names m) m.types 0 m.functions info.functions.items in
+      λ i. record {
+        constants = [];
+        globals = [];
+        functions = (ap reverse (append-nil (map function_read (straight_functions explicit (module_names m) m.types 0 m.functions info.functions.items)) ∙ each) ∙ sym (form_functions-map (reverse listed) ∙ map-reverse form_function listed)) i;
+      }
+
+  runs : (explicit : Bool) → RunsAs m info (straight_program explicit m info)
+  runs explicit environment fit meaning typed g f found arguments typed_arguments world turns past keeps =
+      ap (λ (text : TextModule). follow_call (module_scope text environment) world meaning is_request turns text.functions (function_name (module_names m) g) arguments past) (program_reads explicit)
+      ∙ runs_alike p (outer_names (module_names m)) (namings (module_names m) m info) fits environment fit meaning typed g f found arguments typed_arguments world turns past keeps
+
+pub straight_runs : (m : Module) (info : ModuleInfo) (explicit : Bool) → IsTrue (is_accepted m info) → IsTrue (nothing_named m) → IsTrue (scope_holds m info) → NamesAreCounted m → RunsAs m info (straight_program explicit m info)
+straight_runs m info explicit accepted unnamed scope counted = runs m info accepted unnamed scope counted explicit
