@@ -8,3 +8,4 @@ pub mod Programs
 pub mod Straight
 pub mod StraightFits
 pub mod StraightRuns
+pub mod StraightPrograms

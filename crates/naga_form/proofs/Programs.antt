@@ -60,28 +60,32 @@ u64_is_type : IsType (Named (codes "u64"))
 unfolding is_reserved
 u64_is_type = record { part = record { text = refl; free = refl }; whole = refl }
 
--- a word of two, by two tests
-by_width : (a b : Bool) (x y : List ℕ) → IsType (Named x) → IsType (Named y) → IsTrue (is_some (if a then Some x else (if b then Some y else None))) → IsType (Named (unwrap_or (if a then Some x else (if b then Some y else None)) []))
-by_width true b x y p q e = p
-by_width false true x y p q e = q
-by_width false false x y p q e = absurd (cc)
+-- what holds of each word of a scalar type holds of one that is found by two tests
+module _ (P : List ℕ → Type 0) (of_bool : P (codes "bool")) (of_i32 : P (codes "i32")) (of_i64 : P (codes "i64")) (of_u32 : P (codes "u32")) (of_u64 : P (codes "u64")) where
+  by_width : (a b : Bool) (x y : List ℕ) → P x → P y → IsTrue (is_some (if a then Some x else (if b then Some y else None))) → P (unwrap_or (if a then Some x else (if b then Some y else None)) [])
+  by_width true b x y p q e = p
+  by_width false true x y p q e = q
+  by_width false false x y p q e = absurd (cc)
 
-by_one : (a : Bool) (x : List ℕ) → IsType (Named x) → IsTrue (is_some (if a then Some x else None)) → IsType (Named (unwrap_or (if a then Some x else None) []))
-by_one true x p e = p
-by_one false x p e = absurd (cc)
+  by_one : (a : Bool) (x : List ℕ) → P x → IsTrue (is_some (if a then Some x else None)) → P (unwrap_or (if a then Some x else None) [])
+  by_one true x p e = p
+  by_one false x p e = absurd (cc)
 
-width_is_type : (k : ScalarKind) (w : ℕ) → IsTrue (is_some (word_of_width k w)) → IsType (Named (unwrap_or (word_of_width k w) []))
-width_is_type kind.Bool w e = by_one (w == 1) (codes "bool") bool_is_type e
-width_is_type kind.Sint w e = by_width (w == 4) (w == 8) (codes "i32") (codes "i64") i32_is_type i64_is_type e
-width_is_type kind.Uint w e = by_width (w == 4) (w == 8) (codes "u32") (codes "u64") u32_is_type u64_is_type e
-width_is_type _ w e = absurd (cc)
+  pub of_each_width : (k : ScalarKind) (w : ℕ) → IsTrue (is_some (word_of_width k w)) → P (unwrap_or (word_of_width k w) [])
+  of_each_width kind.Bool w e = by_one (w == 1) (codes "bool") of_bool e
+  of_each_width kind.Sint w e = by_width (w == 4) (w == 8) (codes "i32") (codes "i64") of_i32 of_i64 e
+  of_each_width kind.Uint w e = by_width (w == 4) (w == 8) (codes "u32") (codes "u64") of_u32 of_u64 e
+  of_each_width _ w e = absurd (cc)
+
+pub width_is_type : (k : ScalarKind) (w : ℕ) → IsTrue (is_some (word_of_width k w)) → IsType (Named (unwrap_or (word_of_width k w) []))
+width_is_type = of_each_width (λ w. IsType (Named w)) bool_is_type i32_is_type i64_is_type u32_is_type u64_is_type
 
 inner_is_type : (t : TypeInner) → IsTrue (is_some (word_of_type t)) → IsType (Named (unwrap_or (word_of_type t) []))
 inner_is_type (inner.Scalar s) e = width_is_type s.kind s.width e
 inner_is_type _ e = absurd (cc)
 
 module _ (types : List Type_) (scalars : IsTrue (list_all is_scalar_type types)) where
-  is_type_at : (ty : ℕ) → ty < length types → IsType (type_form types ty)
+  pub is_type_at : (ty : ℕ) → ty < length types → IsType (type_form types ty)
   is_type_at ty lt =
       let t = element types ty lt in
       subst (λ o. IsType (Named (unwrap_or (option_and_then (λ t. word_of_type t.inner) o) []))) (sym t.1) (inner_is_type t.0.inner (all_at is_scalar_type types ty t.0 scalars t.1))
@@ -95,7 +99,7 @@ least_long_or : (n : ℕ) (b : Bool) → (n == 9223372036854775807) ≡ b → n 
 least_long_or n true e lt = tt
 least_long_or n false e lt = let other : n ≡ 9223372036854775807 → ⊥ = eqb-false n 9223372036854775807 e in omega (arith, lt, other)
 
-literal_is : (v : ir_literal.Literal) → IsTrue (is_some (literal_word v)) → IsTrue (literal_is_within v) → IsLiteral (literal_form v)
+pub literal_is : (v : ir_literal.Literal) → IsTrue (is_some (literal_word v)) → IsTrue (literal_is_within v) → IsLiteral (literal_form v)
 literal_is (literal.Bool b) w e = tt
 literal_is (literal.I32 (pos n)) w e = ltb-true n (2 ^ 31) e
 literal_is (literal.I32 (negsuc n)) w e = least_or n (n == 2147483647) refl (ltb-true n (2 ^ 31) e)

@@ -85,7 +85,7 @@ none_listed : (i : ℕ) (ts : List ValueType) → ts ≡ [] → i < length ts �
 none_listed i ts e lt = let none : i < 0 = subst (λ ts. i < length ts) e lt in omega (arith, none)
 
 -- the item of a local
-abbrev local_item : ℕ → ℕ → LocalVariable → Labelled
+abbrev pub local_item : ℕ → ℕ → LocalVariable → Labelled
 local_item g l v = (key.FunctionLocal g l, label_or v.name (codes "local"))
 
 -- ---- one function
@@ -96,7 +96,7 @@ module _ (m : Module) (g : ℕ) (f : ir_function.Function) (found : slice_get m.
   abbrev shape : shapes.Function
   shape = function_shape m.types f es
 
-  not_given : (h : ℕ) → is_given shape h ≡ false
+  pub not_given : (h : ℕ) → is_given shape h ≡ false
   not_given h = ap (λ ks. get_or (given_from ks 0 f.expressions) h false) (no_keys (keys f.named_expressions) unnamed) ∙ nothing_given 0 f.expressions h
 
   given_one : (h k : ℕ) → given_after shape h k ≡ k

@@ -1,9 +1,9 @@
 -- The syntax tree of a function of straight lines, with a `let` for each emitted handle that is bound. Which handles are bound, and where their
 -- names are in scope, is what the runs say of the function's shape.
-use Rattle.std.specs.Prelude.{ℕ, zero, suc, ◌+◌, ◌-◌, Bool, true, false, List, [], ◌∷◌, length, Option, Some, None, slice_get, unwrap_or, ◌==◌}
+use Rattle.std.specs.Prelude.{ℕ, zero, suc, ◌+◌, ◌-◌, Bool, true, false, List, [], ◌∷◌, length, Option, Some, None, slice_get, nat_le, ◌^◌, ◌==◌, codes}
 use Rattle.std.specs.List.{list_all}
 use Rattle.indexmap.specs.IndexMap.{keys}
-use Rattle.std.specs.Option.{option_map, option_map_or}
+use Rattle.std.specs.Option.{option_map, option_map_or, option_and_then}
 use Rattle.naga_ir.specs.StatementTree.{emit, store, return, StatementTree, simple, BlockTree, no_statements, statement}
 use Rattle.naga_ir.specs.declared.expression.Expression as ir
 use Rattle.naga_ir.specs.declared.expression.Expression.TheVariants as expression
@@ -11,11 +11,16 @@ use Rattle.naga_ir.specs.declared.module.Function as ir_function
 use Rattle.naga_ir.specs.declared.module.LocalVariable.{LocalVariable}
 use Rattle.naga_ir.specs.declared.module.Module.{Module}
 use Rattle.naga_ir.specs.declared.types.Type_.{Type_}
-use Rattle.naga_info.specs.Types.{spelling_at}
+use Rattle.naga_ir.specs.declared.types.AddressSpace.{AddressSpace}
+use Rattle.naga_ir.specs.declared.types.AddressSpace.TheVariants as space
+use Rattle.naga_ir.specs.declared.types.TypeInner.{TypeInner}
+use Rattle.naga_ir.specs.declared.types.TypeInner.TheVariants as inner
+use Rattle.naga_info.specs.Resolution.{inner_of}
+use Rattle.naga_info.specs.Types.{scalar_word, word_at}
 use Rattle.naga_info.specs.declared.info.ExpressionInfo.{ExpressionInfo}
 use Rattle.naga_info.specs.declared.info.ModuleInfo.{ModuleInfo}
 use Rattle.naga_names.specs.Reset.{NameMap}
-use Rattle.wgsl_text.specs.Tree.{TypeSpecifier, Named as NamedType, Truth, Expression, Constant, Name, Binary, AddressOf, Dereference, Statement, Let, TypedLet, Assign, Return, ReturnValue, Block, Statements, NoStatements, Then, Local, Function, Program, no_declarations}
+use Rattle.wgsl_text.specs.Tree.{TypeSpecifier, Named as NamedType, Template, TypePart, NoParts, Truth, Expression, Constant, Name, Binary, AddressOf, Dereference, Statement, Let, TypedLet, Assign, Return, ReturnValue, Block, Statements, NoStatements, Then, Local, Function, Program, no_declarations}
 use Rattle.shader_runs.specs.Program.{binds, from}
 use Rattle.shader_runs.specs.Scope.{Standing, Named, Handles, Naming, bound_name, at_start, given_after, given_by, after_one, after, fits_function}
 use Rattle.naga_form.specs.Names.{module_names, function_name}
@@ -110,9 +115,23 @@ locals_form n types es l [] = []
 locals_form n types es l (v ∷ more) =
     record { name = n.names.local_ l; type = type_form types v.ty; value = option_map (value_form n es (at_start n.function)) v.init } ∷ locals_form n types es (l + 1) more
 
+-- a pointer to a local of the type with this word
+abbrev pub pointer_form : List ℕ → TypeSpecifier
+pointer_form word = Template (codes "ptr") (TypePart (NamedType (codes "function")) (TypePart (NamedType word) NoParts))
+
+abbrev pub pointer_told : AddressSpace → Option (List ℕ) → Option TypeSpecifier
+pointer_told space.Function word = option_map pointer_form word
+pointer_told _ word = None
+
+-- how a type is told, of those that are spelled so far
+abbrev pub inner_told : List Type_ → TypeInner → Option TypeSpecifier
+inner_told types (inner.Scalar s) = option_map NamedType (scalar_word s)
+inner_told types (inner.Pointer base space) = pointer_told space (word_at types base)
+inner_told types _ = None
+
 -- the type that the `let` of a handle tells, if it is to tell one
 abbrev pub told_type : (explicit : Bool) → List Type_ → List ExpressionInfo → ℕ → Option TypeSpecifier
-told_type true types es h = Some (NamedType (unwrap_or (spelling_at types es h) []))
+told_type true types es h = option_and_then (λ e. option_and_then (inner_told types) (inner_of e.ty types)) (slice_get es h)
 told_type false types es h = None
 
 -- a function of straight lines, with what is known of its expressions
@@ -144,3 +163,7 @@ nothing_named m = list_all (λ f. length (keys f.named_expressions) == 0) m.func
 -- each handle is in scope where it is used, and no `Emit` is refused
 abbrev pub scope_holds : Module → ModuleInfo → Bool
 scope_holds m info = list_all fits_function (namings (module_names m) m info)
+
+-- handles are less than 2 ^ 64, as a `usize` is
+abbrev pub handles_are_counted : Module → Bool
+handles_are_counted m = list_all (λ f. nat_le (length f.expressions) (2 ^ 64)) m.functions

@@ -9,7 +9,7 @@ ghost use Rattle.naga_info.specs.declared.info.ExpressionInfo.{ExpressionInfo};
 ghost use Rattle.naga_names.specs.Reset.{NameMap};
 ghost use Rattle.shader_runs.specs.Form.{form_function};
 ghost use Rattle.naga_form.specs.Abstraction.{function_read};
-ghost use Rattle.naga_form.specs.Lines.{straight_form, straight_program, nothing_named, scope_holds};
+ghost use Rattle.naga_form.specs.Lines.{straight_form, straight_program, nothing_named, scope_holds, handles_are_counted};
 ghost use Rattle.naga_form.specs.Shapes.{function_shape, inner_names};
 ghost use Rattle.naga_info.specs.Accepted.{is_accepted};
 ghost use Rattle.naga_info.specs.Part.{is_written_so_far};
@@ -41,4 +41,9 @@ pub fn straight_lines_are_read()
 /// An accepted module of straight lines, whose handles are in scope where they are used, does by its text what it does.
 pub fn straight_lines_run()
     ensures { (m : Module) (info : ModuleInfo) (explicit : Bool) → IsTrue (is_accepted m info) → IsTrue (nothing_named m) → IsTrue (scope_holds m info) → NamesAreCounted m → RunsAs m info (straight_program explicit m info) }
+{}
+
+/// The program of an accepted module of straight lines is one of the grammar, so that its text has one reading.
+pub fn straight_lines_are_a_program()
+    ensures { (m : Module) (info : ModuleInfo) (explicit : Bool) → IsTrue (is_accepted m info) → IsTrue (nothing_named m) → IsTrue (handles_are_counted m) → IsProgram (straight_program explicit m info) }
 {}

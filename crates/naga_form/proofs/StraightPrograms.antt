@@ -1,0 +1,259 @@
+-- What is written for straight lines is a program of the grammar.
+use Rattle.std.proofs.Common.{◌≡◌, ℕ, suc, zero, ◌+◌, ◌-◌, ◌<◌, ◌≤◌, ◌^◌, Bool, true, false, not, ◌&&◌, ◌||◌, List, [], ◌∷◌, ◌++◌, map, length, codes, decimal, nat_eq, nat_lt, nat_le, Option, Some, None, refl, sym, ap, subst, ◌∙◌, arith, true≢false}
+use Rattle.std.specs.Prelude.{IsTrue, IsFalse, slice_get, get_or, unwrap_or, cond, ◌==◌}
+use Rattle.std.specs.Char.{is_ascii_digit}
+use Rattle.std.specs.List.{list_all}
+use Rattle.std.specs.Option.{option_map, option_map_or, option_and_then, is_some}
+use Rattle.std.specs.Str.{bytes_eq}
+use Rattle.std.proofs.lemmas.Bool.{ltb-true, lt-ltb}
+use Rattle.std.proofs.lemmas.Option.{slice_get_within, slice_get-map}
+use Rattle.std.proofs.lemmas.Slice.Eq.{bytes_eq-Decides}
+use Rattle.naga_ir.specs.declared.types.AddressSpace.{AddressSpace}
+use Rattle.naga_ir.specs.declared.types.AddressSpace.TheVariants as space
+use Rattle.naga_ir.specs.declared.types.ScalarKind.{ScalarKind}
+use Rattle.naga_ir.specs.declared.types.Scalar.{Scalar}
+use Rattle.naga_ir.specs.declared.types.TypeInner.{TypeInner}
+use Rattle.naga_ir.specs.declared.types.TypeInner.TheVariants as inner
+use Rattle.naga_ir.specs.declared.types.Type_.{Type_}
+use Rattle.naga_info.specs.declared.info.ExpressionInfo.{ExpressionInfo}
+use Rattle.naga_info.specs.Resolution.{inner_of}
+use Rattle.naga_info.specs.Types.{word_of_width, scalar_word, word_of_type, word_at, literal_word, literal_is_within, spelling_of, is_alike}
+use Rattle.naga_info.specs.Accepted.{is_scalar_type, function_fits}
+use Rattle.naga_info.proofs.Accepting.{function_fits_word_at, function_fits_expressions, expressions_fit_known, local_word_at}
+use Rattle.naga_names.proofs.NamedItems.{local_stands}
+use Rattle.indexmap.specs.IndexMap.{keys}
+use Rattle.naga_ir.specs.StatementTree.{emit, store, return, StatementTree, simple, BlockTree, no_statements, statement}
+use Rattle.naga_ir.specs.declared.expression.Expression as ir
+use Rattle.naga_ir.specs.declared.expression.Expression.TheVariants as expression
+use Rattle.naga_ir.specs.declared.module.Function as ir_function
+use Rattle.naga_ir.specs.declared.module.Module.{Module}
+use Rattle.naga_names.proofs.BaseShapes.{all_digits-decimal}
+use Rattle.wgsl_text.specs.Keywords.{reserved_words, builtin_words}
+use Rattle.wgsl_text.specs.Words.{is_letter, is_word_byte, all_word_bytes, is_word_text, stands_in, is_reserved, is_builtin, IsWord, IsIdentifier}
+use Rattle.wgsl_text.specs.Tree.{TypeSpecifier, Named as NamedType}
+use Rattle.wgsl_text.specs.Grammar.{IsType, IsExpression}
+use Rattle.wgsl_text.specs.GrammarOfLines.{is_reference, IsStatement, IsStatements, IsLocal, IsFunction, IsProgram, Each}
+use Rattle.shader_runs.specs.World.{update}
+use Rattle.shader_runs.specs.Program as shapes
+use Rattle.shader_runs.specs.Program.{expression_of, operands_of, binds, binds_as, from}
+use Rattle.shader_runs.specs.Scope.{Standing, Absent, Barred, Everywhere, Inline, Named, Handles, Naming, bound_name, usable_all, is_pure, is_constant_below, start_standing, at_start, unbound, emitted, after_one, given_after, given_by, after_emit, after}
+use Rattle.naga_form.specs.Names.{wgsl_names, module_names, numbered_text, numbered_name}
+use Rattle.naga_form.specs.Shapes.{expression_shape, statement_shape}
+use Rattle.naga_form.specs.Lines.{pointer_form, pointer_told, inner_told, told_type, PlainForm, ValueForm, ReferenceForm, as_value, as_reference, own_plain, own_if, standing_plain, plain_below, plain_form, value_form, let_form, then_if, lets_form, return_line, line_form, lines_form, locals_form, straight_form}
+use Rattle.naga_form.proofs.Facts.{and_left, and_right, then_some}
+use Rattle.naga_form.proofs.Programs.{of_each_width, width_is_type, literal_is}
+use Rattle.naga_form.proofs.Abstractions.{named}
+use Rattle.naga_form.proofs.Named.{item_is_identifier, function_item, argument_item, function_there, argument_there}
+use Rattle.naga_form.proofs.StraightFits.{local_item, not_given}
+
+-- ---- numbered names
+digits_are_bytes : (w : List ℕ) → list_all is_ascii_digit w ≡ true → all_word_bytes w ≡ true
+digits_are_bytes [] e = refl
+digits_are_bytes (c ∷ w) e = both (is_word_byte c) (all_word_bytes w) (behind (is_letter c) (is_ascii_digit c) (and_left (is_ascii_digit c) (list_all is_ascii_digit w) e)) (digits_are_bytes w (and_right (is_ascii_digit c) (list_all is_ascii_digit w) e))
+  where
+    both : (a b : Bool) → a ≡ true → b ≡ true → (a && b) ≡ true
+    both true b e f = f
+    both false b e f = e
+
+    behind : (a b : Bool) → b ≡ true → (a || b) ≡ true
+    behind true b e = refl
+    behind false b e = e
+
+-- a word that begins with `_e`
+abbrev begins_numbered : List ℕ → Bool
+begins_numbered w = nat_eq (get_or w 0 0) 95 && nat_eq (get_or w 1 0) 101
+
+none_begins : (ws : List (List ℕ)) (d : List ℕ) → list_all (λ w. not (begins_numbered w)) ws ≡ true → stands_in ws (codes "_e" ++ d) ≡ false
+none_begins [] d e = refl
+none_begins (w ∷ ws) d e =
+    neither (bytes_eq w (codes "_e" ++ d)) (stands_in ws (codes "_e" ++ d)) (other (bytes_eq w (codes "_e" ++ d)) refl) (none_begins ws d (and_right (not (begins_numbered w)) (list_all (λ w. not (begins_numbered w)) ws) e))
+  where
+    neither : (a b : Bool) → a ≡ false → b ≡ false → (a || b) ≡ false
+    neither true b e f = e
+    neither false b e f = f
+
+    other : (b : Bool) → bytes_eq w (codes "_e" ++ d) ≡ b → b ≡ false
+    other false is = refl
+    other true is = absurd (true≢false (sym (and_left (not (begins_numbered w)) (list_all (λ w. not (begins_numbered w)) ws) e) ∙ ap (λ w. not (begins_numbered w)) ((bytes_eq-Decides w (codes "_e" ++ d)).0 is)))
+
+not_reserved : (d : List ℕ) → is_reserved (codes "_e" ++ d) ≡ false
+unfolding is_reserved reserved_words
+not_reserved d = none_begins reserved_words d refl
+
+not_builtin : (d : List ℕ) → is_builtin (codes "_e" ++ d) ≡ false
+unfolding is_builtin builtin_words
+not_builtin d = none_begins builtin_words d refl
+
+handle_name_is : (h : ℕ) → IsIdentifier (codes "_e" ++ decimal h)
+handle_name_is h = record {
+  word = record { text = digits_are_bytes (decimal h) (all_digits-decimal h); free = not_reserved (decimal h) };
+  own = not_builtin (decimal h);
+}
+
+pub numbered_is : (h : ℕ) → h < 2 ^ 64 → IsIdentifier (numbered_name h)
+unfolding numbered_name
+numbered_is h lt = subst (λ b. IsIdentifier (numbered_text b h)) (sym (lt-ltb h (2 ^ 64) lt)) (handle_name_is h)
+
+-- ---- the types that `let`s tell
+bool_pointer : IsType (pointer_form (codes "bool"))
+unfolding is_reserved
+bool_pointer = record { part = (refl, (record { text = refl; free = refl }, (record { text = refl; free = refl }, tt))); whole = refl }
+
+i32_pointer : IsType (pointer_form (codes "i32"))
+unfolding is_reserved
+i32_pointer = record { part = (refl, (record { text = refl; free = refl }, (record { text = refl; free = refl }, tt))); whole = refl }
+
+i64_pointer : IsType (pointer_form (codes "i64"))
+unfolding is_reserved
+i64_pointer = record { part = (refl, (record { text = refl; free = refl }, (record { text = refl; free = refl }, tt))); whole = refl }
+
+u32_pointer : IsType (pointer_form (codes "u32"))
+unfolding is_reserved
+u32_pointer = record { part = (refl, (record { text = refl; free = refl }, (record { text = refl; free = refl }, tt))); whole = refl }
+
+u64_pointer : IsType (pointer_form (codes "u64"))
+unfolding is_reserved
+u64_pointer = record { part = (refl, (record { text = refl; free = refl }, (record { text = refl; free = refl }, tt))); whole = refl }
+
+-- what holds of a scalar's word holds of the word that is found
+module _ (P : List ℕ → Type 0) (each : (k : ScalarKind) (w : ℕ) → IsTrue (is_some (word_of_width k w)) → P (unwrap_or (word_of_width k w) [])) where
+  of_word : (k : ScalarKind) (w : ℕ) (x : List ℕ) → word_of_width k w ≡ Some x → P x
+  of_word k w x is = subst (λ o. P (unwrap_or o [])) is (each k w (ap is_some is))
+
+  of_type : (t : TypeInner) (x : List ℕ) → word_of_type t ≡ Some x → P x
+  of_type (inner.Scalar s) x is = of_word s.kind s.width x is
+  of_type _ x is = absurd (cc)
+
+pointers_are : (k : ScalarKind) (w : ℕ) → IsTrue (is_some (word_of_width k w)) → IsType (pointer_form (unwrap_or (word_of_width k w) []))
+pointers_are = of_each_width (λ w. IsType (pointer_form w)) bool_pointer i32_pointer i64_pointer u32_pointer u64_pointer
+
+inner_told_is : (types : List Type_) (i : TypeInner) (t : TypeSpecifier) → inner_told types i ≡ Some t → IsType t
+inner_told_is types (inner.Scalar s) t is = by (scalar_word s) refl is
+  where
+    by : (o : Option (List ℕ)) → scalar_word s ≡ o → option_map NamedType o ≡ Some t → IsType t
+    by None at e = absurd (cc)
+    by (Some w) at e = subst IsType (ap (λ o. unwrap_or o t) e) (of_word (λ w. IsType (NamedType w)) width_is_type s.kind s.width w at)
+inner_told_is types (inner.Pointer base a) t is = by a (word_at types base) refl is
+  where
+    by : (a : AddressSpace) (o : Option (List ℕ)) → word_at types base ≡ o → pointer_told a o ≡ Some t → IsType t
+    by space.Function None at e = absurd (cc)
+    by space.Function (Some w) at e =
+        let ty = then_some (λ t. word_of_type t.inner) (slice_get types base) w at in
+        subst IsType (ap (λ o. unwrap_or o t) e) (of_type (λ w. IsType (pointer_form w)) pointers_are ty.0.inner w ty.2)
+    by _ o at e = absurd (cc)
+inner_told_is types _ t is = absurd (cc)
+
+pub told_is : (explicit : Bool) (types : List Type_) (es : List ExpressionInfo) (h : ℕ) (t : TypeSpecifier) → told_type explicit types es h ≡ Some t → IsType t
+told_is true types es h t is =
+    let e = then_some (λ e. option_and_then (inner_told types) (inner_of e.ty types)) (slice_get es h) t is in
+    let i = then_some (inner_told types) (inner_of e.0.ty types) t e.2 in
+    inner_told_is types i.0 t i.2
+told_is false types es h t is = absurd (cc)
+
+-- ---- functions
+-- a plain form of the grammar
+abbrev IsPlainForm : PlainForm → Type 0
+IsPlainForm (ValueForm e) = IsExpression e
+IsPlainForm (ReferenceForm e) = IsExpression e × IsTrue (is_reference e)
+
+value_is_one : (p : PlainForm) → IsPlainForm p → IsExpression (as_value p)
+value_is_one (ValueForm e) is = is
+value_is_one (ReferenceForm e) is = is.0
+
+reference_is_one : (p : PlainForm) → IsPlainForm p → IsExpression (as_reference p) × IsTrue (is_reference (as_reference p))
+reference_is_one (ValueForm e) is = (is, refl)
+reference_is_one (ReferenceForm e) is = is
+
+-- the name of a standing, if it has one
+abbrev name_in_scope : List ℕ → Standing → List ℕ
+name_in_scope y (Named x) = x
+name_in_scope y _ = y
+
+-- the names in scope are identifiers
+abbrev NamesAre : Handles → Type 0
+NamesAre s = (h : ℕ) (x : List ℕ) → s h ≡ Named x → IsIdentifier x
+
+module _ (m : Module) (g : ℕ) (f : ir_function.Function) (found : slice_get m.functions g ≡ Some f) (es : List ExpressionInfo) (fits : function_fits m.types f es ≡ true) (unnamed : IsTrue (length (keys f.named_expressions) == 0)) (scalars : list_all is_scalar_type m.types ≡ true) (few : length f.expressions ≤ 2 ^ 64) where
+  abbrev own : Naming
+  own = named (module_names m) m.types g f es
+
+  own_is : (operand : ℕ → PlainForm) → ((x : ℕ) → IsPlainForm (operand x)) → (h : ℕ) (e : ir.Expression) → slice_get f.expressions h ≡ Some e → IsPlainForm (own_plain own operand e)
+  own_is operand all h (expression.Literal v) at =
+      let w = function_fits_word_at m.types f es h (expression.Literal v) fits at in
+      let k = expressions_fit_known m.types f f.expressions es h (expression.Literal v) (function_fits_expressions m.types f es fits) at in
+      literal_is v (ap is_some w.2) (and_right (is_alike (spelling_of m.types k.0.ty) (literal_word v)) (literal_is_within v) k.2)
+  own_is operand all h (expression.FunctionArgument n) at =
+      let w = function_fits_word_at m.types f es h (expression.FunctionArgument n) fits at in
+      let a = then_some (λ a. word_at m.types a.ty) (slice_get f.arguments.items n) w.0 w.2 in
+      item_is_identifier m (argument_item m g n a.0) (argument_there m g f n a.0 found a.1)
+  own_is operand all h (expression.LocalVariable v) at =
+      let l = local_word_at m.types f es h v fits at in
+      (item_is_identifier m (local_item g v l.0) (local_stands wgsl_names m g f v l.0 found l.2), refl)
+  own_is operand all h (expression.Load q) at = (reference_is_one (operand q) (all q)).0
+  own_is operand all h (expression.Binary op left right) at = (value_is_one (operand left) (all left), value_is_one (operand right) (all right))
+  own_is operand all h _ at = tt
+
+  own_if_is : (operand : ℕ → PlainForm) → ((x : ℕ) → IsPlainForm (operand x)) → (h : ℕ) (o : Option ir.Expression) → slice_get f.expressions h ≡ o → IsPlainForm (own_if own operand o)
+  own_if_is operand all h None at = tt
+  own_if_is operand all h (Some e) at = own_is operand all h e at
+
+  standing_is : (s : Standing) (p : PlainForm) → ((x : List ℕ) → s ≡ Named x → IsIdentifier x) → IsPlainForm p → IsPlainForm (standing_plain s p)
+  standing_is (Named x) p named_well is = named_well x refl
+  standing_is _ p named_well is = is
+
+  below_is : (s : Handles) → NamesAre s → (k h : ℕ) → IsPlainForm (plain_below own f.expressions s k h)
+  below_is s well zero h = tt
+  below_is s well (suc k) h = standing_is (s h) (own_if own (plain_below own f.expressions s k) (slice_get f.expressions h)) (well h) (own_if_is (plain_below own f.expressions s k) (below_is s well k) h (slice_get f.expressions h) refl)
+
+  plain_is : (s : Handles) → NamesAre s → (h : ℕ) → IsPlainForm (plain_form own f.expressions s h)
+  plain_is s well h = below_is s well (length f.expressions) h
+
+  -- a bound handle's name
+  bound_is : (k h : ℕ) → binds own.function h ≡ true → IsIdentifier (bound_name own k h)
+  bound_is k h bound = subst (λ b. IsIdentifier (cond b [] (numbered_name h))) (sym (not_given m g f found es fits unnamed (record { constant_types = []; global_types = []; functions = [] }) refl refl h)) (numbered_is h (within (slice_get f.expressions h) refl))
+    where
+      within : (o : Option ir.Expression) → slice_get f.expressions h ≡ o → h < 2 ^ 64
+      within (Some e) at = let lt = slice_get_within f.expressions h e at in omega (arith, lt, few)
+      within None at = absurd (true≢false (sym bound ∙ ap (binds_as own.function h) (slice_get-map expression_shape f.expressions h ∙ ap (option_map expression_shape) at)))
+
+  -- one more handle
+  after_one_is : (k h : ℕ) (s : Handles) → NamesAre s → NamesAre (after_one own k h s)
+  after_one_is k h s well = emitted_is (binds own.function h) refl (is_pure (expression_of own.function h)) (usable_all own.function s (operands_of (expression_of own.function h)))
+    where
+      updated : (a : Standing) → ((x : List ℕ) → a ≡ Named x → IsIdentifier x) → NamesAre (update s h a)
+      updated a here j x is = by (nat_eq j h) is
+        where
+          by : (b : Bool) → cond b a (s j) ≡ Named x → IsIdentifier x
+          by true e = here x e
+          by false e = well j x e
+
+      unbound_is : (u : Bool) (a : Standing) → ((x : List ℕ) → a ≡ Named x → IsIdentifier x) → (x : List ℕ) → unbound u a ≡ Named x → IsIdentifier x
+      unbound_is true a here x e = absurd (cc)
+      unbound_is false Absent here x e = absurd (cc)
+      unbound_is false Barred here x e = here x e
+      unbound_is false Everywhere here x e = here x e
+      unbound_is false Inline here x e = here x e
+      unbound_is false (Named y) here x e = here x e
+
+      the_name : (y x : List ℕ) → IsIdentifier y → Named y ≡ Named x → IsIdentifier x
+      the_name y x is e = subst IsIdentifier (ap (λ a. name_in_scope y a) e) is
+
+      emitted_is : (b : Bool) → binds own.function h ≡ b → (o u : Bool) → NamesAre (emitted b o u (bound_name own k h) s h)
+      emitted_is true bound o u = updated (Named (bound_name own k h)) (λ x e. the_name (bound_name own k h) x (bound_is k h bound) e)
+      emitted_is false bound true u = updated (unbound u (s h)) (unbound_is u (s h) (well h))
+      emitted_is false bound false u = well
+
+  after_emit_is : (k : ℕ) (hs : List ℕ) (s : Handles) → NamesAre s → NamesAre (after_emit own k hs s)
+  after_emit_is k [] s well = well
+  after_emit_is k (h ∷ hs) s well = after_emit_is (given_after own.function h k) hs (after_one own k h s) (after_one_is k h s well)
+
+  after_is : (k : ℕ) (st : StatementTree) (s : Handles) → NamesAre s → NamesAre (after own k (statement_shape st) s)
+  after_is k (simple (emit first last)) s well = after_emit_is k (from first (last - first)) s well
+  after_is k _ s well = well
+
+  start_is : NamesAre (at_start own.function)
+  start_is h x e = by (is_pure (expression_of own.function h) && is_constant_below own.function (length own.function.expressions) h) e
+    where
+      by : (b : Bool) → start_standing b ≡ Named x → IsIdentifier x
+      by true e = absurd (cc)
+      by false e = absurd (cc)
