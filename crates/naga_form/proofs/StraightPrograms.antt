@@ -5,7 +5,7 @@ use Rattle.std.specs.Char.{is_ascii_digit}
 use Rattle.std.specs.List.{list_all}
 use Rattle.std.specs.Option.{option_map, option_map_or, option_and_then, is_some}
 use Rattle.std.specs.Str.{bytes_eq}
-use Rattle.std.proofs.lemmas.Bool.{ltb-true, lt-ltb}
+use Rattle.std.proofs.lemmas.Bool.{leb-true, ltb-true, lt-ltb}
 use Rattle.std.proofs.lemmas.Option.{slice_get_within, slice_get-map}
 use Rattle.std.proofs.lemmas.Slice.Eq.{bytes_eq-Decides}
 use Rattle.naga_ir.specs.declared.types.AddressSpace.{AddressSpace}
@@ -18,30 +18,37 @@ use Rattle.naga_ir.specs.declared.types.Type_.{Type_}
 use Rattle.naga_info.specs.declared.info.ExpressionInfo.{ExpressionInfo}
 use Rattle.naga_info.specs.Resolution.{inner_of}
 use Rattle.naga_info.specs.Types.{word_of_width, scalar_word, word_of_type, word_at, literal_word, literal_is_within, spelling_of, is_alike}
-use Rattle.naga_info.specs.Accepted.{is_scalar_type, function_fits}
-use Rattle.naga_info.proofs.Accepting.{function_fits_word_at, function_fits_expressions, expressions_fit_known, local_word_at}
+use Rattle.naga_info.specs.Accepted.{is_scalar_type, is_below, local_fits, function_fits, functions_fit, is_accepted}
+use Rattle.naga_info.specs.declared.info.ModuleInfo.{ModuleInfo}
+use Rattle.naga_info.proofs.Accepting.{function_fits_word_at, function_fits_expressions, function_fits_parts, expressions_fit_known, local_word_at, local_fits_parts, accepted_parts}
 use Rattle.naga_names.proofs.NamedItems.{local_stands}
 use Rattle.indexmap.specs.IndexMap.{keys}
 use Rattle.naga_ir.specs.StatementTree.{emit, store, return, StatementTree, simple, BlockTree, no_statements, statement}
 use Rattle.naga_ir.specs.declared.expression.Expression as ir
 use Rattle.naga_ir.specs.declared.expression.Expression.TheVariants as expression
 use Rattle.naga_ir.specs.declared.module.Function as ir_function
+use Rattle.naga_ir.specs.declared.module.FunctionArgument.{FunctionArgument}
+use Rattle.naga_ir.specs.declared.module.FunctionResult.{FunctionResult}
+use Rattle.naga_ir.specs.declared.module.LocalVariable.{LocalVariable}
 use Rattle.naga_ir.specs.declared.module.Module.{Module}
 use Rattle.naga_names.proofs.BaseShapes.{all_digits-decimal}
 use Rattle.wgsl_text.specs.Keywords.{reserved_words, builtin_words}
 use Rattle.wgsl_text.specs.Words.{is_letter, is_word_byte, all_word_bytes, is_word_text, stands_in, is_reserved, is_builtin, IsWord, IsIdentifier}
 use Rattle.wgsl_text.specs.Tree.{TypeSpecifier, Named as NamedType}
 use Rattle.wgsl_text.specs.Grammar.{IsType, IsExpression}
-use Rattle.wgsl_text.specs.GrammarOfLines.{is_reference, IsStatement, IsStatements, IsLocal, IsFunction, IsProgram, Each}
+use Rattle.wgsl_text.specs.GrammarOfLines.{is_reference, IsStatement, IsStatements, IsValue, IsParameter, IsResult, IsLocal, IsFunction, IsProgram, Each}
+use Rattle.wgsl_text.specs.Tree as tree
+use Rattle.naga_form.specs.Form.{parameters_form, result_form}
 use Rattle.shader_runs.specs.World.{update}
 use Rattle.shader_runs.specs.Program as shapes
 use Rattle.shader_runs.specs.Program.{expression_of, operands_of, binds, binds_as, from}
 use Rattle.shader_runs.specs.Scope.{Standing, Absent, Barred, Everywhere, Inline, Named, Handles, Naming, bound_name, usable_all, is_pure, is_constant_below, start_standing, at_start, unbound, emitted, after_one, given_after, given_by, after_emit, after}
 use Rattle.naga_form.specs.Names.{wgsl_names, module_names, numbered_text, numbered_name}
 use Rattle.naga_form.specs.Shapes.{expression_shape, statement_shape}
-use Rattle.naga_form.specs.Lines.{pointer_form, pointer_told, inner_told, told_type, PlainForm, ValueForm, ReferenceForm, as_value, as_reference, own_plain, own_if, standing_plain, plain_below, plain_form, value_form, let_form, then_if, lets_form, return_line, line_form, lines_form, locals_form, straight_form}
+use Rattle.naga_form.specs.Lines.{pointer_form, pointer_told, inner_told, told_type, PlainForm, ValueForm, ReferenceForm, as_value, as_reference, own_plain, own_if, standing_plain, plain_below, plain_form, value_form, let_form, then_if, lets_form, return_line, line_form, lines_form, locals_form, straight_form, straight_functions, straight_program, nothing_named, handles_are_counted}
 use Rattle.naga_form.proofs.Facts.{and_left, and_right, then_some}
-use Rattle.naga_form.proofs.Programs.{of_each_width, width_is_type, literal_is}
+use Rattle.naga_form.proofs.Programs.{of_each_width, width_is_type, literal_is, is_type_at}
+use Rattle.naga_form.proofs.Runs.{element}
 use Rattle.naga_form.proofs.Abstractions.{named}
 use Rattle.naga_form.proofs.Named.{item_is_identifier, function_item, argument_item, function_there, argument_there}
 use Rattle.naga_form.proofs.StraightFits.{local_item, not_given}
@@ -257,3 +264,124 @@ module _ (m : Module) (g : ℕ) (f : ir_function.Function) (found : slice_get m.
       by : (b : Bool) → start_standing b ≡ Named x → IsIdentifier x
       by true e = absurd (cc)
       by false e = absurd (cc)
+
+  let_is : (told : Option TypeSpecifier) → ((t : TypeSpecifier) → told ≡ Some t → IsType t) → (x : List ℕ) (e : tree.Expression) → IsIdentifier x → IsExpression e → IsStatement (let_form told x e)
+  let_is None told_well x e name is = (name, is)
+  let_is (Some t) told_well x e name is = (name, told_well t refl, is)
+
+  lets_are : (told : ℕ → Option TypeSpecifier) → ((h : ℕ) (t : TypeSpecifier) → told h ≡ Some t → IsType t) → (k : ℕ) (hs : List ℕ) (s : Handles) → NamesAre s → (rest : tree.Statements) → IsStatements rest → IsStatements (lets_form own told f.expressions k hs s rest)
+  lets_are told told_well k [] s well rest is = is
+  lets_are told told_well k (h ∷ hs) s well rest is =
+      then_is (binds own.function h) refl (lets_are told told_well (given_after own.function h k) hs (after_one own k h s) (after_one_is k h s well) rest is)
+    where
+      e : tree.Expression
+      e = as_value (own_if own (plain_form own f.expressions s) (slice_get f.expressions h))
+
+      behind : tree.Statements
+      behind = lets_form own told f.expressions (given_after own.function h k) hs (after_one own k h s) rest
+
+      then_is : (b : Bool) → binds own.function h ≡ b → IsStatements behind → IsStatements (then_if b (let_form (told h) (bound_name own k h) e) behind)
+      then_is true bound more =
+          ( let_is (told h) (told_well h) (bound_name own k h) e (bound_is k h bound) (value_is_one (own_if own (plain_form own f.expressions s) (slice_get f.expressions h)) (own_if_is (plain_form own f.expressions s) (plain_is s well) h (slice_get f.expressions h) refl))
+          , more
+          )
+      then_is false bound more = more
+
+  return_is : (s : Handles) → NamesAre s → (v : Option ℕ) → IsStatement (return_line own f.expressions s v)
+  return_is s well None = tt
+  return_is s well (Some h) = value_is_one (plain_form own f.expressions s h) (plain_is s well h)
+
+  line_is : (told : ℕ → Option TypeSpecifier) → ((h : ℕ) (t : TypeSpecifier) → told h ≡ Some t → IsType t) → (k : ℕ) (st : StatementTree) (s : Handles) → NamesAre s → (rest : tree.Statements) → IsStatements rest → IsStatements (line_form own told f.expressions k st s rest)
+  line_is told told_well k (simple (emit first last)) s well rest is = lets_are told told_well k (from first (last - first)) s well rest is
+  line_is told told_well k (simple (store pointer value)) s well rest is =
+      let r = reference_is_one (plain_form own f.expressions s pointer) (plain_is s well pointer) in
+      ((r.0, value_is_one (plain_form own f.expressions s value) (plain_is s well value), r.1), is)
+  line_is told told_well k (simple (return v)) s well rest is = (return_is s well v, is)
+  line_is told told_well k _ s well rest is = (tt, is)
+
+  lines_are : (told : ℕ → Option TypeSpecifier) → ((h : ℕ) (t : TypeSpecifier) → told h ≡ Some t → IsType t) → (k : ℕ) (b : BlockTree) (s : Handles) → NamesAre s → IsStatements (lines_form own told f.expressions k b s)
+  lines_are told told_well k no_statements s well = tt
+  lines_are told told_well k (statement st b) s well =
+      line_is told told_well k st s well (lines_form own told f.expressions (given_by own.function (statement_shape st) k) b (after own k (statement_shape st) s))
+      (lines_are told told_well (given_by own.function (statement_shape st) k) b (after own k (statement_shape st) s) (after_is k st s well))
+
+  locals_are : (l : ℕ) (vs : List LocalVariable) → l + length vs ≡ length f.local_variables → list_all (local_fits m.types es) vs ≡ true → Each IsLocal (locals_form own m.types f.expressions l vs)
+  locals_are l [] size fit = tt
+  locals_are l (v ∷ vs) size fit =
+      let lt : l < length f.local_variables = omega (arith, size) in
+      let next : (l + 1) + length vs ≡ length f.local_variables = omega (arith, size) in
+      let here = element f.local_variables l lt in
+      let parts = local_fits_parts m.types es v (and_left (local_fits m.types es v) (list_all (local_fits m.types es) vs) fit) in
+      ( record {
+        name = item_is_identifier m (local_item g l here.0) (local_stands wgsl_names m g f l here.0 found here.1);
+        type = is_type_at m.types scalars v.ty (ltb-true v.ty (length m.types) parts.0);
+        value = first_is v.init;
+      }
+      , locals_are (l + 1) vs next (and_right (local_fits m.types es v) (list_all (local_fits m.types es) vs) fit)
+      )
+    where
+      first_is : (o : Option ℕ) → IsValue (option_map (value_form own f.expressions (at_start own.function)) o)
+      first_is None = tt
+      first_is (Some h) = value_is_one (plain_form own f.expressions (at_start own.function) h) (plain_is (at_start own.function) start_is h)
+
+  parameters_are : (n : ℕ) (args : List FunctionArgument) → n + length args ≡ length f.arguments.items → IsTrue (list_all (λ a. nat_lt a.ty (length m.types)) args) → Each IsParameter (parameters_form (module_names m) m.types g n args)
+  parameters_are n [] size fit = tt
+  parameters_are n (a ∷ args) size fit =
+      let lt : n < length f.arguments.items = omega (arith, size) in
+      let next : (n + 1) + length args ≡ length f.arguments.items = omega (arith, size) in
+      let there = element f.arguments.items n lt in
+      let here = and_left (nat_lt a.ty (length m.types)) (list_all (λ a. nat_lt a.ty (length m.types)) args) fit in
+      ( record { attributes = tt; binding = refl; name = item_is_identifier m (argument_item m g n there.0) (argument_there m g f n there.0 found there.1); type = is_type_at m.types scalars a.ty (ltb-true a.ty (length m.types) here) }
+      , parameters_are (n + 1) args next (and_right (nat_lt a.ty (length m.types)) (list_all (λ a. nat_lt a.ty (length m.types)) args) fit)
+      )
+
+  result_is : (r : Option FunctionResult) → IsTrue (is_below (length m.types) (option_map (λ r. r.ty) r)) → IsResult (result_form m.types r)
+  result_is None fit = tt
+  result_is (Some r) fit = (tt, refl, is_type_at m.types scalars r.ty (ltb-true r.ty (length m.types) fit))
+
+  straight_is : (explicit : Bool) → IsFunction (straight_form explicit (module_names m) m.types g f es)
+  straight_is explicit =
+      let parts = function_fits_parts m.types f es fits in
+      let args = list_all (λ a. nat_lt a.ty (length m.types)) f.arguments.items in
+      let answer = is_below (length m.types) (option_map (λ r. r.ty) f.result) in
+      let all : 0 + length f.arguments.items ≡ length f.arguments.items = omega arith in
+      let all_locals : 0 + length f.local_variables ≡ length f.local_variables = omega arith in
+      record {
+        name = item_is_identifier m (function_item m g f) (function_there m g f found);
+        parameters = parameters_are 0 f.arguments.items all (and_left args answer parts.0);
+        result = result_is f.result (and_right args answer parts.0);
+        locals = locals_are 0 f.local_variables all_locals parts.3;
+        body = lines_are (told_type explicit m.types es) (told_is explicit m.types es) 0 f.body (at_start own.function) start_is;
+      }
+
+functions_are : (explicit : Bool) (m : Module) (g : ℕ) (fs : List ir_function.Function) (ess : List (List ExpressionInfo)) → ((i : ℕ) (f : ir_function.Function) → slice_get fs i ≡ Some f → slice_get m.functions (g + i) ≡ Some f) → IsTrue (functions_fit m.types fs ess) → IsTrue (list_all (λ f. length (keys f.named_expressions) == 0) fs) → IsTrue (list_all (λ f. nat_le (length f.expressions) (2 ^ 64)) fs) → list_all is_scalar_type m.types ≡ true → Each IsFunction (straight_functions explicit (module_names m) m.types g fs ess)
+functions_are explicit m g [] [] there fits unnamed few scalars = tt
+functions_are explicit m g [] (es ∷ ess) there fits unnamed few scalars = tt
+functions_are explicit m g (f ∷ fs) [] there fits unnamed few scalars = tt
+functions_are explicit m g (f ∷ fs) (es ∷ ess) there fits unnamed few scalars =
+    let here : g + 0 ≡ g = omega arith in
+    let found = subst (λ h. slice_get m.functions h ≡ Some f) here (there 0 f refl) in
+    let named_none = λ (f : ir_function.Function). length (keys f.named_expressions) == 0 in
+    let counted = λ (f : ir_function.Function). nat_le (length f.expressions) (2 ^ 64) in
+    ( straight_is m g f found es (and_left (function_fits m.types f es) (functions_fit m.types fs ess) fits) (and_left (named_none f) (list_all named_none fs) unnamed) scalars (leb-true (length f.expressions) (2 ^ 64) (and_left (counted f) (list_all counted fs) few)) explicit
+    , functions_are explicit m (g + 1) fs ess later (and_right (function_fits m.types f es) (functions_fit m.types fs ess) fits) (and_right (named_none f) (list_all named_none fs) unnamed) (and_right (counted f) (list_all counted fs) few) scalars
+    )
+  where
+    later : (i : ℕ) (f1 : ir_function.Function) → slice_get fs i ≡ Some f1 → slice_get m.functions ((g + 1) + i) ≡ Some f1
+    later i f1 e = let moved : g + suc i ≡ (g + 1) + i = omega arith in subst (λ h. slice_get m.functions h ≡ Some f1) moved (there (suc i) f1 e)
+
+pub straight_is_a_program : (m : Module) (info : ModuleInfo) (explicit : Bool) → IsTrue (is_accepted m info) → IsTrue (nothing_named m) → IsTrue (handles_are_counted m) → IsProgram (straight_program explicit m info)
+straight_is_a_program m info explicit accepted unnamed few =
+    let parts = accepted_parts m info accepted in
+    record {
+      enables = tt;
+      structs = tt;
+      constants = tt;
+      overrides = tt;
+      globals = tt;
+      functions = functions_are explicit m 0 m.functions info.functions.items from_start parts.5 unnamed few parts.1;
+      entry_points = tt;
+    }
+  where
+    from_start : (i : ℕ) (f : ir_function.Function) → slice_get m.functions i ≡ Some f → slice_get m.functions (0 + i) ≡ Some f
+    from_start i f e = let same : i ≡ 0 + i = omega arith in subst (λ h. slice_get m.functions h ≡ Some f) same e
