@@ -1,11 +1,11 @@
 -- What is written of a function is read as the function's shape says: the abstraction of its form is the form of its shape.
-use Rattle.std.proofs.Common.{◌≡◌, ℕ, suc, zero, Bool, true, false, ◌&&◌, ◌+◌, pos, negsuc, List, [], ◌∷◌, map, length, Option, Some, None, refl, sym, ap, subst, ◌∙◌, add-one}
+use Rattle.std.proofs.Common.{◌≡◌, ℕ, suc, Bool, true, false, ◌&&◌, ◌+◌, pos, negsuc, List, [], ◌∷◌, map, length, Option, Some, None, refl, sym, ap, subst, ◌∙◌, add-one}
 use Rattle.std.specs.Prelude.{IsTrue, slice_get, ◌==◌, if◌then◌else◌, codes}
 use Rattle.std.specs.List.{list_all}
 use Rattle.std.specs.Option.{option_map, option_map_or}
 use Rattle.std.proofs.lemmas.Bool.{eqb-true}
 use Rattle.std.proofs.lemmas.Option.{slice_get-map}
-use Rattle.naga_ir.specs.StatementTree.{BlockTree, no_statements, statement, StatementTree, simple, return}
+use Rattle.naga_ir.specs.StatementTree.{BlockTree, no_statements, statement, simple, return}
 use Rattle.naga_ir.specs.declared.expression.Expression as ir
 use Rattle.naga_ir.specs.declared.expression.Literal as ir_literal
 use Rattle.naga_ir.specs.declared.expression.Literal.TheVariants as literal
@@ -20,7 +20,7 @@ use Rattle.naga_info.specs.Part.{expression_is_written, block_is_written, statem
 use Rattle.naga_names.specs.Reset.{NameMap}
 use Rattle.wgsl_text.specs.Token.{SuffixI, SuffixLi}
 use Rattle.wgsl_text.specs.Tree.{Constant as ConstantOf, Truth, LeastInteger, LeastLong, Suffixed}
-use Rattle.shader_runs.specs.Value.{Value, Whole}
+use Rattle.shader_runs.specs.Value.{Whole}
 use Rattle.shader_runs.specs.Program.{Expression}
 use Rattle.shader_runs.specs.Program.{handle_type}
 use Rattle.shader_runs.specs.Scope.{Naming, at_start, start_standing, is_pure, is_constant_below}
@@ -28,7 +28,7 @@ use Rattle.shader_runs.specs.Text.{Tree, LiteralOf, before, ReturnLine}
 use Rattle.shader_runs.specs.Form.{value_form, standing_form, own_form as shaped, written_below, value_at, form_all, names_from, variables_from, form_function}
 use Rattle.naga_form.specs.Names.{function_name, argument_name}
 use Rattle.naga_form.specs.Types.{value_type}
-use Rattle.naga_form.specs.Literals.{literal_form, literal_value, value_read, signed}
+use Rattle.naga_form.specs.Literals.{literal_form, literal_value, value_read}
 use Rattle.naga_form.specs.Form.{own_form, expression_form, statements_form, parameters_form, function_form}
 use Rattle.naga_form.specs.Shapes.{expression_shape, statements_shape, function_shape, inner_names}
 use Rattle.naga_form.specs.Abstraction.{expression_read, statements_read, function_read}

@@ -1,9 +1,8 @@
 -- What is known of each expression and statement of an accepted function that is written.
-use Rattle.std.proofs.Common.{◌≡◌, ◌≢◌, ℕ, suc, zero, Bool, true, false, ◌&&◌, List, [], ◌∷◌, map, length, ◌<◌, Option, Some, None, refl, sym, ap, subst, ◌∙◌}
+use Rattle.std.proofs.Common.{◌≡◌, ℕ, suc, zero, Bool, true, false, ◌&&◌, List, [], ◌∷◌, length, ◌<◌, Option, Some, None, refl, sym, ap, subst}
 use Rattle.std.specs.Prelude.{IsTrue, slice_get, unwrap_or, ◌==◌}
 use Rattle.std.specs.List.{list_all}
-use Rattle.std.specs.Option.{option_map, option_and_then, is_some}
-use Rattle.std.specs.Str.{bytes_eq}
+use Rattle.std.specs.Option.{option_and_then}
 use Rattle.std.proofs.lemmas.Option.{slice_get_within}
 use Rattle.std.proofs.lemmas.Slice.Eq.{bytes_eq-Decides}
 use Rattle.indexmap.specs.IndexMap.{keys}
@@ -16,7 +15,7 @@ use Rattle.naga_ir.specs.declared.module.FunctionResult.{FunctionResult}
 use Rattle.naga_ir.specs.declared.types.Type_.{Type_}
 use Rattle.naga_info.specs.declared.info.ExpressionInfo.{ExpressionInfo}
 use Rattle.naga_info.specs.Types.{word_at, spelling_of, spelling_at, is_alike}
-use Rattle.naga_info.specs.Accepted.{expected_type, is_within, signature_fits, names_fit, expression_fits, expressions_fit, local_fits, return_fits, block_fits, function_fits}
+use Rattle.naga_info.specs.Accepted.{signature_fits, names_fit, expression_fits, expressions_fit, local_fits, return_fits, block_fits, function_fits}
 use Rattle.naga_info.proofs.Accepting.{expressions_fit_known, expressions_fit_length}
 use Rattle.naga_info.specs.Part.{expression_is_written, statement_is_written, block_is_written, is_unbound, function_is_written}
 

@@ -1,14 +1,11 @@
 -- An accepted function that is written meets what the law of runs asks of its shape.
-use Rattle.std.proofs.Common.{◌≡◌, ◌≢◌, ℕ, suc, zero, Bool, true, false, ◌&&◌, ◌<◌, pos, negsuc, List, [], ◌∷◌, map, length, Option, Some, None, refl, sym, ap, subst, ◌∙◌, arith}
-use Rattle.std.specs.Prelude.{IsTrue, slice_get, get_or, unwrap_or, nat_lt, ◌==◌}
+use Rattle.std.proofs.Common.{◌≡◌, ◌≢◌, ℕ, suc, zero, Bool, true, false, ◌&&◌, ◌<◌, List, [], ◌∷◌, map, length, Option, Some, None, refl, sym, ap, subst, ◌∙◌, arith}
+use Rattle.std.specs.Prelude.{IsTrue, slice_get, unwrap_or, ◌==◌}
 use Rattle.std.specs.List.{list_all}
 use Rattle.std.specs.Option.{option_map, option_and_then}
-use Rattle.std.specs.Fmt.{decimal}
 use Rattle.std.proofs.lemmas.Bool.{eqb-true, lt-ltb}
-use Rattle.std.proofs.lemmas.Option.{slice_get_within}
-use Rattle.naga_ir.specs.StatementTree.{BlockTree, no_statements, statement, StatementTree, simple, return}
+use Rattle.naga_ir.specs.StatementTree.{BlockTree, no_statements, statement}
 use Rattle.naga_ir.specs.declared.expression.Expression as ir
-use Rattle.naga_ir.specs.declared.expression.Expression.TheVariants as expression
 use Rattle.naga_ir.specs.declared.expression.Literal as ir_literal
 use Rattle.naga_ir.specs.declared.expression.Literal.TheVariants as literal
 use Rattle.naga_ir.specs.declared.module.Function as ir_function
@@ -16,18 +13,18 @@ use Rattle.naga_ir.specs.declared.module.LocalVariable.{LocalVariable}
 use Rattle.naga_ir.specs.declared.types.Type_.{Type_}
 use Rattle.naga_info.specs.declared.info.ExpressionInfo.{ExpressionInfo}
 use Rattle.naga_info.specs.Types.{word_at, spelling_of, literal_word, literal_is_within, is_alike}
-use Rattle.naga_info.specs.Accepted.{expected_type, is_within, function_fits, expressions_fit, statement_fits, return_fits, block_fits}
-use Rattle.naga_info.specs.Part.{expression_is_written, block_is_written, statement_is_written, function_is_written}
+use Rattle.naga_info.specs.Accepted.{statement_fits, return_fits, block_fits}
+use Rattle.naga_info.specs.Part.{expression_is_written, block_is_written, statement_is_written}
 use Rattle.naga_names.specs.Reset.{NameMap}
 use Rattle.shader_runs.specs.Value.{ValueType, type_at, type_of}
 use Rattle.shader_runs.specs.Program as shapes
 use Rattle.shader_runs.specs.Program.{operands_of, handle_type, argument_count}
-use Rattle.shader_runs.specs.Scope.{Naming, at_start, usable_as, usable_if, fits_all, fits_function, first_values_fit, given_by_all}
-use Rattle.shader_runs.specs.Premises.{AllBelow, WordFits, LeafFits, ReturnFits, AreRegular, AreDistinct, FunctionFits, NameKey, FixedKey, NumberedKey, GivenKey, ArgumentName, LocalName, ConstantName, GlobalName}
+use Rattle.shader_runs.specs.Scope.{Naming, at_start, usable_as, usable_if, fits_all, first_values_fit, given_by_all}
+use Rattle.shader_runs.specs.Premises.{AllBelow, WordFits, LeafFits, ReturnFits, AreRegular, AreDistinct, FunctionFits, FixedKey, NumberedKey, GivenKey, ArgumentName, LocalName, ConstantName, GlobalName}
 use Rattle.naga_form.specs.Names.{argument_name, numbered_name}
 use Rattle.naga_form.specs.Types.{value_type}
 use Rattle.naga_form.specs.Literals.{literal_value}
-use Rattle.naga_form.specs.Shapes.{expression_shape, statements_shape, function_shape, inner_names, outer_names}
+use Rattle.naga_form.specs.Shapes.{expression_shape, statements_shape, function_shape, outer_names}
 use Rattle.naga_form.proofs.Named.{numbered_distinct}
 use Rattle.naga_form.proofs.Facts.{and_left, and_right, all_at, alike_word, known_at, then_some, returned_at, is_return, IsLeaf, literal_leaf, argument_leaf, is_leaf, argument_within, FunctionFacts}
 use Rattle.naga_form.proofs.Abstractions.{named, shape_at}

@@ -1,8 +1,8 @@
 -- The names of a module's items: identifiers of WGSL, no two alike, and none that a handle has.
-use Rattle.std.proofs.Common.{◌≡◌, ◌≢◌, ℕ, suc, zero, Bool, true, false, not, ◌&&◌, ◌||◌, ◌<◌, ◌≤◌, ◌^◌, List, [], ◌∷◌, ◌++◌, map, length, take, drop, codes, decimal, replicate, get_or, nat_lt, Option, Some, None, refl, sym, ap, subst, ◌∙◌, arith, true≢false, nat_eq}
-use Rattle.std.specs.Prelude.{IsTrue, IsFalse, slice_get, unwrap_or, ◌==◌, if◌then◌else◌}
+use Rattle.std.proofs.Common.{◌≡◌, ◌≢◌, ℕ, suc, zero, Bool, true, false, not, ◌&&◌, ◌||◌, ◌<◌, ◌^◌, List, [], ◌∷◌, ◌++◌, map, length, take, drop, codes, decimal, replicate, nat_lt, Some, None, refl, sym, ap, subst, ◌∙◌, true≢false, nat_eq}
+use Rattle.std.specs.Prelude.{slice_get, unwrap_or, ◌==◌}
 use Rattle.std.specs.FinSet as set
-use Rattle.std.specs.Bool.{Decides, one_answer}
+use Rattle.std.specs.Bool.{one_answer}
 use Rattle.std.specs.Char.{is_ascii_digit, is_ascii_uppercase, is_ascii_lowercase}
 use Rattle.std.specs.List.{list_all, list_any}
 use Rattle.std.specs.Str.{bytes_eq}
@@ -16,7 +16,6 @@ use Rattle.naga_names.specs.Naming.{label_or, name_after}
 use Rattle.naga_names.specs.Plain.{is_identifier_char, is_word}
 use Rattle.naga_names.specs.Reset.{Labelled, labelled_items, labels_of, named_items, PutsInto}
 use Rattle.naga_names.specs.declared.keywords.TheConstants.{RESERVED, BUILTIN_IDENTIFIERS}
-use Rattle.naga_names.specs.declared.namer.key.NameKey.{NameKey}
 use Rattle.naga_names.specs.declared.namer.key.NameKey.TheVariants as key
 use Rattle.naga_names.proofs.Plains.{words_are}
 use Rattle.naga_names.proofs.SetLemmas.{texts_of, contains-texts_of}
@@ -24,8 +23,8 @@ use Rattle.naga_names.proofs.NameShapes.{name_after_is_word, name_after_no_keywo
 use Rattle.naga_names.proofs.NameKeys.{items_apart}
 use Rattle.naga_names.proofs.NamedItems.{Stands, put_at, item_names_tell, function_stands, argument_stands}
 use Rattle.wgsl_text.specs.Keywords.{reserved_words, builtin_words}
-use Rattle.wgsl_text.specs.Words.{is_letter, is_word_byte, all_word_bytes, is_word_text, stands_in, is_reserved, is_builtin, IsWord, IsIdentifier}
-use Rattle.naga_form.specs.Names.{wgsl_names, module_names, name_in, function_name, argument_name, numbered_text, numbered_name, NamesAreCounted}
+use Rattle.wgsl_text.specs.Words.{is_letter, is_word_byte, all_word_bytes, is_word_text, stands_in, is_reserved, is_builtin, IsIdentifier}
+use Rattle.naga_form.specs.Names.{wgsl_names, module_names, name_in, numbered_text, numbered_name, NamesAreCounted}
 use Rattle.naga_form.proofs.Facts.{and_left, and_right}
 
 -- ---- words

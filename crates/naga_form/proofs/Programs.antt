@@ -1,12 +1,11 @@
 -- What is written for a module is a program of the grammar.
-use Rattle.std.proofs.Common.{◌≡◌, ℕ, suc, zero, ◌+◌, ◌<◌, ◌^◌, Bool, true, false, ◌&&◌, pos, negsuc, List, [], ◌∷◌, length, Option, Some, None, nat_lt, refl, sym, ap, subst, ◌∙◌, arith, codes}
+use Rattle.std.proofs.Common.{◌≡◌, ℕ, suc, ◌+◌, ◌<◌, ◌^◌, Bool, true, false, pos, negsuc, List, [], ◌∷◌, length, Option, Some, None, nat_lt, refl, sym, subst, arith, codes}
 use Rattle.std.specs.Prelude.{IsTrue, slice_get, unwrap_or, ◌==◌, if◌then◌else◌}
 use Rattle.std.specs.List.{list_all}
 use Rattle.std.specs.Option.{is_some, option_map, option_and_then, option_map_or}
 use Rattle.std.proofs.lemmas.Bool.{eqb-false, ltb-true}
-use Rattle.naga_ir.specs.StatementTree.{BlockTree, no_statements, statement, StatementTree, simple, return}
+use Rattle.naga_ir.specs.StatementTree.{BlockTree, no_statements, statement}
 use Rattle.naga_ir.specs.declared.expression.Expression as ir
-use Rattle.naga_ir.specs.declared.expression.Expression.TheVariants as expression
 use Rattle.naga_ir.specs.declared.expression.Literal as ir_literal
 use Rattle.naga_ir.specs.declared.expression.Literal.TheVariants as literal
 use Rattle.naga_ir.specs.declared.module.Function as ir_function
@@ -20,21 +19,21 @@ use Rattle.naga_ir.specs.declared.types.TypeInner.TheVariants as inner
 use Rattle.naga_ir.specs.declared.types.Type_.{Type_}
 use Rattle.naga_info.specs.declared.info.ExpressionInfo.{ExpressionInfo}
 use Rattle.naga_info.specs.declared.info.ModuleInfo.{ModuleInfo}
-use Rattle.naga_info.specs.Types.{word_of_width, word_of_type, word_at, literal_word, literal_is_within, spelling_of, is_alike}
-use Rattle.naga_info.specs.Accepted.{is_scalar_type, is_within, is_below, is_accepted, function_fits, functions_fit, expressions_fit, statement_fits, return_fits, block_fits, expected_type}
+use Rattle.naga_info.specs.Types.{word_of_width, word_of_type, literal_word, literal_is_within, spelling_of, is_alike}
+use Rattle.naga_info.specs.Accepted.{is_scalar_type, is_below, is_accepted, function_fits, functions_fit, statement_fits, return_fits, block_fits}
 use Rattle.naga_info.specs.Part.{expression_is_written, block_is_written, statement_is_written, function_is_written, is_written_so_far}
 use Rattle.naga_info.proofs.Accepting.{accepted_parts}
-use Rattle.wgsl_text.specs.Words.{IsWord, IsIdentifier, is_reserved}
+use Rattle.wgsl_text.specs.Words.{IsIdentifier, is_reserved}
 use Rattle.wgsl_text.specs.Tree.{Constant as ConstantOf, Truth, Named, LeastInteger, Suffixed, LeastLong}
 use Rattle.wgsl_text.specs.Token.{SuffixI, SuffixLi}
 use Rattle.wgsl_text.specs.Grammar.{IsType, IsLiteral, IsExpression}
 use Rattle.wgsl_text.specs.GrammarOfLines.{IsStatement, IsStatements, IsParameter, IsResult, IsFunction, IsProgram, Each}
-use Rattle.naga_form.specs.Names.{module_names, function_name, argument_name}
+use Rattle.naga_form.specs.Names.{module_names, argument_name}
 use Rattle.naga_form.specs.Types.{type_form}
 use Rattle.naga_form.specs.Literals.{literal_form}
 use Rattle.naga_form.specs.Form.{own_form, expression_form, return_form, statements_form, parameters_form, result_form, function_form, functions_form}
 use Rattle.naga_form.specs.Faithful.{written_program}
-use Rattle.naga_form.proofs.Facts.{and_left, and_right, all_at, alike_word, known_at, then_some, returned_at, is_return, IsLeaf, literal_leaf, argument_leaf, is_leaf, argument_within, FunctionFacts, function_facts}
+use Rattle.naga_form.proofs.Facts.{and_left, and_right, all_at, known_at, returned_at, is_return, IsLeaf, literal_leaf, argument_leaf, is_leaf, argument_within, FunctionFacts, function_facts}
 use Rattle.naga_form.proofs.Named.{item_is_identifier, function_item, argument_item, function_there, argument_there}
 use Rattle.naga_form.proofs.Runs.{element, functions_are_written}
 

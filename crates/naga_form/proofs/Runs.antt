@@ -1,5 +1,5 @@
 -- The program that is written for a module does what the module does.
-use Rattle.std.proofs.Common.{◌≡◌, ℕ, suc, zero, ◌+◌, ◌<◌, Bool, true, ◌&&◌, List, [], ◌∷◌, ◌++◌, map, length, Option, Some, None, refl, sym, ap, subst, ◌∙◌, arith, add-one, append-nil}
+use Rattle.std.proofs.Common.{◌≡◌, ℕ, suc, zero, ◌+◌, ◌<◌, Bool, ◌&&◌, List, [], ◌∷◌, map, length, Some, refl, sym, ap, subst, ◌∙◌, arith, add-one, append-nil}
 use Rattle.std.specs.Prelude.{IsTrue, slice_get, reverse}
 use Rattle.std.specs.List.{list_all}
 use mathlib.Core.List.{reverse_aux}
@@ -20,17 +20,17 @@ use Rattle.shader_runs.specs.Scope.{Naming}
 use Rattle.shader_runs.specs.Text.{TextModule}
 use Rattle.shader_runs.specs.TextRun.{module_scope, follow_call}
 use Rattle.shader_runs.specs.Form.{form_function, form_functions, form_module, functions_of}
-use Rattle.shader_runs.specs.Premises.{FunctionFits, AllFit, ModuleNamesAreDistinct}
+use Rattle.shader_runs.specs.Premises.{AllFit}
 use Rattle.shader_runs.specs.Correct.{ModuleFits}
 use Rattle.shader_runs.proofs.Calls.{runs_alike}
-use Rattle.naga_form.specs.Names.{NamesAreCounted, module_names, function_name, argument_name, name_in}
-use Rattle.naga_form.specs.Form.{functions_form, function_form}
-use Rattle.naga_form.specs.Shapes.{function_shape, function_shapes, program_shape, namings_from, namings, outer_names, inner_names}
+use Rattle.naga_form.specs.Names.{NamesAreCounted, module_names, function_name}
+use Rattle.naga_form.specs.Form.{functions_form}
+use Rattle.naga_form.specs.Shapes.{function_shapes, program_shape, namings_from, namings, outer_names}
 use Rattle.naga_form.specs.Abstraction.{function_read, program_read, is_request}
 use Rattle.naga_form.specs.Faithful.{written_program, RunsAs}
 use Rattle.naga_form.proofs.Facts.{and_left, and_right, function_facts}
 use Rattle.naga_form.proofs.Abstractions.{named, function_reads}
-use Rattle.naga_form.proofs.Fits.{NameFacts, function_fits_shape, mapped_length}
+use Rattle.naga_form.proofs.Fits.{NameFacts, function_fits_shape}
 use Rattle.naga_form.proofs.Named.{item_not_numbered, items_tell, function_item, argument_item, function_there, argument_there}
 
 module _ (names : NameMap) (types : List Type_) where

@@ -19,9 +19,8 @@ use Rattle.wgsl_text.specs.Tree as tree
 use Rattle.wgsl_text.specs.Pieces.{binary_pieces}
 use Rattle.wgsl_text.specs.Text.{text}
 use Rattle.shader_runs.specs.Value.{ValueType, ShortCircuitAnd, ShortCircuitOr}
-use Rattle.shader_runs.specs.Program as shapes
 use Rattle.shader_runs.specs.Program.{handle_type, expression_of, binds, from}
-use Rattle.shader_runs.specs.Scope.{Standing, Absent, Barred, Everywhere, Inline, Named, Handles, Naming, at_start, bound_name, given_after, given_by, after_one, after}
+use Rattle.shader_runs.specs.Scope.{Standing, Named, Handles, Naming, at_start, bound_name, given_after, given_by, after_one, after}
 use Rattle.shader_runs.specs.Text.{LiteralOf, Apply, LogicalOf, more, no_more, before, Let, ReturnLine, Assign}
 use Rattle.shader_runs.specs.Form as runs
 use Rattle.shader_runs.specs.Form.{Plain, AsValue, AsPlace, written_below, form_function, names_from, variables_from, let_if}
@@ -29,11 +28,10 @@ use Rattle.naga_form.specs.Names.{function_name, argument_name}
 use Rattle.naga_form.specs.Operators.{operator_form}
 use Rattle.naga_form.specs.Types.{value_type}
 use Rattle.naga_form.specs.Lines.{PlainForm, ValueForm, ReferenceForm, as_value, as_reference, own_plain, own_if, standing_plain, plain_below, plain_form, value_form, let_form, then_if, lets_form, return_line, line_form, lines_form, locals_form, told_type, straight_form}
-use Rattle.naga_form.specs.Shapes.{expression_shape, statement_shape, statements_shape, function_shape, inner_names}
+use Rattle.naga_form.specs.Shapes.{expression_shape, statement_shape, statements_shape, function_shape}
 use Rattle.naga_form.specs.Abstraction.{expression_read, statement_read, statements_read, variable_read, function_read}
 use Rattle.naga_form.proofs.Abstractions.{literal_read, names_counted, named}
 use Rattle.naga_form.proofs.Fits.{mapped_length}
-
 
 -- what a plain form is read as
 abbrev plain_read : PlainForm → Plain
@@ -110,9 +108,9 @@ module _ (names : NameMap) (types : List Type_) (g : ℕ) (f : ir_function.Funct
       let behind = lets_form own told f.expressions (given_after own.function h k) hs (after_one own k h s) rest in
       then_if_reads (binds own.function h) (told h) (bound_name own k h) (as_value e) behind
       ∙ λ i. let_if (binds own.function h) (bound_name own k h)
-          ((value_is e ∙ ap runs.value_form (own_if_reads own (plain_form own f.expressions s) (runs.written own s) (plain_reads s) (handle_type own.function h) (slice_get f.expressions h)
-            ∙ ap (runs.own_form own (runs.written own s) (handle_type own.function h)) (sym (slice_get-map expression_shape f.expressions h)))) i)
-          (lets_read told (given_after own.function h k) hs (after_one own k h s) rest i)
+      ((value_is e ∙ ap runs.value_form (own_if_reads own (plain_form own f.expressions s) (runs.written own s) (plain_reads s) (handle_type own.function h) (slice_get f.expressions h)
+      ∙ ap (runs.own_form own (runs.written own s) (handle_type own.function h)) (sym (slice_get-map expression_shape f.expressions h)))) i)
+      (lets_read told (given_after own.function h k) hs (after_one own k h s) rest i)
 
   return_reads : (s : Handles) (v : Option ℕ) → statement_read (return_line own f.expressions s v) ≡ ReturnLine (runs.value_if own s v)
   return_reads s None = refl

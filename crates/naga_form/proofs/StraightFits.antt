@@ -1,8 +1,7 @@
 -- An accepted function of straight lines meets what the law of runs asks of its shape, where its handles are in scope.
-use Rattle.std.proofs.Common.{◌≡◌, ◌≢◌, ℕ, suc, zero, ◌+◌, ◌-◌, ◌<◌, Bool, true, false, not, ◌&&◌, List, [], ◌∷◌, ◌++◌, map, length, take, codes, replicate, nat_eq, Option, Some, None, refl, sym, ap, subst, ◌∙◌, arith, true≢false}
-use Rattle.std.specs.Prelude.{IsTrue, slice_get, get_or, unwrap_or, cond, ◌==◌}
-use Rattle.std.specs.List.{list_any}
-use Rattle.std.specs.Option.{option_map, option_and_then}
+use Rattle.std.proofs.Common.{◌≡◌, ◌≢◌, ℕ, suc, zero, ◌+◌, ◌-◌, ◌<◌, Bool, true, false, List, [], ◌∷◌, length, take, codes, nat_eq, Option, Some, None, refl, sym, ap, subst, ◌∙◌, arith, true≢false}
+use Rattle.std.specs.Prelude.{IsTrue, slice_get, get_or, cond, ◌==◌}
+use Rattle.std.specs.Option.{option_map}
 use Rattle.std.proofs.lemmas.Bool.{eqb-true}
 use Rattle.std.proofs.lemmas.Option.{slice_get-map, slice_get_within}
 use Rattle.indexmap.specs.IndexMap.{keys}
@@ -12,13 +11,11 @@ use Rattle.naga_ir.specs.declared.expression.Expression.TheVariants as expressio
 use Rattle.naga_ir.specs.declared.operators.BinaryOperator.{BinaryOperator}
 use Rattle.naga_ir.specs.declared.operators.BinaryOperator.TheVariants as operator
 use Rattle.naga_ir.specs.declared.module.Function as ir_function
-use Rattle.naga_ir.specs.declared.module.FunctionResult.{FunctionResult}
 use Rattle.naga_ir.specs.declared.module.LocalVariable.{LocalVariable}
 use Rattle.naga_ir.specs.declared.module.Module.{Module}
-use Rattle.naga_ir.specs.declared.types.Type_.{Type_}
 use Rattle.naga_info.specs.declared.info.ExpressionInfo.{ExpressionInfo}
-use Rattle.naga_info.specs.Types.{word_at, spelling_of, spelling_at, literal_word, operator_word}
-use Rattle.naga_info.specs.Accepted.{function_fits, expressions_fit, statement_fits, block_fits, return_fits}
+use Rattle.naga_info.specs.Types.{word_at, spelling_of, spelling_at, operator_word}
+use Rattle.naga_info.specs.Accepted.{function_fits, statement_fits, block_fits, return_fits}
 use Rattle.naga_info.proofs.Accepting.{function_fits_word_at, function_fits_expressions, function_fits_block, local_word_at, load_word_at, binary_at}
 use Rattle.naga_names.specs.Plain.{is_word}
 use Rattle.naga_names.specs.Naming.{label_or}
@@ -26,19 +23,16 @@ use Rattle.naga_names.specs.declared.namer.key.NameKey.TheVariants as key
 use Rattle.naga_names.specs.Reset.{Labelled, labelled_items, labels_of}
 use Rattle.naga_names.proofs.NameShapes.{name_after_is_word}
 use Rattle.naga_names.proofs.NamedItems.{Stands, local_stands}
-use Rattle.wgsl_text.specs.Pieces.{binary_pieces}
-use Rattle.wgsl_text.specs.Text.{text}
-use Rattle.shader_runs.specs.Value.{ValueType, PointerType, type_at, type_of}
+use Rattle.shader_runs.specs.Value.{ValueType}
 use Rattle.shader_runs.specs.Program as shapes
 use Rattle.shader_runs.specs.Program.{operands_of, handle_type, expression_of, is_given, argument_count, local_count, from}
 use Rattle.shader_runs.specs.Scope.{Naming, given_after, given_after_all, given_by, given_by_all, fits_function}
 use Rattle.shader_runs.specs.Premises.{AllBelow, OperatesBy, StandsFree, IsNoName, WordFits, LeafFits, ReturnFits, IsRegular, AreRegular, AreDistinct, IsName, FunctionFits, NameKey, FixedKey, NumberedKey, GivenKey, ArgumentName, LocalName, ConstantName, GlobalName, name_at}
 use Rattle.naga_form.specs.Names.{wgsl_names, module_names, name_in, function_name, argument_name, local_name, numbered_text, numbered_name, NamesAreCounted}
 use Rattle.naga_form.specs.Types.{value_type}
-use Rattle.naga_form.specs.Literals.{literal_value}
 use Rattle.naga_form.specs.Operators.{operator_form}
 use Rattle.naga_form.specs.Abstraction.{is_request}
-use Rattle.naga_form.specs.Shapes.{expression_shape, binary_shape, statement_shape, statements_shape, given_from, function_shape, inner_names, outer_names}
+use Rattle.naga_form.specs.Shapes.{expression_shape, binary_shape, statement_shape, statements_shape, given_from, function_shape, outer_names}
 use Rattle.naga_form.proofs.Facts.{and_left, and_right, then_some, returned_at}
 use Rattle.naga_form.proofs.Abstractions.{named}
 use Rattle.naga_form.proofs.Fits.{type_at_mapped, mapped_length, literal_type}
@@ -215,10 +209,10 @@ module _ (m : Module) (g : ℕ) (f : ir_function.Function) (found : slice_get m.
 
   regular : (callees : List shapes.Function) (b : BlockTree) → block_fits m.types es f.result b ≡ true → AreRegular p callees own (statements_shape b)
   regular callees no_statements fit = tt
-  regular callees (statement st b) fit =
-      ( regular_at callees st (and_left (statement_fits m.types es f.result st) (block_fits m.types es f.result b) fit)
-      , regular callees b (and_right (statement_fits m.types es f.result st) (block_fits m.types es f.result b) fit)
-      )
+  regular callees (statement st b) fit = (
+    regular_at callees st (and_left (statement_fits m.types es f.result st) (block_fits m.types es f.result b) fit),
+    regular callees b (and_right (statement_fits m.types es f.result st) (block_fits m.types es f.result b) fit),
+  )
 
   -- ---- names
   distinct : NamesAreCounted m → AreDistinct p own

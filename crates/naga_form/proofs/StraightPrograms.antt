@@ -1,9 +1,9 @@
 -- What is written for straight lines is a program of the grammar.
-use Rattle.std.proofs.Common.{◌≡◌, ℕ, suc, zero, ◌+◌, ◌-◌, ◌<◌, ◌≤◌, ◌^◌, Bool, true, false, not, ◌&&◌, ◌||◌, List, [], ◌∷◌, ◌++◌, map, length, codes, decimal, nat_eq, nat_lt, nat_le, Option, Some, None, refl, sym, ap, subst, ◌∙◌, arith, true≢false}
-use Rattle.std.specs.Prelude.{IsTrue, IsFalse, slice_get, get_or, unwrap_or, cond, ◌==◌}
+use Rattle.std.proofs.Common.{◌≡◌, ℕ, suc, zero, ◌+◌, ◌-◌, ◌<◌, ◌≤◌, ◌^◌, Bool, true, false, not, ◌&&◌, ◌||◌, List, [], ◌∷◌, ◌++◌, length, codes, decimal, nat_eq, nat_lt, nat_le, Option, Some, None, refl, sym, ap, subst, ◌∙◌, arith, true≢false}
+use Rattle.std.specs.Prelude.{IsTrue, slice_get, get_or, unwrap_or, cond, ◌==◌}
 use Rattle.std.specs.Char.{is_ascii_digit}
 use Rattle.std.specs.List.{list_all}
-use Rattle.std.specs.Option.{option_map, option_map_or, option_and_then, is_some}
+use Rattle.std.specs.Option.{option_map, option_and_then, is_some}
 use Rattle.std.specs.Str.{bytes_eq}
 use Rattle.std.proofs.lemmas.Bool.{leb-true, ltb-true, lt-ltb}
 use Rattle.std.proofs.lemmas.Option.{slice_get_within, slice_get-map}
@@ -11,7 +11,6 @@ use Rattle.std.proofs.lemmas.Slice.Eq.{bytes_eq-Decides}
 use Rattle.naga_ir.specs.declared.types.AddressSpace.{AddressSpace}
 use Rattle.naga_ir.specs.declared.types.AddressSpace.TheVariants as space
 use Rattle.naga_ir.specs.declared.types.ScalarKind.{ScalarKind}
-use Rattle.naga_ir.specs.declared.types.Scalar.{Scalar}
 use Rattle.naga_ir.specs.declared.types.TypeInner.{TypeInner}
 use Rattle.naga_ir.specs.declared.types.TypeInner.TheVariants as inner
 use Rattle.naga_ir.specs.declared.types.Type_.{Type_}
@@ -33,14 +32,13 @@ use Rattle.naga_ir.specs.declared.module.LocalVariable.{LocalVariable}
 use Rattle.naga_ir.specs.declared.module.Module.{Module}
 use Rattle.naga_names.proofs.BaseShapes.{all_digits-decimal}
 use Rattle.wgsl_text.specs.Keywords.{reserved_words, builtin_words}
-use Rattle.wgsl_text.specs.Words.{is_letter, is_word_byte, all_word_bytes, is_word_text, stands_in, is_reserved, is_builtin, IsWord, IsIdentifier}
+use Rattle.wgsl_text.specs.Words.{is_letter, is_word_byte, all_word_bytes, stands_in, is_reserved, is_builtin, IsIdentifier}
 use Rattle.wgsl_text.specs.Tree.{TypeSpecifier, Named as NamedType}
 use Rattle.wgsl_text.specs.Grammar.{IsType, IsExpression}
 use Rattle.wgsl_text.specs.GrammarOfLines.{is_reference, IsStatement, IsStatements, IsValue, IsParameter, IsResult, IsLocal, IsFunction, IsProgram, Each}
 use Rattle.wgsl_text.specs.Tree as tree
 use Rattle.naga_form.specs.Form.{parameters_form, result_form}
 use Rattle.shader_runs.specs.World.{update}
-use Rattle.shader_runs.specs.Program as shapes
 use Rattle.shader_runs.specs.Program.{expression_of, operands_of, binds, binds_as, from}
 use Rattle.shader_runs.specs.Scope.{Standing, Absent, Barred, Everywhere, Inline, Named, Handles, Naming, bound_name, usable_all, is_pure, is_constant_below, start_standing, at_start, unbound, emitted, after_one, given_after, given_by, after_emit, after}
 use Rattle.naga_form.specs.Names.{wgsl_names, module_names, numbered_text, numbered_name}
@@ -281,10 +279,10 @@ module _ (m : Module) (g : ℕ) (f : ir_function.Function) (found : slice_get m.
       behind = lets_form own told f.expressions (given_after own.function h k) hs (after_one own k h s) rest
 
       then_is : (b : Bool) → binds own.function h ≡ b → IsStatements behind → IsStatements (then_if b (let_form (told h) (bound_name own k h) e) behind)
-      then_is true bound more =
-          ( let_is (told h) (told_well h) (bound_name own k h) e (bound_is k h bound) (value_is_one (own_if own (plain_form own f.expressions s) (slice_get f.expressions h)) (own_if_is (plain_form own f.expressions s) (plain_is s well) h (slice_get f.expressions h) refl))
-          , more
-          )
+      then_is true bound more = (
+        let_is (told h) (told_well h) (bound_name own k h) e (bound_is k h bound) (value_is_one (own_if own (plain_form own f.expressions s) (slice_get f.expressions h)) (own_if_is (plain_form own f.expressions s) (plain_is s well) h (slice_get f.expressions h) refl)),
+        more,
+      )
       then_is false bound more = more
 
   return_is : (s : Handles) → NamesAre s → (v : Option ℕ) → IsStatement (return_line own f.expressions s v)
@@ -311,13 +309,13 @@ module _ (m : Module) (g : ℕ) (f : ir_function.Function) (found : slice_get m.
       let lt : l < length f.local_variables = omega (arith, size) in
       let next : (l + 1) + length vs ≡ length f.local_variables = omega (arith, size) in
       let here = element f.local_variables l lt in
-      let parts = local_fits_parts m.types es v (and_left (local_fits m.types es v) (list_all (local_fits m.types es) vs) fit) in
-      ( record {
-        name = item_is_identifier m (local_item g l here.0) (local_stands wgsl_names m g f l here.0 found here.1);
-        type = is_type_at m.types scalars v.ty (ltb-true v.ty (length m.types) parts.0);
-        value = first_is v.init;
-      }
-      , locals_are (l + 1) vs next (and_right (local_fits m.types es v) (list_all (local_fits m.types es) vs) fit)
+      let parts = local_fits_parts m.types es v (and_left (local_fits m.types es v) (list_all (local_fits m.types es) vs) fit) in (
+        record {
+          name = item_is_identifier m (local_item g l here.0) (local_stands wgsl_names m g f l here.0 found here.1);
+          type = is_type_at m.types scalars v.ty (ltb-true v.ty (length m.types) parts.0);
+          value = first_is v.init;
+        },
+        locals_are (l + 1) vs next (and_right (local_fits m.types es v) (list_all (local_fits m.types es) vs) fit),
       )
     where
       first_is : (o : Option ℕ) → IsValue (option_map (value_form own f.expressions (at_start own.function)) o)
@@ -330,9 +328,9 @@ module _ (m : Module) (g : ℕ) (f : ir_function.Function) (found : slice_get m.
       let lt : n < length f.arguments.items = omega (arith, size) in
       let next : (n + 1) + length args ≡ length f.arguments.items = omega (arith, size) in
       let there = element f.arguments.items n lt in
-      let here = and_left (nat_lt a.ty (length m.types)) (list_all (λ a. nat_lt a.ty (length m.types)) args) fit in
-      ( record { attributes = tt; binding = refl; name = item_is_identifier m (argument_item m g n there.0) (argument_there m g f n there.0 found there.1); type = is_type_at m.types scalars a.ty (ltb-true a.ty (length m.types) here) }
-      , parameters_are (n + 1) args next (and_right (nat_lt a.ty (length m.types)) (list_all (λ a. nat_lt a.ty (length m.types)) args) fit)
+      let here = and_left (nat_lt a.ty (length m.types)) (list_all (λ a. nat_lt a.ty (length m.types)) args) fit in (
+        record { attributes = tt; binding = refl; name = item_is_identifier m (argument_item m g n there.0) (argument_there m g f n there.0 found there.1); type = is_type_at m.types scalars a.ty (ltb-true a.ty (length m.types) here) },
+        parameters_are (n + 1) args next (and_right (nat_lt a.ty (length m.types)) (list_all (λ a. nat_lt a.ty (length m.types)) args) fit),
       )
 
   result_is : (r : Option FunctionResult) → IsTrue (is_below (length m.types) (option_map (λ r. r.ty) r)) → IsResult (result_form m.types r)
@@ -362,9 +360,9 @@ functions_are explicit m g (f ∷ fs) (es ∷ ess) there fits unnamed few scalar
     let here : g + 0 ≡ g = omega arith in
     let found = subst (λ h. slice_get m.functions h ≡ Some f) here (there 0 f refl) in
     let named_none = λ (f : ir_function.Function). length (keys f.named_expressions) == 0 in
-    let counted = λ (f : ir_function.Function). nat_le (length f.expressions) (2 ^ 64) in
-    ( straight_is m g f found es (and_left (function_fits m.types f es) (functions_fit m.types fs ess) fits) (and_left (named_none f) (list_all named_none fs) unnamed) scalars (leb-true (length f.expressions) (2 ^ 64) (and_left (counted f) (list_all counted fs) few)) explicit
-    , functions_are explicit m (g + 1) fs ess later (and_right (function_fits m.types f es) (functions_fit m.types fs ess) fits) (and_right (named_none f) (list_all named_none fs) unnamed) (and_right (counted f) (list_all counted fs) few) scalars
+    let counted = λ (f : ir_function.Function). nat_le (length f.expressions) (2 ^ 64) in (
+      straight_is m g f found es (and_left (function_fits m.types f es) (functions_fit m.types fs ess) fits) (and_left (named_none f) (list_all named_none fs) unnamed) scalars (leb-true (length f.expressions) (2 ^ 64) (and_left (counted f) (list_all counted fs) few)) explicit,
+      functions_are explicit m (g + 1) fs ess later (and_right (function_fits m.types f es) (functions_fit m.types fs ess) fits) (and_right (named_none f) (list_all named_none fs) unnamed) (and_right (counted f) (list_all counted fs) few) scalars,
     )
   where
     later : (i : ℕ) (f1 : ir_function.Function) → slice_get fs i ≡ Some f1 → slice_get m.functions ((g + 1) + i) ≡ Some f1

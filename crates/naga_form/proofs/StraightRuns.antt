@@ -1,5 +1,5 @@
 -- A module of straight lines does by its text what it does.
-use Rattle.std.proofs.Common.{◌≡◌, ℕ, suc, zero, ◌+◌, ◌<◌, Bool, true, false, ◌&&◌, List, [], ◌∷◌, map, length, Some, refl, sym, ap, subst, ◌∙◌, arith, add-one, append-nil}
+use Rattle.std.proofs.Common.{◌≡◌, ℕ, suc, ◌+◌, ◌<◌, Bool, true, false, ◌&&◌, List, [], ◌∷◌, map, length, Some, refl, sym, ap, subst, ◌∙◌, arith, add-one, append-nil}
 use Rattle.std.specs.Prelude.{IsTrue, slice_get, reverse, ◌==◌}
 use Rattle.std.specs.List.{list_all}
 use mathlib.Core.List.{reverse_aux}
@@ -20,15 +20,15 @@ use Rattle.shader_runs.specs.Scope.{Naming, fits_function}
 use Rattle.shader_runs.specs.Text.{TextModule}
 use Rattle.shader_runs.specs.TextRun.{module_scope, follow_call}
 use Rattle.shader_runs.specs.Form.{form_function, form_module, functions_of}
-use Rattle.shader_runs.specs.Premises.{FunctionFits, AllFit}
+use Rattle.shader_runs.specs.Premises.{AllFit}
 use Rattle.shader_runs.specs.Correct.{ModuleFits}
 use Rattle.shader_runs.proofs.Calls.{runs_alike}
 use Rattle.naga_form.specs.Names.{NamesAreCounted, module_names, function_name}
 use Rattle.naga_form.specs.Lines.{straight_functions, straight_program, nothing_named, scope_holds}
-use Rattle.naga_form.specs.Shapes.{function_shape, function_shapes, program_shape, namings_from, namings, outer_names}
+use Rattle.naga_form.specs.Shapes.{function_shapes, program_shape, namings_from, namings, outer_names}
 use Rattle.naga_form.specs.Abstraction.{function_read, program_read, is_request}
 use Rattle.naga_form.specs.Faithful.{RunsAs}
-use Rattle.naga_form.proofs.Facts.{and_left, and_right, all_at}
+use Rattle.naga_form.proofs.Facts.{and_left, and_right}
 use Rattle.naga_form.proofs.Abstractions.{named}
 use Rattle.naga_form.proofs.Named.{items_tell, function_item, function_there}
 use Rattle.naga_form.proofs.Runs.{element, form_functions-map, functions_of-map, functions_of_namings, length-functions_of, shapes_counted}

@@ -1,5 +1,5 @@
 -- What a syntax tree does when it runs: the abstract text of each tree of the grammar, a line for each row.
-use Rattle.std.specs.Prelude.{ℕ, pos, Bool, false, ◌||◌, List, [], ◌∷◌, ◌++◌, map, reverse, ◌==◌, if◌then◌else◌, Option, Some, None, codes, decimal}
+use Rattle.std.specs.Prelude.{pos, Bool, ◌||◌, List, [], ◌∷◌, ◌++◌, map, reverse, ◌==◌, if◌then◌else◌, Some, None, codes, decimal}
 use Rattle.std.specs.Option.{option_map}
 use Rattle.wgsl_text.specs.Words.{stands_in}
 use Rattle.wgsl_text.specs.Tree as tree
@@ -7,7 +7,7 @@ use Rattle.wgsl_text.specs.Tree.{Constant, Name as NameExpression, Binary, Unary
 use Rattle.wgsl_text.specs.Pieces.{binary_pieces, unary_mark}
 use Rattle.wgsl_text.specs.Text.{text, mark_text}
 use Rattle.wgsl_text.specs.Reading.{type_layout}
-use Rattle.shader_runs.specs.Value.{Bytes, MemberNamed, ElementAt, Whole, Opaque, ShortCircuitAnd, ShortCircuitOr}
+use Rattle.shader_runs.specs.Value.{Bytes, MemberNamed, ElementAt, Opaque, ShortCircuitAnd, ShortCircuitOr}
 use Rattle.shader_runs.specs.Program.{Label, Numbered, Default}
 use Rattle.shader_runs.specs.Text.{Tree, Name, LiteralOf, Apply, Deref, AddressOf, Index, PartOf, LogicalOf as Logical, Trees, no_more, more, Line, Let, Assign, Braces, IfElse, SwitchOn, LoopOf, BreakLine, ContinueLine, ReturnLine, DiscardLine, Perform, Lines, last, before, Groups, no_group, group, Variable, TextFunction, TextModule}
 use Rattle.naga_form.specs.Literals.{value_read, signed}

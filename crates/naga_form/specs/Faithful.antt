@@ -2,7 +2,6 @@
 use Rattle.std.specs.Prelude.{◌≡◌, ℕ, Bool, List, Some, IsTrue}
 use Rattle.naga_ir.specs.declared.module.Module.{Module}
 use Rattle.naga_info.specs.declared.info.ModuleInfo.{ModuleInfo}
-use Rattle.naga_names.specs.Reset.{NameMap}
 use Rattle.wgsl_text.specs.Tree.{Program}
 use Rattle.shader_runs.specs.Value.{Value, has_types}
 use Rattle.shader_runs.specs.World.{World, Meaning, Event, Environment}

@@ -6,7 +6,7 @@ use Rattle.naga_ir.specs.declared.module.Module as ir_module
 use Rattle.naga_ir.specs.declared.types.Type_.{Type_}
 use Rattle.naga_names.specs.Reset.{NameMap}
 use Rattle.wgsl_text.specs.Tree.{Attribute, TypeSpecifier, Parameter, Result, NoResult, ResultOf, Function, EntryPoint, Struct, NamedConstant, Override, Global, Program}
-use Rattle.naga_form.specs.Names.{function_name, argument_name}
+use Rattle.naga_form.specs.Names.{function_name}
 use Rattle.naga_form.specs.Types.{type_form}
 
 -- what passes in or out of a function: the attributes that bind it, and its type

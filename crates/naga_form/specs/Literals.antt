@@ -1,10 +1,10 @@
 -- Literals: how they are written, and the values that they have in the module and in its text.
-use Rattle.std.specs.Prelude.{ℕ, zero, suc, ℤ, pos, negsuc, Bool, true, false, List, [], ◌==◌, if◌then◌else◌, codes}
+use Rattle.std.specs.Prelude.{ℕ, suc, ℤ, pos, negsuc, Bool, true, false, List, [], ◌==◌, if◌then◌else◌, codes}
 use Rattle.naga_ir.specs.declared.expression.Literal as ir
 use Rattle.naga_ir.specs.declared.expression.Literal.TheVariants as literal
 use Rattle.wgsl_text.specs.Token.{Suffix, NoSuffix, SuffixI, SuffixU, SuffixLi, SuffixLu}
 use Rattle.wgsl_text.specs.Tree.{Literal, Truth, Suffixed, SignedShort, UnsignedShort, LeastInteger, LeastLong}
-use Rattle.shader_runs.specs.Value.{Value, Truth as TruthValue, Whole, Opaque}
+use Rattle.shader_runs.specs.Value.{Value, Truth as TruthValue, Whole}
 
 -- The least `i32` and the least `i64` have forms of their own: a `-` stands outside of a number.
 abbrev pub integer_form : ℤ → Literal

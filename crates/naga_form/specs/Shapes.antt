@@ -1,5 +1,5 @@
 -- The program of shapes of a module, with its names, of those modules that are written so far.
-use Rattle.std.specs.Prelude.{ℕ, ◌-◌, ◌+◌, Bool, List, [], ◌∷◌, map, reverse, Option}
+use Rattle.std.specs.Prelude.{ℕ, ◌-◌, ◌+◌, Bool, List, [], ◌∷◌, map, reverse}
 use Rattle.std.specs.List.{list_any}
 use Rattle.std.specs.Bool.{nat_eq}
 use Rattle.std.specs.Option.{option_map}
@@ -14,7 +14,7 @@ use Rattle.naga_info.specs.declared.info.ExpressionInfo.{ExpressionInfo}
 use Rattle.naga_info.specs.declared.info.ModuleInfo.{ModuleInfo}
 use Rattle.naga_info.specs.Types.{word_at, spelling_of}
 use Rattle.naga_names.specs.Reset.{NameMap}
-use Rattle.shader_runs.specs.Value.{Bytes, ValueType, ShortCircuitAnd, ShortCircuitOr}
+use Rattle.shader_runs.specs.Value.{ShortCircuitAnd, ShortCircuitOr}
 use Rattle.shader_runs.specs.Program.{Fixed, Expression, Constant, Argument, Local, Load, Operator, Logical, Result, Statement, Emit, Store, Return, Block, Statements, end, then, Function, Module}
 use Rattle.shader_runs.specs.Scope.{ModuleNames, Names, Naming}
 use Rattle.wgsl_text.specs.Pieces.{binary_pieces}

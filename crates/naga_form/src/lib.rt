@@ -1,7 +1,7 @@
 //! What is written for a module, and why it does what the module does. The public functions are laws.
 #![tactic(auto)]
 
-ghost use Rattle.std.specs.Prelude.{◌≡◌, ℕ, List, IsTrue, Bool};
+ghost use Rattle.std.specs.Prelude.{◌≡◌, ℕ, List, IsTrue, Bool, length};
 ghost use Rattle.naga_ir.specs.declared.module.Function.{Function};
 ghost use Rattle.naga_ir.specs.declared.module.Module.{Module};
 ghost use Rattle.naga_ir.specs.declared.types.Type_.{Type_};
@@ -46,4 +46,9 @@ pub fn straight_lines_run()
 /// The program of an accepted module of straight lines is one of the grammar, so that its text has one reading.
 pub fn straight_lines_are_a_program()
     ensures { (m : Module) (info : ModuleInfo) (explicit : Bool) → IsTrue (is_accepted m info) → IsTrue (nothing_named m) → IsTrue (handles_are_counted m) → IsProgram (straight_program explicit m info) }
+{}
+
+/// It declares what the module declares.
+pub fn straight_lines_have_the_interface()
+    ensures { (m : Module) (info : ModuleInfo) (explicit : Bool) → length m.functions ≡ length info.functions.items → HasInterfaceOf m (straight_program explicit m info) }
 {}
