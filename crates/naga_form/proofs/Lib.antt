@@ -9,3 +9,4 @@ pub mod Straight
 pub mod StraightFits
 pub mod StraightRuns
 pub mod StraightPrograms
+pub mod Resolutions

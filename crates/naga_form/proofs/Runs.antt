@@ -91,20 +91,32 @@ pub functions_are_written : (m : Module) → IsTrue (is_written_so_far m) → Is
 unfolding is_written_so_far
 functions_are_written m written = and_right (list_all is_scalar_type m.types) (list_all function_is_written m.functions) (and_right (declares_one_function m) (list_all is_scalar_type m.types && list_all function_is_written m.functions) written)
 
-module _ (m : Module) (info : ModuleInfo) (accepted : IsTrue (is_accepted m info)) (written : IsTrue (is_written_so_far m)) (counted : NamesAreCounted m) where
-  own_names : (g : ℕ) (f : ir_function.Function) → slice_get m.functions g ≡ Some f → NameFacts (module_names m) g (length f.arguments.items)
-  own_names g f found = record {
-    distinct = λ i j li lj e.
-        let a = element f.arguments.items i li in
-        let b = element f.arguments.items j lj in
-        let same = items_tell m counted (argument_item m g i a.0) (argument_item m g j b.0) (argument_there m g f i a.0 found a.1) (argument_there m g f j b.0 found b.1) e in
-        one_argument g i j (ap (λ item. item.0) same);
-    numbered = λ i h li. let a = element f.arguments.items i li in item_not_numbered m (argument_item m g i a.0) h (argument_there m g f i a.0 found a.1);
-  }
-    where
-      one_argument : (g i j : ℕ) → key.FunctionArgument g i ≡ key.FunctionArgument g j → i ≡ j
-      one_argument g i j e = cc
+pub own_names : (m : Module) → NamesAreCounted m → (g : ℕ) (f : ir_function.Function) → slice_get m.functions g ≡ Some f → NameFacts (module_names m) g (length f.arguments.items)
+own_names m counted g f found = record {
+  distinct = λ i j li lj e.
+      let a = element f.arguments.items i li in
+      let b = element f.arguments.items j lj in
+      let same = items_tell m counted (argument_item m g i a.0) (argument_item m g j b.0) (argument_there m g f i a.0 found a.1) (argument_there m g f j b.0 found b.1) e in
+      one_argument g i j (ap (λ item. item.0) same);
+  numbered = λ i h li. let a = element f.arguments.items i li in item_not_numbered m (argument_item m g i a.0) h (argument_there m g f i a.0 found a.1);
+}
+  where
+    one_argument : (g i j : ℕ) → key.FunctionArgument g i ≡ key.FunctionArgument g j → i ≡ j
+    one_argument g i j e = cc
 
+-- the square: what is written of the module is read as its program of shapes is written
+pub program_reads : (m : Module) (info : ModuleInfo) → IsTrue (is_accepted m info) → IsTrue (is_written_so_far m) → (explicit : Bool) → program_read (written_program m info explicit) ≡ form_module (program_shape m info) (outer_names (module_names m)) (namings (module_names m) m info)
+program_reads m info accepted written explicit =
+    let parts = accepted_parts m info accepted in
+    let listed = namings_from (module_names m) 0 (function_shapes m.types m.functions info.functions.items) in
+    let each = functions_read (module_names m) m.types 0 m.functions info.functions.items parts.5 (functions_are_written m written) in
+    λ i. record {
+      constants = [];
+      globals = [];
+      functions = (ap reverse (append-nil (map function_read (functions_form (module_names m) m.types 0 m.functions)) ∙ each) ∙ sym (form_functions-map (reverse listed) ∙ map-reverse form_function listed)) i;
+    }
+
+module _ (m : Module) (info : ModuleInfo) (accepted : IsTrue (is_accepted m info)) (written : IsTrue (is_written_so_far m)) (counted : NamesAreCounted m) where
   from_zero : (i : ℕ) → i ≡ 0 + i
   from_zero i = omega arith
 
@@ -122,27 +134,15 @@ module _ (m : Module) (info : ModuleInfo) (accepted : IsTrue (is_accepted m info
               let b = element m.functions k (subst (λ n. k < n) count lk) in
               one_function g k (ap (λ item. item.0) (items_tell m counted (function_item m g a.0) (function_item m k b.0) (function_there m g a.0 a.1) (function_there m k b.0 b.1) e));
         };
-        all = all_fit (module_names m) m.types (program_shape m info) refl refl 0 m.functions info.functions.items parts.5 (functions_are_written m written) (λ i f found. subst (λ g. NameFacts (module_names m) g (length f.arguments.items)) (from_zero i) (own_names i f found)) [] refl tt;
+        all = all_fit (module_names m) m.types (program_shape m info) refl refl 0 m.functions info.functions.items parts.5 (functions_are_written m written) (λ i f found. subst (λ g. NameFacts (module_names m) g (length f.arguments.items)) (from_zero i) (own_names m counted i f found)) [] refl tt;
       }
     where
       one_function : (g k : ℕ) → key.Function g ≡ key.Function k → g ≡ k
       one_function g k e = cc
 
-  -- the square: what is written of the module is read as its program of shapes is written
-  pub program_reads : (explicit : Bool) → program_read (written_program m info explicit) ≡ form_module (program_shape m info) (outer_names (module_names m)) (namings (module_names m) m info)
-  program_reads explicit =
-      let parts = accepted_parts m info accepted in
-      let listed = namings_from (module_names m) 0 (function_shapes m.types m.functions info.functions.items) in
-      let each = functions_read (module_names m) m.types 0 m.functions info.functions.items parts.5 (functions_are_written m written) in
-      λ i. record {
-        constants = [];
-        globals = [];
-        functions = (ap reverse (append-nil (map function_read (functions_form (module_names m) m.types 0 m.functions)) ∙ each) ∙ sym (form_functions-map (reverse listed) ∙ map-reverse form_function listed)) i;
-      }
-
   pub runs : (explicit : Bool) → RunsAs m info (written_program m info explicit)
   runs explicit environment fit meaning typed g f found arguments typed_arguments world turns past keeps =
-      ap (λ (text : TextModule). follow_call (module_scope text environment) world meaning is_request turns text.functions (function_name (module_names m) g) arguments past) (program_reads explicit)
+      ap (λ (text : TextModule). follow_call (module_scope text environment) world meaning is_request turns text.functions (function_name (module_names m) g) arguments past) (program_reads m info accepted written explicit)
       ∙ runs_alike (program_shape m info) (outer_names (module_names m)) (namings (module_names m) m info) fits environment fit meaning typed g f found arguments typed_arguments world turns past keeps
 
 pub runs_as : (m : Module) (info : ModuleInfo) (explicit : Bool) → IsTrue (is_accepted m info) → IsTrue (is_written_so_far m) → NamesAreCounted m → RunsAs m info (written_program m info explicit)

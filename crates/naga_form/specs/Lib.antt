@@ -7,4 +7,5 @@ pub mod Shapes
 pub mod Abstraction
 pub mod Interface
 pub mod Lines
+pub mod Resolution
 pub mod Faithful

@@ -7,14 +7,15 @@ ghost use Rattle.naga_ir.specs.declared.module.Module.{Module};
 ghost use Rattle.naga_ir.specs.declared.types.Type_.{Type_};
 ghost use Rattle.naga_info.specs.declared.info.ExpressionInfo.{ExpressionInfo};
 ghost use Rattle.naga_names.specs.Reset.{NameMap};
-ghost use Rattle.shader_runs.specs.Form.{form_function};
-ghost use Rattle.naga_form.specs.Abstraction.{function_read};
+ghost use Rattle.shader_runs.specs.Form.{form_function, form_module};
+ghost use Rattle.naga_form.specs.Abstraction.{function_read, program_read};
+ghost use Rattle.naga_form.specs.Resolution.{ResolvesAs};
 ghost use Rattle.naga_form.specs.Lines.{straight_form, straight_program, nothing_named, scope_holds, handles_are_counted};
-ghost use Rattle.naga_form.specs.Shapes.{function_shape, inner_names};
+ghost use Rattle.naga_form.specs.Shapes.{function_shape, inner_names, program_shape, outer_names, namings};
 ghost use Rattle.naga_info.specs.Accepted.{is_accepted};
 ghost use Rattle.naga_info.specs.Part.{is_written_so_far};
 ghost use Rattle.naga_info.specs.declared.info.ModuleInfo.{ModuleInfo};
-ghost use Rattle.naga_form.specs.Names.{NamesAreCounted};
+ghost use Rattle.naga_form.specs.Names.{NamesAreCounted, module_names};
 ghost use Rattle.naga_form.specs.Faithful.{written_program, HasInterfaceOf, RunsAs};
 ghost use Rattle.wgsl_text.specs.GrammarOfLines.{IsProgram};
 
@@ -26,6 +27,16 @@ pub fn is_a_program()
 /// It declares what the module declares.
 pub fn has_the_interface()
     ensures { (m : Module) (info : ModuleInfo) (explicit : Bool) → HasInterfaceOf m (written_program m info explicit) }
+{}
+
+/// Each of its identifiers stands for what it was written for.
+pub fn resolves_as_meant()
+    ensures { (m : Module) (info : ModuleInfo) (explicit : Bool) → IsTrue (is_accepted m info) → IsTrue (is_written_so_far m) → NamesAreCounted m → ResolvesAs m (written_program m info explicit) }
+{}
+
+/// What it does is what the program of shapes says that is written for the module.
+pub fn is_read_as_its_shapes()
+    ensures { (m : Module) (info : ModuleInfo) (explicit : Bool) → IsTrue (is_accepted m info) → IsTrue (is_written_so_far m) → program_read (written_program m info explicit) ≡ form_module (program_shape m info) (outer_names (module_names m)) (namings (module_names m) m info) }
 {}
 
 /// It does what the module does.

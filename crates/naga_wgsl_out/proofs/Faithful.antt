@@ -14,6 +14,8 @@ use Rattle.wgsl_text.proofs.OneReading.{program_has_one_reading}
 use Rattle.naga_form.specs.Faithful.{written_program, HasInterfaceOf, RunsAs}
 use Rattle.naga_form.proofs.Interfaces.{has_interface}
 use Rattle.naga_form.proofs.Programs.{is_program}
+use Rattle.naga_form.specs.Resolution.{ResolvesAs}
+use Rattle.naga_form.proofs.Resolutions.{resolves}
 use Rattle.naga_form.proofs.Runs.{runs_as}
 use Rattle.naga_words.specs.Sink.{IsBehind}
 use Rattle.naga_wgsl_fns.specs.Appends.{Appends}
@@ -75,6 +77,7 @@ module _ (m : Module) (info : ModuleInfo) (flags : WriterFlags) (accepted : IsTr
   -- the answer of the call that wrote the lines
   pub record Concludes (r : Result Unit Error) (held now : List ℕ) (before after : ℕ) : Type 0 where
     pub is_faithful : FaithfulWriting m info r held now before after
+    pub resolved : OnOk r (EachReading held now (ResolvesAs m))
     pub text_ok : OnOk r (now ≡ held ++ written_text m info flags)
     pub text_err : OnErr r (IsBehind held (written_text m info flags) now)
 
@@ -82,5 +85,5 @@ module _ (m : Module) (info : ModuleInfo) (flags : WriterFlags) (accepted : IsTr
   concludes r held now before after a = by r (appends_as r held before (lines_of m (enumerate_from 0 m.functions)) (written_text m info flags) now after (written_lines m info flags) a)
     where
       by : (r : Result Unit Error) → Appends r held before (written_text m info flags) now after → Concludes r held now before after
-      by (Ok _) w = record { is_faithful = faithful held now before after w.appended; text_ok = w.appended; text_err = tt }
-      by (Err e) s = record { is_faithful = refused m info e held now before after (for_want m e before after s.reason); text_ok = tt; text_err = s.behind }
+      by (Ok _) w = record { is_faithful = faithful held now before after w.appended; resolved = each held now w.appended (ResolvesAs m) (resolves m info (tells_types flags) accepted written has.counted); text_ok = w.appended; text_err = tt }
+      by (Err e) s = record { is_faithful = refused m info e held now before after (for_want m e before after s.reason); resolved = tt; text_ok = tt; text_err = s.behind }

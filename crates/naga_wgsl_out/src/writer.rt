@@ -7,9 +7,10 @@ ghost use Rattle.naga_info.specs.Part.{is_written_so_far};
 ghost use Rattle.naga_names.specs.Reset.{names_in};
 ghost use Rattle.naga_words.specs.Sink.{IsBehind};
 ghost use Rattle.naga_form.specs.Names.{HasNamesOf};
+ghost use Rattle.naga_form.specs.Resolution.{ResolvesAs};
 ghost use Rattle.naga_wgsl_fns.specs.Appends.{Appends};
 ghost use Rattle.naga_wgsl_fns.specs.Texts.{text_of_function};
-ghost use Rattle.naga_wgsl_out.specs.Headline.{FaithfulWriting, answer_of, text_of};
+ghost use Rattle.naga_wgsl_out.specs.Headline.{EachReading, FaithfulWriting, answer_of, text_of};
 ghost use Rattle.naga_wgsl_out.specs.Refusals.{HasAllNames, IsNamesRefusal};
 ghost use Rattle.naga_wgsl_out.specs.Writing.{Writing, lines_of, written_text};
 
@@ -71,6 +72,9 @@ impl<W: TextSink> Writer<W> {
     pub fn write(&mut self, module: &Module, info: &ModuleInfo) -> Result<(), Error>
         requires accepted { IsTrue (is_accepted «module».now info.now) }
         ensures faithful { FaithfulWriting «module».now info.now result (W.text self.old.sink) (W.text self.new.sink) (W.failures self.old.sink) (W.failures self.new.sink) }
+        // Each identifier of the text stands for the item that it was written for.
+        ensures resolution { OnOk result (EachReading (W.text self.old.sink) (W.text self.new.sink) (ResolvesAs «module».now)) }
+
         ensures text_ok { OnOk result (W.text self.new.sink ≡ W.text self.old.sink ++ written_text «module».now info.now self.old.flags) }
         ensures text_err { OnErr result (IsBehind (W.text self.old.sink) (written_text «module».now info.now self.old.flags) (W.text self.new.sink)) }
         ensures failures_ok { OnOk result (W.failures self.new.sink ≡ W.failures self.old.sink) }
@@ -171,6 +175,7 @@ pub fn write_string(
 ) -> Result<String, Error>
     requires accepted { IsTrue (is_accepted «module».now info.now) }
     ensures faithful { FaithfulWriting «module».now info.now (answer_of result) [] (text_of result) 0 0 }
+    ensures resolution { OnOk (answer_of result) (EachReading [] (text_of result) (ResolvesAs «module».now)) }
     ensures text { IfOk result (λ text. string_bytes text ≡ written_text «module».now info.now flags) }
 {
     let mut writer = Writer::new(alloc, String::new(alloc), flags);

@@ -2,7 +2,8 @@ use Rattle.std.proofs.Common.{◌∙◌, sym, subst, ◌++◌, ◌≡◌}
 use Rattle.std.specs.Prelude.{true, OnOk, OnErr}
 use Rattle.naga_info.specs.Part.{is_written_so_far}
 use Rattle.naga_words.specs.Sink.{IsBehind}
-use Rattle.naga_wgsl_out.specs.Headline.{FaithfulWriting}
+use Rattle.naga_wgsl_out.specs.Headline.{EachReading, FaithfulWriting}
+use Rattle.naga_form.specs.Resolution.{ResolvesAs}
 use Rattle.naga_wgsl_out.specs.Writing.{written_text}
 use Rattle.naga_wgsl_out.proofs.Faithful.{concludes}
 use Rattle.naga_wgsl_out.proofs.writer.Writer.write.Goals as goal
@@ -13,6 +14,13 @@ returns-clause-faithful g c =
     let is : is_written_so_far m ≡ true = sym c.is_written_so_far.ensures ∙ c.if-not-is_written_so_far.false in
     let end = concludes m c.args.info.now c.args.self.now.flags c.requires.accepted is _ c.in_ok-names.ensures.ok c.write_functions.result _ (g.W.TextSink.text c.write_functions.new.out) _ (g.W.TextSink.failures c.write_functions.new.out) c.write_functions.ensures in
     subst (λ w. FaithfulWriting m c.args.info.now c.write_functions.result (g.W.TextSink.text w.sink) (g.W.TextSink.text c.write_functions.new.out) (g.W.TextSink.failures w.sink) (g.W.TextSink.failures c.write_functions.new.out)) c.self.view_is end.is_faithful
+
+pub returns-clause-resolution : goal.returns-clause-resolution
+returns-clause-resolution g c =
+    let m = c.args.«module».now in
+    let is : is_written_so_far m ≡ true = sym c.is_written_so_far.ensures ∙ c.if-not-is_written_so_far.false in
+    let end = concludes m c.args.info.now c.args.self.now.flags c.requires.accepted is _ c.in_ok-names.ensures.ok c.write_functions.result _ (g.W.TextSink.text c.write_functions.new.out) _ (g.W.TextSink.failures c.write_functions.new.out) c.write_functions.ensures in
+    subst (λ w. OnOk c.write_functions.result (EachReading (g.W.TextSink.text w.sink) (g.W.TextSink.text c.write_functions.new.out) (ResolvesAs m))) c.self.view_is end.resolved
 
 pub returns-clause-text_ok : goal.returns-clause-text_ok
 returns-clause-text_ok g c =

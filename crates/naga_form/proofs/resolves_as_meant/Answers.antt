@@ -1,0 +1,5 @@
+use Rattle.naga_form.proofs.Resolutions.{resolves}
+use Rattle.naga_form.proofs.resolves_as_meant.Goals as goal
+
+pub returns : goal.returns
+returns c = resolves
