@@ -30,7 +30,7 @@ use Rattle.naga_form.specs.Names.{function_name, argument_name}
 use Rattle.naga_form.specs.Types.{value_type}
 use Rattle.naga_form.specs.Literals.{literal_form, literal_value, value_read}
 use Rattle.naga_form.specs.Form.{own_form, expression_form, statements_form, parameters_form, function_form}
-use Rattle.naga_form.specs.Shapes.{expression_shape, statements_shape, function_shape, inner_names}
+use Rattle.naga_form.specs.Shapes.{expression_shape, statements_shape, function_shape, inner_names, function_naming}
 use Rattle.naga_form.specs.Abstraction.{expression_read, statements_read, function_read}
 use Rattle.naga_form.proofs.Facts.{and_left, and_right, all_at, returned_at, is_return, IsLeaf, literal_leaf, argument_leaf, is_leaf, function_facts}
 
@@ -55,10 +55,6 @@ not_empty : {X : Type 0} (xs : List X) (i : ℕ) (x : X) → slice_get xs i ≡ 
 not_empty [] i x e = absurd (cc)
 not_empty (y ∷ xs) i x e = (length xs, refl)
 
--- the function with its names
-abbrev pub named : NameMap → List Type_ → ℕ → ir_function.Function → List ExpressionInfo → Naming
-named names types g f es = record { function = function_shape types f es; names = inner_names names g }
-
 pub shape_at : (exprs : List ir.Expression) (h : ℕ) (e : ir.Expression) → slice_get exprs h ≡ Some e → slice_get (map expression_shape exprs) h ≡ Some (expression_shape e)
 shape_at exprs h e found = slice_get-map expression_shape exprs h ∙ ap (option_map expression_shape) found
 
@@ -66,25 +62,25 @@ module _ (names : NameMap) (types : List Type_) (g : ℕ) (f : ir_function.Funct
   -- how a handle of this shape is written
   abbrev shape_written : (h k : ℕ) → Option Expression → Tree
   shape_written h k o =
-      let n = named names types g f es in
+      let n = function_naming names types g f es in
       let s = at_start n.function in
       value_form (standing_form (start_standing (is_pure o && is_constant_below n.function (length n.function.expressions) h)) (shaped n (written_below n s k) (handle_type n.function h) o))
 
-  leaf_read : (h k : ℕ) (e : ir.Expression) → IsLeaf e → slice_get (map expression_shape f.expressions) h ≡ Some (expression_shape e) → expression_read (own_form names g e) ≡ value_form (written_below (named names types g f es) (at_start (function_shape types f es)) (suc k) h)
+  leaf_read : (h k : ℕ) (e : ir.Expression) → IsLeaf e → slice_get (map expression_shape f.expressions) h ≡ Some (expression_shape e) → expression_read (own_form names g e) ≡ value_form (written_below (function_naming names types g f es) (at_start (function_shape types f es)) (suc k) h)
   leaf_read h k _ (literal_leaf v) found = ap LiteralOf (literal_read v) ∙ sym (ap (shape_written h k) found)
   leaf_read h k _ (argument_leaf n) found = sym (ap (shape_written h k) found)
 
   -- an expression that is written is read as its shape is written
-  pub expression_reads : (h : ℕ) (e : ir.Expression) → slice_get f.expressions h ≡ Some e → IsLeaf e → expression_read (expression_form names g f.expressions h) ≡ value_at (named names types g f es) (at_start (function_shape types f es)) h
+  pub expression_reads : (h : ℕ) (e : ir.Expression) → slice_get f.expressions h ≡ Some e → IsLeaf e → expression_read (expression_form names g f.expressions h) ≡ value_at (function_naming names types g f es) (at_start (function_shape types f es)) h
   expression_reads h e found leaf =
       let some = shape_at f.expressions h e found in
       let size = not_empty (map expression_shape f.expressions) h (expression_shape e) some in
       ap (λ o. expression_read (option_map_or (own_form names g) o (ConstantOf (Truth false)))) found
       ∙ (leaf_read h size.0 e leaf some
-      ∙ sym (ap (λ n. value_form (written_below (named names types g f es) (at_start (function_shape types f es)) n h)) size.1))
+      ∙ sym (ap (λ n. value_form (written_below (function_naming names types g f es) (at_start (function_shape types f es)) n h)) size.1))
 
   abbrev StatementsRead : BlockTree → Type 0
-  StatementsRead b = statements_read (statements_form names g f.expressions b) ≡ form_all (named names types g f es) 0 (statements_shape b) (at_start (function_shape types f es))
+  StatementsRead b = statements_read (statements_form names g f.expressions b) ≡ form_all (function_naming names types g f es) 0 (statements_shape b) (at_start (function_shape types f es))
 
   return_reads : IsTrue (expressions_fit types f f.expressions es) → IsTrue (list_all expression_is_written f.expressions) → (v : Option ℕ) (b : BlockTree) → IsTrue (return_fits types es f.result v) → StatementsRead b → StatementsRead (statement (simple (return v)) b)
   return_reads known written None b fits rest = ap (before (ReturnLine None)) rest
@@ -116,12 +112,12 @@ length_mapped f [] = refl
 length_mapped f (x ∷ xs) = ap suc (length_mapped f xs)
 
 -- a function that is accepted and written: what is written of it is read as its shape is written
-pub function_reads : (names : NameMap) (types : List Type_) (g : ℕ) (f : ir_function.Function) (es : List ExpressionInfo) → IsTrue (function_fits types f es) → IsTrue (function_is_written f) → function_read (function_form names types g f) ≡ form_function (named names types g f es)
+pub function_reads : (names : NameMap) (types : List Type_) (g : ℕ) (f : ir_function.Function) (es : List ExpressionInfo) → IsTrue (function_fits types f es) → IsTrue (function_is_written f) → function_read (function_form names types g f) ≡ form_function (function_naming names types g f es)
 function_reads names types g f es fits written =
     let facts = function_facts types f es fits written in
     λ i. record {
       name = function_name names g;
       parameters = (names_counted names types g 0 f.arguments.items ∙ ap (names_from (argument_name names g) 0) (sym (length_mapped (λ a. value_type (word_at types a.ty)) f.arguments.items))) i;
-      variables = no_variables (named names types g f es) f.local_variables facts.no_locals i;
+      variables = no_variables (function_naming names types g f es) f.local_variables facts.no_locals i;
       lines = statements_reads names types g f es facts.known facts.written f.body facts.fits facts.returns i;
     }

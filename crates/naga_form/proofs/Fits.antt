@@ -24,10 +24,10 @@ use Rattle.shader_runs.specs.Premises.{AllBelow, WordFits, LeafFits, ReturnFits,
 use Rattle.naga_form.specs.Names.{argument_name, numbered_name}
 use Rattle.naga_form.specs.Types.{value_type}
 use Rattle.naga_form.specs.Literals.{literal_value}
-use Rattle.naga_form.specs.Shapes.{expression_shape, statements_shape, function_shape, outer_names}
+use Rattle.naga_form.specs.Shapes.{expression_shape, statements_shape, function_shape, outer_names, function_naming}
 use Rattle.naga_form.proofs.Named.{numbered_distinct}
 use Rattle.naga_form.proofs.Facts.{and_left, and_right, all_at, alike_word, known_at, then_some, returned_at, is_return, IsLeaf, literal_leaf, argument_leaf, is_leaf, argument_within, FunctionFacts}
-use Rattle.naga_form.proofs.Abstractions.{named, shape_at}
+use Rattle.naga_form.proofs.Abstractions.{shape_at}
 
 -- what holds of no shape and of each leaf's holds of the shape of any handle
 at_shape : (exprs : List ir.Expression) → IsTrue (list_all expression_is_written exprs) → (h : ℕ) (P : Option shapes.Expression → Type 0) → P None → ((e : ir.Expression) → slice_get exprs h ≡ Some e → IsLeaf e → P (Some (expression_shape e))) → P (slice_get (map expression_shape exprs) h)
@@ -112,8 +112,8 @@ module _ (names : NameMap) (types : List Type_) (g : ℕ) (f : ir_function.Funct
   -- a body of returns gives no names, its statements are regular and its handles in scope
   record BodyFits (callees : List shapes.Function) (b : BlockTree) : Type 0 where
     pub given : given_by_all shape (statements_shape b) 0 ≡ 0
-    pub regular : AreRegular p callees (named names types g f es) (statements_shape b)
-    pub scope : IsTrue (fits_all (named names types g f es) 0 (statements_shape b) (at_start shape))
+    pub regular : AreRegular p callees (function_naming names types g f es) (statements_shape b)
+    pub scope : IsTrue (fits_all (function_naming names types g f es) 0 (statements_shape b) (at_start shape))
 
   body_fits : (callees : List shapes.Function) (b : BlockTree) → IsTrue (block_fits types es f.result b) → IsTrue (block_is_written b) → BodyFits callees b
   body_fits callees no_statements fits returns = record { given = refl; regular = tt; scope = refl }
@@ -124,22 +124,22 @@ module _ (names : NameMap) (types : List Type_) (g : ℕ) (f : ir_function.Funct
       subst (λ s. BodyFits callees (statement s b)) (sym r.1) (record {
         given = rest.given;
         regular = (v.0, rest.regular);
-        scope = and_both (usable_if shape (at_start shape) r.0) (fits_all (named names types g f es) 0 (statements_shape b) (at_start shape)) v.1 rest.scope;
+        scope = and_both (usable_if shape (at_start shape) r.0) (fits_all (function_naming names types g f es) 0 (statements_shape b) (at_start shape)) v.1 rest.scope;
       })
 
   -- an accepted function that is written meets what is asked of its shape
-  pub function_fits_shape : (callees : List shapes.Function) → length callees ≡ g → p.constant_types ≡ [] → p.global_types ≡ [] → NameFacts names g (length f.arguments.items) → FunctionFits p (outer_names names) callees (named names types g f es)
+  pub function_fits_shape : (callees : List shapes.Function) → length callees ≡ g → p.constant_types ≡ [] → p.global_types ≡ [] → NameFacts names g (length f.arguments.items) → FunctionFits p (outer_names names) callees (function_naming names types g f es)
   function_fits_shape callees earlier constants globals own =
       let body = body_fits callees f.body facts.fits facts.returns in
       record {
         outer = refl;
         earlier = sym earlier;
         ordered = λ h. at_shape f.expressions facts.written h (λ o. AllBelow h (operands_of o)) tt (λ e found leaf. leaf_ordered h e leaf);
-        words = λ h. at_shape f.expressions facts.written h (λ o. WordFits p (named names types g f es) o) tt (λ e found leaf. leaf_words (named names types g f es) e leaf);
+        words = λ h. at_shape f.expressions facts.written h (λ o. WordFits p (function_naming names types g f es) o) tt (λ e found leaf. leaf_words (function_naming names types g f es) e leaf);
         leaves = λ h. at_shape f.expressions facts.written h (λ o. LeafFits p shape (handle_type shape h) o) tt (λ e found leaf. leaf_fits h e found leaf);
         regular = body.regular;
         distinct = distinct;
-        scope = and_both (first_values_fit shape (map (λ l. l.init) f.local_variables)) (fits_all (named names types g f es) 0 (statements_shape f.body) (at_start shape)) (no_first_values f.local_variables facts.no_locals) body.scope;
+        scope = and_both (first_values_fit shape (map (λ l. l.init) f.local_variables)) (fits_all (function_naming names types g f es) 0 (statements_shape f.body) (at_start shape)) (no_first_values f.local_variables facts.no_locals) body.scope;
       }
     where
       no_first_values : (locals : List LocalVariable) → IsTrue (length locals == 0) → IsTrue (first_values_fit shape (map (λ l. l.init) locals))
@@ -159,7 +159,7 @@ module _ (names : NameMap) (types : List Type_) (g : ℕ) (f : ir_function.Funct
       argument_lt : (i : ℕ) → i < argument_count shape → i < length f.arguments.items
       argument_lt i lt = subst (λ n. i < n) (mapped_length (λ a. value_type (word_at types a.ty)) f.arguments.items) lt
 
-      distinct : AreDistinct p (named names types g f es)
+      distinct : AreDistinct p (function_naming names types g f es)
       distinct (FixedKey (ArgumentName i)) (FixedKey (ArgumentName j)) a b e = ap (λ k. FixedKey (ArgumentName k)) (own.distinct i j (argument_lt i a) (argument_lt j b) e)
       distinct (FixedKey (ArgumentName i)) (NumberedKey h) a b e = absurd (own.numbered i h (argument_lt i a) e)
       distinct (NumberedKey h) (FixedKey (ArgumentName i)) a b e = absurd (own.numbered i h (argument_lt i b) (sym e))

@@ -25,11 +25,11 @@ use Rattle.shader_runs.specs.Correct.{ModuleFits}
 use Rattle.shader_runs.proofs.Calls.{runs_alike}
 use Rattle.naga_form.specs.Names.{NamesAreCounted, module_names, function_name}
 use Rattle.naga_form.specs.Form.{functions_form}
-use Rattle.naga_form.specs.Shapes.{function_shapes, program_shape, namings_from, namings, outer_names}
+use Rattle.naga_form.specs.Shapes.{function_shapes, program_shape, namings_from, namings, outer_names, function_naming}
 use Rattle.naga_form.specs.Abstraction.{function_read, program_read, is_request}
 use Rattle.naga_form.specs.Faithful.{written_program, RunsAs}
 use Rattle.naga_form.proofs.Facts.{and_left, and_right, function_facts}
-use Rattle.naga_form.proofs.Abstractions.{named, function_reads}
+use Rattle.naga_form.proofs.Abstractions.{function_reads}
 use Rattle.naga_form.proofs.Fits.{NameFacts, function_fits_shape}
 use Rattle.naga_form.proofs.Named.{item_not_numbered, items_tell, function_item, argument_item, function_there, argument_there}
 
@@ -82,7 +82,7 @@ all_fit names types p constants globals g (f ∷ fs) (es ∷ ess) fits written o
     let here : g + 0 ≡ g = omega arith in
     let facts = subst (λ h. NameFacts names h (length f.arguments.items)) here (own 0 f refl) in
     let this = function_fits_shape names types g f es (function_facts types f es fit is) p (functions_of behind) (length-functions_of behind ∙ at) constants globals facts in
-    all_fit names types p constants globals (g + 1) fs ess (and_right (function_fits types f es) (functions_fit types fs ess) fits) (and_right (function_is_written f) (list_all function_is_written fs) written) later (named names types g f es ∷ behind) (ap suc at ∙ sym (add-one g)) (this, so_far)
+    all_fit names types p constants globals (g + 1) fs ess (and_right (function_fits types f es) (functions_fit types fs ess) fits) (and_right (function_is_written f) (list_all function_is_written fs) written) later (function_naming names types g f es ∷ behind) (ap suc at ∙ sym (add-one g)) (this, so_far)
   where
     later : (i : ℕ) (f1 : ir_function.Function) → slice_get fs i ≡ Some f1 → NameFacts names ((g + 1) + i) (length f1.arguments.items)
     later i f1 found = let moved : g + suc i ≡ (g + 1) + i = omega arith in subst (λ h. NameFacts names h (length f1.arguments.items)) moved (own (suc i) f1 found)

@@ -28,9 +28,9 @@ use Rattle.naga_form.specs.Names.{function_name, argument_name}
 use Rattle.naga_form.specs.Operators.{operator_form}
 use Rattle.naga_form.specs.Types.{value_type}
 use Rattle.naga_form.specs.Lines.{PlainForm, ValueForm, ReferenceForm, as_value, as_reference, own_plain, own_if, standing_plain, plain_below, plain_form, value_form, let_form, then_if, lets_form, return_line, line_form, lines_form, locals_form, told_type, straight_form}
-use Rattle.naga_form.specs.Shapes.{expression_shape, statement_shape, statements_shape, function_shape}
+use Rattle.naga_form.specs.Shapes.{expression_shape, statement_shape, statements_shape, function_shape, function_naming}
 use Rattle.naga_form.specs.Abstraction.{expression_read, statement_read, statements_read, variable_read, function_read}
-use Rattle.naga_form.proofs.Abstractions.{literal_read, names_counted, named}
+use Rattle.naga_form.proofs.Abstractions.{literal_read, names_counted}
 use Rattle.naga_form.proofs.Fits.{mapped_length}
 
 -- what a plain form is read as
@@ -74,7 +74,7 @@ module _ (n : Naming) where
 
 module _ (names : NameMap) (types : List Type_) (g : ℕ) (f : ir_function.Function) (es : List ExpressionInfo) where
   abbrev own : Naming
-  own = named names types g f es
+  own = function_naming names types g f es
 
   below_reads : (s : Handles) (k h : ℕ) → plain_read (plain_below own f.expressions s k h) ≡ written_below own s k h
   below_reads s zero h = refl
@@ -134,7 +134,7 @@ module _ (names : NameMap) (types : List Type_) (g : ℕ) (f : ir_function.Funct
       record { name = own.names.local_ l; first_value = value_if_reads (at_start own.function) v.init i }
       ∷ (locals_read (l + 1) vs ∙ ap (λ m. variables_from own m (map (λ v. v.init) vs)) (add-one l)) i
 
-pub straight_reads : (explicit : Bool) (names : NameMap) (types : List Type_) (g : ℕ) (f : ir_function.Function) (es : List ExpressionInfo) → function_read (straight_form explicit names types g f es) ≡ form_function (named names types g f es)
+pub straight_reads : (explicit : Bool) (names : NameMap) (types : List Type_) (g : ℕ) (f : ir_function.Function) (es : List ExpressionInfo) → function_read (straight_form explicit names types g f es) ≡ form_function (function_naming names types g f es)
 straight_reads explicit names types g f es = λ i. record {
   name = function_name names g;
   parameters = (names_counted names types g 0 f.arguments.items ∙ ap (names_from (argument_name names g) 0) (sym (mapped_length (λ a. value_type (word_at types a.ty)) f.arguments.items))) i;

@@ -32,9 +32,8 @@ use Rattle.naga_form.specs.Names.{wgsl_names, module_names, name_in, function_na
 use Rattle.naga_form.specs.Types.{value_type}
 use Rattle.naga_form.specs.Operators.{operator_form}
 use Rattle.naga_form.specs.Abstraction.{is_request}
-use Rattle.naga_form.specs.Shapes.{expression_shape, binary_shape, statement_shape, statements_shape, given_from, function_shape, outer_names}
+use Rattle.naga_form.specs.Shapes.{expression_shape, binary_shape, statement_shape, statements_shape, given_from, function_shape, outer_names, function_naming}
 use Rattle.naga_form.proofs.Facts.{and_left, and_right, then_some, returned_at}
-use Rattle.naga_form.proofs.Abstractions.{named}
 use Rattle.naga_form.proofs.Fits.{type_at_mapped, mapped_length, literal_type}
 use Rattle.naga_form.proofs.Named.{numbered_distinct, name_is, item_not_numbered, items_tell, function_item, argument_item, function_there, argument_there}
 use Rattle.naga_form.proofs.Runs.{element}
@@ -85,7 +84,7 @@ local_item g l v = (key.FunctionLocal g l, label_or v.name (codes "local"))
 -- ---- one function
 module _ (m : Module) (g : ℕ) (f : ir_function.Function) (found : slice_get m.functions g ≡ Some f) (es : List ExpressionInfo) (fits : function_fits m.types f es ≡ true) (unnamed : IsTrue (length (keys f.named_expressions) == 0)) (p : shapes.Module) (constants : p.constant_types ≡ []) (globals : p.global_types ≡ []) where
   abbrev own : Naming
-  own = named (module_names m) m.types g f es
+  own = function_naming (module_names m) m.types g f es
 
   abbrev shape : shapes.Function
   shape = function_shape m.types f es

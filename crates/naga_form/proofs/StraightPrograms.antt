@@ -42,12 +42,11 @@ use Rattle.shader_runs.specs.World.{update}
 use Rattle.shader_runs.specs.Program.{expression_of, operands_of, binds, binds_as, from}
 use Rattle.shader_runs.specs.Scope.{Standing, Absent, Barred, Everywhere, Inline, Named, Handles, Naming, bound_name, usable_all, is_pure, is_constant_below, start_standing, at_start, unbound, emitted, after_one, given_after, given_by, after_emit, after}
 use Rattle.naga_form.specs.Names.{wgsl_names, module_names, numbered_text, numbered_name}
-use Rattle.naga_form.specs.Shapes.{expression_shape, statement_shape}
+use Rattle.naga_form.specs.Shapes.{expression_shape, statement_shape, function_naming}
 use Rattle.naga_form.specs.Lines.{pointer_form, pointer_told, inner_told, told_type, PlainForm, ValueForm, ReferenceForm, as_value, as_reference, own_plain, own_if, standing_plain, plain_below, plain_form, value_form, let_form, then_if, lets_form, return_line, line_form, lines_form, locals_form, straight_form, straight_functions, straight_program, nothing_named, handles_are_counted}
 use Rattle.naga_form.proofs.Facts.{and_left, and_right, then_some}
 use Rattle.naga_form.proofs.Programs.{of_each_width, width_is_type, literal_is, is_type_at}
 use Rattle.naga_form.proofs.Runs.{element}
-use Rattle.naga_form.proofs.Abstractions.{named}
 use Rattle.naga_form.proofs.Named.{item_is_identifier, function_item, argument_item, function_there, argument_there}
 use Rattle.naga_form.proofs.StraightFits.{local_item, not_given}
 
@@ -180,7 +179,7 @@ NamesAre s = (h : ℕ) (x : List ℕ) → s h ≡ Named x → IsIdentifier x
 
 module _ (m : Module) (g : ℕ) (f : ir_function.Function) (found : slice_get m.functions g ≡ Some f) (es : List ExpressionInfo) (fits : function_fits m.types f es ≡ true) (unnamed : IsTrue (length (keys f.named_expressions) == 0)) (scalars : list_all is_scalar_type m.types ≡ true) (few : length f.expressions ≤ 2 ^ 64) where
   abbrev own : Naming
-  own = named (module_names m) m.types g f es
+  own = function_naming (module_names m) m.types g f es
 
   own_is : (operand : ℕ → PlainForm) → ((x : ℕ) → IsPlainForm (operand x)) → (h : ℕ) (e : ir.Expression) → slice_get f.expressions h ≡ Some e → IsPlainForm (own_plain own operand e)
   own_is operand all h (expression.Literal v) at =

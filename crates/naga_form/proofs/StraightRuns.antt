@@ -25,11 +25,10 @@ use Rattle.shader_runs.specs.Correct.{ModuleFits}
 use Rattle.shader_runs.proofs.Calls.{runs_alike}
 use Rattle.naga_form.specs.Names.{NamesAreCounted, module_names, function_name}
 use Rattle.naga_form.specs.Lines.{straight_functions, straight_program, nothing_named, scope_holds}
-use Rattle.naga_form.specs.Shapes.{function_shapes, program_shape, namings_from, namings, outer_names}
+use Rattle.naga_form.specs.Shapes.{function_shapes, program_shape, namings_from, namings, outer_names, function_naming}
 use Rattle.naga_form.specs.Abstraction.{function_read, program_read, is_request}
 use Rattle.naga_form.specs.Faithful.{RunsAs}
 use Rattle.naga_form.proofs.Facts.{and_left, and_right}
-use Rattle.naga_form.proofs.Abstractions.{named}
 use Rattle.naga_form.proofs.Named.{items_tell, function_item, function_there}
 use Rattle.naga_form.proofs.Runs.{element, form_functions-map, functions_of-map, functions_of_namings, length-functions_of, shapes_counted}
 use Rattle.naga_form.proofs.Straight.{straight_reads}
@@ -67,7 +66,7 @@ module _ (m : Module) (info : ModuleInfo) (accepted : IsTrue (is_accepted m info
       let fit = and_left (function_fits m.types f es) (functions_fit m.types fs ess) fits in
       let here : g + 0 ≡ g = omega arith in
       let found = subst (λ h. slice_get m.functions h ≡ Some f) here (there 0 f refl) in
-      let own = named (module_names m) m.types g f es in
+      let own = function_naming (module_names m) m.types g f es in
       let unnamed_here = and_left (length (keys f.named_expressions) == 0) (list_all (λ f. length (keys f.named_expressions) == 0) fs) named_none in
       let scoped_here = and_left (fits_function own) (list_all fits_function (namings_from (module_names m) (g + 1) (function_shapes m.types fs ess))) scoped in
       let this = straight_fits m g f found es fit unnamed_here p refl refl (functions_of behind) (length-functions_of behind ∙ at) counted scoped_here in

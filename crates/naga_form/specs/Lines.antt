@@ -28,7 +28,7 @@ use Rattle.naga_form.specs.Types.{type_form}
 use Rattle.naga_form.specs.Literals.{literal_form}
 use Rattle.naga_form.specs.Operators.{operator_form}
 use Rattle.naga_form.specs.Form.{parameters_form, result_form}
-use Rattle.naga_form.specs.Shapes.{statement_shape, function_shape, inner_names, namings}
+use Rattle.naga_form.specs.Shapes.{statement_shape, function_shape, function_naming, namings}
 
 -- a plain form: a value or a reference
 pub data PlainForm : Type 0 where
@@ -137,7 +137,7 @@ told_type false types es h = None
 -- a function of straight lines, with what is known of its expressions
 abbrev pub straight_form : (explicit : Bool) → NameMap → List Type_ → ℕ → ir_function.Function → List ExpressionInfo → Function
 straight_form explicit names types g f es =
-    let n : Naming = record { function = function_shape types f es; names = inner_names names g } in
+    let n : Naming = function_naming names types g f es in
     record {
       name = function_name names g;
       parameters = parameters_form names types g 0 f.arguments.items;

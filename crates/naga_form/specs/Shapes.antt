@@ -1,5 +1,5 @@
 -- The program of shapes of a module, with its names, of those modules that are written so far.
-use Rattle.std.specs.Prelude.{ℕ, ◌-◌, ◌+◌, Bool, List, [], ◌∷◌, map, reverse}
+use Rattle.std.specs.Prelude.{◌≡◌, ℕ, ◌-◌, ◌+◌, Bool, List, [], ◌∷◌, Some, map, reverse, slice_get}
 use Rattle.std.specs.List.{list_any}
 use Rattle.std.specs.Bool.{nat_eq}
 use Rattle.std.specs.Option.{option_map}
@@ -15,7 +15,8 @@ use Rattle.naga_info.specs.declared.info.ModuleInfo.{ModuleInfo}
 use Rattle.naga_info.specs.Types.{word_at, spelling_of}
 use Rattle.naga_names.specs.Reset.{NameMap}
 use Rattle.shader_runs.specs.Value.{ShortCircuitAnd, ShortCircuitOr}
-use Rattle.shader_runs.specs.Program.{Fixed, Expression, Constant, Argument, Local, Load, Operator, Logical, Result, Statement, Emit, Store, Return, Block, Statements, end, then, Function, Module}
+use Rattle.shader_runs.specs.Program.{Fixed, Expression, Constant, Argument, Local, Load, Operator, Logical, Result, Statement, Emit, Store, Return, Block, Statements, end, then, Function, Module, operands_of}
+use Rattle.shader_runs.specs.Premises.{AllBelow}
 use Rattle.shader_runs.specs.Scope.{ModuleNames, Names, Naming}
 use Rattle.wgsl_text.specs.Pieces.{binary_pieces}
 use Rattle.wgsl_text.specs.Text.{text}
@@ -97,6 +98,14 @@ inner_names names g =
       numbered = numbered_name;
       earlier = g;
     }
+
+-- the function with this handle, under its names
+abbrev pub function_naming : NameMap → List Type_ → ℕ → ir_function.Function → List ExpressionInfo → Naming
+function_naming names types g f es = record { function = function_shape types f es; names = inner_names names g }
+
+-- the operands of each expression stand before it
+abbrev pub OperandsStandBefore : List ir.Expression → Type 0
+OperandsStandBefore es = (h : ℕ) (e : ir.Expression) → slice_get es h ≡ Some e → AllBelow h (operands_of (Some (expression_shape e)))
 
 -- the functions with their names, from this handle on
 abbrev pub namings_from : NameMap → ℕ → List Function → List Naming
