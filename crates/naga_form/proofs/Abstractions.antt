@@ -1,11 +1,10 @@
 -- What is written of a function is read as the function's shape says: the abstraction of its form is the form of its shape.
-use Rattle.std.proofs.Common.{◌≡◌, ℕ, suc, Bool, true, false, ◌&&◌, ◌+◌, pos, negsuc, List, [], ◌∷◌, map, length, Option, Some, None, refl, sym, ap, subst, ◌∙◌, add-one}
-use Rattle.std.specs.Prelude.{IsTrue, slice_get, ◌==◌, if◌then◌else◌, codes}
-use Rattle.std.specs.List.{list_all}
-use Rattle.std.specs.Option.{option_map, option_map_or}
+use Rattle.std.proofs.Common.{[], ◌≡◌, ℕ, suc, Bool, true, false, ◌+◌, pos, negsuc, List, ◌∷◌, map, length, Option, Some, None, refl, sym, ap, ◌∙◌, add-one, zero, ◌-◌}
+use Rattle.std.specs.Prelude.{slice_get, ◌==◌, if◌then◌else◌, codes}
+use Rattle.std.specs.Option.{option_map}
 use Rattle.std.proofs.lemmas.Bool.{eqb-true}
 use Rattle.std.proofs.lemmas.Option.{slice_get-map}
-use Rattle.naga_ir.specs.StatementTree.{BlockTree, no_statements, statement, simple, return}
+use Rattle.naga_ir.specs.StatementTree.{BlockTree, no_statements, statement, simple, return, emit, store, StatementTree}
 use Rattle.naga_ir.specs.declared.expression.Expression as ir
 use Rattle.naga_ir.specs.declared.expression.Literal as ir_literal
 use Rattle.naga_ir.specs.declared.expression.Literal.TheVariants as literal
@@ -15,24 +14,29 @@ use Rattle.naga_ir.specs.declared.module.LocalVariable.{LocalVariable}
 use Rattle.naga_ir.specs.declared.types.Type_.{Type_}
 use Rattle.naga_info.specs.declared.info.ExpressionInfo.{ExpressionInfo}
 use Rattle.naga_info.specs.Types.{word_at}
-use Rattle.naga_info.specs.Accepted.{expressions_fit, block_fits, statement_fits, return_fits, function_fits}
-use Rattle.naga_info.specs.Part.{expression_is_written, block_is_written, statement_is_written, function_is_written}
 use Rattle.naga_names.specs.Reset.{NameMap}
 use Rattle.wgsl_text.specs.Token.{SuffixI, SuffixLi}
-use Rattle.wgsl_text.specs.Tree.{Constant as ConstantOf, Truth, LeastInteger, LeastLong, Suffixed}
-use Rattle.shader_runs.specs.Value.{Whole}
-use Rattle.shader_runs.specs.Program.{Expression}
-use Rattle.shader_runs.specs.Program.{handle_type}
-use Rattle.shader_runs.specs.Scope.{Naming, at_start, start_standing, is_pure, is_constant_below}
-use Rattle.shader_runs.specs.Text.{Tree, LiteralOf, before, ReturnLine}
-use Rattle.shader_runs.specs.Form.{value_form, standing_form, own_form as shaped, written_below, value_at, form_all, names_from, variables_from, form_function}
+use Rattle.wgsl_text.specs.Tree.{LeastInteger, LeastLong, Suffixed, TypeSpecifier}
+use Rattle.shader_runs.specs.Value.{Whole, ValueType, ShortCircuitAnd, ShortCircuitOr}
+use Rattle.shader_runs.specs.Program.{Expression, handle_type, expression_of, binds, from}
+use Rattle.shader_runs.specs.Scope.{Naming, at_start, Standing, Named, Handles, bound_name, given_after, given_by, after_one, after}
+use Rattle.shader_runs.specs.Text.{LiteralOf, before, ReturnLine, Apply, LogicalOf, more, no_more, Let, Assign}
+use Rattle.shader_runs.specs.Form.{written_below, names_from, variables_from, form_function, Plain, AsValue, AsPlace, let_if}
+use Rattle.naga_form.specs.Form.{parameters_form, function_form, PlainForm, ValueForm, ReferenceForm, as_value, as_reference, own_plain, own_if, standing_plain, plain_below, plain_form, value_form, let_form, then_if, lets_form, return_line, line_form, lines_form, locals_form, told_type}
 use Rattle.naga_form.specs.Names.{function_name, argument_name}
 use Rattle.naga_form.specs.Types.{value_type}
 use Rattle.naga_form.specs.Literals.{literal_form, literal_value, value_read}
-use Rattle.naga_form.specs.Form.{own_form, expression_form, statements_form, parameters_form, function_form}
-use Rattle.naga_form.specs.Shapes.{expression_shape, statements_shape, function_shape, inner_names, function_naming}
-use Rattle.naga_form.specs.Abstraction.{expression_read, statements_read, function_read}
-use Rattle.naga_form.proofs.Facts.{and_left, and_right, all_at, returned_at, is_return, IsLeaf, literal_leaf, argument_leaf, is_leaf, function_facts}
+use Rattle.naga_form.specs.Shapes.{expression_shape, statements_shape, function_shape, function_naming, statement_shape}
+use Rattle.naga_form.specs.Abstraction.{expression_read, statements_read, function_read, statement_read, variable_read}
+use Rattle.naga_ir.specs.declared.expression.Expression.TheVariants as expression
+use Rattle.naga_ir.specs.declared.operators.BinaryOperator.{BinaryOperator}
+use Rattle.naga_ir.specs.declared.operators.BinaryOperator.TheVariants as operator
+use Rattle.wgsl_text.specs.Tree as tree
+use Rattle.wgsl_text.specs.Pieces.{binary_pieces}
+use Rattle.wgsl_text.specs.Text.{text}
+use Rattle.shader_runs.specs.Form as runs
+use Rattle.naga_form.specs.Operators.{operator_form}
+use Rattle.naga_form.proofs.Fits.{mapped_length}
 
 integer_read : (n : ℕ) (b : Bool) → (n == 2147483647) ≡ b → value_read (if b then LeastInteger else Suffixed true (suc n) SuffixI) ≡ Whole (codes "i32") (negsuc n)
 integer_read n true e = ap (λ k. Whole (codes "i32") (negsuc k)) (sym (eqb-true n 2147483647 e))
@@ -50,74 +54,115 @@ literal_read (literal.I32 (pos n)) = refl
 literal_read (literal.I64 (pos n)) = refl
 literal_read _ = refl
 
--- a list in which something stands is longer than none
-not_empty : {X : Type 0} (xs : List X) (i : ℕ) (x : X) → slice_get xs i ≡ Some x → (k : ℕ) × (length xs ≡ suc k)
-not_empty [] i x e = absurd (cc)
-not_empty (y ∷ xs) i x e = (length xs, refl)
-
-pub shape_at : (exprs : List ir.Expression) (h : ℕ) (e : ir.Expression) → slice_get exprs h ≡ Some e → slice_get (map expression_shape exprs) h ≡ Some (expression_shape e)
-shape_at exprs h e found = slice_get-map expression_shape exprs h ∙ ap (option_map expression_shape) found
-
-module _ (names : NameMap) (types : List Type_) (g : ℕ) (f : ir_function.Function) (es : List ExpressionInfo) where
-  -- how a handle of this shape is written
-  abbrev shape_written : (h k : ℕ) → Option Expression → Tree
-  shape_written h k o =
-      let n = function_naming names types g f es in
-      let s = at_start n.function in
-      value_form (standing_form (start_standing (is_pure o && is_constant_below n.function (length n.function.expressions) h)) (shaped n (written_below n s k) (handle_type n.function h) o))
-
-  leaf_read : (h k : ℕ) (e : ir.Expression) → IsLeaf e → slice_get (map expression_shape f.expressions) h ≡ Some (expression_shape e) → expression_read (own_form names g e) ≡ value_form (written_below (function_naming names types g f es) (at_start (function_shape types f es)) (suc k) h)
-  leaf_read h k _ (literal_leaf v) found = ap LiteralOf (literal_read v) ∙ sym (ap (shape_written h k) found)
-  leaf_read h k _ (argument_leaf n) found = sym (ap (shape_written h k) found)
-
-  -- an expression that is written is read as its shape is written
-  pub expression_reads : (h : ℕ) (e : ir.Expression) → slice_get f.expressions h ≡ Some e → IsLeaf e → expression_read (expression_form names g f.expressions h) ≡ value_at (function_naming names types g f es) (at_start (function_shape types f es)) h
-  expression_reads h e found leaf =
-      let some = shape_at f.expressions h e found in
-      let size = not_empty (map expression_shape f.expressions) h (expression_shape e) some in
-      ap (λ o. expression_read (option_map_or (own_form names g) o (ConstantOf (Truth false)))) found
-      ∙ (leaf_read h size.0 e leaf some
-      ∙ sym (ap (λ n. value_form (written_below (function_naming names types g f es) (at_start (function_shape types f es)) n h)) size.1))
-
-  abbrev StatementsRead : BlockTree → Type 0
-  StatementsRead b = statements_read (statements_form names g f.expressions b) ≡ form_all (function_naming names types g f es) 0 (statements_shape b) (at_start (function_shape types f es))
-
-  return_reads : IsTrue (expressions_fit types f f.expressions es) → IsTrue (list_all expression_is_written f.expressions) → (v : Option ℕ) (b : BlockTree) → IsTrue (return_fits types es f.result v) → StatementsRead b → StatementsRead (statement (simple (return v)) b)
-  return_reads known written None b fits rest = ap (before (ReturnLine None)) rest
-  return_reads known written (Some h) b fits rest =
-      let r = returned_at types f es h known f.result refl fits in
-      let leaf = is_leaf r.expression (all_at expression_is_written f.expressions h r.expression written r.there) in
-      λ i. before (ReturnLine (Some (expression_reads h r.expression r.there leaf i))) (rest i)
-
-  pub statements_reads : IsTrue (expressions_fit types f f.expressions es) → IsTrue (list_all expression_is_written f.expressions) → (b : BlockTree) → IsTrue (block_fits types es f.result b) → IsTrue (block_is_written b) → StatementsRead b
-  statements_reads known written no_statements fits returns = refl
-  statements_reads known written (statement s b) fits returns =
-      let r = is_return s (and_left (statement_is_written s) (block_is_written b) returns) in
-      let rest = statements_reads known written b (and_right (statement_fits types es f.result s) (block_fits types es f.result b) fits) (and_right (statement_is_written s) (block_is_written b) returns) in
-      subst (λ s. StatementsRead (statement s b)) (sym r.1) (return_reads known written r.0 b (subst (λ s. IsTrue (statement_fits types es f.result s)) r.1 (and_left (statement_fits types es f.result s) (block_fits types es f.result b) fits)) rest)
-
 pub names_counted : (names : NameMap) (types : List Type_) (g n : ℕ) (args : List FunctionArgument) → map (λ p. p.name) (parameters_form names types g n args) ≡ names_from (argument_name names g) n (length args)
 names_counted names types g n [] = refl
 names_counted names types g n (a ∷ args) = ap (λ ns. argument_name names g n ∷ ns) (names_counted names types g (n + 1) args ∙ ap (λ k. names_from (argument_name names g) k (length args)) (add-one n))
 
-no_variables : (n : Naming) (locals : List LocalVariable) → IsTrue (length locals == 0) → [] ≡ variables_from n 0 (map (λ l. l.init) locals)
-no_variables n [] e = refl
-no_variables n (l ∷ locals) e = absurd (has_some (eqb-true (length (l ∷ locals)) 0 e))
-  where
-    has_some : suc (length locals) ≡ 0 → ⊥
-    has_some q = cc
+-- what a plain form is read as
+abbrev plain_read : PlainForm → Plain
+plain_read (ValueForm e) = AsValue (expression_read e)
+plain_read (ReferenceForm e) = AsPlace (expression_read e)
 
-length_mapped : {X Y : Type 0} (f : X → Y) (xs : List X) → length (map f xs) ≡ length xs
-length_mapped f [] = refl
-length_mapped f (x ∷ xs) = ap suc (length_mapped f xs)
+value_is : (p : PlainForm) → expression_read (as_value p) ≡ runs.value_form (plain_read p)
+value_is (ValueForm e) = refl
+value_is (ReferenceForm e) = refl
 
--- a function that is accepted and written: what is written of it is read as its shape is written
-pub function_reads : (names : NameMap) (types : List Type_) (g : ℕ) (f : ir_function.Function) (es : List ExpressionInfo) → IsTrue (function_fits types f es) → IsTrue (function_is_written f) → function_read (function_form names types g f) ≡ form_function (function_naming names types g f es)
-function_reads names types g f es fits written =
-    let facts = function_facts types f es fits written in
-    λ i. record {
-      name = function_name names g;
-      parameters = (names_counted names types g 0 f.arguments.items ∙ ap (names_from (argument_name names g) 0) (sym (length_mapped (λ a. value_type (word_at types a.ty)) f.arguments.items))) i;
-      variables = no_variables (function_naming names types g f es) f.local_variables facts.no_locals i;
-      lines = statements_reads names types g f es facts.known facts.written f.body facts.fits facts.returns i;
-    }
+place_is : (p : PlainForm) → expression_read (as_reference p) ≡ runs.place_form (plain_read p)
+place_is (ValueForm e) = refl
+place_is (ReferenceForm e) = refl
+
+module _ (n : Naming) where
+  own_reads : (operand : ℕ → PlainForm) (like : ℕ → Plain) → ((x : ℕ) → plain_read (operand x) ≡ like x) → (k : ValueType) (e : ir.Expression) → plain_read (own_plain n operand e) ≡ runs.own_form n like k (Some (expression_shape e))
+  own_reads operand like same k (expression.Literal value) = ap (λ v. AsValue (LiteralOf v)) (literal_read value)
+  own_reads operand like same k (expression.Load pointer) = ap AsValue (place_is (operand pointer) ∙ ap runs.place_form (same pointer))
+  own_reads operand like same k (expression.Binary op left right) = binary_reads op
+    where
+      left_is : expression_read (as_value (operand left)) ≡ runs.value_form (like left)
+      left_is = value_is (operand left) ∙ ap runs.value_form (same left)
+
+      right_is : expression_read (as_value (operand right)) ≡ runs.value_form (like right)
+      right_is = value_is (operand right) ∙ ap runs.value_form (same right)
+
+      binary_reads : (op : BinaryOperator) → plain_read (own_plain n operand (expression.Binary op left right)) ≡ runs.own_form n like k (Some (expression_shape (expression.Binary op left right)))
+      binary_reads operator.LogicalAnd = λ i. AsValue (LogicalOf ShortCircuitAnd (left_is i) (right_is i))
+      binary_reads operator.LogicalOr = λ i. AsValue (LogicalOf ShortCircuitOr (left_is i) (right_is i))
+      binary_reads op = λ i. AsValue (Apply (text (binary_pieces (operator_form op))) (more (left_is i) (more (right_is i) no_more)))
+  own_reads operand like same k _ = refl
+
+  own_if_reads : (operand : ℕ → PlainForm) (like : ℕ → Plain) → ((x : ℕ) → plain_read (operand x) ≡ like x) → (k : ValueType) (e : Option ir.Expression) → plain_read (own_if n operand e) ≡ runs.own_form n like k (option_map expression_shape e)
+  own_if_reads operand like same k (Some e) = own_reads operand like same k e
+  own_if_reads operand like same k None = refl
+
+  standing_reads : (s : Standing) (p : PlainForm) (q : Plain) → plain_read p ≡ q → plain_read (standing_plain s p) ≡ runs.standing_form s q
+  standing_reads (Named x) p q e = refl
+  standing_reads _ p q e = e
+
+module _ (names : NameMap) (types : List Type_) (g : ℕ) (f : ir_function.Function) (es : List ExpressionInfo) where
+  abbrev own : Naming
+  own = function_naming names types g f es
+
+  below_reads : (s : Handles) (k h : ℕ) → plain_read (plain_below own f.expressions s k h) ≡ written_below own s k h
+  below_reads s zero h = refl
+  below_reads s (suc k) h =
+      standing_reads own (s h) (own_if own (plain_below own f.expressions s k) (slice_get f.expressions h)) (runs.own_form own (written_below own s k) (handle_type own.function h) (expression_of own.function h))
+      (own_if_reads own (plain_below own f.expressions s k) (written_below own s k) (below_reads s k) (handle_type own.function h) (slice_get f.expressions h)
+      ∙ ap (runs.own_form own (written_below own s k) (handle_type own.function h)) (sym (slice_get-map expression_shape f.expressions h)))
+
+  plain_reads : (s : Handles) (h : ℕ) → plain_read (plain_form own f.expressions s h) ≡ runs.written own s h
+  plain_reads s h = below_reads s (length f.expressions) h ∙ ap (λ k. written_below own s k h) (sym (mapped_length expression_shape f.expressions))
+
+  value_reads : (s : Handles) (h : ℕ) → expression_read (value_form own f.expressions s h) ≡ runs.value_at own s h
+  value_reads s h = value_is (plain_form own f.expressions s h) ∙ ap runs.value_form (plain_reads s h)
+
+  value_if_reads : (s : Handles) (v : Option ℕ) → option_map expression_read (option_map (value_form own f.expressions s) v) ≡ runs.value_if own s v
+  value_if_reads s None = refl
+  value_if_reads s (Some h) = ap Some (value_reads s h)
+
+  let_reads : (told : Option TypeSpecifier) (x : List ℕ) (e : tree.Expression) → statement_read (let_form told x e) ≡ Let x (expression_read e)
+  let_reads None x e = refl
+  let_reads (Some t) x e = refl
+
+  then_if_reads : (b : Bool) (told : Option TypeSpecifier) (x : List ℕ) (e : tree.Expression) (rest : tree.Statements) → statements_read (then_if b (let_form told x e) rest) ≡ let_if b x (expression_read e) (statements_read rest)
+  then_if_reads true told x e rest = ap (λ l. before l (statements_read rest)) (let_reads told x e)
+  then_if_reads false told x e rest = refl
+
+  lets_read : (told : ℕ → Option TypeSpecifier) (k : ℕ) (hs : List ℕ) (s : Handles) (rest : tree.Statements) → statements_read (lets_form own told f.expressions k hs s rest) ≡ runs.lets own k hs s (statements_read rest)
+  lets_read told k [] s rest = refl
+  lets_read told k (h ∷ hs) s rest =
+      let e = own_if own (plain_form own f.expressions s) (slice_get f.expressions h) in
+      let behind = lets_form own told f.expressions (given_after own.function h k) hs (after_one own k h s) rest in
+      then_if_reads (binds own.function h) (told h) (bound_name own k h) (as_value e) behind
+      ∙ λ i. let_if (binds own.function h) (bound_name own k h)
+      ((value_is e ∙ ap runs.value_form (own_if_reads own (plain_form own f.expressions s) (runs.written own s) (plain_reads s) (handle_type own.function h) (slice_get f.expressions h)
+      ∙ ap (runs.own_form own (runs.written own s) (handle_type own.function h)) (sym (slice_get-map expression_shape f.expressions h)))) i)
+      (lets_read told (given_after own.function h k) hs (after_one own k h s) rest i)
+
+  return_reads : (s : Handles) (v : Option ℕ) → statement_read (return_line own f.expressions s v) ≡ ReturnLine (runs.value_if own s v)
+  return_reads s None = refl
+  return_reads s (Some h) = ap (λ e. ReturnLine (Some e)) (value_reads s h)
+
+  line_reads : (told : ℕ → Option TypeSpecifier) (k : ℕ) (st : StatementTree) (s : Handles) (rest : tree.Statements) → statements_read (line_form own told f.expressions k st s rest) ≡ runs.form own k (statement_shape st) s (statements_read rest)
+  line_reads told k (simple (emit first end)) s rest = lets_read told k (from first (end - first)) s rest
+  line_reads told k (simple (store pointer value)) s rest = λ i. before (Assign ((place_is (plain_form own f.expressions s pointer) ∙ ap runs.place_form (plain_reads s pointer)) i) (value_reads s value i)) (statements_read rest)
+  line_reads told k (simple (return value)) s rest = ap (λ l. before l (statements_read rest)) (return_reads s value)
+  line_reads told k _ s rest = refl
+
+  lines_read : (told : ℕ → Option TypeSpecifier) (k : ℕ) (b : BlockTree) (s : Handles) → statements_read (lines_form own told f.expressions k b s) ≡ runs.form_all own k (statements_shape b) s
+  lines_read told k no_statements s = refl
+  lines_read told k (statement st b) s =
+      line_reads told k st s (lines_form own told f.expressions (given_by own.function (statement_shape st) k) b (after own k (statement_shape st) s))
+      ∙ ap (runs.form own k (statement_shape st) s) (lines_read told (given_by own.function (statement_shape st) k) b (after own k (statement_shape st) s))
+
+  locals_read : (l : ℕ) (vs : List LocalVariable) → map variable_read (locals_form own types f.expressions l vs) ≡ variables_from own l (map (λ v. v.init) vs)
+  locals_read l [] = refl
+  locals_read l (v ∷ vs) = λ i.
+      record { name = own.names.local_ l; first_value = value_if_reads (at_start own.function) v.init i }
+      ∷ (locals_read (l + 1) vs ∙ ap (λ m. variables_from own m (map (λ v. v.init) vs)) (add-one l)) i
+
+pub function_reads : (explicit : Bool) (names : NameMap) (types : List Type_) (g : ℕ) (f : ir_function.Function) (es : List ExpressionInfo) → function_read (function_form explicit names types g f es) ≡ form_function (function_naming names types g f es)
+function_reads explicit names types g f es = λ i. record {
+  name = function_name names g;
+  parameters = (names_counted names types g 0 f.arguments.items ∙ ap (names_from (argument_name names g) 0) (sym (mapped_length (λ a. value_type (word_at types a.ty)) f.arguments.items))) i;
+  variables = locals_read names types g f es 0 f.local_variables i;
+  lines = lines_read names types g f es (told_type explicit types es) 0 f.body (at_start (function_shape types f es)) i;
+}

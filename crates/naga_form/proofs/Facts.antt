@@ -1,23 +1,17 @@
--- What is known of each expression and statement of an accepted function that is written.
-use Rattle.std.proofs.Common.{◌≡◌, ℕ, suc, zero, Bool, true, false, ◌&&◌, List, [], ◌∷◌, length, ◌<◌, Option, Some, None, refl, sym, ap, subst}
-use Rattle.std.specs.Prelude.{IsTrue, slice_get, unwrap_or, ◌==◌}
+-- What is known of each expression of an accepted function.
+use Rattle.std.proofs.Common.{[], ◌≤◌, arith, ◌≡◌, ℕ, suc, zero, Bool, true, false, ◌&&◌, List, ◌∷◌, length, ◌<◌, Option, Some, None, refl, sym, ap, subst}
+use Rattle.std.specs.Prelude.{IsTrue, slice_get, unwrap_or}
 use Rattle.std.specs.List.{list_all}
 use Rattle.std.specs.Option.{option_and_then}
-use Rattle.std.proofs.lemmas.Option.{slice_get_within}
 use Rattle.std.proofs.lemmas.Slice.Eq.{bytes_eq-Decides}
-use Rattle.indexmap.specs.IndexMap.{keys}
-use Rattle.naga_ir.specs.StatementTree.{StatementTree, simple, return}
 use Rattle.naga_ir.specs.declared.expression.Expression.{Expression}
-use Rattle.naga_ir.specs.declared.expression.Expression.TheVariants as expression
-use Rattle.naga_ir.specs.declared.expression.Literal.{Literal}
 use Rattle.naga_ir.specs.declared.module.Function.{Function}
 use Rattle.naga_ir.specs.declared.module.FunctionResult.{FunctionResult}
 use Rattle.naga_ir.specs.declared.types.Type_.{Type_}
 use Rattle.naga_info.specs.declared.info.ExpressionInfo.{ExpressionInfo}
 use Rattle.naga_info.specs.Types.{word_at, spelling_of, spelling_at, is_alike}
-use Rattle.naga_info.specs.Accepted.{signature_fits, names_fit, expression_fits, expressions_fit, local_fits, return_fits, block_fits, function_fits}
+use Rattle.naga_info.specs.Accepted.{expression_fits, expressions_fit, return_fits}
 use Rattle.naga_info.proofs.Accepting.{expressions_fit_known, expressions_fit_length}
-use Rattle.naga_info.specs.Part.{expression_is_written, statement_is_written, block_is_written, is_unbound, function_is_written}
 
 pub and_left : (a b : Bool) → IsTrue (a && b) → IsTrue a
 and_left true b h = refl
@@ -86,58 +80,8 @@ returned_at types f es h fit (Some answer) is fits =
     let e = expression_at types f f.expressions es h known.0 fit known.1 in
     record { expression = e.0; there = e.1; answer = answer; answers = is; alike = one }
 
--- a written statement returns
-pub is_return : (s : StatementTree) → IsTrue (statement_is_written s) → (v : Option ℕ) × (s ≡ simple (return v))
-is_return (simple (return v)) e = (v, refl)
-is_return _ e = absurd (cc)
-
--- a written expression is a literal or an argument
-pub data IsLeaf : Expression → Type 0 where
-  literal_leaf : (v : Literal) → IsLeaf (expression.Literal v)
-  argument_leaf : (n : ℕ) → IsLeaf (expression.FunctionArgument n)
-
-pub is_leaf : (e : Expression) → IsTrue (expression_is_written e) → IsLeaf e
-is_leaf (expression.Literal v) w = literal_leaf v
-is_leaf (expression.FunctionArgument n) w = argument_leaf n
-is_leaf _ w = absurd (cc)
-
--- an argument that is named is one of the function's
-pub argument_within : (types : List Type_) (f : Function) (es : List ExpressionInfo) → IsTrue (expressions_fit types f f.expressions es) → (h n : ℕ) → slice_get f.expressions h ≡ Some (expression.FunctionArgument n) → n < length f.arguments.items
-argument_within types f es known h n found =
-    let k = known_at types f f.expressions es h (expression.FunctionArgument n) known found in
-    let expected = option_and_then (λ a. word_at types a.ty) (slice_get f.arguments.items n) in
-    let one = alike_word (spelling_of types k.known.ty) expected (and_left (is_alike (spelling_of types k.known.ty) expected) true k.fits) in
-    let a = then_some (λ a. word_at types a.ty) (slice_get f.arguments.items n) one.word one.second in
-    slice_get_within f.arguments.items n a.0 a.1
-
--- what an accepted function that is written is known by
-pub record FunctionFacts (types : List Type_) (f : Function) (es : List ExpressionInfo) : Type 0 where
-  pub signature : IsTrue (signature_fits (length types) f)
-  pub known : IsTrue (expressions_fit types f f.expressions es)
-  pub fits : IsTrue (block_fits types es f.result f.body)
-  pub no_locals : IsTrue (length f.local_variables == 0)
-  pub written : IsTrue (list_all expression_is_written f.expressions)
-  pub returns : IsTrue (block_is_written f.body)
-
-pub function_facts : (types : List Type_) (f : Function) (es : List ExpressionInfo) → IsTrue (function_fits types f es) → IsTrue (function_is_written f) → FunctionFacts types f es
-function_facts types f es fits written =
-    let a = signature_fits (length types) f in
-    let b = names_fit f in
-    let c = expressions_fit types f f.expressions es in
-    let d = list_all (local_fits types es) f.local_variables in
-    let e = block_fits types es f.result f.body in
-    let cde = and_right b (c && (d && e)) (and_right a (b && (c && (d && e))) fits) in
-    let v = length f.local_variables == 0 in
-    let w = length (keys f.named_expressions) == 0 in
-    let x = is_unbound f in
-    let y = list_all expression_is_written f.expressions in
-    let z = block_is_written f.body in
-    let yz = and_right x (y && z) (and_right w (x && (y && z)) (and_right v (w && (x && (y && z))) written)) in
-    record {
-      signature = and_left a (b && (c && (d && e))) fits;
-      known = and_left c (d && e) cde;
-      fits = and_right d e (and_right c (d && e) cde);
-      no_locals = and_left v (w && (x && (y && z))) written;
-      written = and_left y z yz;
-      returns = and_right y z yz;
-    }
+-- what stands in a list below its length
+pub element : {X : Type 0} (xs : List X) (i : ℕ) → i < length xs → (x : X) × (slice_get xs i ≡ Some x)
+element [] i lt = absurd (omega (arith, lt))
+element (x ∷ xs) zero lt = (x, refl)
+element (x ∷ xs) (suc i) lt = element xs i (omega (arith, lt))

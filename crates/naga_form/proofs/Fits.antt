@@ -1,39 +1,43 @@
--- An accepted function that is written meets what the law of runs asks of its shape.
-use Rattle.std.proofs.Common.{◌≡◌, ◌≢◌, ℕ, suc, zero, Bool, true, false, ◌&&◌, ◌<◌, List, [], ◌∷◌, map, length, Option, Some, None, refl, sym, ap, subst, ◌∙◌, arith}
-use Rattle.std.specs.Prelude.{IsTrue, slice_get, unwrap_or, ◌==◌}
-use Rattle.std.specs.List.{list_all}
-use Rattle.std.specs.Option.{option_map, option_and_then}
-use Rattle.std.proofs.lemmas.Bool.{eqb-true, lt-ltb}
-use Rattle.naga_ir.specs.StatementTree.{BlockTree, no_statements, statement}
+-- An accepted function meets what the law of runs asks of its shape, where its handles are in scope.
+use Rattle.std.proofs.Common.{[], ◌≡◌, ◌≢◌, ℕ, suc, zero, Bool, true, false, ◌<◌, List, ◌∷◌, map, length, Option, Some, None, refl, sym, ap, subst, ◌∙◌, arith, ◌+◌, ◌-◌, take, codes, nat_eq, true≢false}
+use Rattle.std.specs.Prelude.{IsTrue, slice_get, unwrap_or, ◌==◌, get_or, cond}
+use Rattle.std.specs.Option.{option_map}
+use Rattle.std.proofs.lemmas.Bool.{eqb-true}
+use Rattle.naga_ir.specs.StatementTree.{BlockTree, no_statements, statement, emit, store, return, StatementTree, simple}
 use Rattle.naga_ir.specs.declared.expression.Expression as ir
 use Rattle.naga_ir.specs.declared.expression.Literal as ir_literal
 use Rattle.naga_ir.specs.declared.expression.Literal.TheVariants as literal
 use Rattle.naga_ir.specs.declared.module.Function as ir_function
 use Rattle.naga_ir.specs.declared.module.LocalVariable.{LocalVariable}
-use Rattle.naga_ir.specs.declared.types.Type_.{Type_}
 use Rattle.naga_info.specs.declared.info.ExpressionInfo.{ExpressionInfo}
-use Rattle.naga_info.specs.Types.{word_at, spelling_of, literal_word, literal_is_within, is_alike}
-use Rattle.naga_info.specs.Accepted.{statement_fits, return_fits, block_fits}
-use Rattle.naga_info.specs.Part.{expression_is_written, block_is_written, statement_is_written}
-use Rattle.naga_names.specs.Reset.{NameMap}
+use Rattle.naga_info.specs.Types.{word_at, spelling_of, literal_word, spelling_at, operator_word}
+use Rattle.naga_info.specs.Accepted.{statement_fits, return_fits, block_fits, function_fits}
+use Rattle.naga_names.specs.Reset.{Labelled, labelled_items, labels_of}
 use Rattle.shader_runs.specs.Value.{ValueType, type_at, type_of}
 use Rattle.shader_runs.specs.Program as shapes
-use Rattle.shader_runs.specs.Program.{operands_of, handle_type, argument_count}
-use Rattle.shader_runs.specs.Scope.{Naming, at_start, usable_as, usable_if, fits_all, first_values_fit, given_by_all}
-use Rattle.shader_runs.specs.Premises.{AllBelow, WordFits, LeafFits, ReturnFits, AreRegular, AreDistinct, FunctionFits, FixedKey, NumberedKey, GivenKey, ArgumentName, LocalName, ConstantName, GlobalName}
-use Rattle.naga_form.specs.Names.{argument_name, numbered_name}
+use Rattle.shader_runs.specs.Program.{operands_of, handle_type, argument_count, expression_of, is_given, local_count, from}
+use Rattle.shader_runs.specs.Scope.{Naming, given_by_all, given_after, given_after_all, given_by, fits_function}
+use Rattle.shader_runs.specs.Premises.{AllBelow, WordFits, LeafFits, ReturnFits, AreRegular, AreDistinct, FunctionFits, FixedKey, NumberedKey, GivenKey, ArgumentName, LocalName, ConstantName, GlobalName, OperatesBy, StandsFree, IsNoName, IsRegular, IsName, NameKey, name_at}
+use Rattle.naga_form.specs.Names.{argument_name, numbered_name, wgsl_names, module_names, name_in, function_name, local_name, numbered_text, NamesAreCounted}
 use Rattle.naga_form.specs.Types.{value_type}
 use Rattle.naga_form.specs.Literals.{literal_value}
-use Rattle.naga_form.specs.Shapes.{expression_shape, statements_shape, function_shape, outer_names, function_naming}
-use Rattle.naga_form.proofs.Named.{numbered_distinct}
-use Rattle.naga_form.proofs.Facts.{and_left, and_right, all_at, alike_word, known_at, then_some, returned_at, is_return, IsLeaf, literal_leaf, argument_leaf, is_leaf, argument_within, FunctionFacts}
-use Rattle.naga_form.proofs.Abstractions.{shape_at}
-
--- what holds of no shape and of each leaf's holds of the shape of any handle
-at_shape : (exprs : List ir.Expression) → IsTrue (list_all expression_is_written exprs) → (h : ℕ) (P : Option shapes.Expression → Type 0) → P None → ((e : ir.Expression) → slice_get exprs h ≡ Some e → IsLeaf e → P (Some (expression_shape e))) → P (slice_get (map expression_shape exprs) h)
-at_shape [] written h P none some = none
-at_shape (x ∷ xs) written zero P none some = some x refl (is_leaf x (and_left (expression_is_written x) (list_all expression_is_written xs) written))
-at_shape (x ∷ xs) written (suc h) P none some = at_shape xs (and_right (expression_is_written x) (list_all expression_is_written xs) written) h P none some
+use Rattle.naga_form.specs.Shapes.{expression_shape, statements_shape, function_shape, outer_names, function_naming, binary_shape, statement_shape, given_from}
+use Rattle.naga_form.proofs.Named.{numbered_distinct, name_is, item_not_numbered, items_tell, function_item, argument_item, function_there, argument_there}
+use Rattle.naga_form.proofs.Facts.{and_left, and_right, then_some, returned_at, element}
+use Rattle.std.proofs.lemmas.Option.{slice_get-map, slice_get_within}
+use Rattle.indexmap.specs.IndexMap.{keys}
+use Rattle.naga_ir.specs.declared.expression.Expression.TheVariants as expression
+use Rattle.naga_ir.specs.declared.operators.BinaryOperator.{BinaryOperator}
+use Rattle.naga_ir.specs.declared.operators.BinaryOperator.TheVariants as operator
+use Rattle.naga_ir.specs.declared.module.Module.{Module}
+use Rattle.naga_info.proofs.Accepting.{function_fits_word_at, function_fits_expressions, function_fits_block, local_word_at, load_word_at, binary_at}
+use Rattle.naga_names.specs.Plain.{is_word}
+use Rattle.naga_names.specs.Naming.{label_or}
+use Rattle.naga_names.specs.declared.namer.key.NameKey.TheVariants as key
+use Rattle.naga_names.proofs.NameShapes.{name_after_is_word}
+use Rattle.naga_names.proofs.NamedItems.{Stands, local_stands}
+use Rattle.naga_form.specs.Operators.{operator_form}
+use Rattle.naga_form.specs.Abstraction.{is_request}
 
 -- the type at an index of a list of types made from other things
 pub type_at_mapped : {X : Type 0} (t : X → ValueType) (xs : List X) (i : ℕ) (x : X) → slice_get xs i ≡ Some x → type_at (map t xs) i ≡ t x
@@ -53,122 +57,245 @@ pub mapped_length : {X Y : Type 0} (f : X → Y) (xs : List X) → length (map f
 mapped_length f [] = refl
 mapped_length f (x ∷ xs) = ap suc (mapped_length f xs)
 
-and_both : (a b : Bool) → IsTrue a → IsTrue b → IsTrue (a && b)
-and_both true b e f = f
-and_both false b e f = e
+-- ---- no front end's names
+nothing_given : (n : ℕ) (es : List ir.Expression) (h : ℕ) → get_or (given_from [] n es) h false ≡ false
+nothing_given n [] h = refl
+nothing_given n (e ∷ es) zero = refl
+nothing_given n (e ∷ es) (suc h) = nothing_given (n + 1) es h
 
-some_none : (n : ℕ) → suc n ≡ 0 → ⊥
-some_none n e = cc
+no_keys : (ks : List ℕ) → IsTrue (length ks == 0) → ks ≡ []
+no_keys [] e = refl
+no_keys (k ∷ ks) e = absurd (some_none (length ks) (eqb-true (length (k ∷ ks)) 0 e))
+  where
+    some_none : (n : ℕ) → suc n ≡ 0 → ⊥
+    some_none n q = cc
 
--- what is known of a function's names: its arguments' are distinct, and none is a numbered name
-pub record NameFacts (names : NameMap) (g count : ℕ) : Type 0 where
-  pub distinct : (i j : ℕ) → i < count → j < count → argument_name names g i ≡ argument_name names g j → i ≡ j
-  pub numbered : (i h : ℕ) → i < count → argument_name names g i ≢ numbered_name h
+-- ---- signs
+-- what begins with another byte than `_` and a blank is no numbered name
+not_numbered : (b : Bool) (h c : ℕ) (rest : List ℕ) → nat_eq c 95 ≡ false → nat_eq c 32 ≡ false → numbered_text b h ≡ c ∷ rest → ⊥
+not_numbered true h c rest one two e = true≢false (ap (λ l. nat_eq (get_or l 0 0) 95) e ∙ one)
+not_numbered false zero c rest one two e = absurd (cc)
+not_numbered false (suc h) c rest one two e = true≢false (ap (λ l. nat_eq (get_or l 0 0) 32) e ∙ two)
 
-module _ (names : NameMap) (types : List Type_) (g : ℕ) (f : ir_function.Function) (es : List ExpressionInfo) (facts : FunctionFacts types f es) (p : shapes.Module) where
+sign_not_numbered : (h c : ℕ) (rest : List ℕ) → nat_eq c 95 ≡ false → nat_eq c 32 ≡ false → numbered_name h ≡ c ∷ rest → ⊥
+unfolding numbered_name
+sign_not_numbered h c rest one two e = not_numbered _ h c rest one two e
+
+no_request_plus : is_request (codes "+") ≡ false
+unfolding is_request
+no_request_plus = refl
+
+no_request_minus : is_request (codes "-") ≡ false
+unfolding is_request
+no_request_minus = refl
+
+no_request_star : is_request (codes "*") ≡ false
+unfolding is_request
+no_request_star = refl
+
+none_listed : (i : ℕ) (ts : List ValueType) → ts ≡ [] → i < length ts → ⊥
+none_listed i ts e lt = let none : i < 0 = subst (λ ts. i < length ts) e lt in omega (arith, none)
+
+-- the item of a local
+abbrev pub local_item : ℕ → ℕ → LocalVariable → Labelled
+local_item g l v = (key.FunctionLocal g l, label_or v.name (codes "local"))
+
+-- ---- one function
+module _ (m : Module) (g : ℕ) (f : ir_function.Function) (found : slice_get m.functions g ≡ Some f) (es : List ExpressionInfo) (fits : function_fits m.types f es ≡ true) (unnamed : IsTrue (length (keys f.named_expressions) == 0)) (p : shapes.Module) (constants : p.constant_types ≡ []) (globals : p.global_types ≡ []) where
+  abbrev own : Naming
+  own = function_naming (module_names m) m.types g f es
+
   abbrev shape : shapes.Function
-  shape = function_shape types f es
+  shape = function_shape m.types f es
 
-  -- the type of a known handle
-  type_of_known : (h : ℕ) (k : ExpressionInfo) (o : Option (List ℕ)) → slice_get es h ≡ Some k → spelling_of types k.ty ≡ o → handle_type shape h ≡ value_type o
-  type_of_known h k o found spelled = type_at_mapped (λ e. value_type (spelling_of types e.ty)) es h k found ∙ ap value_type spelled
+  pub not_given : (h : ℕ) → is_given shape h ≡ false
+  not_given h = ap (λ ks. get_or (given_from ks 0 f.expressions) h false) (no_keys (keys f.named_expressions) unnamed) ∙ nothing_given 0 f.expressions h
 
-  leaf_fits : (h : ℕ) (e : ir.Expression) → slice_get f.expressions h ≡ Some e → IsLeaf e → LeafFits p shape (handle_type shape h) (Some (expression_shape e))
-  leaf_fits h _ found (literal_leaf v) =
-      let k = known_at types f f.expressions es h _ facts.known found in
-      let one = alike_word (spelling_of types k.known.ty) (literal_word v) (and_left (is_alike (spelling_of types k.known.ty) (literal_word v)) (literal_is_within v) k.fits) in
-      (tt, type_of_known h k.known (Some one.word) k.there one.first ∙ (ap value_type (sym one.second) ∙ literal_type v one.word one.second))
-  leaf_fits h _ found (argument_leaf n) =
-      let k = known_at types f f.expressions es h _ facts.known found in
-      let expected = option_and_then (λ a. word_at types a.ty) (slice_get f.arguments.items n) in
-      let one = alike_word (spelling_of types k.known.ty) expected (and_left (is_alike (spelling_of types k.known.ty) expected) true k.fits) in
-      let a = then_some (λ a. word_at types a.ty) (slice_get f.arguments.items n) one.word one.second in
-      type_of_known h k.known (Some one.word) k.there one.first
-      ∙ (ap value_type (sym a.2) ∙ sym (type_at_mapped (λ a. value_type (word_at types a.ty)) f.arguments.items n a.0 a.1))
+  given_one : (h k : ℕ) → given_after shape h k ≡ k
+  given_one h k = ap (λ b. cond b (suc k) k) (not_given h)
 
-  leaf_ordered : (h : ℕ) (e : ir.Expression) → IsLeaf e → AllBelow h (operands_of (Some (expression_shape e)))
-  leaf_ordered h _ (literal_leaf v) = tt
-  leaf_ordered h _ (argument_leaf n) = tt
+  given_some : (hs : List ℕ) (k : ℕ) → given_after_all shape hs k ≡ k
+  given_some [] k = refl
+  given_some (h ∷ hs) k = given_some hs (given_after shape h k) ∙ given_one h k
 
-  leaf_words : (n : Naming) (e : ir.Expression) → IsLeaf e → WordFits p n (Some (expression_shape e))
-  leaf_words n _ (literal_leaf v) = tt
-  leaf_words n _ (argument_leaf i) = tt
+  given_line : (st : StatementTree) (k : ℕ) → given_by shape (statement_shape st) k ≡ k
+  given_line (simple (emit first last)) k = given_some (from first (last - first)) k
+  given_line _ k = refl
 
-  usable_leaf : (h : ℕ) (e : ir.Expression) → slice_get f.expressions h ≡ Some e → IsLeaf e → IsTrue (usable_as shape (Some (expression_shape e)) (at_start shape h))
-  usable_leaf h _ found (literal_leaf v) = refl
-  usable_leaf h _ found (argument_leaf n) = lt-ltb n (argument_count shape) (subst (λ k. n < k) (sym (mapped_length (λ a. value_type (word_at types a.ty)) f.arguments.items)) (argument_within types f es facts.known h n found))
+  given_lines : (b : BlockTree) (k : ℕ) → given_by_all shape (statements_shape b) k ≡ k
+  given_lines no_statements k = refl
+  given_lines (statement st b) k = given_lines b (given_by shape (statement_shape st) k) ∙ given_line st k
 
-  -- a returned handle: of the result's type, and in scope
-  return_fits_shape : (v : Option ℕ) → IsTrue (return_fits types es f.result v) → ReturnFits shape v × IsTrue (usable_if shape (at_start shape) v)
-  return_fits_shape None fits = (tt, refl)
-  return_fits_shape (Some h) fits =
-      let r = returned_at types f es h facts.known f.result refl fits in
-      let k = then_some (λ e. spelling_of types e.ty) (slice_get es h) r.alike.word r.alike.first in
-      let leaf = is_leaf r.expression (all_at expression_is_written f.expressions h r.expression facts.written r.there) in (
-        ap (option_map (λ a. value_type (word_at types a.ty))) r.answers ∙ ap (λ w. Some (value_type w)) (r.alike.second ∙ sym k.2) ∙ ap Some (sym (type_at_mapped (λ e. value_type (spelling_of types e.ty)) es h k.0 k.1)),
-        subst (λ o. IsTrue (usable_as shape o (at_start shape h))) (sym (shape_at f.expressions h r.expression r.there)) (usable_leaf h r.expression r.there leaf),
-      )
+  none_given : (k : ℕ) → k < given_by_all shape (statements_shape f.body) 0 → ⊥
+  none_given k lt = let none : k < 0 = subst (λ n. k < n) (given_lines f.body 0) lt in omega (arith, none)
 
-  -- a body of returns gives no names, its statements are regular and its handles in scope
-  record BodyFits (callees : List shapes.Function) (b : BlockTree) : Type 0 where
-    pub given : given_by_all shape (statements_shape b) 0 ≡ 0
-    pub regular : AreRegular p callees (function_naming names types g f es) (statements_shape b)
-    pub scope : IsTrue (fits_all (function_naming names types g f es) 0 (statements_shape b) (at_start shape))
+  -- the type of a handle that is spelled
+  typed_as : (h : ℕ) (w : List ℕ) → spelling_at m.types es h ≡ Some w → handle_type shape h ≡ value_type (Some w)
+  typed_as h w spelled =
+      let k = then_some (λ e. spelling_of m.types e.ty) (slice_get es h) w spelled in
+      type_at_mapped (λ e. value_type (spelling_of m.types e.ty)) es h k.0 k.1 ∙ ap value_type k.2
 
-  body_fits : (callees : List shapes.Function) (b : BlockTree) → IsTrue (block_fits types es f.result b) → IsTrue (block_is_written b) → BodyFits callees b
-  body_fits callees no_statements fits returns = record { given = refl; regular = tt; scope = refl }
-  body_fits callees (statement s b) fits returns =
-      let r = is_return s (and_left (statement_is_written s) (block_is_written b) returns) in
-      let rest = body_fits callees b (and_right (statement_fits types es f.result s) (block_fits types es f.result b) fits) (and_right (statement_is_written s) (block_is_written b) returns) in
-      let v = return_fits_shape r.0 (subst (λ s. IsTrue (statement_fits types es f.result s)) r.1 (and_left (statement_fits types es f.result s) (block_fits types es f.result b) fits)) in
-      subst (λ s. BodyFits callees (statement s b)) (sym r.1) (record {
-        given = rest.given;
-        regular = (v.0, rest.regular);
-        scope = and_both (usable_if shape (at_start shape) r.0) (fits_all (function_naming names types g f es) 0 (statements_shape b) (at_start shape)) v.1 rest.scope;
-      })
-
-  -- an accepted function that is written meets what is asked of its shape
-  pub function_fits_shape : (callees : List shapes.Function) → length callees ≡ g → p.constant_types ≡ [] → p.global_types ≡ [] → NameFacts names g (length f.arguments.items) → FunctionFits p (outer_names names) callees (function_naming names types g f es)
-  function_fits_shape callees earlier constants globals own =
-      let body = body_fits callees f.body facts.fits facts.returns in
-      record {
-        outer = refl;
-        earlier = sym earlier;
-        ordered = λ h. at_shape f.expressions facts.written h (λ o. AllBelow h (operands_of o)) tt (λ e found leaf. leaf_ordered h e leaf);
-        words = λ h. at_shape f.expressions facts.written h (λ o. WordFits p (function_naming names types g f es) o) tt (λ e found leaf. leaf_words (function_naming names types g f es) e leaf);
-        leaves = λ h. at_shape f.expressions facts.written h (λ o. LeafFits p shape (handle_type shape h) o) tt (λ e found leaf. leaf_fits h e found leaf);
-        regular = body.regular;
-        distinct = distinct;
-        scope = and_both (first_values_fit shape (map (λ l. l.init) f.local_variables)) (fits_all (function_naming names types g f es) 0 (statements_shape f.body) (at_start shape)) (no_first_values f.local_variables facts.no_locals) body.scope;
-      }
+  -- what holds of no shape and of each expression's holds of the shape of any handle
+  at_any : (h : ℕ) (P : Option shapes.Expression → Type 0) → P None → ((e : ir.Expression) → slice_get f.expressions h ≡ Some e → P (Some (expression_shape e))) → P (expression_of shape h)
+  at_any h P none some = subst P (sym (slice_get-map expression_shape f.expressions h)) (by (slice_get f.expressions h) refl)
     where
-      no_first_values : (locals : List LocalVariable) → IsTrue (length locals == 0) → IsTrue (first_values_fit shape (map (λ l. l.init) locals))
-      no_first_values [] e = refl
-      no_first_values (l ∷ locals) e = absurd (some_none (length locals) (eqb-true (length (l ∷ locals)) 0 e))
+      by : (o : Option ir.Expression) → slice_get f.expressions h ≡ o → P (option_map expression_shape o)
+      by None is = none
+      by (Some e) is = some e is
 
-      local_none : (i : ℕ) (locals : List LocalVariable) → IsTrue (length locals == 0) → i < length (map (λ l. l.init) locals) → ⊥
-      local_none i [] e lt = omega (arith, lt)
-      local_none i (l ∷ locals) e lt = some_none (length locals) (eqb-true (length (l ∷ locals)) 0 e)
+  ordered_at : (h : ℕ) (e : ir.Expression) → slice_get f.expressions h ≡ Some e → AllBelow h (operands_of (Some (expression_shape e)))
+  ordered_at h (expression.Load q) at = let l = load_word_at m.types f es h q fits at in (l.1, tt)
+  ordered_at h (expression.Binary op left right) at = let o = binary_at m.types f es h op left right fits at in both op o.left_before o.right_before
+    where
+      both : (op : BinaryOperator) → left < h → right < h → AllBelow h (operands_of (Some (binary_shape (operator_form op) left right)))
+      both operator.LogicalAnd a b = (a, (b, tt))
+      both _ a b = (a, (b, tt))
+  ordered_at h _ at = tt
 
-      listed_none : (i : ℕ) (ts : List ValueType) → ts ≡ [] → i < length ts → ⊥
-      listed_none i ts e lt = let none : i < 0 = subst (λ ts. i < length ts) e lt in omega (arith, none)
+  leaf_at : (h : ℕ) (e : ir.Expression) → slice_get f.expressions h ≡ Some e → LeafFits p shape (handle_type shape h) (Some (expression_shape e))
+  leaf_at h (expression.Literal v) at =
+      let w = function_fits_word_at m.types f es h (expression.Literal v) fits at in
+      (tt, typed_as h w.0 w.1 ∙ (ap value_type (sym w.2) ∙ literal_type v w.0 w.2))
+  leaf_at h (expression.FunctionArgument n) at =
+      let w = function_fits_word_at m.types f es h (expression.FunctionArgument n) fits at in
+      let a = then_some (λ a. word_at m.types a.ty) (slice_get f.arguments.items n) w.0 w.2 in
+      typed_as h w.0 w.1 ∙ (ap value_type (sym a.2) ∙ sym (type_at_mapped (λ a. value_type (word_at m.types a.ty)) f.arguments.items n a.0 a.1))
+  leaf_at h (expression.LocalVariable v) at =
+      let l = local_word_at m.types f es h v fits at in
+      typed_as h _ l.4
+  leaf_at h (expression.Binary op left right) at = nothing op
+    where
+      nothing : (op : BinaryOperator) → LeafFits p shape (handle_type shape h) (Some (binary_shape (operator_form op) left right))
+      nothing operator.LogicalAnd = tt
+      nothing _ = tt
+  leaf_at h _ at = tt
 
-      given_none : (k : ℕ) → k < given_by_all shape (statements_shape f.body) 0 → ⊥
-      given_none k lt = let none : k < 0 = subst (λ n. k < n) (body_fits callees f.body facts.fits facts.returns).given lt in omega (arith, none)
+  -- ---- words
+  word_of : (item : Labelled) → Stands (labelled_items wgsl_names m) item → is_word (name_in (module_names m) item.0) ≡ true
+  word_of item s = ap is_word (name_is m item s) ∙ name_after_is_word wgsl_names (labels_of (take s.place (labelled_items wgsl_names m))) item.1
 
-      argument_lt : (i : ℕ) → i < argument_count shape → i < length f.arguments.items
-      argument_lt i lt = subst (λ n. i < n) (mapped_length (λ a. value_type (word_at types a.ty)) f.arguments.items) lt
+  no_word : (item : Labelled) (w : List ℕ) → Stands (labelled_items wgsl_names m) item → is_word w ≡ false → name_in (module_names m) item.0 ≢ w
+  no_word item w s other e = true≢false (sym (word_of item s) ∙ (ap is_word e ∙ other))
 
-      distinct : AreDistinct p (function_naming names types g f es)
-      distinct (FixedKey (ArgumentName i)) (FixedKey (ArgumentName j)) a b e = ap (λ k. FixedKey (ArgumentName k)) (own.distinct i j (argument_lt i a) (argument_lt j b) e)
-      distinct (FixedKey (ArgumentName i)) (NumberedKey h) a b e = absurd (own.numbered i h (argument_lt i a) e)
-      distinct (NumberedKey h) (FixedKey (ArgumentName i)) a b e = absurd (own.numbered i h (argument_lt i b) (sym e))
-      distinct (NumberedKey h) (NumberedKey k) a b e = ap NumberedKey (numbered_distinct h k e)
-      distinct (GivenKey k) y a b e = absurd (given_none k a)
-      distinct (FixedKey (LocalName i)) y a b e = absurd (local_none i f.local_variables facts.no_locals a)
-      distinct (FixedKey (ConstantName i)) y a b e = absurd (listed_none i p.constant_types constants a)
-      distinct (FixedKey (GlobalName i)) y a b e = absurd (listed_none i p.global_types globals a)
-      distinct x (GivenKey k) a b e = absurd (given_none k b)
-      distinct x (FixedKey (LocalName i)) a b e = absurd (local_none i f.local_variables facts.no_locals b)
-      distinct x (FixedKey (ConstantName i)) a b e = absurd (listed_none i p.constant_types constants b)
-      distinct x (FixedKey (GlobalName i)) a b e = absurd (listed_none i p.global_types globals b)
+  -- a sign is no name
+  stands_free : (c : ℕ) (rest : List ℕ) → nat_eq c 95 ≡ false → nat_eq c 32 ≡ false → is_word (c ∷ rest) ≡ false → StandsFree p own (c ∷ rest)
+  stands_free c rest one two other = (functions, no_name)
+    where
+      functions : (k : ℕ) → k < g → function_name (module_names m) k ≢ c ∷ rest
+      functions k lt = let a = element m.functions k (within k lt) in no_word (function_item m k a.0) (c ∷ rest) (function_there m k a.0 a.1) other
+        where
+          within : (k : ℕ) → k < g → k < length m.functions
+          within k lt = let at = slice_get_within m.functions g f found in omega (arith, lt, at)
+
+      no_name : IsNoName p own (c ∷ rest)
+      no_name (FixedKey (ArgumentName i)) is e =
+          let a = element f.arguments.items i (subst (λ n. i < n) (mapped_length (λ a. value_type (word_at m.types a.ty)) f.arguments.items) is) in
+          no_word (argument_item m g i a.0) (c ∷ rest) (argument_there m g f i a.0 found a.1) other e
+      no_name (FixedKey (LocalName i)) is e =
+          let a = element f.local_variables i (subst (λ n. i < n) (mapped_length (λ l. l.init) f.local_variables) is) in
+          no_word (local_item g i a.0) (c ∷ rest) (local_stands wgsl_names m g f i a.0 found a.1) other e
+      no_name (FixedKey (ConstantName i)) is e = none_listed i p.constant_types constants is
+      no_name (FixedKey (GlobalName i)) is e = none_listed i p.global_types globals is
+      no_name (NumberedKey h) is e = sign_not_numbered h c rest one two e
+      no_name (GivenKey k) is e = none_given k is
+
+  sign_operates : (c : ℕ) (rest : List ℕ) → is_request (c ∷ rest) ≡ false → nat_eq c 95 ≡ false → nat_eq c 32 ≡ false → is_word (c ∷ rest) ≡ false → OperatesBy p own (c ∷ rest)
+  sign_operates c rest asks one two other = (asks, stands_free c rest one two other)
+
+  words_at : (h : ℕ) (e : ir.Expression) → slice_get f.expressions h ≡ Some e → WordFits p own (Some (expression_shape e))
+  words_at h (expression.Binary op left right) at = let o = binary_at m.types f es h op left right fits at in by op o.word o.spelled
+    where
+      by : (op : BinaryOperator) (w : List ℕ) → operator_word op ≡ Some w → WordFits p own (Some (binary_shape (operator_form op) left right))
+      by operator.Add w e = sign_operates 43 [] no_request_plus refl refl refl
+      by operator.Subtract w e = sign_operates 45 [] no_request_minus refl refl refl
+      by operator.Multiply w e = sign_operates 42 [] no_request_star refl refl refl
+      by _ w e = absurd (cc)
+  words_at h _ at = tt
+
+  -- ---- statements
+  return_at : (v : Option ℕ) → return_fits m.types es f.result v ≡ true → ReturnFits shape v
+  return_at None fit = tt
+  return_at (Some h) fit =
+      let r = returned_at m.types f es h (function_fits_expressions m.types f es fits) f.result refl fit in
+      ap (option_map (λ a. value_type (word_at m.types a.ty))) r.answers ∙ ap (λ w. Some (value_type w)) r.alike.second ∙ ap Some (sym (typed_as h r.alike.word r.alike.first))
+
+  regular_at : (callees : List shapes.Function) (st : StatementTree) → statement_fits m.types es f.result st ≡ true → IsRegular p callees own (statement_shape st)
+  regular_at callees (simple (emit first last)) fit = tt
+  regular_at callees (simple (store pointer value)) fit = tt
+  regular_at callees (simple (return v)) fit = return_at v fit
+  regular_at callees _ fit = tt
+
+  regular : (callees : List shapes.Function) (b : BlockTree) → block_fits m.types es f.result b ≡ true → AreRegular p callees own (statements_shape b)
+  regular callees no_statements fit = tt
+  regular callees (statement st b) fit = (
+    regular_at callees st (and_left (statement_fits m.types es f.result st) (block_fits m.types es f.result b) fit),
+    regular callees b (and_right (statement_fits m.types es f.result st) (block_fits m.types es f.result b) fit),
+  )
+
+  -- ---- names
+  pub distinct : NamesAreCounted m → AreDistinct p own
+  distinct counted a b is_a is_b e = apart a b is_a is_b e
+    where
+      argument_in : (i : ℕ) → i < argument_count shape → i < length f.arguments.items
+      argument_in i lt = subst (λ n. i < n) (mapped_length (λ a. value_type (word_at m.types a.ty)) f.arguments.items) lt
+
+      local_in : (i : ℕ) → i < local_count shape → i < length f.local_variables
+      local_in i lt = subst (λ n. i < n) (mapped_length (λ l. l.init) f.local_variables) lt
+
+      one_argument : (i j : ℕ) → key.FunctionArgument g i ≡ key.FunctionArgument g j → i ≡ j
+      one_argument i j e = cc
+
+      one_local : (i j : ℕ) → key.FunctionLocal g i ≡ key.FunctionLocal g j → i ≡ j
+      one_local i j e = cc
+
+      mixed : (i j : ℕ) → key.FunctionArgument g i ≡ key.FunctionLocal g j → ⊥
+      mixed i j e = cc
+
+      mixed_keys : (i j : ℕ) → i < length f.arguments.items → j < length f.local_variables → argument_name (module_names m) g i ≡ local_name (module_names m) g j → ⊥
+      mixed_keys i j li lj e =
+          let a = element f.arguments.items i li in
+          let b = element f.local_variables j lj in
+          let same = items_tell m counted (argument_item m g i a.0) (local_item g j b.0) (argument_there m g f i a.0 found a.1) (local_stands wgsl_names m g f j b.0 found b.1) e in
+          mixed i j (ap (λ item. item.0) same)
+
+      apart : (a b : NameKey) → IsName p shape a → IsName p shape b → name_at own.names a ≡ name_at own.names b → a ≡ b
+      apart (FixedKey (ArgumentName i)) (FixedKey (ArgumentName j)) la lb e =
+          let a = element f.arguments.items i (argument_in i la) in
+          let b = element f.arguments.items j (argument_in j lb) in
+          let same = items_tell m counted (argument_item m g i a.0) (argument_item m g j b.0) (argument_there m g f i a.0 found a.1) (argument_there m g f j b.0 found b.1) e in
+          ap (λ k. FixedKey (ArgumentName k)) (one_argument i j (ap (λ item. item.0) same))
+      apart (FixedKey (LocalName i)) (FixedKey (LocalName j)) la lb e =
+          let a = element f.local_variables i (local_in i la) in
+          let b = element f.local_variables j (local_in j lb) in
+          let same = items_tell m counted (local_item g i a.0) (local_item g j b.0) (local_stands wgsl_names m g f i a.0 found a.1) (local_stands wgsl_names m g f j b.0 found b.1) e in
+          ap (λ k. FixedKey (LocalName k)) (one_local i j (ap (λ item. item.0) same))
+      apart (FixedKey (ArgumentName i)) (FixedKey (LocalName j)) la lb e = absurd (mixed_keys i j (argument_in i la) (local_in j lb) e)
+      apart (FixedKey (LocalName i)) (FixedKey (ArgumentName j)) la lb e = absurd (mixed_keys j i (argument_in j lb) (local_in i la) (sym e))
+      apart (FixedKey (ArgumentName i)) (NumberedKey h) la lb e =
+          let a = element f.arguments.items i (argument_in i la) in absurd (item_not_numbered m (argument_item m g i a.0) h (argument_there m g f i a.0 found a.1) e)
+      apart (NumberedKey h) (FixedKey (ArgumentName i)) la lb e =
+          let a = element f.arguments.items i (argument_in i lb) in absurd (item_not_numbered m (argument_item m g i a.0) h (argument_there m g f i a.0 found a.1) (sym e))
+      apart (FixedKey (LocalName i)) (NumberedKey h) la lb e =
+          let a = element f.local_variables i (local_in i la) in absurd (item_not_numbered m (local_item g i a.0) h (local_stands wgsl_names m g f i a.0 found a.1) e)
+      apart (NumberedKey h) (FixedKey (LocalName i)) la lb e =
+          let a = element f.local_variables i (local_in i lb) in absurd (item_not_numbered m (local_item g i a.0) h (local_stands wgsl_names m g f i a.0 found a.1) (sym e))
+      apart (NumberedKey h) (NumberedKey k) la lb e = ap NumberedKey (numbered_distinct h k e)
+      apart (GivenKey k) y la lb e = absurd (none_given k la)
+      apart (FixedKey (ConstantName i)) y la lb e = absurd (none_listed i p.constant_types constants la)
+      apart (FixedKey (GlobalName i)) y la lb e = absurd (none_listed i p.global_types globals la)
+      apart x (GivenKey k) la lb e = absurd (none_given k lb)
+      apart x (FixedKey (ConstantName i)) la lb e = absurd (none_listed i p.constant_types constants lb)
+      apart x (FixedKey (GlobalName i)) la lb e = absurd (none_listed i p.global_types globals lb)
+
+  -- a function whose handles are in scope where they are used meets what is asked of its shape
+  pub function_fits_shape : (callees : List shapes.Function) → length callees ≡ g → NamesAreCounted m → IsTrue (fits_function own) → FunctionFits p (outer_names (module_names m)) callees own
+  function_fits_shape callees earlier counted scope = record {
+    outer = refl;
+    earlier = sym earlier;
+    ordered = λ h. at_any h (λ o. AllBelow h (operands_of o)) tt (ordered_at h);
+    words = λ h. at_any h (λ o. WordFits p own o) tt (words_at h);
+    leaves = λ h. at_any h (λ o. LeafFits p shape (handle_type shape h) o) tt (leaf_at h);
+    regular = regular callees f.body (function_fits_block m.types f es fits);
+    distinct = distinct counted;
+    scope = scope;
+  }

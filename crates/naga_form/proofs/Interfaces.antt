@@ -1,5 +1,5 @@
 -- The program that is written for a module has the module's interface.
-use Rattle.std.proofs.Common.{◌≡◌, ℕ, ◌+◌, Bool, List, [], ◌∷◌, map, length, pred, Option, Some, None, refl, ap}
+use Rattle.std.proofs.Common.{[], ◌≡◌, ℕ, ◌+◌, Bool, List, ◌∷◌, map, length, pred, Option, Some, None, refl, ap}
 use Rattle.naga_ir.specs.declared.module.Function as ir_function
 use Rattle.naga_ir.specs.declared.module.FunctionArgument.{FunctionArgument}
 use Rattle.naga_ir.specs.declared.module.FunctionResult.{FunctionResult}
@@ -9,10 +9,9 @@ use Rattle.naga_info.specs.declared.info.ExpressionInfo.{ExpressionInfo}
 use Rattle.naga_info.specs.declared.info.ModuleInfo.{ModuleInfo}
 use Rattle.naga_names.specs.Reset.{NameMap}
 use Rattle.naga_form.specs.Names.{module_names}
-use Rattle.naga_form.specs.Form.{parameters_form, result_form, function_form, functions_form}
-use Rattle.naga_form.specs.Lines.{straight_functions, straight_program}
+use Rattle.naga_form.specs.Form.{parameters_form, result_form, function_form, functions_form, written_program}
 use Rattle.naga_form.specs.Interface.{parameter_read, result_read, function_interface_read, passed, result_passed, function_interface, function_interfaces}
-use Rattle.naga_form.specs.Faithful.{written_program, HasInterfaceOf}
+use Rattle.naga_form.specs.Faithful.{HasInterfaceOf}
 
 parameters_passed : (names : NameMap) (types : List Type_) (g n : ℕ) (args : List FunctionArgument) → map parameter_read (parameters_form names types g n args) ≡ map (λ a. passed types a.ty) args
 parameters_passed names types g n [] = refl
@@ -22,41 +21,26 @@ results_passed : (types : List Type_) (r : Option FunctionResult) → result_rea
 results_passed types None = refl
 results_passed types (Some r) = refl
 
-function_interface_form : (names : NameMap) (types : List Type_) (g : ℕ) (f : ir_function.Function) → function_interface_read (function_form names types g f) ≡ function_interface names types g f
-function_interface_form names types g f = λ i. record {
+function_interface_form : (explicit : Bool) (names : NameMap) (types : List Type_) (g : ℕ) (f : ir_function.Function) (es : List ExpressionInfo) → function_interface_read (function_form explicit names types g f es) ≡ function_interface names types g f
+function_interface_form explicit names types g f es = λ i. record {
   name = (function_interface names types g f).name;
   arguments = parameters_passed names types g 0 f.arguments.items i;
   result = results_passed types f.result i;
 }
 
-function_interfaces_form : (names : NameMap) (types : List Type_) (g : ℕ) (fs : List ir_function.Function) → map function_interface_read (functions_form names types g fs) ≡ function_interfaces names types g fs
-function_interfaces_form names types g [] = refl
-function_interfaces_form names types g (f ∷ more) = λ i. function_interface_form names types g f i ∷ function_interfaces_form names types (g + 1) more i
+function_interfaces_form : (explicit : Bool) (names : NameMap) (types : List Type_) (g : ℕ) (fs : List ir_function.Function) (ess : List (List ExpressionInfo)) → length fs ≡ length ess → map function_interface_read (functions_form explicit names types g fs ess) ≡ function_interfaces names types g fs
+function_interfaces_form explicit names types g [] [] size = refl
+function_interfaces_form explicit names types g [] (es ∷ ess) size = refl
+function_interfaces_form explicit names types g (f ∷ fs) [] size = absurd (cc)
+function_interfaces_form explicit names types g (f ∷ fs) (es ∷ ess) size = λ i. function_interface_form explicit names types g f es i ∷ function_interfaces_form explicit names types (g + 1) fs ess (ap pred size) i
 
-pub has_interface : (m : Module) (info : ModuleInfo) (explicit : Bool) → HasInterfaceOf m (written_program m info explicit)
-has_interface m info explicit = λ i. record {
+pub has_interface : (m : Module) (info : ModuleInfo) (explicit : Bool) → length m.functions ≡ length info.functions.items → HasInterfaceOf m (written_program m info explicit)
+has_interface m info explicit size = λ i. record {
   enables = [];
   structs = [];
   constants = [];
   overrides = [];
   globals = [];
-  functions = function_interfaces_form (module_names m) m.types 0 m.functions i;
-  entry_points = [];
-}
-
-straight_interfaces : (explicit : Bool) (names : NameMap) (types : List Type_) (g : ℕ) (fs : List ir_function.Function) (ess : List (List ExpressionInfo)) → length fs ≡ length ess → map function_interface_read (straight_functions explicit names types g fs ess) ≡ function_interfaces names types g fs
-straight_interfaces explicit names types g [] [] size = refl
-straight_interfaces explicit names types g [] (es ∷ ess) size = refl
-straight_interfaces explicit names types g (f ∷ fs) [] size = absurd (cc)
-straight_interfaces explicit names types g (f ∷ fs) (es ∷ ess) size = λ i. function_interface_form names types g f i ∷ straight_interfaces explicit names types (g + 1) fs ess (ap pred size) i
-
-pub straight_interface : (m : Module) (info : ModuleInfo) (explicit : Bool) → length m.functions ≡ length info.functions.items → HasInterfaceOf m (straight_program explicit m info)
-straight_interface m info explicit size = λ i. record {
-  enables = [];
-  structs = [];
-  constants = [];
-  overrides = [];
-  globals = [];
-  functions = straight_interfaces explicit (module_names m) m.types 0 m.functions info.functions.items size i;
+  functions = function_interfaces_form explicit (module_names m) m.types 0 m.functions info.functions.items size i;
   entry_points = [];
 }

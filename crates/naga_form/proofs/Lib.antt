@@ -5,8 +5,5 @@ pub mod Abstractions
 pub mod Fits
 pub mod Named
 pub mod Programs
-pub mod Straight
-pub mod StraightFits
-pub mod StraightRuns
-pub mod StraightPrograms
 pub mod Resolutions
+pub mod Bindings

@@ -1,5 +1,5 @@
 -- The names of a module's items: identifiers of WGSL, no two alike, and none that a handle has.
-use Rattle.std.proofs.Common.{◌≡◌, ◌≢◌, ℕ, suc, zero, Bool, true, false, not, ◌&&◌, ◌||◌, ◌<◌, ◌^◌, List, [], ◌∷◌, ◌++◌, map, length, take, drop, codes, decimal, replicate, nat_lt, Some, None, refl, sym, ap, subst, ◌∙◌, true≢false, nat_eq}
+use Rattle.std.proofs.Common.{[], ◌≡◌, ◌≢◌, ℕ, suc, zero, Bool, true, false, not, ◌&&◌, ◌||◌, ◌<◌, ◌^◌, List, ◌∷◌, ◌++◌, map, length, take, drop, codes, decimal, replicate, nat_lt, Some, None, refl, sym, ap, subst, ◌∙◌, true≢false, nat_eq}
 use Rattle.std.specs.Prelude.{slice_get, unwrap_or, ◌==◌}
 use Rattle.std.specs.FinSet as set
 use Rattle.std.specs.Bool.{one_answer}

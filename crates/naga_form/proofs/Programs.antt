@@ -1,10 +1,10 @@
 -- What is written for a module is a program of the grammar.
-use Rattle.std.proofs.Common.{◌≡◌, ℕ, suc, ◌+◌, ◌<◌, ◌^◌, Bool, true, false, pos, negsuc, List, [], ◌∷◌, length, Option, Some, None, nat_lt, refl, sym, subst, arith, codes}
-use Rattle.std.specs.Prelude.{IsTrue, slice_get, unwrap_or, ◌==◌, if◌then◌else◌}
+use Rattle.std.proofs.Common.{[], ◌≡◌, ℕ, suc, ◌+◌, ◌<◌, ◌^◌, Bool, true, false, pos, negsuc, List, ◌∷◌, length, Option, Some, None, nat_lt, refl, sym, subst, arith, codes, zero, ◌-◌, ◌≤◌, not, ◌&&◌, ◌||◌, ◌++◌, decimal, nat_eq, nat_le, ap, ◌∙◌, true≢false}
+use Rattle.std.specs.Prelude.{IsTrue, slice_get, unwrap_or, ◌==◌, if◌then◌else◌, get_or, cond}
 use Rattle.std.specs.List.{list_all}
-use Rattle.std.specs.Option.{is_some, option_map, option_and_then, option_map_or}
-use Rattle.std.proofs.lemmas.Bool.{eqb-false, ltb-true}
-use Rattle.naga_ir.specs.StatementTree.{BlockTree, no_statements, statement}
+use Rattle.std.specs.Option.{is_some, option_map, option_and_then}
+use Rattle.std.proofs.lemmas.Bool.{eqb-false, ltb-true, leb-true, lt-ltb}
+use Rattle.naga_ir.specs.StatementTree.{BlockTree, no_statements, statement, emit, store, return, StatementTree, simple}
 use Rattle.naga_ir.specs.declared.expression.Expression as ir
 use Rattle.naga_ir.specs.declared.expression.Literal as ir_literal
 use Rattle.naga_ir.specs.declared.expression.Literal.TheVariants as literal
@@ -19,43 +19,60 @@ use Rattle.naga_ir.specs.declared.types.TypeInner.TheVariants as inner
 use Rattle.naga_ir.specs.declared.types.Type_.{Type_}
 use Rattle.naga_info.specs.declared.info.ExpressionInfo.{ExpressionInfo}
 use Rattle.naga_info.specs.declared.info.ModuleInfo.{ModuleInfo}
-use Rattle.naga_info.specs.Types.{word_of_width, word_of_type, literal_word, literal_is_within, spelling_of, is_alike}
-use Rattle.naga_info.specs.Accepted.{is_scalar_type, is_below, is_accepted, function_fits, functions_fit, statement_fits, return_fits, block_fits}
-use Rattle.naga_info.specs.Part.{expression_is_written, block_is_written, statement_is_written, function_is_written, is_written_so_far}
-use Rattle.naga_info.proofs.Accepting.{accepted_parts}
-use Rattle.wgsl_text.specs.Words.{IsIdentifier, is_reserved}
-use Rattle.wgsl_text.specs.Tree.{Constant as ConstantOf, Truth, Named, LeastInteger, Suffixed, LeastLong}
+use Rattle.naga_info.specs.Types.{word_of_width, word_of_type, literal_word, literal_is_within, spelling_of, is_alike, scalar_word, word_at}
+use Rattle.naga_info.specs.Accepted.{is_scalar_type, is_below, is_accepted, function_fits, functions_fit, local_fits}
+use Rattle.naga_info.proofs.Accepting.{accepted_parts, function_fits_word_at, function_fits_expressions, function_fits_parts, expressions_fit_known, local_word_at, local_fits_parts}
+use Rattle.wgsl_text.specs.Words.{IsIdentifier, is_reserved, is_letter, is_word_byte, all_word_bytes, stands_in, is_builtin}
+use Rattle.wgsl_text.specs.Tree.{LeastInteger, Suffixed, LeastLong, TypeSpecifier, Named as NamedType}
 use Rattle.wgsl_text.specs.Token.{SuffixI, SuffixLi}
 use Rattle.wgsl_text.specs.Grammar.{IsType, IsLiteral, IsExpression}
-use Rattle.wgsl_text.specs.GrammarOfLines.{IsStatement, IsStatements, IsParameter, IsResult, IsFunction, IsProgram, Each}
-use Rattle.naga_form.specs.Names.{module_names, argument_name}
+use Rattle.wgsl_text.specs.GrammarOfLines.{IsStatement, IsStatements, IsParameter, IsResult, IsFunction, IsProgram, Each, is_reference, IsValue, IsLocal}
+use Rattle.naga_form.specs.Form.{parameters_form, result_form, function_form, functions_form, pointer_form, pointer_told, inner_told, told_type, PlainForm, ValueForm, ReferenceForm, as_value, as_reference, own_plain, own_if, standing_plain, plain_below, plain_form, value_form, let_form, then_if, lets_form, return_line, line_form, lines_form, locals_form, written_program}
+use Rattle.naga_form.specs.Premises.{nothing_named, handles_are_counted}
+use Rattle.naga_form.specs.Names.{module_names, wgsl_names, numbered_text, numbered_name}
 use Rattle.naga_form.specs.Types.{type_form}
 use Rattle.naga_form.specs.Literals.{literal_form}
-use Rattle.naga_form.specs.Form.{own_form, expression_form, return_form, statements_form, parameters_form, result_form, function_form, functions_form}
-use Rattle.naga_form.specs.Faithful.{written_program}
-use Rattle.naga_form.proofs.Facts.{and_left, and_right, all_at, known_at, returned_at, is_return, IsLeaf, literal_leaf, argument_leaf, is_leaf, argument_within, FunctionFacts, function_facts}
+use Rattle.naga_form.proofs.Facts.{and_left, and_right, all_at, then_some, element}
 use Rattle.naga_form.proofs.Named.{item_is_identifier, function_item, argument_item, function_there, argument_there}
-use Rattle.naga_form.proofs.Runs.{element, functions_are_written}
+use Rattle.std.specs.Char.{is_ascii_digit}
+use Rattle.std.specs.Str.{bytes_eq}
+use Rattle.std.proofs.lemmas.Option.{slice_get_within, slice_get-map}
+use Rattle.std.proofs.lemmas.Slice.Eq.{bytes_eq-Decides}
+use Rattle.naga_ir.specs.declared.types.AddressSpace.{AddressSpace}
+use Rattle.naga_ir.specs.declared.types.AddressSpace.TheVariants as space
+use Rattle.naga_info.specs.Resolution.{inner_of}
+use Rattle.naga_names.proofs.NamedItems.{local_stands}
+use Rattle.indexmap.specs.IndexMap.{keys}
+use Rattle.naga_ir.specs.declared.expression.Expression.TheVariants as expression
+use Rattle.naga_ir.specs.declared.module.LocalVariable.{LocalVariable}
+use Rattle.naga_names.proofs.BaseShapes.{all_digits-decimal}
+use Rattle.wgsl_text.specs.Keywords.{reserved_words, builtin_words}
+use Rattle.wgsl_text.specs.Tree as tree
+use Rattle.shader_runs.specs.World.{update}
+use Rattle.shader_runs.specs.Program.{expression_of, operands_of, binds, binds_as, from}
+use Rattle.shader_runs.specs.Scope.{Standing, Absent, Barred, Everywhere, Inline, Named, Handles, Naming, bound_name, usable_all, is_pure, is_constant_below, start_standing, at_start, unbound, emitted, after_one, given_after, given_by, after_emit, after}
+use Rattle.naga_form.specs.Shapes.{expression_shape, statement_shape, function_naming}
+use Rattle.naga_form.proofs.Fits.{local_item, not_given}
 
 -- ---- types
 -- each word of a scalar type is a type
-bool_is_type : IsType (Named (codes "bool"))
+bool_is_type : IsType (NamedType (codes "bool"))
 unfolding is_reserved
 bool_is_type = record { part = record { text = refl; free = refl }; whole = refl }
 
-i32_is_type : IsType (Named (codes "i32"))
+i32_is_type : IsType (NamedType (codes "i32"))
 unfolding is_reserved
 i32_is_type = record { part = record { text = refl; free = refl }; whole = refl }
 
-i64_is_type : IsType (Named (codes "i64"))
+i64_is_type : IsType (NamedType (codes "i64"))
 unfolding is_reserved
 i64_is_type = record { part = record { text = refl; free = refl }; whole = refl }
 
-u32_is_type : IsType (Named (codes "u32"))
+u32_is_type : IsType (NamedType (codes "u32"))
 unfolding is_reserved
 u32_is_type = record { part = record { text = refl; free = refl }; whole = refl }
 
-u64_is_type : IsType (Named (codes "u64"))
+u64_is_type : IsType (NamedType (codes "u64"))
 unfolding is_reserved
 u64_is_type = record { part = record { text = refl; free = refl }; whole = refl }
 
@@ -76,10 +93,10 @@ module _ (P : List ℕ → Type 0) (of_bool : P (codes "bool")) (of_i32 : P (cod
   of_each_width kind.Uint w e = by_width (w == 4) (w == 8) (codes "u32") (codes "u64") of_u32 of_u64 e
   of_each_width _ w e = absurd (cc)
 
-pub width_is_type : (k : ScalarKind) (w : ℕ) → IsTrue (is_some (word_of_width k w)) → IsType (Named (unwrap_or (word_of_width k w) []))
-width_is_type = of_each_width (λ w. IsType (Named w)) bool_is_type i32_is_type i64_is_type u32_is_type u64_is_type
+pub width_is_type : (k : ScalarKind) (w : ℕ) → IsTrue (is_some (word_of_width k w)) → IsType (NamedType (unwrap_or (word_of_width k w) []))
+width_is_type = of_each_width (λ w. IsType (NamedType w)) bool_is_type i32_is_type i64_is_type u32_is_type u64_is_type
 
-inner_is_type : (t : TypeInner) → IsTrue (is_some (word_of_type t)) → IsType (Named (unwrap_or (word_of_type t) []))
+inner_is_type : (t : TypeInner) → IsTrue (is_some (word_of_type t)) → IsType (NamedType (unwrap_or (word_of_type t) []))
 inner_is_type (inner.Scalar s) e = width_is_type s.kind s.width e
 inner_is_type _ e = absurd (cc)
 
@@ -87,7 +104,7 @@ module _ (types : List Type_) (scalars : IsTrue (list_all is_scalar_type types))
   pub is_type_at : (ty : ℕ) → ty < length types → IsType (type_form types ty)
   is_type_at ty lt =
       let t = element types ty lt in
-      subst (λ o. IsType (Named (unwrap_or (option_and_then (λ t. word_of_type t.inner) o) []))) (sym t.1) (inner_is_type t.0.inner (all_at is_scalar_type types ty t.0 scalars t.1))
+      subst (λ o. IsType (NamedType (unwrap_or (option_and_then (λ t. word_of_type t.inner) o) []))) (sym t.1) (inner_is_type t.0.inner (all_at is_scalar_type types ty t.0 scalars t.1))
 
 -- ---- literals
 least_or : (n : ℕ) (b : Bool) → (n == 2147483647) ≡ b → n < 2 ^ 31 → IsLiteral (if b then LeastInteger else Suffixed true (suc n) SuffixI)
@@ -108,79 +125,325 @@ literal_is (literal.I64 (negsuc n)) w e = least_long_or n (n == 9223372036854775
 literal_is (literal.U64 n) w e = ltb-true n (2 ^ 64) e
 literal_is _ w e = absurd (cc)
 
+-- ---- numbered names
+digits_are_bytes : (w : List ℕ) → list_all is_ascii_digit w ≡ true → all_word_bytes w ≡ true
+digits_are_bytes [] e = refl
+digits_are_bytes (c ∷ w) e = both (is_word_byte c) (all_word_bytes w) (behind (is_letter c) (is_ascii_digit c) (and_left (is_ascii_digit c) (list_all is_ascii_digit w) e)) (digits_are_bytes w (and_right (is_ascii_digit c) (list_all is_ascii_digit w) e))
+  where
+    both : (a b : Bool) → a ≡ true → b ≡ true → (a && b) ≡ true
+    both true b e f = f
+    both false b e f = e
+
+    behind : (a b : Bool) → b ≡ true → (a || b) ≡ true
+    behind true b e = refl
+    behind false b e = e
+
+-- a word that begins with `_e`
+abbrev begins_numbered : List ℕ → Bool
+begins_numbered w = nat_eq (get_or w 0 0) 95 && nat_eq (get_or w 1 0) 101
+
+none_begins : (ws : List (List ℕ)) (d : List ℕ) → list_all (λ w. not (begins_numbered w)) ws ≡ true → stands_in ws (codes "_e" ++ d) ≡ false
+none_begins [] d e = refl
+none_begins (w ∷ ws) d e =
+    neither (bytes_eq w (codes "_e" ++ d)) (stands_in ws (codes "_e" ++ d)) (other (bytes_eq w (codes "_e" ++ d)) refl) (none_begins ws d (and_right (not (begins_numbered w)) (list_all (λ w. not (begins_numbered w)) ws) e))
+  where
+    neither : (a b : Bool) → a ≡ false → b ≡ false → (a || b) ≡ false
+    neither true b e f = e
+    neither false b e f = f
+
+    other : (b : Bool) → bytes_eq w (codes "_e" ++ d) ≡ b → b ≡ false
+    other false is = refl
+    other true is = absurd (true≢false (sym (and_left (not (begins_numbered w)) (list_all (λ w. not (begins_numbered w)) ws) e) ∙ ap (λ w. not (begins_numbered w)) ((bytes_eq-Decides w (codes "_e" ++ d)).0 is)))
+
+not_reserved : (d : List ℕ) → is_reserved (codes "_e" ++ d) ≡ false
+unfolding is_reserved reserved_words
+not_reserved d = none_begins reserved_words d refl
+
+not_builtin : (d : List ℕ) → is_builtin (codes "_e" ++ d) ≡ false
+unfolding is_builtin builtin_words
+not_builtin d = none_begins builtin_words d refl
+
+handle_name_is : (h : ℕ) → IsIdentifier (codes "_e" ++ decimal h)
+handle_name_is h = record {
+  word = record { text = digits_are_bytes (decimal h) (all_digits-decimal h); free = not_reserved (decimal h) };
+  own = not_builtin (decimal h);
+}
+
+pub numbered_is : (h : ℕ) → h < 2 ^ 64 → IsIdentifier (numbered_name h)
+unfolding numbered_name
+numbered_is h lt = subst (λ b. IsIdentifier (numbered_text b h)) (sym (lt-ltb h (2 ^ 64) lt)) (handle_name_is h)
+
+-- ---- the types that `let`s tell
+bool_pointer : IsType (pointer_form (codes "bool"))
+unfolding is_reserved
+bool_pointer = record { part = (refl, (record { text = refl; free = refl }, (record { text = refl; free = refl }, tt))); whole = refl }
+
+i32_pointer : IsType (pointer_form (codes "i32"))
+unfolding is_reserved
+i32_pointer = record { part = (refl, (record { text = refl; free = refl }, (record { text = refl; free = refl }, tt))); whole = refl }
+
+i64_pointer : IsType (pointer_form (codes "i64"))
+unfolding is_reserved
+i64_pointer = record { part = (refl, (record { text = refl; free = refl }, (record { text = refl; free = refl }, tt))); whole = refl }
+
+u32_pointer : IsType (pointer_form (codes "u32"))
+unfolding is_reserved
+u32_pointer = record { part = (refl, (record { text = refl; free = refl }, (record { text = refl; free = refl }, tt))); whole = refl }
+
+u64_pointer : IsType (pointer_form (codes "u64"))
+unfolding is_reserved
+u64_pointer = record { part = (refl, (record { text = refl; free = refl }, (record { text = refl; free = refl }, tt))); whole = refl }
+
+-- what holds of a scalar's word holds of the word that is found
+module _ (P : List ℕ → Type 0) (each : (k : ScalarKind) (w : ℕ) → IsTrue (is_some (word_of_width k w)) → P (unwrap_or (word_of_width k w) [])) where
+  of_word : (k : ScalarKind) (w : ℕ) (x : List ℕ) → word_of_width k w ≡ Some x → P x
+  of_word k w x is = subst (λ o. P (unwrap_or o [])) is (each k w (ap is_some is))
+
+  of_type : (t : TypeInner) (x : List ℕ) → word_of_type t ≡ Some x → P x
+  of_type (inner.Scalar s) x is = of_word s.kind s.width x is
+  of_type _ x is = absurd (cc)
+
+pointers_are : (k : ScalarKind) (w : ℕ) → IsTrue (is_some (word_of_width k w)) → IsType (pointer_form (unwrap_or (word_of_width k w) []))
+pointers_are = of_each_width (λ w. IsType (pointer_form w)) bool_pointer i32_pointer i64_pointer u32_pointer u64_pointer
+
+inner_told_is : (types : List Type_) (i : TypeInner) (t : TypeSpecifier) → inner_told types i ≡ Some t → IsType t
+inner_told_is types (inner.Scalar s) t is = by (scalar_word s) refl is
+  where
+    by : (o : Option (List ℕ)) → scalar_word s ≡ o → option_map NamedType o ≡ Some t → IsType t
+    by None at e = absurd (cc)
+    by (Some w) at e = subst IsType (ap (λ o. unwrap_or o t) e) (of_word (λ w. IsType (NamedType w)) width_is_type s.kind s.width w at)
+inner_told_is types (inner.Pointer base a) t is = by a (word_at types base) refl is
+  where
+    by : (a : AddressSpace) (o : Option (List ℕ)) → word_at types base ≡ o → pointer_told a o ≡ Some t → IsType t
+    by space.Function None at e = absurd (cc)
+    by space.Function (Some w) at e =
+        let ty = then_some (λ t. word_of_type t.inner) (slice_get types base) w at in
+        subst IsType (ap (λ o. unwrap_or o t) e) (of_type (λ w. IsType (pointer_form w)) pointers_are ty.0.inner w ty.2)
+    by _ o at e = absurd (cc)
+inner_told_is types _ t is = absurd (cc)
+
+pub told_is : (explicit : Bool) (types : List Type_) (es : List ExpressionInfo) (h : ℕ) (t : TypeSpecifier) → told_type explicit types es h ≡ Some t → IsType t
+told_is true types es h t is =
+    let e = then_some (λ e. option_and_then (inner_told types) (inner_of e.ty types)) (slice_get es h) t is in
+    let i = then_some (inner_told types) (inner_of e.0.ty types) t e.2 in
+    inner_told_is types i.0 t i.2
+told_is false types es h t is = absurd (cc)
+
 -- ---- functions
-module _ (m : Module) (g : ℕ) (f : ir_function.Function) (found : slice_get m.functions g ≡ Some f) (es : List ExpressionInfo) (facts : FunctionFacts m.types f es) (scalars : IsTrue (list_all is_scalar_type m.types)) where
-  argument_is : (n : ℕ) → n < length f.arguments.items → IsIdentifier (argument_name (module_names m) g n)
-  argument_is n lt = let a = element f.arguments.items n lt in item_is_identifier m (argument_item m g n a.0) (argument_there m g f n a.0 found a.1)
+-- a plain form of the grammar
+abbrev IsPlainForm : PlainForm → Type 0
+IsPlainForm (ValueForm e) = IsExpression e
+IsPlainForm (ReferenceForm e) = IsExpression e × IsTrue (is_reference e)
 
-  leaf_is : (h : ℕ) (e : ir.Expression) → slice_get f.expressions h ≡ Some e → IsLeaf e → IsTrue (expression_is_written e) → IsExpression (own_form (module_names m) g e)
-  leaf_is h _ there (literal_leaf v) written =
-      let k = known_at m.types f f.expressions es h _ facts.known there in
-      literal_is v written (and_right (is_alike (spelling_of m.types k.known.ty) (literal_word v)) (literal_is_within v) k.fits)
-  leaf_is h _ there (argument_leaf n) written = argument_is n (argument_within m.types f es facts.known h n there)
+value_is_one : (p : PlainForm) → IsPlainForm p → IsExpression (as_value p)
+value_is_one (ValueForm e) is = is
+value_is_one (ReferenceForm e) is = is.0
 
-  expression_is : (h : ℕ) (e : ir.Expression) → slice_get f.expressions h ≡ Some e → IsExpression (expression_form (module_names m) g f.expressions h)
-  expression_is h e there =
-      let written = all_at expression_is_written f.expressions h e facts.written there in
-      subst (λ o. IsExpression (option_map_or (own_form (module_names m) g) o (ConstantOf (Truth false)))) (sym there) (leaf_is h e there (is_leaf e written) written)
+reference_is_one : (p : PlainForm) → IsPlainForm p → IsExpression (as_reference p) × IsTrue (is_reference (as_reference p))
+reference_is_one (ValueForm e) is = (is, refl)
+reference_is_one (ReferenceForm e) is = is
 
-  return_is : (v : Option ℕ) → IsTrue (return_fits m.types es f.result v) → IsStatement (return_form (module_names m) g f.expressions v)
-  return_is None fits = tt
-  return_is (Some h) fits = let r = returned_at m.types f es h facts.known f.result refl fits in expression_is h r.expression r.there
+-- the name of a standing, if it has one
+abbrev name_in_scope : List ℕ → Standing → List ℕ
+name_in_scope y (Named x) = x
+name_in_scope y _ = y
 
-  statements_are : (b : BlockTree) → IsTrue (block_fits m.types es f.result b) → IsTrue (block_is_written b) → IsStatements (statements_form (module_names m) g f.expressions b)
-  statements_are no_statements fits returns = tt
-  statements_are (statement s b) fits returns =
-      let r = is_return s (and_left (statement_is_written s) (block_is_written b) returns) in
-      let rest = statements_are b (and_right (statement_fits m.types es f.result s) (block_fits m.types es f.result b) fits) (and_right (statement_is_written s) (block_is_written b) returns) in
-      let v = return_is r.0 (subst (λ s. IsTrue (statement_fits m.types es f.result s)) r.1 (and_left (statement_fits m.types es f.result s) (block_fits m.types es f.result b) fits)) in
-      subst (λ s. IsStatements (statements_form (module_names m) g f.expressions (statement s b))) (sym r.1) (v, rest)
+-- the names in scope are identifiers
+abbrev NamesAre : Handles → Type 0
+NamesAre s = (h : ℕ) (x : List ℕ) → s h ≡ Named x → IsIdentifier x
+
+module _ (m : Module) (g : ℕ) (f : ir_function.Function) (found : slice_get m.functions g ≡ Some f) (es : List ExpressionInfo) (fits : function_fits m.types f es ≡ true) (unnamed : IsTrue (length (keys f.named_expressions) == 0)) (scalars : list_all is_scalar_type m.types ≡ true) (few : length f.expressions ≤ 2 ^ 64) where
+  abbrev own : Naming
+  own = function_naming (module_names m) m.types g f es
+
+  own_is : (operand : ℕ → PlainForm) → ((x : ℕ) → IsPlainForm (operand x)) → (h : ℕ) (e : ir.Expression) → slice_get f.expressions h ≡ Some e → IsPlainForm (own_plain own operand e)
+  own_is operand all h (expression.Literal v) at =
+      let w = function_fits_word_at m.types f es h (expression.Literal v) fits at in
+      let k = expressions_fit_known m.types f f.expressions es h (expression.Literal v) (function_fits_expressions m.types f es fits) at in
+      literal_is v (ap is_some w.2) (and_right (is_alike (spelling_of m.types k.0.ty) (literal_word v)) (literal_is_within v) k.2)
+  own_is operand all h (expression.FunctionArgument n) at =
+      let w = function_fits_word_at m.types f es h (expression.FunctionArgument n) fits at in
+      let a = then_some (λ a. word_at m.types a.ty) (slice_get f.arguments.items n) w.0 w.2 in
+      item_is_identifier m (argument_item m g n a.0) (argument_there m g f n a.0 found a.1)
+  own_is operand all h (expression.LocalVariable v) at =
+      let l = local_word_at m.types f es h v fits at in
+      (item_is_identifier m (local_item g v l.0) (local_stands wgsl_names m g f v l.0 found l.2), refl)
+  own_is operand all h (expression.Load q) at = (reference_is_one (operand q) (all q)).0
+  own_is operand all h (expression.Binary op left right) at = (value_is_one (operand left) (all left), value_is_one (operand right) (all right))
+  own_is operand all h _ at = tt
+
+  own_if_is : (operand : ℕ → PlainForm) → ((x : ℕ) → IsPlainForm (operand x)) → (h : ℕ) (o : Option ir.Expression) → slice_get f.expressions h ≡ o → IsPlainForm (own_if own operand o)
+  own_if_is operand all h None at = tt
+  own_if_is operand all h (Some e) at = own_is operand all h e at
+
+  standing_is : (s : Standing) (p : PlainForm) → ((x : List ℕ) → s ≡ Named x → IsIdentifier x) → IsPlainForm p → IsPlainForm (standing_plain s p)
+  standing_is (Named x) p named_well is = named_well x refl
+  standing_is _ p named_well is = is
+
+  below_is : (s : Handles) → NamesAre s → (k h : ℕ) → IsPlainForm (plain_below own f.expressions s k h)
+  below_is s well zero h = tt
+  below_is s well (suc k) h = standing_is (s h) (own_if own (plain_below own f.expressions s k) (slice_get f.expressions h)) (well h) (own_if_is (plain_below own f.expressions s k) (below_is s well k) h (slice_get f.expressions h) refl)
+
+  plain_is : (s : Handles) → NamesAre s → (h : ℕ) → IsPlainForm (plain_form own f.expressions s h)
+  plain_is s well h = below_is s well (length f.expressions) h
+
+  -- a bound handle's name
+  bound_is : (k h : ℕ) → binds own.function h ≡ true → IsIdentifier (bound_name own k h)
+  bound_is k h bound = subst (λ b. IsIdentifier (cond b [] (numbered_name h))) (sym (not_given m g f found es fits unnamed (record { constant_types = []; global_types = []; functions = [] }) refl refl h)) (numbered_is h (within (slice_get f.expressions h) refl))
+    where
+      within : (o : Option ir.Expression) → slice_get f.expressions h ≡ o → h < 2 ^ 64
+      within (Some e) at = let lt = slice_get_within f.expressions h e at in omega (arith, lt, few)
+      within None at = absurd (true≢false (sym bound ∙ ap (binds_as own.function h) (slice_get-map expression_shape f.expressions h ∙ ap (option_map expression_shape) at)))
+
+  -- one more handle
+  after_one_is : (k h : ℕ) (s : Handles) → NamesAre s → NamesAre (after_one own k h s)
+  after_one_is k h s well = emitted_is (binds own.function h) refl (is_pure (expression_of own.function h)) (usable_all own.function s (operands_of (expression_of own.function h)))
+    where
+      updated : (a : Standing) → ((x : List ℕ) → a ≡ Named x → IsIdentifier x) → NamesAre (update s h a)
+      updated a here j x is = by (nat_eq j h) is
+        where
+          by : (b : Bool) → cond b a (s j) ≡ Named x → IsIdentifier x
+          by true e = here x e
+          by false e = well j x e
+
+      unbound_is : (u : Bool) (a : Standing) → ((x : List ℕ) → a ≡ Named x → IsIdentifier x) → (x : List ℕ) → unbound u a ≡ Named x → IsIdentifier x
+      unbound_is true a here x e = absurd (cc)
+      unbound_is false Absent here x e = absurd (cc)
+      unbound_is false Barred here x e = here x e
+      unbound_is false Everywhere here x e = here x e
+      unbound_is false Inline here x e = here x e
+      unbound_is false (Named y) here x e = here x e
+
+      the_name : (y x : List ℕ) → IsIdentifier y → Named y ≡ Named x → IsIdentifier x
+      the_name y x is e = subst IsIdentifier (ap (λ a. name_in_scope y a) e) is
+
+      emitted_is : (b : Bool) → binds own.function h ≡ b → (o u : Bool) → NamesAre (emitted b o u (bound_name own k h) s h)
+      emitted_is true bound o u = updated (Named (bound_name own k h)) (λ x e. the_name (bound_name own k h) x (bound_is k h bound) e)
+      emitted_is false bound true u = updated (unbound u (s h)) (unbound_is u (s h) (well h))
+      emitted_is false bound false u = well
+
+  after_emit_is : (k : ℕ) (hs : List ℕ) (s : Handles) → NamesAre s → NamesAre (after_emit own k hs s)
+  after_emit_is k [] s well = well
+  after_emit_is k (h ∷ hs) s well = after_emit_is (given_after own.function h k) hs (after_one own k h s) (after_one_is k h s well)
+
+  after_is : (k : ℕ) (st : StatementTree) (s : Handles) → NamesAre s → NamesAre (after own k (statement_shape st) s)
+  after_is k (simple (emit first last)) s well = after_emit_is k (from first (last - first)) s well
+  after_is k _ s well = well
+
+  start_is : NamesAre (at_start own.function)
+  start_is h x e = by (is_pure (expression_of own.function h) && is_constant_below own.function (length own.function.expressions) h) e
+    where
+      by : (b : Bool) → start_standing b ≡ Named x → IsIdentifier x
+      by true e = absurd (cc)
+      by false e = absurd (cc)
+
+  let_is : (told : Option TypeSpecifier) → ((t : TypeSpecifier) → told ≡ Some t → IsType t) → (x : List ℕ) (e : tree.Expression) → IsIdentifier x → IsExpression e → IsStatement (let_form told x e)
+  let_is None told_well x e name is = (name, is)
+  let_is (Some t) told_well x e name is = (name, told_well t refl, is)
+
+  lets_are : (told : ℕ → Option TypeSpecifier) → ((h : ℕ) (t : TypeSpecifier) → told h ≡ Some t → IsType t) → (k : ℕ) (hs : List ℕ) (s : Handles) → NamesAre s → (rest : tree.Statements) → IsStatements rest → IsStatements (lets_form own told f.expressions k hs s rest)
+  lets_are told told_well k [] s well rest is = is
+  lets_are told told_well k (h ∷ hs) s well rest is =
+      then_is (binds own.function h) refl (lets_are told told_well (given_after own.function h k) hs (after_one own k h s) (after_one_is k h s well) rest is)
+    where
+      e : tree.Expression
+      e = as_value (own_if own (plain_form own f.expressions s) (slice_get f.expressions h))
+
+      behind : tree.Statements
+      behind = lets_form own told f.expressions (given_after own.function h k) hs (after_one own k h s) rest
+
+      then_is : (b : Bool) → binds own.function h ≡ b → IsStatements behind → IsStatements (then_if b (let_form (told h) (bound_name own k h) e) behind)
+      then_is true bound more = (
+        let_is (told h) (told_well h) (bound_name own k h) e (bound_is k h bound) (value_is_one (own_if own (plain_form own f.expressions s) (slice_get f.expressions h)) (own_if_is (plain_form own f.expressions s) (plain_is s well) h (slice_get f.expressions h) refl)),
+        more,
+      )
+      then_is false bound more = more
+
+  return_is : (s : Handles) → NamesAre s → (v : Option ℕ) → IsStatement (return_line own f.expressions s v)
+  return_is s well None = tt
+  return_is s well (Some h) = value_is_one (plain_form own f.expressions s h) (plain_is s well h)
+
+  line_is : (told : ℕ → Option TypeSpecifier) → ((h : ℕ) (t : TypeSpecifier) → told h ≡ Some t → IsType t) → (k : ℕ) (st : StatementTree) (s : Handles) → NamesAre s → (rest : tree.Statements) → IsStatements rest → IsStatements (line_form own told f.expressions k st s rest)
+  line_is told told_well k (simple (emit first last)) s well rest is = lets_are told told_well k (from first (last - first)) s well rest is
+  line_is told told_well k (simple (store pointer value)) s well rest is =
+      let r = reference_is_one (plain_form own f.expressions s pointer) (plain_is s well pointer) in
+      ((r.0, value_is_one (plain_form own f.expressions s value) (plain_is s well value), r.1), is)
+  line_is told told_well k (simple (return v)) s well rest is = (return_is s well v, is)
+  line_is told told_well k _ s well rest is = (tt, is)
+
+  lines_are : (told : ℕ → Option TypeSpecifier) → ((h : ℕ) (t : TypeSpecifier) → told h ≡ Some t → IsType t) → (k : ℕ) (b : BlockTree) (s : Handles) → NamesAre s → IsStatements (lines_form own told f.expressions k b s)
+  lines_are told told_well k no_statements s well = tt
+  lines_are told told_well k (statement st b) s well =
+      line_is told told_well k st s well (lines_form own told f.expressions (given_by own.function (statement_shape st) k) b (after own k (statement_shape st) s))
+      (lines_are told told_well (given_by own.function (statement_shape st) k) b (after own k (statement_shape st) s) (after_is k st s well))
+
+  locals_are : (l : ℕ) (vs : List LocalVariable) → l + length vs ≡ length f.local_variables → list_all (local_fits m.types es) vs ≡ true → Each IsLocal (locals_form own m.types f.expressions l vs)
+  locals_are l [] size fit = tt
+  locals_are l (v ∷ vs) size fit =
+      let lt : l < length f.local_variables = omega (arith, size) in
+      let next : (l + 1) + length vs ≡ length f.local_variables = omega (arith, size) in
+      let here = element f.local_variables l lt in
+      let parts = local_fits_parts m.types es v (and_left (local_fits m.types es v) (list_all (local_fits m.types es) vs) fit) in (
+        record {
+          name = item_is_identifier m (local_item g l here.0) (local_stands wgsl_names m g f l here.0 found here.1);
+          type = is_type_at m.types scalars v.ty (ltb-true v.ty (length m.types) parts.0);
+          value = first_is v.init;
+        },
+        locals_are (l + 1) vs next (and_right (local_fits m.types es v) (list_all (local_fits m.types es) vs) fit),
+      )
+    where
+      first_is : (o : Option ℕ) → IsValue (option_map (value_form own f.expressions (at_start own.function)) o)
+      first_is None = tt
+      first_is (Some h) = value_is_one (plain_form own f.expressions (at_start own.function) h) (plain_is (at_start own.function) start_is h)
 
   parameters_are : (n : ℕ) (args : List FunctionArgument) → n + length args ≡ length f.arguments.items → IsTrue (list_all (λ a. nat_lt a.ty (length m.types)) args) → Each IsParameter (parameters_form (module_names m) m.types g n args)
-  parameters_are n [] size fits = tt
-  parameters_are n (a ∷ args) size fits =
+  parameters_are n [] size fit = tt
+  parameters_are n (a ∷ args) size fit =
       let lt : n < length f.arguments.items = omega (arith, size) in
       let next : (n + 1) + length args ≡ length f.arguments.items = omega (arith, size) in
-      let here = and_left (nat_lt a.ty (length m.types)) (list_all (λ a. nat_lt a.ty (length m.types)) args) fits in (
-        record { attributes = tt; binding = refl; name = argument_is n lt; type = is_type_at m.types scalars a.ty (ltb-true a.ty (length m.types) here) },
-        parameters_are (n + 1) args next (and_right (nat_lt a.ty (length m.types)) (list_all (λ a. nat_lt a.ty (length m.types)) args) fits),
+      let there = element f.arguments.items n lt in
+      let here = and_left (nat_lt a.ty (length m.types)) (list_all (λ a. nat_lt a.ty (length m.types)) args) fit in (
+        record { attributes = tt; binding = refl; name = item_is_identifier m (argument_item m g n there.0) (argument_there m g f n there.0 found there.1); type = is_type_at m.types scalars a.ty (ltb-true a.ty (length m.types) here) },
+        parameters_are (n + 1) args next (and_right (nat_lt a.ty (length m.types)) (list_all (λ a. nat_lt a.ty (length m.types)) args) fit),
       )
 
   result_is : (r : Option FunctionResult) → IsTrue (is_below (length m.types) (option_map (λ r. r.ty) r)) → IsResult (result_form m.types r)
-  result_is None fits = tt
-  result_is (Some r) fits = (tt, refl, is_type_at m.types scalars r.ty (ltb-true r.ty (length m.types) fits))
+  result_is None fit = tt
+  result_is (Some r) fit = (tt, refl, is_type_at m.types scalars r.ty (ltb-true r.ty (length m.types) fit))
 
-  function_is : IsFunction (function_form (module_names m) m.types g f)
-  function_is =
-      let signature = facts.signature in
+  function_is : (explicit : Bool) → IsFunction (function_form explicit (module_names m) m.types g f es)
+  function_is explicit =
+      let parts = function_fits_parts m.types f es fits in
       let args = list_all (λ a. nat_lt a.ty (length m.types)) f.arguments.items in
       let answer = is_below (length m.types) (option_map (λ r. r.ty) f.result) in
       let all : 0 + length f.arguments.items ≡ length f.arguments.items = omega arith in
+      let all_locals : 0 + length f.local_variables ≡ length f.local_variables = omega arith in
       record {
         name = item_is_identifier m (function_item m g f) (function_there m g f found);
-        parameters = parameters_are 0 f.arguments.items all (and_left args answer signature);
-        result = result_is f.result (and_right args answer signature);
-        locals = tt;
-        body = statements_are f.body facts.fits facts.returns;
+        parameters = parameters_are 0 f.arguments.items all (and_left args answer parts.0);
+        result = result_is f.result (and_right args answer parts.0);
+        locals = locals_are 0 f.local_variables all_locals parts.3;
+        body = lines_are (told_type explicit m.types es) (told_is explicit m.types es) 0 f.body (at_start own.function) start_is;
       }
 
-functions_are : (m : Module) (g : ℕ) (fs : List ir_function.Function) (ess : List (List ExpressionInfo)) → ((i : ℕ) (f : ir_function.Function) → slice_get fs i ≡ Some f → slice_get m.functions (g + i) ≡ Some f) → IsTrue (functions_fit m.types fs ess) → IsTrue (list_all function_is_written fs) → IsTrue (list_all is_scalar_type m.types) → Each IsFunction (functions_form (module_names m) m.types g fs)
-functions_are m g [] ess there fits written scalars = tt
-functions_are m g (f ∷ fs) [] there fits written scalars = absurd (cc)
-functions_are m g (f ∷ fs) (es ∷ ess) there fits written scalars =
-    let fit = and_left (function_fits m.types f es) (functions_fit m.types fs ess) fits in
-    let is = and_left (function_is_written f) (list_all function_is_written fs) written in
+functions_are : (explicit : Bool) (m : Module) (g : ℕ) (fs : List ir_function.Function) (ess : List (List ExpressionInfo)) → ((i : ℕ) (f : ir_function.Function) → slice_get fs i ≡ Some f → slice_get m.functions (g + i) ≡ Some f) → IsTrue (functions_fit m.types fs ess) → IsTrue (list_all (λ f. length (keys f.named_expressions) == 0) fs) → IsTrue (list_all (λ f. nat_le (length f.expressions) (2 ^ 64)) fs) → list_all is_scalar_type m.types ≡ true → Each IsFunction (functions_form explicit (module_names m) m.types g fs ess)
+functions_are explicit m g [] [] there fits unnamed few scalars = tt
+functions_are explicit m g [] (es ∷ ess) there fits unnamed few scalars = tt
+functions_are explicit m g (f ∷ fs) [] there fits unnamed few scalars = tt
+functions_are explicit m g (f ∷ fs) (es ∷ ess) there fits unnamed few scalars =
     let here : g + 0 ≡ g = omega arith in
-    let found = subst (λ h. slice_get m.functions h ≡ Some f) here (there 0 f refl) in (
-      function_is m g f found es (function_facts m.types f es fit is) scalars,
-      functions_are m (g + 1) fs ess later (and_right (function_fits m.types f es) (functions_fit m.types fs ess) fits) (and_right (function_is_written f) (list_all function_is_written fs) written) scalars,
+    let found = subst (λ h. slice_get m.functions h ≡ Some f) here (there 0 f refl) in
+    let named_none = λ (f : ir_function.Function). length (keys f.named_expressions) == 0 in
+    let counted = λ (f : ir_function.Function). nat_le (length f.expressions) (2 ^ 64) in (
+      function_is m g f found es (and_left (function_fits m.types f es) (functions_fit m.types fs ess) fits) (and_left (named_none f) (list_all named_none fs) unnamed) scalars (leb-true (length f.expressions) (2 ^ 64) (and_left (counted f) (list_all counted fs) few)) explicit,
+      functions_are explicit m (g + 1) fs ess later (and_right (function_fits m.types f es) (functions_fit m.types fs ess) fits) (and_right (named_none f) (list_all named_none fs) unnamed) (and_right (counted f) (list_all counted fs) few) scalars,
     )
   where
     later : (i : ℕ) (f1 : ir_function.Function) → slice_get fs i ≡ Some f1 → slice_get m.functions ((g + 1) + i) ≡ Some f1
     later i f1 e = let moved : g + suc i ≡ (g + 1) + i = omega arith in subst (λ h. slice_get m.functions h ≡ Some f1) moved (there (suc i) f1 e)
 
-pub is_program : (m : Module) (info : ModuleInfo) (explicit : Bool) → IsTrue (is_accepted m info) → IsTrue (is_written_so_far m) → IsProgram (written_program m info explicit)
-is_program m info explicit accepted written =
+pub is_program : (m : Module) (info : ModuleInfo) (explicit : Bool) → IsTrue (is_accepted m info) → IsTrue (nothing_named m) → IsTrue (handles_are_counted m) → IsProgram (written_program m info explicit)
+is_program m info explicit accepted unnamed few =
     let parts = accepted_parts m info accepted in
     record {
       enables = tt;
@@ -188,7 +451,7 @@ is_program m info explicit accepted written =
       constants = tt;
       overrides = tt;
       globals = tt;
-      functions = functions_are m 0 m.functions info.functions.items from_start parts.5 (functions_are_written m written) parts.1;
+      functions = functions_are explicit m 0 m.functions info.functions.items from_start parts.5 unnamed few parts.1;
       entry_points = tt;
     }
   where

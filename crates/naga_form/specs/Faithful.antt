@@ -1,5 +1,5 @@
 -- What it is for a program to be faithful to a module: it has the module's interface, and it does what the module does.
-use Rattle.std.specs.Prelude.{◌≡◌, ℕ, Bool, List, Some, IsTrue}
+use Rattle.std.specs.Prelude.{◌≡◌, ℕ, List, Some, IsTrue}
 use Rattle.naga_ir.specs.declared.module.Module.{Module}
 use Rattle.naga_info.specs.declared.info.ModuleInfo.{ModuleInfo}
 use Rattle.wgsl_text.specs.Tree.{Program}
@@ -11,14 +11,9 @@ use Rattle.shader_runs.specs.TextRun.{module_scope, follow_call}
 use Rattle.shader_runs.specs.Premises.{IsTyped, EnvironmentFits}
 use Rattle.shader_runs.specs.Correct.{KeepsTypes}
 use Rattle.naga_form.specs.Names.{module_names, function_name}
-use Rattle.naga_form.specs.Form.{program_form}
 use Rattle.naga_form.specs.Shapes.{program_shape}
 use Rattle.naga_form.specs.Abstraction.{program_read, is_request}
 use Rattle.naga_form.specs.Interface.{interface_read, module_interface}
-
--- the syntax tree that is written for a module, by what is known of it, with the types of its `let`s told or not
-abbrev pub written_program : Module → ModuleInfo → (explicit : Bool) → Program
-written_program m info explicit = program_form (module_names m) m
 
 -- The program declares what the module declares.
 abbrev pub HasInterfaceOf : Module → Program → Type 0

@@ -1,7 +1,8 @@
--- The syntax tree that is written for a module under its names, of those modules that are written so far.
-use Rattle.std.specs.Prelude.{ℕ, ◌+◌, false, List, [], ◌∷◌, Option, Some, None, slice_get}
-use Rattle.std.specs.Option.{option_map_or}
-use Rattle.naga_ir.specs.StatementTree.{return, simple, BlockTree, no_statements, statement}
+-- The syntax tree that is written for a module under its names, of those modules that are written so far, with a `let` for each emitted
+-- handle that is bound. Which handles are bound, and where their names are in scope, is what the runs say of a function's shape.
+use Rattle.std.specs.Prelude.{[], ℕ, ◌+◌, false, List, ◌∷◌, Option, Some, None, slice_get, zero, suc, ◌-◌, Bool, true, length, codes}
+use Rattle.std.specs.Option.{option_map_or, option_map, option_and_then}
+use Rattle.naga_ir.specs.StatementTree.{return, simple, BlockTree, no_statements, statement, emit, store, StatementTree}
 use Rattle.naga_ir.specs.declared.expression.Expression as ir
 use Rattle.naga_ir.specs.declared.expression.Expression.TheVariants as expression
 use Rattle.naga_ir.specs.declared.module.Function as ir_function
@@ -10,30 +11,127 @@ use Rattle.naga_ir.specs.declared.module.FunctionResult.{FunctionResult}
 use Rattle.naga_ir.specs.declared.module.Module.{Module}
 use Rattle.naga_ir.specs.declared.types.Type_.{Type_}
 use Rattle.naga_names.specs.Reset.{NameMap}
-use Rattle.wgsl_text.specs.Tree.{Truth, Expression, Constant, Name, Statement, Return, ReturnValue, Statements, NoStatements, Then, Parameter, Result, NoResult, ResultOf, Function, Program, no_declarations}
-use Rattle.naga_form.specs.Names.{function_name, argument_name}
+use Rattle.wgsl_text.specs.Tree.{Truth, Expression, Constant, Name, Statement, Return, ReturnValue, Statements, NoStatements, Then, Parameter, Result, NoResult, ResultOf, Function, Program, no_declarations, TypeSpecifier, Named as NamedType, Template, TypePart, NoParts, Binary, AddressOf, Dereference, Let, TypedLet, Assign, Block, Local}
+use Rattle.naga_form.specs.Names.{function_name, argument_name, module_names}
 use Rattle.naga_form.specs.Types.{type_form}
 use Rattle.naga_form.specs.Literals.{literal_form}
+use Rattle.naga_ir.specs.declared.module.LocalVariable.{LocalVariable}
+use Rattle.naga_ir.specs.declared.types.AddressSpace.{AddressSpace}
+use Rattle.naga_ir.specs.declared.types.AddressSpace.TheVariants as space
+use Rattle.naga_ir.specs.declared.types.TypeInner.{TypeInner}
+use Rattle.naga_ir.specs.declared.types.TypeInner.TheVariants as inner
+use Rattle.naga_info.specs.Resolution.{inner_of}
+use Rattle.naga_info.specs.Types.{scalar_word, word_at}
+use Rattle.naga_info.specs.declared.info.ExpressionInfo.{ExpressionInfo}
+use Rattle.naga_info.specs.declared.info.ModuleInfo.{ModuleInfo}
+use Rattle.shader_runs.specs.Program.{binds, from}
+use Rattle.shader_runs.specs.Scope.{Standing, Named, Handles, Naming, bound_name, at_start, given_after, given_by, after_one, after}
+use Rattle.naga_form.specs.Operators.{operator_form}
+use Rattle.naga_form.specs.Shapes.{statement_shape, function_naming}
 
--- an expression of the function with this handle: an argument's name, a literal. What is not written so far stands as `false`
-abbrev pub own_form : NameMap → ℕ → ir.Expression → Expression
-own_form names g (expression.Literal value) = Constant (literal_form value)
-own_form names g (expression.FunctionArgument number) = Name (argument_name names g number)
-own_form names g _ = Constant (Truth false)
+-- a plain form: a value or a reference
+pub data PlainForm : Type 0 where
+  ValueForm : Expression → PlainForm
+  ReferenceForm : Expression → PlainForm
 
--- the expression with this handle
-abbrev pub expression_form : NameMap → ℕ → List ir.Expression → ℕ → Expression
-expression_form names g es h = option_map_or (own_form names g) (slice_get es h) (Constant (Truth false))
+-- a reference where a value is wanted is written with `&`
+abbrev pub as_value : PlainForm → Expression
+as_value (ValueForm e) = e
+as_value (ReferenceForm e) = AddressOf e
 
-abbrev pub return_form : NameMap → ℕ → List ir.Expression → Option ℕ → Statement
-return_form names g es None = Return
-return_form names g es (Some h) = ReturnValue (expression_form names g es h)
+-- a value where a reference is wanted is written with `*`
+abbrev pub as_reference : PlainForm → Expression
+as_reference (ValueForm e) = Dereference e
+as_reference (ReferenceForm e) = e
 
--- the statements; those that are not written so far have no form
-abbrev pub statements_form : NameMap → ℕ → List ir.Expression → BlockTree → Statements
-statements_form names g es no_statements = NoStatements
-statements_form names g es (statement (simple (return value)) b) = Then (return_form names g es value) (statements_form names g es b)
-statements_form names g es (statement s b) = statements_form names g es b
+-- an expression that isn't named, over its operands' forms. What is not written so far stands as `false`
+abbrev pub own_plain : Naming → (ℕ → PlainForm) → ir.Expression → PlainForm
+own_plain n operand (expression.Literal value) = ValueForm (Constant (literal_form value))
+own_plain n operand (expression.FunctionArgument number) = ValueForm (Name (n.names.argument number))
+own_plain n operand (expression.LocalVariable handle) = ReferenceForm (Name (n.names.local_ handle))
+own_plain n operand (expression.Load pointer) = ValueForm (as_reference (operand pointer))
+own_plain n operand (expression.Binary op left right) = ValueForm (Binary (as_value (operand left)) (operator_form op) (as_value (operand right)))
+own_plain n operand _ = ValueForm (Constant (Truth false))
+
+-- the same, if there is such an expression
+abbrev pub own_if : Naming → (ℕ → PlainForm) → Option ir.Expression → PlainForm
+own_if n operand e = option_map_or (own_plain n operand) e (ValueForm (Constant (Truth false)))
+
+-- a bound handle is written as its name
+abbrev pub standing_plain : Standing → PlainForm → PlainForm
+standing_plain (Named x) own = ValueForm (Name x)
+standing_plain _ own = own
+
+-- the form of a handle below the bound
+abbrev pub plain_below : Naming → List ir.Expression → Handles → ℕ → ℕ → PlainForm
+plain_below n es s zero h = ValueForm (Constant (Truth false))
+plain_below n es s (suc k) h = standing_plain (s h) (own_if n (plain_below n es s k) (slice_get es h))
+
+-- a handle's form: its name where that is in scope, else its expression over its operands' forms
+abbrev pub plain_form : Naming → List ir.Expression → Handles → ℕ → PlainForm
+plain_form n es s h = plain_below n es s (length es) h
+
+abbrev pub value_form : Naming → List ir.Expression → Handles → ℕ → Expression
+value_form n es s h = as_value (plain_form n es s h)
+
+-- a `let`, which tells its type where one is given
+abbrev pub let_form : Option TypeSpecifier → List ℕ → Expression → Statement
+let_form None name e = Let name e
+let_form (Some t) name e = TypedLet name t e
+
+-- one more statement where a handle is bound
+abbrev pub then_if : Bool → Statement → Statements → Statements
+then_if true s rest = Then s rest
+then_if false s rest = rest
+
+-- the `let`s of emitted handles, in front of what follows; `told` is the type that a `let` tells
+abbrev pub lets_form : Naming → (told : ℕ → Option TypeSpecifier) → List ir.Expression → ℕ → List ℕ → Handles → Statements → Statements
+lets_form n told es k [] s rest = rest
+lets_form n told es k (h ∷ hs) s rest =
+    then_if (binds n.function h) (let_form (told h) (bound_name n k h) (as_value (own_if n (plain_form n es s) (slice_get es h))))
+    (lets_form n told es (given_after n.function h k) hs (after_one n k h s) rest)
+
+abbrev pub return_line : Naming → List ir.Expression → Handles → Option ℕ → Statement
+return_line n es s None = Return
+return_line n es s (Some h) = ReturnValue (value_form n es s h)
+
+-- a statement, in front of what follows. What is not written so far stands as an empty block
+abbrev pub line_form : Naming → (told : ℕ → Option TypeSpecifier) → List ir.Expression → ℕ → StatementTree → Handles → Statements → Statements
+line_form n told es k (simple (emit first last)) s rest = lets_form n told es k (from first (last - first)) s rest
+line_form n told es k (simple (store pointer value)) s rest = Then (Assign (as_reference (plain_form n es s pointer)) (value_form n es s value)) rest
+line_form n told es k (simple (return value)) s rest = Then (return_line n es s value) rest
+line_form n told es k _ s rest = Then (Block NoStatements) rest
+
+-- statements in order: k names were given by front ends, s are the handles in scope
+abbrev pub lines_form : Naming → (told : ℕ → Option TypeSpecifier) → List ir.Expression → ℕ → BlockTree → Handles → Statements
+lines_form n told es k no_statements s = NoStatements
+lines_form n told es k (statement st b) s =
+    line_form n told es k st s (lines_form n told es (given_by n.function (statement_shape st) k) b (after n k (statement_shape st) s))
+
+-- the locals from this one on, with their first values
+abbrev pub locals_form : Naming → List Type_ → List ir.Expression → ℕ → List LocalVariable → List Local
+locals_form n types es l [] = []
+locals_form n types es l (v ∷ more) =
+    record { name = n.names.local_ l; type = type_form types v.ty; value = option_map (value_form n es (at_start n.function)) v.init } ∷ locals_form n types es (l + 1) more
+
+-- a pointer to a local of the type with this word
+abbrev pub pointer_form : List ℕ → TypeSpecifier
+pointer_form word = Template (codes "ptr") (TypePart (NamedType (codes "function")) (TypePart (NamedType word) NoParts))
+
+abbrev pub pointer_told : AddressSpace → Option (List ℕ) → Option TypeSpecifier
+pointer_told space.Function word = option_map pointer_form word
+pointer_told _ word = None
+
+-- how a type is told, of those that are spelled so far
+abbrev pub inner_told : List Type_ → TypeInner → Option TypeSpecifier
+inner_told types (inner.Scalar s) = option_map NamedType (scalar_word s)
+inner_told types (inner.Pointer base space) = pointer_told space (word_at types base)
+inner_told types _ = None
+
+-- the type that the `let` of a handle tells, if it is to tell one
+abbrev pub told_type : (explicit : Bool) → List Type_ → List ExpressionInfo → ℕ → Option TypeSpecifier
+told_type true types es h = option_and_then (λ e. option_and_then (inner_told types) (inner_of e.ty types)) (slice_get es h)
+told_type false types es h = None
 
 abbrev pub parameter_form : NameMap → List Type_ → ℕ → ℕ → FunctionArgument → Parameter
 parameter_form names types g number a = record { attributes = []; name = argument_name names g number; type = type_form types a.ty }
@@ -47,22 +145,24 @@ abbrev pub result_form : List Type_ → Option FunctionResult → Result
 result_form types None = NoResult
 result_form types (Some r) = ResultOf [] (type_form types r.ty)
 
--- a function with this handle
-abbrev pub function_form : NameMap → List Type_ → ℕ → ir_function.Function → Function
-function_form names types g f =
+-- a function, with what is known of its expressions
+abbrev pub function_form : (explicit : Bool) → NameMap → List Type_ → ℕ → ir_function.Function → List ExpressionInfo → Function
+function_form explicit names types g f es =
+    let n : Naming = function_naming names types g f es in
     record {
       name = function_name names g;
       parameters = parameters_form names types g 0 f.arguments.items;
       result = result_form types f.result;
-      locals = [];
-      body = statements_form names g f.expressions f.body;
+      locals = locals_form n types f.expressions 0 f.local_variables;
+      body = lines_form n (told_type explicit types es) f.expressions 0 f.body (at_start n.function);
     }
 
--- the functions from this handle on
-abbrev pub functions_form : NameMap → List Type_ → ℕ → List ir_function.Function → List Function
-functions_form names types g [] = []
-functions_form names types g (f ∷ more) = function_form names types g f ∷ functions_form names types (g + 1) more
+-- the functions from this handle on, each with what is known of its expressions
+abbrev pub functions_form : (explicit : Bool) → NameMap → List Type_ → ℕ → List ir_function.Function → List (List ExpressionInfo) → List Function
+functions_form explicit names types g (f ∷ fs) (es ∷ ess) = function_form explicit names types g f es ∷ functions_form explicit names types (g + 1) fs ess
+functions_form explicit names types g _ _ = []
 
--- the program that is written for a module: so far its functions
-abbrev pub program_form : NameMap → Module → Program
-program_form names m = record no_declarations { functions = functions_form names m.types 0 m.functions }
+-- the syntax tree that is written for a module, by what is known of it, with the types of its `let`s told or not: so far its functions
+abbrev pub written_program : Module → ModuleInfo → (explicit : Bool) → Program
+written_program m info explicit =
+    record no_declarations { functions = functions_form explicit (module_names m) m.types 0 m.functions info.functions.items }

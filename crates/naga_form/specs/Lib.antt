@@ -3,9 +3,10 @@ pub mod Types
 pub mod Literals
 pub mod Operators
 pub mod Form
+pub mod Premises
 pub mod Shapes
 pub mod Abstraction
 pub mod Interface
-pub mod Lines
 pub mod Resolution
+pub mod Bindings
 pub mod Faithful

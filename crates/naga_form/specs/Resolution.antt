@@ -1,18 +1,32 @@
 -- What the identifiers of a text stand for: each is looked up where it stands, and inner names hide outer ones.
-use Rattle.std.specs.Prelude.{◌≡◌, ℕ, ◌+◌, List, [], ◌∷◌, ◌++◌, map, Option, Some, None, if◌then◌else◌, slice_get}
+use Rattle.std.specs.Prelude.{◌≡◌, ℕ, zero, suc, ◌+◌, ◌-◌, cond, nat_eq, List, [], ◌∷◌, ◌++◌, map, length, Option, Some, None, if◌then◌else◌, slice_get}
 use Rattle.std.specs.List.{flat_map}
 use Rattle.std.specs.Option.{option_map_or}
 use Rattle.std.specs.Str.{bytes_eq}
-use Rattle.naga_ir.specs.StatementTree.{return, simple, BlockTree, no_statements, statement}
+use Rattle.naga_ir.specs.StatementTree.{emit, store, return, StatementTree, simple, BlockTree, no_statements, statement}
 use Rattle.naga_ir.specs.declared.expression.Expression as ir
 use Rattle.naga_ir.specs.declared.expression.Expression.TheVariants as expression
+use Rattle.naga_ir.specs.declared.module.Function as ir_function
+use Rattle.naga_ir.specs.declared.module.LocalVariable.{LocalVariable}
 use Rattle.naga_ir.specs.declared.module.Module.{Module}
-use Rattle.wgsl_text.specs.Tree.{TypeSpecifier, Named, Template, Expression, Constant, Name, Binary, Unary, Call, Member, Index, IndexAt, AddressOf, Dereference, Arguments, NoArguments, Argument, NumberArgument, ZeroArgument, Statement, Return, ReturnValue, Statements, NoStatements, Then, Parameter, Function, Program}
+use Rattle.naga_ir.specs.declared.types.Type_.{Type_}
+use Rattle.naga_info.specs.declared.info.ExpressionInfo.{ExpressionInfo}
+use Rattle.naga_info.specs.declared.info.ModuleInfo.{ModuleInfo}
+use Rattle.naga_names.specs.Reset.{NameMap}
+use Rattle.shader_runs.specs.Program as shapes
+use Rattle.shader_runs.specs.Program.{binds, from}
+use Rattle.shader_runs.specs.Scope.{Standing, Named, Handles, Naming, at_start, given_after, given_by, after_one, after}
+use Rattle.wgsl_text.specs.Tree.{TypeSpecifier, Named as NamedType, Template, Expression, Constant, Name, Binary, Unary, Call, Member, Index, IndexAt, AddressOf, Dereference, Arguments, NoArguments, Argument, NumberArgument, ZeroArgument, Statement, Let, TypedLet, Assign, Return, ReturnValue, Block, Statements, NoStatements, Then, Parameter, Local, Function, Program}
+use Rattle.naga_form.specs.Names.{module_names}
+use Rattle.naga_form.specs.Shapes.{statement_shape, function_naming}
 
--- what an identifier stands for: a function of the module, or an argument of the function where it stands
+-- what an identifier stands for: a function of the module, or an argument, a variable or a `let` of the function where it stands;
+-- a `let` by its number among those of the body
 pub data Target : Type 0 where
   FunctionTarget : (function : ℕ) → Target
   ArgumentTarget : (argument : ℕ) → Target
+  LocalTarget : (local : ℕ) → Target
+  LetTarget : (number : ℕ) → Target
 
 -- names with what they stand for, the innermost first
 abbrev pub Scope : Type 0
@@ -39,7 +53,7 @@ callee_target None = []
 callee_target (Some t) = Some t ∷ []
 
 abbrev pub callee_targets : Scope → TypeSpecifier → List (Option Target)
-callee_targets scope (Named w) = callee_target (lookup scope w)
+callee_targets scope (NamedType w) = callee_target (lookup scope w)
 callee_targets scope (Template w parts) = []
 
 abbrev mutual
@@ -61,40 +75,126 @@ abbrev mutual
   arguments_targets scope (NumberArgument n more) = arguments_targets scope more
   arguments_targets scope (ZeroArgument more) = arguments_targets scope more
 
--- the identifiers of statements. So far these are returns; what else a text has stands for nothing
+-- the identifiers of a statement. So far these are straight lines; what else a text has stands for nothing, but for an empty block
 abbrev pub statement_targets : Scope → Statement → List (Option Target)
+statement_targets scope (Let w e) = expression_targets scope e
+statement_targets scope (TypedLet w t e) = expression_targets scope e
+statement_targets scope (Assign a b) = expression_targets scope a ++ expression_targets scope b
 statement_targets scope Return = []
 statement_targets scope (ReturnValue e) = expression_targets scope e
+statement_targets scope (Block NoStatements) = []
 statement_targets scope _ = None ∷ []
 
-abbrev pub statements_targets : Scope → Statements → List (Option Target)
-statements_targets scope NoStatements = []
-statements_targets scope (Then s more) = statement_targets scope s ++ statements_targets scope more
+-- how many `let`s stand before what follows a statement, if k stand before it
+abbrev pub lets_behind : ℕ → Statement → ℕ
+lets_behind k (Let w e) = suc k
+lets_behind k (TypedLet w t e) = suc k
+lets_behind k _ = k
 
--- the identifiers of a function's body, where its parameters are in scope
+-- what is in scope behind a statement: the name of a `let`, from there on
+abbrev pub scope_behind : ℕ → Scope → Statement → Scope
+scope_behind k scope (Let w e) = (w, LetTarget k) ∷ scope
+scope_behind k scope (TypedLet w t e) = (w, LetTarget k) ∷ scope
+scope_behind k scope _ = scope
+
+-- the identifiers of statements, before which k `let`s stand
+abbrev pub statements_targets : ℕ → Scope → Statements → List (Option Target)
+statements_targets k scope NoStatements = []
+statements_targets k scope (Then s more) = statement_targets scope s ++ statements_targets (lets_behind k s) (scope_behind k scope s) more
+
+-- the identifiers of the variables from this one on, each of which is in scope behind its first value, and of the body behind them
+abbrev pub locals_targets : ℕ → Scope → List Local → Statements → List (Option Target)
+locals_targets l scope [] body = statements_targets 0 scope body
+locals_targets l scope (v ∷ more) body = option_map_or (expression_targets scope) v.value [] ++ locals_targets (l + 1) ((v.name, LocalTarget l) ∷ scope) more body
+
+-- the identifiers of a function's variables and body, where its parameters are in scope
 abbrev pub function_targets : Scope → Function → List (Option Target)
-function_targets outer f = statements_targets (parameters_scope 0 f.parameters ++ outer) f.body
+function_targets outer f = locals_targets 0 (parameters_scope 0 f.parameters ++ outer) f.locals f.body
 
 -- the identifiers of all functions
 abbrev pub program_targets : Program → List (Option Target)
 program_targets p = flat_map (function_targets (functions_scope 0 p.functions)) p.functions
 
--- what the module's expressions name, in the order that they are written in
-abbrev pub expression_meant : Option ir.Expression → List Target
-expression_meant (Some (expression.FunctionArgument number)) = ArgumentTarget number ∷ []
-expression_meant _ = []
+-- ---- what the module means by them, in the order that they are written in
+-- the number of the `let` that binds a handle, among the handles that are bound so far, the last one first
+abbrev pub let_number : List ℕ → ℕ → ℕ
+let_number [] h = 0
+let_number (x ∷ xs) h = if nat_eq x h then length xs else let_number xs h
 
-abbrev pub value_meant : List ir.Expression → Option ℕ → List Target
-value_meant es value = option_map_or (λ h. expression_meant (slice_get es h)) value []
+-- a bound handle means its `let`, and any other what its expression means
+abbrev pub standing_meant : Standing → (number : ℕ) → List Target → List Target
+standing_meant (Named x) number own = LetTarget number ∷ []
+standing_meant _ number own = own
 
-abbrev pub block_meant : List ir.Expression → BlockTree → List Target
-block_meant es no_statements = []
-block_meant es (statement (simple (return value)) b) = value_meant es value ++ block_meant es b
-block_meant es (statement s b) = block_meant es b
+-- what an expression means, by what its operands mean
+abbrev pub own_meant : (ℕ → List Target) → ir.Expression → List Target
+own_meant operand (expression.FunctionArgument number) = ArgumentTarget number ∷ []
+own_meant operand (expression.LocalVariable handle) = LocalTarget handle ∷ []
+own_meant operand (expression.Load pointer) = operand pointer
+own_meant operand (expression.Binary op left right) = operand left ++ operand right
+own_meant operand _ = []
 
-abbrev pub module_meant : Module → List Target
-module_meant m = flat_map (λ f. block_meant f.expressions f.body) m.functions
+abbrev pub own_meant_if : (ℕ → List Target) → Option ir.Expression → List Target
+own_meant_if operand e = option_map_or (own_meant operand) e []
+
+-- what a handle below the bound means
+abbrev pub meant_below : List ir.Expression → Handles → (bound : List ℕ) → ℕ → ℕ → List Target
+meant_below es s bound zero h = []
+meant_below es s bound (suc k) h = standing_meant (s h) (let_number bound h) (own_meant_if (meant_below es s bound k) (slice_get es h))
+
+-- what a handle means, where these handles were bound
+abbrev pub value_meant : List ir.Expression → Handles → (bound : List ℕ) → ℕ → List Target
+value_meant es s bound h = meant_below es s bound (length es) h
+
+-- the handles that are bound, the last one first, behind an emitted one
+abbrev pub bound_after : shapes.Function → ℕ → List ℕ → List ℕ
+bound_after f h bound = cond (binds f h) (h ∷ bound) bound
+
+abbrev pub bound_after_all : shapes.Function → List ℕ → List ℕ → List ℕ
+bound_after_all f [] bound = bound
+bound_after_all f (h ∷ hs) bound = bound_after_all f hs (bound_after f h bound)
+
+-- and behind a statement
+abbrev pub bound_behind : shapes.Function → StatementTree → List ℕ → List ℕ
+bound_behind f (simple (emit first last)) bound = bound_after_all f (from first (last - first)) bound
+bound_behind f _ bound = bound
+
+-- what the `let`s of emitted handles mean
+abbrev pub lets_meant : Naming → List ir.Expression → ℕ → List ℕ → Handles → List ℕ → List Target
+lets_meant n es k [] s bound = []
+lets_meant n es k (h ∷ hs) s bound =
+    cond (binds n.function h) (own_meant_if (value_meant es s bound) (slice_get es h)) []
+    ++ lets_meant n es (given_after n.function h k) hs (after_one n k h s) (bound_after n.function h bound)
+
+abbrev pub line_meant : Naming → List ir.Expression → ℕ → StatementTree → Handles → List ℕ → List Target
+line_meant n es k (simple (emit first last)) s bound = lets_meant n es k (from first (last - first)) s bound
+line_meant n es k (simple (store pointer value)) s bound = value_meant es s bound pointer ++ value_meant es s bound value
+line_meant n es k (simple (return value)) s bound = option_map_or (value_meant es s bound) value []
+line_meant n es k _ s bound = []
+
+-- statements in order: k names were given by front ends, s are the handles in scope, and these were bound
+abbrev pub lines_meant : Naming → List ir.Expression → ℕ → BlockTree → Handles → List ℕ → List Target
+lines_meant n es k no_statements s bound = []
+lines_meant n es k (statement st b) s bound =
+    line_meant n es k st s bound ++ lines_meant n es (given_by n.function (statement_shape st) k) b (after n k (statement_shape st) s) (bound_behind n.function st bound)
+
+-- the first values of locals
+abbrev pub first_values_meant : List ir.Expression → Handles → List LocalVariable → List Target
+first_values_meant es s locals = flat_map (λ l. option_map_or (value_meant es s []) l.init []) locals
+
+abbrev pub function_meant : NameMap → List Type_ → ℕ → ir_function.Function → List ExpressionInfo → List Target
+function_meant names types g f es =
+    let n : Naming = function_naming names types g f es in
+    first_values_meant f.expressions (at_start n.function) f.local_variables ++ lines_meant n f.expressions 0 f.body (at_start n.function) []
+
+-- the functions from this handle on, each with what is known of it
+abbrev pub functions_meant : NameMap → List Type_ → ℕ → List ir_function.Function → List (List ExpressionInfo) → List Target
+functions_meant names types g (f ∷ fs) (es ∷ ess) = function_meant names types g f es ++ functions_meant names types (g + 1) fs ess
+functions_meant names types g _ _ = []
+
+abbrev pub module_meant : Module → ModuleInfo → List Target
+module_meant m info = functions_meant (module_names m) m.types 0 m.functions info.functions.items
 
 -- Each identifier of the program stands for what it was written for.
-abbrev pub ResolvesAs : Module → Program → Type 0
-ResolvesAs m program = program_targets program ≡ map Some (module_meant m)
+abbrev pub ResolvesAs : Module → ModuleInfo → Program → Type 0
+ResolvesAs m info program = program_targets program ≡ map Some (module_meant m info)

@@ -10,56 +10,48 @@ ghost use Rattle.naga_names.specs.Reset.{NameMap};
 ghost use Rattle.shader_runs.specs.Form.{form_function, form_module};
 ghost use Rattle.naga_form.specs.Abstraction.{function_read, program_read};
 ghost use Rattle.naga_form.specs.Resolution.{ResolvesAs};
-ghost use Rattle.naga_form.specs.Lines.{straight_form, straight_program, nothing_named, scope_holds, handles_are_counted};
-ghost use Rattle.naga_form.specs.Shapes.{function_shape, inner_names, program_shape, outer_names, namings};
+ghost use Rattle.naga_form.specs.Bindings.{BindsAs};
+ghost use Rattle.naga_form.specs.Form.{function_form, written_program};
+ghost use Rattle.naga_form.specs.Premises.{nothing_named, scope_holds, handles_are_counted};
+ghost use Rattle.naga_form.specs.Shapes.{function_naming, program_shape, outer_names, namings};
 ghost use Rattle.naga_info.specs.Accepted.{is_accepted};
 ghost use Rattle.naga_info.specs.Part.{is_written_so_far};
 ghost use Rattle.naga_info.specs.declared.info.ModuleInfo.{ModuleInfo};
 ghost use Rattle.naga_form.specs.Names.{NamesAreCounted, module_names};
-ghost use Rattle.naga_form.specs.Faithful.{written_program, HasInterfaceOf, RunsAs};
+ghost use Rattle.naga_form.specs.Faithful.{HasInterfaceOf, RunsAs};
 ghost use Rattle.wgsl_text.specs.GrammarOfLines.{IsProgram};
 
-/// The program that is written for a module is one of the grammar, so that its text has one reading.
+/// The program that is written for an accepted module is one of the grammar, so that its text has one reading.
 pub fn is_a_program()
-    ensures { (m : Module) (info : ModuleInfo) (explicit : Bool) → IsTrue (is_accepted m info) → IsTrue (is_written_so_far m) → IsProgram (written_program m info explicit) }
+    ensures { (m : Module) (info : ModuleInfo) (explicit : Bool) → IsTrue (is_accepted m info) → IsTrue (nothing_named m) → IsTrue (handles_are_counted m) → IsProgram (written_program m info explicit) }
 {}
 
-/// It declares what the module declares.
+/// It declares what the module declares, where something is known of each function.
 pub fn has_the_interface()
-    ensures { (m : Module) (info : ModuleInfo) (explicit : Bool) → HasInterfaceOf m (written_program m info explicit) }
+    ensures { (m : Module) (info : ModuleInfo) (explicit : Bool) → length m.functions ≡ length info.functions.items → HasInterfaceOf m (written_program m info explicit) }
 {}
 
 /// Each of its identifiers stands for what it was written for.
 pub fn resolves_as_meant()
-    ensures { (m : Module) (info : ModuleInfo) (explicit : Bool) → IsTrue (is_accepted m info) → IsTrue (is_written_so_far m) → NamesAreCounted m → ResolvesAs m (written_program m info explicit) }
+    ensures { (m : Module) (info : ModuleInfo) (explicit : Bool) → IsTrue (is_accepted m info) → IsTrue (is_written_so_far m) → NamesAreCounted m → ResolvesAs m info (written_program m info explicit) }
 {}
 
-/// What it does is what the program of shapes says that is written for the module.
+/// Its `let`s are those of the emitted handles that are bound, each under its handle's name.
+pub fn binds_as_counted()
+    ensures { (m : Module) (info : ModuleInfo) (explicit : Bool) → IsTrue (is_accepted m info) → IsTrue (nothing_named m) → BindsAs m info (written_program m info explicit) }
+{}
+
+/// What is written of a function is read as its shape is written, whatever is known of it.
+pub fn functions_are_read()
+    ensures { (explicit : Bool) (names : NameMap) (types : List Type_) (g : ℕ) (f : Function) (es : List ExpressionInfo) → function_read (function_form explicit names types g f es) ≡ form_function (function_naming names types g f es) }
+{}
+
+/// What the program does is what the program of shapes says that is written for the module.
 pub fn is_read_as_its_shapes()
-    ensures { (m : Module) (info : ModuleInfo) (explicit : Bool) → IsTrue (is_accepted m info) → IsTrue (is_written_so_far m) → program_read (written_program m info explicit) ≡ form_module (program_shape m info) (outer_names (module_names m)) (namings (module_names m) m info) }
+    ensures { (m : Module) (info : ModuleInfo) (explicit : Bool) → program_read (written_program m info explicit) ≡ form_module (program_shape m info) (outer_names (module_names m)) (namings (module_names m) m info) }
 {}
 
-/// It does what the module does.
+/// It does what the module does, where the module's handles are in scope where they are used.
 pub fn runs_as_the_module()
-    ensures { (m : Module) (info : ModuleInfo) (explicit : Bool) → IsTrue (is_accepted m info) → IsTrue (is_written_so_far m) → NamesAreCounted m → RunsAs m info (written_program m info explicit) }
-{}
-
-/// A function of straight lines: what is written of it is read as its shape is written, whatever is known of it.
-pub fn straight_lines_are_read()
-    ensures { (explicit : Bool) (names : NameMap) (types : List Type_) (g : ℕ) (f : Function) (es : List ExpressionInfo) → function_read (straight_form explicit names types g f es) ≡ form_function (record { function = function_shape types f es; names = inner_names names g }) }
-{}
-
-/// An accepted module of straight lines, whose handles are in scope where they are used, does by its text what it does.
-pub fn straight_lines_run()
-    ensures { (m : Module) (info : ModuleInfo) (explicit : Bool) → IsTrue (is_accepted m info) → IsTrue (nothing_named m) → IsTrue (scope_holds m info) → NamesAreCounted m → RunsAs m info (straight_program explicit m info) }
-{}
-
-/// The program of an accepted module of straight lines is one of the grammar, so that its text has one reading.
-pub fn straight_lines_are_a_program()
-    ensures { (m : Module) (info : ModuleInfo) (explicit : Bool) → IsTrue (is_accepted m info) → IsTrue (nothing_named m) → IsTrue (handles_are_counted m) → IsProgram (straight_program explicit m info) }
-{}
-
-/// It declares what the module declares.
-pub fn straight_lines_have_the_interface()
-    ensures { (m : Module) (info : ModuleInfo) (explicit : Bool) → length m.functions ≡ length info.functions.items → HasInterfaceOf m (straight_program explicit m info) }
+    ensures { (m : Module) (info : ModuleInfo) (explicit : Bool) → IsTrue (is_accepted m info) → IsTrue (nothing_named m) → IsTrue (scope_holds m info) → NamesAreCounted m → RunsAs m info (written_program m info explicit) }
 {}

@@ -1,0 +1,21 @@
+-- What the laws ask of a module beside its acceptance.
+use Rattle.std.specs.Prelude.{Bool, length, nat_le, ◌^◌, ◌==◌}
+use Rattle.std.specs.List.{list_all}
+use Rattle.indexmap.specs.IndexMap.{keys}
+use Rattle.naga_ir.specs.declared.module.Module.{Module}
+use Rattle.naga_info.specs.declared.info.ModuleInfo.{ModuleInfo}
+use Rattle.shader_runs.specs.Scope.{fits_function}
+use Rattle.naga_form.specs.Names.{module_names}
+use Rattle.naga_form.specs.Shapes.{namings}
+
+-- no function has expressions that a front end named
+abbrev pub nothing_named : Module → Bool
+nothing_named m = list_all (λ f. length (keys f.named_expressions) == 0) m.functions
+
+-- each handle is in scope where it is used, and no `Emit` is refused
+abbrev pub scope_holds : Module → ModuleInfo → Bool
+scope_holds m info = list_all fits_function (namings (module_names m) m info)
+
+-- handles are less than 2 ^ 64, as a `usize` is
+abbrev pub handles_are_counted : Module → Bool
+handles_are_counted m = list_all (λ f. nat_le (length f.expressions) (2 ^ 64)) m.functions
