@@ -118,7 +118,7 @@ module _ (m : Module) (g : ℕ) (f : ir_function.Function) (found : slice_get m.
   given_some [] k = refl
   given_some (h ∷ hs) k = given_some hs (given_after shape h k) ∙ given_one h k
 
-  given_line : (st : StatementTree) (k : ℕ) → given_by shape (statement_shape st) k ≡ k
+  pub given_line : (st : StatementTree) (k : ℕ) → given_by shape (statement_shape st) k ≡ k
   given_line (simple (emit first last)) k = given_some (from first (last - first)) k
   given_line _ k = refl
 
@@ -143,7 +143,7 @@ module _ (m : Module) (g : ℕ) (f : ir_function.Function) (found : slice_get m.
       by None is = none
       by (Some e) is = some e is
 
-  ordered_at : (h : ℕ) (e : ir.Expression) → slice_get f.expressions h ≡ Some e → AllBelow h (operands_of (Some (expression_shape e)))
+  pub ordered_at : (h : ℕ) (e : ir.Expression) → slice_get f.expressions h ≡ Some e → AllBelow h (operands_of (Some (expression_shape e)))
   ordered_at h (expression.Load q) at = let l = load_word_at m.types f es h q fits at in (l.1, tt)
   ordered_at h (expression.Binary op left right) at = let o = binary_at m.types f es h op left right fits at in both op o.left_before o.right_before
     where

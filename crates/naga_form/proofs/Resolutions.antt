@@ -380,7 +380,7 @@ module _ (m : Module) (g : ℕ) (f : ir_function.Function) (found : slice_get m.
       ∙ ap (λ ts. map Some (ts ++ lines_meant own f.expressions 0 f.body (at_start own.function) [])) (sym (first_values_none f.local_variables is))
 
 -- ---- the module
-written_parts : (f : ir_function.Function) → IsTrue (function_is_written f) → IsTrue (names_nothing f) × IsTrue (list_all (local_is_written f.expressions) f.local_variables)
+pub written_parts : (f : ir_function.Function) → IsTrue (function_is_written f) → IsTrue (names_nothing f) × IsTrue (list_all (local_is_written f.expressions) f.local_variables)
 written_parts f written =
     let y = list_all expression_is_written f.expressions in
     let l = list_all (local_is_written f.expressions) f.local_variables in

@@ -54,6 +54,12 @@ appends_stopped (Err e) {held} {text} {now} {failed} {failures} is s = subst (λ
 pub appends_as : (r : Result Unit Error) (held : List ℕ) (failed : ℕ) (text same now : List ℕ) (failures : ℕ) → text ≡ same → Appends r held failed text now failures → Appends r held failed same now failures
 appends_as r held failed text same now failures e a = subst (λ t. Appends r held failed t now failures) e a
 
+pub wrote_as : {held text same now : List ℕ} {failed failures : ℕ} → text ≡ same → Wrote held failed text now failures → Wrote held failed same now failures
+wrote_as {held} {now = now} {failed = failed} {failures = failures} e w = subst (λ t. Wrote held failed t now failures) e w
+
+pub stopped_as : {held text same now : List ℕ} {failed failures : ℕ} {error : Error} → text ≡ same → Stopped held failed text now failures error → Stopped held failed same now failures error
+stopped_as {held} {now = now} {failed = failed} {failures = failures} {error = error} e s = subst (λ t. Stopped held failed t now failures error) e s
+
 -- so far along a text: some of it was written, and this is left
 pub record IsAlong (whole held : List ℕ) (failed : ℕ) (now : List ℕ) (failures : ℕ) (left : List ℕ) : Type 0 where
   pub done : List ℕ

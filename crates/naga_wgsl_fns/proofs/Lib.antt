@@ -1,4 +1,5 @@
 pub mod Appending
+pub mod Levels
 pub mod Rows
 pub mod Wanted
 pub mod Accepted

@@ -1,25 +1,38 @@
 -- The text of each row of a function, from what is written of it in turn.
-use Rattle.std.proofs.Common.{◌≡◌, ℕ, ◌+◌, ◌<◌, ◌*◌, ◌==◌, zero, suc, false, List, [], ◌∷◌, ◌++◌, Option, None, Some, length, refl, sym, ap, ◌∙◌, arith, add-one, codes, replicate, drop, drop-cons, slice_index_or, ne_eqb}
+use Rattle.std.proofs.Common.{◌≡◌, ℕ, ◌+◌, ◌-◌, ◌<◌, ◌≤◌, ◌*◌, ◌==◌, zero, suc, Bool, true, false, List, [], ◌∷◌, ◌++◌, map, Option, None, Some, length, refl, sym, ap, ◌∙◌, arith, add-one, codes, replicate, drop, drop-cons, slice_index_or, ne_eqb, append_assoc}
+use Rattle.std.specs.Prelude.{slice_get, cond, unwrap_or}
+use Rattle.std.specs.Option.{option_map}
 use Rattle.std.proofs.lemmas.List.{append-nil}
-use Rattle.naga_ir.specs.StatementTree.{return, simple, BlockTree, statement}
+use Rattle.naga_ir.specs.StatementTree.{StatementTree, BlockTree, statement}
 use Rattle.naga_ir.specs.StatementViews.{tree_of, block_of}
 use Rattle.naga_ir.specs.declared.statement.Statement.{Statement}
-use Rattle.naga_ir.specs.declared.statement.Statement.TheVariants.{Return}
-use Rattle.naga_ir.specs.declared.expression.Expression.{Expression}
+use Rattle.naga_ir.specs.declared.expression.Expression as ir
 use Rattle.naga_ir.specs.declared.module.Function.{Function}
 use Rattle.naga_ir.specs.declared.module.FunctionArgument.{FunctionArgument}
 use Rattle.naga_ir.specs.declared.module.FunctionResult.{FunctionResult}
+use Rattle.naga_ir.specs.declared.module.LocalVariable.{LocalVariable}
+use Rattle.naga_ir.specs.declared.operators.BinaryOperator as ir_operator
+use Rattle.naga_ir.specs.declared.operators.BinaryOperator.TheVariants as operator
 use Rattle.naga_ir.specs.declared.types.Type_.{Type_}
+use Rattle.naga_info.specs.declared.info.ExpressionInfo.{ExpressionInfo}
 use Rattle.naga_words.specs.Indentation.{indentation}
+use Rattle.naga_words.specs.Operators.{operator_text}
 use Rattle.naga_names.specs.Reset.{NameMap}
-use Rattle.naga_form.specs.Names.{function_name, argument_name}
-use Rattle.naga_form.specs.Form.{expression_form, return_form, statements_form, parameter_form, parameters_form, result_form, function_form}
-use Rattle.wgsl_text.specs.Pieces.{expression_pieces}
+use Rattle.shader_runs.specs.Program.{binds, from}
+use Rattle.shader_runs.specs.Scope.{Handles, Naming, at_start, given_after, after_one, after_emit, bound_name}
+use Rattle.naga_form.specs.Names.{function_name, argument_name, numbered_name}
+use Rattle.naga_form.specs.Operators.{operator_form}
+use Rattle.naga_form.specs.Types.{type_form}
+use Rattle.naga_form.specs.Form.{as_value, own_if, plain_form, value_form, let_form, then_if, lets_form, return_line, line_form, lines_form, locals_form, parameter_form, parameters_form, result_form, function_form}
+use Rattle.wgsl_text.specs.Tree.{TypeSpecifier, Expression, Statements, NoStatements, Then, Local, BinaryOperator}
+use Rattle.wgsl_text.specs.Tree as tree
+use Rattle.wgsl_text.specs.Pieces.{binary_pieces, expression_pieces}
 use Rattle.wgsl_text.specs.Lines.{statement_pieces, statements_pieces}
-use Rattle.wgsl_text.specs.Declarations.{parameter_pieces, parameters_pieces, more_parameters_pieces, result_pieces, function_pieces}
+use Rattle.wgsl_text.specs.Declarations.{parameter_pieces, parameters_pieces, more_parameters_pieces, result_pieces, locals_pieces, value_pieces, group_end, function_pieces}
+use Rattle.wgsl_text.specs.Reading.{type_layout}
 use Rattle.wgsl_text.specs.Text.{text}
-use Rattle.wgsl_text.proofs.RowText.{text-append, function_text, return_text, then_text}
-use Rattle.naga_wgsl_fns.specs.Texts.{separator, type_word}
+use Rattle.wgsl_text.proofs.RowText.{text-append, function_text, return_text, then_text, let_text, typed_let_text, assign_text, binary_text, address_text, dereference_text, locals_text as local_row_text, value_text}
+use Rattle.naga_wgsl_fns.specs.Texts.{separator, type_word, head_text, locals_text, local_form, local_text, first_text, told_text, let_line, emitted_text}
 
 -- the blanks before a line
 pub indentation_row : (n : ℕ) → indentation n ≡ replicate (4 * n) 32
@@ -27,6 +40,39 @@ indentation_row zero = refl
 indentation_row (suc n) =
     let four : 4 * suc n ≡ suc (suc (suc (suc (4 * n)))) = omega arith
     in rw four (ap (λ t. codes "    " ++ t) (indentation_row n))
+
+-- the sign of an operator
+pub operator_row : (op : ir_operator.BinaryOperator) → operator_text op ≡ text (binary_pieces (operator_form op))
+operator_row operator.Add = refl
+operator_row operator.Subtract = refl
+operator_row operator.Multiply = refl
+operator_row operator.Divide = refl
+operator_row operator.Modulo = refl
+operator_row operator.Equal = refl
+operator_row operator.NotEqual = refl
+operator_row operator.Less = refl
+operator_row operator.LessEqual = refl
+operator_row operator.Greater = refl
+operator_row operator.GreaterEqual = refl
+operator_row operator.And = refl
+operator_row operator.ExclusiveOr = refl
+operator_row operator.InclusiveOr = refl
+operator_row operator.LogicalAnd = refl
+operator_row operator.LogicalOr = refl
+operator_row operator.ShiftLeft = refl
+operator_row operator.ShiftRight = refl
+
+pub binary_row : (a b : Expression) (op : ir_operator.BinaryOperator)
+    → codes "(" ++ (text (expression_pieces a) ++ ((codes " " ++ (operator_text op ++ codes " ")) ++ (text (expression_pieces b) ++ codes ")"))) ≡ text (expression_pieces (tree.Binary a (operator_form op) b))
+binary_row a b op =
+    ap (λ t. codes "(" ++ (text (expression_pieces a) ++ t))
+        (ap (λ w. (codes " " ++ (w ++ codes " ")) ++ (text (expression_pieces b) ++ codes ")")) (operator_row op)
+        ∙ ap (λ t. codes " " ++ t) (append_assoc (text (binary_pieces (operator_form op))) (codes " ") (text (expression_pieces b) ++ codes ")")))
+    ∙ sym (binary_text a (operator_form op) b)
+
+-- the word of a type that a `let` tells
+pub told_scalar : (w : List ℕ) → codes ": " ++ w ≡ told_text (Some (tree.Named w))
+told_scalar w = ap (λ t. codes ": " ++ t) (sym (append-nil w))
 
 module _ (names : NameMap) (types : List Type_) (g : ℕ) where
   pub argument_row : (n : ℕ) (a : FunctionArgument) → argument_name names g n ++ (codes ": " ++ type_word types a.ty) ≡ text (parameter_pieces (parameter_form names types g n a))
@@ -57,11 +103,19 @@ module _ (names : NameMap) (types : List Type_) (g : ℕ) where
       in rw later (ap (λ t. codes ", " ++ t) (text-append (parameter_pieces (parameter_form names types g (suc n) a)) (more_parameters_pieces (parameters_form names types g (suc n + 1) more))
       ∙ ap (λ t. text (parameter_pieces (parameter_form names types g (suc n) a)) ++ t) (sym (more_arguments_left (suc n) more))))
 
-  pub function_row : (f : Function)
-      → codes "fn " ++ (function_name names g ++ (codes "(" ++ (text (parameters_pieces (parameters_form names types g 0 f.arguments.items)) ++ (text (result_pieces (result_form types f.result)) ++ (codes " {\n" ++ (
-      text (statements_pieces (statements_form names g f.expressions f.body) 1) ++ codes "}\n"))))))
-      ≡ text (function_pieces (function_form names types g f))
-  function_row f = sym (function_text (function_form names types g f))
+  pub function_row : (explicit : Bool) (f : Function) (es : List ExpressionInfo)
+      → (let form = function_form explicit names types g f es in head_text names types g f ++ (locals_text form.locals ++ (text (statements_pieces form.body 1) ++ codes "}\n")) ≡ text (function_pieces form))
+  function_row explicit f es =
+      let form = function_form explicit names types g f es in
+      let arguments = text (parameters_pieces form.parameters) in
+      let answer = text (result_pieces form.result) in
+      let locals = text (locals_pieces form.locals) in
+      let behind = text (statements_pieces form.body 1) ++ codes "}\n" in
+      ap (λ t. codes "fn " ++ t) (append_assoc form.name (codes "(" ++ (arguments ++ (answer ++ codes " {\n"))) (locals_text form.locals ++ behind)
+      ∙ ap (λ t. form.name ++ (codes "(" ++ t)) (append_assoc arguments (answer ++ codes " {\n") (locals_text form.locals ++ behind)
+      ∙ ap (λ t. arguments ++ t) (append_assoc answer (codes " {\n") (locals_text form.locals ++ behind)
+      ∙ ap (λ t. answer ++ (codes " {\n" ++ t)) (append_assoc locals (text (group_end form.locals)) behind))))
+      ∙ sym (function_text form)
 
 -- a list from an item of it on
 pub drop_first : {X : Type 0} (i : ℕ) (xs : List X) (x : X) → i < length xs → x ≡ slice_index_or xs i x → drop i xs ≡ x ∷ drop (i + 1) xs
@@ -74,20 +128,95 @@ arguments_step names types g n items a h is =
     ap (λ more. arguments_left names types g n more) (drop_first n items a h is) ∙ arguments_row names types g n a (drop (n + 1) items)
 
 -- a loop over statements: one more
-pub block_step : (ss : List Statement) (i : ℕ) (s : Statement) (value : Option ℕ) → i < length ss → s ≡ slice_index_or ss i s → s ≡ Return value
-    → block_of (drop i ss) ≡ statement (simple (return value)) (block_of (drop (i + 1) ss))
-block_step ss i s value h here is = ap (λ ts. block_of ts) (drop_first i ss s h here) ∙ ap (λ t. statement (tree_of t) (block_of (drop (i + 1) ss))) is
+pub block_step : (ss : List Statement) (i : ℕ) (s : Statement) → i < length ss → s ≡ slice_index_or ss i s
+    → block_of (drop i ss) ≡ statement (tree_of s) (block_of (drop (i + 1) ss))
+block_step ss i s h here = ap (λ ts. block_of ts) (drop_first i ss s h here)
 
-module _ (names : NameMap) (g : ℕ) (es : List Expression) where
-  -- a return without the blanks before it
-  abbrev pub return_words : Option ℕ → List ℕ
-  return_words None = codes "return;\n"
-  return_words (Some h) = codes "return " ++ (text (expression_pieces (expression_form names g es h)) ++ codes ";\n")
+-- a list from an item of it on, by what stands there
+pub drop_at : {X : Type 0} (i : ℕ) (xs : List X) (x : X) → slice_get xs i ≡ Some x → drop i xs ≡ x ∷ drop (i + 1) xs
+drop_at i [] x at = absurd cc
+drop_at zero (y ∷ xs) x at = ap (λ o. unwrap_or o y ∷ xs) at
+drop_at (suc i) (y ∷ xs) x at = drop_at i xs x at
 
-  pub return_row : (n : ℕ) (value : Option ℕ) → indentation n ++ return_words value ≡ text (statement_pieces (return_form names g es value) n)
-  return_row n None = ap (λ t. t ++ codes "return;\n") (indentation_row n)
-  return_row n (Some h) = ap (λ t. t ++ (codes "return " ++ (text (expression_pieces (expression_form names g es h)) ++ codes ";\n"))) (indentation_row n) ∙ sym (return_text (expression_form names g es h) n)
+-- ---- locals
+module _ (n : Naming) (types : List Type_) (es : List ir.Expression) where
+  pub locals_step : (l : ℕ) (v : LocalVariable) (more : List LocalVariable) → text (locals_pieces (locals_form n types es l (v ∷ more))) ≡ local_text n types es l v ++ text (locals_pieces (locals_form n types es (l + 1) more))
+  locals_step l v more =
+      let local = local_form n types es l v in
+      let behind = locals_form n types es (l + 1) more in
+      let first = text (locals_pieces behind) in
+      local_row_text local behind
+      ∙ (ap (λ t. codes "    var " ++ (local.name ++ (codes ": " ++ t))) (sym (append_assoc (type_layout local.type) (text (value_pieces local.value)) first))
+      ∙ (ap (λ t. codes "    var " ++ (local.name ++ (codes ": " ++ (t ++ first)))) (ap (λ t. type_layout local.type ++ t) (sym (append-nil (text (value_pieces local.value)))))
+      ∙ (ap (λ t. codes "    var " ++ t) (sym (append_assoc local.name (codes ": " ++ (type_layout local.type ++ (text (value_pieces local.value) ++ []))) first))
+      ∙ ap (λ t. t ++ first) (sym (local_row_text local [])))))
 
-  pub statements_row : (n : ℕ) (value : Option ℕ) (b : BlockTree)
-      → text (statements_pieces (statements_form names g es (statement (simple (return value)) b)) n) ≡ text (statement_pieces (return_form names g es value) n) ++ text (statements_pieces (statements_form names g es b) n)
-  statements_row n value b = then_text (return_form names g es value) (statements_form names g es b) n
+  pub local_row : (l : ℕ) (v : LocalVariable) → codes "    var " ++ (n.names.local_ l ++ (codes ": " ++ (type_word types v.ty ++ first_text n es v.init))) ≡ local_text n types es l v
+  local_row l v =
+      let local = local_form n types es l v in
+      (λ i. codes "    var " ++ (n.names.local_ l ++ (codes ": " ++ (sym (append-nil (type_word types v.ty)) i ++ (value_row v.init ∙ sym (append-nil (text (value_pieces local.value)))) i))))
+      ∙ sym (local_row_text local [])
+    where
+      value_row : (o : Option ℕ) → first_text n es o ≡ text (value_pieces (option_map (value_form n es (at_start n.function)) o))
+      value_row None = refl
+      value_row (Some h) = sym (value_text (value_form n es (at_start n.function) h))
+
+-- ---- statements
+-- the blanks before a line in front of what follows
+line_starts : (n : ℕ) (w rest : List ℕ) → (indentation n ++ w) ++ rest ≡ replicate (4 * n) 32 ++ (w ++ rest)
+line_starts n w rest = append_assoc (indentation n) w rest ∙ ap (λ t. t ++ (w ++ rest)) (indentation_row n)
+
+pub let_row : (t : Option TypeSpecifier) (w : List ℕ) (e : Expression) (n : ℕ) → (indentation n ++ codes "let ") ++ (w ++ (told_text t ++ (codes " = " ++ (text (expression_pieces e) ++ codes ";\n")))) ≡ text (statement_pieces (let_form t w e) n)
+let_row None w e n = line_starts n (codes "let ") (w ++ (codes " = " ++ (text (expression_pieces e) ++ codes ";\n"))) ∙ sym (let_text w e n)
+let_row (Some t) w e n =
+    line_starts n (codes "let ") (w ++ ((codes ": " ++ type_layout t) ++ (codes " = " ++ (text (expression_pieces e) ++ codes ";\n"))))
+    ∙ sym (typed_let_text w t e n)
+
+pub assign_row : (a b : Expression) (n : ℕ) → (indentation n ++ []) ++ (text (expression_pieces a) ++ (codes " = " ++ (text (expression_pieces b) ++ codes ";\n"))) ≡ text (statement_pieces (tree.Assign a b) n)
+assign_row a b n = line_starts n [] _ ∙ sym (assign_text a b n)
+
+pub return_row : (e : Expression) (n : ℕ) → (indentation n ++ codes "return ") ++ (text (expression_pieces e) ++ codes ";\n") ≡ text (statement_pieces (tree.ReturnValue e) n)
+return_row e n = line_starts n (codes "return ") _ ∙ sym (return_text e n)
+
+pub return_nothing_row : (n : ℕ) → indentation n ++ codes "return;\n" ≡ text (statement_pieces tree.Return n)
+return_nothing_row n = ap (λ t. t ++ codes "return;\n") (indentation_row n)
+
+module _ (n : Naming) (told : ℕ → Option TypeSpecifier) (es : List ir.Expression) where
+  -- `let`s in front of what follows
+  pub lets_then : (k : ℕ) (hs : List ℕ) (s : Handles) (rest : Statements) (level : ℕ) → text (statements_pieces (lets_form n told es k hs s rest) level) ≡ text (statements_pieces (lets_form n told es k hs s NoStatements) level) ++ text (statements_pieces rest level)
+  lets_then k [] s rest level = refl
+  lets_then k (h ∷ hs) s rest level = by (binds n.function h) (lets_then (given_after n.function h k) hs (after_one n k h s) rest level)
+    where
+      behind : Statements → Statements
+      behind rest = lets_form n told es (given_after n.function h k) hs (after_one n k h s) rest
+
+      line : tree.Statement
+      line = let_form (told h) (bound_name n k h) (as_value (own_if n (plain_form n es s) (slice_get es h)))
+
+      by : (b : Bool) → text (statements_pieces (behind rest) level) ≡ text (statements_pieces (behind NoStatements) level) ++ text (statements_pieces rest level) → text (statements_pieces (then_if b line (behind rest)) level) ≡ text (statements_pieces (then_if b line (behind NoStatements)) level) ++ text (statements_pieces rest level)
+      by true more =
+          then_text line (behind rest) level
+          ∙ (ap (λ t. text (statement_pieces line level) ++ t) more
+          ∙ (sym (append_assoc (text (statement_pieces line level)) (text (statements_pieces (behind NoStatements) level)) (text (statements_pieces rest level)))
+          ∙ ap (λ t. t ++ text (statements_pieces rest level)) (sym (then_text line (behind NoStatements) level))))
+      by false more = more
+
+  -- the first of emitted handles
+  pub lets_first : (h : ℕ) (hs : List ℕ) (s : Handles) (level : ℕ) → given_after n.function h 0 ≡ 0 → text (statements_pieces (lets_form n told es 0 (h ∷ hs) s NoStatements) level) ≡ emitted_text n told es s level h ++ text (statements_pieces (lets_form n told es 0 hs (after_one n 0 h s) NoStatements) level)
+  lets_first h hs s level none = by (binds n.function h) ∙ ap (λ k. emitted_text n told es s level h ++ text (statements_pieces (lets_form n told es k hs (after_one n 0 h s) NoStatements) level)) none
+    where
+      behind : Statements
+      behind = lets_form n told es (given_after n.function h 0) hs (after_one n 0 h s) NoStatements
+
+      by : (b : Bool) → text (statements_pieces (then_if b (let_line n told es s h) behind) level) ≡ cond b (text (statement_pieces (let_line n told es s h) level)) [] ++ text (statements_pieces behind level)
+      by true = then_text (let_line n told es s h) behind level
+      by false = refl
+
+-- the handles from the first of a range on
+pub from_first : (first last : ℕ) → first < last → from first (last - first) ≡ first ∷ from (first + 1) (last - (first + 1))
+from_first first last lt =
+    let one : last - first ≡ suc (last - (first + 1)) = omega (arith, lt) in
+    ap (from first) one ∙ ap (λ k. first ∷ from k (last - (first + 1))) (sym (add-one first))
+
+pub from_none : (first last : ℕ) → last ≤ first → from first (last - first) ≡ []
+from_none first last past = let none : last - first ≡ 0 = omega (arith, past) in ap (from first) none

@@ -1,34 +1,45 @@
 -- What the parts of a function want, from what the function wants.
-use Rattle.std.proofs.Common.{◌≡◌, ℕ, ◌+◌, ◌<◌, ◌^◌, true, List, length, Option, Some, refl, sym, ap, ◌∙◌, arith, IsTrue, slice_get, slice_index_or, drop}
-use Rattle.std.specs.Option.{is_some, option_map_or}
-use Rattle.std.proofs.lemmas.Bool.{and_parts, ltb-true}
+use Rattle.std.proofs.Common.{◌≡◌, ℕ, suc, ◌+◌, ◌<◌, ◌≤◌, ◌^◌, Bool, true, List, [], length, Option, None, Some, refl, sym, ap, subst, ◌∙◌, arith, IsTrue, drop}
+use Rattle.std.specs.Prelude.{slice_get, cond, nat_lt, nat_le}
+use Rattle.std.specs.List.{list_all}
+use Rattle.std.specs.Option.{is_some, option_map, option_and_then}
+use Rattle.std.proofs.lemmas.Bool.{and_parts, ltb-true, lt-ltb, leb-true}
 use Rattle.std.proofs.lemmas.Option.{slice_get_within}
-use Rattle.naga_ir.specs.StatementTree.{BlockTree, statement}
+use Rattle.naga_ir.specs.StatementTree.{emit, store, return, StatementTree, simple, BlockTree, no_statements, statement}
 use Rattle.naga_ir.specs.StatementViews.{tree_of, block_of}
 use Rattle.naga_ir.specs.declared.statement.Statement.{Statement}
-use Rattle.naga_ir.specs.declared.statement.Statement.TheVariants.{Return}
 use Rattle.naga_ir.specs.declared.expression.Expression.{Expression}
-use Rattle.naga_ir.specs.declared.expression.Expression.TheVariants.{Literal, FunctionArgument}
+use Rattle.naga_ir.specs.declared.expression.Expression.TheVariants as expression
 use Rattle.naga_ir.specs.declared.expression.Literal as ir_literal
 use Rattle.naga_ir.specs.declared.module.Function.{Function}
 use Rattle.naga_ir.specs.declared.module.FunctionArgument as argument
 use Rattle.naga_ir.specs.declared.module.FunctionResult.{FunctionResult}
+use Rattle.naga_ir.specs.declared.module.LocalVariable.{LocalVariable}
 use Rattle.naga_ir.specs.declared.module.Module.{Module}
+use Rattle.naga_ir.specs.declared.operators.BinaryOperator.{BinaryOperator}
+use Rattle.naga_info.specs.declared.info.ExpressionInfo.{ExpressionInfo}
 use Rattle.naga_names.specs.Reset.{NameMap}
 use Rattle.naga_names.specs.declared.namer.key.NameKey.TheVariants as key
-use Rattle.naga_form.specs.Names.{module_names, name_in}
-use Rattle.naga_info.specs.Types.{literal_word}
-use Rattle.naga_info.specs.Accepted.{is_below}
-use Rattle.naga_info.proofs.Accepting.{list_all_at}
-use Rattle.naga_wgsl_fns.specs.Texts.{CanWrite, has_word, can_be_written, returns_below}
-use Rattle.naga_wgsl_fns.proofs.Rows.{drop_first, block_step}
+use Rattle.shader_runs.specs.Scope.{bound_name, given_after, given_by}
+use Rattle.naga_form.specs.Names.{module_names, name_in, numbered_name}
+use Rattle.naga_form.specs.Shapes.{statement_shape, OperandsStandBefore}
+use Rattle.naga_form.proofs.Fits.{not_given, given_line, ordered_at}
+use Rattle.naga_form.proofs.Resolutions.{nothing_outside, written_parts}
+use Rattle.naga_info.specs.Types.{literal_word, word_at, spelling_of, local_pointer}
+use Rattle.naga_info.specs.Accepted.{is_below, expected_type, local_fits, statement_fits, return_fits, block_fits}
+use Rattle.naga_info.specs.Part.{names_nothing}
+use Rattle.naga_info.proofs.Accepting.{list_all_at, then_some, scalar_types_word_at, function_fits_signature, function_fits_locals, function_fits_block, function_fits_length, function_fits_word_at, local_fits_parts, value_fits_word, local_word_at, load_word_at, binary_at, store_fits_word, local_first_word}
+use Rattle.naga_wgsl_fns.specs.Texts.{CanWrite, has_word, naming_of}
 
-module _ (m : Module) (names : NameMap) (g : ℕ) (f : Function) (can : CanWrite m names g f) where
+module _ (m : Module) (names : NameMap) (g : ℕ) (f : Function) (es : List ExpressionInfo) (can : CanWrite m names g f es) where
   pub function_is_named : names (key.Function g) ≡ Some (name_in (module_names m) (key.Function g))
   function_is_named = can.named.functions g (slice_get_within m.functions g f can.function)
 
   pub argument_is_named : (n : ℕ) → n < length f.arguments.items → names (key.FunctionArgument g n) ≡ Some (name_in (module_names m) (key.FunctionArgument g n))
   argument_is_named n h = can.named.arguments g f can.function n h
+
+  pub local_is_named : (l : ℕ) → l < length f.local_variables → names (key.FunctionLocal g l) ≡ Some (name_in (module_names m) (key.FunctionLocal g l))
+  local_is_named l h = can.named.locals g f can.function l h
 
   -- an argument's number is a `u32`
   pub argument_number : (n : ℕ) (a : argument.FunctionArgument) → slice_get f.arguments.items n ≡ Some a → n < 2 ^ 32
@@ -37,41 +48,101 @@ module _ (m : Module) (names : NameMap) (g : ℕ) (f : Function) (can : CanWrite
       in let few = can.named.numbers g f can.function
       in omega arith
 
+  -- ---- types
+  has_a_word : (ty : ℕ) → nat_lt ty (length m.types) ≡ true → IsTrue (has_word m.types ty)
+  has_a_word ty below = ap (λ o. is_some o) (scalar_types_word_at m.types ty can.scalars (ltb-true ty (length m.types) below)).1
+
   pub argument_has_word : (n : ℕ) (a : argument.FunctionArgument) → slice_get f.arguments.items n ≡ Some a → IsTrue (has_word m.types a.ty)
-  argument_has_word n a here = list_all_at (λ a. has_word m.types a.ty) f.arguments.items n a can.arguments here
+  argument_has_word n a here =
+      let signature = and_parts (list_all (λ a. nat_lt a.ty (length m.types)) f.arguments.items) (is_below (length m.types) (option_map (λ r. r.ty) f.result)) (function_fits_signature m.types f es can.fits) in
+      has_a_word a.ty (list_all_at (λ a. nat_lt a.ty (length m.types)) f.arguments.items n a signature.0 here)
 
   pub answer_has_word : (r : FunctionResult) → f.result ≡ Some r → IsTrue (has_word m.types r.ty)
-  answer_has_word r is = ap (λ o. option_map_or (λ r. has_word m.types r.ty) o true) (sym is) ∙ can.answer
+  answer_has_word r is =
+      let signature = and_parts (list_all (λ a. nat_lt a.ty (length m.types)) f.arguments.items) (is_below (length m.types) (option_map (λ r. r.ty) f.result)) (function_fits_signature m.types f es can.fits) in
+      has_a_word r.ty (ap (λ o. is_below (length m.types) (option_map (λ r. r.ty) o)) (sym is) ∙ signature.1)
 
-  pub expression_can : (h : ℕ) (e : Expression) → slice_get f.expressions h ≡ Some e → IsTrue (can_be_written f e)
-  expression_can h e here = list_all_at (can_be_written f) f.expressions h e can.expressions here
+  pub local_has_word : (l : ℕ) (v : LocalVariable) → slice_get f.local_variables l ≡ Some v → IsTrue (has_word m.types v.ty)
+  local_has_word l v here = has_a_word v.ty (local_fits_parts m.types es v (list_all_at (local_fits m.types es) f.local_variables l v (function_fits_locals m.types f es can.fits) here)).0
 
-  pub literal_has_word : (h : ℕ) (e : Expression) (value : ir_literal.Literal) → slice_get f.expressions h ≡ Some e → e ≡ Literal value → IsTrue (is_some (literal_word value))
-  literal_has_word h e value here is = ap (can_be_written f) (sym is) ∙ expression_can h e here
+  -- ---- expressions
+  -- a handle of which something is known is one of the function's
+  known_within : (h : ℕ) (k : ExpressionInfo) → slice_get es h ≡ Some k → h < length f.expressions
+  known_within h k at = let lt = slice_get_within es h k at in subst (λ n. h < n) (sym (function_fits_length m.types f es can.fits)) lt
 
-  pub argument_expression_is_named : (h : ℕ) (e : Expression) (n : ℕ) → slice_get f.expressions h ≡ Some e → e ≡ FunctionArgument n
+  spelled_within : (h : ℕ) (w : List ℕ) → option_and_then (λ e. spelling_of m.types e.ty) (slice_get es h) ≡ Some w → h < length f.expressions
+  spelled_within h w is = let k = then_some (λ e. spelling_of m.types e.ty) (slice_get es h) w is in known_within h k.0 k.1
+
+  pub literal_has_word : (h : ℕ) (e : Expression) (value : ir_literal.Literal) → slice_get f.expressions h ≡ Some e → e ≡ expression.Literal value → IsTrue (is_some (literal_word value))
+  literal_has_word h e value here is = ap (λ o. is_some o) (function_fits_word_at m.types f es h (expression.Literal value) can.fits (here ∙ ap Some is)).2
+
+  pub argument_expression_is_named : (h : ℕ) (e : Expression) (n : ℕ) → slice_get f.expressions h ≡ Some e → e ≡ expression.FunctionArgument n
       → names (key.FunctionArgument g n) ≡ Some (name_in (module_names m) (key.FunctionArgument g n))
   argument_expression_is_named h e n here is =
-      argument_is_named n (ltb-true n (length f.arguments.items) (ap (can_be_written f) (sym is) ∙ expression_can h e here))
+      let w = function_fits_word_at m.types f es h (expression.FunctionArgument n) can.fits (here ∙ ap Some is) in
+      let a = then_some (λ a. word_at m.types a.ty) (slice_get f.arguments.items n) w.0 w.2 in
+      argument_is_named n (slice_get_within f.arguments.items n a.0 a.1)
 
--- no other expression can be written
-pub no_other_expression : (f : Function) (e : Expression) → ((value : ir_literal.Literal) → e ≡ Literal value → ⊥) → ((n : ℕ) → e ≡ FunctionArgument n → ⊥) → IsTrue (can_be_written f e) → ⊥
-no_other_expression f (Literal value) literal argument can = literal value refl
-no_other_expression f (FunctionArgument n) literal argument can = argument n refl
-no_other_expression f _ literal argument can = absurd cc
+  pub local_expression_is_named : (h : ℕ) (e : Expression) (v : ℕ) → slice_get f.expressions h ≡ Some e → e ≡ expression.LocalVariable v
+      → names (key.FunctionLocal g v) ≡ Some (name_in (module_names m) (key.FunctionLocal g v))
+  local_expression_is_named h e v here is =
+      let l = local_word_at m.types f es h v can.fits (here ∙ ap Some is) in
+      local_is_named v (slice_get_within f.local_variables v l.0 l.2)
 
--- nor any statement but a return
-pub no_other_statement : (count : ℕ) (s : Statement) (b : BlockTree) → ((value : Option ℕ) → s ≡ Return value → ⊥) → IsTrue (returns_below count (statement (tree_of s) b)) → ⊥
-no_other_statement count (Return value) b other can = other value refl
-no_other_statement count _ b other can = absurd cc
+  pub pointer_before : (h : ℕ) (e : Expression) (p : ℕ) → slice_get f.expressions h ≡ Some e → e ≡ expression.Load p → p < h
+  pointer_before h e p here is = (load_word_at m.types f es h p can.fits (here ∙ ap Some is)).1
 
-pub no_other_statement_at : (count : ℕ) (ss : List Statement) (i : ℕ) (s : Statement) → i < length ss → s ≡ slice_index_or ss i s → ((value : Option ℕ) → s ≡ Return value → ⊥)
-    → IsTrue (returns_below count (block_of (drop i ss))) → ⊥
-no_other_statement_at count ss i s h here other can =
-    no_other_statement count s (block_of (drop (i + 1) ss)) other (ap (λ ts. returns_below count (block_of ts)) (sym (drop_first i ss s h here)) ∙ can)
+  pub operands_before : (h : ℕ) (e : Expression) (op : BinaryOperator) (l r : ℕ) → slice_get f.expressions h ≡ Some e → e ≡ expression.Binary op l r → (l < h) × (r < h)
+  operands_before h e op l r here is = let o = binary_at m.types f es h op l r can.fits (here ∙ ap Some is) in (o.left_before, o.right_before)
 
--- a return's value, and the statements behind it
-pub return_wants : (count : ℕ) (ss : List Statement) (i : ℕ) (s : Statement) (value : Option ℕ) → i < length ss → s ≡ slice_index_or ss i s → s ≡ Return value
-    → IsTrue (returns_below count (block_of (drop i ss))) → IsTrue (is_below count value) × IsTrue (returns_below count (block_of (drop (i + 1) ss)))
-return_wants count ss i s value h here is can =
-    and_parts (is_below count value) (returns_below count (block_of (drop (i + 1) ss))) (ap (λ b. returns_below count b) (sym (block_step ss i s value h here is)) ∙ can)
+  -- no other expression has a type
+  pub no_other_expression : (h : ℕ) (e : Expression) → slice_get f.expressions h ≡ Some e → ((value : ir_literal.Literal) → e ≡ expression.Literal value → ⊥) → ((n : ℕ) → e ≡ expression.FunctionArgument n → ⊥) → ((v : ℕ) → e ≡ expression.LocalVariable v → ⊥) → ((p : ℕ) → e ≡ expression.Load p → ⊥) → ((op : BinaryOperator) (l r : ℕ) → e ≡ expression.Binary op l r → ⊥) → ⊥
+  no_other_expression h e here literal argument local load binary = by e (ap (λ o. is_some o) (function_fits_word_at m.types f es h e can.fits here).2) literal argument local load binary
+    where
+      by : (e : Expression) → IsTrue (is_some (expected_type m.types f es h e)) → ((value : ir_literal.Literal) → e ≡ expression.Literal value → ⊥) → ((n : ℕ) → e ≡ expression.FunctionArgument n → ⊥) → ((v : ℕ) → e ≡ expression.LocalVariable v → ⊥) → ((p : ℕ) → e ≡ expression.Load p → ⊥) → ((op : BinaryOperator) (l r : ℕ) → e ≡ expression.Binary op l r → ⊥) → ⊥
+      by (expression.Literal v) is literal argument local load binary = literal v refl
+      by (expression.FunctionArgument n) is literal argument local load binary = argument n refl
+      by (expression.LocalVariable v) is literal argument local load binary = local v refl
+      by (expression.Load p) is literal argument local load binary = load p refl
+      by (expression.Binary op l r) is literal argument local load binary = binary op l r refl
+      by _ is literal argument local load binary = absurd cc
+
+  pub unnamed : IsTrue (names_nothing f)
+  unnamed = (written_parts f can.written).0
+
+  pub ordered : OperandsStandBefore f.expressions
+  ordered h e at = ordered_at m g f can.function es can.fits unnamed nothing_outside refl refl h e at
+
+  -- ---- names of handles
+  pub none_given : (h k : ℕ) → given_after (naming_of m g f es).function h k ≡ k
+  none_given h k = ap (λ b. cond b (suc k) k) (not_given m g f can.function es can.fits unnamed nothing_outside refl refl h)
+
+  pub bound_is : (h : ℕ) → numbered_name h ≡ bound_name (naming_of m g f es) 0 h
+  bound_is h = sym (ap (λ b. cond b [] (numbered_name h)) (not_given m g f can.function es can.fits unnamed nothing_outside refl refl h))
+
+  pub none_given_by : (st : StatementTree) → given_by (naming_of m g f es).function (statement_shape st) 0 ≡ 0
+  none_given_by st = given_line m g f can.function es can.fits unnamed nothing_outside refl refl st 0
+
+  -- ---- statements
+  pub first_value_within : (l : ℕ) (v : LocalVariable) (h : ℕ) → slice_get f.local_variables l ≡ Some v → v.init ≡ Some h → h < length f.expressions
+  first_value_within l v h here is = let w = local_first_word m.types f es l v h can.fits here is in spelled_within h w.0 w.1
+
+  pub body_fits : IsTrue (block_fits m.types es f.result f.body)
+  body_fits = function_fits_block m.types f es can.fits
+
+  pub return_within : (value : Option ℕ) → return_fits m.types es f.result value ≡ true → IsTrue (is_below (length f.expressions) value)
+  return_within value fit = by f.result value fit
+    where
+      by : (answer : Option FunctionResult) (value : Option ℕ) → return_fits m.types es answer value ≡ true → is_below (length f.expressions) value ≡ true
+      by answer None fit = refl
+      by None (Some h) fit = absurd cc
+      by (Some r) (Some h) fit = let w = value_fits_word m.types es r.ty h fit in lt-ltb h (length f.expressions) (spelled_within h w.0 w.1)
+
+  pub store_within : (p v : ℕ) → statement_fits m.types es f.result (simple (store p v)) ≡ true → (p < length f.expressions) × (v < length f.expressions)
+  store_within p v fit =
+      let w = store_fits_word m.types es f.result p v fit in (spelled_within p (local_pointer w.0) w.3, spelled_within v w.0 w.1)
+
+  pub emit_within : (first last : ℕ) → statement_fits m.types es f.result (simple (emit first last)) ≡ true → last ≤ length f.expressions
+  emit_within first last fit =
+      let parts = and_parts (nat_le first last) (nat_le last (length es)) fit in
+      subst (λ n. last ≤ n) (sym (function_fits_length m.types f es can.fits)) (leb-true last (length es) parts.1)

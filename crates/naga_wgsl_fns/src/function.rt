@@ -1,45 +1,44 @@
 //! Functions.
 
 ghost use Rattle.std.specs.Prelude.{◌≡◌, ◌<◌, ◌++◌, IfErr, IsTrue, OnErr, OnOk, Some, length, slice_get};
-ghost use Rattle.naga_form.specs.Form.{expression_form, function_form, parameter_form, parameters_form, result_form, return_form, statements_form};
+ghost use Rattle.naga_form.specs.Form.{function_form, locals_form, parameter_form, parameters_form, result_form};
 ghost use Rattle.naga_form.specs.Names.{HasNamesOf, module_names, name_in};
 ghost use Rattle.naga_info.specs.Accepted.{is_accepted, is_below};
 ghost use Rattle.naga_info.specs.Part.{is_written_so_far};
 ghost use Rattle.naga_names.specs.Reset.{names_in};
-ghost use Rattle.naga_words.specs.Indentation.{indentation};
 ghost use Rattle.naga_words.specs.Sink.{IsBehind};
 ghost use Rattle.wgsl_text.specs.Declarations.{function_pieces, parameter_pieces, parameters_pieces, result_pieces};
-ghost use Rattle.wgsl_text.specs.Lines.{statement_pieces, statements_pieces};
-ghost use Rattle.wgsl_text.specs.Pieces.{expression_pieces};
 ghost use Rattle.wgsl_text.specs.Text.{text};
 ghost use Rattle.naga_wgsl_fns.specs.Appends.{Appends};
 ghost use Rattle.naga_wgsl_fns.specs.Errors.{IsWant};
-ghost use Rattle.naga_wgsl_fns.specs.Texts.{CanWrite, has_word, returns_below, separator, text_of_function, type_word};
+ghost use Rattle.naga_wgsl_fns.specs.Texts.{CanWrite, StartsAt, first_text, has_word, head_text, local_text_at, locals_text, naming_of, separator, tells_types, text_of_function, type_word};
 
 use crate::error::Error;
-use crate::literal::write_literal;
+use crate::flags::WriterFlags;
 use crate::sinks::put;
-use naga_info::{ModuleInfo, scalar_word};
+use naga_info::{FunctionInfo, ModuleInfo, scalar_word};
 use naga_ir::{
-    Block, Expression, Function, FunctionArgument, Handle, Module, Statement, Type_, TypeInner,
+    Expression, Function, FunctionArgument, Handle, LocalVariable, Module, Place, Type_, TypeInner,
     UniqueArena,
 };
 use naga_names::namer::NameKey;
+use naga_scope::Scope;
 use naga_words::{Level, TextSink};
 use std::alloc::Global;
 use std::collections::HashMap;
 
-/// Writes the declaration of a function, with the line end behind its last line: the function and
-/// its arguments under their names in `names`, which has them all.
+/// Writes the declaration of a function, with the line end behind its last line: the function, its
+/// arguments and its locals under their names in `names`, which has them all.
 ///
 /// The module is accepted with what is known of it, and is one of those that are written so far.
 /// Where the call gives up, for want of memory or because the sink failed, a beginning of the text
-/// stands behind what the sink held.
+/// stands behind what the sink held. What is used out of scope is not looked for here.
 pub fn write_function<W: TextSink>(
     alloc: Global,
     module: &Module,
     info: &ModuleInfo,
     names: &HashMap<NameKey, String>,
+    flags: WriterFlags,
     handle: Handle<Function>,
     out: &mut W,
 ) -> Result<(), Error>
@@ -47,47 +46,61 @@ pub fn write_function<W: TextSink>(
     requires written { IsTrue (is_written_so_far «module».now) }
     requires handle { handle < length «module».now.functions }
     requires names { HasNamesOf «module».now (names_in names.now) }
-    ensures text_ok { OnOk result (W.text out.new ≡ W.text out.old ++ text_of_function «module».now handle) }
-    ensures text_err { OnErr result (IsBehind (W.text out.old) (text_of_function «module».now handle) (W.text out.new)) }
+    ensures text_ok { OnOk result (W.text out.new ≡ W.text out.old ++ text_of_function «module».now info.now flags handle) }
+    ensures text_err { OnErr result (IsBehind (W.text out.old) (text_of_function «module».now info.now flags handle) (W.text out.new)) }
     ensures failures_ok { OnOk result (W.failures out.new ≡ W.failures out.old) }
     ensures reason { IfErr result (IsWant (W.failures out.old) (W.failures out.new)) }
 {
     let text = FunctionText {
         shader: module,
         names,
+        flags,
         handle,
         function: &module.functions[handle],
+        info: &info[handle],
     };
     text.write_declaration(alloc, out)
 }
 
 /// What the text of a function is made from.
 #[derive(Clone, Copy)]
-struct FunctionText<'a> {
-    shader: &'a Module,
-    names: &'a HashMap<NameKey, String>,
-    handle: Handle<Function>,
-    function: &'a Function,
+pub(crate) struct FunctionText<'a> {
+    pub(crate) shader: &'a Module,
+    pub(crate) names: &'a HashMap<NameKey, String>,
+    pub(crate) flags: WriterFlags,
+    pub(crate) handle: Handle<Function>,
+    pub(crate) function: &'a Function,
+    pub(crate) info: &'a FunctionInfo,
 }
 
 impl FunctionText<'_> {
     fn write_declaration<W: TextSink>(&self, alloc: Global, out: &mut W) -> Result<(), Error>
-        requires { CanWrite self.now.shader.now (names_in self.now.names.now) self.now.handle self.now.function.now }
-        ensures { Appends result (W.text out.old) (W.failures out.old) (text (function_pieces (function_form (module_names self.now.shader.now) self.now.shader.now.types self.now.handle self.now.function.now))) (W.text out.new) (W.failures out.new) }
+        requires { CanWrite self.now.shader.now (names_in self.now.names.now) self.now.handle self.now.function.now self.now.info.now }
+        ensures { Appends result (W.text out.old) (W.failures out.old) (text (function_pieces (function_form (tells_types self.now.flags) (module_names self.now.shader.now) self.now.shader.now.types self.now.handle self.now.function.now self.now.info.now))) (W.text out.new) (W.failures out.new) }
+    {
+        self.write_head(out)?;
+        let mut scope = Scope::start(alloc, self.function)?;
+        self.write_locals(alloc, &scope, out)?;
+        self.write_block(alloc, Level(1), &self.function.body, &mut scope, out)?;
+        put("}\n", out)
+    }
+
+    /// What stands before the locals.
+    fn write_head<W: TextSink>(&self, out: &mut W) -> Result<(), Error>
+        requires { CanWrite self.now.shader.now (names_in self.now.names.now) self.now.handle self.now.function.now self.now.info.now }
+        ensures { Appends result (W.text out.old) (W.failures out.old) (head_text (module_names self.now.shader.now) self.now.shader.now.types self.now.handle self.now.function.now) (W.text out.new) (W.failures out.new) }
     {
         put("fn ", out)?;
         self.write_name(&NameKey::Function(self.handle), out)?;
         put("(", out)?;
         self.write_arguments(out)?;
         self.write_result(out)?;
-        put(" {\n", out)?;
-        self.write_block(alloc, Level(1), &self.function.body, out)?;
-        put("}\n", out)
+        put(" {\n", out)
     }
 
     /// The arguments, and the parenthesis behind the last.
     fn write_arguments<W: TextSink>(&self, out: &mut W) -> Result<(), Error>
-        requires { CanWrite self.now.shader.now (names_in self.now.names.now) self.now.handle self.now.function.now }
+        requires { CanWrite self.now.shader.now (names_in self.now.names.now) self.now.handle self.now.function.now self.now.info.now }
         ensures { Appends result (W.text out.old) (W.failures out.old) (text (parameters_pieces (parameters_form (module_names self.now.shader.now) self.now.shader.now.types self.now.handle 0 self.now.function.now.arguments.items))) (W.text out.new) (W.failures out.new) }
     {
         for (number, argument) in self.function.arguments.iter().enumerate() {
@@ -103,7 +116,7 @@ impl FunctionText<'_> {
         argument: &FunctionArgument,
         out: &mut W,
     ) -> Result<(), Error>
-        requires can { CanWrite self.now.shader.now (names_in self.now.names.now) self.now.handle self.now.function.now }
+        requires can { CanWrite self.now.shader.now (names_in self.now.names.now) self.now.handle self.now.function.now self.now.info.now }
         requires argument { slice_get self.now.function.now.arguments.items number ≡ Some argument.now }
         ensures { Appends result (W.text out.old) (W.failures out.old) (text (parameter_pieces (parameter_form (module_names self.now.shader.now) self.now.shader.now.types self.now.handle number argument.now))) (W.text out.new) (W.failures out.new) }
     {
@@ -114,7 +127,7 @@ impl FunctionText<'_> {
     }
 
     fn write_result<W: TextSink>(&self, out: &mut W) -> Result<(), Error>
-        requires { CanWrite self.now.shader.now (names_in self.now.names.now) self.now.handle self.now.function.now }
+        requires { CanWrite self.now.shader.now (names_in self.now.names.now) self.now.handle self.now.function.now self.now.info.now }
         ensures { Appends result (W.text out.old) (W.failures out.old) (text (result_pieces (result_form self.now.shader.now.types self.now.function.now.result))) (W.text out.new) (W.failures out.new) }
     {
         match &self.function.result {
@@ -126,7 +139,74 @@ impl FunctionText<'_> {
         }
     }
 
-    fn write_name<W: TextSink>(&self, key: &NameKey, out: &mut W) -> Result<(), Error>
+    /// The locals, and an empty line behind them if there are any.
+    fn write_locals<W: TextSink>(
+        &self,
+        alloc: Global,
+        scope: &Scope,
+        out: &mut W,
+    ) -> Result<(), Error>
+        requires can { CanWrite self.now.shader.now (names_in self.now.names.now) self.now.handle self.now.function.now self.now.info.now }
+        requires start { StartsAt (naming_of self.now.shader.now self.now.handle self.now.function.now self.now.info.now) scope.now }
+        ensures { Appends result (W.text out.old) (W.failures out.old) (locals_text (locals_form (naming_of self.now.shader.now self.now.handle self.now.function.now self.now.info.now) self.now.shader.now.types self.now.function.now.expressions 0 self.now.function.now.local_variables)) (W.text out.new) (W.failures out.new) }
+    {
+        for index in 0..self.function.local_variables.len() {
+            self.write_local(alloc, scope, Place::from_index(index), out)?;
+        }
+        put(
+            if self.function.local_variables.is_empty() {
+                ""
+            } else {
+                "\n"
+            },
+            out,
+        )
+    }
+
+    fn write_local<W: TextSink>(
+        &self,
+        alloc: Global,
+        scope: &Scope,
+        handle: Handle<LocalVariable>,
+        out: &mut W,
+    ) -> Result<(), Error>
+        requires can { CanWrite self.now.shader.now (names_in self.now.names.now) self.now.handle self.now.function.now self.now.info.now }
+        requires start { StartsAt (naming_of self.now.shader.now self.now.handle self.now.function.now self.now.info.now) scope.now }
+        requires local { handle < length self.now.function.now.local_variables }
+        ensures { Appends result (W.text out.old) (W.failures out.old) (local_text_at (naming_of self.now.shader.now self.now.handle self.now.function.now self.now.info.now) self.now.shader.now.types self.now.function.now.expressions handle (slice_get self.now.function.now.local_variables handle)) (W.text out.new) (W.failures out.new) }
+    {
+        let local = &self.function.local_variables[handle];
+        put("    var ", out)?;
+        self.write_name(&NameKey::FunctionLocal(self.handle, handle), out)?;
+        put(": ", out)?;
+        write_type(&self.shader.types, local.ty, out)?;
+        self.write_first_value(alloc, scope, local.init, out)
+    }
+
+    /// What stands behind the type of a local.
+    fn write_first_value<W: TextSink>(
+        &self,
+        alloc: Global,
+        scope: &Scope,
+        value: Option<Handle<Expression>>,
+        out: &mut W,
+    ) -> Result<(), Error>
+        requires can { CanWrite self.now.shader.now (names_in self.now.names.now) self.now.handle self.now.function.now self.now.info.now }
+        requires start { StartsAt (naming_of self.now.shader.now self.now.handle self.now.function.now self.now.info.now) scope.now }
+        requires value { IsTrue (is_below (length self.now.function.now.expressions) value) }
+        ensures { Appends result (W.text out.old) (W.failures out.old) (first_text (naming_of self.now.shader.now self.now.handle self.now.function.now self.now.info.now) self.now.function.now.expressions value) (W.text out.new) (W.failures out.new) }
+    {
+        match value {
+            Some(value) => {
+                put(" = ", out)?;
+                self.write_value(alloc, scope, value, out)?;
+                put(";\n", out)
+            }
+            None => put(";\n", out),
+        }
+    }
+
+    pub(crate) fn write_name<W: TextSink>(&self, key: &NameKey, out: &mut W) -> Result<(), Error>
         requires { names_in self.now.names.now key.now ≡ Some (name_in (module_names self.now.shader.now) key.now) }
         ensures { Appends result (W.text out.old) (W.failures out.old) (name_in (module_names self.now.shader.now) key.now) (W.text out.new) (W.failures out.new) }
     {
@@ -135,74 +215,6 @@ impl FunctionText<'_> {
             None => unreachable!(),
         }
     }
-
-    fn write_block<W: TextSink>(
-        &self,
-        alloc: Global,
-        level: Level,
-        block: &Block,
-        out: &mut W,
-    ) -> Result<(), Error>
-        requires can { CanWrite self.now.shader.now (names_in self.now.names.now) self.now.handle self.now.function.now }
-        requires block { IsTrue (returns_below (length self.now.function.now.expressions) block.now) }
-        ensures { Appends result (W.text out.old) (W.failures out.old) (text (statements_pieces (statements_form (module_names self.now.shader.now) self.now.handle self.now.function.now.expressions block.now) level.0)) (W.text out.new) (W.failures out.new) }
-    {
-        for statement in block.as_slice() {
-            match statement {
-                Statement::Return { value } => self.write_return(alloc, level, *value, out)?,
-                _ => unreachable!(),
-            }
-        }
-        Ok(())
-    }
-
-    fn write_return<W: TextSink>(
-        &self,
-        alloc: Global,
-        level: Level,
-        value: Option<Handle<Expression>>,
-        out: &mut W,
-    ) -> Result<(), Error>
-        requires can { CanWrite self.now.shader.now (names_in self.now.names.now) self.now.handle self.now.function.now }
-        requires value { IsTrue (is_below (length self.now.function.now.expressions) value) }
-        ensures { Appends result (W.text out.old) (W.failures out.old) (text (statement_pieces (return_form (module_names self.now.shader.now) self.now.handle self.now.function.now.expressions value) level.0)) (W.text out.new) (W.failures out.new) }
-    {
-        write_indentation(alloc, level, out)?;
-        match value {
-            None => put("return;\n", out),
-            Some(handle) => {
-                put("return ", out)?;
-                self.write_expression(alloc, handle, out)?;
-                put(";\n", out)
-            }
-        }
-    }
-
-    fn write_expression<W: TextSink>(
-        &self,
-        alloc: Global,
-        handle: Handle<Expression>,
-        out: &mut W,
-    ) -> Result<(), Error>
-        requires can { CanWrite self.now.shader.now (names_in self.now.names.now) self.now.handle self.now.function.now }
-        requires handle { handle < length self.now.function.now.expressions }
-        ensures { Appends result (W.text out.old) (W.failures out.old) (text (expression_pieces (expression_form (module_names self.now.shader.now) self.now.handle self.now.function.now.expressions handle))) (W.text out.new) (W.failures out.new) }
-    {
-        match &self.function.expressions[handle] {
-            Expression::Literal(literal) => write_literal(alloc, *literal, out),
-            Expression::FunctionArgument(number) => {
-                self.write_name(&NameKey::FunctionArgument(self.handle, *number), out)
-            }
-            _ => unreachable!(),
-        }
-    }
-}
-
-/// The blanks before a line.
-fn write_indentation<W: TextSink>(alloc: Global, level: Level, out: &mut W) -> Result<(), Error>
-    ensures { Appends result (W.text out.old) (W.failures out.old) (indentation level.0) (W.text out.new) (W.failures out.new) }
-{
-    put(level.to_string(alloc)?.as_str(), out)
 }
 
 /// What stands before the argument with this number.
@@ -212,7 +224,7 @@ fn write_separator<W: TextSink>(number: usize, out: &mut W) -> Result<(), Error>
     put(if number == 0 { "" } else { ", " }, out)
 }
 
-fn write_type<W: TextSink>(
+pub(crate) fn write_type<W: TextSink>(
     types: &UniqueArena<Type_>,
     ty: Handle<Type_>,
     out: &mut W,

@@ -3,13 +3,16 @@
 //! Users take these through the crate `naga_wgsl_out`.
 #![tactic(auto)]
 
+mod body;
 pub mod error;
+mod expression;
 pub mod flags;
 pub mod function;
 pub mod implemented;
 mod literal;
 pub mod part;
 pub mod sinks;
+mod told;
 
 pub use error::Error;
 pub use flags::WriterFlags;

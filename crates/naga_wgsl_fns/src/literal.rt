@@ -1,6 +1,6 @@
 //! Literals.
 
-ghost use Rattle.std.specs.Prelude.{IsTrue, ◌++◌};
+ghost use Rattle.std.specs.Prelude.{IsTrue};
 ghost use Rattle.std.specs.Option.{is_some};
 ghost use Rattle.naga_info.specs.Types.{literal_word};
 ghost use Rattle.naga_form.specs.Literals.{integer_form, long_form, literal_form};
@@ -9,7 +9,7 @@ ghost use Rattle.wgsl_text.specs.Text.{text};
 ghost use Rattle.naga_wgsl_fns.specs.Appends.{Appends};
 
 use crate::error::Error;
-use crate::sinks::put;
+use crate::sinks::{put, put_two};
 use naga_ir::Literal;
 use naga_words::TextSink;
 use std::alloc::Global;
@@ -28,9 +28,9 @@ pub(crate) fn write_literal<W: TextSink>(
     match literal {
         Literal::Bool(value) => put(if value { "true" } else { "false" }, out),
         Literal::I32(value) => write_i32(alloc, value, out),
-        Literal::U32(value) => write_number(value.to_string(alloc)?.as_str(), "u", out),
+        Literal::U32(value) => put_two(value.to_string(alloc)?.as_str(), "u", out),
         Literal::I64(value) => write_i64(alloc, value, out),
-        Literal::U64(value) => write_number(value.to_string(alloc)?.as_str(), "lu", out),
+        Literal::U64(value) => put_two(value.to_string(alloc)?.as_str(), "lu", out),
         _ => unreachable!(),
     }
 }
@@ -41,7 +41,7 @@ fn write_i32<W: TextSink>(alloc: Global, value: i32, out: &mut W) -> Result<(), 
     if value == i32::MIN {
         return put("i32(-2147483648)", out);
     }
-    write_number(value.to_string(alloc)?.as_str(), "i", out)
+    put_two(value.to_string(alloc)?.as_str(), "i", out)
 }
 
 fn write_i64<W: TextSink>(alloc: Global, value: i64, out: &mut W) -> Result<(), Error>
@@ -50,14 +50,5 @@ fn write_i64<W: TextSink>(alloc: Global, value: i64, out: &mut W) -> Result<(), 
     if value == i64::MIN {
         return put("i64(-9223372036854775807 - 1)", out);
     }
-    write_number(value.to_string(alloc)?.as_str(), "li", out)
-}
-
-/// Writes the digits of a number, perhaps behind a sign, and its suffix.
-#[tactic(auto, using(crate::proofs::Appending::appends_then))]
-fn write_number<W: TextSink>(digits: &str, suffix: &str, out: &mut W) -> Result<(), Error>
-    ensures { Appends result (W.text out.old) (W.failures out.old) (digits.now ++ suffix.now) (W.text out.new) (W.failures out.new) }
-{
-    put(digits, out)?;
-    put(suffix, out)
+    put_two(value.to_string(alloc)?.as_str(), "li", out)
 }

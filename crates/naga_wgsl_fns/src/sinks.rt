@@ -1,5 +1,6 @@
 //! Pieces of text, and how they are written to sinks.
 
+ghost use Rattle.std.specs.Prelude.{◌++◌};
 ghost use Rattle.naga_wgsl_fns.specs.Appends.{Appends};
 
 use crate::error::Error;
@@ -12,4 +13,27 @@ pub fn put<W: TextSink>(piece: &str, out: &mut W) -> Result<(), Error>
 {
     out.write_str(piece)?;
     Ok(())
+}
+
+/// Writes two pieces, one behind the other.
+#[tactic(auto, using(crate::proofs::Appending::appends_then))]
+pub(crate) fn put_two<W: TextSink>(first: &str, second: &str, out: &mut W) -> Result<(), Error>
+    ensures { Appends result (W.text out.old) (W.failures out.old) (first.now ++ second.now) (W.text out.new) (W.failures out.new) }
+{
+    put(first, out)?;
+    put(second, out)
+}
+
+/// Writes three pieces, one behind another.
+#[tactic(auto, using(crate::proofs::Appending::appends_then))]
+pub(crate) fn put_three<W: TextSink>(
+    first: &str,
+    second: &str,
+    third: &str,
+    out: &mut W,
+) -> Result<(), Error>
+    ensures { Appends result (W.text out.old) (W.failures out.old) (first.now ++ (second.now ++ third.now)) (W.text out.new) (W.failures out.new) }
+{
+    put(first, out)?;
+    put_two(second, third, out)
 }

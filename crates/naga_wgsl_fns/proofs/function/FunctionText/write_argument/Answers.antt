@@ -20,7 +20,7 @@ returns-in_err-put g c =
 pub write_type-requires : goal.write_type-requires
 write_type-requires g c =
     let self = c.args.self.now in
-    argument_has_word self.shader.now (names_in self.names.now) self.handle self.function.now c.requires.can c.args.number c.args.argument.now c.requires.argument
+    argument_has_word self.shader.now (names_in self.names.now) self.handle self.function.now self.info.now c.requires.can c.args.number c.args.argument.now c.requires.argument
 
 pub returns : goal.returns
 returns g c =

@@ -1,0 +1,127 @@
+-- Where the expressions stand behind an Emit.
+use Rattle.std.proofs.Common.{◌≡◌, ◌≢◌, ℕ, zero, suc, ◌+◌, ◌-◌, ◌<◌, ◌≤◌, ◌==◌, ◌&&◌, ◌||◌, Bool, true, false, nat_eq, List, [], ◌∷◌, length, get_or, Option, Some, None, refl, sym, ap, ap₂, ◌∙◌, arith, slice_set, eqb-true, add-one}
+use Rattle.std.specs.Prelude.{IsTrue, cond, not, slice_get}
+use Rattle.std.specs.Option.{option_map}
+use Rattle.std.proofs.lemmas.Bool.{eqb-false}
+use Rattle.std.proofs.lemmas.List.{get_or-set_other, set-get_or}
+use Rattle.std.proofs.lemmas.Grind.{get_or-set_at}
+use Rattle.std.proofs.lemmas.Option.{slice_get-map, slice_get_past}
+use Rattle.indexmap.specs.IndexMap.{keys}
+use Rattle.naga_ir.specs.declared.module.Function as ir_function
+use Rattle.naga_ir.specs.declared.types.Type_.{Type_}
+use Rattle.naga_info.specs.declared.info.ExpressionInfo.{ExpressionInfo}
+use Rattle.naga_names.specs.Reset.{NameMap}
+use Rattle.shader_runs.specs.World.{update}
+use Rattle.shader_runs.specs.Program.{Function, Expression, binds, binds_as, expression_of, operands_of, from}
+use Rattle.shader_runs.specs.Scope as runs
+use Rattle.shader_runs.specs.Scope.{Naming, Handles, is_pure, is_new, is_emittable, usable_all, emitted, after_one, after_emit, given_after, may_emit, may_emit_all}
+use Rattle.naga_form.specs.Names.{numbered_name}
+use Rattle.naga_form.specs.Shapes.{expression_shape, function_shape, function_naming}
+use Rattle.naga_scope.specs.declared.points.Standing.{Standing}
+use Rattle.naga_scope.specs.declared.points.Standing.TheVariants.{Absent, Barred, Everywhere, Inline, Named}
+use Rattle.naga_scope.specs.Standings.{standing_of, handles_of, shape_at, unbound_standing, emitted_standing}
+use Rattle.naga_scope.proofs.Shaped.{not_given}
+
+-- ---- a table with another cell
+set_handles : (table : List Standing) (h : ℕ) (cell : Standing) → h < length table → handles_of (slice_set table h cell) ≡ update (handles_of table) h (standing_of (numbered_name h) cell)
+set_handles table h cell lt = λ i j. each j i
+  where
+    by : (j : ℕ) (b : Bool) → nat_eq j h ≡ b → handles_of (slice_set table h cell) j ≡ cond b (standing_of (numbered_name h) cell) (handles_of table j)
+    by j true is = let same = eqb-true j h is in ap₂ (λ k c. standing_of (numbered_name k) c) same (get_or-set_at table h j cell Absent same lt)
+    by j false is = ap (standing_of (numbered_name j)) (get_or-set_other table h j cell Absent (eqb-false j h is))
+
+    each : (j : ℕ) → handles_of (slice_set table h cell) j ≡ update (handles_of table) h (standing_of (numbered_name h) cell) j
+    each j = by j (nat_eq j h) refl
+
+unbound_is : (u : Bool) (name : List ℕ) (cell : Standing) → standing_of name (unbound_standing u cell) ≡ runs.unbound u (standing_of name cell)
+unbound_is true name cell = refl
+unbound_is false name Absent = refl
+unbound_is false name _ = refl
+
+-- the cell of an emitted handle, in the table
+cell_emitted : (b o u : Bool) (table : List Standing) (h : ℕ) → h < length table → handles_of (slice_set table h (emitted_standing b o u (get_or table h Absent))) ≡ emitted b o u (numbered_name h) (handles_of table) h
+cell_emitted true o u table h lt = set_handles table h Named lt
+cell_emitted false true u table h lt =
+    set_handles table h (unbound_standing u (get_or table h Absent)) lt
+    ∙ ap (update (handles_of table) h) (unbound_is u (numbered_name h) (get_or table h Absent))
+cell_emitted false false u table h lt = ap handles_of (set-get_or table h Absent)
+
+-- ---- ranges of handles
+pub range_none : (i e : ℕ) → e ≤ i → from i (e - i) ≡ []
+range_none i e le = let none : e - i ≡ 0 = omega (arith, le) in ap (from i) none
+
+range_more : (i e : ℕ) → i < e → from i (e - i) ≡ i ∷ from (i + 1) (e - (i + 1))
+range_more i e lt =
+    let more : e - i ≡ suc (e - (i + 1)) = omega (arith, lt) in
+    ap (from i) more ∙ ap (λ j. i ∷ from j (e - (i + 1))) (sym (add-one i))
+
+-- ---- what may be emitted
+pub no_and : (a b : Bool) → false ≡ (a && (false && b))
+no_and true b = refl
+no_and false b = refl
+
+module _ (types : List Type_) (f : ir_function.Function) (es : List ExpressionInfo) where
+  abbrev of : Function
+  of = function_shape types f es
+
+  -- it isn't, where it isn't new
+  pub refused_old : (h : ℕ) (s : Handles) → is_new (s h) ≡ false → false ≡ may_emit of h s
+  refused_old h s old = sym (ap (λ a. a && (is_emittable (expression_of of h) && (not (binds of h) || usable_all of s (operands_of (expression_of of h))))) old)
+
+  -- nor where it is none that is emitted
+  pub refused_kind : (h : ℕ) (s : Handles) → is_emittable (shape_at f.expressions h) ≡ false → false ≡ may_emit of h s
+  refused_kind h s kind =
+      let b = not (binds of h) || usable_all of s (operands_of (expression_of of h)) in
+      no_and (is_new (s h)) b
+      ∙ ap (λ m. is_new (s h) && (m && b)) (sym (ap is_emittable (slice_get-map expression_shape f.expressions h) ∙ kind))
+
+  -- else it is where no name binds it, or its operands are in scope
+  pub allowed_by : (h : ℕ) (s : Handles) (b u : Bool) → is_new (s h) ≡ true → is_emittable (shape_at f.expressions h) ≡ true → b ≡ binds of h → u ≡ usable_all of s (operands_of (shape_at f.expressions h)) → (not b || u) ≡ may_emit of h s
+  allowed_by h s b u new kind bound operands =
+      let at = sym (slice_get-map expression_shape f.expressions h) in
+      λ i. sym new i && (sym (ap is_emittable (sym at) ∙ kind) i && (not (bound i) || (operands ∙ ap (λ e. usable_all of s (operands_of e)) at) i))
+
+module _ (names : NameMap) (types : List Type_) (g : ℕ) (f : ir_function.Function) (es : List ExpressionInfo) (unnamed : IsTrue (length (keys f.named_expressions) == 0)) where
+  abbrev own : Naming
+  own = function_naming names types g f es
+
+  abbrev shape : Function
+  shape = function_shape types f es
+
+  -- an Emit of a handle, by what the code finds of it
+  pub emitted_is : (k h : ℕ) (table : List Standing) (b o u : Bool) (cell : Standing) → h < length table → b ≡ binds shape h → o ≡ is_pure (shape_at f.expressions h) → u ≡ usable_all shape (handles_of table) (operands_of (shape_at f.expressions h)) → cell ≡ emitted_standing b o u (get_or table h Absent) → handles_of (slice_set table h cell) ≡ after_one own k h (handles_of table)
+  emitted_is k h table b o u cell lt bound operator operands is =
+      let s = handles_of table in
+      let at = sym (slice_get-map expression_shape f.expressions h) in
+      ap (λ c. handles_of (slice_set table h c)) is
+      ∙ cell_emitted b o u table h lt
+      ∙ (λ i. emitted (bound i) ((operator ∙ ap is_pure at) i) ((operands ∙ ap (λ e. usable_all shape s (operands_of e)) at) i) (numbered_name h) s h)
+      ∙ ap (λ given. emitted (binds shape h) (is_pure (expression_of shape h)) (usable_all shape s (operands_of (expression_of shape h))) (cond given [] (numbered_name h)) s h) (sym (not_given types f es h unnamed))
+
+  -- an Emit of a handle past the expressions changes nothing
+  pub past_emitted : (k h : ℕ) (table : List Standing) → length table ≤ h → length table ≡ length f.expressions → handles_of table ≡ after_one own k h (handles_of table)
+  past_emitted k h table le size =
+      let past : length f.expressions ≤ h = omega (arith, le, size) in
+      let s = handles_of table in
+      let at = slice_get-map expression_shape f.expressions h ∙ ap (option_map expression_shape) (slice_get_past f.expressions h past) in
+      sym (ap (λ e. emitted (binds_as shape h e) (is_pure e) (usable_all shape s (operands_of e)) (runs.bound_name own k h) s h) at)
+
+  -- ---- the handles of a range in turn
+  given_same : (h k : ℕ) → given_after shape h k ≡ k
+  given_same h k = ap (λ b. cond b (suc k) k) (not_given types f es h unnamed)
+
+  pub range_holds : (k i e : ℕ) (s s1 : Handles) → i < e → may_emit shape i s ≡ true → s1 ≡ after_one own k i s → may_emit_all own k (from (i + 1) (e - (i + 1))) s1 ≡ may_emit_all own k (from i (e - i)) s
+  range_holds k i e s s1 lt may next =
+      sym (ap (λ hs. may_emit_all own k hs s) (range_more i e lt)
+      ∙ ap₂ (λ b n. b && may_emit_all own n (from (i + 1) (e - (i + 1))) (after_one own k i s)) may (given_same i k)
+      ∙ ap (may_emit_all own k (from (i + 1) (e - (i + 1)))) (sym next))
+
+  pub range_behind : (k i e : ℕ) (s s1 : Handles) → i < e → s1 ≡ after_one own k i s → after_emit own k (from (i + 1) (e - (i + 1))) s1 ≡ after_emit own k (from i (e - i)) s
+  range_behind k i e s s1 lt next =
+      sym (ap (λ hs. after_emit own k hs s) (range_more i e lt)
+      ∙ ap₂ (λ n t. after_emit own n (from (i + 1) (e - (i + 1))) t) (given_same i k) (sym next))
+
+  pub range_refused : (k i e : ℕ) (s : Handles) → i < e → may_emit shape i s ≡ false → false ≡ may_emit_all own k (from i (e - i)) s
+  range_refused k i e s lt may =
+      sym (ap (λ hs. may_emit_all own k hs s) (range_more i e lt)
+      ∙ ap (λ b. b && may_emit_all own (given_after shape i k) (from (i + 1) (e - (i + 1))) (after_one own k i s)) may)

@@ -1,0 +1,136 @@
+-- The check over the locals, the statements and the functions in turn.
+use Rattle.std.proofs.Common.{◌≡◌, ℕ, suc, ◌+◌, ◌-◌, ◌<◌, ◌≤◌, ◌^◌, ◌==◌, ◌&&◌, Bool, true, false, List, [], ◌∷◌, map, drop, length, nat_le, Option, Some, None, refl, sym, ap, ap₂, subst, ◌∙◌, arith, slice_index_or}
+use Rattle.std.specs.Prelude.{IsTrue, cond, slice_get, reverse}
+use Rattle.std.specs.List.{list_all, enumerate_from}
+use mathlib.Core.List.{reverse_aux}
+use Rattle.std.proofs.lemmas.List.{drop_all}
+use Rattle.indexmap.specs.IndexMap.{keys}
+use Rattle.naga_ir.specs.StatementTree.{emit, StatementTree, simple, BlockTree, no_statements, statement}
+use Rattle.naga_ir.specs.StatementViews.{tree_of, block_of}
+use Rattle.naga_ir.specs.declared.expression.Expression as ir
+use Rattle.naga_ir.specs.declared.expression.Expression.TheVariants as expression
+use Rattle.naga_ir.specs.declared.module.Function as ir_function
+use Rattle.naga_ir.specs.declared.module.LocalVariable.{LocalVariable}
+use Rattle.naga_ir.specs.declared.module.Module.{Module}
+use Rattle.naga_ir.specs.declared.operators.BinaryOperator.{BinaryOperator}
+use Rattle.naga_ir.specs.declared.statement.Statement.{Statement}
+use Rattle.naga_ir.specs.declared.types.Type_.{Type_}
+use Rattle.naga_info.specs.Accepted.{function_fits}
+use Rattle.naga_info.specs.declared.info.ExpressionInfo.{ExpressionInfo}
+use Rattle.naga_info.proofs.Accepting.{load_word_at, binary_at}
+use Rattle.naga_info.proofs.Fitting.{drop_first, item_at}
+use Rattle.naga_names.specs.Reset.{NameMap}
+use Rattle.wgsl_text.specs.Tree.{BinaryOperator as tree_operator}
+use Rattle.shader_runs.specs.Program.{Function, Statements, end, operands_of, from}
+use Rattle.shader_runs.specs.Premises.{AllBelow}
+use Rattle.shader_runs.specs.Scope.{Naming, Handles, given_after, given_after_all, given_by, after, fits, fits_all, fits_function}
+use Rattle.naga_form.specs.Operators.{operator_form}
+use Rattle.naga_form.specs.Shapes.{expression_shape, binary_shape, statement_shape, statements_shape, function_shape, function_shapes, function_naming, namings_from, OperandsStandBefore}
+use Rattle.naga_scope.proofs.Shaped.{not_given, operator_operands}
+use Rattle.naga_scope.proofs.Emitting.{no_and}
+
+-- ---- operands stand before what they are of
+-- as in each accepted function
+pub ordered_function : (types : List Type_) (f : ir_function.Function) (es : List ExpressionInfo) → function_fits types f es ≡ true → OperandsStandBefore f.expressions
+ordered_function types f es fits h (expression.Load q) at = let l = load_word_at types f es h q fits at in (l.1, tt)
+ordered_function types f es fits h (expression.Binary op left right) at =
+    let o = binary_at types f es h op left right fits at in
+    both (operator_form op) o.left_before o.right_before
+  where
+    both : (op : tree_operator) → left < h → right < h → AllBelow h (operands_of (Some (binary_shape op left right)))
+    both op a b = subst (AllBelow h) (sym (operator_operands op left right)) (a, (b, tt))
+ordered_function types f es fits h _ at = tt
+
+-- ---- first values
+pub first_values_listed : (n : ℕ) (ls : List LocalVariable) → map (λ p. p.1.init) (enumerate_from n ls) ≡ map (λ l. l.init) ls
+first_values_listed n [] = refl
+first_values_listed n (l ∷ ls) = ap (λ os. l.init ∷ os) (first_values_listed (n + 1) ls)
+
+-- ---- statements
+module _ (names : NameMap) (types : List Type_) (g : ℕ) (f : ir_function.Function) (es : List ExpressionInfo) (unnamed : IsTrue (length (keys f.named_expressions) == 0)) where
+  abbrev own : Naming
+  own = function_naming names types g f es
+
+  abbrev shape : Function
+  shape = function_shape types f es
+
+  given_some : (hs : List ℕ) (k : ℕ) → given_after_all shape hs k ≡ k
+  given_some [] k = refl
+  given_some (h ∷ hs) k = given_some hs (given_after shape h k) ∙ ap (λ b. cond b (suc k) k) (not_given types f es h unnamed)
+
+  given_line : (st : StatementTree) (k : ℕ) → given_by shape (statement_shape st) k ≡ k
+  given_line (simple (emit first last)) k = given_some (from first (last - first)) k
+  given_line _ k = refl
+
+  lines_more : (i : ℕ) (items : List Statement) (x : Statement) (s : Handles) → i < length items → x ≡ slice_index_or items i x → fits_all own 0 (statements_shape (block_of (drop i items))) s ≡ (fits own 0 (statement_shape (tree_of x)) s && fits_all own 0 (statements_shape (block_of (drop (i + 1) items))) (after own 0 (statement_shape (tree_of x)) s))
+  lines_more i items x s lt is =
+      ap (λ xs. fits_all own 0 (statements_shape (block_of xs)) s) (drop_first i items x lt ∙ ap (λ y. y ∷ drop (i + 1) items) (sym is))
+      ∙ ap (λ k. fits own 0 (statement_shape (tree_of x)) s && fits_all own k (statements_shape (block_of (drop (i + 1) items))) (after own 0 (statement_shape (tree_of x)) s)) (given_line (tree_of x) 0)
+
+  pub lines_hold : (i : ℕ) (items : List Statement) (x : Statement) (s s1 : Handles) → i < length items → x ≡ slice_index_or items i x → fits own 0 (statement_shape (tree_of x)) s ≡ true → s1 ≡ after own 0 (statement_shape (tree_of x)) s → fits_all own 0 (statements_shape (block_of (drop (i + 1) items))) s1 ≡ fits_all own 0 (statements_shape (block_of (drop i items))) s
+  lines_hold i items x s s1 lt is fit next =
+      sym (lines_more i items x s lt is
+      ∙ ap₂ (λ b t. b && fits_all own 0 (statements_shape (block_of (drop (i + 1) items))) t) fit (sym next))
+
+  pub lines_refused : (i : ℕ) (items : List Statement) (x : Statement) (s : Handles) → i < length items → x ≡ slice_index_or items i x → fits own 0 (statement_shape (tree_of x)) s ≡ false → false ≡ fits_all own 0 (statements_shape (block_of (drop i items))) s
+  lines_refused i items x s lt is fit =
+      sym (lines_more i items x s lt is
+      ∙ ap (λ b. b && fits_all own 0 (statements_shape (block_of (drop (i + 1) items))) (after own 0 (statement_shape (tree_of x)) s)) fit)
+
+  pub lines_end : (items : List Statement) (i : ℕ) (s : Handles) → length items ≤ i → true ≡ fits_all own 0 (statements_shape (block_of (drop i items))) s
+  lines_end items i s le = ap (λ xs. fits_all own 0 (statements_shape (block_of xs)) s) (sym (drop_all i items le))
+
+-- ---- functions
+and_assoc : (a b c : Bool) → ((a && b) && c) ≡ (a && (b && c))
+and_assoc true b c = refl
+and_assoc false b c = refl
+
+and_swap : (a b : Bool) → (a && b) ≡ (b && a)
+and_swap true true = refl
+and_swap true false = refl
+and_swap false true = refl
+and_swap false false = refl
+
+all_turned : {X : Type 0} (test : X → Bool) (xs behind : List X) → list_all test (reverse_aux xs behind) ≡ (list_all test xs && list_all test behind)
+all_turned test [] behind = refl
+all_turned test (x ∷ xs) behind =
+    all_turned test xs (x ∷ behind)
+    ∙ sym (and_assoc (list_all test xs) (test x) (list_all test behind))
+    ∙ ap (λ b. b && list_all test behind) (and_swap (list_all test xs) (test x))
+
+-- a list that is turned round passes a test where it does
+pub all_reversed : {X : Type 0} (test : X → Bool) (xs : List X) → list_all test xs ≡ list_all test (reverse xs)
+all_reversed test xs = sym (all_turned test xs [] ∙ and_swap (list_all test xs) true)
+
+module _ (names : NameMap) (types : List Type_) where
+  -- the functions from the one with this handle on
+  abbrev functions_on : ℕ → List ir_function.Function → List (List ExpressionInfo) → List Naming
+  functions_on i fs ess = namings_from names i (function_shapes types (drop i fs) (drop i ess))
+
+  functions_more : (i : ℕ) (fs : List ir_function.Function) (ess : List (List ExpressionInfo)) (f : ir_function.Function) (es : List ExpressionInfo) → i < length fs → i < length ess → slice_get fs i ≡ Some f → es ≡ slice_index_or ess i es → functions_on i fs ess ≡ function_naming names types i f es ∷ functions_on (i + 1) fs ess
+  functions_more i fs ess f es lf le at is =
+      ap₂ (λ gs hs. namings_from names i (function_shapes types gs hs))
+      (drop_first i fs f lf ∙ ap (λ y. y ∷ drop (i + 1) fs) (item_at fs i f lf at))
+      (drop_first i ess es le ∙ ap (λ y. y ∷ drop (i + 1) ess) (sym is))
+
+  -- what is left of the check, and what was found so far
+  pub functions_hold : (so_far : Bool) (i : ℕ) (fs : List ir_function.Function) (ess : List (List ExpressionInfo)) (f : ir_function.Function) (es : List ExpressionInfo) → i < length fs → i < length ess → slice_get fs i ≡ Some f → es ≡ slice_index_or ess i es → fits_function (function_naming names types i f es) ≡ true → (so_far && list_all fits_function (functions_on (i + 1) fs ess)) ≡ (so_far && list_all fits_function (functions_on i fs ess))
+  functions_hold so_far i fs ess f es lf le at is fit =
+      sym (ap (λ ns. so_far && list_all fits_function ns) (functions_more i fs ess f es lf le at is)
+      ∙ ap (λ b. so_far && (b && list_all fits_function (functions_on (i + 1) fs ess))) fit)
+
+  pub functions_refused : (so_far : Bool) (i : ℕ) (fs : List ir_function.Function) (ess : List (List ExpressionInfo)) (f : ir_function.Function) (es : List ExpressionInfo) → i < length fs → i < length ess → slice_get fs i ≡ Some f → es ≡ slice_index_or ess i es → fits_function (function_naming names types i f es) ≡ false → false ≡ (so_far && list_all fits_function (functions_on i fs ess))
+  functions_refused so_far i fs ess f es lf le at is fit =
+      no_and so_far (list_all fits_function (functions_on (i + 1) fs ess))
+      ∙ sym (ap (λ ns. so_far && list_all fits_function ns) (functions_more i fs ess f es lf le at is)
+      ∙ ap (λ b. so_far && (b && list_all fits_function (functions_on (i + 1) fs ess))) fit)
+
+  pub functions_end : (so_far : Bool) (i : ℕ) (fs : List ir_function.Function) (ess : List (List ExpressionInfo)) → length fs ≤ i → so_far ≡ (so_far && list_all fits_function (functions_on i fs ess))
+  functions_end so_far i fs ess le =
+      and_swap true so_far ∙ ap (λ gs. so_far && list_all fits_function (namings_from names i (function_shapes types gs (drop i ess)))) (sym (drop_all i fs le))
+
+-- ---- how many expressions there are
+pub counted_more : (i : ℕ) (fs : List ir_function.Function) (f : ir_function.Function) → i < length fs → slice_get fs i ≡ Some f → IsTrue (nat_le (length f.expressions) (2 ^ 64)) → list_all (λ f. nat_le (length f.expressions) (2 ^ 64)) (drop (i + 1) fs) ≡ list_all (λ f. nat_le (length f.expressions) (2 ^ 64)) (drop i fs)
+counted_more i fs f lt at counted =
+    sym (ap (list_all (λ f. nat_le (length f.expressions) (2 ^ 64))) (drop_first i fs f lt ∙ ap (λ y. y ∷ drop (i + 1) fs) (item_at fs i f lt at))
+    ∙ ap (λ b. b && list_all (λ f. nat_le (length f.expressions) (2 ^ 64)) (drop (i + 1) fs)) counted)

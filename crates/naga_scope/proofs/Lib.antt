@@ -1,0 +1,4 @@
+pub mod Shaped
+pub mod Constants
+pub mod Emitting
+pub mod Holding

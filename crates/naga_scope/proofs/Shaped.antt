@@ -1,0 +1,115 @@
+-- The shapes of a function's expressions, and what is not named in it.
+use Rattle.std.proofs.Common.{◌≡◌, ◌≢◌, ℕ, zero, suc, ◌+◌, ◌-◌, ◌<◌, ◌==◌, ◌&&◌, ◌||◌, Bool, true, false, List, [], ◌∷◌, length, map, get_or, nat_le, Option, Some, None, refl, sym, ap, ◌∙◌, arith}
+use Rattle.std.specs.Prelude.{IsTrue, cond, slice_get}
+use Rattle.std.specs.Option.{option_map}
+use Rattle.std.proofs.lemmas.Bool.{eqb-true}
+use Rattle.std.proofs.lemmas.Option.{slice_get-map}
+use Rattle.indexmap.specs.IndexMap.{keys}
+use Rattle.naga_ir.specs.declared.expression.Expression as ir
+use Rattle.naga_ir.specs.declared.expression.Expression.TheVariants as expression
+use Rattle.naga_ir.specs.declared.module.Function as ir_function
+use Rattle.naga_ir.specs.declared.operators.BinaryOperator.{BinaryOperator as ir_operator}
+use Rattle.naga_ir.specs.declared.types.Type_.{Type_}
+use Rattle.naga_info.specs.declared.info.ExpressionInfo.{ExpressionInfo}
+use Rattle.wgsl_text.specs.Tree.{BinaryOperator, LogicalAnd, LogicalOr}
+use Rattle.shader_runs.specs.Program.{Expression, Function, operands_of, expression_of, is_given, is_counted, binds_as, binds}
+use Rattle.shader_runs.specs.Scope.{Standing, Handles, is_present, usable_as, usable, usable_all, is_pure, is_constant_leaf, is_emittable}
+use Rattle.naga_form.specs.Operators.{operator_form}
+use Rattle.naga_form.specs.Shapes.{binary_shape, expression_shape, given_from, function_shape}
+
+-- ---- no front end's names
+nothing_given : (n : ℕ) (es : List ir.Expression) (h : ℕ) → get_or (given_from [] n es) h false ≡ false
+nothing_given n [] h = refl
+nothing_given n (e ∷ es) zero = refl
+nothing_given n (e ∷ es) (suc h) = nothing_given (n + 1) es h
+
+no_keys : (ks : List ℕ) → IsTrue (length ks == 0) → ks ≡ []
+no_keys [] e = refl
+no_keys (k ∷ ks) e = absurd (some_none (length ks) (eqb-true (length (k ∷ ks)) 0 e))
+  where
+    some_none : (n : ℕ) → suc n ≡ 0 → ⊥
+    some_none n q = cc
+
+-- no handle of a function is named, where front ends name none
+pub not_given : (types : List Type_) (f : ir_function.Function) (es : List ExpressionInfo) (h : ℕ) → IsTrue (length (keys f.named_expressions) == 0) → is_given (function_shape types f es) h ≡ false
+not_given types f es h unnamed = ap (λ ks. get_or (given_from ks 0 f.expressions) h false) (no_keys (keys f.named_expressions) unnamed) ∙ nothing_given 0 f.expressions h
+
+-- ---- operators
+pub pure_operator : (op : BinaryOperator) (l r : ℕ) → is_pure (Some (binary_shape op l r)) ≡ true
+pure_operator LogicalAnd l r = refl
+pure_operator LogicalOr l r = refl
+pure_operator _ l r = refl
+
+pub emittable_operator : (op : BinaryOperator) (l r : ℕ) → is_emittable (Some (binary_shape op l r)) ≡ true
+emittable_operator LogicalAnd l r = refl
+emittable_operator LogicalOr l r = refl
+emittable_operator _ l r = refl
+
+pub no_leaf_operator : (op : BinaryOperator) (l r : ℕ) → is_constant_leaf (Some (binary_shape op l r)) ≡ false
+no_leaf_operator LogicalAnd l r = refl
+no_leaf_operator LogicalOr l r = refl
+no_leaf_operator _ l r = refl
+
+pub operator_operands : (op : BinaryOperator) (l r : ℕ) → operands_of (Some (binary_shape op l r)) ≡ l ∷ r ∷ []
+operator_operands LogicalAnd l r = refl
+operator_operands LogicalOr l r = refl
+operator_operands _ l r = refl
+
+pub operator_bound : (f : Function) (h : ℕ) (op : BinaryOperator) (l r : ℕ) → binds_as f h (Some (binary_shape op l r)) ≡ is_counted f 2 h
+operator_bound f h LogicalAnd l r = refl
+operator_bound f h LogicalOr l r = refl
+operator_bound f h _ l r = refl
+
+pub operator_usable : (f : Function) (op : BinaryOperator) (l r : ℕ) (s : Standing) → usable_as f (Some (binary_shape op l r)) s ≡ is_present s
+operator_usable f LogicalAnd l r s = refl
+operator_usable f LogicalOr l r s = refl
+operator_usable f _ l r s = refl
+
+-- ---- what a `let` binds
+module _ (types : List Type_) (f : ir_function.Function) (es : List ExpressionInfo) (h : ℕ) (unnamed : IsTrue (length (keys f.named_expressions) == 0)) where
+  abbrev shape : Function
+  shape = function_shape types f es
+
+  -- how often the handle is used
+  abbrev count : ℕ
+  count = get_or (map (λ e. e.ref_count) es) h 0
+
+  counted_from : (least : ℕ) → is_counted shape least h ≡ nat_le least count
+  counted_from least = ap (λ b. b || nat_le least count) (not_given types f es h unnamed)
+
+  shape_of : (o : Option ir.Expression) → slice_get f.expressions h ≡ o → expression_of shape h ≡ option_map expression_shape o
+  shape_of o at = slice_get-map expression_shape f.expressions h ∙ ap (option_map expression_shape) at
+
+  pub load_binds : (pointer : ℕ) → slice_get f.expressions h ≡ Some (expression.Load pointer) → nat_le 1 count ≡ binds shape h
+  load_binds pointer at = sym (ap (binds_as shape h) (shape_of (Some (expression.Load pointer)) at) ∙ counted_from 1)
+
+  pub binary_binds : (op : ir_operator) (left right : ℕ) → slice_get f.expressions h ≡ Some (expression.Binary op left right) → nat_le 2 count ≡ binds shape h
+  binary_binds op left right at = sym (ap (binds_as shape h) (shape_of (Some (expression.Binary op left right)) at) ∙ operator_bound shape h (operator_form op) left right ∙ counted_from 2)
+
+  pub none_binds : slice_get f.expressions h ≡ None → false ≡ binds shape h
+  none_binds at = sym (ap (binds_as shape h) (shape_of None at))
+
+  pub other_binds : (e : ir.Expression) → slice_get f.expressions h ≡ Some e → ((p : ℕ) → e ≢ expression.Load p) → ((op : ir_operator) (l r : ℕ) → e ≢ expression.Binary op l r) → false ≡ binds shape h
+  other_binds e at no_load no_binary = sym (ap (binds_as shape h) (shape_of (Some e) at) ∙ by e no_load no_binary)
+    where
+      by : (e : ir.Expression) → ((p : ℕ) → e ≢ expression.Load p) → ((op : ir_operator) (l r : ℕ) → e ≢ expression.Binary op l r) → binds_as shape h (Some (expression_shape e)) ≡ false
+      by (expression.Load p) n m = absurd (n p refl)
+      by (expression.Binary op l r) n m = absurd (m op l r refl)
+      by _ n m = refl
+
+-- ---- operands in scope
+and_true : (b : Bool) → (b && true) ≡ b
+and_true true = refl
+and_true false = refl
+
+module _ (f : Function) (s : Handles) where
+  pub load_usable : (pointer : ℕ) → usable f s pointer ≡ usable_all f s (operands_of (Some (expression_shape (expression.Load pointer))))
+  load_usable pointer = sym (and_true (usable f s pointer))
+
+  pub binary_usable : (op : ir_operator) (left right : ℕ) → (usable f s left && usable f s right) ≡ usable_all f s (operands_of (Some (expression_shape (expression.Binary op left right))))
+  binary_usable op left right = sym (ap (usable_all f s) (operator_operands (operator_form op) left right) ∙ ap (λ b. usable f s left && b) (and_true (usable f s right)))
+
+-- what an expression that was found evaluates
+pub shape_found : {X : Type 0} (view : X → ir.Expression) (o : Option X) (found : Option ir.Expression) → option_map view o ≡ found → option_map (λ x. expression_shape (view x)) o ≡ option_map expression_shape found
+shape_found view None found is = ap (option_map expression_shape) is
+shape_found view (Some x) found is = ap (option_map expression_shape) is

@@ -1,0 +1,42 @@
+use Rattle.std.proofs.Common.{◌≡◌, ◌-◌, ap, sym, ◌∙◌, false}
+use Rattle.shader_runs.specs.Program.{from}
+use Rattle.shader_runs.specs.Scope.{may_emit, may_emit_all, after_one, after_emit}
+use Rattle.naga_form.specs.Shapes.{function_shape, function_naming}
+use Rattle.naga_scope.specs.Standings.{handles_of}
+use Rattle.naga_scope.proofs.Emitting.{range_none, range_holds, range_behind, range_refused}
+use Rattle.naga_scope.proofs.check.emit_holds.Goals as goal
+
+pub returns-then-not-may_emit-clause-fits : goal.returns-then-not-may_emit-clause-fits
+returns-then-not-may_emit-clause-fits c names types g k =
+    let s = handles_of c.loop-index.scope in
+    let may = sym (c.may_emit.ensures types ∙ ap (λ h. may_emit (function_shape types c.args.function.now c.args.info.now) h s) c.from_index-handle.ensures) ∙ c.if-not-may_emit.true in
+    range_refused names types g c.args.function.now c.args.info.now c.requires.unnamed k c.loop-index.index c.args.range.end s c.loop-index-test.true may
+    ∙ c.loop-index.invariant.holds names types g k
+
+pub loop-index-preserved : goal.loop-index-preserved
+loop-index-preserved c =
+    let f = c.args.function.now in
+    let es = c.args.info.now in
+    let s = handles_of c.loop-index.scope in
+    record {
+      size = c.emit.ensures.size ∙ c.loop-index.invariant.size;
+      holds = λ names types g k.
+          let may = sym (c.may_emit.ensures types ∙ ap (λ h. may_emit (function_shape types f es) h s) c.from_index-handle.ensures) ∙ c.if-not-may_emit.false in
+          let next = c.emit.ensures.handles names types g k ∙ ap (λ h. after_one (function_naming names types g f es) k h s) c.from_index-handle.ensures in
+          range_holds names types g f es c.requires.unnamed k c.loop-index.index c.args.range.end s (handles_of c.emit.new.self) c.loop-index-test.true may next
+          ∙ c.loop-index.invariant.holds names types g k;
+      behind = λ names types g k.
+          let next = c.emit.ensures.handles names types g k ∙ ap (λ h. after_one (function_naming names types g f es) k h s) c.from_index-handle.ensures in
+          range_behind names types g f es c.requires.unnamed k c.loop-index.index c.args.range.end s (handles_of c.emit.new.self) c.loop-index-test.true next
+          ∙ c.loop-index.invariant.behind names types g k;
+    }
+
+pub returns-clause-fits : goal.returns-clause-fits
+returns-clause-fits c names types g k =
+    ap (λ hs. may_emit_all (function_naming names types g c.args.function.now c.args.info.now) k hs (handles_of c.loop-index.scope)) (sym (range_none c.loop-index.index c.args.range.end c.loop-index-test.false))
+    ∙ c.loop-index.invariant.holds names types g k
+
+pub returns-clause-after : goal.returns-clause-after
+returns-clause-after c names types g k holds =
+    ap (λ hs. after_emit (function_naming names types g c.args.function.now c.args.info.now) k hs (handles_of c.loop-index.scope)) (sym (range_none c.loop-index.index c.args.range.end c.loop-index-test.false))
+    ∙ c.loop-index.invariant.behind names types g k

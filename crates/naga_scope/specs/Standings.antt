@@ -1,0 +1,52 @@
+-- Where the expressions of a function stand at a point of its text, as the code keeps it.
+use Rattle.std.specs.Prelude.{ℕ, Bool, true, false, List, Option, slice_get, get_or, ◌||◌}
+use Rattle.std.specs.Option.{option_map}
+use Rattle.naga_ir.specs.declared.expression.Expression as ir
+use Rattle.shader_runs.specs.Program as shapes
+use Rattle.shader_runs.specs.Scope as runs
+use Rattle.naga_form.specs.Names.{numbered_name}
+use Rattle.naga_form.specs.Shapes.{expression_shape}
+use Rattle.naga_scope.specs.declared.points.Standing.{Standing}
+use Rattle.naga_scope.specs.declared.points.Standing.TheVariants.{Absent, Barred, Everywhere, Inline, Named}
+
+-- what a cell says of a handle that has this name where it is bound
+abbrev pub standing_of : List ℕ → Standing → runs.Standing
+standing_of name Absent = runs.Absent
+standing_of name Barred = runs.Barred
+standing_of name Everywhere = runs.Everywhere
+standing_of name Inline = runs.Inline
+standing_of name Named = runs.Named name
+
+-- what a table of one cell for each expression says of each handle; one past the table's end is absent
+abbrev pub handles_of : List Standing → runs.Handles
+handles_of table h = standing_of (numbered_name h) (get_or table h Absent)
+
+-- what the expression with this handle evaluates, if there is one
+abbrev pub shape_at : List ir.Expression → ℕ → Option shapes.Expression
+shape_at es h = option_map expression_shape (slice_get es h)
+
+-- a cell that is in scope everywhere
+abbrev pub is_everywhere : Standing → Bool
+is_everywhere Everywhere = true
+is_everywhere _ = false
+
+-- a literal, or what the table says is in scope everywhere
+abbrev pub is_constant_by : List Standing → List ir.Expression → ℕ → Bool
+is_constant_by table es h = runs.is_constant_leaf (shape_at es h) || is_everywhere (get_or table h Absent)
+
+-- the cell of an expression at the start of a function
+abbrev pub first_standing : (is_constant_tree : Bool) → Standing
+first_standing true = Everywhere
+first_standing false = Absent
+
+-- the cell of an operator that no name binds, behind its Emit
+abbrev pub unbound_standing : (has_operands : Bool) → Standing → Standing
+unbound_standing true before = Inline
+unbound_standing false Absent = Barred
+unbound_standing false before = before
+
+-- the cell of an expression behind its Emit
+abbrev pub emitted_standing : (is_bound is_operator has_operands : Bool) → Standing → Standing
+emitted_standing true o u before = Named
+emitted_standing false true u before = unbound_standing u before
+emitted_standing false false u before = before

@@ -1,0 +1,50 @@
+//! Which expressions a `let` binds where they are emitted.
+
+ghost use Rattle.std.specs.Prelude.{◌≡◌, ◌==◌, List, length, get_or, map, IsTrue};
+ghost use Rattle.std.specs.Option.{option_map};
+ghost use Rattle.std.specs.Prelude.{slice_get};
+ghost use Rattle.indexmap.specs.IndexMap.{keys};
+ghost use Rattle.naga_form.specs.Shapes.{function_shape};
+ghost use Rattle.naga_ir.specs.declared.types.Type_.{Type_};
+ghost use Rattle.shader_runs.specs.Program.{binds};
+
+use naga_info::FunctionInfo;
+use naga_ir::{Expression, Function, Handle};
+use naga_words::back::BakeRefCount;
+
+/// The expression with this handle, if there is one.
+pub(crate) fn expression_at(function: &Function, handle: Handle<Expression>) -> Option<&Expression>
+    ensures { option_map (λ e. e.now) result ≡ slice_get function.now.expressions handle }
+{
+    if handle.index() < function.expressions.len() {
+        Some(&function.expressions[handle])
+    } else {
+        None
+    }
+}
+
+/// How often the expression with this handle is used.
+fn count_of(info: &FunctionInfo, handle: Handle<Expression>) -> usize
+    ensures { result ≡ get_or (map (λ e. e.ref_count) info.now) handle 0 }
+{
+    match info.expressions.get(handle.index()) {
+        Some(known) => known.ref_count,
+        None => 0,
+    }
+}
+
+/// Whether a `let` binds the expression with this handle where it is emitted: a `Load` that is used
+/// at all, and an operator that is used twice. What a front end named is not asked about.
+pub fn binds(function: &Function, info: &FunctionInfo, handle: Handle<Expression>) -> bool
+    requires unnamed { IsTrue (length (keys function.now.named_expressions) == 0) }
+    ensures { (types : List Type_) → result ≡ binds (function_shape types function.now info.now) handle }
+{
+    match expression_at(function, handle) {
+        Some(expression) => match expression {
+            Expression::Load { .. } | Expression::Binary { .. } =>
+                count_of(info, handle) >= expression.bake_ref_count(),
+            _ => false,
+        },
+        None => false,
+    }
+}

@@ -1,0 +1,127 @@
+//! The check that each expression is in scope where it is used.
+
+ghost use Rattle.std.specs.Prelude.{◌≡◌, ◌==◌, ◌-◌, ◌^◌, ℕ, List, length, nat_le, IsTrue, IfOk};
+ghost use Rattle.indexmap.specs.IndexMap.{keys};
+ghost use Rattle.naga_form.specs.Premises.{handles_are_counted, nothing_named, scope_holds};
+ghost use Rattle.naga_form.specs.Shapes.{function_shape, function_naming, statement_shape, OperandsStandBefore};
+ghost use Rattle.naga_info.specs.Accepted.{is_accepted};
+ghost use Rattle.naga_info.specs.declared.info.ExpressionInfo.{ExpressionInfo};
+ghost use Rattle.naga_ir.specs.StatementViews.{tree_of};
+ghost use Rattle.naga_ir.specs.declared.types.Type_.{Type_};
+ghost use Rattle.naga_names.specs.Reset.{NameMap};
+ghost use Rattle.shader_runs.specs.Program.{from};
+ghost use Rattle.shader_runs.specs.Scope.{after, after_emit, at_start, first_values_fit, fits, fits_function, may_emit_all, usable_if};
+ghost use Rattle.naga_scope.specs.Standings.{handles_of};
+
+use crate::points::Scope;
+use naga_info::{FunctionInfo, ModuleInfo};
+use naga_ir::{Expression, Function, Handle, Module, Place, Range, Statement};
+use std::alloc::{AllocError, Global};
+
+/// Whether the expression, if there is one, may be written at this point.
+fn is_usable_if(scope: &Scope, function: &Function, handle: Option<Handle<Expression>>) -> bool
+    ensures { (types : List Type_) (es : List ExpressionInfo) → result ≡ usable_if (function_shape types function.now es) (handles_of scope.now) handle }
+{
+    match handle {
+        Some(handle) => scope.is_usable(function, handle),
+        None => true,
+    }
+}
+
+/// Whether the first value of each local is in scope at the start of the function.
+fn first_values_hold(scope: &Scope, function: &Function) -> bool
+    ensures { (types : List Type_) (es : List ExpressionInfo) → let shape = function_shape types function.now es in handles_of scope.now ≡ at_start shape → result ≡ first_values_fit shape shape.first_values }
+{
+    for (_, local) in function.local_variables.iter() {
+        if !is_usable_if(scope, function, local.init) {
+            return false;
+        }
+    }
+    true
+}
+
+/// Goes behind an `Emit` of these handles, and says whether it is allowed. Where it is not, the scope
+/// is that of some point inside.
+fn emit_holds(scope: &mut Scope, function: &Function, info: &FunctionInfo, range: Range) -> bool
+    requires unnamed { IsTrue (length (keys function.now.named_expressions) == 0) }
+    requires size { length scope.old ≡ length function.now.expressions }
+    ensures fits { (names : NameMap) (types : List Type_) (g k : ℕ) → result ≡ may_emit_all (function_naming names types g function.now info.now) k (from range.first (range.end - range.first)) (handles_of scope.old) }
+    ensures after { (names : NameMap) (types : List Type_) (g k : ℕ) → IsTrue result → handles_of scope.new ≡ after_emit (function_naming names types g function.now info.now) k (from range.first (range.end - range.first)) (handles_of scope.old) }
+    ensures size { length scope.new ≡ length scope.old }
+{
+    for index in range.first..range.end {
+        let handle = Place::from_index(index);
+        if !scope.may_emit(function, info, handle) {
+            return false;
+        }
+        scope.emit(function, info, handle);
+    }
+    true
+}
+
+/// Goes behind the statement, and says whether its operands are in scope. Where they are not, the scope
+/// is that of some point inside.
+fn statement_holds(
+    scope: &mut Scope,
+    function: &Function,
+    info: &FunctionInfo,
+    statement: &Statement,
+) -> bool
+    requires unnamed { IsTrue (length (keys function.now.named_expressions) == 0) }
+    requires size { length scope.old ≡ length function.now.expressions }
+    ensures fits { (names : NameMap) (types : List Type_) (g k : ℕ) → result ≡ fits (function_naming names types g function.now info.now) k (statement_shape (tree_of statement.now)) (handles_of scope.old) }
+    ensures after { (names : NameMap) (types : List Type_) (g k : ℕ) → IsTrue result → handles_of scope.new ≡ after (function_naming names types g function.now info.now) k (statement_shape (tree_of statement.now)) (handles_of scope.old) }
+    ensures size { length scope.new ≡ length scope.old }
+{
+    match statement {
+        Statement::Emit(range) => emit_holds(scope, function, info, *range),
+        Statement::Store { pointer, value } =>
+            scope.is_usable(function, *pointer) && scope.is_usable(function, *value),
+        Statement::Return { value } => is_usable_if(scope, function, *value),
+        _ => true,
+    }
+}
+
+/// Whether each expression of the function is in scope where it is used, and each `Emit` is allowed.
+pub fn function_holds(
+    alloc: Global,
+    function: &Function,
+    info: &FunctionInfo,
+) -> Result<bool, AllocError>
+    requires ordered { OperandsStandBefore function.now.expressions }
+    requires unnamed { IsTrue (length (keys function.now.named_expressions) == 0) }
+    ensures counted { IfOk result (λ _. IsTrue (nat_le (length function.now.expressions) (2 ^ 64))) }
+    ensures scope { (names : NameMap) (types : List Type_) (g : ℕ) → IfOk result (λ b. b ≡ fits_function (function_naming names types g function.now info.now)) }
+{
+    let mut scope = Scope::start(alloc, function)?;
+    if !first_values_hold(&scope, function) {
+        return Ok(false);
+    }
+    for statement in function.body.as_slice() {
+        if !statement_holds(&mut scope, function, info, statement) {
+            return Ok(false);
+        }
+    }
+    Ok(true)
+}
+
+/// Whether each expression of each function is in scope where it is used, and each `Emit` is allowed.
+pub fn scope_holds(
+    alloc: Global,
+    module: &Module,
+    info: &ModuleInfo,
+) -> Result<bool, AllocError>
+    requires accepted { IsTrue (is_accepted «module».now info.now) }
+    requires unnamed { IsTrue (nothing_named «module».now) }
+    ensures scope { IfOk result (λ b. b ≡ scope_holds «module».now info.now) }
+    ensures counted { IfOk result (λ _. IsTrue (handles_are_counted «module».now)) }
+{
+    let mut holds = true;
+    for (index, known) in info.functions.iter().enumerate() {
+        let function = &module.functions[Place::from_index(index)];
+        if !function_holds(alloc, function, known)? {
+            holds = false;
+        }
+    }
+    Ok(holds)
+}

@@ -1,0 +1,255 @@
+//! Where the expressions of a function stand at a point of its text.
+
+ghost use Rattle.std.specs.Prelude.{◌≡◌, ◌==◌, ◌&&◌, ◌^◌, ℕ, List, length, nat_le, get_or, IsTrue, IfOk, Some};
+ghost use Rattle.std.specs.Option.{option_map};
+ghost use Rattle.indexmap.specs.IndexMap.{keys};
+ghost use Rattle.naga_form.specs.Shapes.{expression_shape, function_shape, function_naming, OperandsStandBefore};
+ghost use Rattle.naga_info.specs.declared.info.ExpressionInfo.{ExpressionInfo};
+ghost use Rattle.naga_ir.specs.declared.types.Type_.{Type_};
+ghost use Rattle.naga_names.specs.Reset.{NameMap};
+ghost use Rattle.shader_runs.specs.Program.{operands_of};
+ghost use Rattle.shader_runs.specs.Scope.{all_constant, at_start, after_one, is_constant_leaf, is_emittable, is_new, is_present, is_pure, may_emit, usable, usable_all};
+ghost use Rattle.naga_scope.specs.Standings.{emitted_standing, first_standing, handles_of, is_constant_by, standing_of, unbound_standing};
+
+use crate::binding::{binds, expression_at};
+use naga_info::FunctionInfo;
+use naga_ir::{Expression, Function, Handle, Place};
+use std::alloc::{AllocError, Global};
+use std::marker::Model;
+
+/// Where an expression stands at a point of a function's text.
+#[derive(Clone, Copy, Debug, PartialEq, Eq)]
+pub enum Standing {
+    /// No `Emit` gave it here.
+    Absent,
+    /// It was emitted where one of its operands was out of scope, so it is never written.
+    Barred,
+    /// An operator over literals alone that no `Emit` gave here. It is in scope nevertheless.
+    Everywhere,
+    /// It was emitted, and is written wherever it is used.
+    Inline,
+    /// It was emitted, and a `let` bound it.
+    Named,
+}
+
+impl Standing {
+    /// Whether it may be written.
+    pub(crate) fn is_present(self) -> bool
+        ensures { (name : List ℕ) → result ≡ is_present (standing_of name self) }
+    {
+        match self {
+            Standing::Everywhere | Standing::Inline | Standing::Named => true,
+            Standing::Absent | Standing::Barred => false,
+        }
+    }
+
+    /// Whether an `Emit` may give it.
+    pub(crate) fn is_new(self) -> bool
+        ensures { (name : List ℕ) → result ≡ is_new (standing_of name self) }
+    {
+        match self {
+            Standing::Absent | Standing::Everywhere => true,
+            Standing::Barred | Standing::Inline | Standing::Named => false,
+        }
+    }
+
+    /// Where it stands behind its `Emit`.
+    pub(crate) fn emitted(self, is_bound: bool, is_operator: bool, has_operands: bool) -> Self
+        ensures { result ≡ emitted_standing is_bound is_operator has_operands self }
+    {
+        if is_bound {
+            Standing::Named
+        } else if is_operator {
+            self.unbound(has_operands)
+        } else {
+            self
+        }
+    }
+
+    /// Where an operator that no `let` binds stands behind its `Emit`.
+    fn unbound(self, has_operands: bool) -> Self
+        ensures { result ≡ unbound_standing has_operands self }
+    {
+        if has_operands {
+            Standing::Inline
+        } else if self == Standing::Absent {
+            Standing::Barred
+        } else {
+            self
+        }
+    }
+}
+
+/// Where each expression of a function stands at a point of its text, one cell for each.
+#[derive(Debug, Drop)]
+pub struct Scope {
+    standings: Vec<Standing>,
+}
+
+impl Model for Scope {
+    ghost use Rattle.std.specs.Prelude.{List};
+    ghost use Rattle.naga_scope.specs.declared.points.Standing.{Standing};
+
+    ghost Value = { List Standing };
+
+    ghost view = { λ s. s.standings.items };
+}
+
+/// Whether the expression is a literal.
+fn is_literal(expression: Option<&Expression>) -> bool
+    ensures { result ≡ is_constant_leaf (option_map (λ e. expression_shape e.now) expression.entry) }
+{
+    match expression {
+        Some(Expression::Literal(_)) => true,
+        _ => false,
+    }
+}
+
+/// Whether the expression is an operator.
+fn is_operator(expression: Option<&Expression>) -> bool
+    ensures { result ≡ is_pure (option_map (λ e. expression_shape e.now) expression.entry) }
+{
+    match expression {
+        Some(Expression::Binary { .. }) => true,
+        _ => false,
+    }
+}
+
+/// Whether an `Emit` may give the expression at all.
+fn is_emittable(expression: Option<&Expression>) -> bool
+    ensures { result ≡ is_emittable (option_map (λ e. expression_shape e.now) expression.entry) }
+{
+    match expression {
+        Some(Expression::Load { .. } | Expression::Binary { .. }) => true,
+        _ => false,
+    }
+}
+
+/// The cell of this handle, by a table of all handles up to some.
+fn standing_at(standings: &[Standing], handle: Handle<Expression>) -> Standing
+    ensures { result ≡ get_or standings.now handle Standing.Absent }
+{
+    match standings.get(handle.index()) {
+        Some(standing) => *standing,
+        None => Standing::Absent,
+    }
+}
+
+/// Whether the expression with this handle is a literal, or one that the table has in scope
+/// everywhere.
+fn is_constant(standings: &[Standing], function: &Function, handle: Handle<Expression>) -> bool
+    ensures { result ≡ is_constant_by standings.now function.now.expressions handle }
+{
+    is_literal(expression_at(function, handle))
+        || standing_at(standings, handle) == Standing::Everywhere
+}
+
+/// The cell of an expression at the start of the function, by those of its operands.
+fn first_standing(standings: &[Standing], function: &Function, expression: &Expression) -> Standing
+    ensures { let shape = expression_shape expression.now in result ≡ first_standing (is_pure (Some shape) && all_constant (is_constant_by standings.now function.now.expressions) (operands_of (Some shape))) }
+{
+    match expression {
+        Expression::Binary { left, right, .. } =>
+            if is_constant(standings, function, *left) && is_constant(standings, function, *right) {
+                Standing::Everywhere
+            } else {
+                Standing::Absent
+            },
+        _ => Standing::Absent,
+    }
+}
+
+impl Scope {
+    /// Where the expressions stand at the start of the function: operators over literals alone are in
+    /// scope everywhere, and no other is that an `Emit` is to give.
+    pub fn start(alloc: Global, function: &Function) -> Result<Scope, AllocError>
+        requires ordered { OperandsStandBefore function.now.expressions }
+        ensures start { (types : List Type_) (es : List ExpressionInfo) → IfOk result (λ s. handles_of s ≡ at_start (function_shape types function.now es)) }
+        ensures size { IfOk result (λ s. length s ≡ length function.now.expressions) }
+        ensures counted { IfOk result (λ _. IsTrue (nat_le (length function.now.expressions) (2 ^ 64))) }
+    {
+        let mut standings = Vec::new(alloc);
+        for index in 0..function.expressions.len() {
+            let expression = &function.expressions[Place::from_index(index)];
+            let standing = first_standing(&standings, function, expression);
+            standings.push(standing)?;
+        }
+        Ok(Scope { standings })
+    }
+
+    /// Where the expression with this handle stands. There is none past the function's expressions.
+    pub fn standing(&self, handle: Handle<Expression>) -> Standing
+        ensures { result ≡ get_or self.now handle Standing.Absent }
+    {
+        standing_at(&self.standings, handle)
+    }
+
+    /// Whether the expression with this handle may be written here. A literal, an argument and a
+    /// local may everywhere.
+    pub fn is_usable(&self, function: &Function, handle: Handle<Expression>) -> bool
+        ensures { (types : List Type_) (es : List ExpressionInfo) → result ≡ usable (function_shape types function.now es) (handles_of self.now) handle }
+    {
+        match expression_at(function, handle) {
+            Some(expression) => match expression {
+                Expression::Literal(_) => true,
+                Expression::FunctionArgument(number) =>
+                    (*number as usize) < function.arguments.len(),
+                Expression::LocalVariable(local) => local.index() < function.local_variables.len(),
+                _ => self.standing(handle).is_present(),
+            },
+            None => false,
+        }
+    }
+
+    /// Whether each operand of the expression may be written here.
+    fn has_operands(&self, function: &Function, expression: Option<&Expression>) -> bool
+        ensures { (types : List Type_) (es : List ExpressionInfo) → result ≡ usable_all (function_shape types function.now es) (handles_of self.now) (operands_of (option_map (λ e. expression_shape e.now) expression.entry)) }
+    {
+        match expression {
+            Some(expression) => match expression {
+                Expression::Load { pointer } => self.is_usable(function, *pointer),
+                Expression::Binary { left, right, .. } =>
+                    self.is_usable(function, *left) && self.is_usable(function, *right),
+                _ => true,
+            },
+            None => true,
+        }
+    }
+
+    /// Whether an `Emit` may give the expression with this handle here: none gave it before, it is one
+    /// that is emitted, and where a `let` binds it, its operands are in scope.
+    pub fn may_emit(
+        &self,
+        function: &Function,
+        info: &FunctionInfo,
+        handle: Handle<Expression>,
+    ) -> bool
+        requires unnamed { IsTrue (length (keys function.now.named_expressions) == 0) }
+        ensures { (types : List Type_) → result ≡ may_emit (function_shape types function.now info.now) handle (handles_of self.now) }
+    {
+        let expression = expression_at(function, handle);
+        self.standing(handle).is_new()
+            && is_emittable(expression)
+            && (!binds(function, info, handle) || self.has_operands(function, expression))
+    }
+
+    /// Goes behind an `Emit` of the expression with this handle: a `let` binds it, or it is an operator
+    /// that is written where it is used, if its operands are in scope here; a `Load` that no `let` binds
+    /// is not in scope behind it.
+    pub fn emit(&mut self, function: &Function, info: &FunctionInfo, handle: Handle<Expression>)
+        requires unnamed { IsTrue (length (keys function.now.named_expressions) == 0) }
+        requires size { length self.old ≡ length function.now.expressions }
+        ensures handles { (names : NameMap) (types : List Type_) (g k : ℕ) → handles_of self.new ≡ after_one (function_naming names types g function.now info.now) k handle (handles_of self.old) }
+        ensures size { length self.new ≡ length self.old }
+    {
+        let index = handle.index();
+        if index < self.standings.len() {
+            let expression = expression_at(function, handle);
+            let is_bound = binds(function, info, handle);
+            let has_operands = self.has_operands(function, expression);
+            let before = self.standings[index];
+            self.standings[index] =
+                before.emitted(is_bound, is_operator(expression), has_operands);
+        }
+    }
+}
