@@ -1,8 +1,9 @@
 -- The text of each row of a function, from what is written of it in turn.
 use Rattle.std.proofs.Common.{◌≡◌, ℕ, ◌+◌, ◌-◌, ◌<◌, ◌≤◌, ◌*◌, ◌==◌, zero, suc, Bool, true, false, List, [], ◌∷◌, ◌++◌, map, Option, None, Some, length, refl, sym, ap, ◌∙◌, arith, add-one, codes, replicate, drop, drop-cons, slice_index_or, ne_eqb, append_assoc}
-use Rattle.std.specs.Prelude.{slice_get, cond, unwrap_or}
+use Rattle.std.specs.Prelude.{slice_get, cond, if◌then◌else◌}
 use Rattle.std.specs.Option.{option_map}
-use Rattle.std.proofs.lemmas.List.{append-nil}
+use Rattle.std.proofs.lemmas.List.{append-nil, drop_all}
+use Rattle.std.proofs.lemmas.Option.{slice_get_within, get_or_from_slice_get}
 use Rattle.naga_ir.specs.StatementTree.{StatementTree, BlockTree, statement}
 use Rattle.naga_ir.specs.StatementViews.{tree_of, block_of}
 use Rattle.naga_ir.specs.declared.statement.Statement.{Statement}
@@ -23,6 +24,7 @@ use Rattle.shader_runs.specs.Scope.{Handles, Naming, at_start, given_after, afte
 use Rattle.naga_form.specs.Names.{function_name, argument_name, numbered_name}
 use Rattle.naga_form.specs.Operators.{operator_form}
 use Rattle.naga_form.specs.Types.{type_form}
+use Rattle.naga_form.proofs.Facts.{element}
 use Rattle.naga_form.specs.Form.{as_value, own_if, plain_form, value_form, let_form, then_if, lets_form, return_line, line_form, lines_form, locals_form, parameter_form, parameters_form, result_form, function_form}
 use Rattle.wgsl_text.specs.Tree.{TypeSpecifier, Expression, Statements, NoStatements, Then, Local, BinaryOperator}
 use Rattle.wgsl_text.specs.Tree as tree
@@ -32,7 +34,7 @@ use Rattle.wgsl_text.specs.Declarations.{parameter_pieces, parameters_pieces, mo
 use Rattle.wgsl_text.specs.Reading.{type_layout}
 use Rattle.wgsl_text.specs.Text.{text}
 use Rattle.wgsl_text.proofs.RowText.{text-append, function_text, return_text, then_text, let_text, typed_let_text, assign_text, binary_text, address_text, dereference_text, locals_text as local_row_text, value_text}
-use Rattle.naga_wgsl_fns.specs.Texts.{separator, type_word, head_text, locals_text, local_form, local_text, first_text, told_text, let_line, emitted_text}
+use Rattle.naga_wgsl_fns.specs.Texts.{separator, type_word, head_text, locals_text, local_form, local_text, local_text_at, first_text, told_text, let_line, emitted_text}
 
 -- the blanks before a line
 pub indentation_row : (n : ℕ) → indentation n ≡ replicate (4 * n) 32
@@ -134,9 +136,7 @@ block_step ss i s h here = ap (λ ts. block_of ts) (drop_first i ss s h here)
 
 -- a list from an item of it on, by what stands there
 pub drop_at : {X : Type 0} (i : ℕ) (xs : List X) (x : X) → slice_get xs i ≡ Some x → drop i xs ≡ x ∷ drop (i + 1) xs
-drop_at i [] x at = absurd cc
-drop_at zero (y ∷ xs) x at = ap (λ o. unwrap_or o y ∷ xs) at
-drop_at (suc i) (y ∷ xs) x at = drop_at i xs x at
+drop_at i xs x at = drop_first i xs x (slice_get_within xs i x at) (sym (get_or_from_slice_get xs i x x at))
 
 -- ---- locals
 module _ (n : Naming) (types : List Type_) (es : List ir.Expression) where
@@ -150,6 +150,22 @@ module _ (n : Naming) (types : List Type_) (es : List ir.Expression) where
       ∙ (ap (λ t. codes "    var " ++ (local.name ++ (codes ": " ++ (t ++ first)))) (ap (λ t. type_layout local.type ++ t) (sym (append-nil (text (value_pieces local.value)))))
       ∙ (ap (λ t. codes "    var " ++ t) (sym (append_assoc local.name (codes ": " ++ (type_layout local.type ++ (text (value_pieces local.value) ++ []))) first))
       ∙ ap (λ t. t ++ first) (sym (local_row_text local [])))))
+
+  -- a loop over locals: one more
+  pub locals_more : (i : ℕ) (locals : List LocalVariable) → i < length locals → text (locals_pieces (locals_form n types es i (drop i locals))) ≡ local_text_at n types es i (slice_get locals i) ++ text (locals_pieces (locals_form n types es (i + 1) (drop (i + 1) locals)))
+  locals_more i locals lt =
+      let v = element locals i lt in
+      let more = text (locals_pieces (locals_form n types es (i + 1) (drop (i + 1) locals))) in
+      ap (λ vs. text (locals_pieces (locals_form n types es i vs))) (drop_at i locals v.0 v.1)
+      ∙ (locals_step i v.0 (drop (i + 1) locals)
+      ∙ ap (λ o. local_text_at n types es i o ++ more) (sym v.1))
+
+  pub locals_none : (i : ℕ) (locals : List LocalVariable) → length locals ≤ i → text (locals_pieces (locals_form n types es i (drop i locals))) ≡ []
+  locals_none i locals past = ap (λ vs. text (locals_pieces (locals_form n types es i vs))) (drop_all i locals past)
+
+  pub group_row : (locals : List LocalVariable) → (if length locals == 0 then [] else codes "\n") ≡ text (group_end (locals_form n types es 0 locals))
+  group_row [] = refl
+  group_row (v ∷ more) = ap (λ b. if b then [] else codes "\n") (ne_eqb (suc (length more)) 0 (λ same. absurd (omega arith)))
 
   pub local_row : (l : ℕ) (v : LocalVariable) → codes "    var " ++ (n.names.local_ l ++ (codes ": " ++ (type_word types v.ty ++ first_text n es v.init))) ≡ local_text n types es l v
   local_row l v =

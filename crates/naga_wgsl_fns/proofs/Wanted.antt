@@ -146,3 +146,10 @@ module _ (m : Module) (names : NameMap) (g : ℕ) (f : Function) (es : List Expr
   emit_within first last fit =
       let parts = and_parts (nat_le first last) (nat_le last (length es)) fit in
       subst (λ n. last ≤ n) (sym (function_fits_length m.types f es can.fits)) (leb-true last (length es) parts.1)
+
+  pub first_within : (l : ℕ) (v : LocalVariable) → slice_get f.local_variables l ≡ Some v → IsTrue (is_below (length f.expressions) v.init)
+  first_within l v here = by v.init (λ h is. first_value_within l v h here is)
+    where
+      by : (o : Option ℕ) → ((h : ℕ) → o ≡ Some h → h < length f.expressions) → is_below (length f.expressions) o ≡ true
+      by None within = refl
+      by (Some h) within = lt-ltb h (length f.expressions) (within h refl)

@@ -1,6 +1,6 @@
 //! Functions.
 
-ghost use Rattle.std.specs.Prelude.{◌≡◌, ◌<◌, ◌++◌, IfErr, IsTrue, OnErr, OnOk, Some, length, slice_get};
+ghost use Rattle.std.specs.Prelude.{◌≡◌, ◌<◌, ◌++◌, IfErr, IsTrue, OnErr, OnOk, Some, [], codes, if◌then◌else◌, length, slice_get};
 ghost use Rattle.naga_form.specs.Form.{function_form, locals_form, parameter_form, parameters_form, result_form};
 ghost use Rattle.naga_form.specs.Names.{HasNamesOf, module_names, name_in};
 ghost use Rattle.naga_info.specs.Accepted.{is_accepted, is_below};
@@ -153,14 +153,7 @@ impl FunctionText<'_> {
         for index in 0..self.function.local_variables.len() {
             self.write_local(alloc, scope, Place::from_index(index), out)?;
         }
-        put(
-            if self.function.local_variables.is_empty() {
-                ""
-            } else {
-                "\n"
-            },
-            out,
-        )
+        write_group_end(self.function.local_variables.is_empty(), out)
     }
 
     fn write_local<W: TextSink>(
@@ -222,6 +215,13 @@ fn write_separator<W: TextSink>(number: usize, out: &mut W) -> Result<(), Error>
     ensures { Appends result (W.text out.old) (W.failures out.old) (separator number) (W.text out.new) (W.failures out.new) }
 {
     put(if number == 0 { "" } else { ", " }, out)
+}
+
+/// The empty line behind a group, unless there is nothing in it.
+fn write_group_end<W: TextSink>(is_empty: bool, out: &mut W) -> Result<(), Error>
+    ensures { Appends result (W.text out.old) (W.failures out.old) (if is_empty then [] else codes "\n") (W.text out.new) (W.failures out.new) }
+{
+    put(if is_empty { "" } else { "\n" }, out)
 }
 
 pub(crate) fn write_type<W: TextSink>(

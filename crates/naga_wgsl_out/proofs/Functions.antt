@@ -1,11 +1,14 @@
 -- The text of a module from those of its functions.
-use Rattle.std.proofs.Common.{◌≡◌, ℕ, zero, suc, Some, arith, subst, slice_get, ◌+◌, ◌<◌, Bool, List, [], ◌∷◌, ◌++◌, length, drop, get_or, codes, append_assoc, append-nil, add-one, drop-cons, refl, sym, ap, ◌∙◌}
+use Rattle.std.proofs.Common.{◌≡◌, ℕ, zero, suc, true, pred, unwrap_or, Some, arith, subst, slice_get, ◌+◌, ◌<◌, Bool, List, [], ◌∷◌, ◌++◌, length, drop, get_or, codes, append_assoc, append-nil, add-one, drop-cons, refl, sym, ap, ◌∙◌}
 use Rattle.std.specs.List.{flat_map, enumerate_from}
 use Rattle.std.specs.Option.{option_map_or}
 use Rattle.naga_ir.specs.declared.module.Function.{Function}
 use Rattle.naga_ir.specs.declared.module.Module.{Module}
 use Rattle.naga_ir.specs.declared.types.Type_.{Type_}
+use Rattle.naga_info.specs.declared.info.ExpressionInfo.{ExpressionInfo}
 use Rattle.naga_info.specs.declared.info.ModuleInfo.{ModuleInfo}
+use Rattle.naga_info.specs.Accepted.{is_accepted}
+use Rattle.naga_info.proofs.Accepting.{accepted_functions_fit, functions_fit_length}
 use Rattle.naga_names.specs.Reset.{NameMap}
 use Rattle.wgsl_text.specs.Declarations.{function_pieces, functions_pieces}
 use Rattle.wgsl_text.specs.Text.{text}
@@ -13,27 +16,40 @@ use Rattle.wgsl_text.specs.Token.{LineEnd}
 use Rattle.wgsl_text.proofs.RowText.{text-append}
 use Rattle.naga_form.specs.Form.{function_form, functions_form}
 use Rattle.naga_form.specs.Names.{module_names}
-use Rattle.naga_wgsl_fns.specs.Texts.{text_of_function}
+use Rattle.naga_wgsl_fns.specs.Texts.{known_of, tells_types, text_of_function}
 use Rattle.naga_wgsl_fns.specs.declared.flags.WriterFlags.{WriterFlags}
 use Rattle.naga_wgsl_out.specs.Writing.{lines_of, written_text}
 
-functions_text : (m : Module) (g : ℕ) (fs : List Function) → text (functions_pieces (functions_form (module_names m) m.types g fs)) ≡ lines_of m (enumerate_from g fs)
-functions_text m g [] = refl
-functions_text m g (f ∷ fs) =
-    let own = function_pieces (function_form (module_names m) m.types g f) in
-    text-append own (LineEnd ∷ functions_pieces (functions_form (module_names m) m.types (g + 1) fs))
-    ∙ (ap (λ rest. text own ++ (10 ∷ rest)) (functions_text m (g + 1) fs)
-    ∙ sym (append_assoc (text own) (codes "\n") (lines_of m (enumerate_from (g + 1) fs))))
+functions_text : (m : Module) (info : ModuleInfo) (flags : WriterFlags) (g : ℕ) (fs : List Function) (ess : List (List ExpressionInfo)) → length fs ≡ length ess → ((i : ℕ) (es : List ExpressionInfo) → slice_get ess i ≡ Some es → known_of info (g + i) ≡ es) → text (functions_pieces (functions_form (tells_types flags) (module_names m) m.types g fs ess)) ≡ lines_of m info flags (enumerate_from g fs)
+functions_text m info flags g [] [] size known = refl
+functions_text m info flags g [] (es ∷ ess) size known = refl
+functions_text m info flags g (f ∷ fs) [] size known = absurd (cc)
+functions_text m info flags g (f ∷ fs) (es ∷ ess) size known =
+    let own = λ (ks : List ExpressionInfo). function_pieces (function_form (tells_types flags) (module_names m) m.types g f ks) in
+    let here : g + 0 ≡ g = omega arith in
+    let same : known_of info g ≡ es = ap (known_of info) (sym here) ∙ known 0 es refl in
+    text-append (own es) (LineEnd ∷ functions_pieces (functions_form (tells_types flags) (module_names m) m.types (g + 1) fs ess))
+    ∙ (ap (λ rest. text (own es) ++ (10 ∷ rest)) (functions_text m info flags (g + 1) fs ess (ap pred size) later)
+    ∙ (ap (λ ks. text (own ks) ++ (10 ∷ lines_of m info flags (enumerate_from (g + 1) fs))) (sym same)
+    ∙ sym (append_assoc (text (own (known_of info g))) (codes "\n") (lines_of m info flags (enumerate_from (g + 1) fs)))))
+  where
+    later : (i : ℕ) (ks : List ExpressionInfo) → slice_get ess i ≡ Some ks → known_of info ((g + 1) + i) ≡ ks
+    later i ks at = let moved : g + suc i ≡ (g + 1) + i = omega arith in subst (λ h. known_of info h ≡ ks) moved (known (suc i) ks at)
 
 -- so far a module's text is its functions
-pub written_lines : (m : Module) (info : ModuleInfo) (flags : WriterFlags) → lines_of m (enumerate_from 0 m.functions) ≡ written_text m info flags
-written_lines m info flags = sym (ap text (append-nil (functions_pieces (functions_form (module_names m) m.types 0 m.functions))) ∙ functions_text m 0 m.functions)
+pub written_lines : (m : Module) (info : ModuleInfo) (flags : WriterFlags) → is_accepted m info ≡ true → lines_of m info flags (enumerate_from 0 m.functions) ≡ written_text m info flags
+written_lines m info flags accepted =
+    let form = functions_form (tells_types flags) (module_names m) m.types 0 m.functions info.functions.items in
+    sym (ap text (append-nil (functions_pieces form)) ∙ functions_text m info flags 0 m.functions info.functions.items (functions_fit_length m.types m.functions info.functions.items (accepted_functions_fit m info accepted)) known)
+  where
+    known : (i : ℕ) (es : List ExpressionInfo) → slice_get info.functions.items i ≡ Some es → known_of info (0 + i) ≡ es
+    known i es at = let same : i ≡ 0 + i = omega arith in subst (λ h. known_of info h ≡ es) same (ap (λ o. unwrap_or o []) at)
 
 -- the first of the functions that are left
-pub next_line : (m : Module) (all : List (ℕ × Function)) (n : ℕ) (f : ℕ × Function) → n < length all → f ≡ get_or all n f → lines_of m (drop n all) ≡ (text (function_pieces (function_form (module_names m) m.types f.0 f.1)) ++ codes "\n") ++ lines_of m (drop (n + 1) all)
-next_line m all n f lt is =
+pub next_line : (m : Module) (info : ModuleInfo) (flags : WriterFlags) (all : List (ℕ × Function)) (n : ℕ) (f : ℕ × Function) → n < length all → f ≡ get_or all n f → lines_of m info flags (drop n all) ≡ (text (function_pieces (function_form (tells_types flags) (module_names m) m.types f.0 f.1 (known_of info f.0))) ++ codes "\n") ++ lines_of m info flags (drop (n + 1) all)
+next_line m info flags all n f lt is =
     let split : drop n all ≡ get_or all n f ∷ drop (n + 1) all = rw add-one (drop-cons all n f lt) in
-    ap (lines_of m) split ∙ ap (λ q. lines_of m (q ∷ drop (n + 1) all)) (sym is)
+    ap (lines_of m info flags) split ∙ ap (λ q. lines_of m info flags (q ∷ drop (n + 1) all)) (sym is)
 
 -- ---- along the functions
 at_enumerated : (n : ℕ) (fs : List Function) (i : ℕ) (f : ℕ × Function) → i < length (enumerate_from n fs) → f ≡ get_or (enumerate_from n fs) i f → (f.0 ≡ n + i) × (i < length fs) × (slice_get fs i ≡ Some f.1)
@@ -48,25 +64,25 @@ at_enumerated n (x ∷ fs) (suc i) f lt is =
 pub within : (fs : List Function) (n : ℕ) (f : ℕ × Function) → n < length (enumerate_from 0 fs) → f ≡ get_or (enumerate_from 0 fs) n f → f.0 < length fs
 within fs n f lt is = let at = at_enumerated 0 fs n f lt is in let same : 0 + n ≡ n = omega arith in subst (λ h. h < length fs) (sym (at.0 ∙ same)) at.1
 
-text_is : (m : Module) (n : ℕ) (f : ℕ × Function) → n < length (enumerate_from 0 m.functions) → f ≡ get_or (enumerate_from 0 m.functions) n f → text (function_pieces (function_form (module_names m) m.types f.0 f.1)) ≡ text_of_function m f.0
-text_is m n f lt is =
+text_is : (m : Module) (info : ModuleInfo) (flags : WriterFlags) (n : ℕ) (f : ℕ × Function) → n < length (enumerate_from 0 m.functions) → f ≡ get_or (enumerate_from 0 m.functions) n f → text (function_pieces (function_form (tells_types flags) (module_names m) m.types f.0 f.1 (known_of info f.0))) ≡ text_of_function m info flags f.0
+text_is m info flags n f lt is =
     let at = at_enumerated 0 m.functions n f lt is in
     let same : 0 + n ≡ n = omega arith in
     let found : slice_get m.functions f.0 ≡ Some f.1 = ap (slice_get m.functions) (at.0 ∙ same) ∙ at.2 in
-    sym (ap (λ o. option_map_or (λ g. text (function_pieces (function_form (module_names m) m.types f.0 g))) o []) found)
+    sym (ap (λ o. option_map_or (λ g. text (function_pieces (function_form (tells_types flags) (module_names m) m.types f.0 g (known_of info f.0)))) o []) found)
 
 -- the lines that are left begin with those of the next function
-pub here_line : (m : Module) (n : ℕ) (f : ℕ × Function) → n < length (enumerate_from 0 m.functions) → f ≡ get_or (enumerate_from 0 m.functions) n f → lines_of m (drop n (enumerate_from 0 m.functions)) ≡ (text_of_function m f.0 ++ codes "\n") ++ lines_of m (drop (n + 1) (enumerate_from 0 m.functions))
-here_line m n f lt is =
-    next_line m (enumerate_from 0 m.functions) n f lt is
-    ∙ ap (λ t. (t ++ codes "\n") ++ lines_of m (drop (n + 1) (enumerate_from 0 m.functions))) (text_is m n f lt is)
+pub here_line : (m : Module) (info : ModuleInfo) (flags : WriterFlags) (n : ℕ) (f : ℕ × Function) → n < length (enumerate_from 0 m.functions) → f ≡ get_or (enumerate_from 0 m.functions) n f → lines_of m info flags (drop n (enumerate_from 0 m.functions)) ≡ (text_of_function m info flags f.0 ++ codes "\n") ++ lines_of m info flags (drop (n + 1) (enumerate_from 0 m.functions))
+here_line m info flags n f lt is =
+    next_line m info flags (enumerate_from 0 m.functions) n f lt is
+    ∙ ap (λ t. (t ++ codes "\n") ++ lines_of m info flags (drop (n + 1) (enumerate_from 0 m.functions))) (text_is m info flags n f lt is)
 
 pub one_more : {A : Type 0} (xs : List A) (x : A) → length xs + 1 ≡ length (xs ++ x ∷ [])
 one_more [] x = refl
 one_more (y ∷ xs) x = let out : suc (length xs) + 1 ≡ suc (length xs + 1) = omega arith in out ∙ ap suc (one_more xs x)
 
-pub all_written : (m : Module) (all : List (ℕ × Function)) (n : ℕ) → n ≡ length all → lines_of m (drop n all) ≡ []
-all_written m all n is = ap (lines_of m) (ap (λ k. drop k all) is ∙ nothing_left all)
+pub all_written : (m : Module) (info : ModuleInfo) (flags : WriterFlags) (all : List (ℕ × Function)) (n : ℕ) → n ≡ length all → lines_of m info flags (drop n all) ≡ []
+all_written m info flags all n is = ap (lines_of m info flags) (ap (λ k. drop k all) is ∙ nothing_left all)
   where
     nothing_left : {A : Type 0} (xs : List A) → drop (length xs) xs ≡ []
     nothing_left [] = refl

@@ -15,11 +15,11 @@ use Rattle.naga_names.specs.declared.namer.NamerError.TheVariants.{Full, KeyFull
 use Rattle.wgsl_text.specs.Keywords.{reserved_words, builtin_words}
 use Rattle.naga_names.specs.Reset.{NameMap, labelled_items, labels_of, key_fits, HasNamedItems}
 use Rattle.naga_names.specs.declared.namer.key.NameKey.TheVariants as key
-use Rattle.naga_names.proofs.NamedItems.{named_there, few_labels}
+use Rattle.naga_names.proofs.NamedItems.{named_there, few_labels, local_stands}
 use Rattle.naga_form.specs.Names.{reserved_prefixes, wgsl_names, module_names, function_name, argument_name, HasNamesOf, NamesAreCounted}
-use Rattle.naga_form.proofs.Facts.{all_at}
+use Rattle.naga_form.proofs.Facts.{all_at, element}
+use Rattle.naga_form.proofs.Fits.{local_item}
 use Rattle.naga_form.proofs.Named.{name_there, name_is, function_item, argument_item, function_there, argument_there}
-use Rattle.naga_form.proofs.Runs.{element}
 use Rattle.naga_wgsl_fns.specs.Errors.{IsCustom}
 use Rattle.naga_wgsl_fns.specs.declared.error.Error.{Error}
 use Rattle.naga_wgsl_fns.specs.declared.error.Error.TheVariants.{Custom, Memory}
@@ -49,6 +49,10 @@ module _ (m : Module) (before now : NameMap) (names : Names) (has : HasNamedItem
         let a = element f.arguments.items n lt in
         let s = argument_there m g f n a.0 found a.1 in
         named_there wgsl_names before m names now has (argument_item m g n a.0) s ∙ ap Some (sym (name_is m (argument_item m g n a.0) s));
+    locals = λ g f found l lt.
+        let v = element f.local_variables l lt in
+        let s = local_stands wgsl_names m g f l v.0 found v.1 in
+        named_there wgsl_names before m names now has (local_item g l v.0) s ∙ ap Some (sym (name_is m (local_item g l v.0) s));
     numbers = λ g f found. at_most (length f.arguments.items) (λ n lt.
         let a = element f.arguments.items n lt in
         let s = argument_there m g f n a.0 found a.1 in

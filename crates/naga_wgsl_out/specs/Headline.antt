@@ -25,7 +25,7 @@ EachReading held now Q = (text : List ℕ) → now ≡ held ++ text → (program
 -- The sink had failed so often before, and has failed so often now.
 pub record FaithfulWriting (m : Module) (info : ModuleInfo) (answer : Result Unit Error) (held now : List ℕ) (before after : ℕ) : Type 0 where
   -- It refuses only for a listed construct that stands in the module, a full counter or key, memory or the sink; and where it does not, none stands there.
-  pub refusals : RefusesOnlyFor answer m before after
+  pub refusals : RefusesOnlyFor answer m info before after
   -- Otherwise it appends a text with exactly one reading,
   pub reading : OnOk answer (AppendsOneReading held now)
   -- a program with the module's interface,

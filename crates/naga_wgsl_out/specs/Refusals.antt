@@ -2,9 +2,11 @@
 use Rattle.std.specs.Prelude.{◌≡◌, ⊤, ℕ, List, ◌⊎◌, codes, string_bytes, IsTrue, IsFalse, Result, Ok, Err}
 use Rattle.naga_ir.specs.declared.module.Module.{Module}
 use Rattle.naga_info.specs.Part.{is_written_so_far}
+use Rattle.naga_info.specs.declared.info.ModuleInfo.{ModuleInfo}
 use Rattle.naga_names.specs.Refusal.{SomeNameIsFull, SomeKeyIsFull}
 use Rattle.naga_names.specs.Reset.{NameMap, labelled_items}
 use Rattle.naga_form.specs.Names.{wgsl_names, HasNamesOf, NamesAreCounted}
+use Rattle.naga_form.specs.Premises.{scope_holds}
 use Rattle.naga_wgsl_fns.specs.Errors.{IsSinkWant}
 use Rattle.naga_wgsl_fns.specs.declared.error.Error.{Error}
 use Rattle.naga_wgsl_fns.specs.declared.error.Error.TheVariants.{FmtError, Custom, Unimplemented, Memory}
@@ -16,7 +18,7 @@ NamerIsFull m = SomeNameIsFull wgsl_names (labelled_items wgsl_names m)
 abbrev pub KeyIsOutOfRange : Module → Type 0
 KeyIsOutOfRange m = SomeKeyIsFull (labelled_items wgsl_names m)
 
--- what a `Custom` error says, and that it is so
+-- what a `Custom` error says of names, and that it is so
 abbrev pub IsToldOf : Module → (message : List ℕ) → Type 0
 IsToldOf m message = ((message ≡ codes "namer is full") × NamerIsFull m) ⊎ ((message ≡ codes "name key out of range") × KeyIsOutOfRange m)
 
@@ -26,25 +28,30 @@ IsNamesRefusal m (Custom message) = IsToldOf m (string_bytes message)
 IsNamesRefusal m (Memory e) = ⊤
 IsNamesRefusal m _ = ⊥
 
--- Why a module is refused, where the sink had failed so often before and has failed so often now: the sink failed, memory ran out, the names
--- can't be told, or the module holds what is not written so far.
-abbrev pub IsRefusal : Module → (before now : ℕ) → Error → Type 0
-IsRefusal m before now (FmtError e) = IsSinkWant before now e
-IsRefusal m before now (Memory e) = ⊤
-IsRefusal m before now (Custom message) = IsToldOf m (string_bytes message)
-IsRefusal m before now (Unimplemented message) = (string_bytes message ≡ codes "not yet written") × IsFalse (is_written_so_far m)
-IsRefusal m before now _ = ⊥
+-- some operand is used where it is out of scope, or some `Emit` is refused by the rules of scope
+abbrev pub IsOutOfScope : Module → ModuleInfo → (message : List ℕ) → Type 0
+IsOutOfScope m info message = (message ≡ codes "operand out of scope") × IsFalse (scope_holds m info)
+
+-- Why a module is refused, of which this is known, where the sink had failed so often before and has failed so often now: the sink failed,
+-- memory ran out, the names can't be told, an operand is out of scope, or the module holds what is not written so far.
+abbrev pub IsRefusal : Module → ModuleInfo → (before now : ℕ) → Error → Type 0
+IsRefusal m info before now (FmtError e) = IsSinkWant before now e
+IsRefusal m info before now (Memory e) = ⊤
+IsRefusal m info before now (Custom message) = IsToldOf m (string_bytes message) ⊎ IsOutOfScope m info (string_bytes message)
+IsRefusal m info before now (Unimplemented message) = (string_bytes message ≡ codes "not yet written") × IsFalse (is_written_so_far m)
+IsRefusal m info before now _ = ⊥
 
 -- no reason stands in the module
-pub record IsWritable (m : Module) : Type 0 where
+pub record IsWritable (m : Module) (info : ModuleInfo) : Type 0 where
   pub written : IsTrue (is_written_so_far m)
+  pub in_scope : IsTrue (scope_holds m info)
   pub told : NamerIsFull m → ⊥
   pub keys : KeyIsOutOfRange m → ⊥
 
 -- an error has its reason, and where there is none no reason stands in the module
-abbrev pub RefusesOnlyFor : Result Unit Error → Module → (before now : ℕ) → Type 0
-RefusesOnlyFor (Ok _) m before now = IsWritable m
-RefusesOnlyFor (Err error) m before now = IsRefusal m before now error
+abbrev pub RefusesOnlyFor : Result Unit Error → Module → ModuleInfo → (before now : ℕ) → Type 0
+RefusesOnlyFor (Ok _) m info before now = IsWritable m info
+RefusesOnlyFor (Err error) m info before now = IsRefusal m info before now error
 
 -- the map has the names of all items of the module, which can all be told
 pub record HasAllNames (m : Module) (names : NameMap) : Type 0 where

@@ -8,6 +8,7 @@ ghost use Rattle.naga_names.specs.Reset.{names_in};
 ghost use Rattle.naga_words.specs.Sink.{IsBehind};
 ghost use Rattle.naga_form.specs.Names.{HasNamesOf};
 ghost use Rattle.naga_form.specs.Resolution.{ResolvesAs};
+ghost use Rattle.naga_form.specs.Bindings.{BindsAs};
 ghost use Rattle.naga_wgsl_fns.specs.Appends.{Appends};
 ghost use Rattle.naga_wgsl_fns.specs.Texts.{text_of_function};
 ghost use Rattle.naga_wgsl_out.specs.Headline.{EachReading, FaithfulWriting, answer_of, text_of};
@@ -21,6 +22,7 @@ use naga_names::keywords::{BUILTIN_IDENTIFIERS, RESERVED};
 use naga_names::namer::{NameKey, Namer, NamerError};
 use naga_wgsl_fns::error::{custom, not_yet_written};
 use naga_wgsl_fns::{Error, WriterFlags, is_written_so_far, put, write_function};
+use naga_scope::scope_holds;
 use naga_words::TextSink;
 use std::alloc::Global;
 use std::collections::HashMap;
@@ -65,16 +67,26 @@ impl<W: TextSink> Writer<W> {
     /// module's interface and does what the module does. The module is accepted with what is known of it.
     ///
     /// The text depends on the module, on what is known of it and on the flags alone, whatever was written
-    /// or refused before. Where the module is refused, a beginning of its text stands behind what the sink held, and the
-    /// next call starts afresh. So far a module is refused as `Unimplemented`, `not yet written`, unless
-    /// it declares nothing but scalar types and at most one function whose statements are returns of
-    /// literals and arguments.
+    /// or refused before. Where the call gives up for want of memory or because the sink failed, a
+    /// beginning of its text stands behind what the sink held; any other refusal comes before the
+    /// first byte. The next call starts afresh.
+    ///
+    /// An expression that is used where it is out of scope, and an `Emit` that is not allowed where it
+    /// stands, are refused as `Custom`, `operand out of scope`. So far a module is refused as
+    /// `Unimplemented`, `not yet written`, unless it declares nothing but scalar types and functions
+    /// whose locals have a literal as first value or none, whose expressions are arguments, locals,
+    /// literals, loads, sums, differences and products, without names of their own, and whose
+    /// statements are `Emit`s, `Store`s and `Return`s.
+    ///
+    /// An emitted expression is bound by a `let` where it is a `Load` that is used at all or an
+    /// operator that is used at least twice; `EXPLICIT_TYPES` has each `let` tell its type.
     pub fn write(&mut self, module: &Module, info: &ModuleInfo) -> Result<(), Error>
         requires accepted { IsTrue (is_accepted «module».now info.now) }
         ensures faithful { FaithfulWriting «module».now info.now result (W.text self.old.sink) (W.text self.new.sink) (W.failures self.old.sink) (W.failures self.new.sink) }
         // Each identifier of the text stands for the item that it was written for.
-        ensures resolution { OnOk result (EachReading (W.text self.old.sink) (W.text self.new.sink) (ResolvesAs «module».now)) }
-
+        ensures resolution { OnOk result (EachReading (W.text self.old.sink) (W.text self.new.sink) (ResolvesAs «module».now info.now)) }
+        // Its `let`s are those of the emitted expressions that are to be bound.
+        ensures bindings { OnOk result (EachReading (W.text self.old.sink) (W.text self.new.sink) (BindsAs «module».now info.now)) }
         ensures text_ok { OnOk result (W.text self.new.sink ≡ W.text self.old.sink ++ written_text «module».now info.now self.old.flags) }
         ensures text_err { OnErr result (IsBehind (W.text self.old.sink) (written_text «module».now info.now self.old.flags) (W.text self.new.sink)) }
         ensures failures_ok { OnOk result (W.failures self.new.sink ≡ W.failures self.old.sink) }
@@ -83,8 +95,11 @@ impl<W: TextSink> Writer<W> {
         if !is_written_so_far(module) {
             return Err(not_yet_written(self.alloc));
         }
+        if !scope_holds(self.alloc, module, info)? {
+            return Err(custom(self.alloc, "operand out of scope"));
+        }
         let names = names_of(self.alloc, module)?;
-        write_functions(self.alloc, module, info, &names, &mut self.out)
+        write_functions(self.alloc, module, info, &names, self.flags, &mut self.out)
     }
 }
 
@@ -94,15 +109,16 @@ fn write_functions<W: TextSink>(
     module: &Module,
     info: &ModuleInfo,
     names: &HashMap<NameKey, String>,
+    flags: WriterFlags,
     out: &mut W,
 ) -> Result<(), Error>
     requires accepted { IsTrue (is_accepted «module».now info.now) }
     requires written { IsTrue (is_written_so_far «module».now) }
     requires names { HasNamesOf «module».now (names_in names.now) }
-    ensures { Appends result (W.text out.old) (W.failures out.old) (lines_of «module».now (enumerate_from 0 «module».now.functions)) (W.text out.new) (W.failures out.new) }
+    ensures { Appends result (W.text out.old) (W.failures out.old) (lines_of «module».now info.now flags (enumerate_from 0 «module».now.functions)) (W.text out.new) (W.failures out.new) }
 {
     for (handle, _) in module.functions.iter() {
-        write_function_line(alloc, module, info, names, handle, out)?;
+        write_function_line(alloc, module, info, names, flags, handle, out)?;
     }
     Ok(())
 }
@@ -112,6 +128,7 @@ fn write_function_line<W: TextSink>(
     module: &Module,
     info: &ModuleInfo,
     names: &HashMap<NameKey, String>,
+    flags: WriterFlags,
     handle: Handle<Function>,
     out: &mut W,
 ) -> Result<(), Error>
@@ -119,9 +136,9 @@ fn write_function_line<W: TextSink>(
     requires written { IsTrue (is_written_so_far «module».now) }
     requires handle { handle < length «module».now.functions }
     requires names { HasNamesOf «module».now (names_in names.now) }
-    ensures { Appends result (W.text out.old) (W.failures out.old) (text_of_function «module».now handle ++ codes "\n") (W.text out.new) (W.failures out.new) }
+    ensures { Appends result (W.text out.old) (W.failures out.old) (text_of_function «module».now info.now flags handle ++ codes "\n") (W.text out.new) (W.failures out.new) }
 {
-    write_function(alloc, module, info, names, handle, out)?;
+    write_function(alloc, module, info, names, flags, handle, out)?;
     put("\n", out)
 }
 
@@ -175,7 +192,8 @@ pub fn write_string(
 ) -> Result<String, Error>
     requires accepted { IsTrue (is_accepted «module».now info.now) }
     ensures faithful { FaithfulWriting «module».now info.now (answer_of result) [] (text_of result) 0 0 }
-    ensures resolution { OnOk (answer_of result) (EachReading [] (text_of result) (ResolvesAs «module».now)) }
+    ensures resolution { OnOk (answer_of result) (EachReading [] (text_of result) (ResolvesAs «module».now info.now)) }
+    ensures bindings { OnOk (answer_of result) (EachReading [] (text_of result) (BindsAs «module».now info.now)) }
     ensures text { IfOk result (λ text. string_bytes text ≡ written_text «module».now info.now flags) }
 {
     let mut writer = Writer::new(alloc, String::new(alloc), flags);

@@ -7,4 +7,4 @@ use Rattle.naga_wgsl_out.proofs.writer.write_functions.Given as goal
 abbrev pub invariant-loop-handle : goal.invariant-loop-handle
 invariant-loop-handle g l =
     let all = enumerate_from 0 l.«module».functions in
-    IsAlong (lines_of l.«module» all) (g.W.TextSink.text l.initial.out) (g.W.TextSink.failures l.initial.out) (g.W.TextSink.text l.out) (g.W.TextSink.failures l.out) (lines_of l.«module» (drop (length l.yielded) all))
+    IsAlong (lines_of l.«module» l.info l.flags all) (g.W.TextSink.text l.initial.out) (g.W.TextSink.failures l.initial.out) (g.W.TextSink.text l.out) (g.W.TextSink.failures l.out) (lines_of l.«module» l.info l.flags (drop (length l.yielded) all))

@@ -1,33 +1,47 @@
-use Rattle.std.proofs.Common.{rules, ◌≡◌, ◌<◌, ◌++◌, IfErr, IsTrue, OnErr, OnOk, Some, length, slice_get, ℕ, ◌+◌, ◌-◌, ◌*◌, ◌≤◌, ◌/◌, ◌%◌, Bool, true, false, nat_eq, nat_lt, List, [], ◌∷◌, slice_index_or, slice_set, bit_and, bit_or, Fits, w8, w32, w64, Bor, MutBor}
-use Rattle.naga_form.specs.Form.{function_form, locals_form, parameter_form, parameters_form, result_form}
-use Rattle.naga_form.specs.Names.{HasNamesOf, module_names, name_in}
-use Rattle.naga_info.specs.Accepted.{is_accepted}
-use Rattle.naga_info.specs.Part.{is_written_so_far}
-use Rattle.naga_names.specs.Reset.{names_in}
-use Rattle.naga_words.specs.Sink.{IsBehind}
-use Rattle.wgsl_text.specs.Declarations.{function_pieces, parameter_pieces, parameters_pieces, result_pieces}
+use Rattle.std.proofs.Common.{◌≡◌, ◌<◌, ◌≤◌, ℕ, Bool, [], codes, if◌then◌else◌, length, sym, ap, subst, slice_get, ◌∙◌}
+use Rattle.naga_form.specs.Form.{locals_form}
+use Rattle.wgsl_text.specs.Declarations.{locals_pieces}
 use Rattle.wgsl_text.specs.Text.{text}
-use Rattle.naga_wgsl_fns.specs.Appends.{Appends}
-use Rattle.naga_wgsl_fns.specs.Errors.{IsWant}
-use Rattle.naga_wgsl_fns.specs.Texts.{CanWrite, StartsAt, has_word, head_text, local_text, locals_text, naming_of, separator, tells_types, text_of_function, type_word}
+use Rattle.naga_wgsl_fns.specs.Texts.{naming_of, local_text_at}
+use Rattle.naga_wgsl_fns.proofs.Appending.{along_start, along_more, along_stopped, along_done, appends_as, appends_stopped, appends_then, stopped_as, stopped_first, wrote_as}
+use Rattle.naga_wgsl_fns.proofs.Rows.{locals_more, locals_none, group_row}
 use Rattle.naga_wgsl_fns.proofs.function.FunctionText.write_locals.Goals as goal
 
--- src/function.rt:152:9
-pub loop-handle-init : goal.loop-handle-init
-loop-handle-init g c = ?
+pub loop-index-init : goal.loop-index-init
+loop-index-init g c =
+    let self = c.args.self.now in
+    along_start (text (locals_pieces (locals_form (naming_of self.shader.now self.handle self.function.now self.info.now) self.shader.now.types self.function.now.expressions 0 self.function.now.local_variables))) (g.W.TextSink.text c.args.out.now) (g.W.TextSink.failures c.args.out.now)
 
--- src/function.rt:153:13
 pub write_local-requires-clause-local : goal.write_local-requires-clause-local
-write_local-requires-clause-local g c = ?
+write_local-requires-clause-local g c =
+    let locals = c.args.self.now.function.now.local_variables in
+    subst (λ h. h < length locals) (sym c.from_index.ensures) (subst (λ n. c.loop-index.index < n) c.len-index-end.ensures c.loop-index-test.true)
 
--- src/function.rt:152:9
-pub loop-handle-preserved : goal.loop-handle-preserved
-loop-handle-preserved g c = ?
-
--- src/function.rt:153:13
 pub returns-in_err-write_local : goal.returns-in_err-write_local
-returns-in_err-write_local g c = ?
+returns-in_err-write_local g c =
+    let self = c.args.self.now in
+    let n = naming_of self.shader.now self.handle self.function.now self.info.now in
+    let locals = self.function.now.local_variables in
+    let lt : c.loop-index.index < length locals = subst (λ n. c.loop-index.index < n) c.len-index-end.ensures c.loop-index-test.true in
+    appends_stopped c.from_residual.result c.from_residual.ensures.1
+    (stopped_first _
+    (along_stopped _ c.loop-index.invariant (locals_more n self.shader.now.types self.function.now.expressions c.loop-index.index locals lt)
+    (stopped_as (ap (λ h. local_text_at n self.shader.now.types self.function.now.expressions h (slice_get locals h)) c.from_index.ensures) c.in_err-write_local.ensures)))
 
--- src/function.rt:142:5
+pub loop-index-preserved : goal.loop-index-preserved
+loop-index-preserved g c =
+    let self = c.args.self.now in
+    let n = naming_of self.shader.now self.handle self.function.now self.info.now in
+    let locals = self.function.now.local_variables in
+    let lt : c.loop-index.index < length locals = subst (λ n. c.loop-index.index < n) c.len-index-end.ensures c.loop-index-test.true in
+    along_more _ c.loop-index.invariant (locals_more n self.shader.now.types self.function.now.expressions c.loop-index.index locals lt)
+    (wrote_as (ap (λ h. local_text_at n self.shader.now.types self.function.now.expressions h (slice_get locals h)) c.from_index.ensures) c.in_ok-write_local.ensures)
+
 pub returns : goal.returns
-returns g c = ?
+returns g c =
+    let self = c.args.self.now in
+    let n = naming_of self.shader.now self.handle self.function.now self.info.now in
+    let locals = self.function.now.local_variables in
+    let past : length locals ≤ c.loop-index.index = subst (λ n. n ≤ c.loop-index.index) c.len-index-end.ensures c.loop-index-test.false in
+    appends_then c.write_group_end.result _ _ _ (along_done c.loop-index.invariant (locals_none n self.shader.now.types self.function.now.expressions c.loop-index.index locals past))
+    (appends_as c.write_group_end.result _ _ _ _ _ _ (ap (λ (b : Bool). if b then [] else codes "\n") c.is_empty.ensures ∙ group_row n self.shader.now.types self.function.now.expressions locals) c.write_group_end.ensures)

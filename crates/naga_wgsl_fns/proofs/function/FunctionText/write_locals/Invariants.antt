@@ -1,16 +1,13 @@
-use Rattle.std.proofs.Common.{◌≡◌, ◌<◌, ◌++◌, IfErr, IsTrue, OnErr, OnOk, Some, length, slice_get, ℕ, ◌+◌, ◌-◌, ◌*◌, ◌≤◌}
-use Rattle.naga_form.specs.Form.{function_form, locals_form, parameter_form, parameters_form, result_form}
-use Rattle.naga_form.specs.Names.{HasNamesOf, module_names, name_in}
-use Rattle.naga_info.specs.Accepted.{is_accepted}
-use Rattle.naga_info.specs.Part.{is_written_so_far}
-use Rattle.naga_names.specs.Reset.{names_in}
-use Rattle.naga_words.specs.Sink.{IsBehind}
-use Rattle.wgsl_text.specs.Declarations.{function_pieces, parameter_pieces, parameters_pieces, result_pieces}
+use Rattle.std.proofs.Common.{drop}
+use Rattle.naga_form.specs.Form.{locals_form}
+use Rattle.wgsl_text.specs.Declarations.{locals_pieces}
 use Rattle.wgsl_text.specs.Text.{text}
-use Rattle.naga_wgsl_fns.specs.Appends.{Appends}
-use Rattle.naga_wgsl_fns.specs.Errors.{IsWant}
-use Rattle.naga_wgsl_fns.specs.Texts.{CanWrite, StartsAt, has_word, head_text, local_text, locals_text, naming_of, separator, tells_types, text_of_function, type_word}
+use Rattle.naga_wgsl_fns.specs.Texts.{naming_of}
+use Rattle.naga_wgsl_fns.proofs.Appending.{IsAlong}
 use Rattle.naga_wgsl_fns.proofs.function.FunctionText.write_locals.Given as goal
 
-abbrev pub invariant-loop-handle : goal.invariant-loop-handle
-invariant-loop-handle g l = ?
+abbrev pub invariant-loop-index : goal.invariant-loop-index
+invariant-loop-index g l =
+    IsAlong (text (locals_pieces (locals_form (naming_of l.self.shader.now l.self.handle l.self.function.now l.self.info.now) l.self.shader.now.types l.self.function.now.expressions 0 l.self.function.now.local_variables)))
+    (g.W.TextSink.text l.initial.out) (g.W.TextSink.failures l.initial.out) (g.W.TextSink.text l.out) (g.W.TextSink.failures l.out)
+    (text (locals_pieces (locals_form (naming_of l.self.shader.now l.self.handle l.self.function.now l.self.info.now) l.self.shader.now.types l.self.function.now.expressions l.index (drop l.index l.self.function.now.local_variables))))
