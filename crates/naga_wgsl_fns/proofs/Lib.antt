@@ -1,5 +1,6 @@
 pub mod Appending
 pub mod Levels
+pub mod Owns
 pub mod Rows
 pub mod Wanted
 pub mod Accepted
