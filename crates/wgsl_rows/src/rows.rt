@@ -1,7 +1,7 @@
 //! The rows: sample modules under their names.
 
 use crate::sample::Sample;
-use naga_wgsl_out::ir::{Expression, Literal, Scalar};
+use naga_wgsl_out::ir::{BinaryOperator, Expression, Handle, Literal, Scalar, Type_};
 use std::alloc::{AllocError, Global};
 
 /// A sample module.
@@ -17,6 +17,16 @@ pub enum Row {
     Same,
     /// A function and an argument whose labels are no names: a keyword, and one with a digit first.
     Type_,
+    /// A function that returns what a local held before a store to it.
+    Store,
+    /// The same, but what the local held is not used.
+    Unused,
+    /// A function that adds to what a local held before a store to it.
+    Late,
+    /// A function that stores a sum, and returns it from the local.
+    Inline,
+    /// A function that uses a sum twice: to store it, and to multiply it.
+    Twofold,
 }
 
 impl Row {
@@ -28,6 +38,11 @@ impl Row {
             "negative" => Some(Row::Negative),
             "same" => Some(Row::Same),
             "type" => Some(Row::Type_),
+            "store" => Some(Row::Store),
+            "unused" => Some(Row::Unused),
+            "late" => Some(Row::Late),
+            "inline" => Some(Row::Inline),
+            "twofold" => Some(Row::Twofold),
             _ => None,
         }
     }
@@ -46,6 +61,11 @@ impl Row {
             Row::Negative => build_negative(sample),
             Row::Same => build_same(sample),
             Row::Type_ => build_type(sample),
+            Row::Store => build_store(sample, true),
+            Row::Unused => build_store(sample, false),
+            Row::Late => build_late(sample),
+            Row::Inline => build_inline(sample),
+            Row::Twofold => build_twofold(sample),
         }
     }
 }
@@ -89,5 +109,84 @@ fn build_type(sample: &mut Sample) -> Result<(), AllocError> {
     sample.returns(i32_type);
     let x = sample.expression(Expression::FunctionArgument(0), i32_type)?;
     sample.return_value(x)?;
+    sample.end_function()
+}
+
+/// Stores 2 to a local that holds 1, and returns what it held, or 2.
+fn build_store(sample: &mut Sample, is_used: bool) -> Result<(), AllocError> {
+    let i32_type = sample.scalar(Scalar::I32)?;
+    sample.label("g")?;
+    sample.returns(i32_type);
+    let one = sample.literal(Literal::I32(1), i32_type)?;
+    let a = sample.local("a", i32_type, Some(one))?;
+    let pointer = sample.pointer(a, i32_type)?;
+    let held = sample.expression(Expression::Load { pointer }, i32_type)?;
+    let two = sample.literal(Literal::I32(2), i32_type)?;
+    sample.emit(held, held)?;
+    sample.store(pointer, two)?;
+    sample.return_value(if is_used { held } else { two })?;
+    sample.end_function()
+}
+
+fn build_late(sample: &mut Sample) -> Result<(), AllocError> {
+    let i32_type = sample.scalar(Scalar::I32)?;
+    sample.label("p")?;
+    sample.returns(i32_type);
+    let one = sample.literal(Literal::I32(1), i32_type)?;
+    let a = sample.local("a", i32_type, Some(one))?;
+    let pointer = sample.pointer(a, i32_type)?;
+    let held = sample.expression(Expression::Load { pointer }, i32_type)?;
+    let sum = sample.binary(BinaryOperator::Add, held, one, i32_type)?;
+    let two = sample.literal(Literal::I32(2), i32_type)?;
+    sample.emit(held, sum)?;
+    sample.store(pointer, two)?;
+    sample.return_value(sum)?;
+    sample.end_function()
+}
+
+/// The argument's double, and what the local to which it was stored holds.
+#[derive(Clone, Copy)]
+struct Doubled {
+    i32_type: Handle<Type_>,
+    sum: Handle<Expression>,
+    held: Handle<Expression>,
+}
+
+fn begin_doubled(sample: &mut Sample) -> Result<Doubled, AllocError> {
+    let i32_type = sample.scalar(Scalar::I32)?;
+    sample.label("q")?;
+    sample.argument("x", i32_type)?;
+    sample.returns(i32_type);
+    let a = sample.local("a", i32_type, None)?;
+    let x = sample.expression(Expression::FunctionArgument(0), i32_type)?;
+    let pointer = sample.pointer(a, i32_type)?;
+    let sum = sample.binary(BinaryOperator::Add, x, x, i32_type)?;
+    let held = sample.expression(Expression::Load { pointer }, i32_type)?;
+    sample.emit(sum, sum)?;
+    sample.store(pointer, sum)?;
+    Ok(Doubled {
+        i32_type,
+        sum,
+        held,
+    })
+}
+
+fn build_inline(sample: &mut Sample) -> Result<(), AllocError> {
+    let doubled = begin_doubled(sample)?;
+    sample.emit(doubled.held, doubled.held)?;
+    sample.return_value(doubled.held)?;
+    sample.end_function()
+}
+
+fn build_twofold(sample: &mut Sample) -> Result<(), AllocError> {
+    let doubled = begin_doubled(sample)?;
+    let Doubled {
+        i32_type,
+        sum,
+        held,
+    } = doubled;
+    let product = sample.binary(BinaryOperator::Multiply, sum, held, i32_type)?;
+    sample.emit(held, product)?;
+    sample.return_value(product)?;
     sample.end_function()
 }

@@ -2,8 +2,8 @@
 
 use naga_wgsl_out::info::{ExpressionInfo, FunctionInfo, ModuleInfo, TypeResolution};
 use naga_wgsl_out::ir::{
-    Expression, Function, FunctionArgument, FunctionResult, Handle, Literal, LocalVariable, Module,
-    Scalar, Statement, Type_, TypeInner,
+    AddressSpace, BinaryOperator, Expression, Function, FunctionArgument, FunctionResult, Handle,
+    Literal, LocalVariable, Module, Range, Scalar, Statement, Type_, TypeInner,
 };
 use std::alloc::{AllocError, Global};
 use std::mem;
@@ -85,11 +85,40 @@ impl Sample {
         expression: Expression,
         ty: Handle<Type_>,
     ) -> Result<Handle<Expression>, AllocError> {
-        self.expressions.push(ExpressionInfo {
-            ref_count: 0,
-            ty: TypeResolution::Handle(ty),
-        })?;
+        self.resolved(expression, TypeResolution::Handle(ty))
+    }
+
+    fn resolved(
+        &mut self,
+        expression: Expression,
+        ty: TypeResolution,
+    ) -> Result<Handle<Expression>, AllocError> {
+        self.expressions.push(ExpressionInfo { ref_count: 0, ty })?;
         self.function.expressions.append(expression)
+    }
+
+    /// Adds a pointer to a local variable of this type to the function.
+    pub fn pointer(
+        &mut self,
+        local: Handle<LocalVariable>,
+        ty: Handle<Type_>,
+    ) -> Result<Handle<Expression>, AllocError> {
+        let space = AddressSpace::Function;
+        self.resolved(
+            Expression::LocalVariable(local),
+            TypeResolution::Value(TypeInner::Pointer { base: ty, space }),
+        )
+    }
+
+    /// Adds an operator over two values of this type, with a result of this type, to the function.
+    pub fn binary(
+        &mut self,
+        op: BinaryOperator,
+        left: Handle<Expression>,
+        right: Handle<Expression>,
+        ty: Handle<Type_>,
+    ) -> Result<Handle<Expression>, AllocError> {
+        self.expression(Expression::Binary { op, left, right }, ty)
     }
 
     /// Adds a literal of this type to the function.
@@ -99,6 +128,27 @@ impl Sample {
         ty: Handle<Type_>,
     ) -> Result<Handle<Expression>, AllocError> {
         self.expression(Expression::Literal(literal), ty)
+    }
+
+    /// Adds the `Emit` of all expressions from the first to the last to the function.
+    pub fn emit(
+        &mut self,
+        first: Handle<Expression>,
+        last: Handle<Expression>,
+    ) -> Result<(), AllocError> {
+        self.function.body.push(Statement::Emit(Range {
+            first: first.index(),
+            end: last.index().saturating_add(1),
+        }))
+    }
+
+    /// Adds the store of a value to the function.
+    pub fn store(
+        &mut self,
+        pointer: Handle<Expression>,
+        value: Handle<Expression>,
+    ) -> Result<(), AllocError> {
+        self.function.body.push(Statement::Store { pointer, value })
     }
 
     /// Adds the return of a value to the function.

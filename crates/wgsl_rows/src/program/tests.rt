@@ -67,6 +67,62 @@ fn rows_are_written(rt: HostRuntime) -> Result<(), Fail> {
     Ok(())
 }
 
+/// Whether the row has these texts, without and with the types of its `let`s.
+fn has_texts(alloc: Global, row: &str, text: &str, told: &str) -> Result<bool, AllocError> {
+    Ok(gives(alloc, &[row], text, "", 0)? && gives(alloc, &[row, "explicit"], told, "", 0)?)
+}
+
+#[test]
+fn loads_are_bound_where_they_are_emitted(rt: HostRuntime) -> Result<(), Fail> {
+    let alloc = rt.alloc();
+    assert!(rt;
+        has_texts(
+            alloc,
+            "store",
+            "fn g() -> i32 {\n    var a: i32 = 1i;\n\n    let _e2 = a;\n    a = 2i;\n    return _e2;\n}\n\n",
+            "fn g() -> i32 {\n    var a: i32 = 1i;\n\n    let _e2: i32 = a;\n    a = 2i;\n    return _e2;\n}\n\n"
+        )?
+    );
+    assert!(rt;
+        has_text(
+            alloc,
+            "unused",
+            "fn g() -> i32 {\n    var a: i32 = 1i;\n\n    a = 2i;\n    return 2i;\n}\n\n"
+        )?
+    );
+    assert!(rt;
+        has_texts(
+            alloc,
+            "late",
+            "fn p() -> i32 {\n    var a: i32 = 1i;\n\n    let _e2 = a;\n    a = 2i;\n    return (_e2 + 1i);\n}\n\n",
+            "fn p() -> i32 {\n    var a: i32 = 1i;\n\n    let _e2: i32 = a;\n    a = 2i;\n    return (_e2 + 1i);\n}\n\n"
+        )?
+    );
+    Ok(())
+}
+
+#[test]
+fn operators_are_bound_where_they_are_used_twice(rt: HostRuntime) -> Result<(), Fail> {
+    let alloc = rt.alloc();
+    assert!(rt;
+        has_texts(
+            alloc,
+            "inline",
+            "fn q(x: i32) -> i32 {\n    var a: i32;\n\n    a = (x + x);\n    let _e3 = a;\n    return _e3;\n}\n\n",
+            "fn q(x: i32) -> i32 {\n    var a: i32;\n\n    a = (x + x);\n    let _e3: i32 = a;\n    return _e3;\n}\n\n"
+        )?
+    );
+    assert!(rt;
+        has_texts(
+            alloc,
+            "twofold",
+            "fn q(x: i32) -> i32 {\n    var a: i32;\n\n    let _e2 = (x + x);\n    a = _e2;\n    let _e3 = a;\n    return (_e2 * _e3);\n}\n\n",
+            "fn q(x: i32) -> i32 {\n    var a: i32;\n\n    let _e2: i32 = (x + x);\n    a = _e2;\n    let _e3: i32 = a;\n    return (_e2 * _e3);\n}\n\n"
+        )?
+    );
+    Ok(())
+}
+
 fn is_unknown(alloc: Global, words: &[&str]) -> Result<bool, AllocError> {
     gives(alloc, words, "", "unknown row\n", 2)
 }
@@ -78,7 +134,7 @@ fn unknown_words_are_refused(rt: HostRuntime) -> Result<(), Fail> {
     assert!(rt; is_unknown(alloc, &[""])?);
     assert!(rt; is_unknown(alloc, &["Identity"])?);
     assert!(rt; is_unknown(alloc, &["identity "])?);
-    assert!(rt; is_unknown(alloc, &["store"])?);
+    assert!(rt; is_unknown(alloc, &["stores"])?);
     assert!(rt; is_unknown(alloc, &["identity", "Explicit"])?);
     assert!(rt; is_unknown(alloc, &["explicit", "identity"])?);
     assert!(rt; is_unknown(alloc, &["identity", "explicit", "explicit"])?);
@@ -121,27 +177,52 @@ fn is_refused(alloc: Global, sample: &mut Sample, told: &str) -> bool {
     status == 1 && out.is_empty() && err.as_slice() == told.as_bytes()
 }
 
-/// A function with a local variable.
+/// A function with a local variable whose first value is the function's argument.
 fn build_local(sample: &mut Sample) -> Result<(), AllocError> {
     let i32_type = sample.scalar(Scalar::I32)?;
     sample.label("g")?;
+    sample.argument("x", i32_type)?;
     sample.returns(i32_type);
-    let one = sample.literal(Literal::I32(1), i32_type)?;
-    sample.local("a", i32_type, Some(one))?;
-    sample.return_value(one)?;
+    let x = sample.expression(Expression::FunctionArgument(0), i32_type)?;
+    sample.local("a", i32_type, Some(x))?;
+    sample.return_value(x)?;
     sample.end_function()
-}
-
-#[test]
-fn locals_are_not_yet_written(rt: HostRuntime) -> Result<(), Fail> {
-    assert!(rt; is_not_yet_written(rt.alloc())?);
-    Ok(())
 }
 
 fn is_not_yet_written(alloc: Global) -> Result<bool, AllocError> {
     let mut sample = Sample::new(alloc);
     build_local(&mut sample)?;
     Ok(is_refused(alloc, &mut sample, "refused: not yet written\n"))
+}
+
+#[test]
+fn first_values_that_are_no_literals_are_not_yet_written(rt: HostRuntime) -> Result<(), Fail> {
+    assert!(rt; is_not_yet_written(rt.alloc())?);
+    Ok(())
+}
+
+/// A function that returns what a local holds, with no `Emit` of the load.
+fn build_load_without_emit(sample: &mut Sample) -> Result<(), AllocError> {
+    let i32_type = sample.scalar(Scalar::I32)?;
+    sample.label("g")?;
+    sample.returns(i32_type);
+    let a = sample.local("a", i32_type, None)?;
+    let pointer = sample.pointer(a, i32_type)?;
+    let held = sample.expression(Expression::Load { pointer }, i32_type)?;
+    sample.return_value(held)?;
+    sample.end_function()
+}
+
+fn is_out_of_scope(alloc: Global) -> Result<bool, AllocError> {
+    let mut sample = Sample::new(alloc);
+    build_load_without_emit(&mut sample)?;
+    Ok(is_refused(alloc, &mut sample, "refused: operand out of scope\n"))
+}
+
+#[test]
+fn loads_that_were_not_emitted_are_out_of_scope(rt: HostRuntime) -> Result<(), Fail> {
+    assert!(rt; is_out_of_scope(rt.alloc())?);
+    Ok(())
 }
 
 /// A function of one argument that returns its argument of this number.
