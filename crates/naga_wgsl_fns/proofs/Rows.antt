@@ -66,8 +66,8 @@ pub binary_row : (a b : Expression) (op : ir_operator.BinaryOperator)
     → codes "(" ++ (text (expression_pieces a) ++ ((codes " " ++ (operator_text op ++ codes " ")) ++ (text (expression_pieces b) ++ codes ")"))) ≡ text (expression_pieces (tree.Binary a (operator_form op) b))
 binary_row a b op =
     ap (λ t. codes "(" ++ (text (expression_pieces a) ++ t))
-        (ap (λ w. (codes " " ++ (w ++ codes " ")) ++ (text (expression_pieces b) ++ codes ")")) (operator_row op)
-        ∙ ap (λ t. codes " " ++ t) (append_assoc (text (binary_pieces (operator_form op))) (codes " ") (text (expression_pieces b) ++ codes ")")))
+    (ap (λ w. (codes " " ++ (w ++ codes " ")) ++ (text (expression_pieces b) ++ codes ")")) (operator_row op)
+    ∙ ap (λ t. codes " " ++ t) (append_assoc (text (binary_pieces (operator_form op))) (codes " ") (text (expression_pieces b) ++ codes ")")))
     ∙ sym (binary_text a (operator_form op) b)
 
 -- the word of a type that a `let` tells
@@ -136,7 +136,7 @@ block_step ss i s h here = ap (λ ts. block_of ts) (drop_first i ss s h here)
 pub drop_at : {X : Type 0} (i : ℕ) (xs : List X) (x : X) → slice_get xs i ≡ Some x → drop i xs ≡ x ∷ drop (i + 1) xs
 drop_at i [] x at = absurd cc
 drop_at zero (y ∷ xs) x at = ap (λ o. unwrap_or o y ∷ xs) at
-drop_at (suc i) (y ∷ xs) x at = drop_at i xs x at
+drop_at (suc i) (y ∷ xs) x at = let later : suc (i + 1) ≡ suc i + 1 = omega arith in drop_at i xs x at ∙ ap (λ k. x ∷ drop k (y ∷ xs)) later
 
 -- ---- locals
 module _ (n : Naming) (types : List Type_) (es : List ir.Expression) where
