@@ -8,7 +8,6 @@ use Rattle.naga_ir.specs.declared.expression.Expression as ir
 use Rattle.naga_ir.specs.declared.expression.Expression.TheVariants as expression
 use Rattle.naga_ir.specs.declared.operators.BinaryOperator as ir_operator
 use Rattle.shader_runs.specs.Scope.{Handles, Naming}
-use Rattle.shader_runs.specs.Scope as runs
 use Rattle.naga_form.specs.Names.{numbered_name, numbered_text}
 use Rattle.naga_form.specs.Form.{PlainForm, ValueForm, as_value, as_reference, own_plain, own_if, plain_form, standing_plain, value_form}
 use Rattle.naga_form.specs.Shapes.{OperandsStandBefore}
