@@ -1,6 +1,6 @@
 -- The text of an expression by its kind and by where it stands.
-use Rattle.std.proofs.Common.{◌≡◌, ℕ, ◌<◌, ◌^◌, ◌++◌, List, Option, Some, None, codes, length, refl, sym, ap, ◌∙◌, get_or}
-use Rattle.std.specs.Prelude.{slice_get, nat_lt}
+use Rattle.std.proofs.Common.{◌≡◌, ℕ, ◌<◌, ◌^◌, ◌++◌, List, Some, codes, length, refl, sym, ap, ◌∙◌, get_or}
+use Rattle.std.specs.Prelude.{slice_get}
 use Rattle.std.specs.Fmt.{decimal}
 use Rattle.std.proofs.lemmas.Bool.{lt-ltb}
 use Rattle.std.proofs.lemmas.List.{append-nil}
@@ -8,9 +8,8 @@ use Rattle.naga_ir.specs.declared.expression.Expression as ir
 use Rattle.naga_ir.specs.declared.expression.Expression.TheVariants as expression
 use Rattle.naga_ir.specs.declared.operators.BinaryOperator as ir_operator
 use Rattle.shader_runs.specs.Scope.{Handles, Naming}
-use Rattle.shader_runs.specs.Scope as runs
 use Rattle.naga_form.specs.Names.{numbered_name, numbered_text}
-use Rattle.naga_form.specs.Form.{PlainForm, ValueForm, ReferenceForm, as_value, as_reference, own_plain, own_if, plain_form, standing_plain, value_form}
+use Rattle.naga_form.specs.Form.{PlainForm, ValueForm, as_value, as_reference, own_plain, own_if, plain_form, standing_plain, value_form}
 use Rattle.naga_form.specs.Shapes.{OperandsStandBefore}
 use Rattle.naga_scope.specs.Standings.{handles_of, standing_of}
 use Rattle.naga_scope.specs.declared.points.Standing.{Standing}
@@ -53,12 +52,14 @@ module _ (n : Naming) (es : List ir.Expression) (s : Handles) where
 
 -- what stands at a handle, by its cell
 module _ (n : Naming) (es : List ir.Expression) (before : OperandsStandBefore es) (table : List Standing) where
+  -- what the table says of each handle
   abbrev s : Handles
   s = handles_of table
 
   cell_is : (h : ℕ) (cell : Standing) → cell ≡ get_or table h Absent → s h ≡ standing_of (numbered_name h) cell
   cell_is h cell is = sym (ap (λ cell. standing_of (numbered_name h) cell) is)
 
+  -- a handle that the table names is written as its name, and another as what it is made of
   named_form : (h : ℕ) → h < length es → (cell : Standing) → cell ≡ get_or table h Absent → cell ≡ Named → plain_form n es s h ≡ ValueForm (Name (numbered_name h))
   named_form h lt cell is named =
       plain_level n es before s h lt

@@ -68,8 +68,8 @@ pub binary_row : (a b : Expression) (op : ir_operator.BinaryOperator)
     → codes "(" ++ (text (expression_pieces a) ++ ((codes " " ++ (operator_text op ++ codes " ")) ++ (text (expression_pieces b) ++ codes ")"))) ≡ text (expression_pieces (tree.Binary a (operator_form op) b))
 binary_row a b op =
     ap (λ t. codes "(" ++ (text (expression_pieces a) ++ t))
-        (ap (λ w. (codes " " ++ (w ++ codes " ")) ++ (text (expression_pieces b) ++ codes ")")) (operator_row op)
-        ∙ ap (λ t. codes " " ++ t) (append_assoc (text (binary_pieces (operator_form op))) (codes " ") (text (expression_pieces b) ++ codes ")")))
+    (ap (λ w. (codes " " ++ (w ++ codes " ")) ++ (text (expression_pieces b) ++ codes ")")) (operator_row op)
+    ∙ ap (λ t. codes " " ++ t) (append_assoc (text (binary_pieces (operator_form op))) (codes " ") (text (expression_pieces b) ++ codes ")")))
     ∙ sym (binary_text a (operator_form op) b)
 
 -- the word of a type that a `let` tells

@@ -58,8 +58,10 @@ impl FunctionText<'_> {
     {
         match &self.function.expressions[handle] {
             Expression::Literal(literal) => write_literal(alloc, *literal, out),
-            Expression::FunctionArgument(number) =>
-                self.write_name(&NameKey::FunctionArgument(self.handle, *number), out),
+            Expression::FunctionArgument(number) => self.write_name(
+                &NameKey::FunctionArgument(self.handle, *number),
+                out,
+            ),
             Expression::LocalVariable(local) => {
                 put("(&", out)?;
                 self.write_name(&NameKey::FunctionLocal(self.handle, *local), out)?;
@@ -93,8 +95,10 @@ impl FunctionText<'_> {
         match scope.standing(handle) {
             Standing::Named => self.write_dereference(alloc, scope, handle, out),
             _ => match &self.function.expressions[handle] {
-                Expression::LocalVariable(local) =>
-                    self.write_name(&NameKey::FunctionLocal(self.handle, *local), out),
+                Expression::LocalVariable(local) => self.write_name(
+                    &NameKey::FunctionLocal(self.handle, *local),
+                    out,
+                ),
                 _ => self.write_dereference(alloc, scope, handle, out),
             },
         }

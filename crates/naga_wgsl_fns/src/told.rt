@@ -11,9 +11,9 @@ ghost use Rattle.naga_wgsl_fns.specs.Texts.{tells_types, told_text};
 use crate::error::Error;
 use crate::flags::WriterFlags;
 use crate::sinks::{put_three, put_two};
+use bitflags::Flags;
 use naga_info::{FunctionInfo, TypeResolution, scalar_word};
 use naga_ir::{AddressSpace, Expression, Handle, Type_, TypeInner, UniqueArena};
-use bitflags::Flags;
 use naga_words::TextSink;
 
 /// What stands between the name of a `let` and its `=`: a colon and the type, if the flags ask for it.

@@ -1,5 +1,4 @@
-use Rattle.std.proofs.Common.{rules, ◌≡◌, ◌<◌, ◌^◌, ◌++◌, codes, ◌∙◌}
-use Rattle.std.specs.Fmt.{decimal}
+use Rattle.std.proofs.Common.{rules, ◌<◌, ◌^◌, ◌∙◌}
 use Rattle.naga_wgsl_fns.proofs.Appending.{appends_as}
 use Rattle.naga_wgsl_fns.proofs.Owns.{numbered_is}
 use Rattle.naga_wgsl_fns.proofs.expression.write_bound_name.Goals as goal
