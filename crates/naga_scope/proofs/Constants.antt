@@ -1,5 +1,5 @@
 -- Which expressions are in scope from the start, by one pass over a function's expressions in their order.
-use Rattle.std.proofs.Common.{◌≡◌, ◌≢◌, ℕ, zero, suc, ◌+◌, ◌<◌, ◌≤◌, ◌&&◌, ◌||◌, Bool, true, false, List, [], ◌∷◌, ◌++◌, length, get_or, Option, Some, None, refl, sym, ap, ap₂, ◌∙◌, arith, nat_lt, below_more}
+use Rattle.std.proofs.Common.{◌≡◌, ℕ, zero, suc, ◌+◌, ◌<◌, ◌≤◌, ◌&&◌, ◌||◌, Bool, true, false, List, [], ◌∷◌, ◌++◌, length, get_or, Option, Some, None, refl, sym, ap, ap₂, ◌∙◌, arith, nat_lt, below_more}
 use Rattle.std.specs.Prelude.{slice_get}
 use Rattle.std.specs.Option.{option_map}
 use Rattle.std.proofs.lemmas.List.{get_or_append_left, get_or_past, length-append, length-map}
@@ -11,7 +11,6 @@ use Rattle.naga_ir.specs.declared.module.Function as ir_function
 use Rattle.naga_ir.specs.declared.types.Type_.{Type_}
 use Rattle.naga_info.specs.declared.info.ExpressionInfo.{ExpressionInfo}
 use Rattle.shader_runs.specs.Program.{Expression, Constant, operands_of}
-use Rattle.shader_runs.specs.Scope as runs
 use Rattle.shader_runs.specs.Scope.{is_pure, all_constant, is_constant_leaf, constant_test, is_constant_below, start_standing, at_start}
 use Rattle.shader_runs.specs.Premises.{AllBelow}
 use Rattle.naga_form.specs.Names.{numbered_name}
@@ -114,8 +113,8 @@ module _ (types : List Type_) (f : ir_function.Function) (es : List ExpressionIn
   is_start_more table i cell lt s is = record {
     size = omega (arith, length-append table (cell ∷ []), s.size);
     cells = below_more (λ h. get_or (table ++ cell ∷ []) h Absent ≡ first_cell types f es h) i
-    (λ h l. let within : h < length table = omega (arith, l, s.size) in get_or_append_left table (cell ∷ []) Absent h within ∙ s.cells h l)
-    (ap (λ k. get_or (table ++ cell ∷ []) k Absent) (sym s.size) ∙ get_or-append_seam table cell [] Absent ∙ is ∙ ap first_standing (next_cell table i lt s));
+        (λ h l. let within : h < length table = omega (arith, l, s.size) in get_or_append_left table (cell ∷ []) Absent h within ∙ s.cells h l)
+        (ap (λ k. get_or (table ++ cell ∷ []) k Absent) (sym s.size) ∙ get_or-append_seam table cell [] Absent ∙ is ∙ ap first_standing (next_cell table i lt s));
   }
 
   pub start_handles : (table : List Standing) → IsStart types f es table all → handles_of table ≡ at_start (function_shape types f es)

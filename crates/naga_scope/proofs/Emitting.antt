@@ -1,6 +1,6 @@
 -- Where the expressions stand behind an Emit.
-use Rattle.std.proofs.Common.{◌≡◌, ◌≢◌, ℕ, zero, suc, ◌+◌, ◌-◌, ◌<◌, ◌≤◌, ◌==◌, ◌&&◌, ◌||◌, Bool, true, false, nat_eq, List, [], ◌∷◌, length, get_or, Option, Some, None, refl, sym, ap, ap₂, ◌∙◌, arith, slice_set, eqb-true, add-one}
-use Rattle.std.specs.Prelude.{IsTrue, cond, not, slice_get}
+use Rattle.std.proofs.Common.{◌≡◌, ℕ, suc, ◌+◌, ◌-◌, ◌<◌, ◌≤◌, ◌==◌, ◌&&◌, ◌||◌, Bool, true, false, nat_eq, List, [], ◌∷◌, length, get_or, refl, sym, ap, ap₂, ◌∙◌, arith, slice_set, eqb-true, add-one}
+use Rattle.std.specs.Prelude.{IsTrue, cond, not}
 use Rattle.std.specs.Option.{option_map}
 use Rattle.std.proofs.lemmas.Bool.{eqb-false}
 use Rattle.std.proofs.lemmas.List.{get_or-set_other, set-get_or}
@@ -12,13 +12,13 @@ use Rattle.naga_ir.specs.declared.types.Type_.{Type_}
 use Rattle.naga_info.specs.declared.info.ExpressionInfo.{ExpressionInfo}
 use Rattle.naga_names.specs.Reset.{NameMap}
 use Rattle.shader_runs.specs.World.{update}
-use Rattle.shader_runs.specs.Program.{Function, Expression, binds, binds_as, expression_of, operands_of, from}
+use Rattle.shader_runs.specs.Program.{Function, binds, binds_as, expression_of, operands_of, from}
 use Rattle.shader_runs.specs.Scope as runs
 use Rattle.shader_runs.specs.Scope.{Naming, Handles, is_pure, is_new, is_emittable, usable_all, emitted, after_one, after_emit, given_after, may_emit, may_emit_all}
 use Rattle.naga_form.specs.Names.{numbered_name}
 use Rattle.naga_form.specs.Shapes.{expression_shape, function_shape, function_naming}
 use Rattle.naga_scope.specs.declared.points.Standing.{Standing}
-use Rattle.naga_scope.specs.declared.points.Standing.TheVariants.{Absent, Barred, Everywhere, Inline, Named}
+use Rattle.naga_scope.specs.declared.points.Standing.TheVariants.{Absent, Named}
 use Rattle.naga_scope.specs.Standings.{standing_of, handles_of, shape_at, unbound_standing, emitted_standing}
 use Rattle.naga_scope.proofs.Shaped.{not_given}
 

@@ -1,18 +1,15 @@
 -- The check over the locals, the statements and the functions in turn.
-use Rattle.std.proofs.Common.{◌≡◌, ℕ, suc, ◌+◌, ◌-◌, ◌<◌, ◌≤◌, ◌^◌, ◌==◌, ◌&&◌, Bool, true, false, List, [], ◌∷◌, map, drop, length, nat_le, Option, Some, None, refl, sym, ap, ap₂, subst, ◌∙◌, arith, slice_index_or}
+use Rattle.std.proofs.Common.{◌≡◌, ℕ, suc, ◌+◌, ◌-◌, ◌<◌, ◌≤◌, ◌^◌, ◌==◌, ◌&&◌, Bool, true, false, List, [], ◌∷◌, map, drop, length, nat_le, Some, refl, sym, ap, ap₂, subst, ◌∙◌, slice_index_or}
 use Rattle.std.specs.Prelude.{IsTrue, cond, slice_get, reverse}
 use Rattle.std.specs.List.{list_all, enumerate_from}
 use mathlib.Core.List.{reverse_aux}
 use Rattle.std.proofs.lemmas.List.{drop_all}
 use Rattle.indexmap.specs.IndexMap.{keys}
-use Rattle.naga_ir.specs.StatementTree.{emit, StatementTree, simple, BlockTree, no_statements, statement}
+use Rattle.naga_ir.specs.StatementTree.{emit, StatementTree, simple}
 use Rattle.naga_ir.specs.StatementViews.{tree_of, block_of}
-use Rattle.naga_ir.specs.declared.expression.Expression as ir
 use Rattle.naga_ir.specs.declared.expression.Expression.TheVariants as expression
 use Rattle.naga_ir.specs.declared.module.Function as ir_function
 use Rattle.naga_ir.specs.declared.module.LocalVariable.{LocalVariable}
-use Rattle.naga_ir.specs.declared.module.Module.{Module}
-use Rattle.naga_ir.specs.declared.operators.BinaryOperator.{BinaryOperator}
 use Rattle.naga_ir.specs.declared.statement.Statement.{Statement}
 use Rattle.naga_ir.specs.declared.types.Type_.{Type_}
 use Rattle.naga_info.specs.Accepted.{function_fits}
@@ -21,11 +18,11 @@ use Rattle.naga_info.proofs.Accepting.{load_word_at, binary_at}
 use Rattle.naga_info.proofs.Fitting.{drop_first, item_at}
 use Rattle.naga_names.specs.Reset.{NameMap}
 use Rattle.wgsl_text.specs.Tree.{BinaryOperator as tree_operator}
-use Rattle.shader_runs.specs.Program.{Function, Statements, end, operands_of, from}
+use Rattle.shader_runs.specs.Program.{Function, operands_of, from}
 use Rattle.shader_runs.specs.Premises.{AllBelow}
 use Rattle.shader_runs.specs.Scope.{Naming, Handles, given_after, given_after_all, given_by, after, fits, fits_all, fits_function}
 use Rattle.naga_form.specs.Operators.{operator_form}
-use Rattle.naga_form.specs.Shapes.{expression_shape, binary_shape, statement_shape, statements_shape, function_shape, function_shapes, function_naming, namings_from, OperandsStandBefore}
+use Rattle.naga_form.specs.Shapes.{binary_shape, statement_shape, statements_shape, function_shape, function_shapes, function_naming, namings_from, OperandsStandBefore}
 use Rattle.naga_scope.proofs.Shaped.{not_given, operator_operands}
 use Rattle.naga_scope.proofs.Emitting.{no_and}
 

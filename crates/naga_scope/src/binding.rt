@@ -1,8 +1,7 @@
 //! Which expressions a `let` binds where they are emitted.
 
-ghost use Rattle.std.specs.Prelude.{◌≡◌, ◌==◌, List, length, get_or, map, IsTrue};
+ghost use Rattle.std.specs.Prelude.{◌≡◌, ◌==◌, List, length, get_or, map, slice_get, IsTrue};
 ghost use Rattle.std.specs.Option.{option_map};
-ghost use Rattle.std.specs.Prelude.{slice_get};
 ghost use Rattle.indexmap.specs.IndexMap.{keys};
 ghost use Rattle.naga_form.specs.Shapes.{function_shape};
 ghost use Rattle.naga_ir.specs.declared.types.Type_.{Type_};
@@ -33,16 +32,17 @@ fn count_of(info: &FunctionInfo, handle: Handle<Expression>) -> usize
     }
 }
 
-/// Whether a `let` binds the expression with this handle where it is emitted: a `Load` that is used
-/// at all, and an operator that is used twice. What a front end named is not asked about.
+/// Whether a `let` binds the expression with this handle where it is emitted: a `Load` with a use, or
+/// an operator with two. It is for functions in which no front end named an expression.
 pub fn binds(function: &Function, info: &FunctionInfo, handle: Handle<Expression>) -> bool
     requires unnamed { IsTrue (length (keys function.now.named_expressions) == 0) }
     ensures { (types : List Type_) → result ≡ binds (function_shape types function.now info.now) handle }
 {
     match expression_at(function, handle) {
         Some(expression) => match expression {
-            Expression::Load { .. } | Expression::Binary { .. } =>
-                count_of(info, handle) >= expression.bake_ref_count(),
+            Expression::Load { .. } | Expression::Binary { .. } => {
+                count_of(info, handle) >= expression.bake_ref_count()
+            }
             _ => false,
         },
         None => false,

@@ -75,8 +75,9 @@ fn statement_holds(
 {
     match statement {
         Statement::Emit(range) => emit_holds(scope, function, info, *range),
-        Statement::Store { pointer, value } =>
-            scope.is_usable(function, *pointer) && scope.is_usable(function, *value),
+        Statement::Store { pointer, value } => {
+            scope.is_usable(function, *pointer) && scope.is_usable(function, *value)
+        }
         Statement::Return { value } => is_usable_if(scope, function, *value),
         _ => true,
     }
@@ -105,12 +106,20 @@ pub fn function_holds(
     Ok(true)
 }
 
+/// Whether no front end named an expression of a function.
+pub fn nothing_named(module: &Module) -> bool
+    ensures { result ≡ nothing_named «module».now }
+{
+    for (_, function) in module.functions.iter() {
+        if !function.named_expressions.is_empty() {
+            return false;
+        }
+    }
+    true
+}
+
 /// Whether each expression of each function is in scope where it is used, and each `Emit` is allowed.
-pub fn scope_holds(
-    alloc: Global,
-    module: &Module,
-    info: &ModuleInfo,
-) -> Result<bool, AllocError>
+pub fn scope_holds(alloc: Global, module: &Module, info: &ModuleInfo) -> Result<bool, AllocError>
     requires accepted { IsTrue (is_accepted «module».now info.now) }
     requires unnamed { IsTrue (nothing_named «module».now) }
     ensures scope { IfOk result (λ b. b ≡ scope_holds «module».now info.now) }
@@ -125,3 +134,6 @@ pub fn scope_holds(
     }
     Ok(holds)
 }
+
+#[cfg(test)]
+mod tests;

@@ -7,5 +7,5 @@ pub mod check;
 pub mod points;
 
 pub use binding::binds;
-pub use check::{function_holds, scope_holds};
+pub use check::{function_holds, nothing_named, scope_holds};
 pub use points::{Scope, Standing};

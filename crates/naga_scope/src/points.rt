@@ -149,19 +149,20 @@ fn first_standing(standings: &[Standing], function: &Function, expression: &Expr
     ensures { let shape = expression_shape expression.now in result ≡ first_standing (is_pure (Some shape) && all_constant (is_constant_by standings.now function.now.expressions) (operands_of (Some shape))) }
 {
     match expression {
-        Expression::Binary { left, right, .. } =>
+        Expression::Binary { left, right, .. } => {
             if is_constant(standings, function, *left) && is_constant(standings, function, *right) {
                 Standing::Everywhere
             } else {
                 Standing::Absent
-            },
+            }
+        }
         _ => Standing::Absent,
     }
 }
 
 impl Scope {
     /// Where the expressions stand at the start of the function: operators over literals alone are in
-    /// scope everywhere, and no other is that an `Emit` is to give.
+    /// scope everywhere, and all others are absent.
     pub fn start(alloc: Global, function: &Function) -> Result<Scope, AllocError>
         requires ordered { OperandsStandBefore function.now.expressions }
         ensures start { (types : List Type_) (es : List ExpressionInfo) → IfOk result (λ s. handles_of s ≡ at_start (function_shape types function.now es)) }
@@ -177,23 +178,24 @@ impl Scope {
         Ok(Scope { standings })
     }
 
-    /// Where the expression with this handle stands. There is none past the function's expressions.
+    /// Where the expression with this handle stands. One past the function's expressions is absent.
     pub fn standing(&self, handle: Handle<Expression>) -> Standing
         ensures { result ≡ get_or self.now handle Standing.Absent }
     {
         standing_at(&self.standings, handle)
     }
 
-    /// Whether the expression with this handle may be written here. A literal, an argument and a
-    /// local may everywhere.
+    /// Whether the expression with this handle is in scope here. A literal, and an argument or a local
+    /// that there is, is so everywhere.
     pub fn is_usable(&self, function: &Function, handle: Handle<Expression>) -> bool
         ensures { (types : List Type_) (es : List ExpressionInfo) → result ≡ usable (function_shape types function.now es) (handles_of self.now) handle }
     {
         match expression_at(function, handle) {
             Some(expression) => match expression {
                 Expression::Literal(_) => true,
-                Expression::FunctionArgument(number) =>
-                    (*number as usize) < function.arguments.len(),
+                Expression::FunctionArgument(number) => {
+                    (*number as usize) < function.arguments.len()
+                }
                 Expression::LocalVariable(local) => local.index() < function.local_variables.len(),
                 _ => self.standing(handle).is_present(),
             },
@@ -201,15 +203,16 @@ impl Scope {
         }
     }
 
-    /// Whether each operand of the expression may be written here.
+    /// Whether each operand of the expression is in scope here.
     fn has_operands(&self, function: &Function, expression: Option<&Expression>) -> bool
         ensures { (types : List Type_) (es : List ExpressionInfo) → result ≡ usable_all (function_shape types function.now es) (handles_of self.now) (operands_of (option_map (λ e. expression_shape e.now) expression.entry)) }
     {
         match expression {
             Some(expression) => match expression {
                 Expression::Load { pointer } => self.is_usable(function, *pointer),
-                Expression::Binary { left, right, .. } =>
-                    self.is_usable(function, *left) && self.is_usable(function, *right),
+                Expression::Binary { left, right, .. } => {
+                    self.is_usable(function, *left) && self.is_usable(function, *right)
+                }
                 _ => true,
             },
             None => true,
@@ -233,9 +236,9 @@ impl Scope {
             && (!binds(function, info, handle) || self.has_operands(function, expression))
     }
 
-    /// Goes behind an `Emit` of the expression with this handle: a `let` binds it, or it is an operator
-    /// that is written where it is used, if its operands are in scope here; a `Load` that no `let` binds
-    /// is not in scope behind it.
+    /// Goes behind an `Emit` of the expression with this handle. It is named where a `let` binds it. An
+    /// operator that no `let` binds is written where it is used, if its operands are in scope here. A
+    /// `Load` that no `let` binds stays absent, since it may not be read later than here.
     pub fn emit(&mut self, function: &Function, info: &FunctionInfo, handle: Handle<Expression>)
         requires unnamed { IsTrue (length (keys function.now.named_expressions) == 0) }
         requires size { length self.old ≡ length function.now.expressions }
@@ -248,8 +251,7 @@ impl Scope {
             let is_bound = binds(function, info, handle);
             let has_operands = self.has_operands(function, expression);
             let before = self.standings[index];
-            self.standings[index] =
-                before.emitted(is_bound, is_operator(expression), has_operands);
+            self.standings[index] = before.emitted(is_bound, is_operator(expression), has_operands);
         }
     }
 }

@@ -1,5 +1,4 @@
-use Rattle.std.proofs.Common.{◌≡◌, ◌-◌, ap, sym, ◌∙◌, false}
-use Rattle.shader_runs.specs.Program.{from}
+use Rattle.std.proofs.Common.{ap, sym, ◌∙◌}
 use Rattle.shader_runs.specs.Scope.{may_emit, may_emit_all, after_one, after_emit}
 use Rattle.naga_form.specs.Shapes.{function_shape, function_naming}
 use Rattle.naga_scope.specs.Standings.{handles_of}

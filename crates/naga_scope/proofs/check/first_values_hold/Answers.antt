@@ -1,4 +1,4 @@
-use Rattle.std.proofs.Common.{◌≡◌, ◌&&◌, map, ap, sym, ◌∙◌}
+use Rattle.std.proofs.Common.{◌&&◌, map, ap, sym, ◌∙◌}
 use Rattle.shader_runs.specs.Scope.{first_values_fit, usable_if}
 use Rattle.naga_form.specs.Shapes.{function_shape}
 use Rattle.naga_scope.proofs.Holding.{first_values_listed}

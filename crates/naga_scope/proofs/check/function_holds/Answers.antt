@@ -1,5 +1,4 @@
-use Rattle.std.proofs.Common.{◌≡◌, ◌&&◌, ap, sym, ◌∙◌, drop}
-use Rattle.naga_ir.specs.StatementViews.{block_of}
+use Rattle.std.proofs.Common.{◌&&◌, ap, sym, ◌∙◌}
 use Rattle.shader_runs.specs.Scope.{at_start, fits_all}
 use Rattle.naga_form.specs.Shapes.{function_shape, function_naming, statements_shape}
 use Rattle.naga_scope.specs.Standings.{handles_of}

@@ -1,10 +1,10 @@
-use Rattle.std.proofs.Common.{◌<◌, ◌≤◌, ◌≡◌, length, get_or, slice_set, ap, sym, ◌∙◌, arith}
+use Rattle.std.proofs.Common.{◌<◌, ◌≤◌, length, get_or, slice_set, ap, ◌∙◌, arith}
 use Rattle.std.proofs.lemmas.List.{get_or_default}
 use Rattle.shader_runs.specs.Program.{operands_of}
 use Rattle.shader_runs.specs.Scope.{is_pure, usable_all}
-use Rattle.naga_form.specs.Shapes.{expression_shape, function_shape}
+use Rattle.naga_form.specs.Shapes.{function_shape}
 use Rattle.naga_scope.specs.declared.points.Standing.TheVariants.{Absent}
-use Rattle.naga_scope.specs.Standings.{handles_of, emitted_standing, shape_at}
+use Rattle.naga_scope.specs.Standings.{handles_of, emitted_standing}
 use Rattle.naga_scope.proofs.Shaped.{shape_found}
 use Rattle.naga_scope.proofs.Emitting.{emitted_is, past_emitted}
 use Rattle.naga_scope.proofs.points.Scope.emit.Goals as goal

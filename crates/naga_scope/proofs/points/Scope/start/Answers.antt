@@ -1,4 +1,4 @@
-use Rattle.std.proofs.Common.{◌≡◌, ◌<◌, ◌&&◌, ◌+◌, List, [], length, Some, slice_get, ap, sym, ◌∙◌, arith, subst}
+use Rattle.std.proofs.Common.{◌≡◌, ◌<◌, ◌&&◌, ◌+◌, [], length, Some, slice_get, ap, sym, ◌∙◌, arith, subst}
 use Rattle.std.specs.Option.{option_map}
 use Rattle.shader_runs.specs.Program.{operands_of}
 use Rattle.shader_runs.specs.Scope.{is_pure, all_constant}
@@ -16,7 +16,7 @@ loop-index-preserved c types es =
     let table = c.loop-index.standings.items in
     let shape : Some (expression_shape c.index-expression.result.now) ≡ shape_at f.expressions i = sym (ap (option_map expression_shape) here) in
     let cell = c.first_standing-standing.ensures
-        ∙ (λ j. first_standing (is_pure (shape j) && all_constant (is_constant_by (c.deref.ensures.value j) f.expressions) (operands_of (shape j)))) in
+    ∙ (λ j. first_standing (is_pure (shape j) && all_constant (is_constant_by (c.deref.ensures.value j) f.expressions) (operands_of (shape j)))) in
     subst (λ items. IsStart types f es items (i + 1)) (sym c.in_ok-push.ensures.items) (is_start_more types f es c.requires.ordered table i c.first_standing-standing.result within (c.loop-index.invariant types es) cell)
 
 pub returns-clause-start : goal.returns-clause-start
