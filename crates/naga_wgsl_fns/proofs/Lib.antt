@@ -3,3 +3,4 @@ pub mod Levels
 pub mod Rows
 pub mod Wanted
 pub mod Accepted
+pub mod Blocks

@@ -136,7 +136,9 @@ block_step ss i s h here = ap (λ ts. block_of ts) (drop_first i ss s h here)
 pub drop_at : {X : Type 0} (i : ℕ) (xs : List X) (x : X) → slice_get xs i ≡ Some x → drop i xs ≡ x ∷ drop (i + 1) xs
 drop_at i [] x at = absurd cc
 drop_at zero (y ∷ xs) x at = ap (λ o. unwrap_or o y ∷ xs) at
-drop_at (suc i) (y ∷ xs) x at = drop_at i xs x at
+drop_at (suc i) (y ∷ xs) x at =
+    let one : suc i + 1 ≡ suc (i + 1) = omega arith in
+    drop_at i xs x at ∙ ap (λ (k : ℕ). x ∷ drop k (y ∷ xs)) (sym one)
 
 -- ---- locals
 module _ (n : Naming) (types : List Type_) (es : List ir.Expression) where
