@@ -4,3 +4,4 @@ pub mod Owns
 pub mod Rows
 pub mod Wanted
 pub mod Accepted
+pub mod Blocks
