@@ -1,3 +1,4 @@
+pub mod MemberLemmas
 pub mod ModuleLemmas
 pub mod NameKeys
 pub mod NamedItems

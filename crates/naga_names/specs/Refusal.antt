@@ -4,7 +4,7 @@ use Rattle.naga_ir.specs.declared.module.Module.{Module}
 use Rattle.naga_names.specs.declared.namer.NamerError.{NamerError}
 use Rattle.naga_names.specs.declared.namer.NamerError.TheVariants.{Full, KeyFull, Memory}
 use Rattle.naga_names.specs.Naming.{Names, IsFull, label_base, labels_with_base}
-use Rattle.naga_names.specs.Reset.{Labelled, NameMap, labels_of, keys_fit, labelled_items, HasNamedItems, PutsBeginning}
+use Rattle.naga_names.specs.Reset.{Labelled, NameMap, is_member, labels_of, keys_fit, labelled_items, HasNamedItems, PutsBeginning}
 
 -- `Full` comes only where the label's base is full, `KeyFull` never, and `Memory` may come at any time
 abbrev pub IsRefusalOf : Names → List ℕ → NamerError → Type 0
@@ -12,12 +12,14 @@ IsRefusalOf names label Full = IsFull names label
 IsRefusalOf names label KeyFull = ⊥
 IsRefusalOf names label (Memory e) = ⊤
 
--- at one of these items the label's base is full: the labels before it used it so often that there is no next name
+-- at one of these items, which is no member of a struct, the label's base is full: the labels before it used it so often that
+-- there is no next name
 pub record SomeNameIsFull (start : Names) (items : List Labelled) : Type 0 where
   pub named : List Labelled
   pub item : Labelled
   pub left : List Labelled
   pub all : items ≡ named ++ item ∷ left
+  pub outside : is_member item.0 ≡ false
   pub full : labels_with_base start (labels_of named) (label_base start item.1) ≡ 2 ^ 32
 
 -- some item has a key that can't be told: an entry point behind the first 65,536, or a member or an argument whose index is no `u32`
