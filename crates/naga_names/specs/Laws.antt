@@ -5,7 +5,7 @@ use Rattle.std.specs.FinSet as set
 use Rattle.naga_names.specs.Plain.{is_identifier, HasPlainEnds}
 use Rattle.naga_names.specs.Words.{lowered}
 use Rattle.naga_names.specs.Naming.{Names, name_after, labels_with_base}
-use Rattle.naga_names.specs.Reset.{Labelled, NameMap, labels_of, labelled_items, HasNamedItems}
+use Rattle.naga_names.specs.Reset.{Labelled, NameMap, is_member, item_name, labelled_items, HasNamedItems}
 use Rattle.naga_ir.specs.declared.module.Module.{Module}
 
 -- a name has ASCII letters, digits and `_` alone, begins with no digit and not with `__`, and is not `_`
@@ -37,14 +37,14 @@ NamesDiffer =
     (start : Names) (first : List (List ℕ)) (a : List ℕ) (middle : List (List ℕ)) (b : List ℕ) (rest : List (List ℕ)) → ((base : List ℕ) → labels_with_base start ((first ++ a ∷ middle) ++ b ∷ rest) base ≤ 2 ^ 32) →
     name_after start first a ≡ name_after start (first ++ a ∷ middle) b → ⊥
 
--- after a `reset` each item has in the map the name of its label after the labels before it
+-- after a `reset` each item has in the map the name that it has behind the items before it
 abbrev pub ItemsAreNamed : Type 0
 ItemsAreNamed =
     (start : Names) (before now : NameMap) (module_ : Module) (names : Names) → HasNamedItems start before (labelled_items start module_) names now →
-    (i : ℕ) (item : Labelled) → slice_get (labelled_items start module_) i ≡ Some item → now item.0 ≡ Some (name_after start (labels_of (take i (labelled_items start module_))) item.1)
+    (i : ℕ) (item : Labelled) → slice_get (labelled_items start module_) i ≡ Some item → now item.0 ≡ Some (item_name start (take i (labelled_items start module_)) item)
 
--- and items with one name are one item
+-- and items outside structs with one name are one item
 abbrev pub ItemsAreTold : Type 0
 ItemsAreTold =
     (start : Names) (before now : NameMap) (module_ : Module) (names : Names) → HasNamedItems start before (labelled_items start module_) names now →
-    (i j : ℕ) (a b : Labelled) → slice_get (labelled_items start module_) i ≡ Some a → slice_get (labelled_items start module_) j ≡ Some b → now a.0 ≡ now b.0 → i ≡ j
+    (i j : ℕ) (a b : Labelled) → slice_get (labelled_items start module_) i ≡ Some a → slice_get (labelled_items start module_) j ≡ Some b → is_member a.0 ≡ false → is_member b.0 ≡ false → now a.0 ≡ now b.0 → i ≡ j
