@@ -1,4 +1,6 @@
+pub mod Given
 pub mod MemberLemmas
+pub mod MemberNames
 pub mod ModuleLemmas
 pub mod NameKeys
 pub mod NamedItems

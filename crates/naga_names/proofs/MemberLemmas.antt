@@ -65,6 +65,10 @@ module _ (start : Names) (t : ℕ) (earlier : List Labelled) where
       scan-append [] earlier (labelled_members t members)
       ∙ ap (λ pairs. named_items start earlier ++ pairs) (ap (λ items. named_from start items (labelled_members t members)) (sym (append-nil earlier)) ∙ named_beside [] 0 members refl)
 
+pub own_labels : (t n : ℕ) (members : List StructMember) → map (λ item. item.1) (members_from t n members) ≡ map member_label members
+own_labels t n [] = refl
+own_labels t n (m ∷ members) = ap (λ labels. member_label m ∷ labels) (own_labels t (n + 1) members)
+
 -- members have no labels outside their struct
 pub no_labels : (t n : ℕ) (members : List StructMember) → labels_of (members_from t n members) ≡ []
 no_labels t n [] = refl
@@ -132,15 +136,11 @@ module _ (start : Names) (before : NameMap) (t : ℕ) where
   labels_folded earlier [] = sym (append-nil earlier)
   labels_folded earlier (x ∷ items) = labels_folded (earlier ++ x.1 ∷ []) items ∙ append_assoc earlier (x.1 ∷ []) (map (λ item. item.1) items)
 
-  own_labels : (n : ℕ) (members : List StructMember) → map (λ item. item.1) (members_from t n members) ≡ map member_label members
-  own_labels n [] = refl
-  own_labels n (m ∷ members) = ap (λ labels. member_label m ∷ labels) (own_labels (n + 1) members)
-
   named_members-push : (members : List StructMember) (m : StructMember) → named_members start t (members ++ m ∷ []) ≡ named_members start t members ++ (key.StructMember t (length members), name_after start (map member_label members) (member_label m)) ∷ []
   named_members-push members m =
       ap (alone_from start []) (pushed members m)
       ∙ scan-push (λ earlier item. earlier ++ item.1 ∷ []) (λ earlier item. (item.0, name_after start earlier item.1)) [] (labelled_members t members) (key.StructMember t (length members), member_label m)
-      ∙ ap (λ labels. named_members start t members ++ (key.StructMember t (length members), name_after start labels (member_label m)) ∷ []) (labels_folded [] (labelled_members t members) ∙ own_labels 0 members)
+      ∙ ap (λ labels. named_members start t members ++ (key.StructMember t (length members), name_after start labels (member_label m)) ∷ []) (labels_folded [] (labelled_members t members) ∙ own_labels t 0 members)
 
   pub member_more : (members : List StructMember) (names new : Names) (between now : NameMap) (m : StructMember) → names ≡ record start { uses = names.uses } → length members < 2 ^ 32 → HasNamedMembers start before t members names between → PutsName names between (key.StructMember t (length members)) (member_label m) new now → HasNamedMembers start before t (members ++ m ∷ []) new now
   member_more members names new between now m words small has puts = record {

@@ -22,7 +22,7 @@ wrong e = absurd (cc)
 nothing_there : {A X : Type 0} (x : X) → None ≡ Some x → A
 nothing_there x e = absurd (cc)
 
-within : {X : Type 0} (xs : List X) (i : ℕ) (x : X) → slice_get xs i ≡ Some x → i < length xs
+pub within : {X : Type 0} (xs : List X) (i : ℕ) (x : X) → slice_get xs i ≡ Some x → i < length xs
 within [] i x e = nothing_there x e
 within (y ∷ xs) zero x e = omega arith
 within (y ∷ xs) (suc i) x e = omega (arith, within xs i x e)

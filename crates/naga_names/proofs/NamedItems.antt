@@ -61,6 +61,18 @@ split_two (z ∷ xs) (suc i) (suc j) x y lt ex ey =
     let inner = split_two xs i j x y (omega (arith, lt)) ex ey in
     record { middle = inner.middle; rest = inner.rest; all = ap (λ t. z ∷ t) inner.all; before = ap (λ t. z ∷ t) inner.before }
 
+-- two places are one, or one is before the other
+pub order : (i j : ℕ) → (i ≡ j) ⊎ ((i < j) ⊎ (j < i))
+order zero zero = inl refl
+order zero (suc j) = inr (inl (omega arith))
+order (suc i) zero = inr (inr (omega arith))
+order (suc i) (suc j) = next (order i j)
+  where
+    next : (i ≡ j) ⊎ ((i < j) ⊎ (j < i)) → (suc i ≡ suc j) ⊎ ((suc i < suc j) ⊎ (suc j < suc i))
+    next (inl e) = inl (ap suc e)
+    next (inr (inl lt)) = inr (inl (omega (arith, lt)))
+    next (inr (inr lt)) = inr (inr (omega (arith, lt)))
+
 module _ (start : Names) (items : List Labelled) (few : (base : List ℕ) → labels_with_base start (labels_of items) base ≤ 2 ^ 32) where
   -- items at two places have different names
   pub item_names_differ : (i j : ℕ) (x y : Labelled) → i < j → slice_get items i ≡ Some x → slice_get items j ≡ Some y → is_member x.0 ≡ false → is_member y.0 ≡ false → name_after start (labels_of (take i items)) x.1 ≡ name_after start (labels_of (take j items)) y.1 → ⊥
@@ -72,17 +84,6 @@ module _ (start : Names) (items : List Labelled) (few : (base : List ℕ) → la
       ap labels_of parts.all ∙ labels_of-around (take i items ++ x ∷ parts.middle) y parts.rest out_y
       ∙ ap (λ labels. labels ++ y.1 ∷ labels_of parts.rest) (labels_of-around (take i items) x parts.middle out_x) in
       names_differ start front x.1 (labels_of parts.middle) y.1 (labels_of parts.rest) (λ base. subst (λ labels. labels_with_base start labels base ≤ 2 ^ 32) all (few base)) (same ∙ ap (λ labels. name_after start labels y.1) before)
-
-  order : (i j : ℕ) → (i ≡ j) ⊎ ((i < j) ⊎ (j < i))
-  order zero zero = inl refl
-  order zero (suc j) = inr (inl (omega arith))
-  order (suc i) zero = inr (inr (omega arith))
-  order (suc i) (suc j) = next (order i j)
-    where
-      next : (i ≡ j) ⊎ ((i < j) ⊎ (j < i)) → (suc i ≡ suc j) ⊎ ((suc i < suc j) ⊎ (suc j < suc i))
-      next (inl e) = inl (ap suc e)
-      next (inr (inl lt)) = inr (inl (omega (arith, lt)))
-      next (inr (inr lt)) = inr (inr (omega (arith, lt)))
 
   -- two places with one name are one place
   pub item_names_tell : (i j : ℕ) (x y : Labelled) → slice_get items i ≡ Some x → slice_get items j ≡ Some y → is_member x.0 ≡ false → is_member y.0 ≡ false → name_after start (labels_of (take i items)) x.1 ≡ name_after start (labels_of (take j items)) y.1 → i ≡ j

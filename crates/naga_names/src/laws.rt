@@ -2,7 +2,7 @@
 ghost use Rattle.std.specs.Prelude.{map};
 ghost use Rattle.std.specs.Cmp.{IsEquivalence};
 ghost use Rattle.std.specs.FinSet as set;
-ghost use Rattle.naga_names.specs.Laws.{NamesAreIdentifiers, NamesKeepOffNaga, NamesAreNoKeywords, NamesAreNoBuiltins, NamesAreNoCaselessKeywords, NamesAreNotNumbered, NamesDiffer, ItemsAreNamed, ItemsAreTold};
+ghost use Rattle.naga_names.specs.Laws.{NamesAreIdentifiers, NamesKeepOffNaga, NamesAreNoKeywords, NamesAreNoBuiltins, NamesAreNoCaselessKeywords, NamesAreNotNumbered, NamesDiffer, ItemsAreNamed, ItemsAreTold, MembersAreNamed, MembersAreTold, MembersAreNotReserved, GivenNamesFollow, GivenNamesAreNew};
 ghost use Rattle.naga_names.specs.Plain.{HasPlainEnds};
 ghost use Rattle.naga_names.specs.Reset.{same_key};
 
@@ -42,10 +42,26 @@ pub fn names_differ()
     ensures { NamesDiffer }
 {}
 
-/// After a `reset` each item of the module has its name in the map, and no other item has it too.
+/// The identifiers given since a `Namer` began or was last reset, but to members of structs, follow from
+/// the uses: a base with n uses gave its first form and the numbers below n. The next call gives a new one.
+pub fn names_follow_from_uses()
+    ensures given { GivenNamesFollow }
+    ensures new { GivenNamesAreNew }
+{}
+
+/// After a `reset` each item of the module has its name in the map, and no two items outside structs
+/// have one.
 pub fn items_have_their_names()
     ensures named { ItemsAreNamed }
     ensures told { ItemsAreTold }
+{}
+
+/// The members of a struct are named by themselves: no two have one name, and none a name that is a
+/// reserved word of WGSL.
+pub fn members_have_their_names()
+    ensures named { MembersAreNamed }
+    ensures told { MembersAreTold }
+    ensures free { MembersAreNotReserved }
 {}
 
 /// Keys are compared as an equivalence does.
