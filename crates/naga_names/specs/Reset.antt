@@ -5,6 +5,7 @@ use Rattle.std.specs.List.{scan, flat_map, enumerate_from, list_all}
 use Rattle.std.specs.FinMap as finite
 use Rattle.std.specs.FinSet as set
 use Rattle.std.specs.Map.{lookup, update_all}
+use Rattle.std.specs.Hash.{HashWrites}
 use Rattle.std.specs.HashMap as hash
 use Rattle.std.specs.Option.{option_map, option_map_or, option_or}
 use Rattle.naga_ir.specs.declared.module.Module.{Module}
@@ -26,6 +27,7 @@ use Rattle.naga_names.specs.declared.namer.key.ExternalTextureNameKey.{ExternalT
 use Rattle.naga_names.specs.declared.namer.key.ExternalTextureNameKey.TheVariants.{Plane, Params}
 use Rattle.naga_names.specs.declared.namer.key.NameKey.{NameKey}
 use Rattle.naga_names.specs.declared.namer.key.NameKey.TheVariants as key
+use Rattle.naga_names.specs.contracts.namer.key.NameKeyHash.TheImpl.{hash_input-value}
 use Rattle.naga_names.specs.contracts.namer.key.NameKeyPartialEq.TheImpl.{eq-value}
 use Rattle.naga_names.specs.Naming.{Names, label_or, name_after, HasNamed}
 
@@ -197,6 +199,10 @@ NameMap = NameKey → Option (List ℕ)
 -- how keys are compared, by their variants and what these hold
 abbrev pub same_key : NameKey → NameKey → Bool
 same_key = eq-value.it
+
+-- what a hasher is given of a key
+abbrev pub key_writes : NameKey → HashWrites
+key_writes = hash_input-value.it
 
 abbrev pub names_in : {Y S : Type 0} → hash.HashMap NameKey (String Y) S → NameMap
 names_in names key = option_map string_bytes (hash.get same_key names key)

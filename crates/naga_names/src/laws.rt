@@ -2,9 +2,11 @@
 ghost use Rattle.std.specs.Prelude.{map};
 ghost use Rattle.std.specs.Cmp.{IsEquivalence};
 ghost use Rattle.std.specs.FinSet as set;
+ghost use Rattle.std.specs.Hash.{Alike};
 ghost use Rattle.naga_names.specs.Laws.{NamesAreIdentifiers, NamesKeepOffNaga, NamesAreNoKeywords, NamesAreNoBuiltins, NamesAreNoCaselessKeywords, NamesAreNotNumbered, NamesDiffer, ItemsAreNamed, ItemsAreTold, MembersAreNamed, MembersAreTold, MembersAreNotReserved, GivenNamesFollow, GivenNamesAreNew};
 ghost use Rattle.naga_names.specs.Plain.{HasPlainEnds};
-ghost use Rattle.naga_names.specs.Reset.{same_key};
+ghost use Rattle.naga_names.specs.Reset.{same_key, key_writes};
+ghost use Rattle.naga_names.specs.Words.{same_caseless, caseless_writes};
 
 use crate::keywords::{BUILTIN_IDENTIFIERS, RESERVED};
 
@@ -64,7 +66,14 @@ pub fn members_have_their_names()
     ensures free { MembersAreNotReserved }
 {}
 
-/// Keys are compared as an equivalence does.
+/// Keys are compared as an equivalence does, and equal ones hash equally.
 pub fn keys_are_compared()
-    ensures { IsEquivalence same_key }
+    ensures equality { IsEquivalence same_key }
+    ensures hash { Alike same_key key_writes }
+{}
+
+/// Texts are compared as an equivalence does where ASCII case is ignored, and equal ones hash equally.
+pub fn caseless_texts_are_compared()
+    ensures equality { IsEquivalence same_caseless }
+    ensures hash { Alike same_caseless caseless_writes }
 {}
