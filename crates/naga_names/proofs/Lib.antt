@@ -1,3 +1,4 @@
+pub mod Counts
 pub mod Given
 pub mod MemberLemmas
 pub mod MemberNames

@@ -37,11 +37,11 @@ pub reserved_plain : HasPlainEnds (set.from_list (map (λ word. word.now) RESERV
 reserved_plain = plain_ends (map (λ word. word.now) RESERVED.now) (words_are (map (λ word. word.now) RESERVED.now) refl)
 
 -- the item stands among these, directly behind those
-record StandsBehind (items : List Labelled) (item : Labelled) (done : List Labelled) : Type 0 where
-  place : ℕ
-  there : slice_get items place ≡ Some item
-  front : List Labelled
-  before : take place items ≡ front ++ done
+pub record StandsBehind (items : List Labelled) (item : Labelled) (done : List Labelled) : Type 0 where
+  pub place : ℕ
+  pub there : slice_get items place ≡ Some item
+  pub front : List Labelled
+  pub before : take place items ≡ front ++ done
 
 behind_left : (xs ys : List Labelled) (item : Labelled) (done : List Labelled) → StandsBehind xs item done → StandsBehind (xs ++ ys) item done
 behind_left xs ys item done s =
@@ -96,7 +96,7 @@ module _ (start : Names) («module» : Module) (t : ℕ) (ty : Type_) (found : s
         before = ap (λ items. (key.Type_ t, type_label «module».entry_points.items t ty) ∷ items) (entries_taken (λ n (m : StructMember). (key.StructMember t n, member_label m)) 0 n (members_of ty.inner));
       }
 
-  in_module : StandsBehind (labelled_items start «module») item done
+  pub in_module : StandsBehind (labelled_items start «module») item done
   in_module =
       let m = «module» in
       let same : t ≡ 0 + t = omega arith in

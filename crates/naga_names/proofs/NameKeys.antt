@@ -190,7 +190,7 @@ unlike : (a b : NameKey) (m n : ℕ) → digit_of 4 a ≡ m → digit_of 4 b ≡
 unlike a b m n e f apart = different (digit_of 4) (same_digit 4) a b (λ same. apart (sym e ∙ same ∙ f))
 
 module _ (external : Bool) (make : ExternalTextureNameKey → NameKey) (item : Labelled) where
-  with_parts_all : (P : Labelled → Type 0) → P item → ((part : ExternalTextureNameKey) (label : List ℕ) → P (make part, label)) → AllByRecursion P (with_parts external make item)
+  pub with_parts_all : (P : Labelled → Type 0) → P item → ((part : ExternalTextureNameKey) (label : List ℕ) → P (make part, label)) → AllByRecursion P (with_parts external make item)
   with_parts_all P own each = (own, either external)
     where
       either : (b : Bool) → AllByRecursion P (cond b (labelled_parts make item.1) [])

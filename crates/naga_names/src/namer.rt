@@ -3,7 +3,8 @@ ghost use Rattle.std.specs.Prelude.{◌≡◌, true, ◌∷◌, [], ◌++◌, Li
 ghost use Rattle.naga_names.specs.declared.namer.key.NameKey.TheVariants as keys;
 ghost use Rattle.naga_names.specs.Naming.{Names, names_code, no_names, new_names, label_or, first_name, is_taken, name_of, with_use, IsFull, HasNamed, name_after};
 ghost use Rattle.naga_names.specs.Members.{PutsName, PutsNoName, HasNamedMembers, RefusesMembers};
-ghost use Rattle.naga_names.specs.Refusal.{IsRefusalOf, IsResetRefusal, RefusesItems, RefusesModule, SomeNameIsFull, SomeKeyIsFull};
+ghost use Rattle.naga_names.specs.Refusal.{IsRefusalOf, IsResetRefusal, RefusesItems, RefusesModule, SomeNameIsFull, SomeKeyIsFull, KeysRunOut};
+ghost use Rattle.naga_names.specs.declared.namer.NamerError.TheVariants.{KeyFull};
 ghost use Rattle.naga_names.specs.Reset.{is_external_inner, is_external, is_member, labelled_members, labelled_type, labelled_types, labelled_argument, labelled_arguments, labelled_locals, labelled_function, labelled_functions, labelled_entry_arguments, labelled_entry_locals, labelled_entry_point, labelled_entry_points, labelled_global, labelled_globals, labelled_declarations, value_label, labelled_constants, labelled_overrides, labelled_values, labelled_items, type_names_in, same_key, key_fits, NamesModule, names_in, HasNamedItems, PutsBeginning, NamesItems};
 
 use crate::keyword_set::{CaseInsensitiveKeywordSet, KeywordSet};
@@ -156,22 +157,23 @@ impl Namer {
         self.call(label_or(label, fallback))
     }
 
-    /// Gives names to what the module declares outside its structs, and puts them into the map under
-    /// their keys: to its types, its entry points and its functions with their arguments and variables,
-    /// its globals, its constants and its overrides, in this order.
+    /// Gives names to what the module declares, and puts them into the map under their keys: to its types,
+    /// each with its members, its entry points and its functions with their arguments and variables, its
+    /// globals, its constants and its overrides, in this order.
     ///
     /// From then on identifiers keep off the words and prefixes given, and the names given before are
-    /// forgotten. An item without a label is named `type`, `param`, `local`, `function` or `global`; a
-    /// struct without one that entry points return `VertexOutput`, `FragmentOutput` or `ComputeOutput`,
-    /// by the last of them that has such a word; a constant `const_` and its type's name, an override
-    /// `override_` and its type's name. A global or a function's argument that is an external image has
-    /// four names more, for its planes and its parameters.
+    /// forgotten. The members of a struct are a namespace of their own, in which builtin words are free: a
+    /// member may have the name of another struct's, or of an item outside. An item without a label is named
+    /// `type`, `member`, `param`, `local`, `function` or `global`; a struct without one that entry points
+    /// return `VertexOutput`, `FragmentOutput` or `ComputeOutput`, by the last of them that has such a word; a
+    /// constant `const_` and its type's name, an override `override_` and its type's name. A global or a
+    /// function's argument that is an external image has four names more, for its planes and its parameters.
     ///
     /// The map keeps its other keys. The answer is `NamerError::Full` only where a label comes whose base
     /// the labels before it used up, and `NamerError::KeyFull` only where there are more entry points than
-    /// an `EntryPointIndex` can tell apart, or more arguments than a `u32` can count; such a module is
-    /// always refused. After a refusal the `Namer` is as a new one, and the names of some first items
-    /// stand in the map.
+    /// an `EntryPointIndex` can tell apart, or more members or arguments than a `u32` can count; such a
+    /// module is always refused. After a refusal the `Namer` is as a new one, and the names of some first
+    /// items stand in the map.
     pub fn reset(
         &mut self,
         module: &Module,
@@ -194,6 +196,10 @@ impl Namer {
             SomeNameIsFull start (labelled_items start «module».now) → IsErr result }
         ensures key_full { let start = new_names reserved_keywords builtin_identifiers keywords_case_insensitive (map (λ p. p.now) reserved_prefixes.now) in
             SomeKeyIsFull (labelled_items start «module».now) → IsErr result }
+
+        // A key runs out where a list is too long, and such a module is refused.
+        ensures too_long { IfErr result (λ error. error ≡ KeyFull → KeysRunOut «module».now) }
+        ensures keys_run_out { KeysRunOut «module».now → IsErr result }
     {
         let alloc = self.alloc;
         let prefixes = match Vec::from_slice(alloc, reserved_prefixes) {
