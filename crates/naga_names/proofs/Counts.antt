@@ -1,23 +1,19 @@
 -- The keys run out where the lists of a module are too long, and only there.
-use Rattle.std.proofs.Common.{◌≡◌, ℕ, ◌+◌, ◌<◌, ◌≤◌, ◌^◌, zero, suc, Bool, true, false, ◌&&◌, nat_lt, List, [], ◌∷◌, ◌++◌, map, length, Some, None, codes, string_bytes, refl, ap, sym, subst, ◌∙◌, arith, unwrap_or, slice_get}
+use Rattle.std.proofs.Common.{◌≡◌, ℕ, ◌+◌, ◌<◌, ◌≤◌, ◌^◌, zero, suc, Bool, true, false, ◌&&◌, nat_lt, List, [], ◌∷◌, ◌++◌, map, length, Some, None, codes, string_bytes, refl, ap, subst, ◌∙◌, arith, unwrap_or, slice_get}
 use Rattle.std.specs.Prelude.{◌⊎◌}
 use mathlib.Core.Logic.{inl, inr}
-use Rattle.std.specs.List.{AllByRecursion, flat_map, enumerate_from, list_all}
+use Rattle.std.specs.List.{AllByRecursion, flat_map, enumerate_from}
 use Rattle.std.proofs.lemmas.Bool.{ltb-false}
 use Rattle.naga_ir.specs.declared.module.Module.{Module}
-use Rattle.naga_ir.specs.declared.module.Function.{Function}
 use Rattle.naga_ir.specs.declared.module.FunctionArgument.{FunctionArgument}
 use Rattle.naga_ir.specs.declared.module.Constant.{Constant}
 use Rattle.naga_ir.specs.declared.module.EntryPoint.{EntryPoint}
-use Rattle.naga_ir.specs.declared.module.GlobalVariable.{GlobalVariable}
 use Rattle.naga_ir.specs.declared.module.LocalVariable.{LocalVariable}
 use Rattle.naga_ir.specs.declared.module.Override.{Override}
 use Rattle.naga_ir.specs.declared.types.StructMember.{StructMember}
-use Rattle.naga_ir.specs.declared.types.Type_.{Type_}
-use Rattle.naga_names.specs.declared.namer.key.ExternalTextureNameKey.{ExternalTextureNameKey}
 use Rattle.naga_names.specs.declared.namer.key.NameKey.TheVariants as key
 use Rattle.naga_names.specs.Naming.{Names, label_or}
-use Rattle.naga_names.specs.Reset.{Labelled, members_of, member_label, type_label, is_external, labelled_members, labelled_type, labelled_types, labelled_argument, labelled_arguments, labelled_locals, labelled_function, labelled_functions, labelled_entry_arguments, labelled_entry_locals, labelled_entry_point, labelled_entry_points, labelled_global, labelled_globals, labelled_declarations, value_label, labelled_constants, labelled_overrides, labelled_values, type_name, labelled_items, key_fits, keys_fit}
+use Rattle.naga_names.specs.Reset.{Labelled, members_of, member_label, is_external, labelled_type, labelled_types, labelled_argument, labelled_arguments, labelled_locals, labelled_function, labelled_functions, labelled_entry_arguments, labelled_entry_locals, labelled_entry_point, labelled_entry_points, labelled_global, labelled_globals, labelled_declarations, value_label, labelled_constants, labelled_overrides, labelled_values, type_name, labelled_items, key_fits, keys_fit}
 use Rattle.naga_names.specs.Refusal.{KeysRunOut, SomeKeyIsFull}
 use Rattle.naga_names.proofs.MemberNames.{in_module}
 use Rattle.naga_names.proofs.NameKeys.{all_append, with_parts_all}
@@ -103,21 +99,23 @@ module _ (start : Names) («module» : Module) where
   Unfit item = key_fits item.0 ≡ false → KeysRunOut «module»
 
   types_unfit : AllByRecursion Unfit (labelled_types «module».entry_points.items «module».types)
-  types_unfit = sections_in Unfit (labelled_type «module».entry_points.items) 0 «module».types (λ t ty found.
-      (λ unfit. wrong unfit,
-      entries_in Unfit (λ n (m : StructMember). (key.StructMember (0 + t) n, member_label m)) 0 (members_of ty.inner)
-      (λ n m there unfit. inr (inl (record { place = t; ty = ty; there = found; long = too_long n (2 ^ 32) (length (members_of ty.inner)) (within (members_of ty.inner) n m there) unfit })))))
+  types_unfit = sections_in Unfit (labelled_type «module».entry_points.items) 0 «module».types (λ t ty found. (
+    λ unfit. wrong unfit,
+    entries_in Unfit (λ n (m : StructMember). (key.StructMember (0 + t) n, member_label m)) 0 (members_of ty.inner)
+        (λ n m there unfit. inr (inl (record { place = t; ty = ty; there = found; long = too_long n (2 ^ 32) (length (members_of ty.inner)) (within (members_of ty.inner) n m there) unfit }))),
+  ))
 
   entry_points_unfit : AllByRecursion Unfit (labelled_entry_points «module».entry_points.items)
   entry_points_unfit = sections_in Unfit labelled_entry_point 0 «module».entry_points.items (λ e p found.
       let long = within «module».entry_points.items e p found in
-      let arguments = p.function.arguments.items in
-      (λ unfit. inl (too_long e (2 ^ 16) (length «module».entry_points.items) long unfit),
-      all_append Unfit (labelled_entry_arguments (0 + e) arguments) (labelled_entry_locals (0 + e) p.function.local_variables)
-      (entries_in Unfit (λ n (a : FunctionArgument). (key.EntryPointArgument (0 + e) n, label_or a.name (codes "param"))) 0 arguments
-      (λ n a there unfit. either e p found long n (within arguments n a there) (one_of (nat_lt (0 + e) (2 ^ 16)) (nat_lt (0 + n) (2 ^ 32)) unfit)))
-      (entries_in Unfit (λ l (v : LocalVariable). (key.EntryPointLocal (0 + e) l, label_or v.name (codes "local"))) 0 p.function.local_variables
-      (λ l v there unfit. inl (too_long e (2 ^ 16) (length «module».entry_points.items) long unfit)))))
+      let arguments = p.function.arguments.items in (
+        λ unfit. inl (too_long e (2 ^ 16) (length «module».entry_points.items) long unfit),
+        all_append Unfit (labelled_entry_arguments (0 + e) arguments) (labelled_entry_locals (0 + e) p.function.local_variables)
+            (entries_in Unfit (λ n (a : FunctionArgument). (key.EntryPointArgument (0 + e) n, label_or a.name (codes "param"))) 0 arguments
+            (λ n a there unfit. either e p found long n (within arguments n a there) (one_of (nat_lt (0 + e) (2 ^ 16)) (nat_lt (0 + n) (2 ^ 32)) unfit)))
+            (entries_in Unfit (λ l (v : LocalVariable). (key.EntryPointLocal (0 + e) l, label_or v.name (codes "local"))) 0 p.function.local_variables
+            (λ l v there unfit. inl (too_long e (2 ^ 16) (length «module».entry_points.items) long unfit))),
+      ))
     where
       either : (e : ℕ) (p : EntryPoint) → slice_get «module».entry_points.items e ≡ Some p → e < length «module».entry_points.items → (n : ℕ) → n < length p.function.arguments.items → (nat_lt (0 + e) (2 ^ 16) ≡ false) ⊎ (nat_lt (0 + n) (2 ^ 32) ≡ false) → KeysRunOut «module»
       either e p found lt n few (inl unfit) = inl (too_long e (2 ^ 16) (length «module».entry_points.items) lt unfit)
@@ -125,13 +123,14 @@ module _ (start : Names) («module» : Module) where
 
   functions_unfit : AllByRecursion Unfit (labelled_functions «module».types «module».functions)
   functions_unfit = sections_in Unfit (labelled_function «module».types) 0 «module».functions (λ h f found.
-      let arguments = f.arguments.items in
-      (λ unfit. wrong unfit,
-      all_append Unfit (labelled_arguments «module».types (0 + h) arguments) (labelled_locals (0 + h) f.local_variables)
-      (sections_in Unfit (labelled_argument «module».types (0 + h)) 0 arguments (λ n a there.
-      let long : nat_lt (0 + n) (2 ^ 32) ≡ false → KeysRunOut «module» = λ unfit. inr (inr (inl (record { place = h; function = f; there = found; long = too_long n (2 ^ 32) (length arguments) (within arguments n a there) unfit }))) in
-      with_parts_all (is_external «module».types a.ty) (key.ExternalTextureFunctionArgument (0 + h) (0 + n)) (key.FunctionArgument (0 + h) (0 + n), label_or a.name (codes "param")) Unfit long (λ part label. long)))
-      (entries_in Unfit (λ l (v : LocalVariable). (key.FunctionLocal (0 + h) l, label_or v.name (codes "local"))) 0 f.local_variables (λ l v there unfit. wrong unfit))))
+      let arguments = f.arguments.items in (
+        λ unfit. wrong unfit,
+        all_append Unfit (labelled_arguments «module».types (0 + h) arguments) (labelled_locals (0 + h) f.local_variables)
+            (sections_in Unfit (labelled_argument «module».types (0 + h)) 0 arguments (λ n a there.
+            let long : nat_lt (0 + n) (2 ^ 32) ≡ false → KeysRunOut «module» = λ unfit. inr (inr (inl (record { place = h; function = f; there = found; long = too_long n (2 ^ 32) (length arguments) (within arguments n a there) unfit }))) in
+            with_parts_all (is_external «module».types a.ty) (key.ExternalTextureFunctionArgument (0 + h) (0 + n)) (key.FunctionArgument (0 + h) (0 + n), label_or a.name (codes "param")) Unfit long (λ part label. long)))
+            (entries_in Unfit (λ l (v : LocalVariable). (key.FunctionLocal (0 + h) l, label_or v.name (codes "local"))) 0 f.local_variables (λ l v there unfit. wrong unfit)),
+      ))
 
   globals_unfit : AllByRecursion Unfit (labelled_globals «module».types «module».global_variables)
   globals_unfit = sections_in Unfit (labelled_global «module».types) 0 «module».global_variables (λ g v found.

@@ -4,7 +4,7 @@ use Rattle.std.specs.Str.{bytes_eq, chars}
 use Rattle.std.specs.Cmp.Lexicographic.{bytes_decides}
 use Rattle.std.proofs.lemmas.List.Sums.{sum_by-cons}
 use Rattle.naga_names.specs.Label.{ends_separated}
-use Rattle.naga_names.specs.Naming.{Names, uses_of, label_base, labels_with_base, name_of, name_of_base, name_after, HasNamed}
+use Rattle.naga_names.specs.Naming.{Names, uses_of, label_base, labels_with_base, name_of, name_of_base, HasNamed}
 use Rattle.naga_names.specs.Laws.{WasGiven, FollowsFromUses}
 use Rattle.naga_names.proofs.BaseShapes.{base_ends}
 use Rattle.naga_names.proofs.NameShapes.{counted_more, same_base_and_number}

@@ -1,5 +1,5 @@
 -- The members of one struct, which are named by themselves, among the items of their module.
-use Rattle.std.proofs.Common.{◌≡◌, ℕ, ◌+◌, ◌-◌, ◌<◌, ◌≤◌, ◌^◌, suc, true, false, ◌&&◌, nat_lt, cond, List, [], ◌∷◌, ◌++◌, map, length, take, drop, get_or, Some, refl, sym, ap, subst, ◌∙◌, arith, append_assoc, append-nil}
+use Rattle.std.proofs.Common.{◌≡◌, ℕ, ◌+◌, ◌-◌, ◌<◌, ◌≤◌, ◌^◌, true, ◌&&◌, cond, List, [], ◌∷◌, ◌++◌, map, length, take, drop, get_or, Some, refl, sym, ap, subst, ◌∙◌, arith, append_assoc, append-nil}
 use Rattle.std.specs.List.{scan, fold, enumerate_from}
 use Rattle.std.specs.Map.{update, update_all}
 use Rattle.std.proofs.Math.Seq.{drop-append_seam}
@@ -17,12 +17,12 @@ use Rattle.naga_names.specs.declared.namer.key.NameKey.TheVariants as key
 use Rattle.std.specs.FinMap as finite
 use Rattle.std.specs.FinSet as set
 use Rattle.naga_names.specs.Words.{Words}
-use Rattle.naga_names.specs.Naming.{Names, Uses, name_of, with_use, uses_of, label_base, labels_with_base, name_after, IsFull, HasNamed}
-use Rattle.naga_names.specs.Reset.{Labelled, NameMap, same_key, member_label, labelled_members, member_names, labels_of, item_name, key_fits, keys_fit, named_items, PutsInto, HasNamedItems, PutsBeginning, NamesItems}
+use Rattle.naga_names.specs.Naming.{Names, Uses, label_base, labels_with_base, name_after, IsFull, HasNamed}
+use Rattle.naga_names.specs.Reset.{Labelled, NameMap, same_key, member_label, labelled_members, member_names, labels_of, item_name, key_fits, keys_fit, named_items, PutsInto, HasNamedItems, NamesItems}
 use Rattle.naga_names.specs.Refusal.{IsRefusalOf, IsRefusalOfItems, RefusesItems}
 use Rattle.naga_names.specs.Members.{PutsName, PutsNoName, named_members, HasNamedMembers, IsRefusalOfMembers, RefusesMembers}
 use Rattle.naga_names.proofs.NamerLemmas.{name_of-after}
-use Rattle.naga_names.proofs.ResetLemmas.{labels_of-append, items_folded, scan-push, entries_grown, or_not_this, not_below, items_at, items_left}
+use Rattle.naga_names.proofs.ResetLemmas.{labels_of-append, scan-push, entries_grown, or_not_this, not_below, items_at, items_left}
 
 abbrev named_from : Names → List Labelled → List Labelled → List (NameKey × List ℕ)
 named_from start earlier items = scan (λ earlier item. earlier ++ item ∷ []) (λ earlier item. (item.0, item_name start earlier item)) earlier items

@@ -6,7 +6,6 @@ use Rattle.std.specs.List.{AllByRecursion, IsDistinct, scan, flat_map, enumerate
 use Rattle.std.specs.Map.{keys_of, lookup}
 use Rattle.std.specs.Option.{option_or}
 use Rattle.std.proofs.lemmas.Map.Made.{update_all_distinct}
-use Rattle.std.proofs.lemmas.List.{map-append}
 use Rattle.naga_ir.specs.declared.module.Module.{Module}
 use Rattle.naga_ir.specs.declared.module.Function.{Function}
 use Rattle.naga_ir.specs.declared.module.FunctionArgument.{FunctionArgument}

@@ -296,8 +296,10 @@ impl Namer {
         ensures err { IfErr result (RefusesItems self.old (names_in output.old) (labelled_members ty members.now) (names_in output.new)) }
     {
         let uses = mem::replace(&mut self.uses, Uses::new(self.alloc));
-        let builtin_identifiers =
-            mem::replace(&mut self.builtin_identifiers, KeywordSet::new(self.alloc));
+        let builtin_identifiers = mem::replace(
+            &mut self.builtin_identifiers,
+            KeywordSet::new(self.alloc),
+        );
         let named = self.name_each_member(ty, members, output);
         self.uses = uses;
         self.builtin_identifiers = builtin_identifiers;

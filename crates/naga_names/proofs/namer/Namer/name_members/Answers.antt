@@ -1,4 +1,4 @@
-use Rattle.std.proofs.Common.{refl, sym, subst, ◌∙◌}
+use Rattle.std.proofs.Common.{sym, subst, ◌∙◌}
 use Rattle.naga_names.specs.Reset.{names_in, labelled_members, NamesItems}
 use Rattle.naga_names.specs.Refusal.{RefusesItems}
 use Rattle.naga_names.specs.Members.{HasNamedMembers, RefusesMembers}
