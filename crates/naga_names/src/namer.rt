@@ -209,9 +209,10 @@ impl Namer {
                 return Err(NamerError::Memory(refusal));
             }
         };
+        let uses = Uses::new(alloc);
         *self = Self {
             alloc,
-            uses: Uses::new(alloc),
+            uses,
             keywords: reserved_keywords,
             builtin_identifiers,
             keywords_case_insensitive,
@@ -296,10 +297,8 @@ impl Namer {
         ensures err { IfErr result (RefusesItems self.old (names_in output.old) (labelled_members ty members.now) (names_in output.new)) }
     {
         let uses = mem::replace(&mut self.uses, Uses::new(self.alloc));
-        let builtin_identifiers = mem::replace(
-            &mut self.builtin_identifiers,
-            KeywordSet::new(self.alloc),
-        );
+        let no_words = KeywordSet::new(self.alloc);
+        let builtin_identifiers = mem::replace(&mut self.builtin_identifiers, no_words);
         let named = self.name_each_member(ty, members, output);
         self.uses = uses;
         self.builtin_identifiers = builtin_identifiers;

@@ -359,7 +359,7 @@ impl Sample {
 
     fn add(&mut self, item: &Item) -> Result<(), AllocError> {
         match item {
-            Item::Number(label) => self.add_type(*label, TypeInner::Scalar(Scalar::I32)),
+            Item::Number(label) => self.add_number(*label),
             Item::External => self.add_external(),
             Item::Struct(label, members) => self.add_struct(*label, *members),
             Item::EntryPoint(label, stage) => self.add_entry_point(*label, *stage),
@@ -370,10 +370,15 @@ impl Sample {
         }
     }
 
-    fn add_type(&mut self, label: Label, inner: TypeInner) -> Result<(), AllocError> {
+    fn add_type(&mut self, label: Label, inner: TypeInner) -> Result<Handle<Type_>, AllocError> {
         let name = text(self.alloc, label)?;
         let ty = self.module.types.insert(Type_ { name, inner })?;
         self.keys.push(NameKey::Type_(ty))?;
+        Ok(ty)
+    }
+
+    fn add_number(&mut self, label: Label) -> Result<(), AllocError> {
+        self.add_type(label, TypeInner::Scalar(Scalar::I32))?;
         Ok(())
     }
 
@@ -383,14 +388,14 @@ impl Sample {
             arrayed: false,
             class: ImageClass::External,
         };
-        self.add_type(None, inner)
+        self.add_type(None, inner)?;
+        Ok(())
     }
 
     fn add_struct(&mut self, label: Label, labels: &[Label]) -> Result<(), AllocError> {
         let members = self.members(labels)?;
-        let place = self.keys.len();
-        self.add_type(label, TypeInner::Struct { members, span: 0 })?;
-        self.add_member_keys(place, labels.len())
+        let ty = self.add_type(label, TypeInner::Struct { members, span: 0 })?;
+        self.add_member_keys(ty, labels.len())
     }
 
     fn members(&self, labels: &[Label]) -> Result<Vec<StructMember>, AllocError> {
@@ -410,11 +415,7 @@ impl Sample {
         })
     }
 
-    /// The keys of so many members of the struct whose key stands at this place.
-    fn add_member_keys(&mut self, place: usize, count: usize) -> Result<(), AllocError> {
-        let Some(NameKey::Type_(ty)) = self.keys.get(place).copied() else {
-            return Ok(());
-        };
+    fn add_member_keys(&mut self, ty: Handle<Type_>, count: usize) -> Result<(), AllocError> {
         for index in 0..count {
             let index = u32::try_from(index).unwrap_or(u32::MAX);
             self.keys.push(NameKey::StructMember(ty, index))?;

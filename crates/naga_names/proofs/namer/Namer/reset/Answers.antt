@@ -7,7 +7,7 @@ use Rattle.naga_names.proofs.namer.Namer.reset.Goals as goal
 
 pub returns-in-Ok-name_items-clause-ok : goal.returns-in-Ok-name_items-clause-ok
 returns-in-Ok-name_items-clause-ok c =
-    all_named _ _ (starts c.args.reserved_keywords c.args.builtin_identifiers c.args.keywords_case_insensitive c.new.result c.in-Ok.prefixes.items c.args.reserved_prefixes.now c.new.ensures c.in-Ok.ensures.items) refl _ _ _ _ c.in-Ok-name_items.ensures.ok
+    all_named _ _ (starts c.args.reserved_keywords c.args.builtin_identifiers c.args.keywords_case_insensitive c.new-uses.result c.in-Ok.prefixes.items c.args.reserved_prefixes.now c.new-uses.ensures c.in-Ok.ensures.items) refl _ _ _ _ c.in-Ok-name_items.ensures.ok
 
 pub returns-in-Ok-name_items-clause-full : goal.returns-in-Ok-name_items-clause-full
 returns-in-Ok-name_items-clause-full c = λ full. absurd (none_full _ _ _ _ _ (returns-in-Ok-name_items-clause-ok c) full)
@@ -17,11 +17,11 @@ returns-in-Ok-name_items-clause-key_full c = λ full. sym full ∙ (returns-in-O
 
 pub returns-in-Err-name_items-clause-beginning : goal.returns-in-Err-name_items-clause-beginning
 returns-in-Err-name_items-clause-beginning c =
-    some_named _ _ (starts c.args.reserved_keywords c.args.builtin_identifiers c.args.keywords_case_insensitive c.new.result c.in-Ok.prefixes.items c.args.reserved_prefixes.now c.new.ensures c.in-Ok.ensures.items) refl _ _ _ _ c.in-Err-name_items.ensures.err
+    some_named _ _ (starts c.args.reserved_keywords c.args.builtin_identifiers c.args.keywords_case_insensitive c.new-uses.result c.in-Ok.prefixes.items c.args.reserved_prefixes.now c.new-uses.ensures c.in-Ok.ensures.items) refl _ _ _ _ c.in-Err-name_items.ensures.err
 
 pub returns-in-Err-name_items-clause-reason : goal.returns-in-Err-name_items-clause-reason
 returns-in-Err-name_items-clause-reason c =
-    refused_for _ _ (starts c.args.reserved_keywords c.args.builtin_identifiers c.args.keywords_case_insensitive c.new.result c.in-Ok.prefixes.items c.args.reserved_prefixes.now c.new.ensures c.in-Ok.ensures.items) refl _ _ _ _ c.in-Err-name_items.ensures.err
+    refused_for _ _ (starts c.args.reserved_keywords c.args.builtin_identifiers c.args.keywords_case_insensitive c.new-uses.result c.in-Ok.prefixes.items c.args.reserved_prefixes.now c.new-uses.ensures c.in-Ok.ensures.items) refl _ _ _ _ c.in-Err-name_items.ensures.err
 
 pub returns-in-Ok-name_items-clause-keys_run_out : goal.returns-in-Ok-name_items-clause-keys_run_out
 returns-in-Ok-name_items-clause-keys_run_out c = λ long.
