@@ -144,7 +144,7 @@ module _ (m : Module) where
 
   -- an item's name is that of its label after those before it
   pub name_there : (item : Labelled) (s : Stands (labelled_items wgsl_names m) item) → module_names m item.0 ≡ Some (name_after wgsl_names (labels_of (take s.place (labelled_items wgsl_names m))) item.1)
-  name_there item s = put_at wgsl_names (λ _. None) (module_names m) (labelled_items wgsl_names m) puts (items_apart wgsl_names m) s.place item s.there
+  name_there item s = put_at wgsl_names (λ _. None) (module_names m) (labelled_items wgsl_names m) puts (items_apart wgsl_names m) s.place item s.there s.outside
 
   pub name_is : (item : Labelled) (s : Stands (labelled_items wgsl_names m) item) → name_in (module_names m) item.0 ≡ name_after wgsl_names (labels_of (take s.place (labelled_items wgsl_names m))) item.1
   name_is item s = ap (λ o. unwrap_or o []) (name_there item s)
@@ -159,7 +159,7 @@ module _ (m : Module) where
 
   pub items_tell : NamesAreCounted m → (a b : Labelled) → Stands (labelled_items wgsl_names m) a → Stands (labelled_items wgsl_names m) b → name_in (module_names m) a.0 ≡ name_in (module_names m) b.0 → a ≡ b
   items_tell few a b s t e =
-      let place = item_names_tell wgsl_names (labelled_items wgsl_names m) few s.place t.place a b s.there t.there (sym (name_is a s) ∙ e ∙ name_is b t) in
+      let place = item_names_tell wgsl_names (labelled_items wgsl_names m) few s.place t.place a b s.there t.there s.outside t.outside (sym (name_is a s) ∙ e ∙ name_is b t) in
       ap (λ o. unwrap_or o a) (sym s.there ∙ ap (slice_get (labelled_items wgsl_names m)) place ∙ t.there)
 
   -- the items of functions and arguments

@@ -1,3 +1,7 @@
+pub mod Counts
+pub mod Given
+pub mod MemberLemmas
+pub mod MemberNames
 pub mod ModuleLemmas
 pub mod NameKeys
 pub mod NamedItems

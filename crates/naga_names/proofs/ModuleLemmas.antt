@@ -1,18 +1,19 @@
 -- The names of a whole module: its values are labelled by the names of its types.
 use Rattle.std.proofs.Common.{◌≡◌, ℕ, ◌+◌, ◌<◌, ◌≤◌, zero, suc, List, [], ◌∷◌, ◌++◌, map, length, Option, Some, None, true, false, cond, refl, ap, sym, subst, ◌∙◌, arith, unwrap_or, slice_get}
 use borrow.Author.Tests.{lt-ltb}
-use Rattle.std.specs.List.{enumerate_from}
-use Rattle.std.specs.Option.{option_map_or}
+use Rattle.std.specs.List.{AllByRecursion, flat_map, enumerate_from}
 use Rattle.std.proofs.lemmas.List.{take-append-le}
 use Rattle.naga_ir.specs.declared.module.Module.{Module}
+use Rattle.naga_ir.specs.declared.module.EntryPoint.{EntryPoint}
+use Rattle.naga_ir.specs.declared.types.StructMember.{StructMember}
 use Rattle.naga_ir.specs.declared.types.Type_.{Type_}
 use Rattle.naga_names.specs.declared.namer.NamerError.{NamerError}
 use Rattle.naga_names.specs.declared.namer.key.NameKey.TheVariants as key
-use Rattle.naga_names.specs.Naming.{Names, name_after}
-use Rattle.naga_names.specs.Reset.{Labelled, NameMap, labels_of, type_label, labelled_types, labelled_entry_points, labelled_functions, labelled_globals, labelled_declarations, labelled_values, type_name, type_names_in, HasNamedItems, PutsBeginning, NamesItems, NamesModule}
+use Rattle.naga_names.specs.Naming.{Names}
+use Rattle.naga_names.specs.Reset.{Labelled, NameMap, same_key, item_name, members_of, member_label, labelled_type, type_label, labelled_types, labelled_entry_points, labelled_functions, labelled_globals, labelled_declarations, labelled_values, type_name, type_names_in, HasNamedItems, PutsBeginning, NamesItems, NamesModule}
 use Rattle.naga_names.specs.Refusal.{RefusesItems, RefusesModule, IsRefusalOfItems}
-use Rattle.naga_names.proofs.NameKeys.{declarations_apart}
-use Rattle.naga_names.proofs.NamedItems.{named_items_at, named_items_past, put_at}
+use Rattle.naga_names.proofs.NameKeys.{all_append, unlike_types, types_apart, declarations_apart}
+use Rattle.naga_names.proofs.NamedItems.{place_left, type_among_types, item_put, name_found, name_absent}
 use Rattle.naga_names.proofs.ResetLemmas.{not_below, refuses_more}
 
 wrong : {A : Type 0} → true ≡ false → A
@@ -21,12 +22,7 @@ wrong e = absurd (cc)
 nothing_there : {A X : Type 0} (x : X) → None ≡ Some x → A
 nothing_there x e = absurd (cc)
 
-place_left : (xs ys : List Labelled) (i : ℕ) (x : Labelled) → slice_get xs i ≡ Some x → slice_get (xs ++ ys) i ≡ Some x
-place_left [] ys i x e = nothing_there x e
-place_left (y ∷ xs) ys zero x e = e
-place_left (y ∷ xs) ys (suc i) x e = place_left xs ys i x e
-
-within : {X : Type 0} (xs : List X) (i : ℕ) (x : X) → slice_get xs i ≡ Some x → i < length xs
+pub within : {X : Type 0} (xs : List X) (i : ℕ) (x : X) → slice_get xs i ≡ Some x → i < length xs
 within [] i x e = nothing_there x e
 within (y ∷ xs) zero x e = omega arith
 within (y ∷ xs) (suc i) x e = omega (arith, within xs i x e)
@@ -36,19 +32,17 @@ past [] i e = omega arith
 past (y ∷ xs) zero e = nothing_there y (sym e)
 past (y ∷ xs) (suc i) e = omega (arith, past xs i e)
 
-module _ {X : Type 0} (entry : ℕ → X → Labelled) where
-  entry_at : (n i : ℕ) (xs : List X) (x : X) → slice_get xs i ≡ Some x → slice_get (map (λ p. entry p.0 p.1) (enumerate_from n xs)) i ≡ Some (entry (n + i) x)
-  entry_at n i [] x e = nothing_there x e
-  entry_at n zero (y ∷ xs) x e =
-      let same : n ≡ n + zero = omega arith in
-      let is : y ≡ x = ap (λ o. unwrap_or o y) e in
-      λ j. Some (entry (same j) (is j))
-  entry_at n (suc i) (y ∷ xs) x e = let same : n + 1 + i ≡ n + suc i = omega arith in entry_at (n + 1) i xs x e ∙ ap (λ k. Some (entry k x)) same
-
-  entry_past : (n i : ℕ) (xs : List X) → slice_get xs i ≡ None → slice_get (map (λ p. entry p.0 p.1) (enumerate_from n xs)) i ≡ None
-  entry_past n i [] e = refl
-  entry_past n zero (y ∷ xs) e = nothing_there y (sym e)
-  entry_past n (suc i) (y ∷ xs) e = entry_past (n + 1) i xs e
+-- no item is a type behind the last one
+no_type : (entry_points : List EntryPoint) (t n : ℕ) (types : List Type_) → n + length types ≤ t → AllByRecursion (λ (y : Labelled). same_key (key.Type_ t) y.0 ≡ false) (flat_map (λ p. labelled_type entry_points p.0 p.1) (enumerate_from n types))
+no_type entry_points t n [] le = tt
+no_type entry_points t n (ty ∷ types) le =
+    let differ : t ≡ n → ⊥ = λ e. absurd (omega (arith, e, le)) in
+    all_append (λ y. same_key (key.Type_ t) y.0 ≡ false) (labelled_type entry_points n ty) (flat_map (λ p. labelled_type entry_points p.0 p.1) (enumerate_from (n + 1) types))
+    (unlike_types t n differ, members_differ 0 (members_of ty.inner)) (no_type entry_points t (n + 1) types (omega (arith, le)))
+  where
+    members_differ : (k : ℕ) (members : List StructMember) → AllByRecursion (λ (y : Labelled). same_key (key.Type_ t) y.0 ≡ false) (map (λ p. (key.StructMember n p.0, member_label p.1)) (enumerate_from k members))
+    members_differ k [] = tt
+    members_differ k (m ∷ members) = (refl, members_differ (k + 1) members)
 
 module _ (start : Names) («module» : Module) where
   abbrev the_types : List Labelled
@@ -57,21 +51,16 @@ module _ (start : Names) («module» : Module) where
   abbrev the_others : List Labelled
   the_others = labelled_entry_points «module».entry_points.items ++ (labelled_functions «module».types «module».functions ++ labelled_globals «module».types «module».global_variables)
 
-  type_at : (t : ℕ) (ty : Type_) → slice_get «module».types t ≡ Some ty → slice_get the_types t ≡ Some (key.Type_ t, type_label «module».entry_points.items t ty)
-  type_at t ty e =
-      let same : 0 + t ≡ t = omega arith in
-      entry_at (λ n ty. (key.Type_ n, type_label «module».entry_points.items n ty)) 0 t «module».types ty e ∙ ap (λ n. Some (key.Type_ n, type_label «module».entry_points.items n ty)) same
-
   -- a type has the name that a map has for it
   module _ (first : NameMap) (names : Names) (now : NameMap) (has : HasNamedItems start first (labelled_declarations «module») names now) where
     there : (t : ℕ) (ty : Type_) → slice_get «module».types t ≡ Some ty → now (key.Type_ t) ≡ Some (type_name start «module» t)
     there t ty e =
         let item : Labelled = (key.Type_ t, type_label «module».entry_points.items t ty) in
-        let place = type_at t ty e in
-        let le : t ≤ length the_types = omega (arith, within the_types t item place) in
-        put_at start first now (labelled_declarations «module») has.put (declarations_apart «module») t item (place_left the_types the_others t item place)
-        ∙ ap (λ items. Some (name_after start (labels_of items) item.1)) (take-append-le t the_types the_others le)
-        ∙ sym (ap (λ o. Some (option_map_or (λ p. p.1) o [])) (named_items_at start the_types t item place))
+        let s = type_among_types start «module» t ty e in
+        let le : s.place ≤ length the_types = omega (arith, within the_types s.place item s.there) in
+        item_put start first now (labelled_declarations «module») has.put (declarations_apart «module») s.place item (place_left the_types the_others s.place item s.there)
+        ∙ ap (λ items. Some (item_name start items item)) (take-append-le s.place the_types the_others le)
+        ∙ sym (ap (λ o. Some (unwrap_or o [])) (name_found start the_types s.place item (types_apart «module».entry_points.items «module».types) s.there))
 
     agrees : (t : ℕ) → type_names_in now (length «module».types) t ≡ type_name start «module» t
     agrees t = by (slice_get «module».types t) refl
@@ -83,7 +72,7 @@ module _ (start : Names) («module» : Module) where
         by None e =
             let past_end : length «module».types ≤ t = past «module».types t e in
             ap (λ b. cond b (unwrap_or (now (key.Type_ t)) []) []) (not_below t (length «module».types) (λ lt. omega (arith, lt, past_end)))
-            ∙ sym (ap (λ o. option_map_or (λ p. p.1) o []) (named_items_past start the_types t (entry_past (λ n ty. (key.Type_ n, type_label «module».entry_points.items n ty)) 0 t «module».types e)))
+            ∙ sym (ap (λ o. unwrap_or o []) (name_absent start the_types (key.Type_ t) (no_type «module».entry_points.items t 0 «module».types (omega (arith, past_end)))))
 
     pub agree : type_names_in now (length «module».types) ≡ type_name start «module»
     agree = λ i t. agrees t i

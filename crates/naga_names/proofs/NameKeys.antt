@@ -5,6 +5,7 @@ use Rattle.std.specs.Cmp.{IsEquivalence}
 use Rattle.naga_ir.specs.declared.module.Module.{Module}
 use Rattle.naga_ir.specs.declared.module.Function.{Function as AFunction}
 use Rattle.naga_ir.specs.declared.module.FunctionArgument.{FunctionArgument as AnArgument}
+use Rattle.naga_ir.specs.declared.types.StructMember.{StructMember as AMember}
 use Rattle.naga_ir.specs.declared.types.Type_.{Type_ as AType}
 use borrow.Author.Tests.{eqb-true}
 use Rattle.naga_names.specs.declared.namer.key.NameKey.{NameKey}
@@ -14,7 +15,7 @@ use Rattle.naga_names.specs.declared.namer.key.ExternalTextureNameKey.TheVariant
 use Rattle.naga_names.specs.contracts.namer.key.ExternalTextureNameKeyPartialEq.TheImpl as part_eq
 use Rattle.naga_names.specs.contracts.namer.key.NameKeyEq.TheImpl.Laws.{laws-law}
 use Rattle.naga_names.specs.Naming.{Names, label_or}
-use Rattle.naga_names.specs.Reset.{Labelled, same_key, type_label, is_external, labelled_parts, with_parts, labelled_types, labelled_argument, labelled_arguments, labelled_locals, labelled_function, labelled_functions, labelled_entry_arguments, labelled_entry_locals, labelled_entry_point, labelled_entry_points, labelled_global, labelled_globals, labelled_declarations, value_label, type_name, labelled_constants, labelled_overrides, labelled_values, labelled_items}
+use Rattle.naga_names.specs.Reset.{Labelled, same_key, type_label, is_external, labelled_parts, with_parts, members_of, member_label, labelled_members, labelled_type, labelled_types, labelled_argument, labelled_arguments, labelled_locals, labelled_function, labelled_functions, labelled_entry_arguments, labelled_entry_locals, labelled_entry_point, labelled_entry_points, labelled_global, labelled_globals, labelled_declarations, value_label, type_name, labelled_constants, labelled_overrides, labelled_values, labelled_items}
 use Rattle.naga_ir.specs.declared.module.Constant.{Constant as AConstant}
 use Rattle.naga_ir.specs.declared.module.Override.{Override as AnOverride}
 use Rattle.naga_ir.specs.declared.module.EntryPoint.{EntryPoint as AnEntryPoint}
@@ -168,6 +169,10 @@ digit_of i k = get_or (key_code k) i 0
 pub same_digit : (i : ℕ) (a b : NameKey) → same_key a b ≡ true → digit_of i a ≡ digit_of i b
 same_digit i a b e = ap (λ c. get_or c i 0) (same_code a b e)
 
+-- types at two places have different keys
+pub unlike_types : (t u : ℕ) → (t ≡ u → ⊥) → same_key (Type_ t) (Type_ u) ≡ false
+unlike_types t u apart = different (digit_of 1) (same_digit 1) (Type_ t) (Type_ u) apart
+
 -- ---- the items of a module
 single : {A : Type 0} (g : A → Labelled) (xs : List A) → flat_map (λ a. g a ∷ []) xs ≡ map g xs
 single g [] = refl
@@ -185,7 +190,7 @@ unlike : (a b : NameKey) (m n : ℕ) → digit_of 4 a ≡ m → digit_of 4 b ≡
 unlike a b m n e f apart = different (digit_of 4) (same_digit 4) a b (λ same. apart (sym e ∙ same ∙ f))
 
 module _ (external : Bool) (make : ExternalTextureNameKey → NameKey) (item : Labelled) where
-  with_parts_all : (P : Labelled → Type 0) → P item → ((part : ExternalTextureNameKey) (label : List ℕ) → P (make part, label)) → AllByRecursion P (with_parts external make item)
+  pub with_parts_all : (P : Labelled → Type 0) → P item → ((part : ExternalTextureNameKey) (label : List ℕ) → P (make part, label)) → AllByRecursion P (with_parts external make item)
   with_parts_all P own each = (own, either external)
     where
       either : (b : Bool) → AllByRecursion P (cond b (labelled_parts make item.1) [])
@@ -299,11 +304,25 @@ globals_apart types globals =
     (λ g v. with_parts_all (is_external types v.ty) (ExternalTextureGlobalVariable g) (GlobalVariable g, label_or v.name (codes "global")) (λ item. digit_of 1 item.0 ≡ g) refl (λ part label. refl))
     (λ g v. with_parts_apart (is_external types v.ty) (ExternalTextureGlobalVariable g) (GlobalVariable g, label_or v.name (codes "global")) refl (λ part. refl)) 0 globals
 
-types_all : (entry_points : List AnEntryPoint) (P : Labelled → Type 0) → ((t : ℕ) (label : List ℕ) → P (Type_ t, label)) → (types : List AType) → AllByRecursion P (labelled_types entry_points types)
-types_all entry_points P own types = entries_all (λ t (ty : AType). (Type_ t, type_label entry_points t ty)) P (λ t ty. own t _) 0 types
+-- a type and its members
+module _ (entry_points : List AnEntryPoint) (t : ℕ) where
+  type_all : (P : Labelled → Type 0) → ((label : List ℕ) → P (Type_ t, label)) → ((n : ℕ) (label : List ℕ) → P (StructMember t n, label)) → (ty : AType) → AllByRecursion P (labelled_type entry_points t ty)
+  type_all P own each ty = (own _, entries_all (λ n (m : AMember). (StructMember t n, member_label m)) P (λ n m. each n _) 0 (members_of ty.inner))
 
-types_apart : (entry_points : List AnEntryPoint) (types : List AType) → AreApart (labelled_types entry_points types)
-types_apart entry_points types = entries_apart (λ t (ty : AType). (Type_ t, type_label entry_points t ty)) 1 (λ t ty. refl) types
+  type_apart : (ty : AType) → AreApart (labelled_type entry_points t ty)
+  type_apart ty =
+      let members = members_of ty.inner in
+      apart_append (digit_of 2) (same_digit 2) 1 ((Type_ t, type_label entry_points t ty) ∷ []) (labelled_members t members) (omega arith, tt)
+      (entries_all (λ n (m : AMember). (StructMember t n, member_label m)) (λ y. 1 ≤ digit_of 2 y.0) (λ n m. omega arith) 0 members) (tt, tt)
+      (entries_apart (λ n (m : AMember). (StructMember t n, member_label m)) 3 (λ n m. refl) members)
+
+pub types_all : (entry_points : List AnEntryPoint) (P : Labelled → Type 0) → ((t : ℕ) (label : List ℕ) → P (Type_ t, label)) → ((t n : ℕ) (label : List ℕ) → P (StructMember t n, label)) → (types : List AType) → AllByRecursion P (labelled_types entry_points types)
+types_all entry_points P own each types = each_section P (labelled_type entry_points) (λ t ty. type_all entry_points t P (own t) (each t) ty) 0 types
+
+pub types_apart : (entry_points : List AnEntryPoint) (types : List AType) → AreApart (labelled_types entry_points types)
+types_apart entry_points types =
+    sections_apart (digit_of 1) (same_digit 1) (labelled_type entry_points)
+    (λ t ty. type_all entry_points t (λ item. digit_of 1 item.0 ≡ t) (λ label. refl) (λ n label. refl) ty) (type_apart entry_points) 0 types
 
 -- what a module declares
 module _ («module» : Module) where
@@ -322,7 +341,7 @@ module _ («module» : Module) where
   pub declarations_apart : AreApart (labelled_declarations «module»)
   declarations_apart =
       let m = «module» in
-      let low = types_all m.entry_points.items (λ x. digit_of 0 x.0 < 1) (λ t label. omega arith) m.types in
+      let low = types_all m.entry_points.items (λ x. digit_of 0 x.0 < 1) (λ t label. omega arith) (λ t n label. omega arith) m.types in
       let entry_low = entry_points_all (λ x. digit_of 0 x.0 < 2) (λ e label. omega arith) (λ e n label. omega arith) (λ e l label. omega arith) m.entry_points.items in
       let entry_high = entry_points_all (λ x. 1 ≤ digit_of 0 x.0) (λ e label. omega arith) (λ e n label. omega arith) (λ e l label. omega arith) m.entry_points.items in
       let functions_low = functions_all m.types (λ x. digit_of 0 x.0 < 3) (λ h label. omega arith) (λ h n label. omega arith) (λ h n part label. omega arith) (λ h l label. omega arith) m.functions in
@@ -341,7 +360,7 @@ module _ («module» : Module) where
   declarations_low : AllByRecursion (λ x. digit_of 0 x.0 < 4) (labelled_declarations «module»)
   declarations_low =
       let m = «module» in
-      all_append (λ x. digit_of 0 x.0 < 4) the_types (the_entry_points ++ (the_functions ++ the_globals)) (types_all m.entry_points.items (λ x. digit_of 0 x.0 < 4) (λ t label. omega arith) m.types)
+      all_append (λ x. digit_of 0 x.0 < 4) the_types (the_entry_points ++ (the_functions ++ the_globals)) (types_all m.entry_points.items (λ x. digit_of 0 x.0 < 4) (λ t label. omega arith) (λ t n label. omega arith) m.types)
       (all_append (λ x. digit_of 0 x.0 < 4) the_entry_points (the_functions ++ the_globals) (entry_points_all (λ x. digit_of 0 x.0 < 4) (λ e label. omega arith) (λ e n label. omega arith) (λ e l label. omega arith) m.entry_points.items)
       (all_append (λ x. digit_of 0 x.0 < 4) the_functions the_globals (functions_all m.types (λ x. digit_of 0 x.0 < 4) (λ h label. omega arith) (λ h n label. omega arith) (λ h n part label. omega arith) (λ h l label. omega arith) m.functions)
       (globals_all m.types (λ x. digit_of 0 x.0 < 4) (λ g label. omega arith) (λ g part label. omega arith) m.global_variables)))

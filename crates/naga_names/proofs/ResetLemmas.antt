@@ -15,8 +15,9 @@ use Rattle.std.specs.FinMap as finite
 use Rattle.naga_names.specs.Words.{Words}
 use Rattle.naga_names.specs.declared.namer.key.NameKey.{NameKey}
 use Rattle.naga_names.specs.declared.namer.key.NameKey.TheVariants as key
-use Rattle.naga_names.specs.Naming.{Names, Uses, name_of, with_use, label_base, labels_with_base, name_after, HasNamed, new_names}
-use Rattle.naga_names.specs.Reset.{Labelled, NameMap, output_label, output_word, returns, labels_of, key_fits, keys_fit, named_items, same_key, names_in, HasNamedItems, labelled_items, type_names_in, PutsBeginning, NamesItems, NamesModule}
+use Rattle.naga_names.specs.Naming.{Names, Uses, with_use, label_base, labels_with_base, name_after, HasNamed, new_names}
+use Rattle.naga_names.specs.Reset.{Labelled, NameMap, output_label, output_word, returns, labels_of, is_member, item_name, key_fits, keys_fit, named_items, same_key, names_in, HasNamedItems, labelled_items, type_names_in, PutsBeginning, NamesItems, NamesModule}
+use Rattle.naga_names.specs.Members.{PutsName, PutsNoName}
 use Rattle.naga_names.specs.Refusal.{IsRefusalOf, SomeNameIsFull, IsRefusalOfItems, IsResetRefusal, RefusesItems, RefusesModule}
 use Rattle.naga_names.specs.declared.namer.NamerError.{NamerError}
 use Rattle.naga_names.specs.declared.namer.NamerError.TheVariants.{Full, KeyFull, Memory}
@@ -24,11 +25,20 @@ use Rattle.std.proofs.lemmas.List.Folds.{list_all-append}
 use Rattle.naga_names.proofs.NameShapes.{counted_more}
 use Rattle.naga_names.proofs.NamerLemmas.{name_of-after, has_named_nothing}
 
-labels_of-push : (items : List Labelled) (item : Labelled) → labels_of (items ++ item ∷ []) ≡ labels_of items ++ item.1 ∷ []
-labels_of-push [] item = refl
-labels_of-push (x ∷ items) item = ap (λ labels. x.1 ∷ labels) (labels_of-push items item)
+pub labels_of-append : (xs ys : List Labelled) → labels_of (xs ++ ys) ≡ labels_of xs ++ labels_of ys
+labels_of-append xs ys = flat_map-append (λ (item : Labelled). cond (is_member item.0) [] (item.1 ∷ [])) xs ys
 
-scan-push : {S X Y : Type 0} (next : S → X → S) (out : S → X → Y) (a : S) (xs : List X) (x : X) → scan next out a (xs ++ x ∷ []) ≡ scan next out a xs ++ out (fold next a xs) x ∷ []
+-- the labels around an item that is no member of a struct
+pub labels_of-around : (items : List Labelled) (item : Labelled) (others : List Labelled) → is_member item.0 ≡ false → labels_of (items ++ item ∷ others) ≡ labels_of items ++ item.1 ∷ labels_of others
+labels_of-around items item others outside =
+    labels_of-append items (item ∷ others) ∙ ap (λ b. labels_of items ++ (cond b [] (item.1 ∷ []) ++ labels_of others)) outside
+
+-- its name is that of its label behind these labels
+pub item_name-outside : (start : Names) (earlier : List Labelled) (key : NameKey) (label : List ℕ) → is_member key ≡ false → item_name start earlier (key, label) ≡ name_after start (labels_of earlier) label
+item_name-outside start earlier (key.StructMember t n) label outside = absurd (cc)
+item_name-outside start earlier other label outside = refl
+
+pub scan-push : {S X Y : Type 0} (next : S → X → S) (out : S → X → Y) (a : S) (xs : List X) (x : X) → scan next out a (xs ++ x ∷ []) ≡ scan next out a xs ++ out (fold next a xs) x ∷ []
 scan-push next out a [] x = refl
 scan-push next out a (y ∷ xs) x = ap (λ ys. out a y ∷ ys) (scan-push next out (next a y) xs x)
 
@@ -36,34 +46,37 @@ fold-push : {S X : Type 0} (next : S → X → S) (a : S) (xs : List X) (x : X) 
 fold-push next a [] x = refl
 fold-push next a (y ∷ xs) x = fold-push next (next a y) xs x
 
-labels_folded : (earlier : List (List ℕ)) (items : List Labelled) → fold (λ labels item. labels ++ item.1 ∷ []) earlier items ≡ earlier ++ labels_of items
-labels_folded earlier [] = sym (append-nil earlier)
-labels_folded earlier (x ∷ items) = labels_folded (earlier ++ x.1 ∷ []) items ∙ append_assoc earlier (x.1 ∷ []) (labels_of items)
+pub items_folded : (earlier items : List Labelled) → fold (λ earlier item. earlier ++ item ∷ []) earlier items ≡ earlier ++ items
+items_folded earlier [] = sym (append-nil earlier)
+items_folded earlier (x ∷ items) = items_folded (earlier ++ x ∷ []) items ∙ append_assoc earlier (x ∷ []) items
 
-named_items-push : (start : Names) (items : List Labelled) (item : Labelled) → named_items start (items ++ item ∷ []) ≡ named_items start items ++ (item.0, name_after start (labels_of items) item.1) ∷ []
+named_items-push : (start : Names) (items : List Labelled) (item : Labelled) → named_items start (items ++ item ∷ []) ≡ named_items start items ++ (item.0, item_name start items item) ∷ []
 named_items-push start items item =
-    scan-push (λ earlier item. earlier ++ item.1 ∷ []) (λ earlier item. (item.0, name_after start earlier item.1)) [] items item
-    ∙ ap (λ labels. named_items start items ++ (item.0, name_after start labels item.1) ∷ []) (labels_folded [] items)
+    scan-push (λ earlier item. earlier ++ item ∷ []) (λ earlier item. (item.0, item_name start earlier item)) [] items item
+    ∙ ap (λ earlier. named_items start items ++ (item.0, item_name start earlier item) ∷ []) (items_folded [] items)
 
 -- one more use leaves the words and the prefixes
 with_use-words : (old start : Names) (label : List ℕ) → old ≡ record start { uses = old.uses } → with_use old label ≡ record start { uses = (with_use old label).uses }
 unfolding with_use
 with_use-words old start label same = ap (λ (n : Names). record n { uses = (with_use old label).uses }) same
 
+pub used_words : (old new : Names) (label : List ℕ) → new ≡ with_use old label → new ≡ record old { uses = new.uses }
+used_words old new label used = subst (λ n. n ≡ record old { uses = n.uses }) (sym used) (with_use-words old old label refl)
+
 module _ where
   -- one more item, after whatever was named before
-  pub names_one : (old : Names) (before now : NameMap) (key : NameKey) (label name : List ℕ) (new : Names) → key_fits key ≡ true → name ≡ name_of old label → new ≡ with_use old label → ((earlier : List (List ℕ)) → HasNamed old earlier → HasNamed new (earlier ++ label ∷ [])) → ((q : NameKey) → now q ≡ cond (same_key key q) (Some name) (before q)) → NamesItems old before ((key, label) ∷ []) new now
-  names_one old before now key label name new fits name_is new_is named_is now_is = record {
+  pub names_one : (old : Names) (before now : NameMap) (key : NameKey) (label : List ℕ) (new : Names) → key_fits key ≡ true → is_member key ≡ false → PutsName old before key label new now → NamesItems old before ((key, label) ∷ []) new now
+  names_one old before now key label new fits outside puts = record {
     more = λ start first earlier has. record {
-      words = subst (λ n. n ≡ record start { uses = n.uses }) (sym new_is) (with_use-words old start label has.words);
-      labels = subst (HasNamed new) (sym (labels_of-push earlier (key, label))) (named_is (labels_of earlier) has.labels);
+      words = subst (λ n. n ≡ record start { uses = n.uses }) (sym puts.used) (with_use-words old start label has.words);
+      labels = subst (HasNamed new) (sym (labels_of-around earlier (key, label) [] outside)) (puts.history (labels_of earlier) has.labels);
       keys = list_all-append (λ item. key_fits item.0) earlier ((key, label) ∷ []) ∙ (λ i. has.keys i && (fits i && true));
       put = record {
         finds = λ q.
-            now_is q
-            ∙ (λ i. cond (same_key key q) (Some ((name_is ∙ name_of-after old (labels_of earlier) label has.labels ∙ ap (λ n. name_after n (labels_of earlier) label) has.words) i)) (has.put.finds q i))
+            puts.put q
+            ∙ (λ i. cond (same_key key q) (Some ((name_of-after old (labels_of earlier) label has.labels ∙ ap (λ n. name_after n (labels_of earlier) label) has.words ∙ sym (item_name-outside start earlier key label outside)) i)) (has.put.finds q i))
             ∙ sym (ap (λ pairs. update_all same_key first pairs q) (named_items-push start earlier (key, label))
-            ∙ ap (λ f. f q) (fold-push (λ f p. update same_key f p.0 (Some p.1)) first (named_items start earlier) (key, name_after start (labels_of earlier) label)));
+            ∙ ap (λ f. f q) (fold-push (λ f p. update same_key f p.0 (Some p.1)) first (named_items start earlier) (key, item_name start earlier (key, label))));
       };
     };
   }
@@ -121,6 +134,7 @@ full_more start items others full = record {
   item = full.item;
   left = full.left ++ others;
   all = ap (λ all. all ++ others) full.all ∙ append_assoc full.named (full.item ∷ full.left) others;
+  outside = full.outside;
   full = full.full;
 }
 
@@ -164,10 +178,10 @@ beginning_unchanged start first before now earlier items old same has = record {
 }
 
 -- one item is refused for the reason that its label is
-pub refuses_one : (old : Names) (before now : NameMap) (key : NameKey) (label : List ℕ) (error : NamerError) → ((q : NameKey) → now q ≡ before q) → IsRefusalOf old label error → RefusesItems old before ((key, label) ∷ []) now error
-refuses_one old before now key label error same refused = record {
-  some = λ start first earlier has. beginning_unchanged start first before now earlier ((key, label) ∷ []) old same has;
-  why = λ start first earlier has. reason error refused start first earlier has;
+pub refuses_one : (old : Names) (before now : NameMap) (key : NameKey) (label : List ℕ) (error : NamerError) → is_member key ≡ false → PutsNoName old before label now error → RefusesItems old before ((key, label) ∷ []) now error
+refuses_one old before now key label error outside refused = record {
+  some = λ start first earlier has. beginning_unchanged start first before now earlier ((key, label) ∷ []) old refused.kept has;
+  why = λ start first earlier has. reason error refused.why start first earlier has;
 }
   where
     reason : (error : NamerError) → IsRefusalOf old label error → (start : Names) (first : NameMap) (earlier : List Labelled) → HasNamedItems start first earlier old before → IsRefusalOfItems start (earlier ++ (key, label) ∷ []) error
@@ -176,6 +190,7 @@ refuses_one old before now key label error same refused = record {
       item = (key, label);
       left = [];
       all = refl;
+      outside = outside;
       full =
           sym (ap (λ (n : Names). labels_with_base n (labels_of earlier) (label_base n label)) has.words)
           ∙ sym (has.labels.uses_are (label_base old label)) ∙ full;
@@ -210,7 +225,7 @@ refuses_key old before item others not_so = record {
 pub none_full : (start : Names) (before : NameMap) (items : List Labelled) (names : Names) (now : NameMap) → HasNamedItems start before items names now → SomeNameIsFull start items → ⊥
 none_full start before items names now has full =
     let base : List ℕ = label_base start full.item.1 in
-    let all : labels_of items ≡ labels_of full.named ++ full.item.1 ∷ labels_of full.left = ap labels_of full.all ∙ map-append (λ item. item.1) full.named (full.item ∷ full.left) in
+    let all : labels_of items ≡ labels_of full.named ++ full.item.1 ∷ labels_of full.left = ap labels_of full.all ∙ labels_of-around full.named full.item full.left full.outside in
     let few : labels_with_base start (labels_of items) base ≤ 2 ^ 32 = subst (λ n. n ≤ 2 ^ 32) (ap (λ (n : Names). labels_with_base n (labels_of items) base) has.words) (has.labels.few base) in
     let count : labels_with_base start (labels_of items) base ≡ labels_with_base start (labels_of full.named) base + (1 + labels_with_base start (labels_of full.left) base) =
     ap (λ labels. labels_with_base start labels base) all ∙ counted_more start (labels_of full.named) full.item.1 (labels_of full.left) base refl in

@@ -1,5 +1,6 @@
 pub mod Label
 pub mod Laws
+pub mod Members
 pub mod Naming
 pub mod Plain
 pub mod Refusal

@@ -1,8 +1,11 @@
 -- What `reset` names, and in which order.
-use Rattle.std.specs.Prelude.{◌≡◌, ℕ, ◌^◌, List, [], ◌∷◌, ◌++◌, map, Option, Some, None, Bool, true, false, ◌&&◌, ◌==◌, if◌then◌else◌, nat_lt, unwrap_or, slice_get, codes, string_bytes}
+use Rattle.std.specs.Prelude.{◌≡◌, ℕ, ◌-◌, ◌^◌, List, [], ◌∷◌, ◌++◌, length, drop, map, Option, Some, None, Bool, true, false, ◌&&◌, ◌==◌, if◌then◌else◌, nat_lt, unwrap_or, slice_get, codes, string_bytes}
 use Rattle.std.specs.declared.string.String.{String}
 use Rattle.std.specs.List.{scan, flat_map, enumerate_from, list_all}
-use Rattle.std.specs.Map.{update_all}
+use Rattle.std.specs.FinMap as finite
+use Rattle.std.specs.FinSet as set
+use Rattle.std.specs.Map.{lookup, update_all}
+use Rattle.std.specs.Hash.{HashWrites}
 use Rattle.std.specs.HashMap as hash
 use Rattle.std.specs.Option.{option_map, option_map_or, option_or}
 use Rattle.naga_ir.specs.declared.module.Module.{Module}
@@ -15,6 +18,7 @@ use Rattle.naga_ir.specs.declared.module.GlobalVariable.{GlobalVariable}
 use Rattle.naga_ir.specs.declared.module.LocalVariable.{LocalVariable}
 use Rattle.naga_ir.specs.declared.module.ShaderStage.{ShaderStage}
 use Rattle.naga_ir.specs.declared.module.ShaderStage.TheVariants.{Vertex, Fragment, Compute}
+use Rattle.naga_ir.specs.declared.types.StructMember.{StructMember}
 use Rattle.naga_ir.specs.declared.types.Type_.{Type_}
 use Rattle.naga_ir.specs.declared.types.TypeInner.{TypeInner}
 use Rattle.naga_ir.specs.declared.types.TypeInner.TheVariants.{Struct, Image}
@@ -23,6 +27,7 @@ use Rattle.naga_names.specs.declared.namer.key.ExternalTextureNameKey.{ExternalT
 use Rattle.naga_names.specs.declared.namer.key.ExternalTextureNameKey.TheVariants.{Plane, Params}
 use Rattle.naga_names.specs.declared.namer.key.NameKey.{NameKey}
 use Rattle.naga_names.specs.declared.namer.key.NameKey.TheVariants as key
+use Rattle.naga_names.specs.contracts.namer.key.NameKeyHash.TheImpl.{hash_input-value}
 use Rattle.naga_names.specs.contracts.namer.key.NameKeyPartialEq.TheImpl.{eq-value}
 use Rattle.naga_names.specs.Naming.{Names, label_or, name_after, HasNamed}
 
@@ -54,9 +59,26 @@ is_struct other = false
 abbrev pub type_label : List EntryPoint → ℕ → Type_ → List ℕ
 type_label entry_points t ty = label_or ty.name (if is_struct ty.inner then unwrap_or (output_label t entry_points) (codes "type") else codes "type")
 
+-- the members of a type; only a struct has some
+abbrev pub members_of : TypeInner → List StructMember
+members_of (Struct members span) = members.items
+members_of other = []
+
+-- the label of a member, or what it is labelled without one
+abbrev pub member_label : StructMember → List ℕ
+member_label member = label_or member.name (codes "member")
+
+-- the members of a struct, in their order
+abbrev pub labelled_members : ℕ → List StructMember → List Labelled
+labelled_members t members = map (λ p. (key.StructMember t p.0, member_label p.1)) (enumerate_from 0 members)
+
+-- a type, and then its members
+abbrev pub labelled_type : List EntryPoint → ℕ → Type_ → List Labelled
+labelled_type entry_points t ty = (key.Type_ t, type_label entry_points t ty) ∷ labelled_members t (members_of ty.inner)
+
 -- the types, in their order
 abbrev pub labelled_types : List EntryPoint → List Type_ → List Labelled
-labelled_types entry_points types = map (λ p. (key.Type_ p.0, type_label entry_points p.0 p.1)) (enumerate_from 0 types)
+labelled_types entry_points types = flat_map (λ p. labelled_type entry_points p.0 p.1) (enumerate_from 0 types)
 
 abbrev pub is_external_inner : TypeInner → Bool
 is_external_inner (Image dim arrayed External) = true
@@ -138,12 +160,37 @@ key_fits other = true
 abbrev pub keys_fit : List Labelled → Bool
 keys_fit items = list_all (λ item. key_fits item.0) items
 
-abbrev pub labels_of : List Labelled → List (List ℕ)
-labels_of items = map (λ item. item.1) items
+-- ---- names
+abbrev pub is_member : NameKey → Bool
+is_member (key.StructMember t n) = true
+is_member other = false
 
--- each item with the name of its label after those before it
+-- the labels of one namespace, that of all items but the members of structs
+abbrev pub labels_of : List Labelled → List (List ℕ)
+labels_of items = flat_map (λ item. if is_member item.0 then [] else item.1 ∷ []) items
+
+-- the labels that an item's name is to differ from. Each struct is a namespace of its own: the n members that stand before
+-- the member n are the n items before it
+abbrev pub labels_beside : NameKey → List Labelled → List (List ℕ)
+labels_beside (key.StructMember t n) earlier = map (λ item. item.1) (drop (length earlier - n) earlier)
+labels_beside other earlier = labels_of earlier
+
+-- what the members of structs are named by: the same words and prefixes, but no builtin words, and no uses
+abbrev pub member_names : Names → Names
+member_names names = record names { builtin_identifiers = set.empty; uses = finite.empty }
+
+-- what an item is named by
+abbrev pub names_beside : Names → NameKey → Names
+names_beside names (key.StructMember t n) = member_names names
+names_beside names other = names
+
+-- the name of an item behind these
+abbrev pub item_name : Names → List Labelled → Labelled → List ℕ
+item_name names earlier item = name_after (names_beside names item.0) (labels_beside item.0 earlier) item.1
+
+-- each item with the name that it has behind those before it
 abbrev pub named_items : Names → List Labelled → List (NameKey × List ℕ)
-named_items names items = scan (λ earlier item. earlier ++ item.1 ∷ []) (λ earlier item. (item.0, name_after names earlier item.1)) [] items
+named_items names items = scan (λ earlier item. earlier ++ item ∷ []) (λ earlier item. (item.0, item_name names earlier item)) [] items
 
 -- what a map of names has at each key
 abbrev pub NameMap : Type 0
@@ -152,6 +199,10 @@ NameMap = NameKey → Option (List ℕ)
 -- how keys are compared, by their variants and what these hold
 abbrev pub same_key : NameKey → NameKey → Bool
 same_key = eq-value.it
+
+-- what a hasher is given of a key
+abbrev pub key_writes : NameKey → HashWrites
+key_writes = hash_input-value.it
 
 abbrev pub names_in : {Y S : Type 0} → hash.HashMap NameKey (String Y) S → NameMap
 names_in names key = option_map string_bytes (hash.get same_key names key)
@@ -177,7 +228,7 @@ labelled_values names module_ = labelled_constants names module_.constants ++ la
 
 -- the name of a type of the module; there is none for a type that isn't there
 abbrev pub type_name : Names → Module → ℕ → List ℕ
-type_name start module_ t = option_map_or (λ p. p.1) (slice_get (named_items start (labelled_types module_.entry_points.items module_.types)) t) []
+type_name start module_ t = unwrap_or (lookup (same_key (key.Type_ t)) (named_items start (labelled_types module_.entry_points.items module_.types))) []
 
 -- the items that are named, in the order of their names
 abbrev pub labelled_items : Names → Module → List Labelled

@@ -1,10 +1,13 @@
 -- Sets of words, as contracts see them.
-use Rattle.std.specs.Prelude.{◌≡◌, ℕ, Bool, true, false, ◌&&◌, List, map, Option}
+use Rattle.std.specs.Prelude.{◌≡◌, ℕ, nat_eq, Bool, true, false, ◌&&◌, List, map, Option}
 use Rattle.std.specs.FinSet as set
+use Rattle.std.specs.Hash as fed
+use Rattle.std.specs.Hash.{HashWrites}
 use Rattle.std.specs.Iterator.{Drains, Yields}
 use Rattle.std.specs.Ordering.{nat_cmp}
 use Rattle.std.specs.Cmp.{IsEquivalence, both_ways}
-use Rattle.std.specs.Cmp.Lexicographic.{slice_cmp, nat_list_cmp_total}
+use Rattle.std.specs.Cmp.Lexicographic.{slice_cmp, pointwise, nat_list_cmp_total}
+use Rattle.std.specs.List.{flat_map}
 use Rattle.std.specs.Str.{str_to_ascii_lowercase}
 use Rattle.std.proofs.Common.{refl, ap, ◌∙◌}
 use denote.Ref.{Bor}
@@ -16,6 +19,14 @@ Words = set.FinSet (slice_cmp nat_cmp)
 -- the text with its ASCII letters in lower case
 abbrev pub lowered : List ℕ → List ℕ
 lowered word = str_to_ascii_lowercase word
+
+-- the two texts are the same where ASCII case is ignored
+abbrev pub same_caseless : List ℕ → List ℕ → Bool
+same_caseless a b = pointwise nat_eq (lowered a) (lowered b)
+
+-- what a hasher is given of a text, so that it can't tell case
+abbrev pub caseless_writes : List ℕ → HashWrites
+caseless_writes word = flat_map fed.u8 (lowered word)
 
 -- the two sets have the same words
 abbrev pub same_words : Words → Words → Bool

@@ -1,13 +1,13 @@
 //! Sets of words that no identifier may be.
-ghost use Rattle.std.specs.Prelude.{◌≡◌, nat_eq, IsTrue, ◌↔◌, IfOk, OnOk, OnErr, map};
-ghost use Rattle.std.specs.Cmp.Lexicographic.{slice_cmp, pointwise, nat_list_eq_equiv};
+ghost use Rattle.std.specs.Prelude.{◌≡◌, IsTrue, ◌↔◌, IfOk, OnOk, OnErr, map};
+ghost use Rattle.std.specs.Cmp.Lexicographic.{slice_cmp, nat_list_eq_equiv};
 ghost use Rattle.std.specs.Ordering.{nat_cmp};
 ghost use Rattle.std.specs.Cmp.{partial_equiv_from_equiv, on_per, on_equiv};
 ghost use Rattle.std.specs.Coded.{coded_ℕ, coded_list};
 ghost use Rattle.std.specs.FinSet as set;
 ghost use Rattle.std.specs.Iterator.{IsFinite};
 ghost use Rattle.std.proofs.Common.{rules};
-ghost use Rattle.naga_names.specs.Words.{Words, lowered, same_words, same_words_equiv, AddsAll, AddsSome};
+ghost use Rattle.naga_names.specs.Words.{Words, lowered, same_caseless, caseless_writes, same_words, same_words_equiv, AddsAll, AddsSome};
 
 use std::alloc::{AllocError, Global};
 use std::collections::HashSet;
@@ -251,7 +251,7 @@ impl<S: AsStr> fmt::Debug for AsciiUniCase<S> {
 }
 
 impl<S: AsStr> PartialEq for AsciiUniCase<S> {
-    ghost eq = { λ a b. pointwise nat_eq (lowered (S.text a.word)) (lowered (S.text b.word)) };
+    ghost eq = { λ a b. same_caseless (S.text a.word) (S.text b.word) };
 
     ghost laws = { on_per (λ a. lowered (S.text a.word)) (partial_equiv_from_equiv nat_list_eq_equiv) };
 
@@ -265,11 +265,9 @@ impl<S: AsStr> Eq for AsciiUniCase<S> {
 }
 
 impl<S: AsStr> Hash for AsciiUniCase<S> {
-    ghost use Rattle.std.specs.Hash as fed;
-    ghost use Rattle.std.specs.List.{flat_map};
     ghost use Rattle.std.specs.Cmp.Rules.{hashing};
 
-    ghost hash_input = { λ a. flat_map fed.u8 (lowered (S.text a.word)) };
+    ghost hash_input = { λ a. caseless_writes (S.text a.word) };
 
     ghost respects_eq = { Prim.search (hashing, rules) };
 

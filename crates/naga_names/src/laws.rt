@@ -2,9 +2,11 @@
 ghost use Rattle.std.specs.Prelude.{map};
 ghost use Rattle.std.specs.Cmp.{IsEquivalence};
 ghost use Rattle.std.specs.FinSet as set;
-ghost use Rattle.naga_names.specs.Laws.{NamesAreIdentifiers, NamesKeepOffNaga, NamesAreNoKeywords, NamesAreNoBuiltins, NamesAreNoCaselessKeywords, NamesAreNotNumbered, NamesDiffer, ItemsAreNamed, ItemsAreTold};
+ghost use Rattle.std.specs.Hash.{Alike};
+ghost use Rattle.naga_names.specs.Laws.{NamesAreIdentifiers, NamesKeepOffNaga, NamesAreNoKeywords, NamesAreNoBuiltins, NamesAreNoCaselessKeywords, NamesAreNotNumbered, NamesDiffer, ItemsAreNamed, ItemsAreTold, MembersAreNamed, MembersAreTold, MembersAreNotReserved, GivenNamesFollow, GivenNamesAreNew};
 ghost use Rattle.naga_names.specs.Plain.{HasPlainEnds};
-ghost use Rattle.naga_names.specs.Reset.{same_key};
+ghost use Rattle.naga_names.specs.Reset.{same_key, key_writes};
+ghost use Rattle.naga_names.specs.Words.{same_caseless, caseless_writes};
 
 use crate::keywords::{BUILTIN_IDENTIFIERS, RESERVED};
 
@@ -42,13 +44,36 @@ pub fn names_differ()
     ensures { NamesDiffer }
 {}
 
-/// After a `reset` each item of the module has its name in the map, and no other item has it too.
+/// The identifiers given since a `Namer` began or was last reset, but to members of structs, follow from
+/// the uses: a base with n uses gave its first form and the numbers below n. The next call gives a new one.
+pub fn names_follow_from_uses()
+    ensures given { GivenNamesFollow }
+    ensures new { GivenNamesAreNew }
+{}
+
+/// After a `reset` each item of the module has its name in the map, and no two items outside structs
+/// have one.
 pub fn items_have_their_names()
     ensures named { ItemsAreNamed }
     ensures told { ItemsAreTold }
 {}
 
-/// Keys are compared as an equivalence does.
+/// The members of a struct are named by themselves: no two have one name, and none a name that is a
+/// reserved word of WGSL.
+pub fn members_have_their_names()
+    ensures named { MembersAreNamed }
+    ensures told { MembersAreTold }
+    ensures free { MembersAreNotReserved }
+{}
+
+/// Keys are compared as an equivalence does, and equal ones hash equally.
 pub fn keys_are_compared()
-    ensures { IsEquivalence same_key }
+    ensures equality { IsEquivalence same_key }
+    ensures hash { Alike same_key key_writes }
+{}
+
+/// Texts are compared as an equivalence does where ASCII case is ignored, and equal ones hash equally.
+pub fn caseless_texts_are_compared()
+    ensures equality { IsEquivalence same_caseless }
+    ensures hash { Alike same_caseless caseless_writes }
 {}

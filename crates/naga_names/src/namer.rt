@@ -1,23 +1,27 @@
 //! Identifiers from labels.
-ghost use Rattle.std.specs.Prelude.{◌≡◌, true, ◌∷◌, [], ◌++◌, List, ℕ, map, length, false, unwrap_or, codes, if◌then◌else◌, IfOk, IfErr, OnOk, OnErr, IsErr, string_bytes};
-ghost use Rattle.std.specs.Option.{option_map};
+ghost use Rattle.std.specs.Prelude.{◌≡◌, true, ◌∷◌, [], ◌++◌, List, ℕ, map, length, false, codes, IfOk, IfErr, OnOk, OnErr, IsErr, string_bytes};
 ghost use Rattle.naga_names.specs.declared.namer.key.NameKey.TheVariants as keys;
 ghost use Rattle.naga_names.specs.Naming.{Names, names_code, no_names, new_names, label_or, first_name, is_taken, name_of, with_use, IsFull, HasNamed, name_after};
-ghost use Rattle.naga_names.specs.Refusal.{IsRefusalOf, IsResetRefusal, RefusesItems, RefusesModule, SomeNameIsFull, SomeKeyIsFull};
-ghost use Rattle.naga_names.specs.Reset.{output_word, returns, output_label, is_struct, type_label, is_external_inner, is_external, labelled_types, labelled_argument, labelled_arguments, labelled_locals, labelled_function, labelled_functions, labelled_entry_arguments, labelled_entry_locals, labelled_entry_point, labelled_entry_points, labelled_global, labelled_globals, labelled_declarations, value_label, labelled_constants, labelled_overrides, labelled_values, labelled_items, type_names_in, same_key, key_fits, NamesModule, names_in, HasNamedItems, PutsBeginning, NamesItems};
+ghost use Rattle.naga_names.specs.Members.{PutsName, PutsNoName, HasNamedMembers, RefusesMembers};
+ghost use Rattle.naga_names.specs.Refusal.{IsRefusalOf, IsResetRefusal, RefusesItems, RefusesModule, SomeNameIsFull, SomeKeyIsFull, KeysRunOut};
+ghost use Rattle.naga_names.specs.declared.namer.NamerError.TheVariants.{KeyFull};
+ghost use Rattle.naga_names.specs.Reset.{is_external_inner, is_external, is_member, labelled_members, labelled_type, labelled_types, labelled_argument, labelled_arguments, labelled_locals, labelled_function, labelled_functions, labelled_entry_arguments, labelled_entry_locals, labelled_entry_point, labelled_entry_points, labelled_global, labelled_globals, labelled_declarations, value_label, labelled_constants, labelled_overrides, labelled_values, labelled_items, type_names_in, same_key, key_fits, NamesModule, names_in, HasNamedItems, PutsBeginning, NamesItems};
 
 use crate::keyword_set::{CaseInsensitiveKeywordSet, KeywordSet};
+use crate::namer::fallback::{label_or, type_label, value_label};
 use crate::namer::uses::Uses;
 pub use key::{ExternalTextureNameKey, NameKey};
 use naga_ir::{
     Arena, Constant, EntryPoint, Function, FunctionArgument, GlobalVariable, Handle, ImageClass,
-    LocalVariable, Module, Override, ShaderStage, Type_, TypeInner, UniqueArena,
+    LocalVariable, Module, Override, StructMember, Type_, TypeInner, UniqueArena,
 };
 use std::alloc::{AllocError, AllocFailed, Global};
 use std::collections::HashMap;
 use std::marker::Model;
+use std::mem;
 use thiserror::Error;
 
+mod fallback;
 mod key;
 mod label;
 #[cfg(test)]
@@ -153,22 +157,23 @@ impl Namer {
         self.call(label_or(label, fallback))
     }
 
-    /// Gives names to what the module declares outside its structs, and puts them into the map under
-    /// their keys: to its types, its entry points and its functions with their arguments and variables,
-    /// its globals, its constants and its overrides, in this order.
+    /// Gives names to what the module declares, and puts them into the map under their keys: to its types,
+    /// each with its members, its entry points and its functions with their arguments and variables, its
+    /// globals, its constants and its overrides, in this order.
     ///
     /// From then on identifiers keep off the words and prefixes given, and the names given before are
-    /// forgotten. An item without a label is named `type`, `param`, `local`, `function` or `global`; a
-    /// struct without one that entry points return `VertexOutput`, `FragmentOutput` or `ComputeOutput`,
-    /// by the last of them that has such a word; a constant `const_` and its type's name, an override
-    /// `override_` and its type's name. A global or a function's argument that is an external image has
-    /// four names more, for its planes and its parameters.
+    /// forgotten. The members of a struct are a namespace of their own, in which builtin words are free: a
+    /// member may have the name of another struct's, or of an item outside. An item without a label is named
+    /// `type`, `member`, `param`, `local`, `function` or `global`; a struct without one that entry points
+    /// return `VertexOutput`, `FragmentOutput` or `ComputeOutput`, by the last of them that has such a word; a
+    /// constant `const_` and its type's name, an override `override_` and its type's name. A global or a
+    /// function's argument that is an external image has four names more, for its planes and its parameters.
     ///
     /// The map keeps its other keys. The answer is `NamerError::Full` only where a label comes whose base
     /// the labels before it used up, and `NamerError::KeyFull` only where there are more entry points than
-    /// an `EntryPointIndex` can tell apart, or more arguments than a `u32` can count; such a module is
-    /// always refused. After a refusal the `Namer` is as a new one, and the names of some first items
-    /// stand in the map.
+    /// an `EntryPointIndex` can tell apart, or more members or arguments than a `u32` can count; such a
+    /// module is always refused. After a refusal the `Namer` is as a new one, and the names of some first
+    /// items stand in the map.
     pub fn reset(
         &mut self,
         module: &Module,
@@ -191,6 +196,10 @@ impl Namer {
             SomeNameIsFull start (labelled_items start «module».now) → IsErr result }
         ensures key_full { let start = new_names reserved_keywords builtin_identifiers keywords_case_insensitive (map (λ p. p.now) reserved_prefixes.now) in
             SomeKeyIsFull (labelled_items start «module».now) → IsErr result }
+
+        // A key runs out where a list is too long, and such a module is refused.
+        ensures too_long { IfErr result (λ error. error ≡ KeyFull → KeysRunOut «module».now) }
+        ensures keys_run_out { KeysRunOut «module».now → IsErr result }
     {
         let alloc = self.alloc;
         let prefixes = match Vec::from_slice(alloc, reserved_prefixes) {
@@ -200,9 +209,10 @@ impl Namer {
                 return Err(NamerError::Memory(refusal));
             }
         };
+        let uses = Uses::new(alloc);
         *self = Self {
             alloc,
-            uses: Uses::new(alloc),
+            uses,
             keywords: reserved_keywords,
             builtin_identifiers,
             keywords_case_insensitive,
@@ -253,8 +263,65 @@ impl Namer {
         ensures err { IfErr result (RefusesItems self.old (names_in output.old) (labelled_types entry_points.now types.now) (names_in output.new)) }
     {
         for (handle, ty) in types.iter() {
-            let label = type_label(entry_points, handle, ty);
-            self.name_item(NameKey::Type_(handle), label, output)?;
+            self.name_type(entry_points, handle, ty, output)?;
+        }
+        Ok(())
+    }
+
+    fn name_type(
+        &mut self,
+        entry_points: &[EntryPoint],
+        handle: Handle<Type_>,
+        ty: &Type_,
+        output: &mut HashMap<NameKey, String>,
+    ) -> Result<(), NamerError>
+        ensures ok { OnOk result (NamesItems self.old (names_in output.old) (labelled_type entry_points.now handle ty.now) self.new (names_in output.new)) }
+        ensures err { IfErr result (RefusesItems self.old (names_in output.old) (labelled_type entry_points.now handle ty.now) (names_in output.new)) }
+    {
+        let label = type_label(entry_points, handle, ty);
+        self.name_item(NameKey::Type_(handle), label, output)?;
+        match &ty.inner {
+            TypeInner::Struct { members, .. } => self.name_members(handle, members, output),
+            _ => Ok(()),
+        }
+    }
+
+    /// Gives the members of a struct their names, in a namespace of their own without builtin words.
+    fn name_members(
+        &mut self,
+        ty: Handle<Type_>,
+        members: &[StructMember],
+        output: &mut HashMap<NameKey, String>,
+    ) -> Result<(), NamerError>
+        ensures ok { OnOk result (NamesItems self.old (names_in output.old) (labelled_members ty members.now) self.new (names_in output.new)) }
+        ensures err { IfErr result (RefusesItems self.old (names_in output.old) (labelled_members ty members.now) (names_in output.new)) }
+    {
+        let uses = mem::replace(&mut self.uses, Uses::new(self.alloc));
+        let no_words = KeywordSet::new(self.alloc);
+        let builtin_identifiers = mem::replace(&mut self.builtin_identifiers, no_words);
+        let named = self.name_each_member(ty, members, output);
+        self.uses = uses;
+        self.builtin_identifiers = builtin_identifiers;
+        named
+    }
+
+    fn name_each_member(
+        &mut self,
+        ty: Handle<Type_>,
+        members: &[StructMember],
+        output: &mut HashMap<NameKey, String>,
+    ) -> Result<(), NamerError>
+        requires { HasNamed self.now [] }
+        ensures words { self.new ≡ record self.old { uses = self.new.uses } }
+        ensures ok { OnOk result (HasNamedMembers self.old (names_in output.old) ty members.now self.new (names_in output.new)) }
+        ensures err { IfErr result (RefusesMembers self.old (names_in output.old) ty members.now (names_in output.new)) }
+    {
+        for (index, member) in members.iter().enumerate() {
+            let Ok(index) = u32::try_from(index) else {
+                return Err(NamerError::KeyFull);
+            };
+            let key = NameKey::StructMember(ty, index);
+            self.put_name(key, label_or(&member.name, "member"), output)?;
         }
         Ok(())
     }
@@ -534,6 +601,7 @@ impl Namer {
         output: &mut HashMap<NameKey, String>,
     ) -> Result<(), NamerError>
         requires fits { key_fits key ≡ true }
+        requires outside { is_member key ≡ false }
         requires no_type { (t : ℕ) → same_key key (keys.Type_ t) ≡ false }
         ensures ok { OnOk result (NamesItems self.old (names_in output.old) ((key, value_label (type_names_in (names_in output.old) (length types.now)) word.now label.now ty) ∷ []) self.new (names_in output.new)) }
         ensures err { IfErr result (RefusesItems self.old (names_in output.old) ((key, value_label (type_names_in (names_in output.old) (length types.now)) word.now label.now ty) ∷ []) (names_in output.new)) }
@@ -559,6 +627,7 @@ impl Namer {
         output: &mut HashMap<NameKey, String>,
     ) -> Result<(), NamerError>
         requires keys { (key_fits plane0 ≡ true) × (key_fits plane1 ≡ true) × (key_fits plane2 ≡ true) × (key_fits params ≡ true) }
+        requires outside { (is_member plane0 ≡ false) × (is_member plane1 ≡ false) × (is_member plane2 ≡ false) × (is_member params ≡ false) }
         ensures ok { OnOk result (NamesItems self.old (names_in output.old) ((plane0, label.now ++ codes "__plane0") ∷ (plane1, label.now ++ codes "__plane1") ∷ (plane2, label.now ++ codes "__plane2") ∷ (params, label.now ++ codes "__params") ∷ []) self.new (names_in output.new)) }
         ensures err { IfErr result (RefusesItems self.old (names_in output.old) ((plane0, label.now ++ codes "__plane0") ∷ (plane1, label.now ++ codes "__plane1") ∷ (plane2, label.now ++ codes "__plane2") ∷ (params, label.now ++ codes "__params") ∷ []) (names_in output.new)) }
     {
@@ -575,7 +644,8 @@ impl Namer {
         ending: &str,
         output: &mut HashMap<NameKey, String>,
     ) -> Result<(), NamerError>
-        requires { key_fits key ≡ true }
+        requires fits { key_fits key ≡ true }
+        requires outside { is_member key ≡ false }
         ensures ok { OnOk result (NamesItems self.old (names_in output.old) ((key, label.now ++ ending.now) ∷ []) self.new (names_in output.new)) }
         ensures err { IfErr result (RefusesItems self.old (names_in output.old) ((key, label.now ++ ending.now) ∷ []) (names_in output.new)) }
     {
@@ -583,17 +653,32 @@ impl Namer {
         self.name_item(key, label.as_str(), output)
     }
 
-    /// Gives one item its name.
+    /// Gives one item its name, which is no member of a struct.
     fn name_item(
         &mut self,
         key: NameKey,
         label: &str,
         output: &mut HashMap<NameKey, String>,
     ) -> Result<(), NamerError>
-        requires { key_fits key ≡ true }
+        requires fits { key_fits key ≡ true }
+        requires outside { is_member key ≡ false }
         ensures ok { OnOk result (NamesItems self.old (names_in output.old) ((key, label.now) ∷ []) self.new (names_in output.new)) }
         ensures err { IfErr result (RefusesItems self.old (names_in output.old) ((key, label.now) ∷ []) (names_in output.new)) }
         ensures others { (q : NameKey) → same_key key q ≡ false → names_in output.new q ≡ names_in output.old q }
+    {
+        self.put_name(key, label, output)
+    }
+
+    /// Puts the label's name into the map.
+    fn put_name(
+        &mut self,
+        key: NameKey,
+        label: &str,
+        output: &mut HashMap<NameKey, String>,
+    ) -> Result<(), NamerError>
+        ensures ok { OnOk result (PutsName self.old (names_in output.old) key label.now self.new (names_in output.new)) }
+        ensures words { self.new ≡ record self.old { uses = self.new.uses } }
+        ensures err { IfErr result (PutsNoName self.old (names_in output.old) label.now (names_in output.new)) }
     {
         let name = self.call(label)?;
         output.insert(key, name)?;
@@ -619,84 +704,6 @@ impl Namer {
     }
 }
 
-/// The label, or the fallback where there is none.
-fn label_or<'a>(label: &'a Option<String>, fallback: &'a str) -> &'a str
-    ensures { result.now ≡ label_or label.now fallback.now }
-{
-    match label {
-        Some(label) => label.as_str(),
-        None => fallback,
-    }
-}
-
-/// The label of the type; without one, what it is labelled by the entry points that return it.
-fn type_label<'a>(entry_points: &[EntryPoint], handle: Handle<Type_>, ty: &'a Type_) -> &'a str
-    ensures { result.now ≡ type_label entry_points.now handle ty.now }
-{
-    match &ty.name {
-        Some(label) => label.as_str(),
-        None => unnamed_label(entry_points, handle, &ty.inner),
-    }
-}
-
-fn unnamed_label(
-    entry_points: &[EntryPoint],
-    handle: Handle<Type_>,
-    inner: &TypeInner,
-) -> &'static str
-    ensures { result.now ≡ (if is_struct inner.now then unwrap_or (output_label handle entry_points.now) (codes "type") else codes "type") }
-{
-    if is_struct(inner) {
-        if let Some(label) = output_label(entry_points, handle) {
-            return label;
-        }
-    }
-    "type"
-}
-
-fn is_struct(inner: &TypeInner) -> bool
-    ensures { result ≡ is_struct inner.now }
-{
-    matches!(inner, TypeInner::Struct { .. })
-}
-
-/// The word for what the last of these entry points gives that returns the type and has such a word.
-fn output_label(entry_points: &[EntryPoint], ty: Handle<Type_>) -> Option<&'static str>
-    ensures { option_map (λ word. word.now) result ≡ output_label ty entry_points.now }
-{
-    let mut label = None;
-    for entry_point in entry_points {
-        if !returns(entry_point, ty) {
-            continue;
-        }
-        if let Some(word) = output_word(entry_point.stage) {
-            label = Some(word);
-        }
-    }
-    label
-}
-
-fn returns(entry_point: &EntryPoint, ty: Handle<Type_>) -> bool
-    ensures { result ≡ returns ty entry_point.now }
-{
-    match &entry_point.function.result {
-        Some(result) => result.ty.index() == ty.index(),
-        None => false,
-    }
-}
-
-/// The word for what an entry point of this stage returns.
-fn output_word(stage: ShaderStage) -> Option<&'static str>
-    ensures { option_map (λ word. word.now) result ≡ output_word stage }
-{
-    match stage {
-        ShaderStage::Vertex => Some("VertexOutput"),
-        ShaderStage::Fragment => Some("FragmentOutput"),
-        ShaderStage::Compute => Some("ComputeOutput"),
-        _ => None,
-    }
-}
-
 /// Whether the type is an image from outside the graphics interface.
 fn is_external(types: &UniqueArena<Type_>, ty: Handle<Type_>) -> bool
     ensures { result ≡ is_external types.now ty }
@@ -714,34 +721,4 @@ fn is_external_inner(inner: &TypeInner) -> bool
             ..
         }
     )
-}
-
-/// The word and the name that the map has for the type.
-fn value_label(
-    alloc: Global,
-    word: &str,
-    types: &UniqueArena<Type_>,
-    ty: Handle<Type_>,
-    names: &HashMap<NameKey, String>,
-) -> Result<String, AllocError>
-    ensures { IfOk result (λ label. string_bytes label ≡ word.now ++ type_names_in (names_in names.now) (length types.now) ty) }
-{
-    let name = type_name(types, ty, names);
-    format!(in alloc; "{word}{name}")
-}
-
-fn type_name<'a>(
-    types: &UniqueArena<Type_>,
-    ty: Handle<Type_>,
-    names: &'a HashMap<NameKey, String>,
-) -> &'a str
-    ensures { result.now ≡ type_names_in (names_in names.now) (length types.now) ty }
-{
-    if ty.index() >= types.len() {
-        return "";
-    }
-    match names.get(&NameKey::Type_(ty)) {
-        Some(name) => name.as_str(),
-        None => "",
-    }
 }

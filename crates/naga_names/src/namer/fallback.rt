@@ -1,0 +1,118 @@
+//! What an item without a label is labelled.
+ghost use Rattle.std.specs.Prelude.{◌≡◌, ◌++◌, length, unwrap_or, codes, if◌then◌else◌, IfOk, string_bytes};
+ghost use Rattle.std.specs.Option.{option_map};
+ghost use Rattle.naga_names.specs.Naming.{label_or};
+ghost use Rattle.naga_names.specs.Reset.{output_word, returns, output_label, is_struct, type_label, type_names_in, names_in};
+
+use crate::namer::NameKey;
+use naga_ir::{EntryPoint, Handle, ShaderStage, Type_, TypeInner, UniqueArena};
+use std::alloc::{AllocError, Global};
+use std::collections::HashMap;
+
+/// The label, or the fallback where there is none.
+pub fn label_or<'a>(label: &'a Option<String>, fallback: &'a str) -> &'a str
+    ensures { result.now ≡ label_or label.now fallback.now }
+{
+    match label {
+        Some(label) => label.as_str(),
+        None => fallback,
+    }
+}
+
+/// The label of the type; without one, what it is labelled by the entry points that return it.
+pub fn type_label<'a>(entry_points: &[EntryPoint], handle: Handle<Type_>, ty: &'a Type_) -> &'a str
+    ensures { result.now ≡ type_label entry_points.now handle ty.now }
+{
+    match &ty.name {
+        Some(label) => label.as_str(),
+        None => unnamed_label(entry_points, handle, &ty.inner),
+    }
+}
+
+fn unnamed_label(
+    entry_points: &[EntryPoint],
+    handle: Handle<Type_>,
+    inner: &TypeInner,
+) -> &'static str
+    ensures { result.now ≡ (if is_struct inner.now then unwrap_or (output_label handle entry_points.now) (codes "type") else codes "type") }
+{
+    if is_struct(inner) {
+        if let Some(label) = output_label(entry_points, handle) {
+            return label;
+        }
+    }
+    "type"
+}
+
+fn is_struct(inner: &TypeInner) -> bool
+    ensures { result ≡ is_struct inner.now }
+{
+    matches!(inner, TypeInner::Struct { .. })
+}
+
+/// The word for what the last of these entry points gives that returns the type and has such a word.
+fn output_label(entry_points: &[EntryPoint], ty: Handle<Type_>) -> Option<&'static str>
+    ensures { option_map (λ word. word.now) result ≡ output_label ty entry_points.now }
+{
+    let mut label = None;
+    for entry_point in entry_points {
+        if !returns(entry_point, ty) {
+            continue;
+        }
+        if let Some(word) = output_word(entry_point.stage) {
+            label = Some(word);
+        }
+    }
+    label
+}
+
+fn returns(entry_point: &EntryPoint, ty: Handle<Type_>) -> bool
+    ensures { result ≡ returns ty entry_point.now }
+{
+    match &entry_point.function.result {
+        Some(result) => result.ty.index() == ty.index(),
+        None => false,
+    }
+}
+
+/// The word for what an entry point of this stage returns.
+fn output_word(stage: ShaderStage) -> Option<&'static str>
+    ensures { option_map (λ word. word.now) result ≡ output_word stage }
+{
+    match stage {
+        ShaderStage::Vertex => Some("VertexOutput"),
+        ShaderStage::Fragment => Some("FragmentOutput"),
+        ShaderStage::Compute => Some("ComputeOutput"),
+        _ => None,
+    }
+}
+
+/// The word and the name that the map has for the type.
+pub fn value_label(
+    alloc: Global,
+    word: &str,
+    types: &UniqueArena<Type_>,
+    ty: Handle<Type_>,
+    names: &HashMap<NameKey, String>,
+) -> Result<String, AllocError>
+    ensures { IfOk result (λ label. string_bytes label ≡ word.now ++ type_names_in (names_in names.now) (length types.now) ty) }
+{
+    let name = type_name(types, ty, names);
+    format!(in alloc; "{word}{name}")
+}
+
+fn type_name<'a>(
+    types: &UniqueArena<Type_>,
+    ty: Handle<Type_>,
+    names: &'a HashMap<NameKey, String>,
+) -> &'a str
+    ensures { result.now ≡ type_names_in (names_in names.now) (length types.now) ty }
+{
+    if ty.index() >= types.len() {
+        return "";
+    }
+    match names.get(&NameKey::Type_(ty)) {
+        Some(name) => name.as_str(),
+        None => "",
+    }
+}
