@@ -7,8 +7,8 @@ copy=$(mktemp -d)
 trap 'rm -rf "$copy"' EXIT
 cp HANDLES crates.txt "$copy"
 mkdir -p "$copy/crates/bench_names/src" "$copy/crates/bench_names/specs" "$copy/crates/bench_names/proofs"
-for crate in naga_ir naga_names; do cp -r "$top/crates/$crate" "$copy/crates/"; done
-grep -E '^(naga_ir|naga_names):' "$top/crates.txt" > "$copy/crates.txt"
+for crate in naga_flags naga_arena naga_enumerations naga_ir naga_names; do cp -r "$top/crates/$crate" "$copy/crates/"; done
+grep -E '^(naga_flags|naga_arena|naga_enumerations|naga_ir|naga_names):' "$top/crates.txt" > "$copy/crates.txt"
 echo 'bench_names: naga_ir naga_names' >> "$copy/crates.txt"
 cp "$top/bench/entry_points/main.rt.txt" "$copy/crates/bench_names/src/main.rt"
 : > "$copy/crates/bench_names/specs/Lib.antt"

@@ -6,8 +6,8 @@ use Rattle.std.proofs.lemmas.Bool.{eqb-true}
 use Rattle.std.proofs.lemmas.Option.{slice_get-map}
 use Rattle.naga_ir.specs.StatementTree.{BlockTree, no_statements, statement, simple, return, emit, store, StatementTree}
 use Rattle.naga_ir.specs.declared.expression.Expression as ir
-use Rattle.naga_ir.specs.declared.expression.Literal as ir_literal
-use Rattle.naga_ir.specs.declared.expression.Literal.TheVariants as literal
+use Rattle.naga_enumerations.specs.declared.expression.Literal as ir_literal
+use Rattle.naga_enumerations.specs.declared.expression.Literal.TheVariants as literal
 use Rattle.naga_ir.specs.declared.module.Function as ir_function
 use Rattle.naga_ir.specs.declared.module.FunctionArgument.{FunctionArgument}
 use Rattle.naga_ir.specs.declared.module.LocalVariable.{LocalVariable}
@@ -29,8 +29,8 @@ use Rattle.naga_form.specs.Literals.{literal_form, literal_value, value_read}
 use Rattle.naga_form.specs.Shapes.{expression_shape, statements_shape, function_shape, function_naming, statement_shape}
 use Rattle.naga_form.specs.Abstraction.{expression_read, statements_read, function_read, statement_read, variable_read}
 use Rattle.naga_ir.specs.declared.expression.Expression.TheVariants as expression
-use Rattle.naga_ir.specs.declared.operators.BinaryOperator.{BinaryOperator}
-use Rattle.naga_ir.specs.declared.operators.BinaryOperator.TheVariants as operator
+use Rattle.naga_enumerations.specs.declared.operators.BinaryOperator.{BinaryOperator}
+use Rattle.naga_enumerations.specs.declared.operators.BinaryOperator.TheVariants as operator
 use Rattle.wgsl_text.specs.Tree as tree
 use Rattle.wgsl_text.specs.Pieces.{binary_pieces}
 use Rattle.wgsl_text.specs.Text.{text}

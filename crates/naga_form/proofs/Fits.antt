@@ -5,8 +5,8 @@ use Rattle.std.specs.Option.{option_map}
 use Rattle.std.proofs.lemmas.Bool.{eqb-true}
 use Rattle.naga_ir.specs.StatementTree.{BlockTree, no_statements, statement, emit, store, return, StatementTree, simple}
 use Rattle.naga_ir.specs.declared.expression.Expression as ir
-use Rattle.naga_ir.specs.declared.expression.Literal as ir_literal
-use Rattle.naga_ir.specs.declared.expression.Literal.TheVariants as literal
+use Rattle.naga_enumerations.specs.declared.expression.Literal as ir_literal
+use Rattle.naga_enumerations.specs.declared.expression.Literal.TheVariants as literal
 use Rattle.naga_ir.specs.declared.module.Function as ir_function
 use Rattle.naga_ir.specs.declared.module.LocalVariable.{LocalVariable}
 use Rattle.naga_info.specs.declared.info.ExpressionInfo.{ExpressionInfo}
@@ -27,8 +27,8 @@ use Rattle.naga_form.proofs.Facts.{and_left, and_right, then_some, returned_at, 
 use Rattle.std.proofs.lemmas.Option.{slice_get-map, slice_get_within}
 use Rattle.indexmap.specs.IndexMap.{keys}
 use Rattle.naga_ir.specs.declared.expression.Expression.TheVariants as expression
-use Rattle.naga_ir.specs.declared.operators.BinaryOperator.{BinaryOperator}
-use Rattle.naga_ir.specs.declared.operators.BinaryOperator.TheVariants as operator
+use Rattle.naga_enumerations.specs.declared.operators.BinaryOperator.{BinaryOperator}
+use Rattle.naga_enumerations.specs.declared.operators.BinaryOperator.TheVariants as operator
 use Rattle.naga_ir.specs.declared.module.Module.{Module}
 use Rattle.naga_info.proofs.Accepting.{function_fits_word_at, function_fits_expressions, function_fits_block, local_word_at, load_word_at, binary_at}
 use Rattle.naga_names.specs.Plain.{is_word}

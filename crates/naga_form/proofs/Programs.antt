@@ -6,14 +6,14 @@ use Rattle.std.specs.Option.{is_some, option_map, option_and_then}
 use Rattle.std.proofs.lemmas.Bool.{eqb-false, ltb-true, leb-true, lt-ltb}
 use Rattle.naga_ir.specs.StatementTree.{BlockTree, no_statements, statement, emit, store, return, StatementTree, simple}
 use Rattle.naga_ir.specs.declared.expression.Expression as ir
-use Rattle.naga_ir.specs.declared.expression.Literal as ir_literal
-use Rattle.naga_ir.specs.declared.expression.Literal.TheVariants as literal
+use Rattle.naga_enumerations.specs.declared.expression.Literal as ir_literal
+use Rattle.naga_enumerations.specs.declared.expression.Literal.TheVariants as literal
 use Rattle.naga_ir.specs.declared.module.Function as ir_function
 use Rattle.naga_ir.specs.declared.module.FunctionArgument.{FunctionArgument}
 use Rattle.naga_ir.specs.declared.module.FunctionResult.{FunctionResult}
 use Rattle.naga_ir.specs.declared.module.Module.{Module}
-use Rattle.naga_ir.specs.declared.types.ScalarKind.{ScalarKind}
-use Rattle.naga_ir.specs.declared.types.ScalarKind.TheVariants as kind
+use Rattle.naga_enumerations.specs.declared.types.ScalarKind.{ScalarKind}
+use Rattle.naga_enumerations.specs.declared.types.ScalarKind.TheVariants as kind
 use Rattle.naga_ir.specs.declared.types.TypeInner.{TypeInner}
 use Rattle.naga_ir.specs.declared.types.TypeInner.TheVariants as inner
 use Rattle.naga_ir.specs.declared.types.Type_.{Type_}
@@ -38,8 +38,8 @@ use Rattle.std.specs.Char.{is_ascii_digit}
 use Rattle.std.specs.Str.{bytes_eq}
 use Rattle.std.proofs.lemmas.Option.{slice_get_within, slice_get-map}
 use Rattle.std.proofs.lemmas.Slice.Eq.{bytes_eq-Decides}
-use Rattle.naga_ir.specs.declared.types.AddressSpace.{AddressSpace}
-use Rattle.naga_ir.specs.declared.types.AddressSpace.TheVariants as space
+use Rattle.naga_enumerations.specs.declared.types.AddressSpace.{AddressSpace}
+use Rattle.naga_enumerations.specs.declared.types.AddressSpace.TheVariants as space
 use Rattle.naga_info.specs.Resolution.{inner_of}
 use Rattle.naga_names.proofs.NamedItems.{local_stands}
 use Rattle.indexmap.specs.IndexMap.{keys}

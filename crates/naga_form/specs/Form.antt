@@ -16,8 +16,8 @@ use Rattle.naga_form.specs.Names.{function_name, argument_name, module_names}
 use Rattle.naga_form.specs.Types.{type_form}
 use Rattle.naga_form.specs.Literals.{literal_form}
 use Rattle.naga_ir.specs.declared.module.LocalVariable.{LocalVariable}
-use Rattle.naga_ir.specs.declared.types.AddressSpace.{AddressSpace}
-use Rattle.naga_ir.specs.declared.types.AddressSpace.TheVariants as space
+use Rattle.naga_enumerations.specs.declared.types.AddressSpace.{AddressSpace}
+use Rattle.naga_enumerations.specs.declared.types.AddressSpace.TheVariants as space
 use Rattle.naga_ir.specs.declared.types.TypeInner.{TypeInner}
 use Rattle.naga_ir.specs.declared.types.TypeInner.TheVariants as inner
 use Rattle.naga_info.specs.Resolution.{inner_of}

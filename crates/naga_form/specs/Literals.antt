@@ -1,7 +1,7 @@
 -- Literals: how they are written, and the values that they have in the module and in its text.
 use Rattle.std.specs.Prelude.{ℕ, suc, ℤ, pos, negsuc, Bool, true, false, List, [], ◌==◌, if◌then◌else◌, codes}
-use Rattle.naga_ir.specs.declared.expression.Literal as ir
-use Rattle.naga_ir.specs.declared.expression.Literal.TheVariants as literal
+use Rattle.naga_enumerations.specs.declared.expression.Literal as ir
+use Rattle.naga_enumerations.specs.declared.expression.Literal.TheVariants as literal
 use Rattle.wgsl_text.specs.Token.{Suffix, NoSuffix, SuffixI, SuffixU, SuffixLi, SuffixLu}
 use Rattle.wgsl_text.specs.Tree.{Literal, Truth, Suffixed, SignedShort, UnsignedShort, LeastInteger, LeastLong}
 use Rattle.shader_runs.specs.Value.{Value, Truth as TruthValue, Whole}

@@ -10,26 +10,18 @@
 //! contract cannot spell has a `_` behind it: [`Type_`], `data_`.
 #![tactic(auto)]
 
-pub mod arena;
-pub mod binding;
-pub mod diagnostics;
 pub mod expression;
-pub mod flags;
-pub mod image;
 pub mod module;
 pub mod operators;
 pub mod statement;
 pub mod types;
-pub mod unique_arena;
 
-pub use arena::{Arena, Handle, Item, Place};
-pub use binding::{Binding, BuiltIn, Interpolation, ResourceBinding, Sampling};
-pub use diagnostics::{FilterableTriggeringRule, Severity, StandardFilterableTriggeringRule};
+pub use naga_arena::{arena, unique_arena, Arena, Handle, Item, Place, UniqueArena};
+pub use naga_enumerations::{binding, diagnostics, image, Binding, BuiltIn, FilterableTriggeringRule, ImageClass, ImageDimension, Interpolation, ResourceBinding, Sampling, Severity, StandardFilterableTriggeringRule, StorageFormat};
+pub use naga_flags::{flags, Barrier, MemoryDecorations, StorageAccess};
 pub use expression::{
     CooperativeData, Expression, ImageQuery, Literal, SampleLevel, SwizzleComponent,
 };
-pub use flags::{Barrier, MemoryDecorations, StorageAccess};
-pub use image::{ImageClass, ImageDimension, StorageFormat};
 pub use module::{
     Constant, EntryPoint, Function, FunctionArgument, FunctionResult, GlobalVariable,
     LocalVariable, MeshStageInfo, Module, Override, ShaderStage, SpecialTypes,
@@ -43,4 +35,3 @@ pub use types::{
     AddressSpace, ArraySize, CooperativeRole, CooperativeSize, PredeclaredType, Scalar, ScalarKind,
     StructMember, Type_, TypeInner, VectorSize,
 };
-pub use unique_arena::UniqueArena;

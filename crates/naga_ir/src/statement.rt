@@ -5,34 +5,16 @@ ghost use Rattle.std.specs.Slice.Iter.{iter_rest};
 ghost use Rattle.naga_ir.specs.StatementTree.{no_statements, statement_count, has_no_statements, with_statement};
 ghost use Rattle.naga_ir.specs.StatementViews.{tree_of, block_of};
 
-use crate::arena::Handle;
+use naga_arena::Handle;
+use naga_enumerations::{CollectiveOperation, SubgroupOperation};
+use naga_flags::Barrier;
 use crate::expression::{CooperativeData, Expression};
-use crate::flags::Barrier;
 use crate::module::Function;
-use crate::operators::{AtomicFunction, CollectiveOperation, GatherMode, SubgroupOperation};
+use crate::operators::{AtomicFunction, GatherMode};
 use std::alloc::{AllocError, Global};
 use std::marker::Model;
 use std::slice::Iter;
-
-/// The handles of expressions from `first` to before `end`.
-#[derive(Debug, Clone, Copy, PartialEq, Eq, Hash)]
-pub struct Range {
-    /// The index of the first.
-    pub first: usize,
-    /// The index behind the last.
-    pub end: usize,
-}
-
-/// The value that a case of a switch is for.
-#[derive(Debug, Clone, Copy, PartialEq, Eq, Hash)]
-pub enum SwitchValue {
-    /// This one, of a signed selector: `case 1`.
-    I32(i32),
-    /// This one, of an unsigned selector: `case 1u`.
-    U32(u32),
-    /// All that no other case is for: `default`.
-    Default,
-}
+pub use naga_enumerations::{Range, SwitchValue};
 
 /// Sends a ray from an entry point of a ray pipeline.
 #[derive(Debug, Clone, Copy, PartialEq, Eq, Hash)]

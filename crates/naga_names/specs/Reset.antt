@@ -16,13 +16,13 @@ use Rattle.naga_ir.specs.declared.module.EntryPoint.{EntryPoint}
 use Rattle.naga_ir.specs.declared.module.Override.{Override}
 use Rattle.naga_ir.specs.declared.module.GlobalVariable.{GlobalVariable}
 use Rattle.naga_ir.specs.declared.module.LocalVariable.{LocalVariable}
-use Rattle.naga_ir.specs.declared.module.ShaderStage.{ShaderStage}
-use Rattle.naga_ir.specs.declared.module.ShaderStage.TheVariants.{Vertex, Fragment, Compute}
+use Rattle.naga_enumerations.specs.declared.module.ShaderStage.{ShaderStage}
+use Rattle.naga_enumerations.specs.declared.module.ShaderStage.TheVariants.{Vertex, Fragment, Compute}
 use Rattle.naga_ir.specs.declared.types.StructMember.{StructMember}
 use Rattle.naga_ir.specs.declared.types.Type_.{Type_}
 use Rattle.naga_ir.specs.declared.types.TypeInner.{TypeInner}
 use Rattle.naga_ir.specs.declared.types.TypeInner.TheVariants.{Struct, Image}
-use Rattle.naga_ir.specs.declared.image.ImageClass.TheVariants.{External}
+use Rattle.naga_enumerations.specs.declared.image.ImageClass.TheVariants.{External}
 use Rattle.naga_names.specs.declared.namer.key.ExternalTextureNameKey.{ExternalTextureNameKey}
 use Rattle.naga_names.specs.declared.namer.key.ExternalTextureNameKey.TheVariants.{Plane, Params}
 use Rattle.naga_names.specs.declared.namer.key.NameKey.{NameKey}

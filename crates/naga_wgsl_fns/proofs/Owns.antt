@@ -6,7 +6,7 @@ use Rattle.std.proofs.lemmas.Bool.{lt-ltb}
 use Rattle.std.proofs.lemmas.List.{append-nil}
 use Rattle.naga_ir.specs.declared.expression.Expression as ir
 use Rattle.naga_ir.specs.declared.expression.Expression.TheVariants as expression
-use Rattle.naga_ir.specs.declared.operators.BinaryOperator as ir_operator
+use Rattle.naga_enumerations.specs.declared.operators.BinaryOperator as ir_operator
 use Rattle.shader_runs.specs.Scope.{Handles, Naming}
 use Rattle.naga_form.specs.Names.{numbered_name, numbered_text}
 use Rattle.naga_form.specs.Form.{PlainForm, ValueForm, as_value, as_reference, own_plain, own_if, plain_form, standing_plain, value_form}
@@ -14,7 +14,7 @@ use Rattle.naga_form.specs.Shapes.{OperandsStandBefore}
 use Rattle.naga_scope.specs.Standings.{handles_of, standing_of}
 use Rattle.naga_scope.specs.declared.points.Standing.{Standing}
 use Rattle.naga_scope.specs.declared.points.Standing.TheVariants.{Absent, Barred, Everywhere, Inline, Named}
-use Rattle.naga_words.specs.Operators.{operator_text}
+use Rattle.naga_back.specs.Operators.{operator_text}
 use Rattle.wgsl_text.specs.Tree.{Name, Dereference}
 use Rattle.wgsl_text.specs.Pieces.{expression_pieces}
 use Rattle.wgsl_text.specs.Text.{text}

@@ -12,12 +12,12 @@ use Rattle.naga_ir.specs.declared.module.Function.{Function}
 use Rattle.naga_ir.specs.declared.module.FunctionArgument.{FunctionArgument}
 use Rattle.naga_ir.specs.declared.module.FunctionResult.{FunctionResult}
 use Rattle.naga_ir.specs.declared.module.LocalVariable.{LocalVariable}
-use Rattle.naga_ir.specs.declared.operators.BinaryOperator as ir_operator
-use Rattle.naga_ir.specs.declared.operators.BinaryOperator.TheVariants as operator
+use Rattle.naga_enumerations.specs.declared.operators.BinaryOperator as ir_operator
+use Rattle.naga_enumerations.specs.declared.operators.BinaryOperator.TheVariants as operator
 use Rattle.naga_ir.specs.declared.types.Type_.{Type_}
 use Rattle.naga_info.specs.declared.info.ExpressionInfo.{ExpressionInfo}
-use Rattle.naga_words.specs.Indentation.{indentation}
-use Rattle.naga_words.specs.Operators.{operator_text}
+use Rattle.naga_back.specs.Indentation.{indentation}
+use Rattle.naga_back.specs.Operators.{operator_text}
 use Rattle.naga_names.specs.Reset.{NameMap}
 use Rattle.shader_runs.specs.Program.{binds, from}
 use Rattle.shader_runs.specs.Scope.{Handles, Naming, at_start, given_after, after_one, after_emit, bound_name}

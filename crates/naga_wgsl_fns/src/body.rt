@@ -7,7 +7,7 @@ ghost use Rattle.naga_info.specs.Accepted.{block_fits, is_below, statement_fits}
 ghost use Rattle.naga_info.specs.Part.{block_is_written};
 ghost use Rattle.naga_names.specs.Reset.{names_in};
 ghost use Rattle.naga_scope.specs.Standings.{handles_of};
-ghost use Rattle.naga_words.specs.Indentation.{indentation};
+ghost use Rattle.naga_back.specs.Indentation.{indentation};
 ghost use Rattle.shader_runs.specs.Program.{from};
 ghost use Rattle.shader_runs.specs.Scope.{after_emit};
 ghost use Rattle.wgsl_text.specs.Lines.{statement_pieces, statements_pieces};
@@ -23,7 +23,8 @@ use crate::sinks::{put, put_two};
 use crate::told::write_told_type;
 use naga_ir::{Block, Expression, Handle, Place, Range, Statement};
 use naga_scope::{Scope, binds};
-use naga_words::{Level, TextSink};
+use naga_back::Level;
+use naga_words::TextSink;
 use std::alloc::Global;
 
 impl FunctionText<'_> {

@@ -19,7 +19,7 @@ use naga_ir::{Expression, Handle};
 use naga_names::namer::NameKey;
 use naga_scope::{Scope, Standing};
 use naga_words::TextSink;
-use naga_words::back::{Baked, binary_operation_str};
+use naga_back::{Baked, binary_operation_str};
 use std::alloc::Global;
 
 impl FunctionText<'_> {

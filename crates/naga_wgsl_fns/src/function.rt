@@ -23,7 +23,8 @@ use naga_ir::{
 };
 use naga_names::namer::NameKey;
 use naga_scope::Scope;
-use naga_words::{Level, TextSink};
+use naga_back::Level;
+use naga_words::TextSink;
 use std::alloc::Global;
 use std::collections::HashMap;
 

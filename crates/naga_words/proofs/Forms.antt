@@ -14,18 +14,18 @@ use Rattle.naga_ir.specs.declared.types.TypeInner.{TypeInner}
 use Rattle.naga_ir.specs.declared.types.TypeInner.TheVariants as inner
 use Rattle.naga_ir.specs.declared.types.ArraySize.{ArraySize}
 use Rattle.naga_ir.specs.declared.types.ArraySize.TheVariants as size
-use Rattle.naga_ir.specs.declared.types.CooperativeSize.{CooperativeSize}
-use Rattle.naga_ir.specs.declared.types.CooperativeSize.TheVariants.{Eight, Sixteen}
-use Rattle.naga_ir.specs.declared.types.CooperativeRole.{CooperativeRole}
-use Rattle.naga_ir.specs.declared.types.CooperativeRole.TheVariants.{A, B, C}
-use Rattle.naga_ir.specs.declared.types.VectorSize.{VectorSize}
-use Rattle.naga_ir.specs.declared.types.Scalar.{Scalar}
-use Rattle.naga_ir.specs.declared.types.ScalarKind.{ScalarKind}
-use Rattle.naga_ir.specs.declared.image.ImageClass.{ImageClass}
-use Rattle.naga_ir.specs.declared.image.ImageClass.TheVariants as class
-use Rattle.naga_ir.specs.declared.image.ImageDimension.{ImageDimension}
-use Rattle.naga_ir.specs.declared.image.ImageDimension.TheVariants.{D1, D2, D3, Cube}
-use Rattle.naga_words.specs.Words.{scalar_word, space_word, space_access_word, image_access_word, role_word, format_word}
+use Rattle.naga_enumerations.specs.declared.types.CooperativeSize.{CooperativeSize}
+use Rattle.naga_enumerations.specs.declared.types.CooperativeSize.TheVariants.{Eight, Sixteen}
+use Rattle.naga_enumerations.specs.declared.types.CooperativeRole.{CooperativeRole}
+use Rattle.naga_enumerations.specs.declared.types.CooperativeRole.TheVariants.{A, B, C}
+use Rattle.naga_enumerations.specs.declared.types.VectorSize.{VectorSize}
+use Rattle.naga_enumerations.specs.declared.types.Scalar.{Scalar}
+use Rattle.naga_enumerations.specs.declared.types.ScalarKind.{ScalarKind}
+use Rattle.naga_enumerations.specs.declared.image.ImageClass.{ImageClass}
+use Rattle.naga_enumerations.specs.declared.image.ImageClass.TheVariants as class
+use Rattle.naga_enumerations.specs.declared.image.ImageDimension.{ImageDimension}
+use Rattle.naga_enumerations.specs.declared.image.ImageDimension.TheVariants.{D1, D2, D3, Cube}
+use Rattle.wgsl_words.specs.Words.{scalar_word, space_word, space_access_word, image_access_word, role_word, format_word}
 use Rattle.naga_words.specs.Parts.{Part, Word, Shown, Missing, IsText, NoParts, WordThen, ShownThen, lacks, known_text}
 use Rattle.naga_words.specs.Spelling.{Context, scalar_parts_of, scalar_parts, template_parts, value_parts, vector_word, matrix_word, cooperative_word, image_word, role_tail, length_parts, acceleration_structure_text, ray_query_text, inner_parts, pointer_in, pointer_parts, value_pointer_parts, access_parts, array_parts, storage_image_parts, image_parts, is_struct, inner_parts_by, named_parts_by, found_parts_by, parts_within, type_parts}
 use Rattle.naga_words.specs.Trees.{Names, of_one, of_two, scalar_tree, vector_tree, value_tree, pointer_tree, pointer_tree_in, value_pointer_tree_in, array_tree, image_tree, ray_tree, inner_tree, inner_tree_by, named_tree_by, found_tree_by, tree_within, type_tree, writer_context}

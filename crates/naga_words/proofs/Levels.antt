@@ -4,7 +4,7 @@ use Rattle.naga_ir.specs.declared.types.Type_.{Type_}
 use Rattle.naga_ir.specs.declared.types.TypeInner.{TypeInner}
 use Rattle.naga_ir.specs.declared.types.TypeInner.TheVariants as inner
 use Rattle.naga_ir.specs.declared.types.ArraySize.{ArraySize}
-use Rattle.naga_words.specs.Words.{space_word, space_access_word}
+use Rattle.wgsl_words.specs.Words.{space_word, space_access_word}
 use Rattle.naga_words.specs.Parts.{Part, Word}
 use Rattle.naga_words.specs.Spelling.{Context, IsInOrder, is_struct, end_of_base, pointer_parts, array_parts, inner_parts_by, named_parts_by, found_parts_by, parts_within, type_parts}
 

@@ -1,5 +1,3 @@
-pub mod Indentations
-pub mod FixedInputs
 pub mod PartTexts
 pub mod Arounds
 pub mod Levels

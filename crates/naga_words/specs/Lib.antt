@@ -1,12 +1,4 @@
 pub mod Sink
-pub mod Indentation
-pub mod Baking
-pub mod Kinds
-pub mod Operators
-pub mod FunctionContext
-pub mod FixedInput
-pub mod Words
-pub mod Diagnostics
 pub mod Parts
 pub mod Spelling
 pub mod Trees

@@ -1,11 +1,11 @@
 -- The names of structs that WGSL has without a declaration.
 use Rattle.std.specs.Prelude.{ℕ, ◌*◌, List, ◌++◌, Option, Some, None, codes, decimal}
-use Rattle.naga_ir.specs.declared.types.PredeclaredType.{PredeclaredType}
-use Rattle.naga_ir.specs.declared.types.PredeclaredType.TheVariants.{AtomicCompareExchangeWeakResult, ModfResult, FrexpResult}
-use Rattle.naga_ir.specs.declared.types.Scalar.{Scalar}
-use Rattle.naga_ir.specs.declared.types.ScalarKind.{ScalarKind}
-use Rattle.naga_ir.specs.declared.types.ScalarKind.TheVariants as kind
-use Rattle.naga_ir.specs.declared.types.VectorSize.{VectorSize}
+use Rattle.naga_enumerations.specs.declared.types.PredeclaredType.{PredeclaredType}
+use Rattle.naga_enumerations.specs.declared.types.PredeclaredType.TheVariants.{AtomicCompareExchangeWeakResult, ModfResult, FrexpResult}
+use Rattle.naga_enumerations.specs.declared.types.Scalar.{Scalar}
+use Rattle.naga_enumerations.specs.declared.types.ScalarKind.{ScalarKind}
+use Rattle.naga_enumerations.specs.declared.types.ScalarKind.TheVariants as kind
+use Rattle.naga_enumerations.specs.declared.types.VectorSize.{VectorSize}
 use Rattle.naga_words.specs.Spelling.{vector_word}
 
 -- the kind of a scalar

@@ -7,22 +7,22 @@ use Rattle.naga_ir.specs.declared.types.TypeInner.{TypeInner}
 use Rattle.naga_ir.specs.declared.types.TypeInner.TheVariants as inner
 use Rattle.naga_ir.specs.declared.types.ArraySize.{ArraySize}
 use Rattle.naga_ir.specs.declared.types.ArraySize.TheVariants as size
-use Rattle.naga_ir.specs.declared.types.AddressSpace.{AddressSpace}
-use Rattle.naga_ir.specs.declared.types.VectorSize.{VectorSize}
-use Rattle.naga_ir.specs.declared.types.VectorSize.TheVariants.{Bi, Tri, Quad}
-use Rattle.naga_ir.specs.declared.types.CooperativeSize.{CooperativeSize}
-use Rattle.naga_ir.specs.declared.types.CooperativeSize.TheVariants.{Eight, Sixteen}
-use Rattle.naga_ir.specs.declared.types.CooperativeRole.{CooperativeRole}
-use Rattle.naga_ir.specs.declared.types.Scalar.{Scalar}
-use Rattle.naga_ir.specs.declared.types.ScalarKind.{ScalarKind}
-use Rattle.naga_ir.specs.declared.types.ScalarKind.TheVariants.{AbstractInt, AbstractFloat}
-use Rattle.naga_ir.specs.declared.image.ImageClass.{ImageClass}
-use Rattle.naga_ir.specs.declared.image.ImageClass.TheVariants as class
-use Rattle.naga_ir.specs.declared.image.ImageDimension.{ImageDimension}
+use Rattle.naga_enumerations.specs.declared.types.AddressSpace.{AddressSpace}
+use Rattle.naga_enumerations.specs.declared.types.VectorSize.{VectorSize}
+use Rattle.naga_enumerations.specs.declared.types.VectorSize.TheVariants.{Bi, Tri, Quad}
+use Rattle.naga_enumerations.specs.declared.types.CooperativeSize.{CooperativeSize}
+use Rattle.naga_enumerations.specs.declared.types.CooperativeSize.TheVariants.{Eight, Sixteen}
+use Rattle.naga_enumerations.specs.declared.types.CooperativeRole.{CooperativeRole}
+use Rattle.naga_enumerations.specs.declared.types.Scalar.{Scalar}
+use Rattle.naga_enumerations.specs.declared.types.ScalarKind.{ScalarKind}
+use Rattle.naga_enumerations.specs.declared.types.ScalarKind.TheVariants.{AbstractInt, AbstractFloat}
+use Rattle.naga_enumerations.specs.declared.image.ImageClass.{ImageClass}
+use Rattle.naga_enumerations.specs.declared.image.ImageClass.TheVariants as class
+use Rattle.naga_enumerations.specs.declared.image.ImageDimension.{ImageDimension}
 use Rattle.naga_info.specs.declared.info.TypeResolution.{TypeResolution}
 use Rattle.naga_info.specs.declared.info.TypeResolution.TheVariants.{Handle, Value}
 use Rattle.std.specs.Option.{is_none}
-use Rattle.naga_words.specs.Words.{scalar_word, space_word, space_access_word, image_access_word, role_word, dimension_word, format_word}
+use Rattle.wgsl_words.specs.Words.{scalar_word, space_word, space_access_word, image_access_word, role_word, dimension_word, format_word}
 use Rattle.naga_words.specs.Parts.{Part, Word, Shown, Missing, shown_between, three}
 
 -- how a context spells what is its own

@@ -8,12 +8,12 @@ use Rattle.naga_ir.specs.declared.types.TypeInner.{TypeInner}
 use Rattle.naga_ir.specs.declared.types.TypeInner.TheVariants as inner
 use Rattle.naga_ir.specs.declared.types.ArraySize.{ArraySize}
 use Rattle.naga_ir.specs.declared.types.ArraySize.TheVariants as size
-use Rattle.naga_ir.specs.declared.types.VectorSize.{VectorSize}
-use Rattle.naga_ir.specs.declared.types.Scalar.{Scalar}
-use Rattle.naga_ir.specs.declared.image.ImageClass.{ImageClass}
-use Rattle.naga_ir.specs.declared.image.ImageClass.TheVariants as class
-use Rattle.naga_ir.specs.declared.image.ImageDimension.{ImageDimension}
-use Rattle.naga_words.specs.Words.{scalar_word, space_word, space_access_word, image_access_word, role_word, format_word}
+use Rattle.naga_enumerations.specs.declared.types.VectorSize.{VectorSize}
+use Rattle.naga_enumerations.specs.declared.types.Scalar.{Scalar}
+use Rattle.naga_enumerations.specs.declared.image.ImageClass.{ImageClass}
+use Rattle.naga_enumerations.specs.declared.image.ImageClass.TheVariants as class
+use Rattle.naga_enumerations.specs.declared.image.ImageDimension.{ImageDimension}
+use Rattle.wgsl_words.specs.Words.{scalar_word, space_word, space_access_word, image_access_word, role_word, format_word}
 use Rattle.naga_words.specs.Spelling.{Context, is_struct, vector_word, matrix_word, cooperative_word, image_word, sampler_word}
 use Rattle.naga_words.specs.Parts.{Word, Missing}
 

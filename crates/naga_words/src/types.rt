@@ -3,7 +3,7 @@
 ghost use Rattle.std.specs.Prelude.{◌≡◌, ℕ, ◌<◌, true, List, length, None, IfOk, string_bytes, OnOk, IsErrOf, IsTrue, slice_get, Some};
 ghost use Rattle.naga_words.specs.declared.types.TypeTextError.TheVariants as error;
 ghost use Rattle.naga_words.specs.Parts.{HasWritten, HasBegun, IsText, lacks};
-ghost use Rattle.naga_words.specs.Words.{scalar_word};
+ghost use Rattle.wgsl_words.specs.Words.{scalar_word};
 ghost use Rattle.naga_words.specs.Rules.{conclusion_parts, rule_parts, AllFit, FitsConclusion};
 ghost use Rattle.naga_words.specs.Spelling.{Context, Fits, FitsResolution, IsInOrder, is_struct, is_formless_pointer, formless_parts, inner_parts, formless_scalar_parts, scalar_parts, type_parts, resolution_parts};
 
@@ -13,8 +13,6 @@ pub mod order;
 pub(crate) mod rules;
 pub(crate) mod scalars;
 pub(crate) mod spelling;
-#[cfg(test)]
-mod tests;
 pub(crate) mod words;
 
 use crate::sink::{SinkError, TextSink};

@@ -3,11 +3,11 @@
 ghost use Rattle.std.specs.Prelude.{◌≡◌, ◌<◌, true, codes, None, Some, [], ◌∷◌, OnOk, IsErrOf};
 ghost use Rattle.naga_words.specs.declared.types.TypeTextError.TheVariants as error;
 ghost use Rattle.naga_words.specs.Parts.{HasWritten, HasBegun, lacks, shown_between, three, Word};
-ghost use Rattle.naga_words.specs.Words.{space_access_word};
+ghost use Rattle.wgsl_words.specs.Words.{space_access_word};
 ghost use Rattle.naga_words.specs.Spelling.{scalar_parts, template_parts, value_parts, access_parts, storage_image_parts, formless_scalar_parts, braced_scalar_parts};
 
 use crate::sink::{SinkError, TextSink};
-use crate::to_wgsl::{TryToWgsl, space_access_str};
+use wgsl_words::{TryToWgsl, space_access_str};
 use crate::types::words::vector_str;
 use crate::types::{TypeContext, TypeTextError};
 use naga_ir::{AddressSpace, Scalar, ScalarKind, VectorSize};

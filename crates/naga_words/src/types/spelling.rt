@@ -4,12 +4,12 @@ ghost use Rattle.std.specs.Prelude.{◌≡◌, ◌<◌, ◌≤◌, true, [], ◌
 ghost use Rattle.std.specs.Int.NonZero.{non_zero_u32_get};
 ghost use Rattle.naga_words.specs.declared.types.TypeTextError.TheVariants as error;
 ghost use Rattle.naga_words.specs.Parts.{HasWritten, HasBegun, lacks, Word, shown_between};
-ghost use Rattle.naga_ir.specs.declared.image.ImageClass.TheVariants as class;
-ghost use Rattle.naga_words.specs.Words.{space_word, space_access_word};
+ghost use Rattle.naga_enumerations.specs.declared.image.ImageClass.TheVariants as class;
+ghost use Rattle.wgsl_words.specs.Words.{space_word, space_access_word};
 ghost use Rattle.naga_words.specs.Spelling.{IsInOrder, is_struct, end_of_base, knows_size, knows_override, formless_parts, value_parts, pointer_in, pointer_parts, value_pointer_parts, length_of_number, length_of_override, length_parts, array_parts, image_parts, inner_parts, named_parts_by, type_parts};
 
 use crate::sink::{SinkError, TextSink};
-use crate::to_wgsl::{ToWgsl, image_access_str, space_str};
+use wgsl_words::{ToWgsl, image_access_str, space_str};
 use crate::types::scalars::{
     write_access, write_scalar_in, write_shown, write_storage_image, write_template, write_three,
     write_value, write_word,

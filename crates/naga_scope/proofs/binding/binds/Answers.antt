@@ -1,6 +1,6 @@
 use Rattle.std.proofs.Common.{nat_le, Some, ap, ap₂, sym, ◌∙◌, inl, inr}
 use Rattle.std.specs.Option.{option_map}
-use Rattle.naga_words.specs.Baking.{count_to_bind}
+use Rattle.naga_back.specs.Baking.{count_to_bind}
 use Rattle.naga_scope.proofs.Shaped.{load_binds, binary_binds, none_binds}
 use Rattle.naga_scope.proofs.binding.binds.Goals as goal
 

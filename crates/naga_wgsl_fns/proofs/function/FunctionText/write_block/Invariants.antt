@@ -5,7 +5,7 @@ use Rattle.naga_info.specs.Accepted.{block_fits, is_below, statement_fits}
 use Rattle.naga_info.specs.Part.{block_is_written}
 use Rattle.naga_names.specs.Reset.{names_in}
 use Rattle.naga_scope.specs.Standings.{handles_of}
-use Rattle.naga_words.specs.Indentation.{indentation}
+use Rattle.naga_back.specs.Indentation.{indentation}
 use Rattle.shader_runs.specs.Program.{from}
 use Rattle.shader_runs.specs.Scope.{after_emit}
 use Rattle.wgsl_text.specs.Lines.{statement_pieces, statements_pieces}

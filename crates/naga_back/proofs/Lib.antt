@@ -1,0 +1,2 @@
+pub mod Indentations
+pub mod FixedInputs

@@ -1,0 +1,6 @@
+pub mod Indentation
+pub mod Baking
+pub mod FunctionContext
+pub mod FixedInput
+pub mod Kinds
+pub mod Operators

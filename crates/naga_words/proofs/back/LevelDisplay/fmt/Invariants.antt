@@ -1,7 +1,0 @@
-use Rattle.std.specs.Fmt.{HasWritten, IsPlainFormatter}
-use Rattle.naga_words.specs.Indentation.{indentation}
-use Rattle.naga_words.proofs.back.LevelDisplay.fmt.Given as goal
-
-abbrev pub invariant-loop-level : goal.invariant-loop-level
-invariant-loop-level g l =
-    IsPlainFormatter l.initial.f → HasWritten g.W.Write.write_str_gives l.initial.f (indentation l._level) l.f

@@ -1,0 +1,591 @@
+use naga_info::{Conclusion, GlobalCtx, Rule, TypeResolution};
+use naga_ir::{AddressSpace, ArraySize, BuiltIn, CooperativeRole, CooperativeSize, Handle, ImageClass, ImageDimension, MathFunction, Module, Override, PredeclaredType, Scalar, ScalarKind, StorageAccess, StorageFormat, TypeInner, Type_, UniqueArena, VectorSize};
+use naga_words::types::{type_fits, types_in_order};
+use naga_words::{TypeContext, TryToWgsl, TypeTextError, WriterTypeContext};
+use std::alloc::{AllocError, Global};
+use naga_names::namer::NameKey;
+use std::collections::HashMap;
+use std::num::NonZeroU32;
+use std::process::Abort;
+use std::test::Fail;
+
+/// Types and overrides that other types name.
+#[derive(Clone, Copy)]
+struct Handles {
+    signed: Handle<Type_>,
+    sampler: Handle<Type_>,
+    unsigned_array: Handle<Type_>,
+    labelled: Handle<Type_>,
+    unlabelled: Handle<Type_>,
+    number: Handle<Override>,
+    unnamed_number: Handle<Override>,
+}
+
+fn unlabelled(inner: TypeInner) -> Type_ {
+    Type_ { name: None, inner }
+}
+
+fn empty_struct(alloc: Global, span: u32) -> TypeInner {
+    TypeInner::Struct {
+        members: Vec::new(alloc),
+        span,
+    }
+}
+
+fn number(name: Option<String>, ty: Handle<Type_>) -> Override {
+    Override {
+        name,
+        id: None,
+        ty,
+        init: None,
+    }
+}
+
+fn fill(alloc: Global, module: &mut Module) -> Result<Handles, AllocError> {
+    let signed = module
+        .types
+        .insert(unlabelled(TypeInner::Scalar(Scalar::I32)))?;
+    let unsigned = module
+        .types
+        .insert(unlabelled(TypeInner::Scalar(Scalar::U32)))?;
+    let sampler = module
+        .types
+        .insert(unlabelled(TypeInner::Sampler { comparison: false }))?;
+    let unsigned_array = module.types.insert(unlabelled(TypeInner::Array {
+        base: unsigned,
+        size: ArraySize::Dynamic,
+        stride: 4,
+    }))?;
+    let label = String::from_str(alloc, "S")?;
+    let labelled = module.types.insert(Type_ {
+        name: Some(label),
+        inner: empty_struct(alloc, 0),
+    })?;
+    let bare = module.types.insert(unlabelled(empty_struct(alloc, 0)))?;
+    let name = String::from_str(alloc, "N")?;
+    let named = module.overrides.append(number(Some(name), unsigned))?;
+    let unnamed_number = module.overrides.append(number(None, unsigned))?;
+    Ok(Handles {
+        signed,
+        sampler,
+        unsigned_array,
+        labelled,
+        unlabelled: bare,
+        number: named,
+        unnamed_number,
+    })
+}
+
+/// The type by itself has this text in the module, by labels.
+fn gives(
+    rt: &impl Abort,
+    alloc: Global,
+    module: &Module,
+    inner: TypeInner,
+    want: &str,
+) -> Result<(), TypeTextError> {
+    let context = GlobalCtx {
+        types: &module.types,
+        constants: &module.constants,
+        overrides: &module.overrides,
+        global_expressions: &module.global_expressions,
+    };
+    assert!(rt; types_in_order(context.types, context.overrides.len()));
+    assert!(rt; type_fits(context.types.len(), context.overrides.len(), &inner));
+    let resolution = TypeResolution::Value(inner);
+    let text = context.type_resolution_to_string(alloc, &resolution)?;
+    assert_eq!(rt; text.as_str(), want);
+    Ok(())
+}
+
+fn scalars_in(rt: &impl Abort, alloc: Global, module: &mut Module) -> Result<(), TypeTextError> {
+    gives(rt, alloc, module, TypeInner::Scalar(Scalar::I16), "i16")?;
+    gives(
+        rt,
+        alloc,
+        module,
+        TypeInner::Vector {
+            size: VectorSize::Quad,
+            scalar: Scalar::U64,
+        },
+        "vec4<u64>",
+    )?;
+    gives(
+        rt,
+        alloc,
+        module,
+        TypeInner::Matrix {
+            columns: VectorSize::Tri,
+            rows: VectorSize::Bi,
+            scalar: Scalar::F32,
+        },
+        "mat3x2<f32>",
+    )?;
+    gives(
+        rt,
+        alloc,
+        module,
+        TypeInner::CooperativeMatrix {
+            columns: CooperativeSize::Eight,
+            rows: CooperativeSize::Sixteen,
+            scalar: Scalar::F16,
+            role: CooperativeRole::B,
+        },
+        "coop_mat8x16<f16,B>",
+    )?;
+    gives(
+        rt,
+        alloc,
+        module,
+        TypeInner::Atomic(Scalar::U32),
+        "atomic<u32>",
+    )?;
+    gives(
+        rt,
+        alloc,
+        module,
+        TypeInner::Sampler { comparison: true },
+        "sampler_comparison",
+    )?;
+    gives(
+        rt,
+        alloc,
+        module,
+        TypeInner::AccelerationStructure {
+            vertex_return: true,
+        },
+        "acceleration_structure<vertex_return>",
+    )?;
+    gives(
+        rt,
+        alloc,
+        module,
+        TypeInner::RayQuery {
+            vertex_return: false,
+        },
+        "ray_query",
+    )?;
+    Ok(())
+}
+
+#[test]
+fn scalars(rt: HostRuntime) -> Result<(), Fail> {
+    let alloc = rt.alloc();
+    scalars_in(&rt, alloc, &mut Module::new(alloc))?;
+    Ok(())
+}
+
+fn images_in(rt: &impl Abort, alloc: Global, module: &mut Module) -> Result<(), TypeTextError> {
+    gives(
+        rt,
+        alloc,
+        module,
+        TypeInner::Image {
+            dim: ImageDimension::D2,
+            arrayed: false,
+            class: ImageClass::Sampled {
+                kind: ScalarKind::Float,
+                multi: false,
+            },
+        },
+        "texture_2d<f32>",
+    )?;
+    gives(
+        rt,
+        alloc,
+        module,
+        TypeInner::Image {
+            dim: ImageDimension::D1,
+            arrayed: true,
+            class: ImageClass::Sampled {
+                kind: ScalarKind::Uint,
+                multi: true,
+            },
+        },
+        "texture_multisampled_1d_array<u32>",
+    )?;
+    gives(
+        rt,
+        alloc,
+        module,
+        TypeInner::Image {
+            dim: ImageDimension::Cube,
+            arrayed: true,
+            class: ImageClass::Depth { multi: false },
+        },
+        "texture_depth_cube_array",
+    )?;
+    gives(
+        rt,
+        alloc,
+        module,
+        TypeInner::Image {
+            dim: ImageDimension::D2,
+            arrayed: false,
+            class: ImageClass::Storage {
+                format: StorageFormat::Rgba8Unorm,
+                access: StorageAccess::STORE,
+            },
+        },
+        "texture_storage_2d<rgba8unorm,write>",
+    )?;
+    gives(
+        rt,
+        alloc,
+        module,
+        TypeInner::Image {
+            dim: ImageDimension::D3,
+            arrayed: false,
+            class: ImageClass::Storage {
+                format: StorageFormat::R64Uint,
+                access: StorageAccess::ATOMIC,
+            },
+        },
+        "texture_storage_3d<r64uint,atomic>",
+    )?;
+    gives(
+        rt,
+        alloc,
+        module,
+        TypeInner::Image {
+            dim: ImageDimension::D2,
+            arrayed: false,
+            class: ImageClass::External,
+        },
+        "texture_external",
+    )?;
+    Ok(())
+}
+
+#[test]
+fn images(rt: HostRuntime) -> Result<(), Fail> {
+    let alloc = rt.alloc();
+    images_in(&rt, alloc, &mut Module::new(alloc))?;
+    Ok(())
+}
+
+fn pointers_in(rt: &impl Abort, alloc: Global, module: &mut Module) -> Result<(), TypeTextError> {
+    let handles = fill(alloc, module)?;
+    gives(
+        rt,
+        alloc,
+        module,
+        TypeInner::ValuePointer {
+            size: Some(VectorSize::Tri),
+            scalar: Scalar::I32,
+            space: AddressSpace::Function,
+        },
+        "ptr<function, vec3<i32>>",
+    )?;
+    gives(
+        rt,
+        alloc,
+        module,
+        TypeInner::ValuePointer {
+            size: None,
+            scalar: Scalar::U32,
+            space: AddressSpace::Storage {
+                access: StorageAccess::ATOMIC,
+            },
+        },
+        "ptr<storage, u32, atomic>",
+    )?;
+    gives(
+        rt,
+        alloc,
+        module,
+        TypeInner::Pointer {
+            base: handles.unsigned_array,
+            space: AddressSpace::Storage {
+                access: StorageAccess::LOAD,
+            },
+        },
+        "ptr<storage, array<u32>>",
+    )?;
+    gives(
+        rt,
+        alloc,
+        module,
+        TypeInner::Pointer {
+            base: handles.signed,
+            space: AddressSpace::Storage {
+                access: StorageAccess::STORE,
+            },
+        },
+        "ptr<storage, i32, read_write>",
+    )?;
+    gives(
+        rt,
+        alloc,
+        module,
+        TypeInner::Pointer {
+            base: handles.sampler,
+            space: AddressSpace::Handle,
+        },
+        "sampler",
+    )?;
+    gives(
+        rt,
+        alloc,
+        module,
+        TypeInner::Pointer {
+            base: handles.labelled,
+            space: AddressSpace::Private,
+        },
+        "ptr<private, S>",
+    )?;
+    gives(
+        rt,
+        alloc,
+        module,
+        TypeInner::Pointer {
+            base: handles.unlabelled,
+            space: AddressSpace::Private,
+        },
+        "ptr<private, {anonymous type}>",
+    )?;
+    Ok(())
+}
+
+#[test]
+fn pointers(rt: HostRuntime) -> Result<(), Fail> {
+    let alloc = rt.alloc();
+    pointers_in(&rt, alloc, &mut Module::new(alloc))?;
+    Ok(())
+}
+
+fn arrays_in(rt: &impl Abort, alloc: Global, module: &mut Module) -> Result<(), TypeTextError> {
+    let handles = fill(alloc, module)?;
+    let four = NonZeroU32::new(4).expect(rt, "four");
+    gives(
+        rt,
+        alloc,
+        module,
+        TypeInner::Array {
+            base: handles.signed,
+            size: ArraySize::Constant(four),
+            stride: 4,
+        },
+        "array<i32, 4>",
+    )?;
+    gives(
+        rt,
+        alloc,
+        module,
+        TypeInner::Array {
+            base: handles.signed,
+            size: ArraySize::Pending(handles.number),
+            stride: 4,
+        },
+        "array<i32, N>",
+    )?;
+    gives(
+        rt,
+        alloc,
+        module,
+        TypeInner::Array {
+            base: handles.signed,
+            size: ArraySize::Dynamic,
+            stride: 16,
+        },
+        "array<i32>",
+    )?;
+    gives(
+        rt,
+        alloc,
+        module,
+        TypeInner::BindingArray {
+            base: handles.sampler,
+            size: ArraySize::Constant(four),
+        },
+        "binding_array<sampler, 4>",
+    )?;
+    gives(
+        rt,
+        alloc,
+        module,
+        TypeInner::Array {
+            base: handles.signed,
+            size: ArraySize::Pending(handles.unnamed_number),
+            stride: 4,
+        },
+        "array<i32, {anonymous override Place { index: 1, mark: PhantomData<_> }}>",
+    )?;
+    Ok(())
+}
+
+#[test]
+fn arrays(rt: HostRuntime) -> Result<(), Fail> {
+    let alloc = rt.alloc();
+    arrays_in(&rt, alloc, &mut Module::new(alloc))?;
+    Ok(())
+}
+
+fn braces_in(rt: &impl Abort, alloc: Global, module: &mut Module) -> Result<(), TypeTextError> {
+    gives(
+        rt,
+        alloc,
+        module,
+        TypeInner::Scalar(Scalar {
+            kind: ScalarKind::AbstractInt,
+            width: 8,
+        }),
+        "{AbstractInt}",
+    )?;
+    gives(
+        rt,
+        alloc,
+        module,
+        TypeInner::Atomic(Scalar {
+            kind: ScalarKind::AbstractFloat,
+            width: 8,
+        }),
+        "atomic<{AbstractFloat}>",
+    )?;
+    gives(
+        rt,
+        alloc,
+        module,
+        TypeInner::Scalar(Scalar {
+            kind: ScalarKind::Sint,
+            width: 3,
+        }),
+        "{non-WGSL Naga scalar Scalar { kind: Sint, width: 3 }}",
+    )?;
+    gives(
+        rt,
+        alloc,
+        module,
+        TypeInner::ValuePointer {
+            size: None,
+            scalar: Scalar::I32,
+            space: AddressSpace::Handle,
+        },
+        "{non-WGSL Naga type ValuePointer { size: None, scalar: Scalar { kind: Sint, width: 4 }, space: Handle }}",
+    )?;
+    gives(
+        rt,
+        alloc,
+        module,
+        TypeInner::Struct {
+            members: Vec::new(alloc),
+            span: 0,
+        },
+        "{unnamed struct}",
+    )?;
+    Ok(())
+}
+
+#[test]
+fn braces(rt: HostRuntime) -> Result<(), Fail> {
+    let alloc = rt.alloc();
+    braces_in(&rt, alloc, &mut Module::new(alloc))?;
+    Ok(())
+}
+
+fn dot_in(rt: &impl Abort, alloc: Global) -> Result<(), Fail> {
+    let types: UniqueArena<Type_> = UniqueArena::new(alloc);
+    assert!(rt; types_in_order(&types, 0));
+    let first = TypeResolution::Value(TypeInner::Vector {
+        size: VectorSize::Tri,
+        scalar: Scalar::F32,
+    });
+    let second = TypeResolution::Value(TypeInner::Vector {
+        size: VectorSize::Tri,
+        scalar: Scalar::F32,
+    });
+    let rule = Rule {
+        arguments: vec![in alloc; first, second]?,
+        conclusion: Conclusion::Value(TypeInner::Scalar(Scalar::F32)),
+    };
+    let text = types.type_rule_to_string(alloc, "dot", &rule)?;
+    assert_eq!(rt; text.as_str(), "fn dot(vec3<f32>, vec3<f32>) -> f32");
+    Ok(())
+}
+
+fn modf_in(rt: &impl Abort, alloc: Global) -> Result<(), Fail> {
+    let types: UniqueArena<Type_> = UniqueArena::new(alloc);
+    assert!(rt; types_in_order(&types, 0));
+    let first = TypeResolution::Value(TypeInner::Scalar(Scalar::F32));
+    let rule = Rule {
+        arguments: vec![in alloc; first]?,
+        conclusion: Conclusion::Predeclared(PredeclaredType::ModfResult {
+            size: None,
+            scalar: Scalar::F32,
+        }),
+    };
+    let text = types.type_rule_to_string(alloc, "modf", &rule)?;
+    assert_eq!(rt; text.as_str(), "fn modf(f32) -> __modf_result_f32");
+    Ok(())
+}
+
+#[test]
+fn rules(rt: HostRuntime) -> Result<(), Fail> {
+    let alloc = rt.alloc();
+    dot_in(&rt, alloc)?;
+    modf_in(&rt, alloc)?;
+    Ok(())
+}
+
+fn writer_rows(rt: &impl Abort, alloc: Global, module: &mut Module) -> Result<(), Fail> {
+    let handles = fill(alloc, module)?;
+    let mut names = HashMap::new(alloc);
+    names.insert(
+        NameKey::Type_(handles.labelled),
+        String::from_str(alloc, "S_1")?,
+    )?;
+    let context = WriterTypeContext {
+        module,
+        names: &names,
+    };
+    assert!(rt; types_in_order(&module.types, module.overrides.len()));
+    assert!(rt; handles.labelled.index() < module.types.len());
+    let text = context.type_to_string(alloc, handles.labelled)?;
+    assert_eq!(rt; text.as_str(), "S_1");
+    let pointer = TypeResolution::Value(TypeInner::ValuePointer {
+        size: None,
+        scalar: Scalar::U32,
+        space: AddressSpace::Handle,
+    });
+    assert_eq!(rt;
+        context.type_resolution_to_string(alloc, &pointer),
+        Err(TypeTextError::NoForm)
+    );
+    Ok(())
+}
+
+#[test]
+fn the_writer_refuses_what_has_no_form(rt: HostRuntime) -> Result<(), Fail> {
+    let alloc = rt.alloc();
+    writer_rows(&rt, alloc, &mut Module::new(alloc))?;
+    Ok(())
+}
+
+fn words_in(rt: &impl Abort, alloc: Global) -> Result<(), AllocError> {
+    assert_eq!(rt; MathFunction::DESCRIPTION, "math function");
+    assert_eq!(rt; BuiltIn::DESCRIPTION, "builtin value");
+    assert_eq!(rt; <Scalar as TryToWgsl>::DESCRIPTION, "scalar type");
+    let known = MathFunction::SmoothStep.to_wgsl_for_diagnostics(alloc)?;
+    assert_eq!(rt; known.as_str(), "smoothstep");
+    let inverse = MathFunction::Inverse.to_wgsl_for_diagnostics(alloc)?;
+    assert_eq!(rt; inverse.as_str(), "{non-WGSL math function Inverse}");
+    let point = BuiltIn::PointSize.to_wgsl_for_diagnostics(alloc)?;
+    assert_eq!(rt; point.as_str(), "{non-WGSL builtin value PointSize}");
+    let odd = Scalar {
+        kind: ScalarKind::Uint,
+        width: 16,
+    };
+    let text = odd.to_wgsl_for_diagnostics(alloc)?;
+    assert_eq!(rt;
+        text.as_str(),
+        "{non-WGSL scalar Scalar { kind: Uint, width: 16 }}"
+    );
+    Ok(())
+}
+
+#[test]
+fn words_for_diagnostics(rt: HostRuntime) -> Result<(), Fail> {
+    let alloc = rt.alloc();
+    words_in(&rt, alloc)?;
+    Ok(())
+}
