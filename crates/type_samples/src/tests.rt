@@ -1,9 +1,13 @@
 use naga_info::{Conclusion, GlobalCtx, Rule, TypeResolution};
-use naga_ir::{AddressSpace, ArraySize, BuiltIn, CooperativeRole, CooperativeSize, Handle, ImageClass, ImageDimension, MathFunction, Module, Override, PredeclaredType, Scalar, ScalarKind, StorageAccess, StorageFormat, TypeInner, Type_, UniqueArena, VectorSize};
-use naga_words::types::{type_fits, types_in_order};
-use naga_words::{TypeContext, TryToWgsl, TypeTextError, WriterTypeContext};
-use std::alloc::{AllocError, Global};
+use naga_ir::{
+    AddressSpace, ArraySize, BuiltIn, CooperativeRole, CooperativeSize, Handle, ImageClass,
+    ImageDimension, MathFunction, Module, Override, PredeclaredType, Scalar, ScalarKind,
+    StorageAccess, StorageFormat, Type_, TypeInner, UniqueArena, VectorSize,
+};
 use naga_names::namer::NameKey;
+use naga_words::types::{type_fits, types_in_order};
+use naga_words::{TryToWgsl, TypeTextError, WriterTypeContext};
+use std::alloc::{AllocError, Global};
 use std::collections::HashMap;
 use std::num::NonZeroU32;
 use std::process::Abort;
