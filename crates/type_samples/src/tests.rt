@@ -6,7 +6,7 @@ use naga_ir::{
 };
 use naga_names::namer::NameKey;
 use naga_words::types::{type_fits, types_in_order};
-use naga_words::{TryToWgsl, TypeTextError, WriterTypeContext};
+use naga_words::{TryToWgsl, TypeContext, TypeTextError, WriterTypeContext};
 use std::alloc::{AllocError, Global};
 use std::collections::HashMap;
 use std::num::NonZeroU32;
