@@ -17,6 +17,11 @@ pub use diagnostics::{FilterableTriggeringRule, Severity, StandardFilterableTrig
 pub use expression::{Literal, SwizzleComponent};
 pub use image::{ImageClass, ImageDimension, StorageFormat};
 pub use module::ShaderStage;
-pub use operators::{BinaryOperator, CollectiveOperation, DerivativeAxis, DerivativeControl, Direction, MathFunction, RelationalFunction, SubgroupOperation, UnaryOperator};
+pub use operators::{
+    BinaryOperator, CollectiveOperation, DerivativeAxis, DerivativeControl, Direction,
+    MathFunction, RelationalFunction, SubgroupOperation, UnaryOperator,
+};
 pub use statement::{Range, SwitchValue};
-pub use types::{AddressSpace, CooperativeRole, CooperativeSize, PredeclaredType, Scalar, ScalarKind, VectorSize};
+pub use types::{
+    AddressSpace, CooperativeRole, CooperativeSize, PredeclaredType, Scalar, ScalarKind, VectorSize,
+};

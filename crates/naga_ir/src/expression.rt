@@ -1,9 +1,12 @@
 //! Expressions, whose operands are handles of expressions that stand before them.
 
-use naga_arena::{Handle, Item};
-use naga_enumerations::{BinaryOperator, DerivativeAxis, DerivativeControl, MathFunction, RelationalFunction, UnaryOperator, CooperativeRole, CooperativeSize, ScalarKind, VectorSize};
 use crate::module::{Constant, Function, GlobalVariable, LocalVariable, Override};
 use crate::types::Type_;
+use naga_arena::{Handle, Item};
+use naga_enumerations::{
+    BinaryOperator, CooperativeRole, CooperativeSize, DerivativeAxis, DerivativeControl,
+    MathFunction, RelationalFunction, ScalarKind, UnaryOperator, VectorSize,
+};
 pub use naga_enumerations::{Literal, SwizzleComponent};
 
 /// The mark of [`Expression`] in a handle.

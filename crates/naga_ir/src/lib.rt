@@ -16,9 +16,6 @@ pub mod operators;
 pub mod statement;
 pub mod types;
 
-pub use naga_arena::{arena, unique_arena, Arena, Handle, Item, Place, UniqueArena};
-pub use naga_enumerations::{binding, diagnostics, image, Binding, BuiltIn, FilterableTriggeringRule, ImageClass, ImageDimension, Interpolation, ResourceBinding, Sampling, Severity, StandardFilterableTriggeringRule, StorageFormat};
-pub use naga_flags::{flags, Barrier, MemoryDecorations, StorageAccess};
 pub use expression::{
     CooperativeData, Expression, ImageQuery, Literal, SampleLevel, SwizzleComponent,
 };
@@ -26,6 +23,13 @@ pub use module::{
     Constant, EntryPoint, Function, FunctionArgument, FunctionResult, GlobalVariable,
     LocalVariable, MeshStageInfo, Module, Override, ShaderStage, SpecialTypes,
 };
+pub use naga_arena::{Arena, Handle, Item, Place, UniqueArena, arena, unique_arena};
+pub use naga_enumerations::{
+    Binding, BuiltIn, FilterableTriggeringRule, ImageClass, ImageDimension, Interpolation,
+    ResourceBinding, Sampling, Severity, StandardFilterableTriggeringRule, StorageFormat, binding,
+    diagnostics, image,
+};
+pub use naga_flags::{Barrier, MemoryDecorations, StorageAccess, flags};
 pub use operators::{
     AtomicFunction, BinaryOperator, CollectiveOperation, DerivativeAxis, DerivativeControl,
     Direction, GatherMode, MathFunction, RelationalFunction, SubgroupOperation, UnaryOperator,

@@ -1,14 +1,14 @@
 //! Modules: what a shader declares.
 
-use naga_arena::{Arena, Handle, Item, UniqueArena};
-use naga_enumerations::{Binding, ResourceBinding, AddressSpace, PredeclaredType};
-use naga_flags::MemoryDecorations;
 use crate::expression::Expression;
 use crate::statement::Block;
 use crate::types::Type_;
 use indexmap::IndexMap;
-use std::alloc::Global;
+use naga_arena::{Arena, Handle, Item, UniqueArena};
 pub use naga_enumerations::ShaderStage;
+use naga_enumerations::{AddressSpace, Binding, PredeclaredType, ResourceBinding};
+use naga_flags::MemoryDecorations;
+use std::alloc::Global;
 
 /// The mark of [`Constant`] in a handle.
 pub enum ConstantMark {}

@@ -1,8 +1,11 @@
 //! Operators, and the functions of statements that change, gather or combine values.
 
-use naga_arena::Handle;
 use crate::expression::Expression;
-pub use naga_enumerations::{UnaryOperator, BinaryOperator, DerivativeAxis, DerivativeControl, RelationalFunction, MathFunction, Direction, CollectiveOperation, SubgroupOperation};
+use naga_arena::Handle;
+pub use naga_enumerations::{
+    BinaryOperator, CollectiveOperation, DerivativeAxis, DerivativeControl, Direction,
+    MathFunction, RelationalFunction, SubgroupOperation, UnaryOperator,
+};
 
 /// What an atomic operation does with the old and the new value.
 #[derive(Debug, Clone, Copy, PartialEq, Eq, Hash)]

@@ -5,16 +5,16 @@ ghost use Rattle.std.specs.Slice.Iter.{iter_rest};
 ghost use Rattle.naga_ir.specs.StatementTree.{no_statements, statement_count, has_no_statements, with_statement};
 ghost use Rattle.naga_ir.specs.StatementViews.{tree_of, block_of};
 
-use naga_arena::Handle;
-use naga_enumerations::{CollectiveOperation, SubgroupOperation};
-use naga_flags::Barrier;
 use crate::expression::{CooperativeData, Expression};
 use crate::module::Function;
 use crate::operators::{AtomicFunction, GatherMode};
+use naga_arena::Handle;
+use naga_enumerations::{CollectiveOperation, SubgroupOperation};
+pub use naga_enumerations::{Range, SwitchValue};
+use naga_flags::Barrier;
 use std::alloc::{AllocError, Global};
 use std::marker::Model;
 use std::slice::Iter;
-pub use naga_enumerations::{Range, SwitchValue};
 
 /// Sends a ray from an entry point of a ray pipeline.
 #[derive(Debug, Clone, Copy, PartialEq, Eq, Hash)]

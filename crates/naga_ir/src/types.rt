@@ -1,10 +1,12 @@
 //! Types: scalars, vectors, matrices, arrays, structs, pointers, and the resources of a shader.
 
+use crate::module::Override;
 use naga_arena::{Handle, Item};
 use naga_enumerations::{Binding, ImageClass, ImageDimension};
-use crate::module::Override;
+pub use naga_enumerations::{
+    AddressSpace, CooperativeRole, CooperativeSize, PredeclaredType, Scalar, ScalarKind, VectorSize,
+};
 use std::num::NonZeroU32;
-pub use naga_enumerations::{VectorSize, CooperativeSize, CooperativeRole, ScalarKind, Scalar, AddressSpace, PredeclaredType};
 
 /// The mark of [`Type_`] in a handle.
 pub enum TypeMark {}

@@ -7,9 +7,9 @@ ghost use Rattle.naga_form.specs.Shapes.{function_shape};
 ghost use Rattle.naga_ir.specs.declared.types.Type_.{Type_};
 ghost use Rattle.shader_runs.specs.Program.{binds};
 
+use naga_back::BakeRefCount;
 use naga_info::FunctionInfo;
 use naga_ir::{Expression, Function, Handle};
-use naga_back::BakeRefCount;
 
 /// The expression with this handle, if there is one.
 pub(crate) fn expression_at(function: &Function, handle: Handle<Expression>) -> Option<&Expression>

@@ -21,9 +21,9 @@ use crate::expression::write_bound_name;
 use crate::function::FunctionText;
 use crate::sinks::{put, put_two};
 use crate::told::write_told_type;
+use naga_back::Level;
 use naga_ir::{Block, Expression, Handle, Place, Range, Statement};
 use naga_scope::{Scope, binds};
-use naga_back::Level;
 use naga_words::TextSink;
 use std::alloc::Global;
 
@@ -45,8 +45,9 @@ impl FunctionText<'_> {
         for statement in block.as_slice() {
             match statement {
                 Statement::Emit(range) => self.write_emit(alloc, level, *range, scope, out)?,
-                Statement::Store { pointer, value } =>
-                    self.write_store(alloc, level, scope, *pointer, *value, out)?,
+                Statement::Store { pointer, value } => self.write_store(
+                    alloc, level, scope, *pointer, *value, out,
+                )?,
                 Statement::Return { value } => self.write_return(alloc, level, scope, *value, out)?,
                 _ => unreachable!(),
             }

@@ -15,11 +15,11 @@ use crate::error::Error;
 use crate::function::FunctionText;
 use crate::literal::write_literal;
 use crate::sinks::{put, put_three};
+use naga_back::{Baked, binary_operation_str};
 use naga_ir::{Expression, Handle};
 use naga_names::namer::NameKey;
 use naga_scope::{Scope, Standing};
 use naga_words::TextSink;
-use naga_back::{Baked, binary_operation_str};
 use std::alloc::Global;
 
 impl FunctionText<'_> {

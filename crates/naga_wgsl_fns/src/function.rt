@@ -16,6 +16,7 @@ ghost use Rattle.naga_wgsl_fns.specs.Texts.{CanWrite, StartsAt, first_text, has_
 use crate::error::Error;
 use crate::flags::WriterFlags;
 use crate::sinks::put;
+use naga_back::Level;
 use naga_info::{FunctionInfo, ModuleInfo, scalar_word};
 use naga_ir::{
     Expression, Function, FunctionArgument, Handle, LocalVariable, Module, Place, Type_, TypeInner,
@@ -23,7 +24,6 @@ use naga_ir::{
 };
 use naga_names::namer::NameKey;
 use naga_scope::Scope;
-use naga_back::Level;
 use naga_words::TextSink;
 use std::alloc::Global;
 use std::collections::HashMap;

@@ -116,9 +116,8 @@ fn expression_is_written(expression: &Expression) -> bool
     ensures { result ≡ expression_is_written expression.now }
 {
     match expression {
-        Expression::FunctionArgument(_)
-        | Expression::LocalVariable(_)
-        | Expression::Load { .. } => true,
+        Expression::FunctionArgument(_) | Expression::LocalVariable(_) | Expression::Load { .. } =>
+            true,
         Expression::Literal(literal) => literal_is_written(*literal),
         Expression::Binary { op, .. } => operator_is_written(*op),
         _ => false,

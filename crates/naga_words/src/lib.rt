@@ -8,4 +8,4 @@ pub mod types;
 pub use predeclared::PredeclaredName;
 pub use sink::{SinkError, TextSink};
 pub use types::{TypeContext, TypeTextError, WriterTypeContext};
-pub use wgsl_words::{to_wgsl, ToWgsl, TryToWgsl, address_space_str};
+pub use wgsl_words::{ToWgsl, TryToWgsl, address_space_str, to_wgsl};

@@ -4,4 +4,6 @@
 
 pub mod to_wgsl;
 
-pub use to_wgsl::{ToWgsl, TryToWgsl, address_space_str, image_access_str, space_access_str, space_str};
+pub use to_wgsl::{
+    ToWgsl, TryToWgsl, address_space_str, image_access_str, space_access_str, space_str,
+};

@@ -7,11 +7,11 @@ ghost use Rattle.wgsl_words.specs.Words.{space_access_word};
 ghost use Rattle.naga_words.specs.Spelling.{scalar_parts, template_parts, value_parts, access_parts, storage_image_parts, formless_scalar_parts, braced_scalar_parts};
 
 use crate::sink::{SinkError, TextSink};
-use wgsl_words::{TryToWgsl, space_access_str};
 use crate::types::words::vector_str;
 use crate::types::{TypeContext, TypeTextError};
 use naga_ir::{AddressSpace, Scalar, ScalarKind, VectorSize};
 use std::alloc::Global;
+use wgsl_words::{TryToWgsl, space_access_str};
 
 /// Writes a word.
 pub(crate) fn write_word<W: TextSink>(word: &str, out: &mut W) -> Result<(), TypeTextError>

@@ -9,7 +9,6 @@ ghost use Rattle.wgsl_words.specs.Words.{space_word, space_access_word};
 ghost use Rattle.naga_words.specs.Spelling.{IsInOrder, is_struct, end_of_base, knows_size, knows_override, formless_parts, value_parts, pointer_in, pointer_parts, value_pointer_parts, length_of_number, length_of_override, length_parts, array_parts, image_parts, inner_parts, named_parts_by, type_parts};
 
 use crate::sink::{SinkError, TextSink};
-use wgsl_words::{ToWgsl, image_access_str, space_str};
 use crate::types::scalars::{
     write_access, write_scalar_in, write_shown, write_storage_image, write_template, write_three,
     write_value, write_word,
@@ -25,6 +24,7 @@ use naga_ir::{
 };
 use std::alloc::Global;
 use std::num::NonZeroU32;
+use wgsl_words::{ToWgsl, image_access_str, space_str};
 
 /// Whether a type is a struct.
 pub(crate) fn is_struct_type(inner: &TypeInner) -> bool
