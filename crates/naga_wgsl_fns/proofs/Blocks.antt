@@ -3,6 +3,7 @@ use Rattle.std.proofs.Common.{◌≡◌, ℕ, ◌+◌, ◌-◌, ◌<◌, true, L
 use Rattle.std.proofs.lemmas.Bool.{and_parts}
 use Rattle.naga_ir.specs.StatementTree.{StatementTree, BlockTree, statement, simple, emit, store, return}
 use Rattle.naga_ir.specs.StatementViews.{tree_of, block_of}
+use Rattle.naga_ir.specs.declared.statement.Range.{Range}
 use Rattle.naga_ir.specs.declared.statement.Statement.{Statement}
 use Rattle.naga_ir.specs.declared.expression.Expression as ir
 use Rattle.naga_ir.specs.declared.module.FunctionResult.{FunctionResult}
@@ -80,3 +81,11 @@ pub fits_parts : (types : List Type_) (known : List ExpressionInfo) (answer : Op
     → (statement_fits types known answer st ≡ true) × (block_fits types known answer rest ≡ true)
 fits_parts types known answer b rest st fit is =
     and_parts (statement_fits types known answer st) (block_fits types known answer rest) (ap (λ (c : BlockTree). block_fits types known answer c) (sym is) ∙ fit)
+
+-- no other statement fits
+pub no_other_statement : (types : List Type_) (known : List ExpressionInfo) (answer : Option FunctionResult) (st : Statement) → statement_fits types known answer (tree_of st) ≡ true
+    → ((range : Range) → st ≡ Statement.Emit range → ⊥) → ((p v : ℕ) → st ≡ Statement.Store p v → ⊥) → ((value : Option ℕ) → st ≡ Statement.Return value → ⊥) → ⊥
+no_other_statement types known answer (Statement.Emit range) fit emits stores returns = emits range refl
+no_other_statement types known answer (Statement.Store p v) fit emits stores returns = stores p v refl
+no_other_statement types known answer (Statement.Return value) fit emits stores returns = returns value refl
+no_other_statement types known answer _ fit emits stores returns = absurd cc
