@@ -11,9 +11,9 @@ use Rattle.naga_ir.specs.declared.types.Type_.{Type_}
 use Rattle.naga_info.specs.declared.info.ExpressionInfo.{ExpressionInfo}
 use Rattle.naga_info.specs.Accepted.{statement_fits, block_fits}
 use Rattle.shader_runs.specs.Program.{from}
-use Rattle.shader_runs.specs.Scope.{Handles, Naming, given_after, given_by, after, after_one, after_emit}
+use Rattle.shader_runs.specs.Scope.{Handles, Naming, given_after, given_by, after_one, after_emit}
 use Rattle.naga_form.specs.Shapes.{statement_shape}
-use Rattle.naga_form.specs.Form.{as_reference, plain_form, value_form, lets_form, return_line, line_form, lines_form}
+use Rattle.naga_form.specs.Form.{as_reference, plain_form, value_form, lets_form, return_line, lines_form}
 use Rattle.wgsl_text.specs.Tree.{TypeSpecifier, Statements, NoStatements, Assign}
 use Rattle.wgsl_text.specs.Lines.{statement_pieces, statements_pieces}
 use Rattle.wgsl_text.specs.Text.{text}

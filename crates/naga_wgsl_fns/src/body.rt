@@ -44,8 +44,9 @@ impl FunctionText<'_> {
         for statement in block.as_slice() {
             match statement {
                 Statement::Emit(range) => self.write_emit(alloc, level, *range, scope, out)?,
-                Statement::Store { pointer, value } =>
-                    self.write_store(alloc, level, scope, *pointer, *value, out)?,
+                Statement::Store { pointer, value } => self.write_store(
+                    alloc, level, scope, *pointer, *value, out,
+                )?,
                 Statement::Return { value } => self.write_return(alloc, level, scope, *value, out)?,
                 _ => unreachable!(),
             }

@@ -1,15 +1,15 @@
-use Rattle.std.proofs.Common.{◌≡◌, ◌<◌, ◌≤◌, ◌+◌, ◌-◌, ℕ, List, Option, IsTrue, drop, length, refl, sym, ap, subst, ◌∙◌}
+use Rattle.std.proofs.Common.{◌≤◌, ◌+◌, ◌-◌, List, IsTrue, drop, length, refl, sym, ap, subst, ◌∙◌}
 use Rattle.std.proofs.lemmas.List.{drop_all}
 use Rattle.naga_form.specs.Form.{told_type}
 use Rattle.naga_info.specs.Accepted.{block_fits}
-use Rattle.naga_ir.specs.StatementTree.{BlockTree, simple, statement, emit, store, return}
+use Rattle.naga_ir.specs.StatementTree.{BlockTree, simple, emit, store, return}
 use Rattle.naga_ir.specs.StatementViews.{tree_of, block_of}
 use Rattle.naga_ir.specs.declared.statement.Statement.{Statement}
 use Rattle.naga_names.specs.Reset.{names_in}
 use Rattle.naga_scope.specs.Standings.{handles_of}
 use Rattle.naga_scope.specs.declared.points.Standing.{Standing}
 use Rattle.shader_runs.specs.Program.{from}
-use Rattle.shader_runs.specs.Scope.{Handles, after_emit}
+use Rattle.shader_runs.specs.Scope.{after_emit}
 use Rattle.naga_wgsl_fns.specs.Texts.{naming_of, tells_types}
 use Rattle.naga_wgsl_fns.proofs.Appending.{IsAlong, along_start, along_more, along_stopped, along_done, appends_stopped}
 use Rattle.naga_wgsl_fns.proofs.Blocks.{lines_left, emit_lines, store_lines, return_lines, statement_at, fits_parts, no_other_statement}
@@ -24,10 +24,13 @@ loop-statement-init g c =
     let told = told_type (tells_types self.flags) self.shader.now.types self.info.now in
     let whole = lines_left n told self.function.now.expressions c.args.level.0 c.args.block.now (handles_of c.args.scope.now) in
     let held = g.W.TextSink.text c.args.out.now in
-    let failed = g.W.TextSink.failures c.args.out.now in
-    (subst (λ (b : BlockTree). IsAlong whole held failed held failed (lines_left n told self.function.now.expressions c.args.level.0 b (handles_of c.args.scope.now))) (sym c.as_slice-statement-items.ensures) (along_start whole held failed),
-    (refl,
-    subst (λ (b : BlockTree). IsTrue (block_fits self.shader.now.types self.info.now self.function.now.result b)) (sym c.as_slice-statement-items.ensures) c.requires.fits))
+    let failed = g.W.TextSink.failures c.args.out.now in (
+      subst (λ (b : BlockTree). IsAlong whole held failed held failed (lines_left n told self.function.now.expressions c.args.level.0 b (handles_of c.args.scope.now))) (sym c.as_slice-statement-items.ensures) (along_start whole held failed),
+      (
+        refl,
+        subst (λ (b : BlockTree). IsTrue (block_fits self.shader.now.types self.info.now self.function.now.result b)) (sym c.as_slice-statement-items.ensures) c.requires.fits,
+      ),
+    )
 
 pub write_emit-requires-clause-size : goal.write_emit-requires-clause-size
 write_emit-requires-clause-size g c = c.loop-statement.invariant.1.0 ∙ c.requires.size
@@ -148,33 +151,42 @@ loop-statement-preserved g c =
     let held = g.W.TextSink.text c.args.out.now in
     let failed = g.W.TextSink.failures c.args.out.now in
     elim c.match-statement.branch [
-      in-Emit+in_ok-write_emit-in-Emit w ↦
-        let here = statement_at items i c.statement-item.result (Statement.Emit w.in-Emit.range) c.loop-statement-test.true c.statement-item.is w.in-Emit.is in
-        (subst (λ (scope : List Standing). IsAlong whole held failed (g.W.TextSink.text c.match-statement.out) (g.W.TextSink.failures c.match-statement.out) (lines_left n told es level rest (handles_of scope))) (sym w.scope-is)
-        (subst (λ (out : g.row.W.Denot). IsAlong whole held failed (g.W.TextSink.text out) (g.W.TextSink.failures out) (lines_left n told es level rest (handles_of w.write_emit.new.scope))) (sym w.out-is)
-        (along_more (lines_left n told es level rest (handles_of w.write_emit.new.scope)) c.loop-statement.invariant.0
-        (ap (λ (b : BlockTree). lines_left n told es level b s) here ∙ emit_lines n told es level w.in-Emit.range.first w.in-Emit.range.end rest s (handles_of w.write_emit.new.scope) (none_given_by self.shader.now (names_in self.names.now) self.handle self.function.now known c.requires.can (simple (emit w.in-Emit.range.first w.in-Emit.range.end))) w.in_ok-write_emit-in-Emit.ensures.after)
-        w.in_ok-write_emit-in-Emit.ensures.lets)),
-        (ap (λ (scope : List Standing). length scope) w.scope-is ∙ (w.write_emit.ensures.size ∙ c.loop-statement.invariant.1.0),
-        (fits_parts types known answer (block_of (drop i items)) rest (tree_of (Statement.Emit w.in-Emit.range)) c.loop-statement.invariant.1.1 here).1))
-    | in-Store+in_ok-write_store-in-Store w ↦
-        let here = statement_at items i c.statement-item.result (Statement.Store w.in-Store.pointer w.in-Store.value) c.loop-statement-test.true c.statement-item.is w.in-Store.is in
-        (subst (λ (scope : List Standing). IsAlong whole held failed (g.W.TextSink.text c.match-statement.out) (g.W.TextSink.failures c.match-statement.out) (lines_left n told es level rest (handles_of scope))) (sym w.scope-is)
-        (subst (λ (out : g.row.W.Denot). IsAlong whole held failed (g.W.TextSink.text out) (g.W.TextSink.failures out) (lines_left n told es level rest (handles_of c.loop-statement.scope))) (sym w.out-is)
-        (along_more (lines_left n told es level rest (handles_of c.loop-statement.scope)) c.loop-statement.invariant.0
-        (ap (λ (b : BlockTree). lines_left n told es level b s) here ∙ store_lines n told es level w.in-Store.pointer w.in-Store.value rest s)
-        w.in_ok-write_store-in-Store.ensures)),
-        (ap (λ (scope : List Standing). length scope) w.scope-is ∙ c.loop-statement.invariant.1.0,
-        (fits_parts types known answer (block_of (drop i items)) rest (tree_of (Statement.Store w.in-Store.pointer w.in-Store.value)) c.loop-statement.invariant.1.1 here).1))
-    | in-Return+in_ok-write_return-in-Return w ↦
-        let here = statement_at items i c.statement-item.result (Statement.Return w.in-Return.value) c.loop-statement-test.true c.statement-item.is w.in-Return.is in
-        (subst (λ (scope : List Standing). IsAlong whole held failed (g.W.TextSink.text c.match-statement.out) (g.W.TextSink.failures c.match-statement.out) (lines_left n told es level rest (handles_of scope))) (sym w.scope-is)
-        (subst (λ (out : g.row.W.Denot). IsAlong whole held failed (g.W.TextSink.text out) (g.W.TextSink.failures out) (lines_left n told es level rest (handles_of c.loop-statement.scope))) (sym w.out-is)
-        (along_more (lines_left n told es level rest (handles_of c.loop-statement.scope)) c.loop-statement.invariant.0
-        (ap (λ (b : BlockTree). lines_left n told es level b s) here ∙ return_lines n told es level w.in-Return.value rest s)
-        w.in_ok-write_return-in-Return.ensures)),
-        (ap (λ (scope : List Standing). length scope) w.scope-is ∙ c.loop-statement.invariant.1.0,
-        (fits_parts types known answer (block_of (drop i items)) rest (tree_of (Statement.Return w.in-Return.value)) c.loop-statement.invariant.1.1 here).1))
+      | in-Emit+in_ok-write_emit-in-Emit w ↦
+          let here = statement_at items i c.statement-item.result (Statement.Emit w.in-Emit.range) c.loop-statement-test.true c.statement-item.is w.in-Emit.is in (
+            subst (λ (scope : List Standing). IsAlong whole held failed (g.W.TextSink.text c.match-statement.out) (g.W.TextSink.failures c.match-statement.out) (lines_left n told es level rest (handles_of scope))) (sym w.scope-is)
+                (subst (λ (out : g.row.W.Denot). IsAlong whole held failed (g.W.TextSink.text out) (g.W.TextSink.failures out) (lines_left n told es level rest (handles_of w.write_emit.new.scope))) (sym w.out-is)
+                (along_more (lines_left n told es level rest (handles_of w.write_emit.new.scope)) c.loop-statement.invariant.0
+                (ap (λ (b : BlockTree). lines_left n told es level b s) here ∙ emit_lines n told es level w.in-Emit.range.first w.in-Emit.range.end rest s (handles_of w.write_emit.new.scope) (none_given_by self.shader.now (names_in self.names.now) self.handle self.function.now known c.requires.can (simple (emit w.in-Emit.range.first w.in-Emit.range.end))) w.in_ok-write_emit-in-Emit.ensures.after)
+                w.in_ok-write_emit-in-Emit.ensures.lets)),
+            (
+              ap (λ (scope : List Standing). length scope) w.scope-is ∙ (w.write_emit.ensures.size ∙ c.loop-statement.invariant.1.0),
+              (fits_parts types known answer (block_of (drop i items)) rest (tree_of (Statement.Emit w.in-Emit.range)) c.loop-statement.invariant.1.1 here).1,
+            ),
+          )
+      | in-Store+in_ok-write_store-in-Store w ↦
+          let here = statement_at items i c.statement-item.result (Statement.Store w.in-Store.pointer w.in-Store.value) c.loop-statement-test.true c.statement-item.is w.in-Store.is in (
+            subst (λ (scope : List Standing). IsAlong whole held failed (g.W.TextSink.text c.match-statement.out) (g.W.TextSink.failures c.match-statement.out) (lines_left n told es level rest (handles_of scope))) (sym w.scope-is)
+                (subst (λ (out : g.row.W.Denot). IsAlong whole held failed (g.W.TextSink.text out) (g.W.TextSink.failures out) (lines_left n told es level rest (handles_of c.loop-statement.scope))) (sym w.out-is)
+                (along_more (lines_left n told es level rest (handles_of c.loop-statement.scope)) c.loop-statement.invariant.0
+                (ap (λ (b : BlockTree). lines_left n told es level b s) here ∙ store_lines n told es level w.in-Store.pointer w.in-Store.value rest s)
+                w.in_ok-write_store-in-Store.ensures)),
+            (
+              ap (λ (scope : List Standing). length scope) w.scope-is ∙ c.loop-statement.invariant.1.0,
+              (fits_parts types known answer (block_of (drop i items)) rest (tree_of (Statement.Store w.in-Store.pointer w.in-Store.value)) c.loop-statement.invariant.1.1 here).1,
+            ),
+          )
+      | in-Return+in_ok-write_return-in-Return w ↦
+          let here = statement_at items i c.statement-item.result (Statement.Return w.in-Return.value) c.loop-statement-test.true c.statement-item.is w.in-Return.is in (
+            subst (λ (scope : List Standing). IsAlong whole held failed (g.W.TextSink.text c.match-statement.out) (g.W.TextSink.failures c.match-statement.out) (lines_left n told es level rest (handles_of scope))) (sym w.scope-is)
+                (subst (λ (out : g.row.W.Denot). IsAlong whole held failed (g.W.TextSink.text out) (g.W.TextSink.failures out) (lines_left n told es level rest (handles_of c.loop-statement.scope))) (sym w.out-is)
+                (along_more (lines_left n told es level rest (handles_of c.loop-statement.scope)) c.loop-statement.invariant.0
+                (ap (λ (b : BlockTree). lines_left n told es level b s) here ∙ return_lines n told es level w.in-Return.value rest s)
+                w.in_ok-write_return-in-Return.ensures)),
+            (
+              ap (λ (scope : List Standing). length scope) w.scope-is ∙ c.loop-statement.invariant.1.0,
+              (fits_parts types known answer (block_of (drop i items)) rest (tree_of (Statement.Return w.in-Return.value)) c.loop-statement.invariant.1.1 here).1,
+            ),
+          )
     ]
 
 pub returns : goal.returns

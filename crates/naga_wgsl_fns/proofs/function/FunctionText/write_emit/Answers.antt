@@ -1,9 +1,8 @@
-use Rattle.std.proofs.Common.{◌≡◌, ℕ, List, ◌≤◌, ◌+◌, ◌-◌, refl, sym, ap, ◌∙◌}
+use Rattle.std.proofs.Common.{◌≡◌, ℕ, List, ◌≤◌, ◌-◌, refl, sym, ap, ◌∙◌}
 use Rattle.naga_form.specs.Form.{told_type}
 use Rattle.naga_form.specs.Names.{module_names}
 use Rattle.naga_names.specs.Reset.{names_in}
 use Rattle.naga_scope.specs.Standings.{handles_of}
-use Rattle.shader_runs.specs.Program.{from}
 use Rattle.shader_runs.specs.Scope.{after_emit, after_one}
 use Rattle.naga_wgsl_fns.specs.Texts.{naming_of, tells_types}
 use Rattle.naga_wgsl_fns.proofs.Appending.{along_start, along_more, along_stopped, along_done, appends_stopped}
@@ -43,12 +42,15 @@ loop-index-preserved g c =
     let t = handles_of c.emit.new.self in
     let h = c.from_index-handle.result in
     let none = none_given self.shader.now (names_in self.names.now) self.handle self.function.now self.info.now c.requires.can h 0 in
-    let one : t ≡ after_one n 0 h s = c.emit.ensures.handles (module_names self.shader.now) self.shader.now.types self.handle 0 in
-    (along_more _ c.loop-index.invariant.0
-    (lets_step n told self.function.now.expressions c.args.level.0 c.loop-index.index c.args.range.end h s t c.loop-index-test.true c.from_index-handle.ensures none one)
-    c.in_ok-write_emitted.ensures,
-    (sym (after_step n told self.function.now.expressions c.args.level.0 c.loop-index.index c.args.range.end h s t c.loop-index-test.true c.from_index-handle.ensures none one) ∙ c.loop-index.invariant.1.0,
-    c.emit.ensures.size ∙ c.loop-index.invariant.1.1))
+    let one : t ≡ after_one n 0 h s = c.emit.ensures.handles (module_names self.shader.now) self.shader.now.types self.handle 0 in (
+      along_more _ c.loop-index.invariant.0
+          (lets_step n told self.function.now.expressions c.args.level.0 c.loop-index.index c.args.range.end h s t c.loop-index-test.true c.from_index-handle.ensures none one)
+          c.in_ok-write_emitted.ensures,
+      (
+        sym (after_step n told self.function.now.expressions c.args.level.0 c.loop-index.index c.args.range.end h s t c.loop-index-test.true c.from_index-handle.ensures none one) ∙ c.loop-index.invariant.1.0,
+        c.emit.ensures.size ∙ c.loop-index.invariant.1.1,
+      ),
+    )
 
 pub returns-clause-lets : goal.returns-clause-lets
 returns-clause-lets g c =

@@ -20,7 +20,7 @@ returns-in_err-write_line_start g c =
     let told = told_type (tells_types self.flags) self.shader.now.types self.info.now c.args.handle in
     let own = as_value (own_if n (plain_form n self.function.now.expressions s) (slice_get self.function.now.expressions c.args.handle)) in
     let r = c.from_residual.result in
-    appends_as r _ _ _ _ _ _ 
+    appends_as r _ _ _ _ _ _
     (let_row told (numbered_name c.args.handle) own c.args.level.0
     ∙ ap (λ (w : List ℕ). text (statement_pieces (let_form told w own) c.args.level.0)) (bound_is self.shader.now (names_in self.names.now) self.handle self.function.now self.info.now c.requires.can c.args.handle))
     (appends_stopped r c.from_residual.ensures.1
@@ -34,7 +34,7 @@ returns-in_err-write_bound_name g c =
     let told = told_type (tells_types self.flags) self.shader.now.types self.info.now c.args.handle in
     let own = as_value (own_if n (plain_form n self.function.now.expressions s) (slice_get self.function.now.expressions c.args.handle)) in
     let r = c.from_residual-in_err-write_bound_name.result in
-    appends_as r _ _ _ _ _ _ 
+    appends_as r _ _ _ _ _ _
     (let_row told (numbered_name c.args.handle) own c.args.level.0
     ∙ ap (λ (w : List ℕ). text (statement_pieces (let_form told w own) c.args.level.0)) (bound_is self.shader.now (names_in self.names.now) self.handle self.function.now self.info.now c.requires.can c.args.handle))
     (appends_stopped r c.from_residual-in_err-write_bound_name.ensures.1
@@ -48,7 +48,7 @@ returns-in_err-write_told_type g c =
     let told = told_type (tells_types self.flags) self.shader.now.types self.info.now c.args.handle in
     let own = as_value (own_if n (plain_form n self.function.now.expressions s) (slice_get self.function.now.expressions c.args.handle)) in
     let r = c.from_residual-in_err-write_told_type.result in
-    appends_as r _ _ _ _ _ _ 
+    appends_as r _ _ _ _ _ _
     (let_row told (numbered_name c.args.handle) own c.args.level.0
     ∙ ap (λ (w : List ℕ). text (statement_pieces (let_form told w own) c.args.level.0)) (bound_is self.shader.now (names_in self.names.now) self.handle self.function.now self.info.now c.requires.can c.args.handle))
     (appends_stopped r c.from_residual-in_err-write_told_type.ensures.1
@@ -62,7 +62,7 @@ returns-in_err-put g c =
     let told = told_type (tells_types self.flags) self.shader.now.types self.info.now c.args.handle in
     let own = as_value (own_if n (plain_form n self.function.now.expressions s) (slice_get self.function.now.expressions c.args.handle)) in
     let r = c.from_residual-in_err-put.result in
-    appends_as r _ _ _ _ _ _ 
+    appends_as r _ _ _ _ _ _
     (let_row told (numbered_name c.args.handle) own c.args.level.0
     ∙ ap (λ (w : List ℕ). text (statement_pieces (let_form told w own) c.args.level.0)) (bound_is self.shader.now (names_in self.names.now) self.handle self.function.now self.info.now c.requires.can c.args.handle))
     (appends_stopped r c.from_residual-in_err-put.ensures.1
@@ -76,7 +76,7 @@ returns-in_err-write_own g c =
     let told = told_type (tells_types self.flags) self.shader.now.types self.info.now c.args.handle in
     let own = as_value (own_if n (plain_form n self.function.now.expressions s) (slice_get self.function.now.expressions c.args.handle)) in
     let r = c.from_residual-in_err-write_own.result in
-    appends_as r _ _ _ _ _ _ 
+    appends_as r _ _ _ _ _ _
     (let_row told (numbered_name c.args.handle) own c.args.level.0
     ∙ ap (λ (w : List ℕ). text (statement_pieces (let_form told w own) c.args.level.0)) (bound_is self.shader.now (names_in self.names.now) self.handle self.function.now self.info.now c.requires.can c.args.handle))
     (appends_stopped r c.from_residual-in_err-write_own.ensures.1
@@ -90,7 +90,7 @@ returns g c =
     let told = told_type (tells_types self.flags) self.shader.now.types self.info.now c.args.handle in
     let own = as_value (own_if n (plain_form n self.function.now.expressions s) (slice_get self.function.now.expressions c.args.handle)) in
     let r = c.put-2.result in
-    appends_as r _ _ _ _ _ _ 
+    appends_as r _ _ _ _ _ _
     (let_row told (numbered_name c.args.handle) own c.args.level.0
     ∙ ap (λ (w : List ℕ). text (statement_pieces (let_form told w own) c.args.level.0)) (bound_is self.shader.now (names_in self.names.now) self.handle self.function.now self.info.now c.requires.can c.args.handle))
     (appends_then r _ _ _ c.in_ok-write_line_start.ensures (appends_then r _ _ _ c.in_ok-write_bound_name.ensures (appends_then r _ _ _ c.in_ok-write_told_type.ensures (appends_then r _ _ _ c.in_ok-put.ensures (appends_then r _ _ _ c.in_ok-write_own.ensures c.put-2.ensures)))))
