@@ -3,6 +3,7 @@ use Rattle.std.proofs.Common.{◌≡◌, ℕ, ◌+◌, ◌-◌, ◌<◌, true, L
 use Rattle.std.proofs.lemmas.Bool.{and_parts}
 use Rattle.naga_ir.specs.StatementTree.{StatementTree, BlockTree, statement, simple, emit, store, return}
 use Rattle.naga_ir.specs.StatementViews.{tree_of, block_of}
+use Rattle.naga_enumerations.specs.declared.statement.Range.{Range}
 use Rattle.naga_ir.specs.declared.statement.Statement.{Statement}
 use Rattle.naga_ir.specs.declared.expression.Expression as ir
 use Rattle.naga_ir.specs.declared.module.FunctionResult.{FunctionResult}
@@ -10,9 +11,9 @@ use Rattle.naga_ir.specs.declared.types.Type_.{Type_}
 use Rattle.naga_info.specs.declared.info.ExpressionInfo.{ExpressionInfo}
 use Rattle.naga_info.specs.Accepted.{statement_fits, block_fits}
 use Rattle.shader_runs.specs.Program.{from}
-use Rattle.shader_runs.specs.Scope.{Handles, Naming, given_after, given_by, after, after_one, after_emit}
+use Rattle.shader_runs.specs.Scope.{Handles, Naming, given_after, given_by, after_one, after_emit}
 use Rattle.naga_form.specs.Shapes.{statement_shape}
-use Rattle.naga_form.specs.Form.{as_reference, plain_form, value_form, lets_form, return_line, line_form, lines_form}
+use Rattle.naga_form.specs.Form.{as_reference, plain_form, value_form, lets_form, return_line, lines_form}
 use Rattle.wgsl_text.specs.Tree.{TypeSpecifier, Statements, NoStatements, Assign}
 use Rattle.wgsl_text.specs.Lines.{statement_pieces, statements_pieces}
 use Rattle.wgsl_text.specs.Text.{text}
@@ -80,3 +81,11 @@ pub fits_parts : (types : List Type_) (known : List ExpressionInfo) (answer : Op
     → (statement_fits types known answer st ≡ true) × (block_fits types known answer rest ≡ true)
 fits_parts types known answer b rest st fit is =
     and_parts (statement_fits types known answer st) (block_fits types known answer rest) (ap (λ (c : BlockTree). block_fits types known answer c) (sym is) ∙ fit)
+
+-- no other statement fits
+pub no_other_statement : (types : List Type_) (known : List ExpressionInfo) (answer : Option FunctionResult) (st : Statement) → statement_fits types known answer (tree_of st) ≡ true
+    → ((range : Range) → st ≡ Statement.Emit range → ⊥) → ((p v : ℕ) → st ≡ Statement.Store p v → ⊥) → ((value : Option ℕ) → st ≡ Statement.Return value → ⊥) → ⊥
+no_other_statement types known answer (Statement.Emit range) fit emits stores returns = emits range refl
+no_other_statement types known answer (Statement.Store p v) fit emits stores returns = stores p v refl
+no_other_statement types known answer (Statement.Return value) fit emits stores returns = returns value refl
+no_other_statement types known answer _ fit emits stores returns = absurd cc

@@ -1,9 +1,8 @@
-use Rattle.std.proofs.Common.{◌≡◌, ℕ, List, ◌≤◌, ◌+◌, ◌-◌, refl, sym, ap, ◌∙◌}
+use Rattle.std.proofs.Common.{◌≡◌, ℕ, List, ◌≤◌, ◌-◌, refl, sym, ap, ◌∙◌}
 use Rattle.naga_form.specs.Form.{told_type}
 use Rattle.naga_form.specs.Names.{module_names}
 use Rattle.naga_names.specs.Reset.{names_in}
 use Rattle.naga_scope.specs.Standings.{handles_of}
-use Rattle.shader_runs.specs.Program.{from}
 use Rattle.shader_runs.specs.Scope.{after_emit, after_one}
 use Rattle.naga_wgsl_fns.specs.Texts.{naming_of, tells_types}
 use Rattle.naga_wgsl_fns.proofs.Appending.{along_start, along_more, along_stopped, along_done, appends_stopped}

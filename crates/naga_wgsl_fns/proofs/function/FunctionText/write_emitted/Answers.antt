@@ -1,4 +1,4 @@
-use Rattle.std.proofs.Common.{Bool, List, [], sym, ap, ◌∙◌}
+use Rattle.std.proofs.Common.{Bool, [], sym, ap, ◌∙◌}
 use Rattle.std.specs.Prelude.{cond}
 use Rattle.naga_form.specs.Form.{told_type}
 use Rattle.naga_scope.specs.Standings.{handles_of}
