@@ -1,4 +1,4 @@
-use Rattle.std.proofs.Common.{◌<◌, subst}
+use Rattle.std.proofs.Common.{◌≡◌, ◌<◌, ◌∙◌, length, subst, sym}
 use Rattle.naga_info.proofs.Accepting.{accepted_functions_fit, functions_fit_length}
 use Rattle.naga_names.specs.Reset.{names_in}
 use Rattle.naga_wgsl_fns.proofs.Accepted.{can_write}
@@ -12,4 +12,6 @@ pub index-requires-2 : goal.index-requires-2
 index-requires-2 g c =
     let m = c.args.module.now in
     let info = c.args.info.now in
-    subst (λ n. c.args.handle < n) (functions_fit_length m.types m.functions info.functions.items (accepted_functions_fit m info c.requires.accepted)) c.requires.handle
+    let same = functions_fit_length m.types m.functions info.functions.items (accepted_functions_fit m info c.requires.accepted) in
+    let counted : length info.functions.items ≡ info.functions.len = sym info.functions.ok.0 in
+    subst (λ n. c.args.handle < n) (same ∙ counted) c.requires.handle
