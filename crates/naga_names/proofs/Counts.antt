@@ -16,6 +16,7 @@ use Rattle.naga_names.specs.Naming.{Names, label_or}
 use Rattle.naga_names.specs.Reset.{Labelled, members_of, member_label, is_external, labelled_type, labelled_types, labelled_argument, labelled_arguments, labelled_locals, labelled_function, labelled_functions, labelled_entry_arguments, labelled_entry_locals, labelled_entry_point, labelled_entry_points, labelled_global, labelled_globals, labelled_declarations, value_label, labelled_constants, labelled_overrides, labelled_values, type_name, labelled_items, key_fits, keys_fit}
 use Rattle.naga_names.specs.Refusal.{KeysRunOut, SomeKeyIsFull}
 use Rattle.naga_names.proofs.MemberNames.{in_module}
+use Rattle.naga_names.proofs.ModuleLemmas.{within}
 use Rattle.naga_names.proofs.NameKeys.{all_append, with_parts_all}
 use Rattle.naga_names.proofs.NamedItems.{entry_point_stands, entry_argument_stands, argument_stands}
 use Rattle.naga_names.proofs.ResetLemmas.{not_below, or_not_this}
@@ -30,11 +31,6 @@ element : {X : Type 0} (xs : List X) (n : ℕ) → n < length xs → (x : X) × 
 element [] n lt = absurd (omega (arith, lt))
 element (x ∷ xs) zero lt = (x, refl)
 element (x ∷ xs) (suc n) lt = element xs n (omega (arith, lt))
-
-within : {X : Type 0} (xs : List X) (i : ℕ) (x : X) → slice_get xs i ≡ Some x → i < length xs
-within [] i x e = nothing_there x e
-within (y ∷ xs) zero x e = omega arith
-within (y ∷ xs) (suc i) x e = omega (arith, within xs i x e)
 
 one_unfit : (items : List Labelled) (i : ℕ) (item : Labelled) → slice_get items i ≡ Some item → key_fits item.0 ≡ false → keys_fit items ≡ false
 one_unfit [] i item e unfit = nothing_there item e

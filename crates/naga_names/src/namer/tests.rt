@@ -32,31 +32,6 @@ const MARKS_AND_FOREIGN: Calls = &[
     ("_e", "_e_1"),
 ];
 
-/// Each of these with a `Namer` of its own, for WGSL.
-const FOR_WGSL: &[Calls] = &[
-    &[
-        ("fn", "fn_"),
-        ("_naga_x", "gen__naga_x"),
-        ("traceRay", "traceRay_"),
-    ],
-    &[("type", "type_"), ("type", "type_1")],
-    &[("\u{1f600}", "u1f600_")],
-    &[("\u{3b1}\u{3b2}", "u03b1_u03b2_")],
-    &[("\u{663}k", "k"), ("\u{2167}v", "v"), ("\u{bd}h", "h")],
-    &[("v\u{2167}", "v_u2167_")],
-    &[
-        ("\u{e9}9", "u00e9_9_"),
-        ("x\u{e9}\u{e9}y", "x_u00e9_u00e9_y"),
-    ],
-    &[("\n", "u000a"), ("\0", "u0000_")],
-    &[("a b", "a_u0020_b"), ("a-b", "a_u002d_b")],
-    &[("_naga", "gen__naga"), ("__x", "_x"), ("_:x", "_x_1")],
-    &[("Self", "Self_"), ("self", "self_"), ("self", "self_1")],
-    &[("x_1", "x_1_"), ("x", "x"), ("x", "x_1")],
-    &[("<a,b>", "_a_b"), ("a_", "a"), ("a__b", "a_b")],
-    &[("::", "unnamed"), ("9_", "unnamed_1")],
-];
-
 /// Calls with these labels, in order, give these names.
 fn gives(rt: &impl Abort, namer: &mut Namer, rows: &[(&str, &str)]) -> Result<(), NamerError> {
     for (label, want) in rows {
@@ -86,24 +61,10 @@ fn reset_for_wgsl(
     )
 }
 
-/// Calls of a `Namer` that was reset for WGSL give these names.
-fn wgsl_gives(rt: &impl Abort, alloc: Global, rows: &[(&str, &str)]) -> Result<(), NamerError> {
-    let mut sample = Sample::new(alloc);
-    sample.calls(rt, rows)
-}
-
 #[test]
 fn names_by_labels(rt: HostRuntime) -> Result<(), Fail> {
     gives(&rt, &mut Namer::default(rt.alloc()), BY_THEIR_BASE)?;
     gives(&rt, &mut Namer::default(rt.alloc()), MARKS_AND_FOREIGN)?;
-    Ok(())
-}
-
-#[test]
-fn names_by_labels_for_wgsl(rt: HostRuntime) -> Result<(), Fail> {
-    for rows in FOR_WGSL {
-        wgsl_gives(&rt, rt.alloc(), *rows)?;
-    }
     Ok(())
 }
 
@@ -311,6 +272,36 @@ const ROWS: &[Row] = &[
         ],
         names: &["type_", "main"],
     },
+];
+
+const EMPTY: Row = Row {
+    items: &[],
+    names: &[],
+};
+
+/// Labels of calls of a `Namer` that was reset by the empty module.
+const LABELS: &[Calls] = &[
+    &[
+        ("fn", "fn_"),
+        ("_naga_x", "gen__naga_x"),
+        ("traceRay", "traceRay_"),
+    ],
+    &[("type", "type_"), ("type", "type_1")],
+    &[("\u{1f600}", "u1f600_")],
+    &[("\u{3b1}\u{3b2}", "u03b1_u03b2_")],
+    &[("\u{663}k", "k"), ("\u{2167}v", "v"), ("\u{bd}h", "h")],
+    &[("v\u{2167}", "v_u2167_")],
+    &[
+        ("\u{e9}9", "u00e9_9_"),
+        ("x\u{e9}\u{e9}y", "x_u00e9_u00e9_y"),
+    ],
+    &[("\n", "u000a"), ("\0", "u0000_")],
+    &[("a b", "a_u0020_b"), ("a-b", "a_u002d_b")],
+    &[("_naga", "gen__naga"), ("__x", "_x"), ("_:x", "_x_1")],
+    &[("Self", "Self_"), ("self", "self_"), ("self", "self_1")],
+    &[("x_1", "x_1_"), ("x", "x"), ("x", "x_1")],
+    &[("<a,b>", "_a_b"), ("a_", "a"), ("a__b", "a_b")],
+    &[("::", "unnamed"), ("9_", "unnamed_1")],
 ];
 
 /// A module that is built item by item, the keys of its items, and their names after a `reset`.
@@ -577,14 +568,14 @@ impl Sample {
         assert!(rt; self.names.contains_key(&OTHER));
     }
 
-    /// A `reset` gives the names, or is refused for want of memory: then the map has the names of some
+    /// A `reset` gives the names, and the calls theirs behind it, or it is refused for want of memory: then the map has the names of some
     /// first items, and the `Namer` is a new one.
-    fn check(&mut self, rt: &impl Abort, row: &Row) -> Result<(), NamerError> {
+    fn check(&mut self, rt: &impl Abort, row: &Row, calls: Calls) -> Result<(), NamerError> {
         self.fill(row.items)?;
         match self.reset() {
             Ok(()) => {
                 self.has_names(rt, row.names);
-                Ok(())
+                gives(rt, &mut self.namer, calls)
             }
             Err(_) => {
                 self.has_some_names(rt, row.names);
@@ -592,22 +583,25 @@ impl Sample {
             }
         }
     }
-
-    fn calls(&mut self, rt: &impl Abort, rows: &[(&str, &str)]) -> Result<(), NamerError> {
-        self.reset()?;
-        gives(rt, &mut self.namer, rows)
-    }
 }
 
-fn check_row(rt: &impl Abort, alloc: Global, row: &Row) -> Result<(), NamerError> {
+fn check_row(rt: &impl Abort, alloc: Global, row: &Row, calls: Calls) -> Result<(), NamerError> {
     let mut sample = Sample::new(alloc);
-    sample.check(rt, row)
+    sample.check(rt, row, calls)
 }
 
 #[test]
 fn names_of_modules(rt: HostRuntime) -> Result<(), Fail> {
     for row in ROWS {
-        check_row(&rt, rt.alloc(), row)?;
+        check_row(&rt, rt.alloc(), row, &[])?;
+    }
+    Ok(())
+}
+
+#[test]
+fn names_by_labels_for_wgsl(rt: HostRuntime) -> Result<(), Fail> {
+    for calls in LABELS {
+        check_row(&rt, rt.alloc(), &EMPTY, *calls)?;
     }
     Ok(())
 }

@@ -6,7 +6,7 @@ use Rattle.naga_wgsl_out.specs.Headline.{EachReading, FaithfulWriting}
 use Rattle.naga_form.specs.Resolution.{ResolvesAs}
 use Rattle.naga_form.specs.Bindings.{BindsAs}
 use Rattle.naga_wgsl_out.specs.Writing.{written_text}
-use Rattle.naga_wgsl_out.proofs.Faithful.{concludes}
+use Rattle.naga_wgsl_out.proofs.Faithful.{concludes, unnamed}
 use Rattle.naga_wgsl_out.proofs.writer.Writer.write.Goals as goal
 
 pub returns-clause-faithful : goal.returns-clause-faithful
@@ -48,3 +48,6 @@ returns-clause-text_err g c =
     let holds = sym c.in_ok-scope_holds.ensures.scope ∙ c.if-not-branch.false in
     let end = concludes m c.args.info.now c.self.inside.flags c.requires.accepted is holds c.in_ok-scope_holds.ensures.counted _ c.in_ok-names.ensures.ok c.write_functions.result _ (g.W.TextSink.text c.write_functions.new.out) _ (g.W.TextSink.failures c.write_functions.new.out) c.write_functions.ensures in
     subst (λ w. OnErr c.write_functions.result (IsBehind (g.W.TextSink.text w.sink) (written_text m c.args.info.now w.flags) (g.W.TextSink.text c.write_functions.new.out))) c.self.view_is end.text_err
+
+pub scope_holds-requires-clause-unnamed : goal.scope_holds-requires-clause-unnamed
+scope_holds-requires-clause-unnamed g c = unnamed c.args.«module».now (sym c.is_written_so_far.ensures ∙ c.if-not-is_written_so_far.false)
