@@ -41,6 +41,12 @@ IsRefusal m info before now (Custom message) = IsToldOf m (string_bytes message)
 IsRefusal m info before now (Unimplemented message) = (string_bytes message ≡ codes "not yet written") × IsFalse (is_written_so_far m)
 IsRefusal m info before now _ = ⊥
 
+-- the error tells of the module, and not of memory or of the sink
+abbrev pub TellsOfModule : Error → Type 0
+TellsOfModule (FmtError e) = ⊥
+TellsOfModule (Memory e) = ⊥
+TellsOfModule _ = ⊤
+
 -- no reason stands in the module
 pub record IsWritable (m : Module) (info : ModuleInfo) : Type 0 where
   pub written : IsTrue (is_written_so_far m)

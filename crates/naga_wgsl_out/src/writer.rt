@@ -12,7 +12,7 @@ ghost use Rattle.naga_form.specs.Bindings.{BindsAs};
 ghost use Rattle.naga_wgsl_fns.specs.Appends.{Appends};
 ghost use Rattle.naga_wgsl_fns.specs.Texts.{text_of_function};
 ghost use Rattle.naga_wgsl_out.specs.Headline.{EachReading, FaithfulWriting, answer_of, text_of};
-ghost use Rattle.naga_wgsl_out.specs.Refusals.{HasAllNames, IsNamesRefusal};
+ghost use Rattle.naga_wgsl_out.specs.Refusals.{HasAllNames, IsNamesRefusal, TellsOfModule};
 ghost use Rattle.naga_wgsl_out.specs.Writing.{Writing, lines_of, written_text};
 
 use naga_info::ModuleInfo;
@@ -68,8 +68,8 @@ impl<W: TextSink> Writer<W> {
     ///
     /// The text depends on the module, on what is known of it and on the flags alone, whatever was written
     /// or refused before. Where the call gives up for want of memory or because the sink failed, a
-    /// beginning of its text stands behind what the sink held; any other refusal comes before the
-    /// first byte. The next call starts afresh.
+    /// beginning of its text stands behind what the sink held; any other refusal leaves the sink as it
+    /// was. The next call starts afresh.
     ///
     /// An expression that is used where it is out of scope, and an `Emit` that is not allowed where it
     /// stands, are refused as `Custom`, `operand out of scope`. So far a module is refused as
@@ -90,6 +90,7 @@ impl<W: TextSink> Writer<W> {
         ensures text_ok { OnOk result (W.text self.new.sink ≡ W.text self.old.sink ++ written_text «module».now info.now self.old.flags) }
         ensures text_err { OnErr result (IsBehind (W.text self.old.sink) (written_text «module».now info.now self.old.flags) (W.text self.new.sink)) }
         ensures failures_ok { OnOk result (W.failures self.new.sink ≡ W.failures self.old.sink) }
+        ensures untouched { IfErr result (λ e. TellsOfModule e → W.text self.new.sink ≡ W.text self.old.sink) }
         ensures flags { self.new.flags ≡ self.old.flags }
     {
         if !is_written_so_far(module) {
