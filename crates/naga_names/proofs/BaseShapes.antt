@@ -8,7 +8,7 @@ use Rattle.std.proofs.lemmas.List.Folds.{list_all-append}
 use Rattle.std.proofs.lemmas.Bool.Decides.{nat_tests}
 use Rattle.ucd_category.proofs.Computing.{ucd_category}
 use borrow.Author.Tests.{eqb-true}
-use Rattle.naga_names.specs.Plain.{is_identifier_char, is_word}
+use Rattle.naga_keywords.specs.Plain.{is_identifier_char, is_word}
 use Rattle.naga_names.specs.Label.{is_numeric, after_numerics, is_mark, is_foreign, hexadecimal, by_number, spelled, begins_separated, squeezed, begins_foreign, spelling, ends_separated, kept_before, without_last_separators, or_unnamed, kept_off, base_of}
 use Rattle.naga_names.proofs.Spellings.{body, spelling-body, spelled-mark, spelled-plain, spelled-foreign}
 

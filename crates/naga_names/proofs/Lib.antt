@@ -9,8 +9,6 @@ pub mod BaseShapes
 mod Examples
 pub mod NameShapes
 pub mod NamerLemmas
-pub mod Plains
 pub mod ResetLemmas
-pub mod SetLemmas
 pub mod Spellings
 pub mod UsesLemmas

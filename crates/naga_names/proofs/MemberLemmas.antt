@@ -16,7 +16,7 @@ use Rattle.naga_names.specs.declared.namer.key.NameKey.{NameKey}
 use Rattle.naga_names.specs.declared.namer.key.NameKey.TheVariants as key
 use Rattle.std.specs.FinMap as finite
 use Rattle.std.specs.FinSet as set
-use Rattle.naga_names.specs.Words.{Words}
+use Rattle.naga_keywords.specs.Words.{Words}
 use Rattle.naga_names.specs.Naming.{Names, Uses, label_base, labels_with_base, name_after, IsFull, HasNamed}
 use Rattle.naga_names.specs.Reset.{Labelled, NameMap, same_key, member_label, labelled_members, member_names, labels_of, item_name, key_fits, keys_fit, named_items, PutsInto, HasNamedItems, NamesItems}
 use Rattle.naga_names.specs.Refusal.{IsRefusalOf, IsRefusalOfItems, RefusesItems}

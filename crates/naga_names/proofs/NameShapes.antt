@@ -16,8 +16,8 @@ use Rattle.std.proofs.lemmas.List.Sums.{sum_by-append, sum_by-cons}
 use Rattle.std.proofs.lemmas.Bool.Decides.{nat_tests}
 use Rattle.std.proofs.lemmas.Map.Text.{is_eq-slice_cmp}
 use Rattle.naga_names.specs.Label.{ends_separated, after_numerics, spelling, without_last_separators, or_unnamed, kept_off, base_of}
-use Rattle.naga_names.specs.Plain.{is_identifier_char, is_word, is_identifier, is_empty_or_separated, HasPlainEnds, IsPlain}
-use Rattle.naga_names.specs.Words.{lowered}
+use Rattle.naga_keywords.specs.Plain.{is_identifier_char, is_word, is_identifier, is_empty_or_separated, HasPlainEnds, IsPlain}
+use Rattle.naga_keywords.specs.Words.{lowered}
 use Rattle.naga_names.specs.Naming.{Names, label_base, is_taken, ends_in_digit, first_name, later_name, name_of_base, labels_with_base, name_after}
 use Rattle.naga_names.proofs.BaseShapes.{base_is_word, base_ends, begins_double, base_not_double, is_text, is_text-decimal, all_digits-decimal}
 

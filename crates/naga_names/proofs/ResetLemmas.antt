@@ -12,7 +12,7 @@ use Rattle.std.specs.Map.{update, update_all, lookup}
 use Rattle.std.specs.HashMap as hash
 use Rattle.std.specs.Option.{option_map, option_or}
 use Rattle.std.specs.FinMap as finite
-use Rattle.naga_names.specs.Words.{Words}
+use Rattle.naga_keywords.specs.Words.{Words}
 use Rattle.naga_names.specs.declared.namer.key.NameKey.{NameKey}
 use Rattle.naga_names.specs.declared.namer.key.NameKey.TheVariants as key
 use Rattle.naga_names.specs.Naming.{Names, Uses, with_use, label_base, labels_with_base, name_after, HasNamed, new_names}

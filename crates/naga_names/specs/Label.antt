@@ -6,7 +6,7 @@ use Rattle.std.specs.Bool.{nat_eq}
 use Rattle.ucd_category.specs.GeneralCategory.{general_category}
 use Rattle.ucd_category.specs.GeneralCategoryGroup.{in_group}
 use Rattle.ucd_category.specs.declared.GeneralCategoryGroup.TheVariants.{Number}
-use Rattle.naga_names.specs.Plain.{is_identifier_char}
+use Rattle.naga_keywords.specs.Plain.{is_identifier_char}
 
 -- the general category is Nd, Nl or No
 unfoldable pub is_numeric : ℕ → Bool

@@ -2,14 +2,14 @@
 use Rattle.std.specs.Prelude.{◌≡◌, ℕ, ◌<◌, ◌≤◌, ◌^◌, map, List, [], ◌∷◌, nat_eq, ◌++◌, take, true, false, codes, decimal, slice_get, Some}
 use Rattle.std.specs.List.{starts_with}
 use Rattle.std.specs.FinSet as set
-use Rattle.naga_names.specs.Plain.{is_identifier, HasPlainEnds}
-use Rattle.naga_names.specs.Words.{lowered}
+use Rattle.naga_keywords.specs.Plain.{is_identifier, HasPlainEnds}
+use Rattle.naga_keywords.specs.Words.{lowered}
 use Rattle.naga_names.specs.Naming.{Names, uses_of, name_of, name_of_base, name_after, labels_with_base, HasNamed}
 use Rattle.naga_names.specs.Reset.{Labelled, NameMap, is_member, members_of, member_label, member_names, item_name, labelled_items, HasNamedItems}
 use Rattle.naga_ir.specs.declared.module.Module.{Module}
 use Rattle.naga_ir.specs.declared.types.StructMember.{StructMember}
 use Rattle.naga_ir.specs.declared.types.Type_.{Type_}
-use Rattle.naga_names.specs.declared.keywords.TheConstants.{RESERVED}
+use Rattle.naga_keywords.specs.declared.keywords.TheConstants.{RESERVED}
 use Rattle.naga_names.specs.declared.namer.key.NameKey.TheVariants as key
 
 -- a name has ASCII letters, digits and `_` alone, begins with no digit and not with `__`, and is not `_`

@@ -2,7 +2,5 @@ pub mod Label
 pub mod Laws
 pub mod Members
 pub mod Naming
-pub mod Plain
 pub mod Refusal
 pub mod Reset
-pub mod Words

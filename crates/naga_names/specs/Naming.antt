@@ -11,7 +11,7 @@ use Rattle.std.specs.FinSet as set
 use Rattle.std.specs.Ordering.{nat_cmp}
 use Rattle.std.specs.Str.{bytes_eq, chars}
 use Rattle.naga_names.specs.Label.{base_of}
-use Rattle.naga_names.specs.Words.{Words, lowered}
+use Rattle.naga_keywords.specs.Words.{Words, lowered}
 
 -- how often each base was used; a base that was never used isn't there
 abbrev pub Uses : Type 0

@@ -4,11 +4,11 @@ ghost use Rattle.std.specs.Cmp.{IsEquivalence};
 ghost use Rattle.std.specs.FinSet as set;
 ghost use Rattle.std.specs.Hash.{Alike};
 ghost use Rattle.naga_names.specs.Laws.{NamesAreIdentifiers, NamesKeepOffNaga, NamesAreNoKeywords, NamesAreNoBuiltins, NamesAreNoCaselessKeywords, NamesAreNotNumbered, NamesDiffer, ItemsAreNamed, ItemsAreTold, MembersAreNamed, MembersAreTold, MembersAreNotReserved, GivenNamesFollow, GivenNamesAreNew};
-ghost use Rattle.naga_names.specs.Plain.{HasPlainEnds};
+ghost use Rattle.naga_keywords.specs.Plain.{HasPlainEnds};
 ghost use Rattle.naga_names.specs.Reset.{same_key, key_writes};
-ghost use Rattle.naga_names.specs.Words.{same_caseless, caseless_writes};
+ghost use Rattle.naga_keywords.specs.Words.{same_caseless, caseless_writes};
 
-use crate::keywords::{BUILTIN_IDENTIFIERS, RESERVED};
+use naga_keywords::keywords::{BUILTIN_IDENTIFIERS, RESERVED};
 
 /// Every name has ASCII letters, digits and `_` alone, begins with no digit and not with `__`, and is
 /// not `_`.

@@ -1,6 +1,6 @@
 -- The two tables of keywords, as lists of words.
 use Rattle.std.specs.Prelude.{ℕ, List, map}
-use Rattle.naga_names.specs.declared.keywords.TheConstants.{RESERVED, BUILTIN_IDENTIFIERS}
+use Rattle.naga_keywords.specs.declared.keywords.TheConstants.{RESERVED, BUILTIN_IDENTIFIERS}
 
 -- the keywords and the reserved words of the language
 unfoldable pub reserved_words : List (List ℕ)

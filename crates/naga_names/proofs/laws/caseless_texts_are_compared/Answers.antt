@@ -3,7 +3,7 @@ use Rattle.std.specs.Cmp.{on_equiv}
 use Rattle.std.specs.Cmp.Lexicographic.{bytes_decides, nat_list_eq_equiv}
 use Rattle.std.specs.Hash as fed
 use Rattle.std.specs.List.{flat_map}
-use Rattle.naga_names.specs.Words.{lowered}
+use Rattle.naga_keywords.specs.Words.{lowered}
 use Rattle.naga_names.proofs.laws.caseless_texts_are_compared.Goals as goal
 
 pub returns-clause-equality : goal.returns-clause-equality

@@ -1,7 +1,7 @@
 use Rattle.std.proofs.Common.{map, refl}
-use Rattle.naga_names.specs.declared.keywords.TheConstants.{RESERVED, BUILTIN_IDENTIFIERS}
+use Rattle.naga_keywords.specs.declared.keywords.TheConstants.{RESERVED, BUILTIN_IDENTIFIERS}
 use Rattle.naga_names.proofs.NameShapes.{plain_ends}
-use Rattle.naga_names.proofs.Plains.{words_are}
+use Rattle.naga_keywords.proofs.Plains.{words_are}
 use Rattle.naga_names.proofs.laws.words_of_wgsl_have_plain_ends.Goals as goal
 
 pub returns-clause-reserved : goal.returns-clause-reserved

@@ -1,0 +1,325 @@
+//! Sets of words that no identifier may be.
+ghost use Rattle.std.specs.Prelude.{◌≡◌, IsTrue, ◌↔◌, IfOk, OnOk, OnErr, map};
+ghost use Rattle.std.specs.Cmp.Lexicographic.{slice_cmp, nat_list_eq_equiv};
+ghost use Rattle.std.specs.Ordering.{nat_cmp};
+ghost use Rattle.std.specs.Cmp.{partial_equiv_from_equiv, on_per, on_equiv};
+ghost use Rattle.std.specs.Coded.{coded_ℕ, coded_list};
+ghost use Rattle.std.specs.FinSet as set;
+ghost use Rattle.std.specs.Iterator.{IsFinite};
+ghost use Rattle.std.proofs.Common.{rules};
+ghost use Rattle.naga_keywords.specs.Words.{Words, lowered, same_caseless, caseless_writes, same_words, same_words_equiv, AddsAll, AddsSome};
+
+use std::alloc::{AllocError, Global};
+use std::collections::HashSet;
+use std::convert::AsStr;
+use std::fmt;
+use std::hash::{Hash, Hasher};
+use std::marker::Model;
+
+/// A set of words, case-sensitive, which a `Namer` keeps its identifiers out of.
+///
+/// Contracts see it as the finite set of its words' bytes.
+#[derive(Drop)]
+pub struct KeywordSet {
+    words: HashSet<&'static str>,
+}
+
+impl Model for KeywordSet {
+    ghost Value = { Words };
+
+    ghost coded = { set.code (coded_list coded_ℕ) };
+
+    ghost view = { λ s. set.from_list (map (λ w. w.now) s.words.keys) };
+}
+
+impl KeywordSet {
+    /// The empty set, which takes no memory.
+    pub fn new(alloc: Global) -> Self
+        ensures { result ≡ set.empty }
+    {
+        Self {
+            words: HashSet::new(alloc),
+        }
+    }
+
+    /// Whether the word is in the set, byte for byte.
+    pub fn contains(&self, identifier: &str) -> bool
+        ensures { result ≡ set.contains self.now identifier.now }
+    {
+        self.words.contains(identifier)
+    }
+
+    /// The set of the words that the iterator gives.
+    pub fn from_words<I: Iterator<Item = &'static str> + Drop>(
+        alloc: Global,
+        words: I,
+    ) -> Result<Self, AllocError>
+        requires can { I.can_next words }
+        requires ends { IsFinite (I.remaining words) }
+        ensures { IfOk result (AddsAll I.next_gives (λ w. w) words set.empty) }
+    {
+        let mut set = Self::new(alloc);
+        set.extend(words)?;
+        Ok(set)
+    }
+
+    /// The set of the words of a slice.
+    pub fn from_slice(alloc: Global, words: &[&'static str]) -> Result<Self, AllocError>
+        ensures { IfOk result (λ s. s ≡ set.from_list (map (λ w. w.now) words.now)) }
+    {
+        let mut set = Self::new(alloc);
+        for word in words {
+            set.insert(word)?;
+        }
+        Ok(set)
+    }
+
+    /// Adds the words that the iterator gives. Where memory runs out, the set has got the words of
+    /// some beginning of them.
+    pub fn extend<I: Iterator<Item = &'static str> + Drop>(
+        &mut self,
+        words: I,
+    ) -> Result<(), AllocError>
+        requires can { I.can_next words }
+        requires ends { IsFinite (I.remaining words) }
+        ensures ok { OnOk result (AddsAll I.next_gives (λ w. w) words self.old self.new) }
+        ensures err { OnErr result (AddsSome I.next_gives (λ w. w) words self.old self.new) }
+    {
+        for word in words {
+            self.insert(word)?;
+        }
+        Ok(())
+    }
+
+    fn insert(&mut self, word: &'static str) -> Result<(), AllocError>
+        ensures ok { OnOk result (self.new ≡ set.insert self.old word.now) }
+        ensures err { OnErr result (self.new ≡ self.old) }
+    {
+        self.words.insert(word)?;
+        Ok(())
+    }
+}
+
+impl Clone for KeywordSet {
+    ghost is_clone = { λ s copy. copy ≡ s };
+
+    fn clone(&self) -> Result<Self, AllocError> {
+        let words = self.words.clone()?;
+        Ok(Self { words })
+    }
+}
+
+impl PartialEq for KeywordSet {
+    ghost eq = { same_words };
+
+    ghost laws = { partial_equiv_from_equiv same_words_equiv };
+
+    /// Whether the two sets have the same words.
+    fn eq(&self, other: &Self) -> bool
+        ensures value { result ≡ same_words self.now other.now }
+        ensures same { IsTrue result ↔ (self.now ≡ other.now) }
+    {
+        self.words == other.words
+    }
+}
+
+impl Eq for KeywordSet {
+    ghost laws = { same_words_equiv };
+}
+
+/// A set of ASCII words that regards no case, which a `Namer` keeps its identifiers out of.
+///
+/// Contracts see it as the finite set of its words' bytes, with the ASCII letters in lower case.
+#[derive(Drop)]
+pub struct CaseInsensitiveKeywordSet {
+    folded: HashSet<AsciiUniCase<&'static str>>,
+}
+
+impl Model for CaseInsensitiveKeywordSet {
+    ghost Value = { Words };
+
+    ghost coded = { set.code (coded_list coded_ℕ) };
+
+    ghost view = { λ s. set.from_list (map (λ w. lowered w.word.now) s.folded.keys) };
+}
+
+impl CaseInsensitiveKeywordSet {
+    /// The empty set, which takes no memory.
+    pub fn new(alloc: Global) -> Self
+        ensures { result ≡ set.empty }
+    {
+        Self {
+            folded: HashSet::new(alloc),
+        }
+    }
+
+    /// Whether a word of the set equals this one when ASCII case is ignored.
+    pub fn contains(&self, identifier: &str) -> bool
+        ensures { result ≡ set.contains self.now (lowered identifier.now) }
+    {
+        self.folded.contains(&AsciiUniCase { word: identifier })
+    }
+
+    /// The set of the words that the iterator gives.
+    pub fn from_words<I: Iterator<Item = &'static str> + Drop>(
+        alloc: Global,
+        words: I,
+    ) -> Result<Self, AllocError>
+        requires can { I.can_next words }
+        requires ends { IsFinite (I.remaining words) }
+        ensures { IfOk result (AddsAll I.next_gives lowered words set.empty) }
+    {
+        let mut caseless = Self::new(alloc);
+        caseless.extend(words)?;
+        Ok(caseless)
+    }
+
+    /// The set of the words of a slice.
+    pub fn from_slice(alloc: Global, words: &[&'static str]) -> Result<Self, AllocError>
+        ensures { IfOk result (λ s. s ≡ set.from_list (map (λ w. lowered w.now) words.now)) }
+    {
+        let mut caseless = Self::new(alloc);
+        for keyword in words {
+            caseless.insert(keyword)?;
+        }
+        Ok(caseless)
+    }
+
+    /// Adds the words that the iterator gives. Where memory runs out, the set has got the words of
+    /// some beginning of them.
+    pub fn extend<I: Iterator<Item = &'static str> + Drop>(
+        &mut self,
+        words: I,
+    ) -> Result<(), AllocError>
+        requires can { I.can_next words }
+        requires ends { IsFinite (I.remaining words) }
+        ensures ok { OnOk result (AddsAll I.next_gives lowered words self.old self.new) }
+        ensures err { OnErr result (AddsSome I.next_gives lowered words self.old self.new) }
+    {
+        for keyword in words {
+            self.insert(keyword)?;
+        }
+        Ok(())
+    }
+
+    fn insert(&mut self, word: &'static str) -> Result<(), AllocError>
+        ensures ok { OnOk result (self.new ≡ set.insert self.old (lowered word.now)) }
+        ensures err { OnErr result (self.new ≡ self.old) }
+    {
+        self.folded.insert(AsciiUniCase { word })?;
+        Ok(())
+    }
+}
+
+impl Clone for CaseInsensitiveKeywordSet {
+    ghost is_clone = { λ s copy. copy ≡ s };
+
+    fn clone(&self) -> Result<Self, AllocError> {
+        let folded = self.folded.clone()?;
+        Ok(Self { folded })
+    }
+}
+
+impl PartialEq for CaseInsensitiveKeywordSet {
+    ghost eq = { same_words };
+
+    ghost laws = { partial_equiv_from_equiv same_words_equiv };
+
+    /// Whether the two sets have the same words when ASCII case is ignored.
+    fn eq(&self, other: &Self) -> bool
+        ensures value { result ≡ same_words self.now other.now }
+        ensures same { IsTrue result ↔ (self.now ≡ other.now) }
+    {
+        self.folded == other.folded
+    }
+}
+
+impl Eq for CaseInsensitiveKeywordSet {
+    ghost laws = { same_words_equiv };
+}
+
+/// A text that is compared and hashed with no regard to ASCII case.
+#[derive(Clone, Copy)]
+pub struct AsciiUniCase<S: AsStr> {
+    pub word: S,
+}
+
+impl<S: AsStr> fmt::Debug for AsciiUniCase<S> {
+    fn fmt<W: fmt::Write>(&self, f: &mut fmt::Formatter<W>) -> fmt::Result {
+        self.word.as_str().fmt(f)
+    }
+}
+
+impl<S: AsStr> PartialEq for AsciiUniCase<S> {
+    ghost eq = { λ a b. same_caseless (S.text a.word) (S.text b.word) };
+
+    ghost laws = { on_per (λ a. lowered (S.text a.word)) (partial_equiv_from_equiv nat_list_eq_equiv) };
+
+    fn eq(&self, other: &Self) -> bool {
+        self.word.as_str().eq_ignore_ascii_case(other.word.as_str())
+    }
+}
+
+impl<S: AsStr> Eq for AsciiUniCase<S> {
+    ghost laws = { on_equiv (λ a. lowered (S.text a.word)) nat_list_eq_equiv };
+}
+
+impl<S: AsStr> Hash for AsciiUniCase<S> {
+    ghost use Rattle.std.specs.Cmp.Rules.{hashing};
+
+    ghost hash_input = { λ a. caseless_writes (S.text a.word) };
+
+    ghost respects_eq = { Prim.search (hashing, rules) };
+
+    fn hash<H: Hasher>(&self, state: &mut H) {
+        for byte in self.word.as_str().as_bytes() {
+            state.write_u8(byte.to_ascii_lowercase());
+        }
+    }
+}
+
+#[cfg(test)]
+mod tests {
+    use super::*;
+    use std::hash::DefaultHasher;
+    use std::test::Fail;
+
+    #[test]
+    fn case_counts(rt: HostRuntime) -> Result<(), Fail> {
+        let alloc = rt.alloc();
+        let mut set = KeywordSet::from_slice(alloc, &["fn", "let", "fn"])?;
+        assert!(rt; set.contains("fn") && !set.contains("Fn") && !set.contains(""));
+        set.extend(["Fn", "if"].iter().copied())?;
+        assert!(rt; set.contains("Fn") && set.contains("if"));
+        let same = KeywordSet::from_words(alloc, ["if", "Fn", "let", "fn"].iter().copied())?;
+        assert!(rt; set == same && set.clone()? == same && set != KeywordSet::new(alloc));
+        Ok(())
+    }
+
+    #[test]
+    fn case_does_not_count(rt: HostRuntime) -> Result<(), Fail> {
+        let alloc = rt.alloc();
+        let mut set = CaseInsensitiveKeywordSet::from_slice(alloc, &["Foo", "fOO", "a1"])?;
+        assert!(rt; set.contains("FOO") && set.contains("A1") && !set.contains("fo"));
+        set.extend(["BAR"].iter().copied())?;
+        assert!(rt; set.contains("bar"));
+        let words = ["bar", "foo", "A1"];
+        let same = CaseInsensitiveKeywordSet::from_words(alloc, words.iter().copied())?;
+        assert!(rt; set == same && set.clone()? == same);
+        assert!(rt; set != CaseInsensitiveKeywordSet::new(alloc));
+        Ok(())
+    }
+
+    #[test]
+    fn caseless_texts(rt: HostRuntime) -> Result<(), Fail> {
+        let upper = AsciiUniCase { word: "IF" };
+        let lower = AsciiUniCase { word: "if" };
+        assert!(rt; upper == lower && upper != AsciiUniCase { word: "it" });
+        let mut hashers = (DefaultHasher::new(), DefaultHasher::new());
+        upper.hash(&mut hashers.0);
+        lower.hash(&mut hashers.1);
+        assert_eq!(rt; hashers.0.finish(), hashers.1.finish());
+        assert_eq!(rt; format!(in rt.alloc(); "{upper:?}")?.as_str(), "\"IF\"");
+        Ok(())
+    }
+}

@@ -1,0 +1,7 @@
+//! Words that no identifier may be.
+//!
+//! `keyword_set` has sets of words, `keywords` the two tables of words of WGSL.
+#![tactic(auto)]
+
+pub mod keyword_set;
+pub mod keywords;

@@ -1,0 +1,612 @@
+//! Rows of labels and of modules with the names that they are to get. They are constants, and each kind
+//! of item is built by one function through a `&mut Sample`, so that a row costs the prover little.
+use naga_ir::{
+    AddressSpace, Constant, EntryPoint, Expression, Function, FunctionArgument, FunctionResult,
+    GlobalVariable, Handle, ImageClass, ImageDimension, MemoryDecorations, Module, Override, Scalar,
+    ShaderStage, StructMember, Type_, TypeInner,
+};
+use naga_names::keyword_set::{CaseInsensitiveKeywordSet, KeywordSet};
+use naga_names::keywords::{BUILTIN_IDENTIFIERS, RESERVED};
+use naga_names::namer::{ExternalTextureNameKey, NameKey, Namer, NamerError};
+use std::alloc::{AllocError, Global};
+use std::collections::HashMap;
+use std::mem;
+use std::process::Abort;
+use std::test::Fail;
+
+/// Labels of calls, one after another, and the names that these give.
+type Calls = &'static [(&'static str, &'static str)];
+
+const BY_THEIR_BASE: Calls = &[
+    ("x", "x"),
+    ("x", "x_1"),
+    ("x1", "x1_"),
+    ("__x", "_x"),
+    ("1___x", "_x_1"),
+];
+
+const MARKS_AND_FOREIGN: Calls = &[
+    ("a:b<c>", "a_b_c"),
+    ("", "unnamed"),
+    ("___", "unnamed_1"),
+    ("\u{e9}", "u00e9_"),
+    ("x\u{b2}", "x_u00b2_"),
+    ("\u{b2}y", "y"),
+    ("_e5", "_e5_"),
+    ("_e", "_e"),
+    ("_e", "_e_1"),
+];
+
+/// Calls with these labels, in order, give these names.
+fn gives(rt: &impl Abort, namer: &mut Namer, rows: &[(&str, &str)]) -> Result<(), NamerError> {
+    for (label, want) in rows {
+        let name = namer.call(*label)?;
+        assert_eq!(rt; name.as_str(), *want, "for {label:?}");
+    }
+    Ok(())
+}
+
+/// A `reset` with the words of WGSL and the prefixes that its implementations reserve.
+fn reset_for_wgsl(
+    alloc: Global,
+    namer: &mut Namer,
+    module: &Module,
+    output: &mut HashMap<NameKey, String>,
+) -> Result<(), NamerError> {
+    let keywords = KeywordSet::from_slice(alloc, RESERVED)?;
+    let builtin = KeywordSet::from_slice(alloc, BUILTIN_IDENTIFIERS)?;
+    let caseless = CaseInsensitiveKeywordSet::new(alloc);
+    namer.reset(
+        module,
+        keywords,
+        builtin,
+        caseless,
+        &["__", "_naga"],
+        output,
+    )
+}
+
+#[test]
+fn names_by_labels(rt: HostRuntime) -> Result<(), Fail> {
+    gives(&rt, &mut Namer::default(rt.alloc()), BY_THEIR_BASE)?;
+    gives(&rt, &mut Namer::default(rt.alloc()), MARKS_AND_FOREIGN)?;
+    Ok(())
+}
+
+/// 100,000 times `_`.
+fn long_label(alloc: Global) -> Result<String, AllocError> {
+    let mut label = String::new(alloc);
+    for _ in 0..100_000 {
+        label.push('_')?;
+    }
+    Ok(label)
+}
+
+#[test]
+fn a_long_label(rt: HostRuntime) -> Result<(), Fail> {
+    let long = long_label(rt.alloc())?;
+    gives(
+        &rt,
+        &mut Namer::default(rt.alloc()),
+        &[(long.as_str(), "unnamed")],
+    )?;
+    Ok(())
+}
+
+#[test]
+fn fallbacks(rt: HostRuntime) -> Result<(), Fail> {
+    let mut namer = Namer::default(rt.alloc());
+    let empty = Some(String::new(rt.alloc()));
+    for (label, want) in [(&None, "param"), (&empty, "unnamed"), (&None, "param_1")] {
+        assert_eq!(rt; namer.call_or(label, "param")?.as_str(), want);
+    }
+    Ok(())
+}
+
+/// A call that memory refuses gives, when it is repeated, the name that it would have given.
+fn gives_at_last(rt: &impl Abort, namer: &mut Namer, rows: Calls) -> Result<(), NamerError> {
+    for (label, want) in rows {
+        let name = match namer.call(*label) {
+            Err(NamerError::Memory(_)) => namer.call(*label)?,
+            answer => answer?,
+        };
+        assert_eq!(rt; name.as_str(), *want);
+    }
+    Ok(())
+}
+
+#[test]
+fn a_refused_call_changes_nothing(rt: HostRuntime) -> Result<(), Fail> {
+    gives_at_last(&rt, &mut Namer::default(rt.alloc()), BY_THEIR_BASE)?;
+    Ok(())
+}
+
+#[test]
+fn refusals_are_told(rt: HostRuntime) -> Result<(), Fail> {
+    for (refusal, want) in [
+        (NamerError::Full, "namer is full"),
+        (NamerError::KeyFull, "name key out of range"),
+        (NamerError::from(AllocError), "out of memory"),
+    ] {
+        assert_eq!(rt; refusal.to_string(rt.alloc())?.as_str(), want);
+    }
+    Ok(())
+}
+
+type Label = Option<&'static str>;
+
+/// An item of a module. Where it has a type, that is the module's first one.
+enum Item {
+    /// The type `i32`.
+    Number(Label),
+    /// The type of images from outside the graphics interface.
+    External,
+    /// A struct with these members.
+    Struct(Label, &'static [Label]),
+    /// An entry point that returns the first type.
+    EntryPoint(&'static str, ShaderStage),
+    /// A function with these arguments.
+    Function(Label, &'static [Label]),
+    /// A global variable.
+    Global(Label),
+    /// A constant.
+    Constant(Label),
+    /// An override.
+    Override(Label),
+}
+
+/// Items in the order of their names, and these names; what external images have in addition stands
+/// directly behind them.
+struct Row {
+    items: &'static [Item],
+    names: &'static [&'static str],
+}
+
+const ROWS: &[Row] = &[
+    Row {
+        items: &[
+            Item::Number(None),
+            Item::Function(Some("f"), &[Some("x"), Some("x")]),
+        ],
+        names: &["type_", "f", "x", "x_1"],
+    },
+    Row {
+        items: &[
+            Item::Number(None),
+            Item::Function(Some("_naga"), &[Some("\u{e9}"), Some("1x")]),
+        ],
+        names: &["type_", "gen__naga", "u00e9_", "x"],
+    },
+    // An external image of each kind has its parts.
+    Row {
+        items: &[Item::External, Item::Global(Some("t"))],
+        names: &[
+            "type_",
+            "t",
+            "t_plane0_",
+            "t_plane1_",
+            "t_plane2_",
+            "t_params",
+        ],
+    },
+    Row {
+        items: &[Item::External, Item::Function(Some("f"), &[None, None])],
+        names: &[
+            "type_",
+            "f",
+            "param",
+            "param_plane0_",
+            "param_plane1_",
+            "param_plane2_",
+            "param_params",
+            "param_1",
+            "param_plane0_1",
+            "param_plane1_1",
+            "param_plane2_1",
+            "param_params_1",
+        ],
+    },
+    // Members have a namespace of their own, in which builtin words are free.
+    Row {
+        items: &[
+            Item::Number(None),
+            Item::Struct(
+                Some("S"),
+                &[Some("x"), Some("x"), Some("fract"), Some("fn"), None],
+            ),
+            Item::Constant(None),
+            Item::Constant(None),
+        ],
+        names: &[
+            "type_",
+            "S",
+            "x",
+            "x_1",
+            "fract",
+            "fn_",
+            "member",
+            "const_type",
+            "const_type_1",
+        ],
+    },
+    Row {
+        items: &[
+            Item::Number(Some("x")),
+            Item::Struct(None, &[Some("x"), Some("type")]),
+            Item::Struct(None, &[Some("x")]),
+            Item::Function(None, &[Some("x")]),
+            Item::Global(None),
+            Item::Constant(Some("x")),
+            Item::Override(None),
+        ],
+        names: &[
+            "x",
+            "type_",
+            "x",
+            "type_",
+            "type_1",
+            "x",
+            "function_",
+            "x_1",
+            "global",
+            "x_2",
+            "override_x",
+        ],
+    },
+    // A struct that entry points return is named by the last of them.
+    Row {
+        items: &[
+            Item::Struct(None, &[]),
+            Item::EntryPoint("main", ShaderStage::Vertex),
+            Item::EntryPoint("main", ShaderStage::Fragment),
+        ],
+        names: &["FragmentOutput", "main", "main_1"],
+    },
+    Row {
+        items: &[
+            Item::Struct(None, &[]),
+            Item::EntryPoint("main", ShaderStage::Compute),
+            Item::EntryPoint("main", ShaderStage::Mesh),
+        ],
+        names: &["ComputeOutput", "main", "main_1"],
+    },
+    Row {
+        items: &[
+            Item::Struct(None, &[]),
+            Item::EntryPoint("main", ShaderStage::Mesh),
+        ],
+        names: &["type_", "main"],
+    },
+];
+
+const EMPTY: Row = Row {
+    items: &[],
+    names: &[],
+};
+
+/// Labels of calls of a `Namer` that was reset by the empty module.
+const LABELS: &[Calls] = &[
+    &[
+        ("fn", "fn_"),
+        ("_naga_x", "gen__naga_x"),
+        ("traceRay", "traceRay_"),
+    ],
+    &[("type", "type_"), ("type", "type_1")],
+    &[("\u{1f600}", "u1f600_")],
+    &[("\u{3b1}\u{3b2}", "u03b1_u03b2_")],
+    &[("\u{663}k", "k"), ("\u{2167}v", "v"), ("\u{bd}h", "h")],
+    &[("v\u{2167}", "v_u2167_")],
+    &[
+        ("\u{e9}9", "u00e9_9_"),
+        ("x\u{e9}\u{e9}y", "x_u00e9_u00e9_y"),
+    ],
+    &[("\n", "u000a"), ("\0", "u0000_")],
+    &[("a b", "a_u0020_b"), ("a-b", "a_u002d_b")],
+    &[("_naga", "gen__naga"), ("__x", "_x"), ("_:x", "_x_1")],
+    &[("Self", "Self_"), ("self", "self_"), ("self", "self_1")],
+    &[("x_1", "x_1_"), ("x", "x"), ("x", "x_1")],
+    &[("<a,b>", "_a_b"), ("a_", "a"), ("a__b", "a_b")],
+    &[("::", "unnamed"), ("9_", "unnamed_1")],
+];
+
+/// A module that is built item by item, the keys of its items, and their names after a `reset`.
+#[derive(Drop)]
+struct Sample {
+    alloc: Global,
+    module: Module,
+    function: Function,
+    keys: Vec<NameKey>,
+    namer: Namer,
+    names: HashMap<NameKey, String>,
+}
+
+/// A key that the map has before the `reset`.
+const OTHER: NameKey = NameKey::EntryPoint(7);
+
+const PARTS: [ExternalTextureNameKey; 4] = [
+    ExternalTextureNameKey::Plane(0),
+    ExternalTextureNameKey::Plane(1),
+    ExternalTextureNameKey::Plane(2),
+    ExternalTextureNameKey::Params,
+];
+
+fn text(alloc: Global, label: Label) -> Result<Option<String>, AllocError> {
+    match label {
+        Some(label) => Ok(Some(String::from_str(alloc, label)?)),
+        None => Ok(None),
+    }
+}
+
+fn first_type() -> Handle<Type_> {
+    Handle::<Type_>::from_index(0)
+}
+
+impl Sample {
+    fn new(alloc: Global) -> Self {
+        Sample {
+            alloc,
+            module: Module::new(alloc),
+            function: Function::new(alloc),
+            keys: Vec::new(alloc),
+            namer: Namer::default(alloc),
+            names: HashMap::new(alloc),
+        }
+    }
+
+    fn add(&mut self, item: &Item) -> Result<(), AllocError> {
+        match item {
+            Item::Number(label) => self.add_number(*label),
+            Item::External => self.add_external(),
+            Item::Struct(label, members) => self.add_struct(*label, *members),
+            Item::EntryPoint(label, stage) => self.add_entry_point(*label, *stage),
+            Item::Function(label, arguments) => self.add_function(*label, *arguments),
+            Item::Global(label) => self.add_global(*label),
+            Item::Constant(label) => self.add_constant(*label),
+            Item::Override(label) => self.add_override(*label),
+        }
+    }
+
+    fn add_type(&mut self, label: Label, inner: TypeInner) -> Result<Handle<Type_>, AllocError> {
+        let name = text(self.alloc, label)?;
+        let ty = self.module.types.insert(Type_ { name, inner })?;
+        self.keys.push(NameKey::Type_(ty))?;
+        Ok(ty)
+    }
+
+    fn add_number(&mut self, label: Label) -> Result<(), AllocError> {
+        self.add_type(label, TypeInner::Scalar(Scalar::I32))?;
+        Ok(())
+    }
+
+    fn add_external(&mut self) -> Result<(), AllocError> {
+        let inner = TypeInner::Image {
+            dim: ImageDimension::D2,
+            arrayed: false,
+            class: ImageClass::External,
+        };
+        self.add_type(None, inner)?;
+        Ok(())
+    }
+
+    fn add_struct(&mut self, label: Label, labels: &[Label]) -> Result<(), AllocError> {
+        let members = self.members(labels)?;
+        let ty = self.add_type(label, TypeInner::Struct { members, span: 0 })?;
+        self.add_member_keys(ty, labels.len())
+    }
+
+    fn members(&self, labels: &[Label]) -> Result<Vec<StructMember>, AllocError> {
+        let mut members = Vec::new(self.alloc);
+        for label in labels {
+            members.push(self.member(*label)?)?;
+        }
+        Ok(members)
+    }
+
+    fn member(&self, label: Label) -> Result<StructMember, AllocError> {
+        Ok(StructMember {
+            name: text(self.alloc, label)?,
+            ty: first_type(),
+            binding: None,
+            offset: 0,
+        })
+    }
+
+    fn add_member_keys(&mut self, ty: Handle<Type_>, count: usize) -> Result<(), AllocError> {
+        for index in 0..count {
+            let index = u32::try_from(index).unwrap_or(u32::MAX);
+            self.keys.push(NameKey::StructMember(ty, index))?;
+        }
+        Ok(())
+    }
+
+    fn add_entry_point(&mut self, label: &str, stage: ShaderStage) -> Result<(), AllocError> {
+        let index = u16::try_from(self.module.entry_points.len()).unwrap_or(u16::MAX);
+        let entry_point = EntryPoint {
+            name: String::from_str(self.alloc, label)?,
+            stage,
+            workgroup_size: [1, 1, 1],
+            function: self.returning(),
+            mesh_info: None,
+            task_payload: None,
+            incoming_ray_payload: None,
+        };
+        self.module.entry_points.push(entry_point)?;
+        self.keys.push(NameKey::EntryPoint(index))?;
+        Ok(())
+    }
+
+    fn returning(&self) -> Function {
+        let mut function = Function::new(self.alloc);
+        function.result = Some(FunctionResult {
+            ty: first_type(),
+            binding: None,
+        });
+        function
+    }
+
+    fn add_function(&mut self, label: Label, arguments: &[Label]) -> Result<(), AllocError> {
+        self.function.name = text(self.alloc, label)?;
+        for label in arguments {
+            self.add_argument(*label)?;
+        }
+        let function = mem::replace(&mut self.function, Function::new(self.alloc));
+        let handle = self.module.functions.append(function)?;
+        self.keys.push(NameKey::Function(handle))?;
+        self.add_argument_keys(handle, arguments.len())
+    }
+
+    fn add_argument(&mut self, label: Label) -> Result<(), AllocError> {
+        let name = text(self.alloc, label)?;
+        self.function.arguments.push(FunctionArgument {
+            name,
+            ty: first_type(),
+            binding: None,
+        })?;
+        Ok(())
+    }
+
+    fn add_argument_keys(&mut self, f: Handle<Function>, count: usize) -> Result<(), AllocError> {
+        for index in 0..count {
+            let index = u32::try_from(index).unwrap_or(u32::MAX);
+            self.keys.push(NameKey::FunctionArgument(f, index))?;
+            self.add_argument_parts(f, index)?;
+        }
+        Ok(())
+    }
+
+    fn add_argument_parts(&mut self, f: Handle<Function>, index: u32) -> Result<(), AllocError> {
+        if !is_external(&self.module.types, first_type()) {
+            return Ok(());
+        }
+        for part in PARTS {
+            let key = NameKey::ExternalTextureFunctionArgument(f, index, part);
+            self.keys.push(key)?;
+        }
+        Ok(())
+    }
+
+    fn add_global(&mut self, label: Label) -> Result<(), AllocError> {
+        let name = text(self.alloc, label)?;
+        let handle = self.module.global_variables.append(GlobalVariable {
+            name,
+            space: AddressSpace::Handle,
+            binding: None,
+            ty: first_type(),
+            init: None,
+            memory_decorations: MemoryDecorations::COHERENT,
+        })?;
+        self.keys.push(NameKey::GlobalVariable(handle))?;
+        self.add_global_parts(handle)
+    }
+
+    fn add_global_parts(&mut self, global: Handle<GlobalVariable>) -> Result<(), AllocError> {
+        if !is_external(&self.module.types, first_type()) {
+            return Ok(());
+        }
+        for part in PARTS {
+            let key = NameKey::ExternalTextureGlobalVariable(global, part);
+            self.keys.push(key)?;
+        }
+        Ok(())
+    }
+
+    fn add_constant(&mut self, label: Label) -> Result<(), AllocError> {
+        let name = text(self.alloc, label)?;
+        let ty = first_type();
+        let init = self
+            .module
+            .global_expressions
+            .append(Expression::ZeroValue(ty))?;
+        let handle = self.module.constants.append(Constant { name, ty, init })?;
+        self.keys.push(NameKey::Constant(handle))?;
+        Ok(())
+    }
+
+    fn add_override(&mut self, label: Label) -> Result<(), AllocError> {
+        let name = text(self.alloc, label)?;
+        let handle = self.module.overrides.append(Override {
+            name,
+            id: None,
+            ty: first_type(),
+            init: None,
+        })?;
+        self.keys.push(NameKey::Override(handle))?;
+        Ok(())
+    }
+
+    fn fill(&mut self, items: &[Item]) -> Result<(), AllocError> {
+        self.names
+            .insert(OTHER, String::from_str(self.alloc, "kept")?)?;
+        for item in items {
+            self.add(item)?;
+        }
+        Ok(())
+    }
+
+    fn reset(&mut self) -> Result<(), NamerError> {
+        reset_for_wgsl(self.alloc, &mut self.namer, &self.module, &mut self.names)
+    }
+
+    /// Each key has its name, and the map no other keys than these and the one that it had.
+    fn has_names(&self, rt: &impl Abort, want: &[&str]) {
+        for (key, name) in self.keys.iter().zip(want) {
+            assert!(rt;
+                self.names
+                    .get(key)
+                    .is_some_and(|found| found.as_str() == *name),
+                "{key:?}"
+            );
+        }
+        assert_eq!(rt; self.keys.len(), want.len());
+        assert!(rt; self.names.contains_key(&OTHER) && self.names.len() - 1 == want.len());
+    }
+
+    /// Some first keys have their names, and the map has the key that it had.
+    fn has_some_names(&self, rt: &impl Abort, want: &[&str]) {
+        let mut ended = false;
+        for (key, name) in self.keys.iter().zip(want) {
+            match self.names.get(key) {
+                Some(found) => assert!(rt; !ended && found.as_str() == *name, "{key:?}"),
+                None => ended = true,
+            }
+        }
+        assert!(rt; self.names.contains_key(&OTHER));
+    }
+
+    /// A `reset` gives the names, and the calls theirs behind it, or it is refused for want of memory: then the map has the names of some
+    /// first items, and the `Namer` is a new one.
+    fn check(&mut self, rt: &impl Abort, row: &Row, calls: Calls) -> Result<(), NamerError> {
+        self.fill(row.items)?;
+        match self.reset() {
+            Ok(()) => {
+                self.has_names(rt, row.names);
+                gives(rt, &mut self.namer, calls)
+            }
+            Err(_) => {
+                self.has_some_names(rt, row.names);
+                gives(rt, &mut self.namer, &[("fn", "fn"), ("x", "x")])
+            }
+        }
+    }
+}
+
+fn check_row(rt: &impl Abort, alloc: Global, row: &Row, calls: Calls) -> Result<(), NamerError> {
+    let mut sample = Sample::new(alloc);
+    sample.check(rt, row, calls)
+}
+
+#[test]
+fn names_of_modules(rt: HostRuntime) -> Result<(), Fail> {
+    for row in ROWS {
+        check_row(&rt, rt.alloc(), row, &[])?;
+    }
+    Ok(())
+}
+
+#[test]
+fn names_by_labels_for_wgsl(rt: HostRuntime) -> Result<(), Fail> {
+    for calls in LABELS {
+        check_row(&rt, rt.alloc(), &EMPTY, *calls)?;
+    }
+    Ok(())
+}
