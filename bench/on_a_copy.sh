@@ -7,8 +7,8 @@ copy=$(mktemp -d)
 trap 'rm -rf "$copy"' EXIT
 cp HANDLES "$copy"
 mkdir -p "$copy/crates/$name/src" "$copy/crates/$name/specs" "$copy/crates/$name/proofs"
-tar cf - --exclude=out crates/naga_flags crates/naga_arena crates/naga_enumerations crates/naga_ir crates/naga_names | tar xf - -C "$copy"
-grep -E '^(naga_flags|naga_arena|naga_enumerations|naga_ir|naga_names):' crates.txt > "$copy/crates.txt"
+tar cf - --exclude=out crates/naga_flags crates/naga_arena crates/naga_enumerations crates/naga_ir crates/naga_keywords crates/naga_names | tar xf - -C "$copy"
+grep -E '^(naga_flags|naga_arena|naga_enumerations|naga_ir|naga_keywords|naga_names):' crates.txt > "$copy/crates.txt"
 echo "$name: naga_ir naga_names" >> "$copy/crates.txt"
 cp "$top/bench/$name/main.rt.txt" "$copy/crates/$name/src/main.rt"
 : > "$copy/crates/$name/specs/Lib.antt"

@@ -23,6 +23,7 @@ use Rattle.shader_runs.specs.Scope.{Naming, at_start, Standing, Named, Handles, 
 use Rattle.shader_runs.specs.Text.{LiteralOf, before, ReturnLine, Apply, LogicalOf, more, no_more, Let, Assign}
 use Rattle.shader_runs.specs.Form.{written_below, names_from, variables_from, form_function, Plain, AsValue, AsPlace, let_if}
 use Rattle.naga_form.specs.Form.{parameters_form, function_form, PlainForm, ValueForm, ReferenceForm, as_value, as_reference, own_plain, own_if, standing_plain, plain_below, plain_form, value_form, let_form, then_if, lets_form, return_line, line_form, lines_form, locals_form, told_type}
+use Rattle.naga_words.specs.Contexts.{names_of}
 use Rattle.naga_form.specs.Names.{function_name, argument_name}
 use Rattle.naga_form.specs.Types.{value_type}
 use Rattle.naga_form.specs.Literals.{literal_form, literal_value, value_read}
@@ -153,7 +154,7 @@ module _ (names : NameMap) (types : List Type_) (g : ℕ) (f : ir_function.Funct
       line_reads told k st s (lines_form own told f.expressions (given_by own.function (statement_shape st) k) b (after own k (statement_shape st) s))
       ∙ ap (runs.form own k (statement_shape st) s) (lines_read told (given_by own.function (statement_shape st) k) b (after own k (statement_shape st) s))
 
-  locals_read : (l : ℕ) (vs : List LocalVariable) → map variable_read (locals_form own types f.expressions l vs) ≡ variables_from own l (map (λ v. v.init) vs)
+  locals_read : (l : ℕ) (vs : List LocalVariable) → map variable_read (locals_form own (names_of types names) f.expressions l vs) ≡ variables_from own l (map (λ v. v.init) vs)
   locals_read l [] = refl
   locals_read l (v ∷ vs) = λ i.
       record { name = own.names.local_ l; first_value = value_if_reads (at_start own.function) v.init i }
@@ -164,5 +165,5 @@ function_reads explicit names types g f es = λ i. record {
   name = function_name names g;
   parameters = (names_counted names types g 0 f.arguments.items ∙ ap (names_from (argument_name names g) 0) (sym (mapped_length (λ a. value_type (word_at types a.ty)) f.arguments.items))) i;
   variables = locals_read names types g f es 0 f.local_variables i;
-  lines = lines_read names types g f es (told_type explicit types es) 0 f.body (at_start (function_shape types f es)) i;
+  lines = lines_read names types g f es (told_type explicit (names_of types names) es) 0 f.body (at_start (function_shape types f es)) i;
 }

@@ -18,6 +18,7 @@ use Rattle.shader_runs.specs.Program.{binds, from}
 use Rattle.shader_runs.specs.Scope.{Handles, Naming, at_start, bound_name, given_after, given_by, after_one, after_emit, after}
 use Rattle.wgsl_text.specs.Tree.{TypeSpecifier}
 use Rattle.wgsl_text.specs.Tree as tree
+use Rattle.naga_form.specs.Types.{type_names}
 use Rattle.naga_form.specs.Names.{module_names, numbered_name}
 use Rattle.naga_form.specs.Shapes.{statement_shape, function_naming}
 use Rattle.naga_form.specs.Form.{as_value, own_if, plain_form, let_form, then_if, lets_form, return_line, line_form, lines_form, function_form, functions_form, written_program, told_type}
@@ -88,7 +89,7 @@ functions_bind m explicit g (f ∷ fs) (es ∷ ess) there fits unnamed =
     let named_none = λ (f : ir_function.Function). length (keys f.named_expressions) == 0 in
     let here : g + 0 ≡ g = omega arith in
     let found = subst (λ h. slice_get m.functions h ≡ Some f) here (there 0 f refl) in
-    let one = lines_bind m g f found es fit (and_left (named_none f) (list_all named_none fs) unnamed) (told_type explicit m.types es) 0 f.body (at_start (function_naming (module_names m) m.types g f es).function) in
+    let one = lines_bind m g f found es fit (and_left (named_none f) (list_all named_none fs) unnamed) (told_type explicit (type_names m) es) 0 f.body (at_start (function_naming (module_names m) m.types g f es).function) in
     let rest = functions_bind m explicit (g + 1) fs ess later (and_right (function_fits m.types f es) (functions_fit m.types fs ess) fits) (and_right (named_none f) (list_all named_none fs) unnamed) in
     λ i. one i ∷ rest i
   where

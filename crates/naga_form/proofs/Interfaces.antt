@@ -8,24 +8,26 @@ use Rattle.naga_ir.specs.declared.types.Type_.{Type_}
 use Rattle.naga_info.specs.declared.info.ExpressionInfo.{ExpressionInfo}
 use Rattle.naga_info.specs.declared.info.ModuleInfo.{ModuleInfo}
 use Rattle.naga_names.specs.Reset.{NameMap}
+use Rattle.naga_words.specs.Contexts.{names_of}
+use Rattle.naga_words.specs.Trees.{Names as TypeNames}
 use Rattle.naga_form.specs.Names.{module_names}
 use Rattle.naga_form.specs.Form.{parameters_form, result_form, function_form, functions_form, written_program}
 use Rattle.naga_form.specs.Interface.{parameter_read, result_read, function_interface_read, passed, result_passed, function_interface, function_interfaces}
 use Rattle.naga_form.specs.Faithful.{HasInterfaceOf}
 
-parameters_passed : (names : NameMap) (types : List Type_) (g n : ℕ) (args : List FunctionArgument) → map parameter_read (parameters_form names types g n args) ≡ map (λ a. passed types a.ty) args
+parameters_passed : (names : NameMap) (types : List Type_) (g n : ℕ) (args : List FunctionArgument) → map parameter_read (parameters_form names types g n args) ≡ map (λ a. passed (names_of types names) a.ty) args
 parameters_passed names types g n [] = refl
-parameters_passed names types g n (a ∷ more) = ap (λ ps. passed types a.ty ∷ ps) (parameters_passed names types g (n + 1) more)
+parameters_passed names types g n (a ∷ more) = ap (λ ps. passed (names_of types names) a.ty ∷ ps) (parameters_passed names types g (n + 1) more)
 
-results_passed : (types : List Type_) (r : Option FunctionResult) → result_read (result_form types r) ≡ result_passed types r
-results_passed types None = refl
-results_passed types (Some r) = refl
+results_passed : (t : TypeNames) (r : Option FunctionResult) → result_read (result_form t r) ≡ result_passed t r
+results_passed t None = refl
+results_passed t (Some r) = refl
 
 function_interface_form : (explicit : Bool) (names : NameMap) (types : List Type_) (g : ℕ) (f : ir_function.Function) (es : List ExpressionInfo) → function_interface_read (function_form explicit names types g f es) ≡ function_interface names types g f
 function_interface_form explicit names types g f es = λ i. record {
   name = (function_interface names types g f).name;
   arguments = parameters_passed names types g 0 f.arguments.items i;
-  result = results_passed types f.result i;
+  result = results_passed (names_of types names) f.result i;
 }
 
 function_interfaces_form : (explicit : Bool) (names : NameMap) (types : List Type_) (g : ℕ) (fs : List ir_function.Function) (ess : List (List ExpressionInfo)) → length fs ≡ length ess → map function_interface_read (functions_form explicit names types g fs ess) ≡ function_interfaces names types g fs

@@ -1,6 +1,7 @@
 pub mod Interfaces
 pub mod Facts
 pub mod Runs
+pub mod WrittenTypes
 pub mod Abstractions
 pub mod Fits
 pub mod Named

@@ -27,12 +27,13 @@ use Rattle.wgsl_text.specs.Tree.{LeastInteger, Suffixed, LeastLong, TypeSpecifie
 use Rattle.wgsl_text.specs.Token.{SuffixI, SuffixLi}
 use Rattle.wgsl_text.specs.Grammar.{IsType, IsLiteral, IsExpression}
 use Rattle.wgsl_text.specs.GrammarOfLines.{IsStatement, IsStatements, IsParameter, IsResult, IsFunction, IsProgram, Each, is_reference, IsValue, IsLocal}
-use Rattle.naga_form.specs.Form.{parameters_form, result_form, function_form, functions_form, pointer_form, pointer_told, inner_told, told_type, PlainForm, ValueForm, ReferenceForm, as_value, as_reference, own_plain, own_if, standing_plain, plain_below, plain_form, value_form, let_form, then_if, lets_form, return_line, line_form, lines_form, locals_form, written_program}
+use Rattle.naga_form.specs.Form.{parameters_form, result_form, function_form, functions_form, told_type, PlainForm, ValueForm, ReferenceForm, as_value, as_reference, own_plain, own_if, standing_plain, plain_below, plain_form, value_form, let_form, then_if, lets_form, return_line, line_form, lines_form, locals_form, written_program}
 use Rattle.naga_form.specs.Premises.{nothing_named, handles_are_counted}
 use Rattle.naga_form.specs.Names.{module_names, wgsl_names, numbered_text, numbered_name}
-use Rattle.naga_form.specs.Types.{type_form}
+use Rattle.naga_form.specs.Types.{type_names}
+use Rattle.naga_form.proofs.WrittenTypes.{is_type_at, told_is, known_spelled}
 use Rattle.naga_form.specs.Literals.{literal_form}
-use Rattle.naga_form.proofs.Facts.{and_left, and_right, all_at, then_some, element}
+use Rattle.naga_form.proofs.Facts.{and_left, and_right, then_some, element}
 use Rattle.naga_form.proofs.Named.{item_is_identifier, function_item, argument_item, function_there, argument_there}
 use Rattle.std.specs.Char.{is_ascii_digit}
 use Rattle.std.specs.Str.{bytes_eq}
@@ -53,58 +54,6 @@ use Rattle.shader_runs.specs.Program.{expression_of, operands_of, binds, binds_a
 use Rattle.shader_runs.specs.Scope.{Standing, Absent, Barred, Everywhere, Inline, Named, Handles, Naming, bound_name, usable_all, is_pure, is_constant_below, start_standing, at_start, unbound, emitted, after_one, given_after, given_by, after_emit, after}
 use Rattle.naga_form.specs.Shapes.{expression_shape, statement_shape, function_naming}
 use Rattle.naga_form.proofs.Fits.{local_item, not_given}
-
--- ---- types
--- each word of a scalar type is a type
-bool_is_type : IsType (NamedType (codes "bool"))
-unfolding is_reserved
-bool_is_type = record { part = record { text = refl; free = refl }; whole = refl }
-
-i32_is_type : IsType (NamedType (codes "i32"))
-unfolding is_reserved
-i32_is_type = record { part = record { text = refl; free = refl }; whole = refl }
-
-i64_is_type : IsType (NamedType (codes "i64"))
-unfolding is_reserved
-i64_is_type = record { part = record { text = refl; free = refl }; whole = refl }
-
-u32_is_type : IsType (NamedType (codes "u32"))
-unfolding is_reserved
-u32_is_type = record { part = record { text = refl; free = refl }; whole = refl }
-
-u64_is_type : IsType (NamedType (codes "u64"))
-unfolding is_reserved
-u64_is_type = record { part = record { text = refl; free = refl }; whole = refl }
-
--- what holds of each word of a scalar type holds of one that is found by two tests
-module _ (P : List ℕ → Type 0) (of_bool : P (codes "bool")) (of_i32 : P (codes "i32")) (of_i64 : P (codes "i64")) (of_u32 : P (codes "u32")) (of_u64 : P (codes "u64")) where
-  by_width : (a b : Bool) (x y : List ℕ) → P x → P y → IsTrue (is_some (if a then Some x else (if b then Some y else None))) → P (unwrap_or (if a then Some x else (if b then Some y else None)) [])
-  by_width true b x y p q e = p
-  by_width false true x y p q e = q
-  by_width false false x y p q e = absurd (cc)
-
-  by_one : (a : Bool) (x : List ℕ) → P x → IsTrue (is_some (if a then Some x else None)) → P (unwrap_or (if a then Some x else None) [])
-  by_one true x p e = p
-  by_one false x p e = absurd (cc)
-
-  pub of_each_width : (k : ScalarKind) (w : ℕ) → IsTrue (is_some (word_of_width k w)) → P (unwrap_or (word_of_width k w) [])
-  of_each_width kind.Bool w e = by_one (w == 1) (codes "bool") of_bool e
-  of_each_width kind.Sint w e = by_width (w == 4) (w == 8) (codes "i32") (codes "i64") of_i32 of_i64 e
-  of_each_width kind.Uint w e = by_width (w == 4) (w == 8) (codes "u32") (codes "u64") of_u32 of_u64 e
-  of_each_width _ w e = absurd (cc)
-
-pub width_is_type : (k : ScalarKind) (w : ℕ) → IsTrue (is_some (word_of_width k w)) → IsType (NamedType (unwrap_or (word_of_width k w) []))
-width_is_type = of_each_width (λ w. IsType (NamedType w)) bool_is_type i32_is_type i64_is_type u32_is_type u64_is_type
-
-inner_is_type : (t : TypeInner) → IsTrue (is_some (word_of_type t)) → IsType (NamedType (unwrap_or (word_of_type t) []))
-inner_is_type (inner.Scalar s) e = width_is_type s.kind s.width e
-inner_is_type _ e = absurd (cc)
-
-module _ (types : List Type_) (scalars : IsTrue (list_all is_scalar_type types)) where
-  pub is_type_at : (ty : ℕ) → ty < length types → IsType (type_form types ty)
-  is_type_at ty lt =
-      let t = element types ty lt in
-      subst (λ o. IsType (NamedType (unwrap_or (option_and_then (λ t. word_of_type t.inner) o) []))) (sym t.1) (inner_is_type t.0.inner (all_at is_scalar_type types ty t.0 scalars t.1))
 
 -- ---- literals
 least_or : (n : ℕ) (b : Bool) → (n == 2147483647) ≡ b → n < 2 ^ 31 → IsLiteral (if b then LeastInteger else Suffixed true (suc n) SuffixI)
@@ -172,62 +121,6 @@ handle_name_is h = record {
 pub numbered_is : (h : ℕ) → h < 2 ^ 64 → IsIdentifier (numbered_name h)
 unfolding numbered_name
 numbered_is h lt = subst (λ b. IsIdentifier (numbered_text b h)) (sym (lt-ltb h (2 ^ 64) lt)) (handle_name_is h)
-
--- ---- the types that `let`s tell
-bool_pointer : IsType (pointer_form (codes "bool"))
-unfolding is_reserved
-bool_pointer = record { part = (refl, (record { text = refl; free = refl }, (record { text = refl; free = refl }, tt))); whole = refl }
-
-i32_pointer : IsType (pointer_form (codes "i32"))
-unfolding is_reserved
-i32_pointer = record { part = (refl, (record { text = refl; free = refl }, (record { text = refl; free = refl }, tt))); whole = refl }
-
-i64_pointer : IsType (pointer_form (codes "i64"))
-unfolding is_reserved
-i64_pointer = record { part = (refl, (record { text = refl; free = refl }, (record { text = refl; free = refl }, tt))); whole = refl }
-
-u32_pointer : IsType (pointer_form (codes "u32"))
-unfolding is_reserved
-u32_pointer = record { part = (refl, (record { text = refl; free = refl }, (record { text = refl; free = refl }, tt))); whole = refl }
-
-u64_pointer : IsType (pointer_form (codes "u64"))
-unfolding is_reserved
-u64_pointer = record { part = (refl, (record { text = refl; free = refl }, (record { text = refl; free = refl }, tt))); whole = refl }
-
--- what holds of a scalar's word holds of the word that is found
-module _ (P : List ℕ → Type 0) (each : (k : ScalarKind) (w : ℕ) → IsTrue (is_some (word_of_width k w)) → P (unwrap_or (word_of_width k w) [])) where
-  of_word : (k : ScalarKind) (w : ℕ) (x : List ℕ) → word_of_width k w ≡ Some x → P x
-  of_word k w x is = subst (λ o. P (unwrap_or o [])) is (each k w (ap is_some is))
-
-  of_type : (t : TypeInner) (x : List ℕ) → word_of_type t ≡ Some x → P x
-  of_type (inner.Scalar s) x is = of_word s.kind s.width x is
-  of_type _ x is = absurd (cc)
-
-pointers_are : (k : ScalarKind) (w : ℕ) → IsTrue (is_some (word_of_width k w)) → IsType (pointer_form (unwrap_or (word_of_width k w) []))
-pointers_are = of_each_width (λ w. IsType (pointer_form w)) bool_pointer i32_pointer i64_pointer u32_pointer u64_pointer
-
-inner_told_is : (types : List Type_) (i : TypeInner) (t : TypeSpecifier) → inner_told types i ≡ Some t → IsType t
-inner_told_is types (inner.Scalar s) t is = by (scalar_word s) refl is
-  where
-    by : (o : Option (List ℕ)) → scalar_word s ≡ o → option_map NamedType o ≡ Some t → IsType t
-    by None at e = absurd (cc)
-    by (Some w) at e = subst IsType (ap (λ o. unwrap_or o t) e) (of_word (λ w. IsType (NamedType w)) width_is_type s.kind s.width w at)
-inner_told_is types (inner.Pointer base a) t is = by a (word_at types base) refl is
-  where
-    by : (a : AddressSpace) (o : Option (List ℕ)) → word_at types base ≡ o → pointer_told a o ≡ Some t → IsType t
-    by space.Function None at e = absurd (cc)
-    by space.Function (Some w) at e =
-        let ty = then_some (λ t. word_of_type t.inner) (slice_get types base) w at in
-        subst IsType (ap (λ o. unwrap_or o t) e) (of_type (λ w. IsType (pointer_form w)) pointers_are ty.0.inner w ty.2)
-    by _ o at e = absurd (cc)
-inner_told_is types _ t is = absurd (cc)
-
-pub told_is : (explicit : Bool) (types : List Type_) (es : List ExpressionInfo) (h : ℕ) (t : TypeSpecifier) → told_type explicit types es h ≡ Some t → IsType t
-told_is true types es h t is =
-    let e = then_some (λ e. option_and_then (inner_told types) (inner_of e.ty types)) (slice_get es h) t is in
-    let i = then_some (inner_told types) (inner_of e.0.ty types) t e.2 in
-    inner_told_is types i.0 t i.2
-told_is false types es h t is = absurd (cc)
 
 -- ---- functions
 -- a plain form of the grammar
@@ -377,7 +270,7 @@ module _ (m : Module) (g : ℕ) (f : ir_function.Function) (found : slice_get m.
       line_is told told_well k st s well (lines_form own told f.expressions (given_by own.function (statement_shape st) k) b (after own k (statement_shape st) s))
       (lines_are told told_well (given_by own.function (statement_shape st) k) b (after own k (statement_shape st) s) (after_is k st s well))
 
-  locals_are : (l : ℕ) (vs : List LocalVariable) → l + length vs ≡ length f.local_variables → list_all (local_fits m.types es) vs ≡ true → Each IsLocal (locals_form own m.types f.expressions l vs)
+  locals_are : (l : ℕ) (vs : List LocalVariable) → l + length vs ≡ length f.local_variables → list_all (local_fits m.types es) vs ≡ true → Each IsLocal (locals_form own (type_names m) f.expressions l vs)
   locals_are l [] size fit = tt
   locals_are l (v ∷ vs) size fit =
       let lt : l < length f.local_variables = omega (arith, size) in
@@ -386,7 +279,7 @@ module _ (m : Module) (g : ℕ) (f : ir_function.Function) (found : slice_get m.
       let parts = local_fits_parts m.types es v (and_left (local_fits m.types es v) (list_all (local_fits m.types es) vs) fit) in (
         record {
           name = item_is_identifier m (local_item g l here.0) (local_stands wgsl_names m g f l here.0 found here.1);
-          type = is_type_at m.types scalars v.ty (ltb-true v.ty (length m.types) parts.0);
+          type = is_type_at m.types scalars (module_names m) v.ty (ltb-true v.ty (length m.types) parts.0);
           value = first_is v.init;
         },
         locals_are (l + 1) vs next (and_right (local_fits m.types es v) (list_all (local_fits m.types es) vs) fit),
@@ -403,13 +296,13 @@ module _ (m : Module) (g : ℕ) (f : ir_function.Function) (found : slice_get m.
       let next : (n + 1) + length args ≡ length f.arguments.items = omega (arith, size) in
       let there = element f.arguments.items n lt in
       let here = and_left (nat_lt a.ty (length m.types)) (list_all (λ a. nat_lt a.ty (length m.types)) args) fit in (
-        record { attributes = tt; binding = refl; name = item_is_identifier m (argument_item m g n there.0) (argument_there m g f n there.0 found there.1); type = is_type_at m.types scalars a.ty (ltb-true a.ty (length m.types) here) },
+        record { attributes = tt; binding = refl; name = item_is_identifier m (argument_item m g n there.0) (argument_there m g f n there.0 found there.1); type = is_type_at m.types scalars (module_names m) a.ty (ltb-true a.ty (length m.types) here) },
         parameters_are (n + 1) args next (and_right (nat_lt a.ty (length m.types)) (list_all (λ a. nat_lt a.ty (length m.types)) args) fit),
       )
 
-  result_is : (r : Option FunctionResult) → IsTrue (is_below (length m.types) (option_map (λ r. r.ty) r)) → IsResult (result_form m.types r)
+  result_is : (r : Option FunctionResult) → IsTrue (is_below (length m.types) (option_map (λ r. r.ty) r)) → IsResult (result_form (type_names m) r)
   result_is None fit = tt
-  result_is (Some r) fit = (tt, refl, is_type_at m.types scalars r.ty (ltb-true r.ty (length m.types) fit))
+  result_is (Some r) fit = (tt, refl, is_type_at m.types scalars (module_names m) r.ty (ltb-true r.ty (length m.types) fit))
 
   function_is : (explicit : Bool) → IsFunction (function_form explicit (module_names m) m.types g f es)
   function_is explicit =
@@ -423,7 +316,7 @@ module _ (m : Module) (g : ℕ) (f : ir_function.Function) (found : slice_get m.
         parameters = parameters_are 0 f.arguments.items all (and_left args answer parts.0);
         result = result_is f.result (and_right args answer parts.0);
         locals = locals_are 0 f.local_variables all_locals parts.3;
-        body = lines_are (told_type explicit m.types es) (told_is explicit m.types es) 0 f.body (at_start own.function) start_is;
+        body = lines_are (told_type explicit (type_names m) es) (told_is m.types scalars (module_names m) explicit es (known_spelled m.types f es fits)) 0 f.body (at_start own.function) start_is;
       }
 
 functions_are : (explicit : Bool) (m : Module) (g : ℕ) (fs : List ir_function.Function) (ess : List (List ExpressionInfo)) → ((i : ℕ) (f : ir_function.Function) → slice_get fs i ≡ Some f → slice_get m.functions (g + i) ≡ Some f) → IsTrue (functions_fit m.types fs ess) → IsTrue (list_all (λ f. length (keys f.named_expressions) == 0) fs) → IsTrue (list_all (λ f. nat_le (length f.expressions) (2 ^ 64)) fs) → list_all is_scalar_type m.types ≡ true → Each IsFunction (functions_form explicit (module_names m) m.types g fs ess)

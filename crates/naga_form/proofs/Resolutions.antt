@@ -33,7 +33,7 @@ use Rattle.shader_runs.specs.Premises.{NameKey, FixedKey, NumberedKey, ArgumentN
 use Rattle.wgsl_text.specs.Tree.{TypeSpecifier, Statements, Parameter}
 use Rattle.wgsl_text.specs.Tree as tree
 use Rattle.naga_form.specs.Names.{NamesAreCounted, module_names, argument_name, local_name, numbered_name}
-use Rattle.naga_form.specs.Types.{value_type}
+use Rattle.naga_form.specs.Types.{value_type, type_names}
 use Rattle.naga_form.specs.Shapes.{expression_shape, statement_shape, function_naming}
 use Rattle.naga_form.specs.Form.{PlainForm, ValueForm, ReferenceForm, as_value, as_reference, own_plain, own_if, standing_plain, plain_below, plain_form, value_form, let_form, then_if, lets_form, return_line, line_form, lines_form, locals_form, parameters_form, function_form, functions_form, written_program, told_type}
 use Rattle.naga_form.specs.Resolution.{Target, ArgumentTarget, LocalTarget, LetTarget, Scope, lookup, parameters_scope, functions_scope, expression_targets, statements_targets, locals_targets, function_targets, let_number, standing_meant, own_meant, own_meant_if, meant_below, value_meant, bound_after, bound_after_all, bound_behind, lets_meant, line_meant, lines_meant, first_values_meant, function_meant, functions_meant, ResolvesAs}
@@ -326,7 +326,7 @@ module _ (m : Module) (g : ℕ) (f : ir_function.Function) (found : slice_get m.
           (other_names (FixedKey (LocalName l)) (FixedKey (LocalName j)) (local_in l within) (local_in j inside) (λ q. other (local_of j q)))
           ∙ tells.variables j before
 
-  locals_resolve : (l : ℕ) (vs : List LocalVariable) → l + length vs ≡ length f.local_variables → IsTrue (list_all (local_is_written f.expressions) vs) → (body : tree.Statements) (more : List Target) → Follows body (at_start own.function) [] more → (scope : Scope) → Tells scope l (at_start own.function) [] → locals_targets l scope (locals_form own m.types f.expressions l vs) body ≡ map Some more
+  locals_resolve : (l : ℕ) (vs : List LocalVariable) → l + length vs ≡ length f.local_variables → IsTrue (list_all (local_is_written f.expressions) vs) → (body : tree.Statements) (more : List Target) → Follows body (at_start own.function) [] more → (scope : Scope) → Tells scope l (at_start own.function) [] → locals_targets l scope (locals_form own (type_names m) f.expressions l vs) body ≡ map Some more
   locals_resolve l [] size is body more follows scope tells =
       let all : l ≡ length f.local_variables = omega (arith, size) in
       follows scope (subst (λ n. Tells scope n (at_start own.function) []) all tells)
@@ -334,7 +334,7 @@ module _ (m : Module) (g : ℕ) (f : ir_function.Function) (found : slice_get m.
       let here = (first_none scope v.init (and_left (local_is_written f.expressions v) (list_all (local_is_written f.expressions) vs) is)).0 in
       let within : l < length f.local_variables = omega (arith, size) in
       let next : (l + 1) + length vs ≡ length f.local_variables = omega (arith, size) in
-      ap (λ ts. ts ++ locals_targets (l + 1) ((local_name (module_names m) g l, LocalTarget l) ∷ scope) (locals_form own m.types f.expressions (l + 1) vs) body) here
+      ap (λ ts. ts ++ locals_targets (l + 1) ((local_name (module_names m) g l, LocalTarget l) ∷ scope) (locals_form own (type_names m) f.expressions (l + 1) vs) body) here
       ∙ locals_resolve (l + 1) vs next (and_right (local_is_written f.expressions v) (list_all (local_is_written f.expressions) vs) is) body more follows ((local_name (module_names m) g l, LocalTarget l) ∷ scope) (tells_more scope l within tells)
 
   -- an argument's name stands for the argument, since those before it have other names
@@ -365,8 +365,8 @@ module _ (m : Module) (g : ℕ) (f : ir_function.Function) (found : slice_get m.
       let all : 0 + length f.local_variables ≡ length f.local_variables = omega arith in
       let arguments = length f.arguments.items in
       locals_resolve 0 f.local_variables all is
-      (lines_form own (told_type explicit m.types es) f.expressions 0 f.body (at_start own.function)) (lines_meant own f.expressions 0 f.body (at_start own.function) [])
-      (lines_resolve (told_type explicit m.types es) 0 f.body (at_start own.function) [])
+      (lines_form own (told_type explicit (type_names m) es) f.expressions 0 f.body (at_start own.function)) (lines_meant own f.expressions 0 f.body (at_start own.function) [])
+      (lines_resolve (told_type explicit (type_names m) es) 0 f.body (at_start own.function) [])
       (parameters_scope 0 (parameters_form (module_names m) m.types g 0 f.arguments.items) ++ outer)
       (record {
         arguments = λ n lt.

@@ -11,17 +11,13 @@ use Rattle.naga_ir.specs.declared.module.FunctionResult.{FunctionResult}
 use Rattle.naga_ir.specs.declared.module.Module.{Module}
 use Rattle.naga_ir.specs.declared.types.Type_.{Type_}
 use Rattle.naga_names.specs.Reset.{NameMap}
-use Rattle.wgsl_text.specs.Tree.{Truth, Expression, Constant, Name, Statement, Return, ReturnValue, Statements, NoStatements, Then, Parameter, Result, NoResult, ResultOf, Function, Program, no_declarations, TypeSpecifier, Named as NamedType, Template, TypePart, NoParts, Binary, AddressOf, Dereference, Let, TypedLet, Assign, Block, Local}
+use Rattle.wgsl_text.specs.Tree.{Truth, Expression, Constant, Name, Statement, Return, ReturnValue, Statements, NoStatements, Then, Parameter, Result, NoResult, ResultOf, Function, Program, no_declarations, TypeSpecifier, Binary, AddressOf, Dereference, Let, TypedLet, Assign, Block, Local}
 use Rattle.naga_form.specs.Names.{function_name, argument_name, module_names}
+use Rattle.naga_words.specs.Contexts.{names_of}
+use Rattle.naga_words.specs.Trees.{Names as TypeNames, resolution_tree}
 use Rattle.naga_form.specs.Types.{type_form}
 use Rattle.naga_form.specs.Literals.{literal_form}
 use Rattle.naga_ir.specs.declared.module.LocalVariable.{LocalVariable}
-use Rattle.naga_enumerations.specs.declared.types.AddressSpace.{AddressSpace}
-use Rattle.naga_enumerations.specs.declared.types.AddressSpace.TheVariants as space
-use Rattle.naga_ir.specs.declared.types.TypeInner.{TypeInner}
-use Rattle.naga_ir.specs.declared.types.TypeInner.TheVariants as inner
-use Rattle.naga_info.specs.Resolution.{inner_of}
-use Rattle.naga_info.specs.Types.{scalar_word, word_at}
 use Rattle.naga_info.specs.declared.info.ExpressionInfo.{ExpressionInfo}
 use Rattle.naga_info.specs.declared.info.ModuleInfo.{ModuleInfo}
 use Rattle.shader_runs.specs.Program.{binds, from}
@@ -109,52 +105,39 @@ lines_form n told es k (statement st b) s =
     line_form n told es k st s (lines_form n told es (given_by n.function (statement_shape st) k) b (after n k (statement_shape st) s))
 
 -- the locals from this one on, with their first values
-abbrev pub locals_form : Naming → List Type_ → List ir.Expression → ℕ → List LocalVariable → List Local
-locals_form n types es l [] = []
-locals_form n types es l (v ∷ more) =
-    record { name = n.names.local_ l; type = type_form types v.ty; value = option_map (value_form n es (at_start n.function)) v.init } ∷ locals_form n types es (l + 1) more
-
--- a pointer to a local of the type with this word
-abbrev pub pointer_form : List ℕ → TypeSpecifier
-pointer_form word = Template (codes "ptr") (TypePart (NamedType (codes "function")) (TypePart (NamedType word) NoParts))
-
-abbrev pub pointer_told : AddressSpace → Option (List ℕ) → Option TypeSpecifier
-pointer_told space.Function word = option_map pointer_form word
-pointer_told _ word = None
-
--- how a type is told, of those that are spelled so far
-abbrev pub inner_told : List Type_ → TypeInner → Option TypeSpecifier
-inner_told types (inner.Scalar s) = option_map NamedType (scalar_word s)
-inner_told types (inner.Pointer base space) = pointer_told space (word_at types base)
-inner_told types _ = None
+abbrev pub locals_form : Naming → TypeNames → List ir.Expression → ℕ → List LocalVariable → List Local
+locals_form n t es l [] = []
+locals_form n t es l (v ∷ more) =
+    record { name = n.names.local_ l; type = type_form t v.ty; value = option_map (value_form n es (at_start n.function)) v.init } ∷ locals_form n t es (l + 1) more
 
 -- the type that the `let` of a handle tells, if it is to tell one
-abbrev pub told_type : (explicit : Bool) → List Type_ → List ExpressionInfo → ℕ → Option TypeSpecifier
-told_type true types es h = option_and_then (λ e. option_and_then (inner_told types) (inner_of e.ty types)) (slice_get es h)
-told_type false types es h = None
+abbrev pub told_type : (explicit : Bool) → TypeNames → List ExpressionInfo → ℕ → Option TypeSpecifier
+told_type true t es h = option_and_then (λ e. resolution_tree t e.ty) (slice_get es h)
+told_type false t es h = None
 
 abbrev pub parameter_form : NameMap → List Type_ → ℕ → ℕ → FunctionArgument → Parameter
-parameter_form names types g number a = record { attributes = []; name = argument_name names g number; type = type_form types a.ty }
+parameter_form names types g number a = record { attributes = []; name = argument_name names g number; type = type_form (names_of types names) a.ty }
 
 -- the arguments from this number on
 abbrev pub parameters_form : NameMap → List Type_ → ℕ → ℕ → List FunctionArgument → List Parameter
 parameters_form names types g number [] = []
 parameters_form names types g number (a ∷ more) = parameter_form names types g number a ∷ parameters_form names types g (number + 1) more
 
-abbrev pub result_form : List Type_ → Option FunctionResult → Result
-result_form types None = NoResult
-result_form types (Some r) = ResultOf [] (type_form types r.ty)
+abbrev pub result_form : TypeNames → Option FunctionResult → Result
+result_form t None = NoResult
+result_form t (Some r) = ResultOf [] (type_form t r.ty)
 
 -- a function, with what is known of its expressions
 abbrev pub function_form : (explicit : Bool) → NameMap → List Type_ → ℕ → ir_function.Function → List ExpressionInfo → Function
 function_form explicit names types g f es =
     let n : Naming = function_naming names types g f es in
+    let t : TypeNames = names_of types names in
     record {
       name = function_name names g;
       parameters = parameters_form names types g 0 f.arguments.items;
-      result = result_form types f.result;
-      locals = locals_form n types f.expressions 0 f.local_variables;
-      body = lines_form n (told_type explicit types es) f.expressions 0 f.body (at_start n.function);
+      result = result_form t f.result;
+      locals = locals_form n t f.expressions 0 f.local_variables;
+      body = lines_form n (told_type explicit t es) f.expressions 0 f.body (at_start n.function);
     }
 
 -- the functions from this handle on, each with what is known of its expressions

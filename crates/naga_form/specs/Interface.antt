@@ -7,6 +7,8 @@ use Rattle.naga_ir.specs.declared.types.Type_.{Type_}
 use Rattle.naga_names.specs.Reset.{NameMap}
 use Rattle.wgsl_text.specs.Tree.{Attribute, TypeSpecifier, Parameter, Result, NoResult, ResultOf, Function, EntryPoint, Struct, NamedConstant, Override, Global, Program}
 use Rattle.naga_form.specs.Names.{function_name}
+use Rattle.naga_words.specs.Contexts.{names_of}
+use Rattle.naga_words.specs.Trees.{Names as TypeNames}
 use Rattle.naga_form.specs.Types.{type_form}
 
 -- what passes in or out of a function: the attributes that bind it, and its type
@@ -55,17 +57,18 @@ interface_read p =
       entry_points = p.entry_points;
     }
 
-abbrev pub passed : List Type_ → ℕ → Passed
-passed types ty = record { attributes = []; type = type_form types ty }
+abbrev pub passed : TypeNames → ℕ → Passed
+passed t ty = record { attributes = []; type = type_form t ty }
 
-abbrev pub result_passed : List Type_ → Option FunctionResult → Option Passed
-result_passed types None = None
-result_passed types (Some r) = Some (passed types r.ty)
+abbrev pub result_passed : TypeNames → Option FunctionResult → Option Passed
+result_passed t None = None
+result_passed t (Some r) = Some (passed t r.ty)
 
 -- the interface of the module's function with this handle
 abbrev pub function_interface : NameMap → List Type_ → ℕ → ir_function.Function → FunctionInterface
 function_interface names types g f =
-    record { name = function_name names g; arguments = map (λ a. passed types a.ty) f.arguments.items; result = result_passed types f.result }
+    let t : TypeNames = names_of types names in
+    record { name = function_name names g; arguments = map (λ a. passed t a.ty) f.arguments.items; result = result_passed t f.result }
 
 abbrev pub function_interfaces : NameMap → List Type_ → ℕ → List ir_function.Function → List FunctionInterface
 function_interfaces names types g [] = []

@@ -3,15 +3,21 @@ use Rattle.std.specs.Prelude.{ℕ, List, [], ◌∷◌, Option, Some, None, if�
 use Rattle.std.specs.List.{starts_with}
 use Rattle.std.specs.Bool.{nat_eq}
 use Rattle.std.specs.Str.{bytes_eq}
-use Rattle.naga_ir.specs.declared.types.Type_.{Type_}
-use Rattle.naga_info.specs.Types.{word_at}
+use Rattle.naga_ir.specs.declared.module.Module.{Module}
+use Rattle.naga_words.specs.Contexts.{names_of}
+use Rattle.naga_words.specs.Trees.{Names as TypeNames, type_tree}
+use Rattle.naga_form.specs.Names.{module_names}
 use Rattle.wgsl_text.specs.Words.{stands_in}
 use Rattle.wgsl_text.specs.Tree.{TypeSpecifier, Named}
 use Rattle.shader_runs.specs.Value.{ValueType, BooleanType, IntegerType, PointerType, OtherType}
 
--- a type of the module: so far its word
-abbrev pub type_form : List Type_ → ℕ → TypeSpecifier
-type_form types ty = Named (unwrap_or (word_at types ty) [])
+-- a module's types, with the names of its structs and overrides
+abbrev pub type_names : Module → TypeNames
+type_names m = names_of m.types (module_names m)
+
+-- a type of the module. What has no form is not written
+abbrev pub type_form : TypeNames → ℕ → TypeSpecifier
+type_form t ty = unwrap_or (type_tree t ty) (Named [])
 
 abbrev pub integer_words : List (List ℕ)
 integer_words = codes "i16" ∷ codes "u16" ∷ codes "i32" ∷ codes "u32" ∷ codes "i64" ∷ codes "u64" ∷ []

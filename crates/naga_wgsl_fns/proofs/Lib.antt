@@ -5,3 +5,4 @@ pub mod Rows
 pub mod Wanted
 pub mod Accepted
 pub mod Blocks
+pub mod TypeTexts

@@ -23,7 +23,8 @@ use Rattle.shader_runs.specs.Program.{binds, from}
 use Rattle.shader_runs.specs.Scope.{Handles, Naming, at_start, given_after, after_one, after_emit, bound_name}
 use Rattle.naga_form.specs.Names.{function_name, argument_name, numbered_name}
 use Rattle.naga_form.specs.Operators.{operator_form}
-use Rattle.naga_form.specs.Types.{type_form}
+use Rattle.naga_words.specs.Contexts.{names_of}
+use Rattle.naga_words.specs.Trees.{Names as TypeNames}
 use Rattle.naga_form.proofs.Facts.{element}
 use Rattle.naga_form.specs.Form.{as_value, own_if, plain_form, value_form, let_form, then_if, lets_form, return_line, line_form, lines_form, locals_form, parameter_form, parameters_form, result_form, function_form}
 use Rattle.wgsl_text.specs.Tree.{TypeSpecifier, Expression, Statements, NoStatements, Then, Local, BinaryOperator}
@@ -34,7 +35,7 @@ use Rattle.wgsl_text.specs.Declarations.{parameter_pieces, parameters_pieces, mo
 use Rattle.wgsl_text.specs.Reading.{type_layout}
 use Rattle.wgsl_text.specs.Text.{text}
 use Rattle.wgsl_text.proofs.RowText.{text-append, function_text, return_text, then_text, let_text, typed_let_text, assign_text, binary_text, address_text, dereference_text, locals_text as local_row_text, value_text}
-use Rattle.naga_wgsl_fns.specs.Texts.{separator, type_word, head_text, locals_text, local_form, local_text, local_text_at, first_text, told_text, let_line, emitted_text}
+use Rattle.naga_wgsl_fns.specs.Texts.{separator, type_text, head_text, locals_text, local_form, local_text, local_text_at, first_text, told_text, let_line, emitted_text}
 
 -- the blanks before a line
 pub indentation_row : (n : ℕ) → indentation n ≡ replicate (4 * n) 32
@@ -72,16 +73,12 @@ binary_row a b op =
     ∙ ap (λ t. codes " " ++ t) (append_assoc (text (binary_pieces (operator_form op))) (codes " ") (text (expression_pieces b) ++ codes ")")))
     ∙ sym (binary_text a (operator_form op) b)
 
--- the word of a type that a `let` tells
-pub told_scalar : (w : List ℕ) → codes ": " ++ w ≡ told_text (Some (tree.Named w))
-told_scalar w = ap (λ t. codes ": " ++ t) (sym (append-nil w))
-
 module _ (names : NameMap) (types : List Type_) (g : ℕ) where
-  pub argument_row : (n : ℕ) (a : FunctionArgument) → argument_name names g n ++ (codes ": " ++ type_word types a.ty) ≡ text (parameter_pieces (parameter_form names types g n a))
-  argument_row n a = ap (λ w. argument_name names g n ++ (codes ": " ++ w)) (sym (append-nil (type_word types a.ty)))
+  pub argument_row : (n : ℕ) (a : FunctionArgument) → argument_name names g n ++ (codes ": " ++ type_text (names_of types names) a.ty) ≡ text (parameter_pieces (parameter_form names types g n a))
+  argument_row n a = refl
 
-  pub result_row : (r : FunctionResult) → codes " -> " ++ type_word types r.ty ≡ text (result_pieces (result_form types (Some r)))
-  result_row r = ap (λ w. codes " -> " ++ w) (sym (append-nil (type_word types r.ty)))
+  pub result_row : (r : FunctionResult) → codes " -> " ++ type_text (names_of types names) r.ty ≡ text (result_pieces (result_form (names_of types names) (Some r)))
+  result_row r = refl
 
   -- what is left of the arguments from this number on, with the parenthesis behind the last
   abbrev pub arguments_left : ℕ → List FunctionArgument → List ℕ
@@ -139,11 +136,11 @@ pub drop_at : {X : Type 0} (i : ℕ) (xs : List X) (x : X) → slice_get xs i �
 drop_at i xs x at = drop_first i xs x (slice_get_within xs i x at) (sym (get_or_from_slice_get xs i x x at))
 
 -- ---- locals
-module _ (n : Naming) (types : List Type_) (es : List ir.Expression) where
-  pub locals_step : (l : ℕ) (v : LocalVariable) (more : List LocalVariable) → text (locals_pieces (locals_form n types es l (v ∷ more))) ≡ local_text n types es l v ++ text (locals_pieces (locals_form n types es (l + 1) more))
+module _ (n : Naming) (t : TypeNames) (es : List ir.Expression) where
+  pub locals_step : (l : ℕ) (v : LocalVariable) (more : List LocalVariable) → text (locals_pieces (locals_form n t es l (v ∷ more))) ≡ local_text n t es l v ++ text (locals_pieces (locals_form n t es (l + 1) more))
   locals_step l v more =
-      let local = local_form n types es l v in
-      let behind = locals_form n types es (l + 1) more in
+      let local = local_form n t es l v in
+      let behind = locals_form n t es (l + 1) more in
       let first = text (locals_pieces behind) in
       local_row_text local behind
       ∙ (ap (λ t. codes "    var " ++ (local.name ++ (codes ": " ++ t))) (sym (append_assoc (type_layout local.type) (text (value_pieces local.value)) first))
@@ -152,25 +149,25 @@ module _ (n : Naming) (types : List Type_) (es : List ir.Expression) where
       ∙ ap (λ t. t ++ first) (sym (local_row_text local [])))))
 
   -- a loop over locals: one more
-  pub locals_more : (i : ℕ) (locals : List LocalVariable) → i < length locals → text (locals_pieces (locals_form n types es i (drop i locals))) ≡ local_text_at n types es i (slice_get locals i) ++ text (locals_pieces (locals_form n types es (i + 1) (drop (i + 1) locals)))
+  pub locals_more : (i : ℕ) (locals : List LocalVariable) → i < length locals → text (locals_pieces (locals_form n t es i (drop i locals))) ≡ local_text_at n t es i (slice_get locals i) ++ text (locals_pieces (locals_form n t es (i + 1) (drop (i + 1) locals)))
   locals_more i locals lt =
       let v = element locals i lt in
-      let more = text (locals_pieces (locals_form n types es (i + 1) (drop (i + 1) locals))) in
-      ap (λ vs. text (locals_pieces (locals_form n types es i vs))) (drop_at i locals v.0 v.1)
+      let more = text (locals_pieces (locals_form n t es (i + 1) (drop (i + 1) locals))) in
+      ap (λ vs. text (locals_pieces (locals_form n t es i vs))) (drop_at i locals v.0 v.1)
       ∙ (locals_step i v.0 (drop (i + 1) locals)
-      ∙ ap (λ o. local_text_at n types es i o ++ more) (sym v.1))
+      ∙ ap (λ o. local_text_at n t es i o ++ more) (sym v.1))
 
-  pub locals_none : (i : ℕ) (locals : List LocalVariable) → length locals ≤ i → text (locals_pieces (locals_form n types es i (drop i locals))) ≡ []
-  locals_none i locals past = ap (λ vs. text (locals_pieces (locals_form n types es i vs))) (drop_all i locals past)
+  pub locals_none : (i : ℕ) (locals : List LocalVariable) → length locals ≤ i → text (locals_pieces (locals_form n t es i (drop i locals))) ≡ []
+  locals_none i locals past = ap (λ vs. text (locals_pieces (locals_form n t es i vs))) (drop_all i locals past)
 
-  pub group_row : (locals : List LocalVariable) → (if length locals == 0 then [] else codes "\n") ≡ text (group_end (locals_form n types es 0 locals))
+  pub group_row : (locals : List LocalVariable) → (if length locals == 0 then [] else codes "\n") ≡ text (group_end (locals_form n t es 0 locals))
   group_row [] = refl
   group_row (v ∷ more) = ap (λ b. if b then [] else codes "\n") (ne_eqb (suc (length more)) 0 (λ same. absurd (omega arith)))
 
-  pub local_row : (l : ℕ) (v : LocalVariable) → codes "    var " ++ (n.names.local_ l ++ (codes ": " ++ (type_word types v.ty ++ first_text n es v.init))) ≡ local_text n types es l v
+  pub local_row : (l : ℕ) (v : LocalVariable) → codes "    var " ++ (n.names.local_ l ++ (codes ": " ++ (type_text t v.ty ++ first_text n es v.init))) ≡ local_text n t es l v
   local_row l v =
-      let local = local_form n types es l v in
-      (λ i. codes "    var " ++ (n.names.local_ l ++ (codes ": " ++ (sym (append-nil (type_word types v.ty)) i ++ (value_row v.init ∙ sym (append-nil (text (value_pieces local.value)))) i))))
+      let local = local_form n t es l v in
+      (λ i. codes "    var " ++ (n.names.local_ l ++ (codes ": " ++ (type_text t v.ty ++ (value_row v.init ∙ sym (append-nil (text (value_pieces local.value)))) i))))
       ∙ sym (local_row_text local [])
     where
       value_row : (o : Option ℕ) → first_text n es o ≡ text (value_pieces (option_map (value_form n es (at_start n.function)) o))

@@ -24,6 +24,7 @@ use Rattle.shader_runs.specs.Scope.{bound_name, given_after, given_by}
 use Rattle.naga_form.specs.Names.{module_names, name_in, numbered_name}
 use Rattle.naga_form.specs.Shapes.{statement_shape, OperandsStandBefore}
 use Rattle.naga_form.proofs.Fits.{not_given, given_line, ordered_at}
+use Rattle.naga_form.proofs.WrittenTypes.{known_spelled}
 use Rattle.naga_form.proofs.Resolutions.{nothing_outside, written_parts}
 use Rattle.naga_info.specs.Types.{literal_word, word_at, spelling_of, local_pointer}
 use Rattle.naga_info.specs.Accepted.{is_below, expected_type, local_fits, statement_fits, return_fits, block_fits}
@@ -64,6 +65,10 @@ module _ (m : Module) (names : NameMap) (g : ℕ) (f : Function) (es : List Expr
 
   pub local_has_word : (l : ℕ) (v : LocalVariable) → slice_get f.local_variables l ≡ Some v → IsTrue (has_word m.types v.ty)
   local_has_word l v here = has_a_word v.ty (local_fits_parts m.types es v (list_all_at (local_fits m.types es) f.local_variables l v (function_fits_locals m.types f es can.fits) here)).0
+
+  -- what is known of an expression spells its type
+  pub spelled_at : (h : ℕ) (k : ExpressionInfo) → slice_get es h ≡ Some k → IsTrue (is_some (spelling_of m.types k.ty))
+  spelled_at h k at = let w = known_spelled m.types f es can.fits h k at in ap (λ o. is_some o) w.1
 
   -- ---- expressions
   -- a handle of which something is known is one of the function's

@@ -2,6 +2,8 @@
 use Rattle.std.specs.Prelude.{◌≡◌, ⊤, ℕ, ◌<◌, List, codes, string_bytes}
 use Rattle.naga_words.specs.declared.sink.SinkError.{SinkError}
 use Rattle.naga_words.specs.declared.sink.SinkError.TheVariants.{Failed, Memory}
+use Rattle.naga_words.specs.declared.types.TypeTextError.{TypeTextError}
+use Rattle.naga_words.specs.declared.types.TypeTextError.TheVariants as type_error
 use Rattle.naga_wgsl_fns.specs.declared.error.Error.{Error}
 use Rattle.naga_wgsl_fns.specs.declared.error.Error.TheVariants.{FmtError, Memory as Want, Custom as CustomError, Unimplemented}
 
@@ -32,3 +34,9 @@ abbrev pub IsCustom : List ℕ → Error → Type 0
 IsCustom text (CustomError message) = string_bytes message ≡ text
 IsCustom text (Want e) = ⊤
 IsCustom text _ = ⊥
+
+-- why a type was not written: for want of what the sink or the call wanted, or because it has no form
+abbrev pub IsErrorOfType : TypeTextError → Error → Type 0
+IsErrorOfType (type_error.Sink s) error = error ≡ error_of_sink s
+IsErrorOfType (type_error.Memory e) error = error ≡ Want e
+IsErrorOfType type_error.NoForm error = IsCustom (codes "type without a WGSL form") error

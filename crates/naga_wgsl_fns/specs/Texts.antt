@@ -20,8 +20,11 @@ use Rattle.shader_runs.specs.Scope.{Handles, Naming, at_start, bound_name}
 use Rattle.naga_form.specs.Names.{HasNamesOf, module_names, function_name}
 use Rattle.naga_form.specs.Shapes.{function_naming}
 use Rattle.naga_form.specs.Form.{as_value, own_if, plain_form, value_form, let_form, parameters_form, result_form, function_form}
+use Rattle.naga_info.specs.declared.info.TypeResolution.{TypeResolution}
+use Rattle.naga_words.specs.Contexts.{names_of}
+use Rattle.naga_words.specs.Trees.{Names as TypeNames, resolution_tree}
 use Rattle.naga_form.specs.Types.{type_form}
-use Rattle.wgsl_text.specs.Tree.{TypeSpecifier, Statement, Local}
+use Rattle.wgsl_text.specs.Tree.{TypeSpecifier, Named, Statement, Local}
 use Rattle.wgsl_text.specs.Declarations.{function_pieces, parameters_pieces, result_pieces, locals_pieces, group_end}
 use Rattle.wgsl_text.specs.Lines.{statement_pieces}
 use Rattle.wgsl_text.specs.Pieces.{expression_pieces}
@@ -50,33 +53,38 @@ naming_of m handle f es = function_naming (module_names m) m.types handle f es
 abbrev pub separator : ℕ → List ℕ
 separator number = if number == 0 then [] else codes ", "
 
--- the word of the type with this handle; nothing, where it has none
-abbrev pub type_word : List Type_ → ℕ → List ℕ
-type_word types ty = unwrap_or (word_at types ty) []
+-- a type's spelling
+abbrev pub type_text : TypeNames → ℕ → List ℕ
+type_text t ty = type_layout (type_form t ty)
 
+-- the spelling of the type of an expression
+abbrev pub resolution_text : TypeNames → TypeResolution → List ℕ
+resolution_text t ty = type_layout (unwrap_or (resolution_tree t ty) (Named []))
+
+-- Does the type have a word?
 abbrev pub has_word : List Type_ → ℕ → Bool
 has_word types ty = is_some (word_at types ty)
 
 -- a declaration up to the brace before its locals
 abbrev pub head_text : NameMap → List Type_ → ℕ → Function → List ℕ
 head_text names types handle f =
-    codes "fn " ++ (function_name names handle ++ (codes "(" ++ (text (parameters_pieces (parameters_form names types handle 0 f.arguments.items)) ++ (text (result_pieces (result_form types f.result)) ++ codes " {\n"))))
+    codes "fn " ++ (function_name names handle ++ (codes "(" ++ (text (parameters_pieces (parameters_form names types handle 0 f.arguments.items)) ++ (text (result_pieces (result_form (names_of types names) f.result)) ++ codes " {\n"))))
 
 -- the locals, and an empty line behind them if there are any
 abbrev pub locals_text : List Local → List ℕ
 locals_text locals = text (locals_pieces locals) ++ text (group_end locals)
 
 -- one local
-abbrev pub local_form : Naming → List Type_ → List ir.Expression → ℕ → LocalVariable → Local
-local_form n types es l v =
-    record { name = n.names.local_ l; type = type_form types v.ty; value = option_map (value_form n es (at_start n.function)) v.init }
+abbrev pub local_form : Naming → TypeNames → List ir.Expression → ℕ → LocalVariable → Local
+local_form n t es l v =
+    record { name = n.names.local_ l; type = type_form t v.ty; value = option_map (value_form n es (at_start n.function)) v.init }
 
-abbrev pub local_text : Naming → List Type_ → List ir.Expression → ℕ → LocalVariable → List ℕ
-local_text n types es l v = text (locals_pieces (local_form n types es l v ∷ []))
+abbrev pub local_text : Naming → TypeNames → List ir.Expression → ℕ → LocalVariable → List ℕ
+local_text n t es l v = text (locals_pieces (local_form n t es l v ∷ []))
 
 -- the local with this handle, if there is one
-abbrev pub local_text_at : Naming → List Type_ → List ir.Expression → ℕ → Option LocalVariable → List ℕ
-local_text_at n types es l local = option_map_or (local_text n types es l) local []
+abbrev pub local_text_at : Naming → TypeNames → List ir.Expression → ℕ → Option LocalVariable → List ℕ
+local_text_at n t es l local = option_map_or (local_text n t es l) local []
 
 -- what stands behind a local's type
 abbrev pub first_text : Naming → List ir.Expression → Option ℕ → List ℕ

@@ -1,6 +1,7 @@
 //! Blocks and statements.
 
 ghost use Rattle.std.specs.Prelude.{◌≡◌, ◌<◌, ◌++◌, ◌-◌, ◌≤◌, IsTrue, OnOk, length};
+ghost use Rattle.naga_form.specs.Types.{type_names};
 ghost use Rattle.naga_form.specs.Form.{let_form, lets_form, lines_form, line_form, return_line, as_reference, as_value, own_if, plain_form, value_form, told_type};
 ghost use Rattle.naga_form.specs.Names.{numbered_name};
 ghost use Rattle.naga_info.specs.Accepted.{block_fits, is_below, statement_fits};
@@ -20,7 +21,6 @@ use crate::error::Error;
 use crate::expression::write_bound_name;
 use crate::function::FunctionText;
 use crate::sinks::{put, put_two};
-use crate::told::write_told_type;
 use naga_back::Level;
 use naga_ir::{Block, Expression, Handle, Place, Range, Statement};
 use naga_scope::{Scope, binds};
@@ -40,7 +40,7 @@ impl FunctionText<'_> {
         requires can { CanWrite self.now.shader.now (names_in self.now.names.now) self.now.handle self.now.function.now self.now.info.now }
         requires size { length scope.old ≡ length self.now.function.now.expressions }
         requires fits { IsTrue (block_fits self.now.shader.now.types self.now.info.now self.now.function.now.result block.now) }
-        ensures { Appends result (W.text out.old) (W.failures out.old) (text (statements_pieces (lines_form (naming_of self.now.shader.now self.now.handle self.now.function.now self.now.info.now) (told_type (tells_types self.now.flags) self.now.shader.now.types self.now.info.now) self.now.function.now.expressions 0 block.now (handles_of scope.old)) level.0)) (W.text out.new) (W.failures out.new) }
+        ensures { Appends result (W.text out.old) (W.failures out.old) (text (statements_pieces (lines_form (naming_of self.now.shader.now self.now.handle self.now.function.now self.now.info.now) (told_type (tells_types self.now.flags) (type_names self.now.shader.now) self.now.info.now) self.now.function.now.expressions 0 block.now (handles_of scope.old)) level.0)) (W.text out.new) (W.failures out.new) }
     {
         for statement in block.as_slice() {
             match statement {
@@ -68,7 +68,7 @@ impl FunctionText<'_> {
         requires can { CanWrite self.now.shader.now (names_in self.now.names.now) self.now.handle self.now.function.now self.now.info.now }
         requires size { length scope.old ≡ length self.now.function.now.expressions }
         requires range { range.end ≤ length self.now.function.now.expressions }
-        ensures lets { Appends result (W.text out.old) (W.failures out.old) (text (statements_pieces (lets_form (naming_of self.now.shader.now self.now.handle self.now.function.now self.now.info.now) (told_type (tells_types self.now.flags) self.now.shader.now.types self.now.info.now) self.now.function.now.expressions 0 (from range.first (range.end - range.first)) (handles_of scope.old) NoStatements) level.0)) (W.text out.new) (W.failures out.new) }
+        ensures lets { Appends result (W.text out.old) (W.failures out.old) (text (statements_pieces (lets_form (naming_of self.now.shader.now self.now.handle self.now.function.now self.now.info.now) (told_type (tells_types self.now.flags) (type_names self.now.shader.now) self.now.info.now) self.now.function.now.expressions 0 (from range.first (range.end - range.first)) (handles_of scope.old) NoStatements) level.0)) (W.text out.new) (W.failures out.new) }
         ensures after { OnOk result (handles_of scope.new ≡ after_emit (naming_of self.now.shader.now self.now.handle self.now.function.now self.now.info.now) 0 (from range.first (range.end - range.first)) (handles_of scope.old)) }
         ensures size { length scope.new ≡ length scope.old }
     {
@@ -91,7 +91,7 @@ impl FunctionText<'_> {
     ) -> Result<(), Error>
         requires can { CanWrite self.now.shader.now (names_in self.now.names.now) self.now.handle self.now.function.now self.now.info.now }
         requires handle { handle < length self.now.function.now.expressions }
-        ensures { Appends result (W.text out.old) (W.failures out.old) (emitted_text (naming_of self.now.shader.now self.now.handle self.now.function.now self.now.info.now) (told_type (tells_types self.now.flags) self.now.shader.now.types self.now.info.now) self.now.function.now.expressions (handles_of scope.now) level.0 handle) (W.text out.new) (W.failures out.new) }
+        ensures { Appends result (W.text out.old) (W.failures out.old) (emitted_text (naming_of self.now.shader.now self.now.handle self.now.function.now self.now.info.now) (told_type (tells_types self.now.flags) (type_names self.now.shader.now) self.now.info.now) self.now.function.now.expressions (handles_of scope.now) level.0 handle) (W.text out.new) (W.failures out.new) }
     {
         if binds(self.function, self.info, handle) {
             self.write_let(alloc, level, scope, handle, out)
@@ -110,11 +110,11 @@ impl FunctionText<'_> {
     ) -> Result<(), Error>
         requires can { CanWrite self.now.shader.now (names_in self.now.names.now) self.now.handle self.now.function.now self.now.info.now }
         requires handle { handle < length self.now.function.now.expressions }
-        ensures { Appends result (W.text out.old) (W.failures out.old) (text (statement_pieces (let_line (naming_of self.now.shader.now self.now.handle self.now.function.now self.now.info.now) (told_type (tells_types self.now.flags) self.now.shader.now.types self.now.info.now) self.now.function.now.expressions (handles_of scope.now) handle) level.0)) (W.text out.new) (W.failures out.new) }
+        ensures { Appends result (W.text out.old) (W.failures out.old) (text (statement_pieces (let_line (naming_of self.now.shader.now self.now.handle self.now.function.now self.now.info.now) (told_type (tells_types self.now.flags) (type_names self.now.shader.now) self.now.info.now) self.now.function.now.expressions (handles_of scope.now) handle) level.0)) (W.text out.new) (W.failures out.new) }
     {
         write_line_start(alloc, level, "let ", out)?;
         write_bound_name(alloc, handle, out)?;
-        write_told_type(self.flags, &self.shader.types, self.info, handle, out)?;
+        self.write_told_type(alloc, handle, out)?;
         put(" = ", out)?;
         self.write_own(alloc, scope, handle, out)?;
         put(";\n", out)

@@ -2,6 +2,7 @@
 
 ghost use Rattle.std.specs.Prelude.{◌≡◌, ◌<◌, ◌++◌, IfErr, IsTrue, OnErr, OnOk, Some, [], codes, if◌then◌else◌, length, slice_get};
 ghost use Rattle.naga_form.specs.Form.{function_form, locals_form, parameter_form, parameters_form, result_form};
+ghost use Rattle.naga_form.specs.Types.{type_names};
 ghost use Rattle.naga_form.specs.Names.{HasNamesOf, module_names, name_in};
 ghost use Rattle.naga_info.specs.Accepted.{is_accepted, is_below};
 ghost use Rattle.naga_info.specs.Part.{is_written_so_far};
@@ -11,17 +12,14 @@ ghost use Rattle.wgsl_text.specs.Declarations.{function_pieces, parameter_pieces
 ghost use Rattle.wgsl_text.specs.Text.{text};
 ghost use Rattle.naga_wgsl_fns.specs.Appends.{Appends};
 ghost use Rattle.naga_wgsl_fns.specs.Errors.{IsWant};
-ghost use Rattle.naga_wgsl_fns.specs.Texts.{CanWrite, StartsAt, first_text, has_word, head_text, local_text_at, locals_text, naming_of, separator, tells_types, text_of_function, type_word};
+ghost use Rattle.naga_wgsl_fns.specs.Texts.{CanWrite, StartsAt, first_text, head_text, local_text_at, locals_text, naming_of, separator, tells_types, text_of_function};
 
 use crate::error::Error;
 use crate::flags::WriterFlags;
 use crate::sinks::put;
 use naga_back::Level;
-use naga_info::{FunctionInfo, ModuleInfo, scalar_word};
-use naga_ir::{
-    Expression, Function, FunctionArgument, Handle, LocalVariable, Module, Place, Type_, TypeInner,
-    UniqueArena,
-};
+use naga_info::{FunctionInfo, ModuleInfo};
+use naga_ir::{Expression, Function, FunctionArgument, Handle, LocalVariable, Module, Place};
 use naga_names::namer::NameKey;
 use naga_scope::Scope;
 use naga_words::TextSink;
@@ -79,7 +77,7 @@ impl FunctionText<'_> {
         requires { CanWrite self.now.shader.now (names_in self.now.names.now) self.now.handle self.now.function.now self.now.info.now }
         ensures { Appends result (W.text out.old) (W.failures out.old) (text (function_pieces (function_form (tells_types self.now.flags) (module_names self.now.shader.now) self.now.shader.now.types self.now.handle self.now.function.now self.now.info.now))) (W.text out.new) (W.failures out.new) }
     {
-        self.write_head(out)?;
+        self.write_head(alloc, out)?;
         let mut scope = Scope::start(alloc, self.function)?;
         self.write_locals(alloc, &scope, out)?;
         self.write_block(alloc, Level(1), &self.function.body, &mut scope, out)?;
@@ -87,32 +85,33 @@ impl FunctionText<'_> {
     }
 
     /// What stands before the locals.
-    fn write_head<W: TextSink>(&self, out: &mut W) -> Result<(), Error>
+    fn write_head<W: TextSink>(&self, alloc: Global, out: &mut W) -> Result<(), Error>
         requires { CanWrite self.now.shader.now (names_in self.now.names.now) self.now.handle self.now.function.now self.now.info.now }
         ensures { Appends result (W.text out.old) (W.failures out.old) (head_text (module_names self.now.shader.now) self.now.shader.now.types self.now.handle self.now.function.now) (W.text out.new) (W.failures out.new) }
     {
         put("fn ", out)?;
         self.write_name(&NameKey::Function(self.handle), out)?;
         put("(", out)?;
-        self.write_arguments(out)?;
-        self.write_result(out)?;
+        self.write_arguments(alloc, out)?;
+        self.write_result(alloc, out)?;
         put(" {\n", out)
     }
 
     /// The arguments, and the parenthesis behind the last.
-    fn write_arguments<W: TextSink>(&self, out: &mut W) -> Result<(), Error>
+    fn write_arguments<W: TextSink>(&self, alloc: Global, out: &mut W) -> Result<(), Error>
         requires { CanWrite self.now.shader.now (names_in self.now.names.now) self.now.handle self.now.function.now self.now.info.now }
         ensures { Appends result (W.text out.old) (W.failures out.old) (text (parameters_pieces (parameters_form (module_names self.now.shader.now) self.now.shader.now.types self.now.handle 0 self.now.function.now.arguments.items))) (W.text out.new) (W.failures out.new) }
     {
         for (number, argument) in self.function.arguments.iter().enumerate() {
             write_separator(number, out)?;
-            self.write_argument(number, argument, out)?;
+            self.write_argument(alloc, number, argument, out)?;
         }
         put(")", out)
     }
 
     fn write_argument<W: TextSink>(
         &self,
+        alloc: Global,
         number: usize,
         argument: &FunctionArgument,
         out: &mut W,
@@ -124,17 +123,17 @@ impl FunctionText<'_> {
         let key = NameKey::FunctionArgument(self.handle, number as u32);
         self.write_name(&key, out)?;
         put(": ", out)?;
-        write_type(&self.shader.types, argument.ty, out)
+        self.write_type(alloc, argument.ty, out)
     }
 
-    fn write_result<W: TextSink>(&self, out: &mut W) -> Result<(), Error>
+    fn write_result<W: TextSink>(&self, alloc: Global, out: &mut W) -> Result<(), Error>
         requires { CanWrite self.now.shader.now (names_in self.now.names.now) self.now.handle self.now.function.now self.now.info.now }
-        ensures { Appends result (W.text out.old) (W.failures out.old) (text (result_pieces (result_form self.now.shader.now.types self.now.function.now.result))) (W.text out.new) (W.failures out.new) }
+        ensures { Appends result (W.text out.old) (W.failures out.old) (text (result_pieces (result_form (type_names self.now.shader.now) self.now.function.now.result))) (W.text out.new) (W.failures out.new) }
     {
         match &self.function.result {
             Some(answer) => {
                 put(" -> ", out)?;
-                write_type(&self.shader.types, answer.ty, out)
+                self.write_type(alloc, answer.ty, out)
             }
             None => Ok(()),
         }
@@ -149,7 +148,7 @@ impl FunctionText<'_> {
     ) -> Result<(), Error>
         requires can { CanWrite self.now.shader.now (names_in self.now.names.now) self.now.handle self.now.function.now self.now.info.now }
         requires start { StartsAt (naming_of self.now.shader.now self.now.handle self.now.function.now self.now.info.now) scope.now }
-        ensures { Appends result (W.text out.old) (W.failures out.old) (locals_text (locals_form (naming_of self.now.shader.now self.now.handle self.now.function.now self.now.info.now) self.now.shader.now.types self.now.function.now.expressions 0 self.now.function.now.local_variables)) (W.text out.new) (W.failures out.new) }
+        ensures { Appends result (W.text out.old) (W.failures out.old) (locals_text (locals_form (naming_of self.now.shader.now self.now.handle self.now.function.now self.now.info.now) (type_names self.now.shader.now) self.now.function.now.expressions 0 self.now.function.now.local_variables)) (W.text out.new) (W.failures out.new) }
     {
         for index in 0..self.function.local_variables.len() {
             self.write_local(alloc, scope, Place::from_index(index), out)?;
@@ -167,13 +166,13 @@ impl FunctionText<'_> {
         requires can { CanWrite self.now.shader.now (names_in self.now.names.now) self.now.handle self.now.function.now self.now.info.now }
         requires start { StartsAt (naming_of self.now.shader.now self.now.handle self.now.function.now self.now.info.now) scope.now }
         requires local { handle < length self.now.function.now.local_variables }
-        ensures { Appends result (W.text out.old) (W.failures out.old) (local_text_at (naming_of self.now.shader.now self.now.handle self.now.function.now self.now.info.now) self.now.shader.now.types self.now.function.now.expressions handle (slice_get self.now.function.now.local_variables handle)) (W.text out.new) (W.failures out.new) }
+        ensures { Appends result (W.text out.old) (W.failures out.old) (local_text_at (naming_of self.now.shader.now self.now.handle self.now.function.now self.now.info.now) (type_names self.now.shader.now) self.now.function.now.expressions handle (slice_get self.now.function.now.local_variables handle)) (W.text out.new) (W.failures out.new) }
     {
         let local = &self.function.local_variables[handle];
         put("    var ", out)?;
         self.write_name(&NameKey::FunctionLocal(self.handle, handle), out)?;
         put(": ", out)?;
-        write_type(&self.shader.types, local.ty, out)?;
+        self.write_type(alloc, local.ty, out)?;
         self.write_first_value(alloc, scope, local.init, out)
     }
 
@@ -223,29 +222,4 @@ fn write_group_end<W: TextSink>(is_empty: bool, out: &mut W) -> Result<(), Error
     ensures { Appends result (W.text out.old) (W.failures out.old) (if is_empty then [] else codes "\n") (W.text out.new) (W.failures out.new) }
 {
     put(if is_empty { "" } else { "\n" }, out)
-}
-
-pub(crate) fn write_type<W: TextSink>(
-    types: &UniqueArena<Type_>,
-    ty: Handle<Type_>,
-    out: &mut W,
-) -> Result<(), Error>
-    requires { IsTrue (has_word types.now ty) }
-    ensures { Appends result (W.text out.old) (W.failures out.old) (type_word types.now ty) (W.text out.new) (W.failures out.new) }
-{
-    put(type_word(types, ty), out)
-}
-
-/// The word of a type that has one.
-fn type_word(types: &UniqueArena<Type_>, ty: Handle<Type_>) -> &'static str
-    requires { IsTrue (has_word types.now ty) }
-    ensures { result.now ≡ type_word types.now ty }
-{
-    match &types[ty].inner {
-        TypeInner::Scalar(scalar) => match scalar_word(*scalar) {
-            Some(word) => word,
-            None => unreachable!(),
-        },
-        _ => unreachable!(),
-    }
 }

@@ -12,7 +12,7 @@ pub mod implemented;
 mod literal;
 pub mod part;
 pub mod sinks;
-mod told;
+mod types;
 
 pub use error::Error;
 pub use flags::WriterFlags;

@@ -4,3 +4,5 @@ pub mod Levels
 pub mod Forms
 pub mod Orders
 pub mod Empties
+pub mod TypeForms
+pub mod Likeness

@@ -5,3 +5,4 @@ pub mod Trees
 pub mod Contexts
 pub mod Predeclared
 pub mod Rules
+pub mod Readable

@@ -3,6 +3,8 @@ use Rattle.std.specs.Prelude.{ℕ, zero, suc, Bool, true, false, if◌then◌els
 use Rattle.std.specs.Option.{option_map}
 use Rattle.std.specs.Int.NonZero.{non_zero_u32_get}
 use Rattle.wgsl_text.specs.Tree.{TypeSpecifier, Named, Template, TypeParts, NoParts, TypePart, SizePart}
+use Rattle.naga_info.specs.declared.info.TypeResolution.{TypeResolution}
+use Rattle.naga_info.specs.declared.info.TypeResolution.TheVariants.{Handle, Value}
 use Rattle.naga_ir.specs.declared.types.Type_.{Type_}
 use Rattle.naga_ir.specs.declared.types.TypeInner.{TypeInner}
 use Rattle.naga_ir.specs.declared.types.TypeInner.TheVariants as inner
@@ -112,6 +114,11 @@ type_tree n handle = tree_within (suc handle) n handle
 -- the tree of a type by itself; a struct by itself has no name and no form
 abbrev pub inner_tree : Names → TypeInner → Option TypeSpecifier
 inner_tree n it = inner_tree_by n (type_tree n) it
+
+-- the type of an expression: one of the module's, or one by itself
+abbrev pub resolution_tree : Names → TypeResolution → Option TypeSpecifier
+resolution_tree n (Handle handle) = type_tree n handle
+resolution_tree n (Value it) = inner_tree n it
 
 -- the context that has these names and refuses what has no form
 abbrev pub writer_context : Names → (ℕ → Bool) → Context

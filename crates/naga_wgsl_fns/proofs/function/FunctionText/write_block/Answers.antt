@@ -10,6 +10,7 @@ use Rattle.naga_scope.specs.Standings.{handles_of}
 use Rattle.naga_scope.specs.declared.points.Standing.{Standing}
 use Rattle.shader_runs.specs.Program.{from}
 use Rattle.shader_runs.specs.Scope.{after_emit}
+use Rattle.naga_form.specs.Types.{type_names}
 use Rattle.naga_wgsl_fns.specs.Texts.{naming_of, tells_types}
 use Rattle.naga_wgsl_fns.proofs.Appending.{IsAlong, along_start, along_more, along_stopped, along_done, appends_stopped}
 use Rattle.naga_wgsl_fns.proofs.Blocks.{lines_left, emit_lines, store_lines, return_lines, statement_at, fits_parts, no_other_statement}
@@ -21,7 +22,7 @@ pub loop-statement-init : goal.loop-statement-init
 loop-statement-init g c =
     let self = c.args.self.now in
     let n = naming_of self.shader.now self.handle self.function.now self.info.now in
-    let told = told_type (tells_types self.flags) self.shader.now.types self.info.now in
+    let told = told_type (tells_types self.flags) (type_names self.shader.now) self.info.now in
     let whole = lines_left n told self.function.now.expressions c.args.level.0 c.args.block.now (handles_of c.args.scope.now) in
     let held = g.W.TextSink.text c.args.out.now in
     let failed = g.W.TextSink.failures c.args.out.now in (
@@ -49,7 +50,7 @@ pub returns-in_err-write_emit-in-Emit : goal.returns-in_err-write_emit-in-Emit
 returns-in_err-write_emit-in-Emit g c =
     let self = c.args.self.now in
     let n = naming_of self.shader.now self.handle self.function.now self.info.now in
-    let told = told_type (tells_types self.flags) self.shader.now.types self.info.now in
+    let told = told_type (tells_types self.flags) (type_names self.shader.now) self.info.now in
     let es = self.function.now.expressions in
     let items = c.as_slice-statement-items.result.now in
     let i = c.loop-statement.statement-index in
@@ -85,7 +86,7 @@ pub returns-in_err-write_store-in-Store : goal.returns-in_err-write_store-in-Sto
 returns-in_err-write_store-in-Store g c =
     let self = c.args.self.now in
     let n = naming_of self.shader.now self.handle self.function.now self.info.now in
-    let told = told_type (tells_types self.flags) self.shader.now.types self.info.now in
+    let told = told_type (tells_types self.flags) (type_names self.shader.now) self.info.now in
     let es = self.function.now.expressions in
     let items = c.as_slice-statement-items.result.now in
     let i = c.loop-statement.statement-index in
@@ -110,7 +111,7 @@ pub returns-in_err-write_return-in-Return : goal.returns-in_err-write_return-in-
 returns-in_err-write_return-in-Return g c =
     let self = c.args.self.now in
     let n = naming_of self.shader.now self.handle self.function.now self.info.now in
-    let told = told_type (tells_types self.flags) self.shader.now.types self.info.now in
+    let told = told_type (tells_types self.flags) (type_names self.shader.now) self.info.now in
     let es = self.function.now.expressions in
     let items = c.as_slice-statement-items.result.now in
     let i = c.loop-statement.statement-index in
@@ -140,7 +141,7 @@ loop-statement-preserved g c =
     let known = self.info.now in
     let answer = self.function.now.result in
     let n = naming_of self.shader.now self.handle self.function.now self.info.now in
-    let told = told_type (tells_types self.flags) self.shader.now.types self.info.now in
+    let told = told_type (tells_types self.flags) (type_names self.shader.now) self.info.now in
     let es = self.function.now.expressions in
     let level = c.args.level.0 in
     let items = c.as_slice-statement-items.result.now in
@@ -193,7 +194,7 @@ pub returns : goal.returns
 returns g c =
     let self = c.args.self.now in
     let n = naming_of self.shader.now self.handle self.function.now self.info.now in
-    let told = told_type (tells_types self.flags) self.shader.now.types self.info.now in
+    let told = told_type (tells_types self.flags) (type_names self.shader.now) self.info.now in
     let items = c.as_slice-statement-items.result.now in
     let past : length items ≤ c.loop-statement.statement-index = c.loop-statement-test.false in
     along_done c.loop-statement.invariant.0

@@ -5,6 +5,7 @@ use Rattle.naga_names.specs.Reset.{names_in}
 use Rattle.shader_runs.specs.Scope.{Handles}
 use Rattle.wgsl_text.specs.Lines.{statements_pieces}
 use Rattle.wgsl_text.specs.Text.{text}
+use Rattle.naga_form.specs.Types.{type_names}
 use Rattle.naga_wgsl_fns.specs.Texts.{naming_of, tells_types}
 use Rattle.naga_wgsl_fns.proofs.Appending.{appends_as, appends_stopped, appends_then, stopped_as, stopped_first, stopped_for_memory, stopped_then, wrote_as}
 use Rattle.naga_wgsl_fns.proofs.Rows.{function_row}
@@ -49,7 +50,7 @@ pub returns-in_err-write_block : goal.returns-in_err-write_block
 returns-in_err-write_block g c =
     let self = c.args.self.now in
     let r = c.from_residual-in_err-write_block.result in
-    let lines = λ (s : Handles). text (statements_pieces (lines_form (naming_of self.shader.now self.handle self.function.now self.info.now) (told_type (tells_types self.flags) self.shader.now.types self.info.now) self.function.now.expressions 0 self.function.now.body s) 1) in
+    let lines = λ (s : Handles). text (statements_pieces (lines_form (naming_of self.shader.now self.handle self.function.now self.info.now) (told_type (tells_types self.flags) (type_names self.shader.now) self.info.now) self.function.now.expressions 0 self.function.now.body s) 1) in
     appends_as r _ _ _ _ _ _ (function_row (module_names self.shader.now) self.shader.now.types self.handle (tells_types self.flags) self.function.now self.info.now)
     (appends_stopped r c.from_residual-in_err-write_block.ensures.1
     (stopped_then c.in_ok-write_head.ensures (stopped_then c.in_ok-write_locals.ensures (stopped_first _ (stopped_as (ap lines (c.in_ok-scope.ensures.start self.shader.now.types self.info.now)) c.in_err-write_block.ensures)))))
@@ -58,6 +59,6 @@ pub returns : goal.returns
 returns g c =
     let self = c.args.self.now in
     let r = c.put.result in
-    let lines = λ (s : Handles). text (statements_pieces (lines_form (naming_of self.shader.now self.handle self.function.now self.info.now) (told_type (tells_types self.flags) self.shader.now.types self.info.now) self.function.now.expressions 0 self.function.now.body s) 1) in
+    let lines = λ (s : Handles). text (statements_pieces (lines_form (naming_of self.shader.now self.handle self.function.now self.info.now) (told_type (tells_types self.flags) (type_names self.shader.now) self.info.now) self.function.now.expressions 0 self.function.now.body s) 1) in
     appends_as r _ _ _ _ _ _ (function_row (module_names self.shader.now) self.shader.now.types self.handle (tells_types self.flags) self.function.now self.info.now)
     (appends_then r _ _ _ c.in_ok-write_head.ensures (appends_then r _ _ _ c.in_ok-write_locals.ensures (appends_then r _ _ _ (wrote_as (ap lines (c.in_ok-scope.ensures.start self.shader.now.types self.info.now)) c.in_ok-write_block.ensures) c.put.ensures)))

@@ -4,6 +4,7 @@ use Rattle.naga_form.specs.Names.{module_names}
 use Rattle.naga_names.specs.Reset.{names_in}
 use Rattle.naga_scope.specs.Standings.{handles_of}
 use Rattle.shader_runs.specs.Scope.{after_emit, after_one}
+use Rattle.naga_form.specs.Types.{type_names}
 use Rattle.naga_wgsl_fns.specs.Texts.{naming_of, tells_types}
 use Rattle.naga_wgsl_fns.proofs.Appending.{along_start, along_more, along_stopped, along_done, appends_stopped}
 use Rattle.naga_wgsl_fns.proofs.Blocks.{lets_left, lets_step, after_step}
@@ -18,7 +19,7 @@ pub returns-in_err-write_emitted-clause-lets : goal.returns-in_err-write_emitted
 returns-in_err-write_emitted-clause-lets g c =
     let self = c.args.self.now in
     let n = naming_of self.shader.now self.handle self.function.now self.info.now in
-    let told = told_type (tells_types self.flags) self.shader.now.types self.info.now in
+    let told = told_type (tells_types self.flags) (type_names self.shader.now) self.info.now in
     let s = handles_of c.loop-index.scope in
     let h = c.from_index-handle.result in
     let none = none_given self.shader.now (names_in self.names.now) self.handle self.function.now self.info.now c.requires.can h 0 in
@@ -37,7 +38,7 @@ pub loop-index-preserved : goal.loop-index-preserved
 loop-index-preserved g c =
     let self = c.args.self.now in
     let n = naming_of self.shader.now self.handle self.function.now self.info.now in
-    let told = told_type (tells_types self.flags) self.shader.now.types self.info.now in
+    let told = told_type (tells_types self.flags) (type_names self.shader.now) self.info.now in
     let s = handles_of c.loop-index.scope in
     let t = handles_of c.emit.new.self in
     let h = c.from_index-handle.result in
@@ -56,7 +57,7 @@ pub returns-clause-lets : goal.returns-clause-lets
 returns-clause-lets g c =
     let self = c.args.self.now in
     let n = naming_of self.shader.now self.handle self.function.now self.info.now in
-    let told = told_type (tells_types self.flags) self.shader.now.types self.info.now in
+    let told = told_type (tells_types self.flags) (type_names self.shader.now) self.info.now in
     let past : c.args.range.end ≤ c.loop-index.index = c.loop-index-test.false in
     along_done c.loop-index.invariant.0
     (ap (λ (hs : List ℕ). lets_left n told self.function.now.expressions c.args.level.0 hs (handles_of c.loop-index.scope)) (from_none c.loop-index.index c.args.range.end past))

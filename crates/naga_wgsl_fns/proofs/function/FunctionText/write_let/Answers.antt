@@ -6,6 +6,7 @@ use Rattle.naga_names.specs.Reset.{names_in}
 use Rattle.naga_scope.specs.Standings.{handles_of}
 use Rattle.wgsl_text.specs.Lines.{statement_pieces}
 use Rattle.wgsl_text.specs.Text.{text}
+use Rattle.naga_form.specs.Types.{type_names}
 use Rattle.naga_wgsl_fns.specs.Texts.{naming_of, tells_types}
 use Rattle.naga_wgsl_fns.proofs.Appending.{appends_as, appends_stopped, appends_then, stopped_first, stopped_then}
 use Rattle.naga_wgsl_fns.proofs.Wanted.{bound_is}
@@ -17,7 +18,7 @@ returns-in_err-write_line_start g c =
     let self = c.args.self.now in
     let n = naming_of self.shader.now self.handle self.function.now self.info.now in
     let s = handles_of c.args.scope.now in
-    let told = told_type (tells_types self.flags) self.shader.now.types self.info.now c.args.handle in
+    let told = told_type (tells_types self.flags) (type_names self.shader.now) self.info.now c.args.handle in
     let own = as_value (own_if n (plain_form n self.function.now.expressions s) (slice_get self.function.now.expressions c.args.handle)) in
     let r = c.from_residual.result in
     appends_as r _ _ _ _ _ _
@@ -31,7 +32,7 @@ returns-in_err-write_bound_name g c =
     let self = c.args.self.now in
     let n = naming_of self.shader.now self.handle self.function.now self.info.now in
     let s = handles_of c.args.scope.now in
-    let told = told_type (tells_types self.flags) self.shader.now.types self.info.now c.args.handle in
+    let told = told_type (tells_types self.flags) (type_names self.shader.now) self.info.now c.args.handle in
     let own = as_value (own_if n (plain_form n self.function.now.expressions s) (slice_get self.function.now.expressions c.args.handle)) in
     let r = c.from_residual-in_err-write_bound_name.result in
     appends_as r _ _ _ _ _ _
@@ -45,7 +46,7 @@ returns-in_err-write_told_type g c =
     let self = c.args.self.now in
     let n = naming_of self.shader.now self.handle self.function.now self.info.now in
     let s = handles_of c.args.scope.now in
-    let told = told_type (tells_types self.flags) self.shader.now.types self.info.now c.args.handle in
+    let told = told_type (tells_types self.flags) (type_names self.shader.now) self.info.now c.args.handle in
     let own = as_value (own_if n (plain_form n self.function.now.expressions s) (slice_get self.function.now.expressions c.args.handle)) in
     let r = c.from_residual-in_err-write_told_type.result in
     appends_as r _ _ _ _ _ _
@@ -59,7 +60,7 @@ returns-in_err-put g c =
     let self = c.args.self.now in
     let n = naming_of self.shader.now self.handle self.function.now self.info.now in
     let s = handles_of c.args.scope.now in
-    let told = told_type (tells_types self.flags) self.shader.now.types self.info.now c.args.handle in
+    let told = told_type (tells_types self.flags) (type_names self.shader.now) self.info.now c.args.handle in
     let own = as_value (own_if n (plain_form n self.function.now.expressions s) (slice_get self.function.now.expressions c.args.handle)) in
     let r = c.from_residual-in_err-put.result in
     appends_as r _ _ _ _ _ _
@@ -73,7 +74,7 @@ returns-in_err-write_own g c =
     let self = c.args.self.now in
     let n = naming_of self.shader.now self.handle self.function.now self.info.now in
     let s = handles_of c.args.scope.now in
-    let told = told_type (tells_types self.flags) self.shader.now.types self.info.now c.args.handle in
+    let told = told_type (tells_types self.flags) (type_names self.shader.now) self.info.now c.args.handle in
     let own = as_value (own_if n (plain_form n self.function.now.expressions s) (slice_get self.function.now.expressions c.args.handle)) in
     let r = c.from_residual-in_err-write_own.result in
     appends_as r _ _ _ _ _ _
@@ -87,7 +88,7 @@ returns g c =
     let self = c.args.self.now in
     let n = naming_of self.shader.now self.handle self.function.now self.info.now in
     let s = handles_of c.args.scope.now in
-    let told = told_type (tells_types self.flags) self.shader.now.types self.info.now c.args.handle in
+    let told = told_type (tells_types self.flags) (type_names self.shader.now) self.info.now c.args.handle in
     let own = as_value (own_if n (plain_form n self.function.now.expressions s) (slice_get self.function.now.expressions c.args.handle)) in
     let r = c.put-2.result in
     appends_as r _ _ _ _ _ _

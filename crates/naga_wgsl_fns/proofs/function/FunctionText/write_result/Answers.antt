@@ -1,4 +1,5 @@
 use Rattle.naga_names.specs.Reset.{names_in}
+use Rattle.naga_form.specs.Types.{type_names}
 use Rattle.naga_wgsl_fns.proofs.Wanted.{answer_has_word}
 use Rattle.std.proofs.Common.{sym, ap, ◌∙◌}
 use Rattle.naga_form.specs.Form.{result_form}
@@ -13,7 +14,7 @@ pub returns-in_err-put-in-Some : goal.returns-in_err-put-in-Some
 returns-in_err-put-in-Some g c =
     let self = c.args.self.now in
     appends_as c.from_residual.result _ _ _ _ _ _
-    (result_row (module_names self.shader.now) self.shader.now.types self.handle c.in-Some.answer ∙ ap (λ r. text (result_pieces (result_form self.shader.now.types r))) (sym c.in-Some.is))
+    (result_row (module_names self.shader.now) self.shader.now.types self.handle c.in-Some.answer ∙ ap (λ r. text (result_pieces (result_form (type_names self.shader.now) r))) (sym c.in-Some.is))
     (appends_stopped c.from_residual.result c.from_residual.ensures.1 (stopped_first _ c.in_err-put-in-Some.ensures))
 
 pub write_type-requires : goal.write_type-requires

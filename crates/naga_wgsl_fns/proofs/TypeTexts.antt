@@ -1,0 +1,127 @@
+-- What is said of a type's spelling, for types that have a form.
+use Rattle.std.proofs.Common.{◌≡◌, ℕ, ◌<◌, Bool, true, false, List, [], ◌∷◌, ◌++◌, Option, Some, None, refl, sym, ap, subst, ◌∙◌, ◌≤◌, ◌+◌, arith, slice_get, length}
+use Rattle.std.specs.Prelude.{IsTrue, unwrap_or}
+use Rattle.std.specs.Option.{is_some, option_map}
+use Rattle.std.specs.List.{list_all}
+use Rattle.std.proofs.lemmas.Option.{slice_get_within}
+use Rattle.naga_enumerations.specs.declared.types.AddressSpace.{AddressSpace}
+use Rattle.naga_enumerations.specs.declared.types.AddressSpace.TheVariants as space
+use Rattle.naga_ir.specs.declared.types.Type_.{Type_}
+use Rattle.naga_ir.specs.declared.types.TypeInner.{TypeInner}
+use Rattle.naga_ir.specs.declared.types.TypeInner.TheVariants as inner
+use Rattle.naga_info.specs.Accepted.{is_scalar_type}
+use Rattle.naga_info.specs.Resolution.{inner_of}
+use Rattle.naga_info.specs.Types.{word_of_type, word_at, pointer_spelling, spelling, spelling_of}
+use Rattle.naga_info.proofs.Accepting.{list_all_at, map_some, then_some}
+use Rattle.naga_names.specs.Reset.{NameMap}
+use Rattle.naga_info.specs.declared.info.TypeResolution.{TypeResolution}
+use Rattle.naga_info.specs.declared.info.TypeResolution.TheVariants as resolution
+use Rattle.naga_words.specs.Parts.{Part, Word, Shown, Missing, IsText, lacks, before_missing, known_text, HasWritten, HasBegun}
+use Rattle.naga_words.specs.Contexts.{names_of, names_context}
+use Rattle.naga_words.specs.Spelling.{Context, Fits, FitsResolution, IsInOrder, end_of_base, knows_override, type_parts, resolution_parts}
+use Rattle.naga_words.specs.Sink.{IsBehind}
+use Rattle.naga_words.specs.Trees.{type_tree, resolution_tree}
+use Rattle.naga_words.specs.declared.sink.SinkError.TheVariants.{Failed, Memory as SinkMemory}
+use Rattle.naga_words.specs.declared.types.TypeTextError.{TypeTextError}
+use Rattle.naga_words.specs.declared.types.TypeTextError.TheVariants as type_error
+use Rattle.naga_words.proofs.Forms.{only_text, lacks_unknown, type_row, inner_tree_row}
+use Rattle.wgsl_text.specs.Reading.{type_layout}
+use Rattle.wgsl_text.specs.Tree.{TypeSpecifier, Named}
+use Rattle.wgsl_text.proofs.RowText.{text-append}
+use Rattle.naga_form.proofs.WrittenTypes.{HasForm, word_has_form, resolution_has_form}
+use Rattle.naga_wgsl_fns.specs.declared.error.Error.{Error}
+use Rattle.naga_wgsl_fns.specs.declared.error.Error.TheVariants.{FmtError, Memory as Want}
+use Rattle.naga_wgsl_fns.specs.Appends.{Wrote, Stopped}
+use Rattle.naga_wgsl_fns.specs.Errors.{IsErrorOfType, IsWant}
+use Rattle.naga_wgsl_fns.specs.Texts.{has_word, type_text, resolution_text}
+
+some_is : {X : Type 0} (o : Option X) → IsTrue (is_some o) → (x : X) × (o ≡ Some x)
+some_is None has = absurd (cc)
+some_is (Some x) has = (x, refl)
+
+-- where each part is known, none is refused
+whole_word : (w : List ℕ) (ps : List Part) (t : List ℕ) (o : Option (List ℕ)) → known_text ps ≡ o → ((u : List ℕ) → known_text ps ≡ Some u → before_missing ps ≡ ps) → option_map (λ r. w ++ r) o ≡ Some t → before_missing (Word w ∷ ps) ≡ Word w ∷ ps
+whole_word w ps t None k same e = absurd (cc)
+whole_word w ps t (Some u) k same e = ap (λ qs. Word w ∷ qs) (same u k)
+
+known_whole : (ps : List Part) (t : List ℕ) → known_text ps ≡ Some t → before_missing ps ≡ ps
+known_whole [] t e = refl
+known_whole (Word w ∷ ps) t e = whole_word w ps t (known_text ps) refl (λ u k. known_whole ps u k) e
+known_whole (Shown ∷ ps) t e = absurd (cc)
+known_whole (Missing ∷ ps) t e = absurd (cc)
+
+module _ (ps : List Part) (t : List ℕ) (known : known_text ps ≡ Some t) where
+  -- the text was written
+  pub wrote_known : {held now : List ℕ} {failed failures : ℕ} → HasWritten ps held now → failures ≡ failed → Wrote held failed t now failures
+  wrote_known {held} w kept = record { appended = w.behind ∙ ap (λ u. held ++ u) (only_text ps w.text t w.is_text known); kept = kept }
+
+  -- or a beginning of it, for want of memory or because the sink failed
+  pub stopped_known : {held now : List ℕ} {failed failures : ℕ} (e : TypeTextError) (error : Error) → IsErrorOfType e error → HasBegun ps held now → (e ≡ type_error.NoForm → lacks ps ≡ true) → (e ≡ type_error.Sink Failed → failed < failures) → Stopped held failed t now failures error
+  stopped_known {held} {now} {failed} {failures} e error is b form failure =
+      record { behind = subst (λ u. IsBehind held u now) (only_text ps b.whole t (subst (λ qs. IsText qs b.whole) (known_whole ps t known) b.is_text) known) b.behind; reason = by e error is form failure }
+    where
+      by : (e : TypeTextError) (error : Error) → IsErrorOfType e error → (e ≡ type_error.NoForm → lacks ps ≡ true) → (e ≡ type_error.Sink Failed → failed < failures) → IsWant failed failures error
+      by (type_error.Sink Failed) error is form failure = subst (IsWant failed failures) (sym is) (failure refl)
+      by (type_error.Sink (SinkMemory a)) error is form failure = subst (IsWant failed failures) (sym is) tt
+      by (type_error.Memory a) error is form failure = subst (IsWant failed failures) (sym is) tt
+      by type_error.NoForm error is form failure = let none : Some t ≡ None = sym known ∙ lacks_unknown ps (form refl) in absurd (cc)
+
+module _ (types : List Type_) where
+  -- what is known of the spelling of a type that has a form, whatever its names are
+  known_of_tree : (names others : NameMap) (ps : List Part) (under : NameMap → Option TypeSpecifier) → known_text ps ≡ option_map type_layout (under names) → HasForm under → known_text ps ≡ Some (type_layout (unwrap_or (under others) (Named [])))
+  known_of_tree names others ps under row has = row ∙ ap (option_map type_layout) (has.is names) ∙ ap (λ x. Some (type_layout (unwrap_or x (Named [])))) (sym (has.is others))
+
+  pub type_known : (names others : NameMap) (ty : ℕ) → IsTrue (has_word types ty) → known_text (type_parts (names_context types names) ty) ≡ Some (type_text (names_of types others) ty)
+  type_known names others ty has =
+      let w = some_is (word_at types ty) has in
+      known_of_tree names others (type_parts (names_context types names) ty) (λ n. type_tree (names_of types n) ty) (type_row text-append (names_of types names) (λ handle. true) ty) (word_has_form types ty w.0 w.1)
+
+  row_of : (names : NameMap) (r : TypeResolution) → known_text (resolution_parts (names_context types names) r) ≡ option_map type_layout (resolution_tree (names_of types names) r)
+  row_of names (resolution.Handle h) = type_row text-append (names_of types names) (λ handle. true) h
+  row_of names (resolution.Value i) = inner_tree_row text-append (names_of types names) (λ handle. true) i
+
+  pub resolution_known : (scalars : list_all is_scalar_type types ≡ true) (names others : NameMap) (r : TypeResolution) → IsTrue (is_some (spelling_of types r)) → known_text (resolution_parts (names_context types names) r) ≡ Some (resolution_text (names_of types others) r)
+  resolution_known scalars names others r has =
+      let w = some_is (spelling_of types r) has in
+      known_of_tree names others (resolution_parts (names_context types names) r) (λ n. resolution_tree (names_of types n) r) (row_of names r) (resolution_has_form types scalars r w.0 w.1)
+
+  -- ---- what a context asks for
+  scalar_before : (i : TypeInner) (h : ℕ) → IsTrue (is_some (word_of_type i)) → end_of_base i ≤ h
+  scalar_before (inner.Scalar s) h is = omega arith
+  scalar_before _ h is = absurd (cc)
+
+  scalar_knows : (c : Context) (i : TypeInner) → IsTrue (is_some (word_of_type i)) → IsTrue (knows_override c i)
+  scalar_knows c (inner.Scalar s) is = refl
+  scalar_knows c _ is = absurd (cc)
+
+  pub in_order : (names : NameMap) → list_all is_scalar_type types ≡ true → IsInOrder (names_context types names)
+  in_order names scalars = record {
+    before = λ h t at. scalar_before t.inner h (list_all_at is_scalar_type types h t scalars at);
+    known = λ h t at. scalar_knows (names_context types names) t.inner (list_all_at is_scalar_type types h t scalars at);
+  }
+
+  word_within : (ty : ℕ) (w : List ℕ) → word_at types ty ≡ Some w → ty < length types
+  word_within ty w e = let k = then_some (λ t. word_of_type t.inner) (slice_get types ty) w e in slice_get_within types ty k.0 k.1
+
+  pub has_word_within : (ty : ℕ) → IsTrue (has_word types ty) → ty < length types
+  has_word_within ty has = let w = some_is (word_at types ty) has in word_within ty w.0 w.1
+
+  pointer_fits : (names : NameMap) (base : ℕ) (a : AddressSpace) (o : Option (List ℕ)) → word_at types base ≡ o → (w : List ℕ) → pointer_spelling a o ≡ Some w → Fits (names_context types names) (inner.Pointer base a)
+  pointer_fits names base space.Function None at w e = absurd (cc)
+  pointer_fits names base space.Function (Some x) at w e = let lt = word_within base x at in record { in_range = omega (arith, lt); knows = refl }
+  pointer_fits names base _ o at w e = absurd (cc)
+
+  inner_fits : (names : NameMap) (i : TypeInner) (w : List ℕ) → spelling types i ≡ Some w → Fits (names_context types names) i
+  inner_fits names (inner.Scalar s) w e = record { in_range = omega arith; knows = refl }
+  inner_fits names (inner.Pointer base a) w e = pointer_fits names base a (word_at types base) refl w e
+  inner_fits names _ w e = absurd (cc)
+
+  spelled_fits : (names : NameMap) (r : TypeResolution) (w : List ℕ) → spelling_of types r ≡ Some w → FitsResolution (names_context types names) r
+  spelled_fits names (resolution.Handle h) w e =
+      let i = then_some (spelling types) (inner_of (resolution.Handle h) types) w e in
+      let k = map_some (λ y. y.inner) (slice_get types h) i.0 i.1 in
+      slice_get_within types h k.0 k.1
+  spelled_fits names (resolution.Value i) w e = inner_fits names i w e
+
+  pub resolution_fits : (names : NameMap) (r : TypeResolution) → IsTrue (is_some (spelling_of types r)) → FitsResolution (names_context types names) r
+  resolution_fits names r has = let w = some_is (spelling_of types r) has in spelled_fits names r w.0 w.1
