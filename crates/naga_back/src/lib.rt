@@ -11,13 +11,12 @@ mod context;
 mod fixed_input;
 mod kinds;
 mod operators;
-mod rays;
 
+pub use back_flags::{RayFlag, RayIntersectionType};
 pub use baking::{BakeRefCount, Baked, NeedBakeExpressions};
 pub use context::{FunctionCtx, FunctionType};
 pub use kinds::{IsHandle, IsTerminator};
 pub use operators::{COMPONENTS, binary_operation_str};
-pub use rays::{RayFlag, RayIntersectionType};
 
 /// What each level of nesting is indented by.
 pub const INDENT: &str = "    ";

@@ -17,7 +17,7 @@ use Rattle.naga_form.specs.Form.{function_form}
 use Rattle.naga_form.proofs.Resolutions.{functions_are_written}
 use Rattle.wgsl_text.specs.Declarations.{function_pieces}
 use Rattle.wgsl_text.specs.Text.{text}
-use Rattle.naga_wgsl_fns.specs.declared.flags.WriterFlags.{WriterFlags}
+use Rattle.back_flags.specs.declared.flags.WriterFlags.{WriterFlags}
 use Rattle.naga_wgsl_fns.specs.Texts.{CanWrite, known_of, tells_types, text_of_function}
 
 -- what is known of a function is what is known of its handle

@@ -1,6 +1,6 @@
 -- What the parts of a function want, from what the function wants.
-use Rattle.std.proofs.Common.{◌≡◌, ℕ, suc, ◌+◌, ◌<◌, ◌≤◌, ◌^◌, Bool, true, List, [], length, Option, None, Some, refl, sym, ap, subst, ◌∙◌, arith, IsTrue, drop}
-use Rattle.std.specs.Prelude.{slice_get, cond, nat_lt, nat_le}
+use Rattle.std.proofs.Common.{◌≡◌, ℕ, suc, ◌+◌, ◌<◌, ◌≤◌, ◌^◌, Bool, true, List, [], ◌++◌, codes, length, Option, None, Some, refl, sym, ap, subst, ◌∙◌, arith, IsTrue, drop}
+use Rattle.std.specs.Prelude.{slice_get, cond, nat_lt, nat_le, unwrap_or}
 use Rattle.std.specs.List.{list_all}
 use Rattle.std.specs.Option.{is_some, option_map, option_and_then}
 use Rattle.std.proofs.lemmas.Bool.{and_parts, ltb-true, lt-ltb, leb-true}
@@ -24,13 +24,19 @@ use Rattle.shader_runs.specs.Scope.{bound_name, given_after, given_by}
 use Rattle.naga_form.specs.Names.{module_names, name_in, numbered_name}
 use Rattle.naga_form.specs.Shapes.{statement_shape, OperandsStandBefore}
 use Rattle.naga_form.proofs.Fits.{not_given, given_line, ordered_at}
-use Rattle.naga_form.proofs.WrittenTypes.{known_spelled}
+use Rattle.naga_form.specs.Form.{told_type}
+use Rattle.naga_form.specs.Types.{type_names}
+use Rattle.naga_form.proofs.Facts.{element}
+use Rattle.naga_form.proofs.WrittenTypes.{known_spelled, resolution_has_form}
+use Rattle.naga_words.specs.Trees.{resolution_tree}
+use Rattle.wgsl_text.specs.Reading.{type_layout}
+use Rattle.wgsl_text.specs.Tree.{Named}
 use Rattle.naga_form.proofs.Resolutions.{nothing_outside, written_parts}
 use Rattle.naga_info.specs.Types.{literal_word, word_at, spelling_of, local_pointer}
 use Rattle.naga_info.specs.Accepted.{is_below, expected_type, local_fits, statement_fits, return_fits, block_fits}
 use Rattle.naga_info.specs.Part.{names_nothing}
 use Rattle.naga_info.proofs.Accepting.{list_all_at, then_some, scalar_types_word_at, function_fits_signature, function_fits_locals, function_fits_block, function_fits_length, function_fits_word_at, local_fits_parts, value_fits_word, local_word_at, load_word_at, binary_at, store_fits_word, local_first_word}
-use Rattle.naga_wgsl_fns.specs.Texts.{CanWrite, has_word, naming_of}
+use Rattle.naga_wgsl_fns.specs.Texts.{CanWrite, has_word, naming_of, resolution_text, told_text}
 
 module _ (m : Module) (names : NameMap) (g : ℕ) (f : Function) (es : List ExpressionInfo) (can : CanWrite m names g f es) where
   pub function_is_named : names (key.Function g) ≡ Some (name_in (module_names m) (key.Function g))
@@ -69,6 +75,21 @@ module _ (m : Module) (names : NameMap) (g : ℕ) (f : Function) (es : List Expr
   -- what is known of an expression spells its type
   pub spelled_at : (h : ℕ) (k : ExpressionInfo) → slice_get es h ≡ Some k → IsTrue (is_some (spelling_of m.types k.ty))
   spelled_at h k at = let w = known_spelled m.types f es can.fits h k at in ap (λ o. is_some o) w.1
+
+  -- ---- what is known of an expression
+  pub known_within_infos : (h : ℕ) → h < length f.expressions → h < length es
+  known_within_infos h lt = subst (λ n. h < n) (function_fits_length m.types f es can.fits) lt
+
+  pub known_at : (h : ℕ) → h < length f.expressions → (k : ExpressionInfo) × (slice_get es h ≡ Some k)
+  known_at h lt = element es h (known_within_infos h lt)
+
+  -- the type that a `let` tells, where it tells one
+  pub told_row : (h : ℕ) (k : ExpressionInfo) → slice_get es h ≡ Some k → (explicit : Bool) → explicit ≡ true → codes ": " ++ resolution_text (type_names m) k.ty ≡ told_text (told_type explicit (type_names m) es h)
+  told_row h k at explicit is =
+      let w = known_spelled m.types f es can.fits h k at in
+      let has = resolution_has_form m.types can.scalars k.ty w.0 w.1 in
+      ap (λ o. codes ": " ++ type_layout (unwrap_or o (Named []))) (has.is (module_names m))
+      ∙ ap told_text (sym (ap (λ b. told_type b (type_names m) es h) is ∙ ap (option_and_then (λ e. resolution_tree (type_names m) e.ty)) at ∙ has.is (module_names m)))
 
   -- ---- expressions
   -- a handle of which something is known is one of the function's

@@ -30,7 +30,7 @@ use Rattle.wgsl_text.specs.Lines.{statement_pieces}
 use Rattle.wgsl_text.specs.Pieces.{expression_pieces}
 use Rattle.wgsl_text.specs.Reading.{type_layout}
 use Rattle.wgsl_text.specs.Text.{text}
-use Rattle.naga_wgsl_fns.specs.declared.flags.WriterFlags.{WriterFlags}
+use Rattle.back_flags.specs.declared.flags.WriterFlags.{WriterFlags}
 
 -- each `let` tells its type
 abbrev pub tells_types : WriterFlags → Bool

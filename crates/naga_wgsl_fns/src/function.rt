@@ -15,8 +15,8 @@ ghost use Rattle.naga_wgsl_fns.specs.Errors.{IsWant};
 ghost use Rattle.naga_wgsl_fns.specs.Texts.{CanWrite, StartsAt, first_text, head_text, local_text_at, locals_text, naming_of, separator, tells_types, text_of_function};
 
 use crate::error::Error;
-use crate::flags::WriterFlags;
 use crate::sinks::put;
+use back_flags::WriterFlags;
 use naga_back::Level;
 use naga_info::{FunctionInfo, ModuleInfo};
 use naga_ir::{Expression, Function, FunctionArgument, Handle, LocalVariable, Module, Place};

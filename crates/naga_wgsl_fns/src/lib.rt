@@ -6,7 +6,6 @@
 mod body;
 pub mod error;
 mod expression;
-pub mod flags;
 pub mod function;
 pub mod implemented;
 mod literal;
@@ -14,8 +13,8 @@ pub mod part;
 pub mod sinks;
 mod types;
 
+pub use back_flags::{WriterFlags, flags};
 pub use error::Error;
-pub use flags::WriterFlags;
 pub use function::write_function;
 pub use implemented::to_wgsl_if_implemented;
 pub use part::is_written_so_far;

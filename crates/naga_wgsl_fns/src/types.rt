@@ -10,9 +10,9 @@ ghost use Rattle.naga_wgsl_fns.specs.Appends.{Appends};
 ghost use Rattle.naga_wgsl_fns.specs.Texts.{CanWrite, has_word, resolution_text, tells_types, told_text, type_text};
 
 use crate::error::{Error, type_error};
-use crate::flags::WriterFlags;
 use crate::function::FunctionText;
 use crate::sinks::put;
+use back_flags::WriterFlags;
 use bitflags::Flags;
 use naga_info::TypeResolution;
 use naga_ir::{Expression, Handle, Type_};

@@ -30,7 +30,7 @@ use Rattle.naga_wgsl_fns.proofs.Appending.{appends_as}
 use Rattle.naga_wgsl_fns.specs.Errors.{IsWant, IsNotYetWritten, IsCustom}
 use Rattle.naga_wgsl_fns.specs.declared.error.Error.{Error}
 use Rattle.naga_wgsl_fns.specs.declared.error.Error.TheVariants.{FmtError, Custom, Unimplemented, Memory}
-use Rattle.naga_wgsl_fns.specs.declared.flags.WriterFlags.{WriterFlags}
+use Rattle.back_flags.specs.declared.flags.WriterFlags.{WriterFlags}
 use Rattle.naga_wgsl_fns.specs.Texts.{tells_types}
 use Rattle.naga_wgsl_out.specs.Writing.{lines_of, written_text}
 use Rattle.naga_wgsl_out.proofs.Functions.{written_lines}

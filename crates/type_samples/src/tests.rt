@@ -6,7 +6,7 @@ use naga_ir::{
 };
 use naga_names::namer::NameKey;
 use naga_words::types::{type_fits, types_in_order};
-use naga_words::{TryToWgsl, TypeContext, TypeTextError, WriterTypeContext};
+use naga_words::{PredeclaredName, TryToWgsl, TypeContext, TypeTextError, WriterTypeContext};
 use std::alloc::{AllocError, Global};
 use std::collections::HashMap;
 use std::num::NonZeroU32;
@@ -102,73 +102,59 @@ fn gives(
     Ok(())
 }
 
+/// A type that names no other, and its text.
+fn scalar_row(row: usize) -> (TypeInner, &'static str) {
+    match row {
+        0 => (TypeInner::Scalar(Scalar::I16), "i16"),
+        1 => (
+            TypeInner::Vector {
+                size: VectorSize::Quad,
+                scalar: Scalar::U64,
+            },
+            "vec4<u64>",
+        ),
+        2 => (
+            TypeInner::Matrix {
+                columns: VectorSize::Tri,
+                rows: VectorSize::Bi,
+                scalar: Scalar::F32,
+            },
+            "mat3x2<f32>",
+        ),
+        3 => (
+            TypeInner::CooperativeMatrix {
+                columns: CooperativeSize::Eight,
+                rows: CooperativeSize::Sixteen,
+                scalar: Scalar::F16,
+                role: CooperativeRole::B,
+            },
+            "coop_mat8x16<f16,B>",
+        ),
+        4 => (TypeInner::Atomic(Scalar::U32), "atomic<u32>"),
+        5 => (
+            TypeInner::Sampler { comparison: true },
+            "sampler_comparison",
+        ),
+        6 => (
+            TypeInner::AccelerationStructure {
+                vertex_return: true,
+            },
+            "acceleration_structure<vertex_return>",
+        ),
+        _ => (
+            TypeInner::RayQuery {
+                vertex_return: false,
+            },
+            "ray_query",
+        ),
+    }
+}
+
 fn scalars_in(rt: &impl Abort, alloc: Global, module: &mut Module) -> Result<(), TypeTextError> {
-    gives(rt, alloc, module, TypeInner::Scalar(Scalar::I16), "i16")?;
-    gives(
-        rt,
-        alloc,
-        module,
-        TypeInner::Vector {
-            size: VectorSize::Quad,
-            scalar: Scalar::U64,
-        },
-        "vec4<u64>",
-    )?;
-    gives(
-        rt,
-        alloc,
-        module,
-        TypeInner::Matrix {
-            columns: VectorSize::Tri,
-            rows: VectorSize::Bi,
-            scalar: Scalar::F32,
-        },
-        "mat3x2<f32>",
-    )?;
-    gives(
-        rt,
-        alloc,
-        module,
-        TypeInner::CooperativeMatrix {
-            columns: CooperativeSize::Eight,
-            rows: CooperativeSize::Sixteen,
-            scalar: Scalar::F16,
-            role: CooperativeRole::B,
-        },
-        "coop_mat8x16<f16,B>",
-    )?;
-    gives(
-        rt,
-        alloc,
-        module,
-        TypeInner::Atomic(Scalar::U32),
-        "atomic<u32>",
-    )?;
-    gives(
-        rt,
-        alloc,
-        module,
-        TypeInner::Sampler { comparison: true },
-        "sampler_comparison",
-    )?;
-    gives(
-        rt,
-        alloc,
-        module,
-        TypeInner::AccelerationStructure {
-            vertex_return: true,
-        },
-        "acceleration_structure<vertex_return>",
-    )?;
-    gives(
-        rt,
-        alloc,
-        module,
-        TypeInner::RayQuery {
-            vertex_return: false,
-        },
-        "ray_query",
-    )?;
+    for row in 0..8 {
+        let (inner, want) = scalar_row(row);
+        gives(rt, alloc, module, inner, want)?;
+    }
     Ok(())
 }
 
@@ -179,85 +165,77 @@ fn scalars(rt: HostRuntime) -> Result<(), Fail> {
     Ok(())
 }
 
+/// An image, and its text.
+fn image_row(row: usize) -> (TypeInner, &'static str) {
+    match row {
+        0 => (
+            TypeInner::Image {
+                dim: ImageDimension::D2,
+                arrayed: false,
+                class: ImageClass::Sampled {
+                    kind: ScalarKind::Float,
+                    multi: false,
+                },
+            },
+            "texture_2d<f32>",
+        ),
+        1 => (
+            TypeInner::Image {
+                dim: ImageDimension::D1,
+                arrayed: true,
+                class: ImageClass::Sampled {
+                    kind: ScalarKind::Uint,
+                    multi: true,
+                },
+            },
+            "texture_multisampled_1d_array<u32>",
+        ),
+        2 => (
+            TypeInner::Image {
+                dim: ImageDimension::Cube,
+                arrayed: true,
+                class: ImageClass::Depth { multi: false },
+            },
+            "texture_depth_cube_array",
+        ),
+        3 => (
+            TypeInner::Image {
+                dim: ImageDimension::D2,
+                arrayed: false,
+                class: ImageClass::Storage {
+                    format: StorageFormat::Rgba8Unorm,
+                    access: StorageAccess::STORE,
+                },
+            },
+            "texture_storage_2d<rgba8unorm,write>",
+        ),
+        4 => (
+            TypeInner::Image {
+                dim: ImageDimension::D3,
+                arrayed: false,
+                class: ImageClass::Storage {
+                    format: StorageFormat::R64Uint,
+                    access: StorageAccess::ATOMIC,
+                },
+            },
+            "texture_storage_3d<r64uint,atomic>",
+        ),
+        _ => (
+            TypeInner::Image {
+                dim: ImageDimension::D2,
+                arrayed: false,
+                class: ImageClass::External,
+            },
+            "texture_external",
+        ),
+    }
+}
+
 fn images_in(rt: &impl Abort, alloc: Global, module: &mut Module) -> Result<(), TypeTextError> {
-    gives(
-        rt,
-        alloc,
-        module,
-        TypeInner::Image {
-            dim: ImageDimension::D2,
-            arrayed: false,
-            class: ImageClass::Sampled {
-                kind: ScalarKind::Float,
-                multi: false,
-            },
-        },
-        "texture_2d<f32>",
-    )?;
-    gives(
-        rt,
-        alloc,
-        module,
-        TypeInner::Image {
-            dim: ImageDimension::D1,
-            arrayed: true,
-            class: ImageClass::Sampled {
-                kind: ScalarKind::Uint,
-                multi: true,
-            },
-        },
-        "texture_multisampled_1d_array<u32>",
-    )?;
-    gives(
-        rt,
-        alloc,
-        module,
-        TypeInner::Image {
-            dim: ImageDimension::Cube,
-            arrayed: true,
-            class: ImageClass::Depth { multi: false },
-        },
-        "texture_depth_cube_array",
-    )?;
-    gives(
-        rt,
-        alloc,
-        module,
-        TypeInner::Image {
-            dim: ImageDimension::D2,
-            arrayed: false,
-            class: ImageClass::Storage {
-                format: StorageFormat::Rgba8Unorm,
-                access: StorageAccess::STORE,
-            },
-        },
-        "texture_storage_2d<rgba8unorm,write>",
-    )?;
-    gives(
-        rt,
-        alloc,
-        module,
-        TypeInner::Image {
-            dim: ImageDimension::D3,
-            arrayed: false,
-            class: ImageClass::Storage {
-                format: StorageFormat::R64Uint,
-                access: StorageAccess::ATOMIC,
-            },
-        },
-        "texture_storage_3d<r64uint,atomic>",
-    )?;
-    gives(
-        rt,
-        alloc,
-        module,
-        TypeInner::Image {
-            dim: ImageDimension::D2,
-            arrayed: false,
-            class: ImageClass::External,
-        },
-        "texture_external",
-    )?;
+    for row in 0..6 {
+        let (inner, want) = image_row(row);
+        gives(rt, alloc, module, inner, want)?;
+    }
     Ok(())
 }
 
@@ -268,86 +246,75 @@ fn images(rt: HostRuntime) -> Result<(), Fail> {
     Ok(())
 }
 
+/// A pointer, and its text.
+fn pointer_row(handles: Handles, row: usize) -> (TypeInner, &'static str) {
+    match row {
+        0 => (
+            TypeInner::ValuePointer {
+                size: Some(VectorSize::Tri),
+                scalar: Scalar::I32,
+                space: AddressSpace::Function,
+            },
+            "ptr<function, vec3<i32>>",
+        ),
+        1 => (
+            TypeInner::ValuePointer {
+                size: None,
+                scalar: Scalar::U32,
+                space: AddressSpace::Storage {
+                    access: StorageAccess::LOAD | StorageAccess::ATOMIC,
+                },
+            },
+            "ptr<storage, u32, atomic>",
+        ),
+        2 => (
+            TypeInner::Pointer {
+                base: handles.unsigned_array,
+                space: AddressSpace::Storage {
+                    access: StorageAccess::LOAD,
+                },
+            },
+            "ptr<storage, array<u32>>",
+        ),
+        3 => (
+            TypeInner::Pointer {
+                base: handles.signed,
+                space: AddressSpace::Storage {
+                    access: StorageAccess::LOAD | StorageAccess::STORE,
+                },
+            },
+            "ptr<storage, i32, read_write>",
+        ),
+        4 => (
+            TypeInner::Pointer {
+                base: handles.sampler,
+                space: AddressSpace::Handle,
+            },
+            "sampler",
+        ),
+        5 => (
+            TypeInner::Pointer {
+                base: handles.labelled,
+                space: AddressSpace::Private,
+            },
+            "ptr<private, S>",
+        ),
+        _ => (
+            TypeInner::Pointer {
+                base: handles.unlabelled,
+                space: AddressSpace::Private,
+            },
+            "ptr<private, {anonymous type}>",
+        ),
+    }
+}
+
 fn pointers_in(rt: &impl Abort, alloc: Global, module: &mut Module) -> Result<(), TypeTextError> {
     let handles = fill(alloc, module)?;
-    gives(
-        rt,
-        alloc,
-        module,
-        TypeInner::ValuePointer {
-            size: Some(VectorSize::Tri),
-            scalar: Scalar::I32,
-            space: AddressSpace::Function,
-        },
-        "ptr<function, vec3<i32>>",
-    )?;
-    gives(
-        rt,
-        alloc,
-        module,
-        TypeInner::ValuePointer {
-            size: None,
-            scalar: Scalar::U32,
-            space: AddressSpace::Storage {
-                access: StorageAccess::ATOMIC,
-            },
-        },
-        "ptr<storage, u32, atomic>",
-    )?;
-    gives(
-        rt,
-        alloc,
-        module,
-        TypeInner::Pointer {
-            base: handles.unsigned_array,
-            space: AddressSpace::Storage {
-                access: StorageAccess::LOAD,
-            },
-        },
-        "ptr<storage, array<u32>>",
-    )?;
-    gives(
-        rt,
-        alloc,
-        module,
-        TypeInner::Pointer {
-            base: handles.signed,
-            space: AddressSpace::Storage {
-                access: StorageAccess::STORE,
-            },
-        },
-        "ptr<storage, i32, read_write>",
-    )?;
-    gives(
-        rt,
-        alloc,
-        module,
-        TypeInner::Pointer {
-            base: handles.sampler,
-            space: AddressSpace::Handle,
-        },
-        "sampler",
-    )?;
-    gives(
-        rt,
-        alloc,
-        module,
-        TypeInner::Pointer {
-            base: handles.labelled,
-            space: AddressSpace::Private,
-        },
-        "ptr<private, S>",
-    )?;
-    gives(
-        rt,
-        alloc,
-        module,
-        TypeInner::Pointer {
-            base: handles.unlabelled,
-            space: AddressSpace::Private,
-        },
-        "ptr<private, {anonymous type}>",
-    )?;
+    for row in 0..7 {
+        let (inner, want) = pointer_row(handles, row);
+        gives(rt, alloc, module, inner, want)?;
+    }
     Ok(())
 }
 
@@ -358,63 +325,64 @@ fn pointers(rt: HostRuntime) -> Result<(), Fail> {
     Ok(())
 }
 
+/// An array, and its text.
+fn array_row(
+    handles: Handles,
+    four: NonZeroU32,
+    eight: NonZeroU32,
+    row: usize,
+) -> (TypeInner, &'static str) {
+    match row {
+        0 => (
+            TypeInner::Array {
+                base: handles.signed,
+                size: ArraySize::Constant(four),
+                stride: 4,
+            },
+            "array<i32, 4>",
+        ),
+        1 => (
+            TypeInner::Array {
+                base: handles.signed,
+                size: ArraySize::Pending(handles.number),
+                stride: 4,
+            },
+            "array<i32, N>",
+        ),
+        2 => (
+            TypeInner::Array {
+                base: handles.signed,
+                size: ArraySize::Dynamic,
+                stride: 16,
+            },
+            "array<i32>",
+        ),
+        3 => (
+            TypeInner::BindingArray {
+                base: handles.sampler,
+                size: ArraySize::Constant(eight),
+            },
+            "binding_array<sampler, 8>",
+        ),
+        _ => (
+            TypeInner::Array {
+                base: handles.signed,
+                size: ArraySize::Pending(handles.unnamed_number),
+                stride: 4,
+            },
+            "array<i32, {anonymous override Place { index: 1, mark: PhantomData<_> }}>",
+        ),
+    }
+}
+
 fn arrays_in(rt: &impl Abort, alloc: Global, module: &mut Module) -> Result<(), TypeTextError> {
     let handles = fill(alloc, module)?;
     let four = NonZeroU32::new(4).expect(rt, "four");
-    gives(
-        rt,
-        alloc,
-        module,
-        TypeInner::Array {
-            base: handles.signed,
-            size: ArraySize::Constant(four),
-            stride: 4,
-        },
-        "array<i32, 4>",
-    )?;
-    gives(
-        rt,
-        alloc,
-        module,
-        TypeInner::Array {
-            base: handles.signed,
-            size: ArraySize::Pending(handles.number),
-            stride: 4,
-        },
-        "array<i32, N>",
-    )?;
-    gives(
-        rt,
-        alloc,
-        module,
-        TypeInner::Array {
-            base: handles.signed,
-            size: ArraySize::Dynamic,
-            stride: 16,
-        },
-        "array<i32>",
-    )?;
-    gives(
-        rt,
-        alloc,
-        module,
-        TypeInner::BindingArray {
-            base: handles.sampler,
-            size: ArraySize::Constant(four),
-        },
-        "binding_array<sampler, 4>",
-    )?;
-    gives(
-        rt,
-        alloc,
-        module,
-        TypeInner::Array {
-            base: handles.signed,
-            size: ArraySize::Pending(handles.unnamed_number),
-            stride: 4,
-        },
-        "array<i32, {anonymous override Place { index: 1, mark: PhantomData<_> }}>",
-    )?;
+    let eight = NonZeroU32::new(8).expect(rt, "eight");
+    for row in 0..5 {
+        let (inner, want) = array_row(handles, four, eight, row);
+        gives(rt, alloc, module, inner, want)?;
+    }
     Ok(())
 }
 
@@ -425,58 +393,53 @@ fn arrays(rt: HostRuntime) -> Result<(), Fail> {
     Ok(())
 }
 
+/// A type without a form, and its text.
+fn braced_row(alloc: Global, row: usize) -> (TypeInner, &'static str) {
+    match row {
+        0 => (
+            TypeInner::Scalar(Scalar {
+                kind: ScalarKind::AbstractInt,
+                width: 8,
+            }),
+            "{AbstractInt}",
+        ),
+        1 => (
+            TypeInner::Atomic(Scalar {
+                kind: ScalarKind::AbstractFloat,
+                width: 8,
+            }),
+            "atomic<{AbstractFloat}>",
+        ),
+        2 => (
+            TypeInner::Scalar(Scalar {
+                kind: ScalarKind::Sint,
+                width: 3,
+            }),
+            "{non-WGSL Naga scalar Scalar { kind: Sint, width: 3 }}",
+        ),
+        3 => (
+            TypeInner::ValuePointer {
+                size: None,
+                scalar: Scalar::I32,
+                space: AddressSpace::Handle,
+            },
+            "{non-WGSL Naga type ValuePointer { size: None, scalar: Scalar { kind: Sint, width: 4 }, space: Handle }}",
+        ),
+        _ => (
+            TypeInner::Struct {
+                members: Vec::new(alloc),
+                span: 0,
+            },
+            "{unnamed struct}",
+        ),
+    }
+}
+
 fn braces_in(rt: &impl Abort, alloc: Global, module: &mut Module) -> Result<(), TypeTextError> {
-    gives(
-        rt,
-        alloc,
-        module,
-        TypeInner::Scalar(Scalar {
-            kind: ScalarKind::AbstractInt,
-            width: 8,
-        }),
-        "{AbstractInt}",
-    )?;
-    gives(
-        rt,
-        alloc,
-        module,
-        TypeInner::Atomic(Scalar {
-            kind: ScalarKind::AbstractFloat,
-            width: 8,
-        }),
-        "atomic<{AbstractFloat}>",
-    )?;
-    gives(
-        rt,
-        alloc,
-        module,
-        TypeInner::Scalar(Scalar {
-            kind: ScalarKind::Sint,
-            width: 3,
-        }),
-        "{non-WGSL Naga scalar Scalar { kind: Sint, width: 3 }}",
-    )?;
-    gives(
-        rt,
-        alloc,
-        module,
-        TypeInner::ValuePointer {
-            size: None,
-            scalar: Scalar::I32,
-            space: AddressSpace::Handle,
-        },
-        "{non-WGSL Naga type ValuePointer { size: None, scalar: Scalar { kind: Sint, width: 4 }, space: Handle }}",
-    )?;
-    gives(
-        rt,
-        alloc,
-        module,
-        TypeInner::Struct {
-            members: Vec::new(alloc),
-            span: 0,
-        },
-        "{unnamed struct}",
-    )?;
+    for row in 0..5 {
+        let (inner, want) = braced_row(alloc, row);
+        gives(rt, alloc, module, inner, want)?;
+    }
     Ok(())
 }
 
@@ -591,5 +554,120 @@ fn words_in(rt: &impl Abort, alloc: Global) -> Result<(), AllocError> {
 fn words_for_diagnostics(rt: HostRuntime) -> Result<(), Fail> {
     let alloc = rt.alloc();
     words_in(&rt, alloc)?;
+    Ok(())
+}
+
+/// The name of a struct that WGSL has without a declaration.
+fn names(
+    rt: &impl Abort,
+    alloc: Global,
+    predeclared: PredeclaredType,
+    want: &str,
+) -> Result<(), AllocError> {
+    let name = predeclared.struct_name(alloc)?;
+    assert_eq!(rt; name.as_str(), want);
+    Ok(())
+}
+
+const SIZES: &[(Option<VectorSize>, &str, &str)] = &[
+    (None, "__modf_result_f32", "__frexp_result_f16"),
+    (
+        Some(VectorSize::Bi),
+        "__modf_result_vec2_f32",
+        "__frexp_result_vec2_f16",
+    ),
+    (
+        Some(VectorSize::Tri),
+        "__modf_result_vec3_f32",
+        "__frexp_result_vec3_f16",
+    ),
+    (
+        Some(VectorSize::Quad),
+        "__modf_result_vec4_f32",
+        "__frexp_result_vec4_f16",
+    ),
+];
+
+const EXCHANGES: &[(ScalarKind, u8, &str)] = &[
+    (
+        ScalarKind::Sint,
+        4,
+        "__atomic_compare_exchange_result<Sint,4>",
+    ),
+    (
+        ScalarKind::Uint,
+        8,
+        "__atomic_compare_exchange_result<Uint,8>",
+    ),
+    (
+        ScalarKind::Float,
+        2,
+        "__atomic_compare_exchange_result<Float,2>",
+    ),
+    (
+        ScalarKind::Bool,
+        1,
+        "__atomic_compare_exchange_result<Bool,1>",
+    ),
+    (
+        ScalarKind::AbstractInt,
+        0,
+        "__atomic_compare_exchange_result<AbstractInt,0>",
+    ),
+    (
+        ScalarKind::AbstractFloat,
+        255,
+        "__atomic_compare_exchange_result<AbstractFloat,255>",
+    ),
+];
+
+fn predeclared_in(rt: &impl Abort, alloc: Global) -> Result<(), AllocError> {
+    for (size, modf, frexp) in SIZES {
+        let parts = PredeclaredType::ModfResult {
+            size: *size,
+            scalar: Scalar::F32,
+        };
+        names(rt, alloc, parts, *modf)?;
+        let significand = PredeclaredType::FrexpResult {
+            size: *size,
+            scalar: Scalar::F16,
+        };
+        names(rt, alloc, significand, *frexp)?;
+    }
+    for (kind, width, want) in EXCHANGES {
+        let scalar = Scalar {
+            kind: *kind,
+            width: *width,
+        };
+        let exchange = PredeclaredType::AtomicCompareExchangeWeakResult(scalar);
+        names(rt, alloc, exchange, *want)?;
+    }
+    Ok(())
+}
+
+/// The result of `modf` for one number of so many bytes.
+fn parts_of(width: u8) -> PredeclaredType {
+    PredeclaredType::ModfResult {
+        size: None,
+        scalar: Scalar {
+            kind: ScalarKind::Float,
+            width,
+        },
+    }
+}
+
+fn widths_in(rt: &impl Abort, alloc: Global) -> Result<(), AllocError> {
+    for width in 0..=u8::MAX {
+        let want = format!(in alloc; "__modf_result_f{}", 8 * u32::from(width))?;
+        names(rt, alloc, parts_of(width), want.as_str())?;
+    }
+    names(rt, alloc, parts_of(255), "__modf_result_f2040")
+}
+
+#[test]
+fn names_of_predeclared_structs(rt: HostRuntime) -> Result<(), Fail> {
+    let alloc = rt.alloc();
+    predeclared_in(&rt, alloc)?;
+    widths_in(&rt, alloc)?;
     Ok(())
 }

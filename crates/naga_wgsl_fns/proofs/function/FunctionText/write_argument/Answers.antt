@@ -17,8 +17,8 @@ returns-in_err-put g c =
     appends_as c.from_residual-in_err-put.result _ _ _ _ _ _ (argument_row (module_names self.shader.now) self.shader.now.types self.handle c.args.number c.args.argument.now)
     (appends_stopped c.from_residual-in_err-put.result c.from_residual-in_err-put.ensures.1 (stopped_then c.in_ok-write_name.ensures (stopped_first _ c.in_err-put.ensures)))
 
-pub write_type-requires : goal.write_type-requires
-write_type-requires g c =
+pub write_type-requires-clause-word : goal.write_type-requires-clause-word
+write_type-requires-clause-word g c =
     let self = c.args.self.now in
     argument_has_word self.shader.now (names_in self.names.now) self.handle self.function.now self.info.now c.requires.can c.args.number c.args.argument.now c.requires.argument
 

@@ -25,8 +25,8 @@ returns-in_err-put-2 g c =
     appends_as r _ _ _ _ _ _ (local_row n (type_names self.shader.now) self.function.now.expressions c.args.handle c.index-local.result.now ∙ ap (λ o. local_text_at n (type_names self.shader.now) self.function.now.expressions c.args.handle o) (sym c.index-local.ensures))
     (appends_stopped r c.from_residual-in_err-put-2.ensures.1 (stopped_then c.in_ok-put.ensures (stopped_then c.in_ok-write_name.ensures (stopped_first _ c.in_err-put-2.ensures))))
 
-pub write_type-requires : goal.write_type-requires
-write_type-requires g c =
+pub write_type-requires-clause-word : goal.write_type-requires-clause-word
+write_type-requires-clause-word g c =
     let self = c.args.self.now in
     local_has_word self.shader.now (names_in self.names.now) self.handle self.function.now self.info.now c.requires.can c.args.handle c.index-local.result.now c.index-local.ensures
 

@@ -17,7 +17,7 @@ returns-in_err-put-in-Some g c =
     (result_row (module_names self.shader.now) self.shader.now.types self.handle c.in-Some.answer ∙ ap (λ r. text (result_pieces (result_form (type_names self.shader.now) r))) (sym c.in-Some.is))
     (appends_stopped c.from_residual.result c.from_residual.ensures.1 (stopped_first _ c.in_err-put-in-Some.ensures))
 
-pub write_type-requires : goal.write_type-requires
-write_type-requires g c =
+pub write_type-requires-clause-word : goal.write_type-requires-clause-word
+write_type-requires-clause-word g c =
     let self = c.args.self.now in
     answer_has_word self.shader.now (names_in self.names.now) self.handle self.function.now self.info.now c.requires c.in-Some.answer c.in-Some.is
