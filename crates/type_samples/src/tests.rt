@@ -6,7 +6,7 @@ use naga_ir::{
 };
 use naga_names::namer::NameKey;
 use naga_words::types::{type_fits, types_in_order};
-use naga_words::{TryToWgsl, TypeContext, TypeTextError, WriterTypeContext};
+use naga_words::{PredeclaredName, TryToWgsl, TypeContext, TypeTextError, WriterTypeContext};
 use std::alloc::{AllocError, Global};
 use std::collections::HashMap;
 use std::num::NonZeroU32;
@@ -361,6 +361,7 @@ fn pointers(rt: HostRuntime) -> Result<(), Fail> {
 fn arrays_in(rt: &impl Abort, alloc: Global, module: &mut Module) -> Result<(), TypeTextError> {
     let handles = fill(alloc, module)?;
     let four = NonZeroU32::new(4).expect(rt, "four");
+    let eight = NonZeroU32::new(8).expect(rt, "eight");
     gives(
         rt,
         alloc,
@@ -400,9 +401,9 @@ fn arrays_in(rt: &impl Abort, alloc: Global, module: &mut Module) -> Result<(), 
         module,
         TypeInner::BindingArray {
             base: handles.sampler,
-            size: ArraySize::Constant(four),
+            size: ArraySize::Constant(eight),
         },
-        "binding_array<sampler, 4>",
+        "binding_array<sampler, 8>",
     )?;
     gives(
         rt,
@@ -591,5 +592,59 @@ fn words_in(rt: &impl Abort, alloc: Global) -> Result<(), AllocError> {
 fn words_for_diagnostics(rt: HostRuntime) -> Result<(), Fail> {
     let alloc = rt.alloc();
     words_in(&rt, alloc)?;
+    Ok(())
+}
+
+const fn exchange(kind: ScalarKind, width: u8) -> PredeclaredType {
+    PredeclaredType::AtomicCompareExchangeWeakResult(Scalar { kind, width })
+}
+
+const fn parts(size: Option<VectorSize>, scalar: Scalar) -> PredeclaredType {
+    PredeclaredType::ModfResult { size, scalar }
+}
+
+const fn significand(size: Option<VectorSize>, scalar: Scalar) -> PredeclaredType {
+    PredeclaredType::FrexpResult { size, scalar }
+}
+
+const PREDECLARED: &[(PredeclaredType, &str)] = &[
+    (parts(Some(VectorSize::Bi), Scalar::F16), "__modf_result_vec2_f16"),
+    (parts(Some(VectorSize::Tri), Scalar::F32), "__modf_result_vec3_f32"),
+    (parts(Some(VectorSize::Quad), Scalar::F64), "__modf_result_vec4_f64"),
+    (significand(None, Scalar::F16), "__frexp_result_f16"),
+    (significand(Some(VectorSize::Bi), Scalar::F64), "__frexp_result_vec2_f64"),
+    (significand(Some(VectorSize::Tri), Scalar::F16), "__frexp_result_vec3_f16"),
+    (significand(Some(VectorSize::Quad), Scalar::F32), "__frexp_result_vec4_f32"),
+    (exchange(ScalarKind::Sint, 4), "__atomic_compare_exchange_result<Sint,4>"),
+    (exchange(ScalarKind::Uint, 8), "__atomic_compare_exchange_result<Uint,8>"),
+    (exchange(ScalarKind::Float, 2), "__atomic_compare_exchange_result<Float,2>"),
+    (exchange(ScalarKind::Bool, 1), "__atomic_compare_exchange_result<Bool,1>"),
+    (exchange(ScalarKind::AbstractInt, 0), "__atomic_compare_exchange_result<AbstractInt,0>"),
+    (exchange(ScalarKind::AbstractFloat, 255), "__atomic_compare_exchange_result<AbstractFloat,255>"),
+    (parts(None, float(255)), "__modf_result_f2040"),
+];
+
+const fn float(width: u8) -> Scalar {
+    Scalar {
+        kind: ScalarKind::Float,
+        width,
+    }
+}
+
+fn predeclared_in(rt: &impl Abort, alloc: Global) -> Result<(), AllocError> {
+    for (predeclared, want) in PREDECLARED {
+        assert_eq!(rt; predeclared.struct_name(alloc)?.as_str(), *want);
+    }
+    for width in 0..=u8::MAX {
+        let name = parts(None, float(width)).struct_name(alloc)?;
+        let want = format!(in alloc; "__modf_result_f{}", 8 * u32::from(width))?;
+        assert_eq!(rt; name.as_str(), want.as_str());
+    }
+    Ok(())
+}
+
+#[test]
+fn names_of_predeclared_structs(rt: HostRuntime) -> Result<(), Fail> {
+    predeclared_in(&rt, rt.alloc())?;
     Ok(())
 }
