@@ -595,56 +595,117 @@ fn words_for_diagnostics(rt: HostRuntime) -> Result<(), Fail> {
     Ok(())
 }
 
-const fn exchange(kind: ScalarKind, width: u8) -> PredeclaredType {
-    PredeclaredType::AtomicCompareExchangeWeakResult(Scalar { kind, width })
+/// The name of a struct that WGSL has without a declaration.
+fn names(
+    rt: &impl Abort,
+    alloc: Global,
+    predeclared: PredeclaredType,
+    want: &str,
+) -> Result<(), AllocError> {
+    let name = predeclared.struct_name(alloc)?;
+    assert_eq!(rt; name.as_str(), want);
+    Ok(())
 }
 
-const fn parts(size: Option<VectorSize>, scalar: Scalar) -> PredeclaredType {
-    PredeclaredType::ModfResult { size, scalar }
-}
-
-const fn significand(size: Option<VectorSize>, scalar: Scalar) -> PredeclaredType {
-    PredeclaredType::FrexpResult { size, scalar }
-}
-
-const PREDECLARED: &[(PredeclaredType, &str)] = &[
-    (parts(Some(VectorSize::Bi), Scalar::F16), "__modf_result_vec2_f16"),
-    (parts(Some(VectorSize::Tri), Scalar::F32), "__modf_result_vec3_f32"),
-    (parts(Some(VectorSize::Quad), Scalar::F64), "__modf_result_vec4_f64"),
-    (significand(None, Scalar::F16), "__frexp_result_f16"),
-    (significand(Some(VectorSize::Bi), Scalar::F64), "__frexp_result_vec2_f64"),
-    (significand(Some(VectorSize::Tri), Scalar::F16), "__frexp_result_vec3_f16"),
-    (significand(Some(VectorSize::Quad), Scalar::F32), "__frexp_result_vec4_f32"),
-    (exchange(ScalarKind::Sint, 4), "__atomic_compare_exchange_result<Sint,4>"),
-    (exchange(ScalarKind::Uint, 8), "__atomic_compare_exchange_result<Uint,8>"),
-    (exchange(ScalarKind::Float, 2), "__atomic_compare_exchange_result<Float,2>"),
-    (exchange(ScalarKind::Bool, 1), "__atomic_compare_exchange_result<Bool,1>"),
-    (exchange(ScalarKind::AbstractInt, 0), "__atomic_compare_exchange_result<AbstractInt,0>"),
-    (exchange(ScalarKind::AbstractFloat, 255), "__atomic_compare_exchange_result<AbstractFloat,255>"),
-    (parts(None, float(255)), "__modf_result_f2040"),
+const SIZES: &[(Option<VectorSize>, &str, &str)] = &[
+    (None, "__modf_result_f32", "__frexp_result_f16"),
+    (
+        Some(VectorSize::Bi),
+        "__modf_result_vec2_f32",
+        "__frexp_result_vec2_f16",
+    ),
+    (
+        Some(VectorSize::Tri),
+        "__modf_result_vec3_f32",
+        "__frexp_result_vec3_f16",
+    ),
+    (
+        Some(VectorSize::Quad),
+        "__modf_result_vec4_f32",
+        "__frexp_result_vec4_f16",
+    ),
 ];
 
-const fn float(width: u8) -> Scalar {
-    Scalar {
-        kind: ScalarKind::Float,
-        width,
-    }
-}
+const EXCHANGES: &[(ScalarKind, u8, &str)] = &[
+    (
+        ScalarKind::Sint,
+        4,
+        "__atomic_compare_exchange_result<Sint,4>",
+    ),
+    (
+        ScalarKind::Uint,
+        8,
+        "__atomic_compare_exchange_result<Uint,8>",
+    ),
+    (
+        ScalarKind::Float,
+        2,
+        "__atomic_compare_exchange_result<Float,2>",
+    ),
+    (
+        ScalarKind::Bool,
+        1,
+        "__atomic_compare_exchange_result<Bool,1>",
+    ),
+    (
+        ScalarKind::AbstractInt,
+        0,
+        "__atomic_compare_exchange_result<AbstractInt,0>",
+    ),
+    (
+        ScalarKind::AbstractFloat,
+        255,
+        "__atomic_compare_exchange_result<AbstractFloat,255>",
+    ),
+];
 
 fn predeclared_in(rt: &impl Abort, alloc: Global) -> Result<(), AllocError> {
-    for (predeclared, want) in PREDECLARED {
-        assert_eq!(rt; predeclared.struct_name(alloc)?.as_str(), *want);
+    for (size, modf, frexp) in SIZES {
+        let parts = PredeclaredType::ModfResult {
+            size: *size,
+            scalar: Scalar::F32,
+        };
+        names(rt, alloc, parts, *modf)?;
+        let significand = PredeclaredType::FrexpResult {
+            size: *size,
+            scalar: Scalar::F16,
+        };
+        names(rt, alloc, significand, *frexp)?;
     }
-    for width in 0..=u8::MAX {
-        let name = parts(None, float(width)).struct_name(alloc)?;
-        let want = format!(in alloc; "__modf_result_f{}", 8 * u32::from(width))?;
-        assert_eq!(rt; name.as_str(), want.as_str());
+    for (kind, width, want) in EXCHANGES {
+        let scalar = Scalar {
+            kind: *kind,
+            width: *width,
+        };
+        let exchange = PredeclaredType::AtomicCompareExchangeWeakResult(scalar);
+        names(rt, alloc, exchange, *want)?;
     }
     Ok(())
 }
 
+/// The result of `modf` for one number of so many bytes.
+fn parts_of(width: u8) -> PredeclaredType {
+    PredeclaredType::ModfResult {
+        size: None,
+        scalar: Scalar {
+            kind: ScalarKind::Float,
+            width,
+        },
+    }
+}
+
+fn widths_in(rt: &impl Abort, alloc: Global) -> Result<(), AllocError> {
+    for width in 0..=u8::MAX {
+        let want = format!(in alloc; "__modf_result_f{}", 8 * u32::from(width))?;
+        names(rt, alloc, parts_of(width), want.as_str())?;
+    }
+    names(rt, alloc, parts_of(255), "__modf_result_f2040")
+}
+
 #[test]
 fn names_of_predeclared_structs(rt: HostRuntime) -> Result<(), Fail> {
-    predeclared_in(&rt, rt.alloc())?;
+    let alloc = rt.alloc();
+    predeclared_in(&rt, alloc)?;
+    widths_in(&rt, alloc)?;
     Ok(())
 }

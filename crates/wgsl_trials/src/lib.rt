@@ -4,7 +4,6 @@
 
 pub mod limited;
 pub mod numbered;
-
 #[cfg(test)]
 mod tests;
 

@@ -1,4 +1,7 @@
 //! Types and rules that the tests spell.
+ghost use Rattle.std.specs.Prelude.{IfOk};
+ghost use Rattle.wgsl_trials.specs.Rules.{FitsEverywhere};
+
 use super::*;
 use naga_info::{Conclusion, Rule, TypeResolution};
 use naga_ir::{
@@ -12,9 +15,6 @@ use std::num::NonZeroU32;
 use std::process::Abort;
 use std::test::Fail;
 
-ghost use Rattle.std.specs.Prelude.{IfOk};
-ghost use Rattle.wgsl_trials.specs.Rules.{FitsEverywhere};
-
 mod braces;
 mod numbers;
 mod refusals;
@@ -23,11 +23,7 @@ fn add(module: &mut Module, inner: TypeInner) -> Result<Handle<Type_>, AllocErro
     module.types.insert(Type_ { name: None, inner })
 }
 
-fn add_struct(
-    alloc: Global,
-    module: &mut Module,
-    span: u32,
-) -> Result<Handle<Type_>, AllocError> {
+fn add_struct(alloc: Global, module: &mut Module, span: u32) -> Result<Handle<Type_>, AllocError> {
     let members = Vec::new(alloc);
     add(module, TypeInner::Struct { members, span })
 }

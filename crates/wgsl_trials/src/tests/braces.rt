@@ -37,7 +37,9 @@ fn shows_rows(rt: &impl Abort, alloc: Global, module: &mut Module) -> Result<(),
     assert!(rt; types_in_order(&module.types, 2));
     for (index, want) in ROWS {
         assert!(rt; *index < module.types.len());
-        let text = module.types.type_to_string(alloc, Place::from_index(*index))?;
+        let text = module
+            .types
+            .type_to_string(alloc, Place::from_index(*index))?;
         assert_eq!(rt; text.as_str(), *want);
     }
     Ok(())
@@ -51,18 +53,17 @@ fn types_in_braces(rt: HostRuntime) -> Result<(), Fail> {
 }
 
 /// A struct without a handle, and without a member or with one.
-fn shows_structs(
-    rt: &impl Abort,
-    alloc: Global,
-    types: &UniqueArena<Type_>,
-) -> Result<(), TypeTextError> {
+fn shows_structs(rt: &impl Abort, alloc: Global, types: &UniqueArena<Type_>) -> Result<(), Fail> {
     assert!(rt; types_in_order(types, 0));
     let empty = TypeResolution::Value(TypeInner::Struct {
         members: Vec::new(alloc),
         span: 0,
     });
     let text = types.type_resolution_to_string(alloc, &empty)?;
-    assert_eq!(rt; text.as_str(), "{unnamed struct Struct { members: [], span: 0 }}");
+    assert_eq!(rt;
+        text.as_str(),
+        "{unnamed struct Struct { members: [], span: 0 }}"
+    );
     let member = StructMember {
         name: None,
         ty: Place::from_index(7),

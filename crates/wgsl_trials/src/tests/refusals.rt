@@ -1,8 +1,9 @@
 //! Sinks that refuse a write, and memory that is refused.
-use super::*;
-
 ghost use Rattle.std.specs.Prelude.{length, ◌<◌};
 ghost use Rattle.naga_words.specs.Spelling.{IsInOrder};
+ghost use Rattle.wgsl_trials.specs.Rules.{FitsEverywhere};
+
+use super::*;
 
 /// A sink's first refusal, behind which it takes what it is given.
 fn refuses_once(rt: &impl Abort, sink: &mut Limited) -> Result<(), SinkError> {
@@ -49,7 +50,10 @@ fn each_write_refused<C: TypeContext>(
             }
         }
         assert!(rt; sink.text().len() <= limit, "with room for {limit} bytes");
-        assert!(rt; want.starts_with(sink.text()), "with room for {limit} bytes");
+        assert!(rt;
+            want.starts_with(sink.text()),
+            "with room for {limit} bytes"
+        );
     }
     let mut sink = Limited::new(alloc, want.len());
     context.write_type_rule(alloc, name, rule, &mut sink)?;
@@ -152,7 +156,7 @@ fn fill(alloc: Global, module: &mut Module) -> Result<(), AllocError> {
 }
 
 /// A rule that names a type, and the type itself, in braces and by numbers.
-fn types_at_last(rt: &impl Abort, alloc: Global, module: &mut Module) -> Result<(), TypeTextError> {
+fn types_at_last(rt: &impl Abort, alloc: Global, module: &mut Module) -> Result<(), Fail> {
     fill(alloc, module)?;
     let handle = Place::from_index(1);
     assert!(rt; types_in_order(&module.types, 1));
@@ -171,7 +175,7 @@ fn numbers_at_last(
     rt: &impl Abort,
     alloc: Global,
     context: &NumberedTypes<'_>,
-) -> Result<(), TypeTextError> {
+) -> Result<(), Fail> {
     let handle = Place::from_index(1);
     assert!(rt; context.is_in_order(1));
     assert!(rt; handle.index() < context.types.len());
