@@ -1,5 +1,5 @@
 -- One name more.
-use Rattle.std.proofs.Common.{◌≡◌, ℕ, zero, suc, List, [], ◌∷◌, ◌++◌, Some, None, length, slice_get, subst, string_bytes}
+use Rattle.std.proofs.Common.{◌≡◌, ℕ, zero, suc, List, [], ◌∷◌, ◌++◌, Some, length, slice_get, subst, string_bytes}
 use Rattle.std.specs.declared.string.String.{String}
 use Rattle.wgsl_trials.specs.Numbered.{type_number, HaveNumbers}
 

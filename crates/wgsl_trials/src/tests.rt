@@ -46,7 +46,8 @@ fn array_of(base: Handle<Type_>, length: Handle<Override>) -> TypeInner {
     }
 }
 
-/// A value pointer in a space without a word, a scalar without one, and a scalar of no size.
+/// Types without a form: a value pointer in a space without a word, a scalar without one, and an
+/// atomic of such a scalar.
 fn add_formless(module: &mut Module) -> Result<(), AllocError> {
     add(
         module,

@@ -90,7 +90,7 @@ fn refuses_a_bare_struct(
         Err(TypeTextError::NoForm) => {}
         answer => {
             let text = answer?;
-            assert_eq!(rt; text.as_str(), "", "a struct without a handle");
+            panic!(rt; "a struct without a handle is {text}");
         }
     }
     Ok(())
