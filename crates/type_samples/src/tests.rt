@@ -309,12 +309,26 @@ fn pointer_row(handles: Handles, row: usize) -> (TypeInner, &'static str) {
     }
 }
 
+fn pointer_gives(
+    rt: &impl Abort,
+    alloc: Global,
+    module: &mut Module,
+    handles: Handles,
+    row: usize,
+) -> Result<(), TypeTextError> {
+    let (inner, want) = pointer_row(handles, row);
+    gives(rt, alloc, module, inner, want)
+}
+
 fn pointers_in(rt: &impl Abort, alloc: Global, module: &mut Module) -> Result<(), TypeTextError> {
     let handles = fill(alloc, module)?;
-    for row in 0..7 {
-        let (inner, want) = pointer_row(handles, row);
-        gives(rt, alloc, module, inner, want)?;
-    }
+    pointer_gives(rt, alloc, module, handles, 0)?;
+    pointer_gives(rt, alloc, module, handles, 1)?;
+    pointer_gives(rt, alloc, module, handles, 2)?;
+    pointer_gives(rt, alloc, module, handles, 3)?;
+    pointer_gives(rt, alloc, module, handles, 4)?;
+    pointer_gives(rt, alloc, module, handles, 5)?;
+    pointer_gives(rt, alloc, module, handles, 6)?;
     Ok(())
 }
 
@@ -375,14 +389,26 @@ fn array_row(
     }
 }
 
-fn arrays_in(rt: &impl Abort, alloc: Global, module: &mut Module) -> Result<(), TypeTextError> {
-    let handles = fill(alloc, module)?;
+fn array_gives(
+    rt: &impl Abort,
+    alloc: Global,
+    module: &mut Module,
+    handles: Handles,
+    row: usize,
+) -> Result<(), TypeTextError> {
     let four = NonZeroU32::new(4).expect(rt, "four");
     let eight = NonZeroU32::new(8).expect(rt, "eight");
-    for row in 0..5 {
-        let (inner, want) = array_row(handles, four, eight, row);
-        gives(rt, alloc, module, inner, want)?;
-    }
+    let (inner, want) = array_row(handles, four, eight, row);
+    gives(rt, alloc, module, inner, want)
+}
+
+fn arrays_in(rt: &impl Abort, alloc: Global, module: &mut Module) -> Result<(), TypeTextError> {
+    let handles = fill(alloc, module)?;
+    array_gives(rt, alloc, module, handles, 0)?;
+    array_gives(rt, alloc, module, handles, 1)?;
+    array_gives(rt, alloc, module, handles, 2)?;
+    array_gives(rt, alloc, module, handles, 3)?;
+    array_gives(rt, alloc, module, handles, 4)?;
     Ok(())
 }
 
