@@ -2,8 +2,8 @@
 //! of item is built by one function through a `&mut Sample`, so that a row costs the prover little.
 use naga_ir::{
     AddressSpace, Constant, EntryPoint, Expression, Function, FunctionArgument, FunctionResult,
-    GlobalVariable, Handle, ImageClass, ImageDimension, MemoryDecorations, Module, Override, Scalar,
-    ShaderStage, StructMember, Type_, TypeInner,
+    GlobalVariable, Handle, ImageClass, ImageDimension, MemoryDecorations, Module, Override,
+    Scalar, ShaderStage, StructMember, Type_, TypeInner, UniqueArena,
 };
 use naga_names::keyword_set::{CaseInsensitiveKeywordSet, KeywordSet};
 use naga_names::keywords::{BUILTIN_IDENTIFIERS, RESERVED};
@@ -13,6 +13,18 @@ use std::collections::HashMap;
 use std::mem;
 use std::process::Abort;
 use std::test::Fail;
+
+/// Whether the type is an image from outside the graphics interface.
+fn is_external(types: &UniqueArena<Type_>, ty: Handle<Type_>) -> bool {
+    ty.index() < types.len()
+        && matches!(
+            types[ty].inner,
+            TypeInner::Image {
+                class: ImageClass::External,
+                ..
+            }
+        )
+}
 
 /// Labels of calls, one after another, and the names that these give.
 type Calls = &'static [(&'static str, &'static str)];

@@ -247,7 +247,7 @@ fn images(rt: HostRuntime) -> Result<(), Fail> {
 }
 
 /// A pointer, and its text.
-fn pointer_row(handles: Handles, row: usize) -> (TypeInner, &'static str) {
+fn pointer_row(handles: &Handles, row: usize) -> (TypeInner, &'static str) {
     match row {
         0 => (
             TypeInner::ValuePointer {
@@ -313,7 +313,7 @@ fn pointer_gives(
     rt: &impl Abort,
     alloc: Global,
     module: &mut Module,
-    handles: Handles,
+    handles: &Handles,
     row: usize,
 ) -> Result<(), TypeTextError> {
     let (inner, want) = pointer_row(handles, row);
@@ -322,13 +322,13 @@ fn pointer_gives(
 
 fn pointers_in(rt: &impl Abort, alloc: Global, module: &mut Module) -> Result<(), TypeTextError> {
     let handles = fill(alloc, module)?;
-    pointer_gives(rt, alloc, module, handles, 0)?;
-    pointer_gives(rt, alloc, module, handles, 1)?;
-    pointer_gives(rt, alloc, module, handles, 2)?;
-    pointer_gives(rt, alloc, module, handles, 3)?;
-    pointer_gives(rt, alloc, module, handles, 4)?;
-    pointer_gives(rt, alloc, module, handles, 5)?;
-    pointer_gives(rt, alloc, module, handles, 6)?;
+    pointer_gives(rt, alloc, module, &handles, 0)?;
+    pointer_gives(rt, alloc, module, &handles, 1)?;
+    pointer_gives(rt, alloc, module, &handles, 2)?;
+    pointer_gives(rt, alloc, module, &handles, 3)?;
+    pointer_gives(rt, alloc, module, &handles, 4)?;
+    pointer_gives(rt, alloc, module, &handles, 5)?;
+    pointer_gives(rt, alloc, module, &handles, 6)?;
     Ok(())
 }
 
@@ -341,7 +341,7 @@ fn pointers(rt: HostRuntime) -> Result<(), Fail> {
 
 /// An array, and its text.
 fn array_row(
-    handles: Handles,
+    handles: &Handles,
     four: NonZeroU32,
     eight: NonZeroU32,
     row: usize,
@@ -393,7 +393,7 @@ fn array_gives(
     rt: &impl Abort,
     alloc: Global,
     module: &mut Module,
-    handles: Handles,
+    handles: &Handles,
     row: usize,
 ) -> Result<(), TypeTextError> {
     let four = NonZeroU32::new(4).expect(rt, "four");
@@ -404,11 +404,11 @@ fn array_gives(
 
 fn arrays_in(rt: &impl Abort, alloc: Global, module: &mut Module) -> Result<(), TypeTextError> {
     let handles = fill(alloc, module)?;
-    array_gives(rt, alloc, module, handles, 0)?;
-    array_gives(rt, alloc, module, handles, 1)?;
-    array_gives(rt, alloc, module, handles, 2)?;
-    array_gives(rt, alloc, module, handles, 3)?;
-    array_gives(rt, alloc, module, handles, 4)?;
+    array_gives(rt, alloc, module, &handles, 0)?;
+    array_gives(rt, alloc, module, &handles, 1)?;
+    array_gives(rt, alloc, module, &handles, 2)?;
+    array_gives(rt, alloc, module, &handles, 3)?;
+    array_gives(rt, alloc, module, &handles, 4)?;
     Ok(())
 }
 
