@@ -134,6 +134,3 @@ pub fn scope_holds(alloc: Global, module: &Module, info: &ModuleInfo) -> Result<
     }
     Ok(holds)
 }
-
-#[cfg(test)]
-mod tests;

@@ -1,9 +1,10 @@
-use super::*;
-use naga_info::{ExpressionInfo, TypeResolution, accepts};
+use naga_info::{ExpressionInfo, FunctionInfo, ModuleInfo, TypeResolution, accepts};
 use naga_ir::{
-    AddressSpace, BinaryOperator, FunctionArgument, FunctionResult, Literal, LocalVariable, Scalar,
-    Type_, TypeInner,
+    AddressSpace, BinaryOperator, Expression, Function, FunctionArgument, FunctionResult, Handle,
+    Literal, LocalVariable, Module, Range, Scalar, Statement, Type_, TypeInner,
 };
+use naga_scope::{nothing_named, scope_holds};
+use std::alloc::{AllocError, Global};
 use std::mem;
 use std::test::Fail;
 
