@@ -7,7 +7,6 @@ ghost use Rattle.naga_names.specs.Refusal.{IsRefusalOf, IsResetRefusal, RefusesI
 ghost use Rattle.naga_names.specs.declared.namer.NamerError.TheVariants.{KeyFull};
 ghost use Rattle.naga_names.specs.Reset.{is_external_inner, is_external, is_member, labelled_members, labelled_type, labelled_types, labelled_argument, labelled_arguments, labelled_locals, labelled_function, labelled_functions, labelled_entry_arguments, labelled_entry_locals, labelled_entry_point, labelled_entry_points, labelled_global, labelled_globals, labelled_declarations, value_label, labelled_constants, labelled_overrides, labelled_values, labelled_items, type_names_in, same_key, key_fits, NamesModule, names_in, HasNamedItems, PutsBeginning, NamesItems};
 
-use naga_keywords::keyword_set::{CaseInsensitiveKeywordSet, KeywordSet};
 use crate::namer::fallback::{label_or, type_label, value_label};
 use crate::namer::uses::Uses;
 pub use key::{ExternalTextureNameKey, NameKey};
@@ -15,6 +14,7 @@ use naga_ir::{
     Arena, Constant, EntryPoint, Function, FunctionArgument, GlobalVariable, Handle, ImageClass,
     LocalVariable, Module, Override, StructMember, Type_, TypeInner, UniqueArena,
 };
+use naga_keywords::keyword_set::{CaseInsensitiveKeywordSet, KeywordSet};
 use std::alloc::{AllocError, AllocFailed, Global};
 use std::collections::HashMap;
 use std::marker::Model;
