@@ -11,7 +11,7 @@ use naga_ir::{
     Arena, Expression, Function, Handle, LocalVariable, Module, ShaderStage, Type_, TypeInner,
     UniqueArena,
 };
-use naga_names::namer::{EntryPointIndex, ExternalTextureNameKey, NameKey};
+use name_keys::{EntryPointIndex, ExternalTextureNameKey, NameKey};
 
 /// Which of a module's functions is meant. Entry points are no functions of the module's arena.
 #[derive(Clone, Copy, Debug)]

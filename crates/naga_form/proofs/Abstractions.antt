@@ -14,7 +14,7 @@ use Rattle.naga_ir.specs.declared.module.LocalVariable.{LocalVariable}
 use Rattle.naga_ir.specs.declared.types.Type_.{Type_}
 use Rattle.naga_info.specs.declared.info.ExpressionInfo.{ExpressionInfo}
 use Rattle.naga_info.specs.Types.{word_at}
-use Rattle.naga_names.specs.Reset.{NameMap}
+use Rattle.name_keys.specs.Keys.{NameMap}
 use Rattle.wgsl_text.specs.Token.{SuffixI, SuffixLi}
 use Rattle.wgsl_text.specs.Tree.{LeastInteger, LeastLong, Suffixed, TypeSpecifier}
 use Rattle.shader_runs.specs.Value.{Whole, ValueType, ShortCircuitAnd, ShortCircuitOr}

@@ -13,7 +13,7 @@ use Rattle.naga_info.specs.declared.info.ExpressionInfo.{ExpressionInfo}
 use Rattle.naga_info.specs.declared.info.ModuleInfo.{ModuleInfo}
 use Rattle.naga_info.specs.Accepted.{is_accepted, function_fits, functions_fit}
 use Rattle.naga_info.proofs.Accepting.{accepted_parts}
-use Rattle.naga_names.specs.Reset.{NameMap}
+use Rattle.name_keys.specs.Keys.{NameMap}
 use Rattle.shader_runs.specs.Program.{binds, from}
 use Rattle.shader_runs.specs.Scope.{Handles, Naming, at_start, bound_name, given_after, given_by, after_one, after_emit, after}
 use Rattle.wgsl_text.specs.Tree.{TypeSpecifier}

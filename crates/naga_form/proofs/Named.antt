@@ -16,7 +16,7 @@ use Rattle.naga_names.specs.Naming.{label_or, name_after}
 use Rattle.naga_keywords.specs.Plain.{is_identifier_char, is_word}
 use Rattle.naga_names.specs.Reset.{Labelled, labelled_items, labels_of, named_items, PutsInto}
 use Rattle.naga_keywords.specs.declared.keywords.TheConstants.{RESERVED, BUILTIN_IDENTIFIERS}
-use Rattle.naga_names.specs.declared.namer.key.NameKey.TheVariants as key
+use Rattle.name_keys.specs.declared.key.NameKey.TheVariants as key
 use Rattle.naga_keywords.proofs.Plains.{words_are}
 use Rattle.naga_keywords.proofs.SetLemmas.{texts_of, contains-texts_of}
 use Rattle.naga_names.proofs.NameShapes.{name_after_is_word, name_after_no_keyword, name_after_no_builtin, plain_ends, name_after_not_numbered}

@@ -24,7 +24,7 @@ use Rattle.naga_info.specs.Accepted.{is_accepted, is_scalar_type, declares_funct
 use Rattle.naga_info.specs.Types.{word_at}
 use Rattle.naga_info.specs.Part.{is_written_so_far, function_is_written, local_is_written, is_literal, names_nothing, is_unbound, expression_is_written, block_is_written}
 use Rattle.naga_info.proofs.Accepting.{accepted_parts, function_fits_word_at, local_word_at}
-use Rattle.naga_names.specs.Reset.{NameMap}
+use Rattle.name_keys.specs.Keys.{NameMap}
 use Rattle.shader_runs.specs.Program as shapes
 use Rattle.shader_runs.specs.Program.{binds, expression_of, operands_of, from}
 use Rattle.shader_runs.specs.Scope.{Standing, Absent, Barred, Everywhere, Inline, Named, Handles, Naming, at_start, start_standing, is_pure, is_constant_below, usable_all, unbound, emitted, bound_name, given_after, given_after_all, given_by, after_one, after_emit, after}

@@ -12,8 +12,8 @@ use Rattle.naga_info.specs.Accepted.{is_accepted, function_fits, functions_fit}
 use Rattle.naga_info.specs.declared.info.ExpressionInfo.{ExpressionInfo}
 use Rattle.naga_info.specs.declared.info.ModuleInfo.{ModuleInfo}
 use Rattle.naga_info.proofs.Accepting.{accepted_parts}
-use Rattle.naga_names.specs.Reset.{NameMap}
-use Rattle.naga_names.specs.declared.namer.key.NameKey.TheVariants as key
+use Rattle.name_keys.specs.Keys.{NameMap}
+use Rattle.name_keys.specs.declared.key.NameKey.TheVariants as key
 use Rattle.shader_runs.specs.Program as shapes
 use Rattle.shader_runs.specs.Scope.{Naming, fits_function}
 use Rattle.shader_runs.specs.Text.{TextModule}

@@ -21,7 +21,7 @@ use Rattle.naga_info.specs.Resolution.{inner_of}
 use Rattle.naga_info.specs.Types.{word_of_width, word_of_type, word_at, pointer_spelling, spelling, spelling_of}
 use Rattle.naga_info.proofs.Accepting.{map_some, scalar_types_word_at, function_fits_expressions, function_fits_word_at}
 use Rattle.wgsl_words.specs.Words.{scalar_word_of, space_word, space_access_word}
-use Rattle.naga_names.specs.Reset.{NameMap}
+use Rattle.name_keys.specs.Keys.{NameMap}
 use Rattle.naga_words.specs.Contexts.{names_of}
 use Rattle.naga_words.specs.Trees.{Names as TypeNames, of_two, inner_tree, named_tree_by, pointer_tree_in, found_tree_by, tree_within, type_tree, resolution_tree}
 use Rattle.wgsl_text.specs.Grammar.{IsType}

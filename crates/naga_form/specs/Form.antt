@@ -10,7 +10,7 @@ use Rattle.naga_ir.specs.declared.module.FunctionArgument.{FunctionArgument}
 use Rattle.naga_ir.specs.declared.module.FunctionResult.{FunctionResult}
 use Rattle.naga_ir.specs.declared.module.Module.{Module}
 use Rattle.naga_ir.specs.declared.types.Type_.{Type_}
-use Rattle.naga_names.specs.Reset.{NameMap}
+use Rattle.name_keys.specs.Keys.{NameMap}
 use Rattle.wgsl_text.specs.Tree.{Truth, Expression, Constant, Name, Statement, Return, ReturnValue, Statements, NoStatements, Then, Parameter, Result, NoResult, ResultOf, Function, Program, no_declarations, TypeSpecifier, Binary, AddressOf, Dereference, Let, TypedLet, Assign, Block, Local}
 use Rattle.naga_form.specs.Names.{function_name, argument_name, module_names}
 use Rattle.naga_words.specs.Contexts.{names_of}

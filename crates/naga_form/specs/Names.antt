@@ -5,9 +5,10 @@ use Rattle.std.specs.Map.{update_all}
 use Rattle.naga_ir.specs.declared.module.Function as ir_function
 use Rattle.naga_ir.specs.declared.module.Module.{Module}
 use Rattle.naga_names.specs.Naming.{Names, new_names, labels_with_base}
-use Rattle.naga_names.specs.Reset.{NameMap, same_key, labelled_items, labels_of, named_items}
-use Rattle.naga_names.specs.declared.namer.key.NameKey.{NameKey}
-use Rattle.naga_names.specs.declared.namer.key.NameKey.TheVariants as key
+use Rattle.name_keys.specs.Keys.{NameMap, same_key}
+use Rattle.naga_names.specs.Reset.{labelled_items, labels_of, named_items}
+use Rattle.name_keys.specs.declared.key.NameKey.{NameKey}
+use Rattle.name_keys.specs.declared.key.NameKey.TheVariants as key
 use Rattle.wgsl_text.specs.Keywords.{reserved_words, builtin_words}
 
 -- what no name begins with

@@ -6,7 +6,7 @@ ghost use Rattle.naga_ir.specs.declared.module.Function.{Function};
 ghost use Rattle.naga_ir.specs.declared.module.Module.{Module};
 ghost use Rattle.naga_ir.specs.declared.types.Type_.{Type_};
 ghost use Rattle.naga_info.specs.declared.info.ExpressionInfo.{ExpressionInfo};
-ghost use Rattle.naga_names.specs.Reset.{NameMap};
+ghost use Rattle.name_keys.specs.Keys.{NameMap};
 ghost use Rattle.shader_runs.specs.Form.{form_function, form_module};
 ghost use Rattle.naga_form.specs.Abstraction.{function_read, program_read};
 ghost use Rattle.naga_form.specs.Resolution.{ResolvesAs};

@@ -12,13 +12,14 @@ use Rattle.std.specs.Str.{bytes_eq}
 use Rattle.naga_ir.specs.declared.types.StructMember.{StructMember}
 use Rattle.naga_names.specs.declared.namer.NamerError.{NamerError}
 use Rattle.naga_names.specs.declared.namer.NamerError.TheVariants.{Full, KeyFull, Memory}
-use Rattle.naga_names.specs.declared.namer.key.NameKey.{NameKey}
-use Rattle.naga_names.specs.declared.namer.key.NameKey.TheVariants as key
+use Rattle.name_keys.specs.declared.key.NameKey.{NameKey}
+use Rattle.name_keys.specs.declared.key.NameKey.TheVariants as key
 use Rattle.std.specs.FinMap as finite
 use Rattle.std.specs.FinSet as set
 use Rattle.naga_keywords.specs.Words.{Words}
 use Rattle.naga_names.specs.Naming.{Names, Uses, label_base, labels_with_base, name_after, IsFull, HasNamed}
-use Rattle.naga_names.specs.Reset.{Labelled, NameMap, same_key, member_label, labelled_members, member_names, labels_of, item_name, key_fits, keys_fit, named_items, PutsInto, HasNamedItems, NamesItems}
+use Rattle.name_keys.specs.Keys.{NameMap, same_key}
+use Rattle.naga_names.specs.Reset.{Labelled, member_label, labelled_members, member_names, labels_of, item_name, key_fits, keys_fit, named_items, PutsInto, HasNamedItems, NamesItems}
 use Rattle.naga_names.specs.Refusal.{IsRefusalOf, IsRefusalOfItems, RefusesItems}
 use Rattle.naga_names.specs.Members.{PutsName, PutsNoName, named_members, HasNamedMembers, IsRefusalOfMembers, RefusesMembers}
 use Rattle.naga_names.proofs.NamerLemmas.{name_of-after}

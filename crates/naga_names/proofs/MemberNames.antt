@@ -13,10 +13,11 @@ use Rattle.naga_ir.specs.declared.module.Module.{Module}
 use Rattle.naga_ir.specs.declared.types.StructMember.{StructMember}
 use Rattle.naga_ir.specs.declared.types.Type_.{Type_}
 use Rattle.naga_keywords.specs.declared.keywords.TheConstants.{RESERVED}
-use Rattle.naga_names.specs.declared.namer.key.NameKey.TheVariants as key
+use Rattle.name_keys.specs.declared.key.NameKey.TheVariants as key
 use Rattle.naga_names.specs.Naming.{Names, name_after, label_base}
 use Rattle.naga_keywords.specs.Plain.{HasPlainEnds}
-use Rattle.naga_names.specs.Reset.{Labelled, NameMap, members_of, member_label, labelled_members, labelled_type, labelled_types, labelled_entry_points, labelled_functions, labelled_globals, labelled_declarations, labelled_values, type_label, type_name, labelled_items, member_names, item_name, key_fits, HasNamedItems}
+use Rattle.name_keys.specs.Keys.{NameMap}
+use Rattle.naga_names.specs.Reset.{Labelled, members_of, member_label, labelled_members, labelled_type, labelled_types, labelled_entry_points, labelled_functions, labelled_globals, labelled_declarations, labelled_values, type_label, type_name, labelled_items, member_names, item_name, key_fits, HasNamedItems}
 use Rattle.naga_names.proofs.MemberLemmas.{member_name, own_labels}
 use Rattle.naga_names.proofs.ModuleLemmas.{within}
 use Rattle.naga_names.proofs.NameKeys.{items_apart}

@@ -8,9 +8,10 @@ use Rattle.naga_ir.specs.declared.module.EntryPoint.{EntryPoint}
 use Rattle.naga_ir.specs.declared.types.StructMember.{StructMember}
 use Rattle.naga_ir.specs.declared.types.Type_.{Type_}
 use Rattle.naga_names.specs.declared.namer.NamerError.{NamerError}
-use Rattle.naga_names.specs.declared.namer.key.NameKey.TheVariants as key
+use Rattle.name_keys.specs.declared.key.NameKey.TheVariants as key
 use Rattle.naga_names.specs.Naming.{Names}
-use Rattle.naga_names.specs.Reset.{Labelled, NameMap, same_key, item_name, members_of, member_label, labelled_type, type_label, labelled_types, labelled_entry_points, labelled_functions, labelled_globals, labelled_declarations, labelled_values, type_name, type_names_in, HasNamedItems, PutsBeginning, NamesItems, NamesModule}
+use Rattle.name_keys.specs.Keys.{NameMap, same_key}
+use Rattle.naga_names.specs.Reset.{Labelled, item_name, members_of, member_label, labelled_type, type_label, labelled_types, labelled_entry_points, labelled_functions, labelled_globals, labelled_declarations, labelled_values, type_name, type_names_in, HasNamedItems, PutsBeginning, NamesItems, NamesModule}
 use Rattle.naga_names.specs.Refusal.{RefusesItems, RefusesModule, IsRefusalOfItems}
 use Rattle.naga_names.proofs.NameKeys.{all_append, unlike_types, types_apart, declarations_apart}
 use Rattle.naga_names.proofs.NamedItems.{place_left, type_among_types, item_put, name_found, name_absent}

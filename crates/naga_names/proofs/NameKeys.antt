@@ -8,14 +8,15 @@ use Rattle.naga_ir.specs.declared.module.FunctionArgument.{FunctionArgument as A
 use Rattle.naga_ir.specs.declared.types.StructMember.{StructMember as AMember}
 use Rattle.naga_ir.specs.declared.types.Type_.{Type_ as AType}
 use borrow.Author.Tests.{eqb-true}
-use Rattle.naga_names.specs.declared.namer.key.NameKey.{NameKey}
-use Rattle.naga_names.specs.declared.namer.key.NameKey.TheVariants.{Constant, Override, GlobalVariable, Type_, StructMember, Function, FunctionArgument, FunctionLocal, FunctionOobLocal, EntryPoint, EntryPointLocal, EntryPointArgument, EntryPointOobLocal, ExternalTextureGlobalVariable, ExternalTextureFunctionArgument}
-use Rattle.naga_names.specs.declared.namer.key.ExternalTextureNameKey.{ExternalTextureNameKey}
-use Rattle.naga_names.specs.declared.namer.key.ExternalTextureNameKey.TheVariants.{Plane, Params}
-use Rattle.naga_names.specs.contracts.namer.key.ExternalTextureNameKeyPartialEq.TheImpl as part_eq
-use Rattle.naga_names.specs.contracts.namer.key.NameKeyEq.TheImpl.Laws.{laws-law}
+use Rattle.name_keys.specs.declared.key.NameKey.{NameKey}
+use Rattle.name_keys.specs.declared.key.NameKey.TheVariants.{Constant, Override, GlobalVariable, Type_, StructMember, Function, FunctionArgument, FunctionLocal, FunctionOobLocal, EntryPoint, EntryPointLocal, EntryPointArgument, EntryPointOobLocal, ExternalTextureGlobalVariable, ExternalTextureFunctionArgument}
+use Rattle.name_keys.specs.declared.key.ExternalTextureNameKey.{ExternalTextureNameKey}
+use Rattle.name_keys.specs.declared.key.ExternalTextureNameKey.TheVariants.{Plane, Params}
+use Rattle.name_keys.specs.contracts.key.ExternalTextureNameKeyPartialEq.TheImpl as part_eq
+use Rattle.name_keys.specs.contracts.key.NameKeyEq.TheImpl.Laws.{laws-law}
 use Rattle.naga_names.specs.Naming.{Names, label_or}
-use Rattle.naga_names.specs.Reset.{Labelled, same_key, type_label, is_external, labelled_parts, with_parts, members_of, member_label, labelled_members, labelled_type, labelled_types, labelled_argument, labelled_arguments, labelled_locals, labelled_function, labelled_functions, labelled_entry_arguments, labelled_entry_locals, labelled_entry_point, labelled_entry_points, labelled_global, labelled_globals, labelled_declarations, value_label, type_name, labelled_constants, labelled_overrides, labelled_values, labelled_items}
+use Rattle.name_keys.specs.Keys.{same_key}
+use Rattle.naga_names.specs.Reset.{Labelled, type_label, is_external, labelled_parts, with_parts, members_of, member_label, labelled_members, labelled_type, labelled_types, labelled_argument, labelled_arguments, labelled_locals, labelled_function, labelled_functions, labelled_entry_arguments, labelled_entry_locals, labelled_entry_point, labelled_entry_points, labelled_global, labelled_globals, labelled_declarations, value_label, type_name, labelled_constants, labelled_overrides, labelled_values, labelled_items}
 use Rattle.naga_ir.specs.declared.module.Constant.{Constant as AConstant}
 use Rattle.naga_ir.specs.declared.module.Override.{Override as AnOverride}
 use Rattle.naga_ir.specs.declared.module.EntryPoint.{EntryPoint as AnEntryPoint}

@@ -13,10 +13,11 @@ use Rattle.std.specs.HashMap as hash
 use Rattle.std.specs.Option.{option_map, option_or}
 use Rattle.std.specs.FinMap as finite
 use Rattle.naga_keywords.specs.Words.{Words}
-use Rattle.naga_names.specs.declared.namer.key.NameKey.{NameKey}
-use Rattle.naga_names.specs.declared.namer.key.NameKey.TheVariants as key
+use Rattle.name_keys.specs.declared.key.NameKey.{NameKey}
+use Rattle.name_keys.specs.declared.key.NameKey.TheVariants as key
 use Rattle.naga_names.specs.Naming.{Names, Uses, with_use, label_base, labels_with_base, name_after, HasNamed, new_names}
-use Rattle.naga_names.specs.Reset.{Labelled, NameMap, output_label, output_word, returns, labels_of, is_member, item_name, key_fits, keys_fit, named_items, same_key, names_in, HasNamedItems, labelled_items, type_names_in, PutsBeginning, NamesItems, NamesModule}
+use Rattle.name_keys.specs.Keys.{NameMap, same_key, names_in}
+use Rattle.naga_names.specs.Reset.{Labelled, output_label, output_word, returns, labels_of, is_member, item_name, key_fits, keys_fit, named_items, HasNamedItems, labelled_items, type_names_in, PutsBeginning, NamesItems, NamesModule}
 use Rattle.naga_names.specs.Members.{PutsName, PutsNoName}
 use Rattle.naga_names.specs.Refusal.{IsRefusalOf, SomeNameIsFull, IsRefusalOfItems, IsResetRefusal, RefusesItems, RefusesModule}
 use Rattle.naga_names.specs.declared.namer.NamerError.{NamerError}

@@ -5,12 +5,13 @@ use Rattle.std.specs.FinSet as set
 use Rattle.naga_keywords.specs.Plain.{is_identifier, HasPlainEnds}
 use Rattle.naga_keywords.specs.Words.{lowered}
 use Rattle.naga_names.specs.Naming.{Names, uses_of, name_of, name_of_base, name_after, labels_with_base, HasNamed}
-use Rattle.naga_names.specs.Reset.{Labelled, NameMap, is_member, members_of, member_label, member_names, item_name, labelled_items, HasNamedItems}
+use Rattle.name_keys.specs.Keys.{NameMap}
+use Rattle.naga_names.specs.Reset.{Labelled, is_member, members_of, member_label, member_names, item_name, labelled_items, HasNamedItems}
 use Rattle.naga_ir.specs.declared.module.Module.{Module}
 use Rattle.naga_ir.specs.declared.types.StructMember.{StructMember}
 use Rattle.naga_ir.specs.declared.types.Type_.{Type_}
 use Rattle.naga_keywords.specs.declared.keywords.TheConstants.{RESERVED}
-use Rattle.naga_names.specs.declared.namer.key.NameKey.TheVariants as key
+use Rattle.name_keys.specs.declared.key.NameKey.TheVariants as key
 
 -- a name has ASCII letters, digits and `_` alone, begins with no digit and not with `__`, and is not `_`
 abbrev pub NamesAreIdentifiers : Type 0

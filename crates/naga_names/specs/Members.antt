@@ -4,10 +4,11 @@ use Rattle.std.specs.List.{scan}
 use Rattle.naga_ir.specs.declared.types.StructMember.{StructMember}
 use Rattle.naga_names.specs.declared.namer.NamerError.{NamerError}
 use Rattle.naga_names.specs.declared.namer.NamerError.TheVariants.{Full, KeyFull, Memory}
-use Rattle.naga_names.specs.declared.namer.key.NameKey.{NameKey}
+use Rattle.name_keys.specs.declared.key.NameKey.{NameKey}
 use Rattle.naga_names.specs.Naming.{Names, name_of, with_use, name_after, HasNamed}
 use Rattle.naga_names.specs.Refusal.{IsRefusalOf}
-use Rattle.naga_names.specs.Reset.{Labelled, NameMap, same_key, labelled_members, member_label, keys_fit, PutsInto}
+use Rattle.name_keys.specs.Keys.{NameMap, same_key}
+use Rattle.naga_names.specs.Reset.{Labelled, labelled_members, member_label, keys_fit, PutsInto}
 
 -- the label has one use more, and the map its name at the key
 pub record PutsName (old : Names) (before : NameMap) (key : NameKey) (label : List ℕ) (new : Names) (now : NameMap) : Type 0 where

@@ -7,7 +7,8 @@ use Rattle.naga_ir.specs.declared.types.Type_.{Type_}
 use Rattle.naga_names.specs.declared.namer.NamerError.{NamerError}
 use Rattle.naga_names.specs.declared.namer.NamerError.TheVariants.{Full, KeyFull, Memory}
 use Rattle.naga_names.specs.Naming.{Names, IsFull, label_base, labels_with_base}
-use Rattle.naga_names.specs.Reset.{Labelled, NameMap, members_of, is_member, labels_of, keys_fit, labelled_items, HasNamedItems, PutsBeginning}
+use Rattle.name_keys.specs.Keys.{NameMap}
+use Rattle.naga_names.specs.Reset.{Labelled, members_of, is_member, labels_of, keys_fit, labelled_items, HasNamedItems, PutsBeginning}
 
 -- `Full` comes only where the label's base is full, `KeyFull` never, and `Memory` may come at any time
 abbrev pub IsRefusalOf : Names → List ℕ → NamerError → Type 0

@@ -5,8 +5,6 @@ use Rattle.std.specs.List.{scan, flat_map, enumerate_from, list_all}
 use Rattle.std.specs.FinMap as finite
 use Rattle.std.specs.FinSet as set
 use Rattle.std.specs.Map.{lookup, update_all}
-use Rattle.std.specs.Hash.{HashWrites}
-use Rattle.std.specs.HashMap as hash
 use Rattle.std.specs.Option.{option_map, option_map_or, option_or}
 use Rattle.naga_ir.specs.declared.module.Module.{Module}
 use Rattle.naga_ir.specs.declared.module.Function.{Function}
@@ -23,12 +21,11 @@ use Rattle.naga_ir.specs.declared.types.Type_.{Type_}
 use Rattle.naga_ir.specs.declared.types.TypeInner.{TypeInner}
 use Rattle.naga_ir.specs.declared.types.TypeInner.TheVariants.{Struct, Image}
 use Rattle.naga_enumerations.specs.declared.image.ImageClass.TheVariants.{External}
-use Rattle.naga_names.specs.declared.namer.key.ExternalTextureNameKey.{ExternalTextureNameKey}
-use Rattle.naga_names.specs.declared.namer.key.ExternalTextureNameKey.TheVariants.{Plane, Params}
-use Rattle.naga_names.specs.declared.namer.key.NameKey.{NameKey}
-use Rattle.naga_names.specs.declared.namer.key.NameKey.TheVariants as key
-use Rattle.naga_names.specs.contracts.namer.key.NameKeyHash.TheImpl.{hash_input-value}
-use Rattle.naga_names.specs.contracts.namer.key.NameKeyPartialEq.TheImpl.{eq-value}
+use Rattle.name_keys.specs.declared.key.ExternalTextureNameKey.{ExternalTextureNameKey}
+use Rattle.name_keys.specs.declared.key.ExternalTextureNameKey.TheVariants.{Plane, Params}
+use Rattle.name_keys.specs.declared.key.NameKey.{NameKey}
+use Rattle.name_keys.specs.declared.key.NameKey.TheVariants as key
+use Rattle.name_keys.specs.Keys.{NameMap, same_key}
 use Rattle.naga_names.specs.Naming.{Names, label_or, name_after, HasNamed}
 
 -- an item of a module, and the label that it is named by
@@ -191,21 +188,6 @@ item_name names earlier item = name_after (names_beside names item.0) (labels_be
 -- each item with the name that it has behind those before it
 abbrev pub named_items : Names → List Labelled → List (NameKey × List ℕ)
 named_items names items = scan (λ earlier item. earlier ++ item ∷ []) (λ earlier item. (item.0, item_name names earlier item)) [] items
-
--- what a map of names has at each key
-abbrev pub NameMap : Type 0
-NameMap = NameKey → Option (List ℕ)
-
--- how keys are compared, by their variants and what these hold
-abbrev pub same_key : NameKey → NameKey → Bool
-same_key = eq-value.it
-
--- what a hasher is given of a key
-abbrev pub key_writes : NameKey → HashWrites
-key_writes = hash_input-value.it
-
-abbrev pub names_in : {Y S : Type 0} → hash.HashMap NameKey (String Y) S → NameMap
-names_in names key = option_map string_bytes (hash.get same_key names key)
 
 -- `now` is `before` with these pairs put in, one after another
 pub record PutsInto (before : NameMap) (pairs : List (NameKey × List ℕ)) (now : NameMap) : Type 0 where

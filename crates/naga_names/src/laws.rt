@@ -5,7 +5,7 @@ ghost use Rattle.std.specs.FinSet as set;
 ghost use Rattle.std.specs.Hash.{Alike};
 ghost use Rattle.naga_names.specs.Laws.{NamesAreIdentifiers, NamesKeepOffNaga, NamesAreNoKeywords, NamesAreNoBuiltins, NamesAreNoCaselessKeywords, NamesAreNotNumbered, NamesDiffer, ItemsAreNamed, ItemsAreTold, MembersAreNamed, MembersAreTold, MembersAreNotReserved, GivenNamesFollow, GivenNamesAreNew};
 ghost use Rattle.naga_keywords.specs.Plain.{HasPlainEnds};
-ghost use Rattle.naga_names.specs.Reset.{same_key, key_writes};
+ghost use Rattle.name_keys.specs.Keys.{same_key, key_writes};
 ghost use Rattle.naga_keywords.specs.Words.{same_caseless, caseless_writes};
 
 use naga_keywords::keywords::{BUILTIN_IDENTIFIERS, RESERVED};

@@ -1,20 +1,21 @@
 //! Identifiers from labels.
 ghost use Rattle.std.specs.Prelude.{◌≡◌, true, ◌∷◌, [], ◌++◌, List, ℕ, map, length, false, codes, IfOk, IfErr, OnOk, OnErr, IsErr, string_bytes};
-ghost use Rattle.naga_names.specs.declared.namer.key.NameKey.TheVariants as keys;
+ghost use Rattle.name_keys.specs.declared.key.NameKey.TheVariants as keys;
 ghost use Rattle.naga_names.specs.Naming.{Names, names_code, no_names, new_names, label_or, first_name, is_taken, name_of, with_use, IsFull, HasNamed, name_after};
 ghost use Rattle.naga_names.specs.Members.{PutsName, PutsNoName, HasNamedMembers, RefusesMembers};
 ghost use Rattle.naga_names.specs.Refusal.{IsRefusalOf, IsResetRefusal, RefusesItems, RefusesModule, SomeNameIsFull, SomeKeyIsFull, KeysRunOut};
 ghost use Rattle.naga_names.specs.declared.namer.NamerError.TheVariants.{KeyFull};
-ghost use Rattle.naga_names.specs.Reset.{is_external_inner, is_external, is_member, labelled_members, labelled_type, labelled_types, labelled_argument, labelled_arguments, labelled_locals, labelled_function, labelled_functions, labelled_entry_arguments, labelled_entry_locals, labelled_entry_point, labelled_entry_points, labelled_global, labelled_globals, labelled_declarations, value_label, labelled_constants, labelled_overrides, labelled_values, labelled_items, type_names_in, same_key, key_fits, NamesModule, names_in, HasNamedItems, PutsBeginning, NamesItems};
+ghost use Rattle.name_keys.specs.Keys.{same_key, names_in};
+ghost use Rattle.naga_names.specs.Reset.{is_external_inner, is_external, is_member, labelled_members, labelled_type, labelled_types, labelled_argument, labelled_arguments, labelled_locals, labelled_function, labelled_functions, labelled_entry_arguments, labelled_entry_locals, labelled_entry_point, labelled_entry_points, labelled_global, labelled_globals, labelled_declarations, value_label, labelled_constants, labelled_overrides, labelled_values, labelled_items, type_names_in, key_fits, NamesModule, HasNamedItems, PutsBeginning, NamesItems};
 
 use crate::namer::fallback::{label_or, type_label, value_label};
 use crate::namer::uses::Uses;
-pub use key::{ExternalTextureNameKey, NameKey};
 use naga_ir::{
     Arena, Constant, EntryPoint, Function, FunctionArgument, GlobalVariable, Handle, ImageClass,
     LocalVariable, Module, Override, StructMember, Type_, TypeInner, UniqueArena,
 };
 use naga_keywords::keyword_set::{CaseInsensitiveKeywordSet, KeywordSet};
+pub use name_keys::{EntryPointIndex, ExternalTextureNameKey, NameKey};
 use std::alloc::{AllocError, AllocFailed, Global};
 use std::collections::HashMap;
 use std::marker::Model;
@@ -22,12 +23,8 @@ use std::mem;
 use thiserror::Error;
 
 mod fallback;
-mod key;
 mod label;
 mod uses;
-
-/// The place of an entry point in its module's list.
-pub type EntryPointIndex = u16;
 
 /// Why a name could not be given.
 #[derive(Debug, Drop, PartialEq, Eq, Error)]

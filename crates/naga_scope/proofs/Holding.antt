@@ -16,7 +16,7 @@ use Rattle.naga_info.specs.Accepted.{function_fits}
 use Rattle.naga_info.specs.declared.info.ExpressionInfo.{ExpressionInfo}
 use Rattle.naga_info.proofs.Accepting.{load_word_at, binary_at}
 use Rattle.naga_info.proofs.Fitting.{drop_first, item_at}
-use Rattle.naga_names.specs.Reset.{NameMap}
+use Rattle.name_keys.specs.Keys.{NameMap}
 use Rattle.wgsl_text.specs.Tree.{BinaryOperator as tree_operator}
 use Rattle.shader_runs.specs.Program.{Function, operands_of, from}
 use Rattle.shader_runs.specs.Premises.{AllBelow}

@@ -11,7 +11,7 @@ use Rattle.naga_info.specs.declared.info.ModuleInfo.{ModuleInfo}
 use Rattle.naga_info.specs.Accepted.{is_accepted, function_fits}
 use Rattle.naga_info.specs.Part.{function_is_written, is_written_so_far}
 use Rattle.naga_info.proofs.Accepting.{accepted_types_are_scalar, accepted_functions_fit, list_all_at, functions_fit_at}
-use Rattle.naga_names.specs.Reset.{NameMap}
+use Rattle.name_keys.specs.Keys.{NameMap}
 use Rattle.naga_form.specs.Names.{HasNamesOf, module_names}
 use Rattle.naga_form.specs.Form.{function_form}
 use Rattle.naga_form.proofs.Resolutions.{functions_are_written}

@@ -18,7 +18,7 @@ use Rattle.naga_ir.specs.declared.types.Type_.{Type_}
 use Rattle.naga_info.specs.declared.info.ExpressionInfo.{ExpressionInfo}
 use Rattle.naga_back.specs.Indentation.{indentation}
 use Rattle.naga_back.specs.Operators.{operator_text}
-use Rattle.naga_names.specs.Reset.{NameMap}
+use Rattle.name_keys.specs.Keys.{NameMap}
 use Rattle.shader_runs.specs.Program.{binds, from}
 use Rattle.shader_runs.specs.Scope.{Handles, Naming, at_start, given_after, after_one, after_emit, bound_name}
 use Rattle.naga_form.specs.Names.{function_name, argument_name, numbered_name}

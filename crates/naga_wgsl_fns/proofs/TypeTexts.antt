@@ -13,7 +13,7 @@ use Rattle.naga_info.specs.Accepted.{is_scalar_type}
 use Rattle.naga_info.specs.Resolution.{inner_of}
 use Rattle.naga_info.specs.Types.{word_of_type, word_at, pointer_spelling, spelling, spelling_of}
 use Rattle.naga_info.proofs.Accepting.{list_all_at, map_some, then_some}
-use Rattle.naga_names.specs.Reset.{NameMap}
+use Rattle.name_keys.specs.Keys.{NameMap}
 use Rattle.naga_info.specs.declared.info.TypeResolution.{TypeResolution}
 use Rattle.naga_info.specs.declared.info.TypeResolution.TheVariants as resolution
 use Rattle.naga_words.specs.Parts.{Part, Word, Shown, Missing, IsText, lacks, before_missing, known_text, HasWritten, HasBegun}

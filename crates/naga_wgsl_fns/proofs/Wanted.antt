@@ -18,8 +18,8 @@ use Rattle.naga_ir.specs.declared.module.LocalVariable.{LocalVariable}
 use Rattle.naga_ir.specs.declared.module.Module.{Module}
 use Rattle.naga_enumerations.specs.declared.operators.BinaryOperator.{BinaryOperator}
 use Rattle.naga_info.specs.declared.info.ExpressionInfo.{ExpressionInfo}
-use Rattle.naga_names.specs.Reset.{NameMap}
-use Rattle.naga_names.specs.declared.namer.key.NameKey.TheVariants as key
+use Rattle.name_keys.specs.Keys.{NameMap}
+use Rattle.name_keys.specs.declared.key.NameKey.TheVariants as key
 use Rattle.shader_runs.specs.Scope.{bound_name, given_after, given_by}
 use Rattle.naga_form.specs.Names.{module_names, name_in, numbered_name}
 use Rattle.naga_form.specs.Shapes.{statement_shape, OperandsStandBefore}

@@ -6,7 +6,7 @@ ghost use Rattle.naga_form.specs.Form.{let_form, lets_form, lines_form, line_for
 ghost use Rattle.naga_form.specs.Names.{numbered_name};
 ghost use Rattle.naga_info.specs.Accepted.{block_fits, is_below, statement_fits};
 ghost use Rattle.naga_info.specs.Part.{block_is_written};
-ghost use Rattle.naga_names.specs.Reset.{names_in};
+ghost use Rattle.name_keys.specs.Keys.{names_in};
 ghost use Rattle.naga_scope.specs.Standings.{handles_of};
 ghost use Rattle.naga_back.specs.Indentation.{indentation};
 ghost use Rattle.shader_runs.specs.Program.{from};

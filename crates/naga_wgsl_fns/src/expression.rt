@@ -3,7 +3,7 @@
 ghost use Rattle.std.specs.Prelude.{◌≡◌, ◌<◌, ◌++◌, Some, length, slice_get};
 ghost use Rattle.naga_form.specs.Form.{as_reference, as_value, own_if, plain_form, value_form};
 ghost use Rattle.naga_form.specs.Names.{numbered_name};
-ghost use Rattle.naga_names.specs.Reset.{names_in};
+ghost use Rattle.name_keys.specs.Keys.{names_in};
 ghost use Rattle.naga_scope.specs.Standings.{handles_of};
 ghost use Rattle.wgsl_text.specs.Pieces.{expression_pieces};
 ghost use Rattle.wgsl_text.specs.Text.{text};

@@ -6,7 +6,7 @@ ghost use Rattle.naga_form.specs.Types.{type_names};
 ghost use Rattle.naga_form.specs.Names.{HasNamesOf, module_names, name_in};
 ghost use Rattle.naga_info.specs.Accepted.{is_accepted, is_below};
 ghost use Rattle.naga_info.specs.Part.{is_written_so_far};
-ghost use Rattle.naga_names.specs.Reset.{names_in};
+ghost use Rattle.name_keys.specs.Keys.{names_in};
 ghost use Rattle.naga_words.specs.Sink.{IsBehind};
 ghost use Rattle.wgsl_text.specs.Declarations.{function_pieces, parameter_pieces, parameters_pieces, result_pieces};
 ghost use Rattle.wgsl_text.specs.Text.{text};

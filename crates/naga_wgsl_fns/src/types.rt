@@ -5,7 +5,7 @@ ghost use Rattle.std.specs.Option.{is_some};
 ghost use Rattle.naga_form.specs.Form.{told_type};
 ghost use Rattle.naga_form.specs.Types.{type_names};
 ghost use Rattle.naga_info.specs.Types.{spelling_of};
-ghost use Rattle.naga_names.specs.Reset.{names_in};
+ghost use Rattle.name_keys.specs.Keys.{names_in};
 ghost use Rattle.naga_wgsl_fns.specs.Appends.{Appends};
 ghost use Rattle.naga_wgsl_fns.specs.Texts.{CanWrite, has_word, resolution_text, tells_types, told_text, type_text};
 

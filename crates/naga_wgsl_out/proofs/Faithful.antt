@@ -9,7 +9,7 @@ use Rattle.naga_info.specs.Accepted.{is_accepted}
 use Rattle.naga_info.specs.Part.{is_written_so_far, function_is_written, names_nothing}
 use Rattle.naga_info.proofs.Accepting.{accepted_functions_fit, functions_fit_length}
 use Rattle.naga_info.specs.declared.info.ModuleInfo.{ModuleInfo}
-use Rattle.naga_names.specs.Reset.{NameMap}
+use Rattle.name_keys.specs.Keys.{NameMap}
 use Rattle.wgsl_text.specs.Reading.{Reads, HasOneReading, layout}
 use Rattle.wgsl_text.specs.Text.{tokens}
 use Rattle.wgsl_text.specs.Tree.{Program}

@@ -9,7 +9,7 @@ use Rattle.naga_info.specs.declared.info.ExpressionInfo.{ExpressionInfo}
 use Rattle.naga_info.specs.declared.info.ModuleInfo.{ModuleInfo}
 use Rattle.naga_info.specs.Accepted.{is_accepted}
 use Rattle.naga_info.proofs.Accepting.{accepted_functions_fit, functions_fit_length}
-use Rattle.naga_names.specs.Reset.{NameMap}
+use Rattle.name_keys.specs.Keys.{NameMap}
 use Rattle.wgsl_text.specs.Declarations.{function_pieces, functions_pieces}
 use Rattle.wgsl_text.specs.Text.{text}
 use Rattle.wgsl_text.specs.Token.{LineEnd}

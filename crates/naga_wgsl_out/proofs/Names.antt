@@ -13,8 +13,9 @@ use Rattle.naga_names.specs.Refusal.{SomeNameIsFull, SomeKeyIsFull, IsResetRefus
 use Rattle.naga_names.specs.declared.namer.NamerError.{NamerError}
 use Rattle.naga_names.specs.declared.namer.NamerError.TheVariants.{Full, KeyFull}
 use Rattle.wgsl_text.specs.Keywords.{reserved_words, builtin_words}
-use Rattle.naga_names.specs.Reset.{NameMap, labelled_items, labels_of, key_fits, HasNamedItems}
-use Rattle.naga_names.specs.declared.namer.key.NameKey.TheVariants as key
+use Rattle.name_keys.specs.Keys.{NameMap}
+use Rattle.naga_names.specs.Reset.{labelled_items, labels_of, key_fits, HasNamedItems}
+use Rattle.name_keys.specs.declared.key.NameKey.TheVariants as key
 use Rattle.naga_names.proofs.NamedItems.{named_there, few_labels, local_stands}
 use Rattle.naga_form.specs.Names.{reserved_prefixes, wgsl_names, module_names, function_name, argument_name, HasNamesOf, NamesAreCounted}
 use Rattle.naga_form.proofs.Facts.{all_at, element}

@@ -4,7 +4,8 @@ use Rattle.naga_ir.specs.declared.module.Module.{Module}
 use Rattle.naga_info.specs.Part.{is_written_so_far}
 use Rattle.naga_info.specs.declared.info.ModuleInfo.{ModuleInfo}
 use Rattle.naga_names.specs.Refusal.{SomeNameIsFull, SomeKeyIsFull}
-use Rattle.naga_names.specs.Reset.{NameMap, labelled_items}
+use Rattle.name_keys.specs.Keys.{NameMap}
+use Rattle.naga_names.specs.Reset.{labelled_items}
 use Rattle.naga_form.specs.Names.{wgsl_names, HasNamesOf, NamesAreCounted}
 use Rattle.naga_form.specs.Premises.{scope_holds}
 use Rattle.naga_wgsl_fns.specs.Errors.{IsSinkWant}

@@ -4,7 +4,7 @@ ghost use Rattle.std.specs.Prelude.{◌≡◌, ◌<◌, ◌++◌, [], IfErr, IfO
 ghost use Rattle.std.specs.List.{enumerate_from};
 ghost use Rattle.naga_info.specs.Accepted.{is_accepted};
 ghost use Rattle.naga_info.specs.Part.{is_written_so_far};
-ghost use Rattle.naga_names.specs.Reset.{names_in};
+ghost use Rattle.name_keys.specs.Keys.{names_in};
 ghost use Rattle.naga_words.specs.Sink.{IsBehind};
 ghost use Rattle.naga_form.specs.Names.{HasNamesOf};
 ghost use Rattle.naga_form.specs.Resolution.{ResolvesAs};

@@ -4,9 +4,9 @@ use naga_ir::{
     ImageDimension, MathFunction, Module, Override, PredeclaredType, Scalar, ScalarKind,
     StorageAccess, StorageFormat, Type_, TypeInner, UniqueArena, VectorSize,
 };
-use naga_names::namer::NameKey;
 use naga_words::types::{type_fits, types_in_order};
 use naga_words::{PredeclaredName, TryToWgsl, TypeContext, TypeTextError, WriterTypeContext};
+use name_keys::NameKey;
 use std::alloc::{AllocError, Global};
 use std::collections::HashMap;
 use std::num::NonZeroU32;

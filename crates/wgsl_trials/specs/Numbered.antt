@@ -2,8 +2,8 @@
 use Rattle.std.specs.Prelude.{◌≡◌, ℕ, List, ◌++◌, Some, None, codes, decimal, length, slice_get, string_bytes}
 use Rattle.std.specs.declared.string.String.{String}
 use Rattle.naga_ir.specs.declared.types.Type_.{Type_}
-use Rattle.naga_names.specs.declared.namer.key.NameKey.TheVariants as key
-use Rattle.naga_names.specs.Reset.{NameMap}
+use Rattle.name_keys.specs.declared.key.NameKey.TheVariants as key
+use Rattle.name_keys.specs.Keys.{NameMap}
 use Rattle.naga_words.specs.Contexts.{names_context}
 use Rattle.naga_words.specs.Spelling.{Context}
 

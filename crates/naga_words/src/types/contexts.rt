@@ -1,7 +1,7 @@
 //! Contexts: types alone, the arenas of a module, and a module with the names of its items.
 
 ghost use Rattle.std.specs.Prelude.{◌≡◌, ◌<◌, None, Some, slice_get, string_bytes, codes, OnOk, IsErrOf};
-ghost use Rattle.naga_names.specs.Reset.{names_in};
+ghost use Rattle.name_keys.specs.Keys.{names_in};
 ghost use Rattle.naga_words.specs.Contexts.{arena_context, global_context, names_context, name_or_nothing};
 ghost use Rattle.naga_words.specs.Parts.{HasWritten, HasBegun, shown_between};
 ghost use Rattle.naga_words.specs.declared.types.TypeTextError.TheVariants as error;
@@ -11,7 +11,7 @@ use crate::types::scalars::{write_shown, write_word};
 use crate::types::{TypeContext, TypeTextError};
 use naga_info::GlobalCtx;
 use naga_ir::{Handle, Module, Override, Type_, TypeInner, UniqueArena};
-use naga_names::namer::NameKey;
+use name_keys::NameKey;
 use std::alloc::Global;
 use std::collections::HashMap;
 

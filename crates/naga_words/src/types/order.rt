@@ -2,7 +2,7 @@
 
 ghost use Rattle.std.specs.Prelude.{◌≡◌, ℕ, List, length, IsTrue};
 ghost use Rattle.naga_ir.specs.declared.module.Override.{Override};
-ghost use Rattle.naga_names.specs.Reset.{NameMap};
+ghost use Rattle.name_keys.specs.Keys.{NameMap};
 ghost use Rattle.naga_words.specs.Contexts.{arena_context, global_context, names_context};
 ghost use Rattle.naga_words.specs.Spelling.{IsInOrder, StandsBehind, size_within};
 

@@ -1,4 +1,4 @@
-use Rattle.naga_names.specs.contracts.namer.key.NameKeyHash.TheImpl.Laws.{respects_eq-law}
+use Rattle.name_keys.specs.contracts.key.NameKeyHash.TheImpl.Laws.{respects_eq-law}
 use Rattle.naga_names.proofs.NameKeys.{same_key_laws}
 use Rattle.naga_names.proofs.laws.keys_are_compared.Goals as goal
 

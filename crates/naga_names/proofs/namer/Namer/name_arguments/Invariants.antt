@@ -1,5 +1,6 @@
 use Rattle.std.proofs.Common.{take}
-use Rattle.naga_names.specs.Reset.{NamesItems, names_in, labelled_arguments}
+use Rattle.name_keys.specs.Keys.{names_in}
+use Rattle.naga_names.specs.Reset.{NamesItems, labelled_arguments}
 use Rattle.naga_names.proofs.namer.Namer.name_arguments.Given as goal
 
 abbrev pub invariant-loop-index : goal.invariant-loop-index

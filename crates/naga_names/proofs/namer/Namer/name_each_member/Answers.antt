@@ -1,6 +1,6 @@
 use Rattle.std.proofs.Common.{ap, ◌∙◌}
 use Rattle.naga_names.specs.Naming.{Names}
-use Rattle.naga_names.specs.Reset.{names_in}
+use Rattle.name_keys.specs.Keys.{names_in}
 use Rattle.naga_names.specs.Members.{RefusesMembers}
 use Rattle.naga_names.proofs.ResetLemmas.{if_err}
 use Rattle.naga_names.proofs.MemberLemmas.{member_more_at, member_refused, member_key_refused}

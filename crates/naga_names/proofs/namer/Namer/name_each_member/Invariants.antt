@@ -1,5 +1,5 @@
 use Rattle.std.proofs.Common.{◌≡◌, take}
-use Rattle.naga_names.specs.Reset.{names_in}
+use Rattle.name_keys.specs.Keys.{names_in}
 use Rattle.naga_names.specs.Members.{HasNamedMembers}
 use Rattle.naga_names.proofs.namer.Namer.name_each_member.Given as goal
 

@@ -1,7 +1,8 @@
 use Rattle.std.proofs.Common.{sym, subst}
 use Rattle.std.specs.List.{enumerate_from}
 use Rattle.std.proofs.lemmas.Iterator.Consumers.{YieldsList-from_first, YieldsList-at, YieldsList-so_far, YieldsList-turn, YieldsList-end}
-use Rattle.naga_names.specs.Reset.{NamesItems, names_in, labelled_function}
+use Rattle.name_keys.specs.Keys.{names_in}
+use Rattle.naga_names.specs.Reset.{NamesItems, labelled_function}
 use Rattle.naga_names.specs.Refusal.{RefusesItems}
 use Rattle.naga_names.proofs.ResetLemmas.{if_err_at, refuses_then, refuses_more, flat_map_at_turn, flat_map_at_end}
 use Rattle.naga_names.proofs.namer.Namer.name_functions.Goals as goal

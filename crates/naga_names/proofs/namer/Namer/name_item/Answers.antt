@@ -1,4 +1,4 @@
-use Rattle.naga_names.specs.Reset.{names_in}
+use Rattle.name_keys.specs.Keys.{names_in}
 use Rattle.naga_names.specs.Members.{PutsNoName}
 use Rattle.naga_names.specs.Refusal.{RefusesItems}
 use Rattle.std.proofs.Common.{[], ◌∷◌}

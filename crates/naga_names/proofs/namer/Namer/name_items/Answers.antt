@@ -1,5 +1,6 @@
 use Rattle.std.proofs.Common.{length}
-use Rattle.naga_names.specs.Reset.{names_in, labelled_values, type_names_in}
+use Rattle.name_keys.specs.Keys.{names_in}
+use Rattle.naga_names.specs.Reset.{labelled_values, type_names_in}
 use Rattle.naga_names.specs.Refusal.{RefusesItems, RefusesModule}
 use Rattle.naga_names.proofs.Spellings.{on_ok_then}
 use Rattle.naga_names.proofs.ResetLemmas.{if_err, if_err_more}

@@ -1,5 +1,6 @@
 use Rattle.std.proofs.Common.{sym, subst, ◌∙◌}
-use Rattle.naga_names.specs.Reset.{names_in, labelled_members, NamesItems}
+use Rattle.name_keys.specs.Keys.{names_in}
+use Rattle.naga_names.specs.Reset.{labelled_members, NamesItems}
 use Rattle.naga_names.specs.Refusal.{RefusesItems}
 use Rattle.naga_names.specs.Members.{HasNamedMembers, RefusesMembers}
 use Rattle.naga_names.proofs.NamerLemmas.{has_named_nothing}

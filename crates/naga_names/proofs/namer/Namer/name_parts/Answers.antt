@@ -1,5 +1,5 @@
 use Rattle.std.proofs.Common.{[], ◌∷◌, ◌++◌, codes}
-use Rattle.naga_names.specs.Reset.{names_in}
+use Rattle.name_keys.specs.Keys.{names_in}
 use Rattle.naga_names.specs.Refusal.{RefusesItems}
 use Rattle.naga_names.proofs.ResetLemmas.{if_err, refuses_then, refuses_more}
 use Rattle.naga_names.proofs.namer.Namer.name_parts.Goals as goal

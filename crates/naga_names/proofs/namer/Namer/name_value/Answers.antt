@@ -1,4 +1,4 @@
-use Rattle.naga_names.specs.declared.namer.key.NameKey.TheVariants as key
+use Rattle.name_keys.specs.declared.key.NameKey.TheVariants as key
 use Rattle.naga_names.proofs.namer.Namer.name_value.Goals as goal
 
 pub returns-in-Some-clause-kept : goal.returns-in-Some-clause-kept

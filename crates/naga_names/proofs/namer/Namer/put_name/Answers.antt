@@ -1,5 +1,5 @@
 use Rattle.std.proofs.Common.{ap, ◌∙◌, cond, Some}
-use Rattle.naga_names.specs.Reset.{same_key, names_in}
+use Rattle.name_keys.specs.Keys.{same_key, names_in}
 use Rattle.naga_names.proofs.ResetLemmas.{names_in-insert, used_words}
 use Rattle.naga_names.proofs.namer.Namer.put_name.Goals as goal
 

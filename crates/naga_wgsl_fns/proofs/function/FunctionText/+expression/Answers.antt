@@ -1,5 +1,5 @@
 use Rattle.std.proofs.Common.{arith, ◌<◌, length, refl}
-use Rattle.naga_names.specs.Reset.{names_in}
+use Rattle.name_keys.specs.Keys.{names_in}
 use Rattle.naga_scope.specs.Standings.{handles_of}
 use Rattle.naga_back.specs.Operators.{operator_text}
 use Rattle.naga_wgsl_fns.specs.Texts.{naming_of}

@@ -1,5 +1,5 @@
 use Rattle.naga_form.specs.Names.{module_names}
-use Rattle.naga_names.specs.Reset.{names_in}
+use Rattle.name_keys.specs.Keys.{names_in}
 use Rattle.naga_wgsl_fns.proofs.Appending.{appends_as, appends_stopped, appends_then, stopped_first, stopped_then}
 use Rattle.naga_wgsl_fns.proofs.Rows.{argument_row}
 use Rattle.naga_wgsl_fns.proofs.Wanted.{argument_has_word}

@@ -5,7 +5,7 @@ use Rattle.naga_info.specs.Accepted.{block_fits}
 use Rattle.naga_ir.specs.StatementTree.{BlockTree, simple, emit, store, return}
 use Rattle.naga_ir.specs.StatementViews.{tree_of, block_of}
 use Rattle.naga_ir.specs.declared.statement.Statement.{Statement}
-use Rattle.naga_names.specs.Reset.{names_in}
+use Rattle.name_keys.specs.Keys.{names_in}
 use Rattle.naga_scope.specs.Standings.{handles_of}
 use Rattle.naga_scope.specs.declared.points.Standing.{Standing}
 use Rattle.shader_runs.specs.Program.{from}

@@ -1,7 +1,7 @@
 use Rattle.std.proofs.Common.{ap}
 use Rattle.naga_form.specs.Form.{lines_form, told_type}
 use Rattle.naga_form.specs.Names.{module_names}
-use Rattle.naga_names.specs.Reset.{names_in}
+use Rattle.name_keys.specs.Keys.{names_in}
 use Rattle.shader_runs.specs.Scope.{Handles}
 use Rattle.wgsl_text.specs.Lines.{statements_pieces}
 use Rattle.wgsl_text.specs.Text.{text}

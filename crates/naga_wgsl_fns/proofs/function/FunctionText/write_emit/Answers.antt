@@ -1,7 +1,7 @@
 use Rattle.std.proofs.Common.{◌≡◌, ℕ, List, ◌≤◌, ◌-◌, refl, sym, ap, ◌∙◌}
 use Rattle.naga_form.specs.Form.{told_type}
 use Rattle.naga_form.specs.Names.{module_names}
-use Rattle.naga_names.specs.Reset.{names_in}
+use Rattle.name_keys.specs.Keys.{names_in}
 use Rattle.naga_scope.specs.Standings.{handles_of}
 use Rattle.shader_runs.specs.Scope.{after_emit, after_one}
 use Rattle.naga_form.specs.Types.{type_names}

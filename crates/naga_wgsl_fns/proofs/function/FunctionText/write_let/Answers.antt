@@ -2,7 +2,7 @@ use Rattle.std.proofs.Common.{ℕ, List, ap, ◌∙◌}
 use Rattle.std.specs.Prelude.{slice_get}
 use Rattle.naga_form.specs.Form.{as_value, let_form, own_if, plain_form, told_type}
 use Rattle.naga_form.specs.Names.{numbered_name}
-use Rattle.naga_names.specs.Reset.{names_in}
+use Rattle.name_keys.specs.Keys.{names_in}
 use Rattle.naga_scope.specs.Standings.{handles_of}
 use Rattle.wgsl_text.specs.Lines.{statement_pieces}
 use Rattle.wgsl_text.specs.Text.{text}

@@ -1,4 +1,4 @@
-use Rattle.naga_names.specs.Reset.{names_in}
+use Rattle.name_keys.specs.Keys.{names_in}
 use Rattle.naga_form.specs.Types.{type_names}
 use Rattle.naga_wgsl_fns.proofs.Wanted.{answer_has_word}
 use Rattle.std.proofs.Common.{sym, ap, ◌∙◌}

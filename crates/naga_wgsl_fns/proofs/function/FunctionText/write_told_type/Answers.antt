@@ -1,5 +1,5 @@
 use Rattle.std.proofs.Common.{sym, ap, ◌∙◌}
-use Rattle.naga_names.specs.Reset.{names_in}
+use Rattle.name_keys.specs.Keys.{names_in}
 use Rattle.naga_wgsl_fns.specs.Texts.{tells_types}
 use Rattle.naga_wgsl_fns.proofs.Appending.{appends_as, appends_stopped, appends_then, stopped_first}
 use Rattle.naga_wgsl_fns.proofs.Wanted.{known_at, known_within_infos, spelled_at, told_row}

@@ -1,7 +1,7 @@
 use Rattle.std.proofs.Common.{ap, Err}
 use Rattle.naga_form.specs.Names.{module_names}
 use Rattle.naga_form.specs.Types.{type_names}
-use Rattle.naga_names.specs.Reset.{names_in}
+use Rattle.name_keys.specs.Keys.{names_in}
 use Rattle.naga_words.specs.Contexts.{names_context}
 use Rattle.naga_words.specs.Spelling.{type_parts}
 use Rattle.naga_wgsl_fns.specs.Texts.{type_text}

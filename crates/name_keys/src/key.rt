@@ -1,6 +1,8 @@
 //! Which item of a module a name is for.
-use crate::namer::EntryPointIndex;
 use naga_ir::{Constant, Function, GlobalVariable, Handle, LocalVariable, Override, Type_};
+
+/// The place of an entry point in its module's list.
+pub type EntryPointIndex = u16;
 
 /// A part of an external texture, where a writer declares the texture as plain textures, one for each
 /// plane, and a struct of parameters.
