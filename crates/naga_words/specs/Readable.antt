@@ -25,6 +25,7 @@ LengthIsWithin overrides (size.Constant number) = non_zero_u32_get number < 2 ^ 
 LengthIsWithin overrides (size.Pending override_handle) = override_handle < overrides
 LengthIsWithin overrides size.Dynamic = ⊤
 
+-- a type by itself whose length, if it has one, is such a number or such an override
 abbrev pub InnerIsWithin : (overrides : ℕ) → TypeInner → Type 0
 InnerIsWithin overrides (inner.Array base size stride) = LengthIsWithin overrides size
 InnerIsWithin overrides (inner.BindingArray base size) = LengthIsWithin overrides size
@@ -36,11 +37,12 @@ pub record AreNamed (n : Names) (count : ℕ) : Type 0 where
   pub overrides : (o : ℕ) → o < count → IsIdentifier (n.override_name o)
   pub lengths : (h : ℕ) (t : Type_) → slice_get n.types h ≡ Some t → InnerIsWithin count t.inner
 
+-- the same of an expression's type; one of the module's is looked after by `AreNamed`
 abbrev pub ResolutionIsWithin : (overrides : ℕ) → TypeResolution → Type 0
 ResolutionIsWithin overrides (resolution.Handle h) = ⊤
 ResolutionIsWithin overrides (resolution.Value it) = InnerIsWithin overrides it
 
--- names that tell handles apart: a word of one number, the handle
+-- names that tell handles apart: a word of one number, the handle. A text of the handle would tell apart only numbers below 2 ^ 64
 abbrev pub handle_names : List Type_ → Names
 handle_names types = record { types = types; struct_name = λ h. h ∷ []; override_name = λ h. h ∷ [] }
 
