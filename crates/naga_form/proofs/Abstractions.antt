@@ -13,7 +13,7 @@ use Rattle.naga_ir.specs.declared.module.FunctionArgument.{FunctionArgument}
 use Rattle.naga_ir.specs.declared.module.LocalVariable.{LocalVariable}
 use Rattle.naga_ir.specs.declared.types.Type_.{Type_}
 use Rattle.naga_info.specs.declared.info.ExpressionInfo.{ExpressionInfo}
-use Rattle.naga_info.specs.Types.{word_at}
+use Rattle.naga_acceptance.specs.Types.{word_at}
 use Rattle.name_keys.specs.Keys.{NameMap}
 use Rattle.wgsl_text.specs.Token.{SuffixI, SuffixLi}
 use Rattle.wgsl_text.specs.Tree.{LeastInteger, LeastLong, Suffixed, TypeSpecifier}

@@ -1,4 +1,3 @@
-pub mod Appending
 pub mod Levels
 pub mod Owns
 pub mod Rows

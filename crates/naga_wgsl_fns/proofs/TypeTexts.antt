@@ -9,10 +9,11 @@ use Rattle.naga_enumerations.specs.declared.types.AddressSpace.TheVariants as sp
 use Rattle.naga_ir.specs.declared.types.Type_.{Type_}
 use Rattle.naga_ir.specs.declared.types.TypeInner.{TypeInner}
 use Rattle.naga_ir.specs.declared.types.TypeInner.TheVariants as inner
-use Rattle.naga_info.specs.Accepted.{is_scalar_type}
+use Rattle.naga_acceptance.specs.Accepted.{is_scalar_type}
 use Rattle.naga_info.specs.Resolution.{inner_of}
-use Rattle.naga_info.specs.Types.{word_of_type, word_at, pointer_spelling, spelling, spelling_of}
-use Rattle.naga_info.proofs.Accepting.{list_all_at, map_some, then_some}
+use Rattle.naga_acceptance.specs.Types.{word_of_type, word_at, pointer_spelling, spelling, spelling_of}
+use Rattle.naga_info.proofs.Options.{map_some, then_some}
+use Rattle.naga_acceptance.proofs.Accepting.{list_all_at}
 use Rattle.name_keys.specs.Keys.{NameMap}
 use Rattle.naga_info.specs.declared.info.TypeResolution.{TypeResolution}
 use Rattle.naga_info.specs.declared.info.TypeResolution.TheVariants as resolution
@@ -29,10 +30,10 @@ use Rattle.wgsl_text.specs.Reading.{type_layout}
 use Rattle.wgsl_text.specs.Tree.{TypeSpecifier, Named}
 use Rattle.wgsl_text.proofs.RowText.{text-append}
 use Rattle.naga_form.proofs.WrittenTypes.{HasForm, word_has_form, resolution_has_form}
-use Rattle.naga_wgsl_fns.specs.declared.error.Error.{Error}
-use Rattle.naga_wgsl_fns.specs.declared.error.Error.TheVariants.{FmtError, Memory as Want}
-use Rattle.naga_wgsl_fns.specs.Appends.{Wrote, Stopped}
-use Rattle.naga_wgsl_fns.specs.Errors.{IsErrorOfType, IsWant}
+use Rattle.wgsl_pieces.specs.declared.error.Error.{Error}
+use Rattle.wgsl_pieces.specs.declared.error.Error.TheVariants.{FmtError, Memory as Want}
+use Rattle.wgsl_pieces.specs.Appends.{Wrote, Stopped}
+use Rattle.wgsl_pieces.specs.Errors.{IsErrorOfType, IsWant}
 use Rattle.naga_wgsl_fns.specs.Texts.{has_word, type_text, resolution_text}
 
 some_is : {X : Type 0} (o : Option X) → IsTrue (is_some o) → (x : X) × (o ≡ Some x)

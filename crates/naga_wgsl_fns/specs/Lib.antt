@@ -1,3 +1,1 @@
-pub mod Errors
-pub mod Appends
 pub mod Texts

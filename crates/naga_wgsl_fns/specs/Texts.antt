@@ -9,9 +9,9 @@ use Rattle.naga_ir.specs.declared.module.Module.{Module}
 use Rattle.naga_ir.specs.declared.types.Type_.{Type_}
 use Rattle.naga_info.specs.declared.info.ExpressionInfo.{ExpressionInfo}
 use Rattle.naga_info.specs.declared.info.ModuleInfo.{ModuleInfo}
-use Rattle.naga_info.specs.Types.{word_at}
-use Rattle.naga_info.specs.Accepted.{is_scalar_type, function_fits}
-use Rattle.naga_info.specs.Part.{function_is_written}
+use Rattle.naga_acceptance.specs.Types.{word_at}
+use Rattle.naga_acceptance.specs.Accepted.{is_scalar_type, function_fits}
+use Rattle.naga_acceptance.specs.Part.{function_is_written}
 use Rattle.name_keys.specs.Keys.{NameMap}
 use Rattle.naga_scope.specs.declared.points.Standing.{Standing}
 use Rattle.naga_scope.specs.Standings.{handles_of}

@@ -4,8 +4,8 @@ ghost use Rattle.std.specs.Prelude.{◌≡◌, ◌<◌, ◌++◌, ◌-◌, ◌�
 ghost use Rattle.naga_form.specs.Types.{type_names};
 ghost use Rattle.naga_form.specs.Form.{let_form, lets_form, lines_form, line_form, return_line, as_reference, as_value, own_if, plain_form, value_form, told_type};
 ghost use Rattle.naga_form.specs.Names.{numbered_name};
-ghost use Rattle.naga_info.specs.Accepted.{block_fits, is_below, statement_fits};
-ghost use Rattle.naga_info.specs.Part.{block_is_written};
+ghost use Rattle.naga_acceptance.specs.Accepted.{block_fits, is_below, statement_fits};
+ghost use Rattle.naga_acceptance.specs.Part.{block_is_written};
 ghost use Rattle.name_keys.specs.Keys.{names_in};
 ghost use Rattle.naga_scope.specs.Standings.{handles_of};
 ghost use Rattle.naga_back.specs.Indentation.{indentation};
@@ -14,18 +14,18 @@ ghost use Rattle.shader_runs.specs.Scope.{after_emit};
 ghost use Rattle.wgsl_text.specs.Lines.{statement_pieces, statements_pieces};
 ghost use Rattle.wgsl_text.specs.Text.{text};
 ghost use Rattle.wgsl_text.specs.Tree.{Assign, NoStatements};
-ghost use Rattle.naga_wgsl_fns.specs.Appends.{Appends};
+ghost use Rattle.wgsl_pieces.specs.Appends.{Appends};
 ghost use Rattle.naga_wgsl_fns.specs.Texts.{CanWrite, emitted_text, let_line, naming_of, tells_types};
 
-use crate::error::Error;
 use crate::expression::write_bound_name;
 use crate::function::FunctionText;
-use crate::sinks::{put, put_two};
 use naga_back::Level;
 use naga_ir::{Block, Expression, Handle, Place, Range, Statement};
 use naga_scope::{Scope, binds};
 use naga_words::TextSink;
 use std::alloc::Global;
+use wgsl_pieces::error::Error;
+use wgsl_pieces::sinks::{put, put_two};
 
 impl FunctionText<'_> {
     /// The statements in order. `scope` is what is in scope before the first.

@@ -8,19 +8,19 @@ ghost use Rattle.naga_scope.specs.Standings.{handles_of};
 ghost use Rattle.wgsl_text.specs.Pieces.{expression_pieces};
 ghost use Rattle.wgsl_text.specs.Text.{text};
 ghost use Rattle.wgsl_text.specs.Tree.{Dereference};
-ghost use Rattle.naga_wgsl_fns.specs.Appends.{Appends};
+ghost use Rattle.wgsl_pieces.specs.Appends.{Appends};
 ghost use Rattle.naga_wgsl_fns.specs.Texts.{CanWrite, naming_of};
 
-use crate::error::Error;
 use crate::function::FunctionText;
-use crate::literal::write_literal;
-use crate::sinks::{put, put_three};
 use naga_back::{Baked, binary_operation_str};
 use naga_ir::{Expression, Handle};
 use naga_names::namer::NameKey;
 use naga_scope::{Scope, Standing};
 use naga_words::TextSink;
 use std::alloc::Global;
+use wgsl_pieces::error::Error;
+use wgsl_pieces::literal::write_literal;
+use wgsl_pieces::sinks::{put, put_three};
 
 impl FunctionText<'_> {
     /// An expression as a value: its name where it has one here, else what it is made of. A reference

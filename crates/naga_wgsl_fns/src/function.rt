@@ -4,18 +4,16 @@ ghost use Rattle.std.specs.Prelude.{◌≡◌, ◌<◌, ◌++◌, IfErr, IsTrue,
 ghost use Rattle.naga_form.specs.Form.{function_form, locals_form, parameter_form, parameters_form, result_form};
 ghost use Rattle.naga_form.specs.Types.{type_names};
 ghost use Rattle.naga_form.specs.Names.{HasNamesOf, module_names, name_in};
-ghost use Rattle.naga_info.specs.Accepted.{is_accepted, is_below};
-ghost use Rattle.naga_info.specs.Part.{is_written_so_far};
+ghost use Rattle.naga_acceptance.specs.Accepted.{is_accepted, is_below};
+ghost use Rattle.naga_acceptance.specs.Part.{is_written_so_far};
 ghost use Rattle.name_keys.specs.Keys.{names_in};
 ghost use Rattle.naga_words.specs.Sink.{IsBehind};
 ghost use Rattle.wgsl_text.specs.Declarations.{function_pieces, parameter_pieces, parameters_pieces, result_pieces};
 ghost use Rattle.wgsl_text.specs.Text.{text};
-ghost use Rattle.naga_wgsl_fns.specs.Appends.{Appends};
-ghost use Rattle.naga_wgsl_fns.specs.Errors.{IsWant};
+ghost use Rattle.wgsl_pieces.specs.Appends.{Appends};
+ghost use Rattle.wgsl_pieces.specs.Errors.{IsWant};
 ghost use Rattle.naga_wgsl_fns.specs.Texts.{CanWrite, StartsAt, first_text, head_text, local_text_at, locals_text, naming_of, separator, tells_types, text_of_function};
 
-use crate::error::Error;
-use crate::sinks::put;
 use back_flags::WriterFlags;
 use naga_back::Level;
 use naga_info::{FunctionInfo, ModuleInfo};
@@ -25,6 +23,8 @@ use naga_scope::Scope;
 use naga_words::TextSink;
 use std::alloc::Global;
 use std::collections::HashMap;
+use wgsl_pieces::error::Error;
+use wgsl_pieces::sinks::put;
 
 /// Writes the declaration of a function, with the line end behind its last line: the function, its
 /// arguments and its locals under their names in `names`, which has them all.

@@ -4,18 +4,8 @@
 #![tactic(auto)]
 
 mod body;
-pub mod error;
 mod expression;
 pub mod function;
-pub mod implemented;
-mod literal;
-pub mod part;
-pub mod sinks;
 mod types;
 
-pub use back_flags::{WriterFlags, flags};
-pub use error::Error;
 pub use function::write_function;
-pub use implemented::to_wgsl_if_implemented;
-pub use part::is_written_so_far;
-pub use sinks::put;

@@ -4,20 +4,20 @@ ghost use Rattle.std.specs.Prelude.{◌≡◌, ◌<◌, IsTrue, length};
 ghost use Rattle.std.specs.Option.{is_some};
 ghost use Rattle.naga_form.specs.Form.{told_type};
 ghost use Rattle.naga_form.specs.Types.{type_names};
-ghost use Rattle.naga_info.specs.Types.{spelling_of};
+ghost use Rattle.naga_acceptance.specs.Types.{spelling_of};
 ghost use Rattle.name_keys.specs.Keys.{names_in};
-ghost use Rattle.naga_wgsl_fns.specs.Appends.{Appends};
+ghost use Rattle.wgsl_pieces.specs.Appends.{Appends};
 ghost use Rattle.naga_wgsl_fns.specs.Texts.{CanWrite, has_word, resolution_text, tells_types, told_text, type_text};
 
-use crate::error::{Error, type_error};
 use crate::function::FunctionText;
-use crate::sinks::put;
 use back_flags::WriterFlags;
 use bitflags::Flags;
 use naga_info::TypeResolution;
 use naga_ir::{Expression, Handle, Type_};
 use naga_words::{TextSink, TypeContext, WriterTypeContext};
 use std::alloc::Global;
+use wgsl_pieces::error::{Error, type_error};
+use wgsl_pieces::sinks::put;
 
 impl FunctionText<'_> {
     /// The type with this handle.

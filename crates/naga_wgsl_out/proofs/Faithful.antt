@@ -5,9 +5,9 @@ use Rattle.std.specs.List.{enumerate_from, list_all}
 use Rattle.std.proofs.lemmas.Bool.{and_parts}
 use Rattle.naga_ir.specs.declared.module.Function.{Function}
 use Rattle.naga_ir.specs.declared.module.Module.{Module}
-use Rattle.naga_info.specs.Accepted.{is_accepted}
-use Rattle.naga_info.specs.Part.{is_written_so_far, function_is_written, names_nothing}
-use Rattle.naga_info.proofs.Accepting.{accepted_functions_fit, functions_fit_length}
+use Rattle.naga_acceptance.specs.Accepted.{is_accepted}
+use Rattle.naga_acceptance.specs.Part.{is_written_so_far, function_is_written, names_nothing}
+use Rattle.naga_acceptance.proofs.Accepting.{accepted_functions_fit, functions_fit_length}
 use Rattle.naga_info.specs.declared.info.ModuleInfo.{ModuleInfo}
 use Rattle.name_keys.specs.Keys.{NameMap}
 use Rattle.wgsl_text.specs.Reading.{Reads, HasOneReading, layout}
@@ -25,11 +25,11 @@ use Rattle.naga_form.specs.Resolution.{ResolvesAs}
 use Rattle.naga_form.proofs.Resolutions.{resolves, functions_are_written, written_parts}
 use Rattle.naga_form.proofs.Runs.{runs_as}
 use Rattle.naga_words.specs.Sink.{IsBehind}
-use Rattle.naga_wgsl_fns.specs.Appends.{Appends}
-use Rattle.naga_wgsl_fns.proofs.Appending.{appends_as}
-use Rattle.naga_wgsl_fns.specs.Errors.{IsWant, IsNotYetWritten, IsCustom}
-use Rattle.naga_wgsl_fns.specs.declared.error.Error.{Error}
-use Rattle.naga_wgsl_fns.specs.declared.error.Error.TheVariants.{FmtError, Custom, Unimplemented, Memory}
+use Rattle.wgsl_pieces.specs.Appends.{Appends}
+use Rattle.wgsl_pieces.proofs.Appending.{appends_as}
+use Rattle.wgsl_pieces.specs.Errors.{IsWant, IsNotYetWritten, IsCustom}
+use Rattle.wgsl_pieces.specs.declared.error.Error.{Error}
+use Rattle.wgsl_pieces.specs.declared.error.Error.TheVariants.{FmtError, Custom, Unimplemented, Memory}
 use Rattle.back_flags.specs.declared.flags.WriterFlags.{WriterFlags}
 use Rattle.naga_wgsl_fns.specs.Texts.{tells_types}
 use Rattle.naga_wgsl_out.specs.Writing.{lines_of, written_text}

@@ -7,8 +7,8 @@ use Rattle.naga_ir.specs.declared.module.Module.{Module}
 use Rattle.naga_ir.specs.declared.types.Type_.{Type_}
 use Rattle.naga_info.specs.declared.info.ExpressionInfo.{ExpressionInfo}
 use Rattle.naga_info.specs.declared.info.ModuleInfo.{ModuleInfo}
-use Rattle.naga_info.specs.Accepted.{is_accepted}
-use Rattle.naga_info.proofs.Accepting.{accepted_functions_fit, functions_fit_length}
+use Rattle.naga_acceptance.specs.Accepted.{is_accepted}
+use Rattle.naga_acceptance.proofs.Accepting.{accepted_functions_fit, functions_fit_length}
 use Rattle.name_keys.specs.Keys.{NameMap}
 use Rattle.wgsl_text.specs.Declarations.{function_pieces, functions_pieces}
 use Rattle.wgsl_text.specs.Text.{text}

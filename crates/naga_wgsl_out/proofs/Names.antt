@@ -21,9 +21,9 @@ use Rattle.naga_form.specs.Names.{reserved_prefixes, wgsl_names, module_names, f
 use Rattle.naga_form.proofs.Facts.{all_at, element}
 use Rattle.naga_form.proofs.Fits.{local_item}
 use Rattle.naga_form.proofs.Named.{name_there, name_is, function_item, argument_item, function_there, argument_there}
-use Rattle.naga_wgsl_fns.specs.Errors.{IsCustom}
-use Rattle.naga_wgsl_fns.specs.declared.error.Error.{Error}
-use Rattle.naga_wgsl_fns.specs.declared.error.Error.TheVariants.{Custom, Memory}
+use Rattle.wgsl_pieces.specs.Errors.{IsCustom}
+use Rattle.wgsl_pieces.specs.declared.error.Error.{Error}
+use Rattle.wgsl_pieces.specs.declared.error.Error.TheVariants.{Custom, Memory}
 use Rattle.naga_wgsl_out.specs.Refusals.{NamerIsFull, KeyIsOutOfRange, IsNamesRefusal, HasAllNames}
 
 pub told_full : (m : Module) (e : Error) → IsCustom (codes "namer is full") e → NamerIsFull m → IsNamesRefusal m e

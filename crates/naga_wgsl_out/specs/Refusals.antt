@@ -1,16 +1,16 @@
 -- Why a module is refused, each reason with what it says.
 use Rattle.std.specs.Prelude.{◌≡◌, ⊤, ℕ, List, ◌⊎◌, codes, string_bytes, IsTrue, IsFalse, Result, Ok, Err}
 use Rattle.naga_ir.specs.declared.module.Module.{Module}
-use Rattle.naga_info.specs.Part.{is_written_so_far}
+use Rattle.naga_acceptance.specs.Part.{is_written_so_far}
 use Rattle.naga_info.specs.declared.info.ModuleInfo.{ModuleInfo}
 use Rattle.naga_names.specs.Refusal.{SomeNameIsFull, SomeKeyIsFull}
 use Rattle.name_keys.specs.Keys.{NameMap}
 use Rattle.naga_names.specs.Reset.{labelled_items}
 use Rattle.naga_form.specs.Names.{wgsl_names, HasNamesOf, NamesAreCounted}
 use Rattle.naga_form.specs.Premises.{scope_holds}
-use Rattle.naga_wgsl_fns.specs.Errors.{IsSinkWant}
-use Rattle.naga_wgsl_fns.specs.declared.error.Error.{Error}
-use Rattle.naga_wgsl_fns.specs.declared.error.Error.TheVariants.{FmtError, Custom, Unimplemented, Memory}
+use Rattle.wgsl_pieces.specs.Errors.{IsSinkWant}
+use Rattle.wgsl_pieces.specs.declared.error.Error.{Error}
+use Rattle.wgsl_pieces.specs.declared.error.Error.TheVariants.{FmtError, Custom, Unimplemented, Memory}
 
 -- the names of some items of the module can't be told: so many of them have one base, or the key of one is out of range
 abbrev pub NamerIsFull : Module → Type 0

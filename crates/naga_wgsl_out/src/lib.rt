@@ -6,11 +6,11 @@
 #![tactic(auto)]
 
 pub mod back;
+pub mod info;
 pub mod types;
 pub mod wgsl;
 mod writer;
 
-pub use naga_info as info;
 pub use naga_ir as ir;
 pub use naga_names::{keyword_set, keywords, namer};
 pub use naga_words::{predeclared, to_wgsl};

@@ -1,4 +1,5 @@
 //! The writer of modules.
 
 pub use crate::writer::{Writer, write_string};
-pub use naga_wgsl_fns::{Error, WriterFlags, to_wgsl_if_implemented};
+pub use back_flags::WriterFlags;
+pub use wgsl_pieces::{Error, to_wgsl_if_implemented};

@@ -2,31 +2,34 @@
 
 ghost use Rattle.std.specs.Prelude.{◌≡◌, ◌<◌, ◌++◌, [], IfErr, IfOk, IsTrue, OnErr, OnOk, codes, length, string_bytes};
 ghost use Rattle.std.specs.List.{enumerate_from};
-ghost use Rattle.naga_info.specs.Accepted.{is_accepted};
-ghost use Rattle.naga_info.specs.Part.{is_written_so_far};
+ghost use Rattle.naga_acceptance.specs.Accepted.{is_accepted};
+ghost use Rattle.naga_acceptance.specs.Part.{is_written_so_far};
 ghost use Rattle.name_keys.specs.Keys.{names_in};
 ghost use Rattle.naga_words.specs.Sink.{IsBehind};
 ghost use Rattle.naga_form.specs.Names.{HasNamesOf};
 ghost use Rattle.naga_form.specs.Resolution.{ResolvesAs};
 ghost use Rattle.naga_form.specs.Bindings.{BindsAs};
-ghost use Rattle.naga_wgsl_fns.specs.Appends.{Appends};
+ghost use Rattle.wgsl_pieces.specs.Appends.{Appends};
 ghost use Rattle.naga_wgsl_fns.specs.Texts.{text_of_function};
 ghost use Rattle.naga_wgsl_out.specs.Headline.{EachReading, FaithfulWriting, answer_of, text_of};
 ghost use Rattle.naga_wgsl_out.specs.Refusals.{HasAllNames, IsNamesRefusal, TellsOfModule};
 ghost use Rattle.naga_wgsl_out.specs.Writing.{Writing, lines_of, written_text};
 
+use back_flags::WriterFlags;
+use naga_acceptance::is_written_so_far;
 use naga_info::ModuleInfo;
 use naga_ir::{Function, Handle, Module};
 use naga_names::keyword_set::{CaseInsensitiveKeywordSet, KeywordSet};
 use naga_names::keywords::{BUILTIN_IDENTIFIERS, RESERVED};
 use naga_names::namer::{NameKey, Namer, NamerError};
 use naga_scope::scope_holds;
-use naga_wgsl_fns::error::{custom, not_yet_written};
-use naga_wgsl_fns::{Error, WriterFlags, is_written_so_far, put, write_function};
+use naga_wgsl_fns::write_function;
 use naga_words::TextSink;
 use std::alloc::Global;
 use std::collections::HashMap;
 use std::marker::Model;
+use wgsl_pieces::error::{custom, not_yet_written};
+use wgsl_pieces::{Error, put};
 
 /// What no identifier begins with.
 const RESERVED_PREFIXES: [&str; 2] = ["__", "_naga"];

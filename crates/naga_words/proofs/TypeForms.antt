@@ -23,7 +23,7 @@ use Rattle.naga_enumerations.specs.declared.types.ScalarKind.{ScalarKind}
 use Rattle.naga_enumerations.specs.declared.types.ScalarKind.TheVariants as kind
 use Rattle.naga_enumerations.specs.declared.types.VectorSize.{VectorSize}
 use Rattle.naga_enumerations.specs.declared.types.VectorSize.TheVariants.{Bi, Tri, Quad}
-use Rattle.naga_info.proofs.Accepting.{map_some}
+use Rattle.naga_info.proofs.Options.{map_some}
 use Rattle.naga_info.specs.declared.info.TypeResolution.{TypeResolution}
 use Rattle.naga_info.specs.declared.info.TypeResolution.TheVariants as resolution
 use Rattle.naga_ir.specs.declared.types.ArraySize.{ArraySize}

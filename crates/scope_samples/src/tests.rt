@@ -1,4 +1,5 @@
-use naga_info::{ExpressionInfo, FunctionInfo, ModuleInfo, TypeResolution, accepts};
+use naga_acceptance::accepts;
+use naga_info::{ExpressionInfo, FunctionInfo, ModuleInfo, TypeResolution};
 use naga_ir::{
     AddressSpace, BinaryOperator, Expression, Function, FunctionArgument, FunctionResult, Handle,
     Literal, LocalVariable, Module, Range, Scalar, Statement, Type_, TypeInner,

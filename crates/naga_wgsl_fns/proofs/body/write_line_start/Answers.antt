@@ -1,4 +1,4 @@
-use Rattle.naga_wgsl_fns.proofs.Appending.{appends_stopped, stopped_for_memory}
+use Rattle.wgsl_pieces.proofs.Appending.{appends_stopped, stopped_for_memory}
 use Rattle.naga_wgsl_fns.proofs.body.write_line_start.Goals as goal
 
 pub returns-in_err-to_string : goal.returns-in_err-to_string

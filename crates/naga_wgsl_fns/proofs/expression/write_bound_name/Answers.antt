@@ -1,5 +1,5 @@
 use Rattle.std.proofs.Common.{rules, ◌<◌, ◌^◌, ◌∙◌}
-use Rattle.naga_wgsl_fns.proofs.Appending.{appends_as}
+use Rattle.wgsl_pieces.proofs.Appending.{appends_as}
 use Rattle.naga_wgsl_fns.proofs.Owns.{numbered_is}
 use Rattle.naga_wgsl_fns.proofs.expression.write_bound_name.Goals as goal
 

@@ -1,6 +1,6 @@
 use Rattle.naga_form.specs.Names.{module_names}
 use Rattle.name_keys.specs.Keys.{names_in}
-use Rattle.naga_wgsl_fns.proofs.Appending.{appends_as, appends_stopped, appends_then, stopped_first, stopped_then}
+use Rattle.wgsl_pieces.proofs.Appending.{appends_as, appends_stopped, appends_then, stopped_first, stopped_then}
 use Rattle.naga_wgsl_fns.proofs.Rows.{argument_row}
 use Rattle.naga_wgsl_fns.proofs.Wanted.{argument_has_word}
 use Rattle.naga_wgsl_fns.proofs.function.FunctionText.write_argument.Goals as goal

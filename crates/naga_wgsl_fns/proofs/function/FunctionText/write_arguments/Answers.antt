@@ -2,7 +2,7 @@ use Rattle.std.proofs.Common.{length, refl, sym, ap, ◌∙◌, subst, slice_get
 use Rattle.std.proofs.lemmas.List.{drop_all}
 use Rattle.std.proofs.lemmas.Option.{slice_get_read}
 use Rattle.naga_form.specs.Names.{module_names}
-use Rattle.naga_wgsl_fns.proofs.Appending.{IsAlong, along_start, along_more, along_stopped, along_end, appends_stopped, appends_as}
+use Rattle.wgsl_pieces.proofs.Appending.{IsAlong, along_start, along_more, along_stopped, along_end, appends_stopped, appends_as}
 use Rattle.naga_wgsl_fns.proofs.Rows.{arguments_left, arguments_step, no_arguments_left}
 use Rattle.naga_wgsl_fns.proofs.function.FunctionText.write_arguments.Goals as goal
 

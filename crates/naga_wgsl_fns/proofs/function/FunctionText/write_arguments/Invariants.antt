@@ -3,7 +3,7 @@ use Rattle.naga_form.specs.Form.{parameters_form}
 use Rattle.naga_form.specs.Names.{module_names}
 use Rattle.wgsl_text.specs.Declarations.{parameters_pieces}
 use Rattle.wgsl_text.specs.Text.{text}
-use Rattle.naga_wgsl_fns.proofs.Appending.{IsAlong}
+use Rattle.wgsl_pieces.proofs.Appending.{IsAlong}
 use Rattle.naga_wgsl_fns.proofs.Rows.{arguments_left}
 use Rattle.naga_wgsl_fns.proofs.function.FunctionText.write_arguments.Given as goal
 

@@ -1,7 +1,7 @@
 use Rattle.std.proofs.Common.{◌≤◌, ◌+◌, ◌-◌, List, IsTrue, drop, length, refl, sym, ap, subst, ◌∙◌}
 use Rattle.std.proofs.lemmas.List.{drop_all}
 use Rattle.naga_form.specs.Form.{told_type}
-use Rattle.naga_info.specs.Accepted.{block_fits}
+use Rattle.naga_acceptance.specs.Accepted.{block_fits}
 use Rattle.naga_ir.specs.StatementTree.{BlockTree, simple, emit, store, return}
 use Rattle.naga_ir.specs.StatementViews.{tree_of, block_of}
 use Rattle.naga_ir.specs.declared.statement.Statement.{Statement}
@@ -12,7 +12,7 @@ use Rattle.shader_runs.specs.Program.{from}
 use Rattle.shader_runs.specs.Scope.{after_emit}
 use Rattle.naga_form.specs.Types.{type_names}
 use Rattle.naga_wgsl_fns.specs.Texts.{naming_of, tells_types}
-use Rattle.naga_wgsl_fns.proofs.Appending.{IsAlong, along_start, along_more, along_stopped, along_done, appends_stopped}
+use Rattle.wgsl_pieces.proofs.Appending.{IsAlong, along_start, along_more, along_stopped, along_done, appends_stopped}
 use Rattle.naga_wgsl_fns.proofs.Blocks.{lines_left, emit_lines, store_lines, return_lines, statement_at, fits_parts, no_other_statement}
 use Rattle.naga_wgsl_fns.proofs.Wanted.{none_given_by, emit_within, store_within, return_within}
 use Rattle.naga_wgsl_fns.proofs.function.FunctionText.write_block.Goals as goal

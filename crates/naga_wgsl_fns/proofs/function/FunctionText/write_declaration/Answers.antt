@@ -7,7 +7,7 @@ use Rattle.wgsl_text.specs.Lines.{statements_pieces}
 use Rattle.wgsl_text.specs.Text.{text}
 use Rattle.naga_form.specs.Types.{type_names}
 use Rattle.naga_wgsl_fns.specs.Texts.{naming_of, tells_types}
-use Rattle.naga_wgsl_fns.proofs.Appending.{appends_as, appends_stopped, appends_then, stopped_as, stopped_first, stopped_for_memory, stopped_then, wrote_as}
+use Rattle.wgsl_pieces.proofs.Appending.{appends_as, appends_stopped, appends_then, stopped_as, stopped_first, stopped_for_memory, stopped_then, wrote_as}
 use Rattle.naga_wgsl_fns.proofs.Rows.{function_row}
 use Rattle.naga_wgsl_fns.proofs.Wanted.{ordered}
 use Rattle.naga_wgsl_fns.proofs.function.FunctionText.write_declaration.Goals as goal

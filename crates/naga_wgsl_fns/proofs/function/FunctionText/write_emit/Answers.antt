@@ -6,7 +6,7 @@ use Rattle.naga_scope.specs.Standings.{handles_of}
 use Rattle.shader_runs.specs.Scope.{after_emit, after_one}
 use Rattle.naga_form.specs.Types.{type_names}
 use Rattle.naga_wgsl_fns.specs.Texts.{naming_of, tells_types}
-use Rattle.naga_wgsl_fns.proofs.Appending.{along_start, along_more, along_stopped, along_done, appends_stopped}
+use Rattle.wgsl_pieces.proofs.Appending.{along_start, along_more, along_stopped, along_done, appends_stopped}
 use Rattle.naga_wgsl_fns.proofs.Blocks.{lets_left, lets_step, after_step}
 use Rattle.naga_wgsl_fns.proofs.Rows.{from_none}
 use Rattle.naga_wgsl_fns.proofs.Wanted.{none_given}

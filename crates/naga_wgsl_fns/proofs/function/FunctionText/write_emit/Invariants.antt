@@ -5,7 +5,7 @@ use Rattle.shader_runs.specs.Program.{from}
 use Rattle.shader_runs.specs.Scope.{after_emit}
 use Rattle.naga_form.specs.Types.{type_names}
 use Rattle.naga_wgsl_fns.specs.Texts.{naming_of, tells_types}
-use Rattle.naga_wgsl_fns.proofs.Appending.{IsAlong}
+use Rattle.wgsl_pieces.proofs.Appending.{IsAlong}
 use Rattle.naga_wgsl_fns.proofs.Blocks.{lets_left}
 use Rattle.naga_wgsl_fns.proofs.function.FunctionText.write_emit.Given as goal
 

@@ -6,7 +6,7 @@ use Rattle.wgsl_text.specs.Lines.{statement_pieces}
 use Rattle.wgsl_text.specs.Text.{text}
 use Rattle.naga_form.specs.Types.{type_names}
 use Rattle.naga_wgsl_fns.specs.Texts.{let_line, naming_of, tells_types}
-use Rattle.naga_wgsl_fns.proofs.Appending.{appends_as, wrote_as, wrote_nothing}
+use Rattle.wgsl_pieces.proofs.Appending.{appends_as, wrote_as, wrote_nothing}
 use Rattle.naga_wgsl_fns.proofs.function.FunctionText.write_emitted.Goals as goal
 
 pub returns-then-binds : goal.returns-then-binds

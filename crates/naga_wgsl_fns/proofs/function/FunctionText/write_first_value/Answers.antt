@@ -1,12 +1,12 @@
 use Rattle.std.proofs.Common.{ap, sym, subst, ◌∙◌, length, IsTrue}
 use Rattle.std.proofs.lemmas.Bool.{ltb-true}
-use Rattle.naga_info.specs.Accepted.{is_below}
+use Rattle.naga_acceptance.specs.Accepted.{is_below}
 use Rattle.naga_form.specs.Form.{value_form}
 use Rattle.shader_runs.specs.Scope.{Handles}
 use Rattle.wgsl_text.specs.Pieces.{expression_pieces}
 use Rattle.wgsl_text.specs.Text.{text}
 use Rattle.naga_wgsl_fns.specs.Texts.{naming_of, first_text}
-use Rattle.naga_wgsl_fns.proofs.Appending.{appends_as, appends_stopped, appends_then, stopped_as, stopped_first, stopped_then, wrote_as}
+use Rattle.wgsl_pieces.proofs.Appending.{appends_as, appends_stopped, appends_then, stopped_as, stopped_first, stopped_then, wrote_as}
 use Rattle.naga_wgsl_fns.proofs.function.FunctionText.write_first_value.Goals as goal
 
 pub returns-in_err-put-in-Some : goal.returns-in_err-put-in-Some

@@ -1,5 +1,5 @@
 use Rattle.name_keys.specs.Keys.{names_in}
-use Rattle.naga_wgsl_fns.proofs.Appending.{appends_stopped, appends_then, stopped_first, stopped_then}
+use Rattle.wgsl_pieces.proofs.Appending.{appends_stopped, appends_then, stopped_first, stopped_then}
 use Rattle.naga_wgsl_fns.proofs.Wanted.{function_is_named}
 use Rattle.naga_wgsl_fns.proofs.function.FunctionText.write_head.Goals as goal
 

@@ -8,7 +8,7 @@ use Rattle.wgsl_text.specs.Lines.{statement_pieces}
 use Rattle.wgsl_text.specs.Text.{text}
 use Rattle.naga_form.specs.Types.{type_names}
 use Rattle.naga_wgsl_fns.specs.Texts.{naming_of, tells_types}
-use Rattle.naga_wgsl_fns.proofs.Appending.{appends_as, appends_stopped, appends_then, stopped_first, stopped_then}
+use Rattle.wgsl_pieces.proofs.Appending.{appends_as, appends_stopped, appends_then, stopped_first, stopped_then}
 use Rattle.naga_wgsl_fns.proofs.Wanted.{bound_is}
 use Rattle.naga_wgsl_fns.proofs.Rows.{let_row}
 use Rattle.naga_wgsl_fns.proofs.function.FunctionText.write_let.Goals as goal

@@ -4,7 +4,7 @@ use Rattle.wgsl_text.specs.Declarations.{locals_pieces}
 use Rattle.wgsl_text.specs.Text.{text}
 use Rattle.naga_form.specs.Types.{type_names}
 use Rattle.naga_wgsl_fns.specs.Texts.{naming_of, local_text_at}
-use Rattle.naga_wgsl_fns.proofs.Appending.{along_start, along_more, along_stopped, along_done, appends_as, appends_stopped, appends_then, stopped_as, stopped_first, wrote_as}
+use Rattle.wgsl_pieces.proofs.Appending.{along_start, along_more, along_stopped, along_done, appends_as, appends_stopped, appends_then, stopped_as, stopped_first, wrote_as}
 use Rattle.naga_wgsl_fns.proofs.Rows.{locals_more, locals_none, group_row}
 use Rattle.naga_wgsl_fns.proofs.function.FunctionText.write_locals.Goals as goal
 

@@ -4,7 +4,7 @@ use Rattle.wgsl_text.specs.Declarations.{locals_pieces}
 use Rattle.wgsl_text.specs.Text.{text}
 use Rattle.naga_form.specs.Types.{type_names}
 use Rattle.naga_wgsl_fns.specs.Texts.{naming_of}
-use Rattle.naga_wgsl_fns.proofs.Appending.{IsAlong}
+use Rattle.wgsl_pieces.proofs.Appending.{IsAlong}
 use Rattle.naga_wgsl_fns.proofs.function.FunctionText.write_locals.Given as goal
 
 abbrev pub invariant-loop-index : goal.invariant-loop-index

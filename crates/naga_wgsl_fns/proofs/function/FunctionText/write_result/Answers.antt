@@ -6,7 +6,7 @@ use Rattle.naga_form.specs.Form.{result_form}
 use Rattle.naga_form.specs.Names.{module_names}
 use Rattle.wgsl_text.specs.Declarations.{result_pieces}
 use Rattle.wgsl_text.specs.Text.{text}
-use Rattle.naga_wgsl_fns.proofs.Appending.{appends_as, appends_stopped, stopped_first}
+use Rattle.wgsl_pieces.proofs.Appending.{appends_as, appends_stopped, stopped_first}
 use Rattle.naga_wgsl_fns.proofs.Rows.{result_row}
 use Rattle.naga_wgsl_fns.proofs.function.FunctionText.write_result.Goals as goal
 

@@ -4,7 +4,7 @@ use Rattle.naga_scope.specs.Standings.{handles_of}
 use Rattle.wgsl_text.specs.Lines.{statement_pieces}
 use Rattle.wgsl_text.specs.Text.{text}
 use Rattle.naga_wgsl_fns.specs.Texts.{naming_of}
-use Rattle.naga_wgsl_fns.proofs.Appending.{appends_as, appends_stopped, appends_then, stopped_first, stopped_then}
+use Rattle.wgsl_pieces.proofs.Appending.{appends_as, appends_stopped, appends_then, stopped_first, stopped_then}
 use Rattle.naga_wgsl_fns.proofs.Rows.{return_row, return_nothing_row}
 use Rattle.naga_wgsl_fns.proofs.function.FunctionText.write_return.Goals as goal
 

@@ -1,7 +1,7 @@
 use Rattle.naga_form.specs.Form.{as_reference, plain_form, value_form}
 use Rattle.naga_scope.specs.Standings.{handles_of}
 use Rattle.naga_wgsl_fns.specs.Texts.{naming_of}
-use Rattle.naga_wgsl_fns.proofs.Appending.{appends_as, appends_stopped, appends_then, stopped_first, stopped_then}
+use Rattle.wgsl_pieces.proofs.Appending.{appends_as, appends_stopped, appends_then, stopped_first, stopped_then}
 use Rattle.naga_wgsl_fns.proofs.Rows.{assign_row}
 use Rattle.naga_wgsl_fns.proofs.function.FunctionText.write_store.Goals as goal
 

@@ -1,7 +1,7 @@
 use Rattle.std.proofs.Common.{sym, ap, ◌∙◌}
 use Rattle.name_keys.specs.Keys.{names_in}
 use Rattle.naga_wgsl_fns.specs.Texts.{tells_types}
-use Rattle.naga_wgsl_fns.proofs.Appending.{appends_as, appends_stopped, appends_then, stopped_first}
+use Rattle.wgsl_pieces.proofs.Appending.{appends_as, appends_stopped, appends_then, stopped_first}
 use Rattle.naga_wgsl_fns.proofs.Wanted.{known_at, known_within_infos, spelled_at, told_row}
 use Rattle.naga_wgsl_fns.proofs.function.FunctionText.write_told_type.Goals as goal
 

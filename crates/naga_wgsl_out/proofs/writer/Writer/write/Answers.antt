@@ -1,6 +1,6 @@
 use Rattle.std.proofs.Common.{◌∙◌, sym, subst, ◌++◌, ◌≡◌}
 use Rattle.std.specs.Prelude.{true, OnOk, OnErr}
-use Rattle.naga_info.specs.Part.{is_written_so_far}
+use Rattle.naga_acceptance.specs.Part.{is_written_so_far}
 use Rattle.naga_words.specs.Sink.{IsBehind}
 use Rattle.naga_wgsl_out.specs.Headline.{EachReading, FaithfulWriting}
 use Rattle.naga_form.specs.Resolution.{ResolvesAs}

@@ -1,0 +1,10 @@
+use Rattle.std.proofs.Common.{ap, ◌∙◌}
+use Rattle.std.specs.List.{list_all}
+use Rattle.naga_acceptance.specs.Accepted.{local_fits}
+use Rattle.naga_acceptance.proofs.Fitting.{list_all-pairs}
+use Rattle.naga_acceptance.proofs.acceptance.locals_fit.Goals as goal
+
+pub loop-local-init : goal.loop-local-init
+loop-local-init c =
+    ap (λ ps. list_all (λ p. local_fits c.args.types.now c.args.infos.now p.1) ps) (c.into_iter-local-iterator.ensures.into_iter_gives ∙ c.iter-local-items.ensures)
+    ∙ list_all-pairs (local_fits c.args.types.now c.args.infos.now) 0 c.args.locals.now

@@ -1,0 +1,57 @@
+-- How often each expression of a function is used.
+use Rattle.std.specs.Prelude.{ℕ, ◌+◌, ◌-◌, ◌^◌, ◌==◌, min, List, [], ◌∷◌, ◌++◌, map, count_by}
+use Rattle.std.specs.List.{flat_map}
+use Prim.Native.Nat.{zero, suc}
+use Rattle.naga_ir.specs.declared.module.Function.{Function}
+use Rattle.naga_ir.specs.declared.module.EntryPoint.{EntryPoint}
+use Rattle.naga_info.specs.declared.info.ExpressionInfo.{ExpressionInfo}
+use Rattle.naga_acceptance.specs.Operands.{expression_operands, block_operands}
+
+-- the operand places of a function's expressions and statements
+abbrev pub operand_places : Function → List ℕ
+operand_places f = flat_map expression_operands f.expressions ++ block_operands f.body
+
+-- how many of the places hold the handle
+abbrev pub use_count : List ℕ → ℕ → ℕ
+use_count places handle = count_by (λ held. held == handle) places
+
+-- the greatest `usize`
+abbrev pub greatest_count : ℕ
+greatest_count = 2 ^ 64 - 1
+
+-- what is known of expressions, the first of which has the handle `handle`, with these counts
+abbrev pub counted_from : (ℕ → ℕ) → (handle : ℕ) → List ExpressionInfo → List ExpressionInfo
+counted_from count handle [] = []
+counted_from count handle (e ∷ es) = record e { ref_count = min (count handle) greatest_count } ∷ counted_from count (handle + 1) es
+
+-- what is known of a function's expressions, each with the number of operand places that hold it
+abbrev pub counted : Function → List ExpressionInfo → List ExpressionInfo
+counted f es = counted_from (use_count (operand_places f)) 0 es
+
+-- the same for functions in order; what is known of a function that there isn't stays
+abbrev pub all_counted : List Function → List (List ExpressionInfo) → List (List ExpressionInfo)
+all_counted (f ∷ fs) (es ∷ ess) = counted f es ∷ all_counted fs ess
+all_counted _ ess = ess
+
+abbrev pub functions_of : List EntryPoint → List Function
+functions_of points = map (λ e. e.function) points
+
+-- what is known of an expression, with one more use of it
+abbrev pub used_again : ExpressionInfo → ExpressionInfo
+used_again e = record e { ref_count = min (e.ref_count + 1) greatest_count }
+
+-- one more use of the handle
+abbrev pub with_use : List ExpressionInfo → ℕ → List ExpressionInfo
+with_use [] handle = []
+with_use (e ∷ es) zero = used_again e ∷ es
+with_use (e ∷ es) (suc handle) = e ∷ with_use es handle
+
+-- one more use of each of the handles
+abbrev pub with_uses : List ExpressionInfo → List ℕ → List ExpressionInfo
+with_uses es [] = es
+with_uses es (handle ∷ handles) = with_uses (with_use es handle) handles
+
+-- what is known of expressions, without any use
+abbrev pub without_uses : List ExpressionInfo → List ExpressionInfo
+without_uses [] = []
+without_uses (e ∷ es) = record e { ref_count = 0 } ∷ without_uses es

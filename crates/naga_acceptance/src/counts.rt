@@ -1,0 +1,358 @@
+//! Counts how often each expression is used.
+
+ghost use Rattle.std.specs.Prelude.{◌≡◌};
+ghost use Rattle.std.specs.Option.{option_to_list};
+ghost use Rattle.std.specs.List.{flat_map};
+ghost use Rattle.naga_ir.specs.StatementViews.{tree_of, cases_of};
+ghost use Rattle.naga_acceptance.specs.Operands.{level_operands, query_operands, cooperative_operands, expression_operands, atomic_operands, gather_operands, ray_operands, statement_operands, block_operands, cases_operands};
+ghost use Rattle.naga_acceptance.specs.Accepted.{is_accepted};
+ghost use Rattle.naga_acceptance.specs.Counts.{counted, all_counted, functions_of, with_use, with_uses, without_uses};
+
+use naga_info::{ExpressionInfo, FunctionInfo, ModuleInfo};
+use naga_ir::{
+    Arena, AtomicFunction, Block, CooperativeData, EntryPoint, Expression, Function, GatherMode,
+    Handle, ImageQuery, Module, Place, RayPipelineFunction, SampleLevel, Statement, SwitchCase,
+};
+
+#[tactic(auto, using(crate::proofs::Counting::with_use_set, crate::proofs::Counting::with_use_past))]
+fn add_use(infos: &mut [ExpressionInfo], handle: Handle<Expression>)
+    ensures { infos.new ≡ with_use infos.old handle }
+{
+    let index = handle.index();
+    if index < infos.len() {
+        let info = &mut infos[index];
+        info.ref_count = info.ref_count.saturating_add(1);
+    }
+}
+
+fn add_uses(infos: &mut [ExpressionInfo], handles: &[Handle<Expression>])
+    ensures { infos.new ≡ with_uses infos.old handles.now }
+{
+    for handle in handles {
+        add_use(infos, *handle);
+    }
+}
+
+fn add_optional_use(infos: &mut [ExpressionInfo], handle: Option<Handle<Expression>>)
+    ensures { infos.new ≡ with_uses infos.old (option_to_list handle) }
+{
+    if let Some(handle) = handle {
+        add_use(infos, handle);
+    }
+}
+
+fn add_level_uses(infos: &mut [ExpressionInfo], level: SampleLevel)
+    ensures { infos.new ≡ with_uses infos.old (level_operands level) }
+{
+    match level {
+        SampleLevel::Auto | SampleLevel::Zero => {}
+        SampleLevel::Exact(handle) | SampleLevel::Bias(handle) => add_use(infos, handle),
+        SampleLevel::Gradient { x, y } => add_uses(infos, &[x, y]),
+    }
+}
+
+fn add_query_uses(infos: &mut [ExpressionInfo], query: ImageQuery)
+    ensures { infos.new ≡ with_uses infos.old (query_operands query) }
+{
+    match query {
+        ImageQuery::Size { level } => add_optional_use(infos, level),
+        ImageQuery::NumLevels | ImageQuery::NumLayers | ImageQuery::NumSamples => {}
+    }
+}
+
+fn add_cooperative_uses(infos: &mut [ExpressionInfo], place: CooperativeData)
+    ensures { infos.new ≡ with_uses infos.old (cooperative_operands place) }
+{
+    add_uses(infos, &[place.pointer, place.stride])
+}
+
+#[tactic(auto, using(crate::proofs::Counting::with_uses_append))]
+fn add_expression_uses(infos: &mut [ExpressionInfo], expression: &Expression)
+    ensures { infos.new ≡ with_uses infos.old (expression_operands expression.now) }
+{
+    match expression {
+        Expression::Literal(_)
+        | Expression::Constant(_)
+        | Expression::Override(_)
+        | Expression::ZeroValue(_)
+        | Expression::FunctionArgument(_)
+        | Expression::GlobalVariable(_)
+        | Expression::LocalVariable(_)
+        | Expression::CallResult(_)
+        | Expression::AtomicResult { .. }
+        | Expression::WorkGroupUniformLoadResult { .. }
+        | Expression::RayQueryProceedResult
+        | Expression::SubgroupBallotResult
+        | Expression::SubgroupOperationResult { .. } => {}
+        Expression::Compose { components, .. } => add_uses(infos, components),
+        Expression::Access { base, index } => add_uses(infos, &[*base, *index]),
+        Expression::AccessIndex { base, .. } => add_use(infos, *base),
+        Expression::Splat { value, .. } => add_use(infos, *value),
+        Expression::Swizzle { vector, .. } => add_use(infos, *vector),
+        Expression::Load { pointer } => add_use(infos, *pointer),
+        Expression::ImageSample {
+            image,
+            sampler,
+            coordinate,
+            array_index,
+            offset,
+            level,
+            depth_ref,
+            ..
+        } => {
+            add_uses(infos, &[*image, *sampler, *coordinate]);
+            add_optional_use(infos, *array_index);
+            add_optional_use(infos, *offset);
+            add_level_uses(infos, *level);
+            add_optional_use(infos, *depth_ref)
+        }
+        Expression::ImageLoad {
+            image,
+            coordinate,
+            array_index,
+            sample,
+            level,
+        } => {
+            add_uses(infos, &[*image, *coordinate]);
+            add_optional_use(infos, *array_index);
+            add_optional_use(infos, *sample);
+            add_optional_use(infos, *level)
+        }
+        Expression::ImageQuery { image, query } => {
+            add_use(infos, *image);
+            add_query_uses(infos, *query)
+        }
+        Expression::Unary { expr, .. }
+        | Expression::Derivative { expr, .. }
+        | Expression::As { expr, .. } => add_use(infos, *expr),
+        Expression::Binary { left, right, .. } => add_uses(infos, &[*left, *right]),
+        Expression::Select {
+            condition,
+            accept,
+            reject,
+        } => add_uses(infos, &[*condition, *accept, *reject]),
+        Expression::Relational { argument, .. } => add_use(infos, *argument),
+        Expression::Math {
+            arg,
+            arg1,
+            arg2,
+            arg3,
+            ..
+        } => {
+            add_use(infos, *arg);
+            add_optional_use(infos, *arg1);
+            add_optional_use(infos, *arg2);
+            add_optional_use(infos, *arg3)
+        }
+        Expression::ArrayLength(array) => add_use(infos, *array),
+        Expression::RayQueryGetIntersection { query, .. }
+        | Expression::RayQueryVertexPositions { query, .. } => add_use(infos, *query),
+        Expression::CooperativeLoad { data_, .. } => add_cooperative_uses(infos, *data_),
+        Expression::CooperativeMultiplyAdd { a, b, c } => add_uses(infos, &[*a, *b, *c]),
+    }
+}
+
+fn add_atomic_uses(infos: &mut [ExpressionInfo], fun: AtomicFunction)
+    ensures { infos.new ≡ with_uses infos.old (atomic_operands fun) }
+{
+    match fun {
+        AtomicFunction::Exchange { compare } => add_optional_use(infos, compare),
+        _ => {}
+    }
+}
+
+fn add_gather_uses(infos: &mut [ExpressionInfo], mode: GatherMode)
+    ensures { infos.new ≡ with_uses infos.old (gather_operands mode) }
+{
+    match mode {
+        GatherMode::BroadcastFirst | GatherMode::QuadSwap(_) => {}
+        GatherMode::Broadcast(index)
+        | GatherMode::Shuffle(index)
+        | GatherMode::ShuffleDown(index)
+        | GatherMode::ShuffleUp(index)
+        | GatherMode::ShuffleXor(index)
+        | GatherMode::QuadBroadcast(index) => add_use(infos, index),
+    }
+}
+
+fn add_ray_uses(infos: &mut [ExpressionInfo], fun: RayPipelineFunction)
+    ensures { infos.new ≡ with_uses infos.old (ray_operands fun) }
+{
+    match fun {
+        RayPipelineFunction::TraceRay {
+            acceleration_structure,
+            descriptor,
+            payload,
+        } => add_uses(infos, &[acceleration_structure, descriptor, payload]),
+    }
+}
+
+#[cycle(statements)]
+#[tactic(auto, using(crate::proofs::Counting::with_uses_append))]
+fn add_statement_uses(infos: &mut [ExpressionInfo], statement: &Statement)
+    ensures { infos.new ≡ with_uses infos.old (statement_operands (tree_of statement.now)) }
+{
+    match statement {
+        Statement::Emit(_)
+        | Statement::Break
+        | Statement::Continue
+        | Statement::Kill
+        | Statement::ControlBarrier(_)
+        | Statement::MemoryBarrier(_) => {}
+        Statement::Block(block) => add_block_uses(infos, block),
+        Statement::If {
+            condition,
+            accept,
+            reject,
+        } => {
+            add_use(infos, *condition);
+            add_block_uses(infos, accept);
+            add_block_uses(infos, reject)
+        }
+        Statement::Switch { selector, cases } => {
+            add_use(infos, *selector);
+            add_cases_uses(infos, cases)
+        }
+        Statement::Loop {
+            body,
+            continuing,
+            break_if,
+        } => {
+            add_block_uses(infos, body);
+            add_block_uses(infos, continuing);
+            add_optional_use(infos, *break_if)
+        }
+        Statement::Return { value } => add_optional_use(infos, *value),
+        Statement::Store { pointer, value } => add_uses(infos, &[*pointer, *value]),
+        Statement::ImageStore {
+            image,
+            coordinate,
+            array_index,
+            value,
+        } => {
+            add_uses(infos, &[*image, *coordinate]);
+            add_optional_use(infos, *array_index);
+            add_use(infos, *value)
+        }
+        Statement::Atomic {
+            pointer,
+            fun,
+            value,
+            ..
+        } => {
+            add_use(infos, *pointer);
+            add_atomic_uses(infos, *fun);
+            add_use(infos, *value)
+        }
+        Statement::ImageAtomic {
+            image,
+            coordinate,
+            array_index,
+            fun,
+            value,
+        } => {
+            add_uses(infos, &[*image, *coordinate]);
+            add_optional_use(infos, *array_index);
+            add_atomic_uses(infos, *fun);
+            add_use(infos, *value)
+        }
+        Statement::WorkGroupUniformLoad { pointer, .. } => add_use(infos, *pointer),
+        Statement::Call { arguments, .. } => add_uses(infos, arguments),
+        Statement::RayQuery { query } => add_use(infos, *query),
+        Statement::SubgroupBallot { predicate, .. } => add_optional_use(infos, *predicate),
+        Statement::SubgroupGather { mode, argument, .. } => {
+            add_gather_uses(infos, *mode);
+            add_use(infos, *argument)
+        }
+        Statement::SubgroupCollectiveOperation { argument, .. } => add_use(infos, *argument),
+        Statement::CooperativeStore { target, data_ } => {
+            add_use(infos, *target);
+            add_cooperative_uses(infos, *data_)
+        }
+        Statement::RayPipelineFunction(fun) => add_ray_uses(infos, *fun),
+    }
+}
+
+#[cycle(statements)]
+#[tactic(auto, using(crate::proofs::Counting::block_step))]
+fn add_block_uses(infos: &mut [ExpressionInfo], block: &Block)
+    ensures { infos.new ≡ with_uses infos.old (block_operands block.now) }
+{
+    for statement in block.as_slice() {
+        add_statement_uses(infos, statement);
+    }
+}
+
+#[cycle(statements)]
+#[tactic(auto, using(crate::proofs::Counting::cases_step))]
+fn add_cases_uses(infos: &mut [ExpressionInfo], cases: &[SwitchCase])
+    ensures { infos.new ≡ with_uses infos.old (cases_operands (cases_of cases.now)) }
+{
+    for case in cases {
+        add_block_uses(infos, &case.body);
+    }
+}
+
+fn clear_counts(infos: &mut [ExpressionInfo])
+    ensures { infos.new ≡ without_uses infos.old }
+{
+    for info in infos.iter_mut() {
+        info.ref_count = 0;
+    }
+}
+
+fn add_function_uses(infos: &mut [ExpressionInfo], expressions: &Arena<Expression>)
+    ensures { infos.new ≡ with_uses infos.old (flat_map expression_operands expressions.now) }
+{
+    for (_, expression) in expressions.iter() {
+        add_expression_uses(infos, expression);
+    }
+}
+
+/// Counts the uses of a function's expressions.
+#[tactic(auto, using(crate::proofs::Counting::counted_by_uses))]
+fn count_function(info: &mut FunctionInfo, function: &Function)
+    ensures { info.new ≡ counted function.now info.old }
+{
+    let infos = info.expressions.as_mut_slice();
+    clear_counts(infos);
+    add_function_uses(infos, &function.expressions);
+    add_block_uses(infos, &function.body);
+}
+
+fn count_functions(infos: &mut [FunctionInfo], functions: &Arena<Function>)
+    ensures { infos.new ≡ all_counted functions.now infos.old }
+{
+    for (index, info) in infos.iter_mut().enumerate() {
+        if index < functions.len() {
+            count_function(info, &functions[Place::from_index(index)]);
+        }
+    }
+}
+
+fn count_entry_points(infos: &mut [FunctionInfo], entry_points: &[EntryPoint])
+    ensures { infos.new ≡ all_counted (functions_of entry_points.now) infos.old }
+{
+    for (index, info) in infos.iter_mut().enumerate() {
+        if index < entry_points.len() {
+            count_function(info, &entry_points[index].function);
+        }
+    }
+}
+
+/// Sets each `ref_count` to the number of operand places in its function's expressions and
+/// statements that hold the expression's handle, at most the greatest `usize`. The results of
+/// statements and the initialisers of locals are no operand places. Nothing else changes; it takes
+/// no memory and always succeeds. A module that was accepted before is accepted afterwards.
+///
+/// Where the module has no function or entry point at some place of the info, what stands there
+/// stays as it was, and a handle outside the info counts for nothing.
+pub fn count(info: &mut ModuleInfo, module: &Module)
+    ensures functions { info.new.functions.items ≡ all_counted «module».now.functions info.old.functions.items }
+    ensures entry_points { info.new.entry_points.items ≡ all_counted (functions_of «module».now.entry_points.items) info.old.entry_points.items }
+    ensures types { info.new.const_expression_types ≡ info.old.const_expression_types }
+    ensures accepted { is_accepted «module».now info.new ≡ is_accepted «module».now info.old }
+{
+    count_functions(info.functions.as_mut_slice(), &module.functions);
+    count_entry_points(info.entry_points.as_mut_slice(), &module.entry_points);
+}

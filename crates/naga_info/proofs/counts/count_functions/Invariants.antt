@@ -1,6 +1,0 @@
-use Rattle.naga_info.specs.Counts.{all_counted}
-use Rattle.naga_info.proofs.Writing.{IsWritten}
-use Rattle.naga_info.proofs.counts.count_functions.Given as goal
-
-abbrev pub invariant-loop-index : goal.invariant-loop-index
-invariant-loop-index l = IsWritten (all_counted l.functions l.initial.infos) l.initial.infos l.infos l.index

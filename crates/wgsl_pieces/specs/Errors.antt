@@ -1,0 +1,42 @@
+-- What the writer's errors say.
+use Rattle.std.specs.Prelude.{◌≡◌, ⊤, ℕ, ◌<◌, List, codes, string_bytes}
+use Rattle.naga_words.specs.declared.sink.SinkError.{SinkError}
+use Rattle.naga_words.specs.declared.sink.SinkError.TheVariants.{Failed, Memory}
+use Rattle.naga_words.specs.declared.types.TypeTextError.{TypeTextError}
+use Rattle.naga_words.specs.declared.types.TypeTextError.TheVariants as type_error
+use Rattle.wgsl_pieces.specs.declared.error.Error.{Error}
+use Rattle.wgsl_pieces.specs.declared.error.Error.TheVariants.{FmtError, Memory as Want, Custom as CustomError, Unimplemented}
+
+-- want of memory is told as such, whoever wanted it
+abbrev pub error_of_sink : SinkError → Error
+error_of_sink Failed = FmtError Failed
+error_of_sink (Memory e) = Want e
+
+-- why a sink failed
+abbrev pub IsSinkWant : (old new : ℕ) → SinkError → Type 0
+IsSinkWant old new Failed = old < new
+IsSinkWant old new (Memory e) = ⊥
+
+-- why a text was not written to a sink: memory ran out, or the sink failed once more. There is no other reason
+abbrev pub IsWant : (old new : ℕ) → Error → Type 0
+IsWant old new (FmtError e) = IsSinkWant old new e
+IsWant old new (Want e) = ⊤
+IsWant old new _ = ⊥
+
+-- the refusal of what is not written so far, or want of memory for its text
+abbrev pub IsNotYetWritten : Error → Type 0
+IsNotYetWritten (Unimplemented message) = string_bytes message ≡ codes "not yet written"
+IsNotYetWritten (Want e) = ⊤
+IsNotYetWritten _ = ⊥
+
+-- the refusal with this text, or want of memory for it
+abbrev pub IsCustom : List ℕ → Error → Type 0
+IsCustom text (CustomError message) = string_bytes message ≡ text
+IsCustom text (Want e) = ⊤
+IsCustom text _ = ⊥
+
+-- why a type was not written: for want of what the sink or the call wanted, or because it has no form
+abbrev pub IsErrorOfType : TypeTextError → Error → Type 0
+IsErrorOfType (type_error.Sink s) error = error ≡ error_of_sink s
+IsErrorOfType (type_error.Memory e) error = error ≡ Want e
+IsErrorOfType type_error.NoForm error = IsCustom (codes "type without a WGSL form") error
