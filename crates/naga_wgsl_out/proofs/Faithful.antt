@@ -10,7 +10,7 @@ use Rattle.naga_acceptance.specs.Part.{is_written_so_far, function_is_written, n
 use Rattle.naga_acceptance.proofs.Accepting.{accepted_functions_fit, functions_fit_length}
 use Rattle.naga_info.specs.declared.info.ModuleInfo.{ModuleInfo}
 use Rattle.name_keys.specs.Keys.{NameMap}
-use Rattle.wgsl_text.specs.Reading.{Reads, HasOneReading, layout}
+use Rattle.wgsl_text.specs.Reading.{Reads, HasOneReading}
 use Rattle.wgsl_text.specs.Text.{tokens}
 use Rattle.wgsl_text.specs.Tree.{Program}
 use Rattle.wgsl_text.proofs.OneReading.{program_has_one_reading}
@@ -35,7 +35,7 @@ use Rattle.naga_wgsl_fns.specs.Texts.{tells_types}
 use Rattle.naga_wgsl_out.specs.Writing.{lines_of, written_text}
 use Rattle.naga_wgsl_out.proofs.Functions.{written_lines}
 use Rattle.naga_wgsl_out.specs.Refusals.{IsNamesRefusal, IsRefusal, HasAllNames}
-use Rattle.naga_wgsl_out.specs.Headline.{AppendsOneReading, EachReading, FaithfulWriting}
+use Rattle.naga_wgsl_out.specs.Headline.{EachReading, FaithfulWriting}
 
 -- what stands behind the same text is the same
 same_behind : (held a b : List ℕ) → held ++ a ≡ held ++ b → a ≡ b

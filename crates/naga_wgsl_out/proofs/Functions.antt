@@ -1,15 +1,13 @@
 -- The text of a module from those of its functions.
-use Rattle.std.proofs.Common.{◌≡◌, ℕ, zero, suc, true, pred, unwrap_or, Some, arith, subst, slice_get, ◌+◌, ◌<◌, Bool, List, [], ◌∷◌, ◌++◌, length, drop, get_or, codes, append_assoc, append-nil, add-one, drop-cons, refl, sym, ap, ◌∙◌}
-use Rattle.std.specs.List.{flat_map, enumerate_from}
+use Rattle.std.proofs.Common.{◌≡◌, ℕ, zero, suc, true, pred, unwrap_or, Some, arith, subst, slice_get, ◌+◌, ◌<◌, List, [], ◌∷◌, ◌++◌, length, drop, get_or, codes, append_assoc, append-nil, add-one, drop-cons, refl, sym, ap, ◌∙◌}
+use Rattle.std.specs.List.{enumerate_from}
 use Rattle.std.specs.Option.{option_map_or}
 use Rattle.naga_ir.specs.declared.module.Function.{Function}
 use Rattle.naga_ir.specs.declared.module.Module.{Module}
-use Rattle.naga_ir.specs.declared.types.Type_.{Type_}
 use Rattle.naga_info.specs.declared.info.ExpressionInfo.{ExpressionInfo}
 use Rattle.naga_info.specs.declared.info.ModuleInfo.{ModuleInfo}
 use Rattle.naga_acceptance.specs.Accepted.{is_accepted}
 use Rattle.naga_acceptance.proofs.Accepting.{accepted_functions_fit, functions_fit_length}
-use Rattle.name_keys.specs.Keys.{NameMap}
 use Rattle.wgsl_text.specs.Declarations.{function_pieces, functions_pieces}
 use Rattle.wgsl_text.specs.Text.{text}
 use Rattle.wgsl_text.specs.Token.{LineEnd}

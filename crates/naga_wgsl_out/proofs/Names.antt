@@ -1,40 +1,25 @@
 -- What a `Namer` that was reset by a module knows of the module's names.
-use Rattle.std.proofs.Common.{◌≡◌, ℕ, zero, suc, ◌<◌, ◌≤◌, ◌^◌, Bool, true, false, List, ◌∷◌, length, take, codes, Some, refl, sym, ap, subst, ◌∙◌, arith, inl, inr}
-use Rattle.std.specs.Prelude.{IsTrue, slice_get, map}
+use Rattle.std.proofs.Common.{◌≡◌, ℕ, zero, suc, ◌<◌, ◌≤◌, ◌^◌, true, false, List, length, Some, sym, ap, subst, ◌∙◌, arith}
+use Rattle.std.specs.Prelude.{slice_get, map, Result, Ok, Err, OnOk, IfErr, IsErr}
 use Rattle.std.specs.FinSet as set
-use Rattle.std.specs.List.{list_all}
 use Rattle.std.proofs.lemmas.Bool.{ltb-true}
 use Rattle.naga_ir.specs.declared.module.Function.{Function}
 use Rattle.naga_ir.specs.declared.module.Module.{Module}
 use Rattle.naga_keywords.specs.Words.{Words}
 use Rattle.naga_keywords.specs.declared.keywords.TheConstants.{RESERVED, BUILTIN_IDENTIFIERS}
-use Rattle.naga_names.specs.Naming.{Names, new_names, label_or, name_after}
+use Rattle.naga_names.specs.Naming.{Names, new_names}
 use Rattle.naga_names.specs.Refusal.{SomeNameIsFull, SomeKeyIsFull, IsResetRefusal}
 use Rattle.naga_names.specs.declared.namer.NamerError.{NamerError}
-use Rattle.naga_names.specs.declared.namer.NamerError.TheVariants.{Full, KeyFull}
 use Rattle.wgsl_text.specs.Keywords.{reserved_words, builtin_words}
 use Rattle.name_keys.specs.Keys.{NameMap}
-use Rattle.naga_names.specs.Reset.{labelled_items, labels_of, key_fits, HasNamedItems}
+use Rattle.naga_names.specs.Reset.{labelled_items, key_fits, HasNamedItems}
 use Rattle.name_keys.specs.declared.key.NameKey.TheVariants as key
 use Rattle.naga_names.proofs.NamedItems.{named_there, few_labels, local_stands}
-use Rattle.naga_form.specs.Names.{reserved_prefixes, wgsl_names, module_names, function_name, argument_name, HasNamesOf, NamesAreCounted}
+use Rattle.naga_form.specs.Names.{reserved_prefixes, wgsl_names, module_names, function_name, HasNamesOf}
 use Rattle.naga_form.proofs.Facts.{all_at, element}
 use Rattle.naga_form.proofs.Fits.{local_item}
-use Rattle.naga_form.proofs.Named.{name_there, name_is, function_item, argument_item, function_there, argument_there}
-use Rattle.wgsl_pieces.specs.Errors.{IsCustom}
-use Rattle.wgsl_pieces.specs.declared.error.Error.{Error}
-use Rattle.wgsl_pieces.specs.declared.error.Error.TheVariants.{Custom, Memory}
-use Rattle.naga_wgsl_out.specs.Refusals.{NamerIsFull, KeyIsOutOfRange, IsNamesRefusal, HasAllNames}
-
-pub told_full : (m : Module) (e : Error) → IsCustom (codes "namer is full") e → NamerIsFull m → IsNamesRefusal m e
-told_full m (Custom message) is full = inl (is, full)
-told_full m (Memory e) is full = tt
-told_full m _ is full = absurd is
-
-pub told_out_of_range : (m : Module) (e : Error) → IsCustom (codes "name key out of range") e → KeyIsOutOfRange m → IsNamesRefusal m e
-told_out_of_range m (Custom message) is full = inr (is, full)
-told_out_of_range m (Memory e) is full = tt
-told_out_of_range m _ is full = absurd is
+use Rattle.naga_form.proofs.Named.{name_is, function_item, argument_item, function_there, argument_there}
+use Rattle.naga_wgsl_out.specs.Refusals.{NamerIsFull, KeyIsOutOfRange, HasAllNames}
 
 module _ (m : Module) (before now : NameMap) (names : Names) (has : HasNamedItems wgsl_names before (labelled_items wgsl_names m) names now) where
   -- the map has an item's name
@@ -73,17 +58,20 @@ unfolding wgsl_names reserved_words builtin_words
 start_is reserved builtin caseless prefixes r b c p = λ i. new_names (r i) (b i) (c i) (p i)
 
 -- after a `reset` with these that succeeded
-pub after_reset : (m : Module) (start : Names) (before now : NameMap) (names : Names) → start ≡ wgsl_names → HasNamedItems start before (labelled_items start m) names now → (SomeNameIsFull start (labelled_items start m) → ⊥) → (SomeKeyIsFull (labelled_items start m) → ⊥) → HasAllNames m now
+after_reset : (m : Module) (start : Names) (before now : NameMap) (names : Names) → start ≡ wgsl_names → HasNamedItems start before (labelled_items start m) names now → (SomeNameIsFull start (labelled_items start m) → ⊥) → (SomeKeyIsFull (labelled_items start m) → ⊥) → HasAllNames m now
 after_reset m start before now names is has told keys =
     has_all m before now names (subst (λ s. HasNamedItems s before (labelled_items s m) names now) is has) (λ full. told (subst (λ s. SomeNameIsFull s (labelled_items s m)) (sym is) full)) (λ full. keys (subst (λ s. SomeKeyIsFull (labelled_items s m)) (sym is) full))
 
--- where it answered that a counter is full
-pub reason_full : (m : Module) (start : Names) (e : NamerError) → start ≡ wgsl_names → e ≡ Full → IsResetRefusal start m e → NamerIsFull m
-reason_full m start e is full reason = subst (λ s. SomeNameIsFull s (labelled_items s m)) is (subst (λ e. IsResetRefusal start m e) full reason)
-
--- where it answered that a key is out of range
-pub reason_out_of_range : (m : Module) (start : Names) (e : NamerError) → start ≡ wgsl_names → e ≡ KeyFull → IsResetRefusal start m e → KeyIsOutOfRange m
-reason_out_of_range m start e is full reason = subst (λ s. SomeKeyIsFull (labelled_items s m)) is (subst (λ e. IsResetRefusal start m e) full reason)
-
-pub no_error : false ≡ true → ⊥
+no_error : false ≡ true → ⊥
 no_error e = cc
+
+-- what its answer says of the names
+pub names_after_reset : (answer : Result Unit NamerError) (m : Module) (start : Names) (before now : NameMap) (names : Names) → start ≡ wgsl_names
+    → OnOk answer (HasNamedItems start before (labelled_items start m) names now) → (SomeNameIsFull start (labelled_items start m) → IsErr answer) → (SomeKeyIsFull (labelled_items start m) → IsErr answer) → OnOk answer (HasAllNames m now)
+names_after_reset (Ok _) m start before now names is has full keys = after_reset m start before now names is has (λ told. no_error (full told)) (λ told. no_error (keys told))
+names_after_reset (Err _) m start before now names is has full keys = tt
+
+-- and of its reason
+pub refusal_of_reset : (answer : Result Unit NamerError) (m : Module) (start : Names) → start ≡ wgsl_names → IfErr answer (IsResetRefusal start m) → IfErr answer (IsResetRefusal wgsl_names m)
+refusal_of_reset (Ok _) m start is reason = tt
+refusal_of_reset (Err e) m start is reason = subst (λ s. IsResetRefusal s m e) is reason

@@ -4,11 +4,13 @@ use Rattle.naga_ir.specs.declared.module.Module.{Module}
 use Rattle.naga_acceptance.specs.Part.{is_written_so_far}
 use Rattle.naga_info.specs.declared.info.ModuleInfo.{ModuleInfo}
 use Rattle.naga_names.specs.Refusal.{SomeNameIsFull, SomeKeyIsFull}
+use Rattle.naga_names.specs.declared.namer.NamerError.{NamerError}
+use Rattle.naga_names.specs.declared.namer.NamerError.TheVariants as namer_error
 use Rattle.name_keys.specs.Keys.{NameMap}
 use Rattle.naga_names.specs.Reset.{labelled_items}
 use Rattle.naga_form.specs.Names.{wgsl_names, HasNamesOf, NamesAreCounted}
 use Rattle.naga_form.specs.Premises.{scope_holds}
-use Rattle.wgsl_pieces.specs.Errors.{IsSinkWant}
+use Rattle.wgsl_pieces.specs.Errors.{IsCustom, IsSinkWant}
 use Rattle.wgsl_pieces.specs.declared.error.Error.{Error}
 use Rattle.wgsl_pieces.specs.declared.error.Error.TheVariants.{FmtError, Custom, Unimplemented, Memory}
 
@@ -28,6 +30,12 @@ abbrev pub IsNamesRefusal : Module → Error → Type 0
 IsNamesRefusal m (Custom message) = IsToldOf m (string_bytes message)
 IsNamesRefusal m (Memory e) = ⊤
 IsNamesRefusal m _ = ⊥
+
+-- what is told where a `Namer` answers an error: of its memory as such, else by name
+abbrev pub IsErrorOfNames : NamerError → Error → Type 0
+IsErrorOfNames namer_error.Full error = IsCustom (codes "namer is full") error
+IsErrorOfNames namer_error.KeyFull error = IsCustom (codes "name key out of range") error
+IsErrorOfNames (namer_error.Memory e) error = error ≡ Memory e
 
 -- some operand is used where it is out of scope, or some `Emit` is refused by the rules of scope
 abbrev pub IsOutOfScope : Module → ModuleInfo → (message : List ℕ) → Type 0

@@ -6,13 +6,14 @@ ghost use Rattle.naga_acceptance.specs.Accepted.{is_accepted};
 ghost use Rattle.naga_acceptance.specs.Part.{is_written_so_far};
 ghost use Rattle.name_keys.specs.Keys.{names_in};
 ghost use Rattle.naga_words.specs.Sink.{IsBehind};
-ghost use Rattle.naga_form.specs.Names.{HasNamesOf};
+ghost use Rattle.naga_names.specs.Refusal.{IsResetRefusal};
+ghost use Rattle.naga_form.specs.Names.{HasNamesOf, wgsl_names};
 ghost use Rattle.naga_form.specs.Resolution.{ResolvesAs};
 ghost use Rattle.naga_form.specs.Bindings.{BindsAs};
 ghost use Rattle.wgsl_pieces.specs.Appends.{Appends};
 ghost use Rattle.naga_wgsl_fns.specs.Texts.{text_of_function};
 ghost use Rattle.naga_wgsl_out.specs.Headline.{EachReading, FaithfulWriting, answer_of, text_of};
-ghost use Rattle.naga_wgsl_out.specs.Refusals.{HasAllNames, IsNamesRefusal, TellsOfModule};
+ghost use Rattle.naga_wgsl_out.specs.Refusals.{HasAllNames, IsErrorOfNames, IsNamesRefusal, TellsOfModule};
 ghost use Rattle.naga_wgsl_out.specs.Writing.{Writing, lines_of, written_text};
 
 use back_flags::WriterFlags;
@@ -167,21 +168,42 @@ fn name_items(
     ensures ok { OnOk result (HasAllNames «module».now (names_in names.new)) }
     ensures err { IfErr result (IsNamesRefusal «module».now) }
 {
+    match reset_for_wgsl(alloc, module, namer, names) {
+        Ok(()) => Ok(()),
+        Err(error) => Err(names_error(alloc, error)),
+    }
+}
+
+/// Resets the namer by the module, with the words and the prefixes of WGSL.
+fn reset_for_wgsl(
+    alloc: Global,
+    module: &Module,
+    namer: &mut Namer,
+    names: &mut HashMap<NameKey, String>,
+) -> Result<(), NamerError>
+    ensures ok { OnOk result (HasAllNames «module».now (names_in names.new)) }
+    ensures err { IfErr result (IsResetRefusal wgsl_names «module».now) }
+{
     let reserved = KeywordSet::from_slice(alloc, RESERVED)?;
     let builtin = KeywordSet::from_slice(alloc, BUILTIN_IDENTIFIERS)?;
-    let caseless = CaseInsensitiveKeywordSet::new(alloc);
-    match namer.reset(
+    namer.reset(
         module,
         reserved,
         builtin,
-        caseless,
+        CaseInsensitiveKeywordSet::new(alloc),
         &RESERVED_PREFIXES,
         names,
-    ) {
-        Ok(()) => Ok(()),
-        Err(NamerError::Full) => Err(custom(alloc, "namer is full")),
-        Err(NamerError::KeyFull) => Err(custom(alloc, "name key out of range")),
-        Err(NamerError::Memory(error)) => Err(Error::Memory(error)),
+    )
+}
+
+/// The refusal of a module whose items get no names.
+fn names_error(alloc: Global, error: NamerError) -> Error
+    ensures { IsErrorOfNames error result }
+{
+    match error {
+        NamerError::Full => custom(alloc, "namer is full"),
+        NamerError::KeyFull => custom(alloc, "name key out of range"),
+        NamerError::Memory(error) => Error::Memory(error),
     }
 }
 

@@ -1,7 +1,6 @@
-use Rattle.std.proofs.Common.{◌≡◌, ◌<◌, ◌+◌, ◌++◌, codes, ℕ, length, drop, sym, ap, subst, refl, ◌∙◌}
+use Rattle.std.proofs.Common.{◌+◌, ◌++◌, codes, length, drop, ap, ◌∙◌}
 use Rattle.std.specs.List.{enumerate_from}
-use Rattle.std.proofs.lemmas.List.{drop_all}
-use Rattle.std.proofs.lemmas.Iterator.Consumers.{YieldsList-from_first, YieldsList-at, YieldsList-so_far, YieldsList-turn, YieldsList-end}
+use Rattle.std.proofs.lemmas.Iterator.Consumers.{YieldsList-from_first, YieldsList-at, YieldsList-turn, YieldsList-end}
 use Rattle.wgsl_pieces.proofs.Appending.{along_start, along_more, along_stopped, along_done, appends_stopped}
 use Rattle.naga_wgsl_fns.specs.Texts.{text_of_function}
 use Rattle.naga_wgsl_out.specs.Writing.{lines_of}
