@@ -1,7 +1,7 @@
 -- Whether a module is accepted doesn't depend on the counts.
 use Rattle.std.proofs.Common.{◌≡◌, ℕ, zero, suc, ◌+◌, ◌&&◌, List, [], ◌∷◌, ◌++◌, length, Option, Some, None, refl, ap, ◌∙◌, nat_lt, nat_le, nat_eq, cond}
 use Rattle.std.specs.List.{list_all, flat_map, enumerate_from}
-use Rattle.std.specs.Option.{option_map, option_map_or, option_and_then, is_some}
+use Rattle.std.specs.Option.{is_some}
 use Rattle.naga_ir.specs.StatementTree.{SimpleStatement, emit, return, store, StatementTree, simple, BlockTree, no_statements, statement}
 use Rattle.naga_ir.specs.declared.expression.Expression.{Expression}
 use Rattle.naga_ir.specs.declared.expression.Expression.TheVariants as expression
@@ -12,10 +12,10 @@ use Rattle.naga_ir.specs.declared.module.Module.{Module}
 use Rattle.naga_ir.specs.declared.types.Type_.{Type_}
 use Rattle.naga_info.specs.declared.info.ExpressionInfo.{ExpressionInfo}
 use Rattle.naga_info.specs.declared.info.ModuleInfo.{ModuleInfo}
-use Rattle.naga_acceptance.specs.Types.{word_at, spelling_at, spelling_of, pointee_of, pointee_at, operator_word, is_alike}
-use Rattle.naga_acceptance.specs.Accepted.{declares_functions, is_scalar_type, special_types_fit, signature_fits, names_fit, operand_fits, expected_type, is_within, expression_fits, expressions_fit_from, expressions_fit, value_fits, local_fits, return_fits, simple_fits, statement_fits, block_fits, function_fits, functions_fit, is_accepted}
+use Rattle.naga_acceptance.specs.Types.{word_at, spelling_at, spelling_of, pointee_at, operator_word, is_alike}
+use Rattle.naga_acceptance.specs.Accepted.{declares_functions, is_scalar_type, special_types_fit, signature_fits, names_fit, expected_type, is_within, expressions_fit_from, value_fits, local_fits, return_fits, simple_fits, statement_fits, block_fits, function_fits, functions_fit, is_accepted}
 use Rattle.naga_acceptance.specs.Operations.{operation_of, expression_operations, all_operations, all_agree, operators_agree}
-use Rattle.naga_acceptance.specs.Counts.{counted_from, counted, all_counted, use_count, operand_places}
+use Rattle.naga_acceptance.specs.Counts.{counted_from, all_counted, use_count, operand_places}
 
 -- the counts don't change the types, nor how many there are
 same_length : (c : ℕ → ℕ) (n : ℕ) (es : List ExpressionInfo) → length (counted_from c n es) ≡ length es

@@ -1,5 +1,5 @@
 -- What is written so far of the modules. Others are refused as not yet written.
-use Rattle.std.specs.Prelude.{ℕ, Bool, true, false, ◌&&◌, List, length, ◌==◌, Option, Some, slice_get}
+use Rattle.std.specs.Prelude.{Bool, true, false, ◌&&◌, List, length, ◌==◌, Option, Some, slice_get}
 use Rattle.std.specs.List.{list_all}
 use Rattle.std.specs.Option.{option_map_or, is_some, is_none}
 use Rattle.indexmap.specs.IndexMap.{keys}

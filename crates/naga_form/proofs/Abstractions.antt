@@ -18,7 +18,7 @@ use Rattle.name_keys.specs.Keys.{NameMap}
 use Rattle.wgsl_text.specs.Token.{SuffixI, SuffixLi}
 use Rattle.wgsl_text.specs.Tree.{LeastInteger, LeastLong, Suffixed, TypeSpecifier}
 use Rattle.shader_runs.specs.Value.{Whole, ValueType, ShortCircuitAnd, ShortCircuitOr}
-use Rattle.shader_runs.specs.Program.{Expression, handle_type, expression_of, binds, from}
+use Rattle.shader_runs.specs.Program.{handle_type, expression_of, binds, from}
 use Rattle.shader_runs.specs.Scope.{Naming, at_start, Standing, Named, Handles, bound_name, given_after, given_by, after_one, after}
 use Rattle.shader_runs.specs.Text.{LiteralOf, before, ReturnLine, Apply, LogicalOf, more, no_more, Let, Assign}
 use Rattle.shader_runs.specs.Form.{written_below, names_from, variables_from, form_function, Plain, AsValue, AsPlace, let_if}

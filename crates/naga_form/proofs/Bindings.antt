@@ -1,29 +1,26 @@
 -- The `let`s of what is written are those of the bound handles.
-use Rattle.std.proofs.Common.{◌≡◌, ℕ, suc, ◌+◌, ◌-◌, Bool, true, false, ◌&&◌, List, [], ◌∷◌, ◌++◌, map, length, Option, Some, None, refl, sym, ap, subst, ◌∙◌, arith, append_assoc}
+use Rattle.std.proofs.Common.{◌≡◌, ℕ, suc, ◌+◌, ◌-◌, Bool, true, false, List, [], ◌∷◌, ◌++◌, map, length, Option, Some, None, refl, sym, ap, subst, ◌∙◌, arith}
 use Rattle.std.specs.Prelude.{IsTrue, slice_get, cond, ◌==◌}
 use Rattle.std.specs.List.{list_all, filter}
 use Rattle.std.proofs.lemmas.List.{map-append}
 use Rattle.indexmap.specs.IndexMap.{keys}
 use Rattle.naga_ir.specs.StatementTree.{emit, store, return, StatementTree, simple, BlockTree, no_statements, statement}
-use Rattle.naga_ir.specs.declared.expression.Expression as ir
 use Rattle.naga_ir.specs.declared.module.Function as ir_function
 use Rattle.naga_ir.specs.declared.module.Module.{Module}
-use Rattle.naga_ir.specs.declared.types.Type_.{Type_}
 use Rattle.naga_info.specs.declared.info.ExpressionInfo.{ExpressionInfo}
 use Rattle.naga_info.specs.declared.info.ModuleInfo.{ModuleInfo}
 use Rattle.naga_acceptance.specs.Accepted.{is_accepted, function_fits, functions_fit}
 use Rattle.naga_acceptance.proofs.Accepting.{accepted_parts}
-use Rattle.name_keys.specs.Keys.{NameMap}
 use Rattle.shader_runs.specs.Program.{binds, from}
-use Rattle.shader_runs.specs.Scope.{Handles, Naming, at_start, bound_name, given_after, given_by, after_one, after_emit, after}
+use Rattle.shader_runs.specs.Scope.{Handles, Naming, at_start, bound_name, given_after, given_by, after_one, after}
 use Rattle.wgsl_text.specs.Tree.{TypeSpecifier}
 use Rattle.wgsl_text.specs.Tree as tree
 use Rattle.naga_form.specs.Types.{type_names}
 use Rattle.naga_form.specs.Names.{module_names, numbered_name}
 use Rattle.naga_form.specs.Shapes.{statement_shape, function_naming}
-use Rattle.naga_form.specs.Form.{as_value, own_if, plain_form, let_form, then_if, lets_form, return_line, line_form, lines_form, function_form, functions_form, written_program, told_type}
+use Rattle.naga_form.specs.Form.{as_value, own_if, plain_form, let_form, then_if, lets_form, return_line, line_form, lines_form, functions_form, written_program, told_type}
 use Rattle.naga_form.specs.Premises.{nothing_named}
-use Rattle.naga_form.specs.Bindings.{binding_of, bindings_of, emitted_by, emitted_handles, bound_names, module_bindings, BindsAs}
+use Rattle.naga_form.specs.Bindings.{binding_of, bindings_of, emitted_by, emitted_handles, module_bindings, BindsAs}
 use Rattle.naga_form.proofs.Facts.{and_left, and_right}
 use Rattle.naga_form.proofs.Fits.{not_given}
 use Rattle.naga_form.proofs.Resolutions.{nothing_outside}

@@ -1,5 +1,5 @@
 -- What is known of each expression of an accepted function.
-use Rattle.std.proofs.Common.{[], ◌≤◌, arith, ◌≡◌, ℕ, suc, zero, Bool, true, false, ◌&&◌, List, ◌∷◌, length, ◌<◌, Option, Some, None, refl, sym, ap, subst}
+use Rattle.std.proofs.Common.{[], arith, ◌≡◌, ℕ, suc, zero, Bool, true, false, ◌&&◌, List, ◌∷◌, length, ◌<◌, Option, Some, None, refl, sym, ap, subst}
 use Rattle.std.specs.Prelude.{IsTrue, slice_get, unwrap_or}
 use Rattle.std.specs.List.{list_all}
 use Rattle.std.specs.Option.{option_and_then}

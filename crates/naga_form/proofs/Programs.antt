@@ -1,8 +1,8 @@
 -- What is written for a module is a program of the grammar.
 use Rattle.std.proofs.Common.{[], ◌≡◌, ℕ, suc, ◌+◌, ◌<◌, ◌^◌, Bool, true, false, pos, negsuc, List, ◌∷◌, length, Option, Some, None, nat_lt, refl, sym, subst, arith, codes, zero, ◌-◌, ◌≤◌, not, ◌&&◌, ◌||◌, ◌++◌, decimal, nat_eq, nat_le, ap, ◌∙◌, true≢false}
-use Rattle.std.specs.Prelude.{IsTrue, slice_get, unwrap_or, ◌==◌, if◌then◌else◌, get_or, cond}
+use Rattle.std.specs.Prelude.{IsTrue, slice_get, ◌==◌, if◌then◌else◌, get_or, cond}
 use Rattle.std.specs.List.{list_all}
-use Rattle.std.specs.Option.{is_some, option_map, option_and_then}
+use Rattle.std.specs.Option.{is_some, option_map}
 use Rattle.std.proofs.lemmas.Bool.{eqb-false, ltb-true, leb-true, lt-ltb}
 use Rattle.naga_ir.specs.StatementTree.{BlockTree, no_statements, statement, emit, store, return, StatementTree, simple}
 use Rattle.naga_ir.specs.declared.expression.Expression as ir
@@ -12,14 +12,9 @@ use Rattle.naga_ir.specs.declared.module.Function as ir_function
 use Rattle.naga_ir.specs.declared.module.FunctionArgument.{FunctionArgument}
 use Rattle.naga_ir.specs.declared.module.FunctionResult.{FunctionResult}
 use Rattle.naga_ir.specs.declared.module.Module.{Module}
-use Rattle.naga_enumerations.specs.declared.types.ScalarKind.{ScalarKind}
-use Rattle.naga_enumerations.specs.declared.types.ScalarKind.TheVariants as kind
-use Rattle.naga_ir.specs.declared.types.TypeInner.{TypeInner}
-use Rattle.naga_ir.specs.declared.types.TypeInner.TheVariants as inner
-use Rattle.naga_ir.specs.declared.types.Type_.{Type_}
 use Rattle.naga_info.specs.declared.info.ExpressionInfo.{ExpressionInfo}
 use Rattle.naga_info.specs.declared.info.ModuleInfo.{ModuleInfo}
-use Rattle.naga_acceptance.specs.Types.{word_of_width, word_of_type, literal_word, literal_is_within, spelling_of, is_alike, scalar_word, word_at}
+use Rattle.naga_acceptance.specs.Types.{literal_word, literal_is_within, spelling_of, is_alike, word_at}
 use Rattle.naga_acceptance.specs.Accepted.{is_scalar_type, is_below, is_accepted, function_fits, functions_fit, local_fits}
 use Rattle.naga_acceptance.proofs.Accepting.{accepted_parts, function_fits_word_at, function_fits_expressions, function_fits_parts, expressions_fit_known, local_word_at, local_fits_parts}
 use Rattle.wgsl_text.specs.Words.{IsIdentifier, is_reserved, is_letter, is_word_byte, all_word_bytes, stands_in, is_builtin}
@@ -39,9 +34,6 @@ use Rattle.std.specs.Char.{is_ascii_digit}
 use Rattle.std.specs.Str.{bytes_eq}
 use Rattle.std.proofs.lemmas.Option.{slice_get_within, slice_get-map}
 use Rattle.std.proofs.lemmas.Slice.Eq.{bytes_eq-Decides}
-use Rattle.naga_enumerations.specs.declared.types.AddressSpace.{AddressSpace}
-use Rattle.naga_enumerations.specs.declared.types.AddressSpace.TheVariants as space
-use Rattle.naga_info.specs.Resolution.{inner_of}
 use Rattle.naga_names.proofs.NamedItems.{local_stands}
 use Rattle.indexmap.specs.IndexMap.{keys}
 use Rattle.naga_ir.specs.declared.expression.Expression.TheVariants as expression

@@ -6,7 +6,7 @@ use Rattle.std.specs.Option.{option_map, option_map_or}
 use Rattle.std.specs.Str.{bytes_eq}
 use Rattle.std.proofs.lemmas.Bool.{eqb-true, eqb-false, eq-eqb}
 use Rattle.std.proofs.lemmas.List.{map-append}
-use Rattle.std.proofs.lemmas.Option.{slice_get-map, slice_get_within}
+use Rattle.std.proofs.lemmas.Option.{slice_get_within}
 use Rattle.std.proofs.lemmas.Slice.Eq.{bytes_eq-Decides}
 use Rattle.indexmap.specs.IndexMap.{keys}
 use Rattle.naga_ir.specs.StatementTree.{emit, store, return, StatementTree, simple, BlockTree, no_statements, statement}
@@ -17,27 +17,25 @@ use Rattle.naga_ir.specs.declared.module.Function as ir_function
 use Rattle.naga_ir.specs.declared.module.FunctionArgument.{FunctionArgument}
 use Rattle.naga_ir.specs.declared.module.LocalVariable.{LocalVariable}
 use Rattle.naga_ir.specs.declared.module.Module.{Module}
-use Rattle.naga_ir.specs.declared.types.Type_.{Type_}
 use Rattle.naga_info.specs.declared.info.ExpressionInfo.{ExpressionInfo}
 use Rattle.naga_info.specs.declared.info.ModuleInfo.{ModuleInfo}
 use Rattle.naga_acceptance.specs.Accepted.{is_accepted, is_scalar_type, declares_functions, function_fits, functions_fit}
 use Rattle.naga_acceptance.specs.Types.{word_at}
 use Rattle.naga_acceptance.specs.Part.{is_written_so_far, function_is_written, local_is_written, is_literal, names_nothing, is_unbound, expression_is_written, block_is_written}
 use Rattle.naga_acceptance.proofs.Accepting.{accepted_parts, function_fits_word_at, local_word_at}
-use Rattle.name_keys.specs.Keys.{NameMap}
 use Rattle.shader_runs.specs.Program as shapes
 use Rattle.shader_runs.specs.Program.{binds, expression_of, operands_of, from}
-use Rattle.shader_runs.specs.Scope.{Standing, Absent, Barred, Everywhere, Inline, Named, Handles, Naming, at_start, start_standing, is_pure, is_constant_below, usable_all, unbound, emitted, bound_name, given_after, given_after_all, given_by, after_one, after_emit, after}
+use Rattle.shader_runs.specs.Scope.{Standing, Absent, Named, Handles, Naming, at_start, start_standing, is_pure, is_constant_below, usable_all, unbound, emitted, bound_name, given_after, given_by, after_one, after_emit, after}
 use Rattle.shader_runs.specs.World.{update}
 use Rattle.shader_runs.specs.Premises.{NameKey, FixedKey, NumberedKey, ArgumentName, LocalName, IsName, name_at}
 use Rattle.wgsl_text.specs.Tree.{TypeSpecifier, Statements, Parameter}
 use Rattle.wgsl_text.specs.Tree as tree
 use Rattle.naga_form.specs.Names.{NamesAreCounted, module_names, argument_name, local_name, numbered_name}
 use Rattle.naga_form.specs.Types.{value_type, type_names}
-use Rattle.naga_form.specs.Shapes.{expression_shape, statement_shape, function_naming}
-use Rattle.naga_form.specs.Form.{PlainForm, ValueForm, ReferenceForm, as_value, as_reference, own_plain, own_if, standing_plain, plain_below, plain_form, value_form, let_form, then_if, lets_form, return_line, line_form, lines_form, locals_form, parameters_form, function_form, functions_form, written_program, told_type}
+use Rattle.naga_form.specs.Shapes.{statement_shape, function_naming}
+use Rattle.naga_form.specs.Form.{PlainForm, ValueForm, ReferenceForm, as_value, as_reference, own_plain, own_if, standing_plain, plain_below, plain_form, value_form, let_form, then_if, lets_form, line_form, lines_form, locals_form, parameters_form, function_form, functions_form, written_program, told_type}
 use Rattle.naga_form.specs.Resolution.{Target, ArgumentTarget, LocalTarget, LetTarget, Scope, lookup, parameters_scope, functions_scope, expression_targets, statements_targets, locals_targets, function_targets, let_number, standing_meant, own_meant, own_meant_if, meant_below, value_meant, bound_after, bound_after_all, bound_behind, lets_meant, line_meant, lines_meant, first_values_meant, function_meant, functions_meant, ResolvesAs}
-use Rattle.naga_form.proofs.Facts.{and_left, and_right, all_at, then_some, element}
+use Rattle.naga_form.proofs.Facts.{and_left, and_right, then_some}
 use Rattle.naga_form.proofs.Fits.{mapped_length, not_given, distinct}
 
 -- ---- lookups

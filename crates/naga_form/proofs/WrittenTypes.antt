@@ -1,5 +1,5 @@
 -- The types of an accepted module are written by their words, and are types of the grammar.
-use Rattle.std.proofs.Common.{[], ◌≡◌, ℕ, ◌<◌, zero, suc, Bool, true, false, List, length, Option, Some, None, refl, sym, ap, subst, ◌∙◌, codes, slice_get, ◌==◌}
+use Rattle.std.proofs.Common.{[], ◌≡◌, ℕ, ◌<◌, Bool, true, false, List, length, Option, Some, None, refl, sym, ap, subst, ◌∙◌, codes, slice_get, ◌==◌}
 use Rattle.std.specs.Prelude.{IsTrue, unwrap_or, if◌then◌else◌}
 use Rattle.std.specs.List.{list_all}
 use Rattle.std.specs.Option.{option_map, option_and_then}

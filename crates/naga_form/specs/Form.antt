@@ -1,6 +1,6 @@
 -- The syntax tree that is written for a module under its names, of those modules that are written so far, with a `let` for each emitted
 -- handle that is bound. Which handles are bound, and where their names are in scope, is what the runs say of a function's shape.
-use Rattle.std.specs.Prelude.{[], ℕ, ◌+◌, false, List, ◌∷◌, Option, Some, None, slice_get, zero, suc, ◌-◌, Bool, true, length, codes}
+use Rattle.std.specs.Prelude.{[], ℕ, ◌+◌, false, List, ◌∷◌, Option, Some, None, slice_get, zero, suc, ◌-◌, Bool, true, length}
 use Rattle.std.specs.Option.{option_map_or, option_map, option_and_then}
 use Rattle.naga_ir.specs.StatementTree.{return, simple, BlockTree, no_statements, statement, emit, store, StatementTree}
 use Rattle.naga_ir.specs.declared.expression.Expression as ir

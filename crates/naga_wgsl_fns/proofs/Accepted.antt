@@ -1,9 +1,7 @@
 -- Each function of a module that is accepted and written so far can be written.
-use Rattle.std.proofs.Common.{◌≡◌, ℕ, true, [], List, Option, None, Some, length, refl, ap, sym, ◌∙◌, slice_get}
-use Rattle.std.specs.Prelude.{unwrap_or, IsTrue}
-use Rattle.std.specs.List.{list_all}
+use Rattle.std.proofs.Common.{◌≡◌, ℕ, true, [], List, Some, ap, sym, ◌∙◌, slice_get}
+use Rattle.std.specs.Prelude.{unwrap_or}
 use Rattle.std.specs.Option.{option_map_or}
-use Rattle.std.proofs.lemmas.Bool.{and_parts}
 use Rattle.naga_ir.specs.declared.module.Function.{Function}
 use Rattle.naga_ir.specs.declared.module.Module.{Module}
 use Rattle.naga_info.specs.declared.info.ExpressionInfo.{ExpressionInfo}

@@ -1,10 +1,10 @@
 -- The text of each row of a function, from what is written of it in turn.
-use Rattle.std.proofs.Common.{◌≡◌, ℕ, ◌+◌, ◌-◌, ◌<◌, ◌≤◌, ◌*◌, ◌==◌, zero, suc, Bool, true, false, List, [], ◌∷◌, ◌++◌, map, Option, None, Some, length, refl, sym, ap, ◌∙◌, arith, add-one, codes, replicate, drop, drop-cons, slice_index_or, ne_eqb, append_assoc}
+use Rattle.std.proofs.Common.{◌≡◌, ℕ, ◌+◌, ◌-◌, ◌<◌, ◌≤◌, ◌*◌, ◌==◌, zero, suc, Bool, true, false, List, [], ◌∷◌, ◌++◌, Option, None, Some, length, refl, sym, ap, ◌∙◌, arith, add-one, codes, replicate, drop, drop-cons, slice_index_or, ne_eqb, append_assoc}
 use Rattle.std.specs.Prelude.{slice_get, cond, if◌then◌else◌}
 use Rattle.std.specs.Option.{option_map}
 use Rattle.std.proofs.lemmas.List.{append-nil, drop_all}
 use Rattle.std.proofs.lemmas.Option.{slice_get_within, get_or_from_slice_get}
-use Rattle.naga_ir.specs.StatementTree.{StatementTree, BlockTree, statement}
+use Rattle.naga_ir.specs.StatementTree.{statement}
 use Rattle.naga_ir.specs.StatementViews.{tree_of, block_of}
 use Rattle.naga_ir.specs.declared.statement.Statement.{Statement}
 use Rattle.naga_ir.specs.declared.expression.Expression as ir
@@ -20,13 +20,13 @@ use Rattle.naga_back.specs.Indentation.{indentation}
 use Rattle.naga_back.specs.Operators.{operator_text}
 use Rattle.name_keys.specs.Keys.{NameMap}
 use Rattle.shader_runs.specs.Program.{binds, from}
-use Rattle.shader_runs.specs.Scope.{Handles, Naming, at_start, given_after, after_one, after_emit, bound_name}
-use Rattle.naga_form.specs.Names.{function_name, argument_name, numbered_name}
+use Rattle.shader_runs.specs.Scope.{Handles, Naming, at_start, given_after, after_one, bound_name}
+use Rattle.naga_form.specs.Names.{argument_name}
 use Rattle.naga_form.specs.Operators.{operator_form}
 use Rattle.naga_words.specs.Contexts.{names_of}
 use Rattle.naga_words.specs.Trees.{Names as TypeNames}
 use Rattle.naga_form.proofs.Facts.{element}
-use Rattle.naga_form.specs.Form.{as_value, own_if, plain_form, value_form, let_form, then_if, lets_form, return_line, line_form, lines_form, locals_form, parameter_form, parameters_form, result_form, function_form}
+use Rattle.naga_form.specs.Form.{as_value, own_if, plain_form, value_form, let_form, then_if, lets_form, locals_form, parameter_form, parameters_form, result_form, function_form}
 use Rattle.wgsl_text.specs.Tree.{TypeSpecifier, Expression, Statements, NoStatements, Then, Local, BinaryOperator}
 use Rattle.wgsl_text.specs.Tree as tree
 use Rattle.wgsl_text.specs.Pieces.{binary_pieces, expression_pieces}
@@ -34,7 +34,7 @@ use Rattle.wgsl_text.specs.Lines.{statement_pieces, statements_pieces}
 use Rattle.wgsl_text.specs.Declarations.{parameter_pieces, parameters_pieces, more_parameters_pieces, result_pieces, locals_pieces, value_pieces, group_end, function_pieces}
 use Rattle.wgsl_text.specs.Reading.{type_layout}
 use Rattle.wgsl_text.specs.Text.{text}
-use Rattle.wgsl_text.proofs.RowText.{text-append, function_text, return_text, then_text, let_text, typed_let_text, assign_text, binary_text, address_text, dereference_text, locals_text as local_row_text, value_text}
+use Rattle.wgsl_text.proofs.RowText.{text-append, function_text, return_text, then_text, let_text, typed_let_text, assign_text, binary_text, locals_text as local_row_text, value_text}
 use Rattle.naga_wgsl_fns.specs.Texts.{separator, type_text, head_text, locals_text, local_form, local_text, local_text_at, first_text, told_text, let_line, emitted_text}
 
 -- the blanks before a line

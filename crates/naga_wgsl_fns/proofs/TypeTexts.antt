@@ -1,5 +1,5 @@
 -- What is said of a type's spelling, for types that have a form.
-use Rattle.std.proofs.Common.{◌≡◌, ℕ, ◌<◌, Bool, true, false, List, [], ◌∷◌, ◌++◌, Option, Some, None, refl, sym, ap, subst, ◌∙◌, ◌≤◌, ◌+◌, arith, slice_get, length}
+use Rattle.std.proofs.Common.{◌≡◌, ℕ, ◌<◌, true, List, [], ◌∷◌, ◌++◌, Option, Some, None, refl, sym, ap, subst, ◌∙◌, ◌≤◌, arith, slice_get, length}
 use Rattle.std.specs.Prelude.{IsTrue, unwrap_or}
 use Rattle.std.specs.Option.{is_some, option_map}
 use Rattle.std.specs.List.{list_all}
@@ -31,7 +31,6 @@ use Rattle.wgsl_text.specs.Tree.{TypeSpecifier, Named}
 use Rattle.wgsl_text.proofs.RowText.{text-append}
 use Rattle.naga_form.proofs.WrittenTypes.{HasForm, word_has_form, resolution_has_form}
 use Rattle.wgsl_pieces.specs.declared.error.Error.{Error}
-use Rattle.wgsl_pieces.specs.declared.error.Error.TheVariants.{FmtError, Memory as Want}
 use Rattle.wgsl_pieces.specs.Appends.{Wrote, Stopped}
 use Rattle.wgsl_pieces.specs.Errors.{IsErrorOfType, IsWant}
 use Rattle.naga_wgsl_fns.specs.Texts.{has_word, type_text, resolution_text}

@@ -1,13 +1,11 @@
 -- What the parts of a function want, from what the function wants.
-use Rattle.std.proofs.Common.{◌≡◌, ℕ, suc, ◌+◌, ◌<◌, ◌≤◌, ◌^◌, Bool, true, List, [], ◌++◌, codes, length, Option, None, Some, refl, sym, ap, subst, ◌∙◌, arith, IsTrue, drop}
+use Rattle.std.proofs.Common.{◌≡◌, ℕ, suc, ◌<◌, ◌≤◌, ◌^◌, Bool, true, List, [], ◌++◌, codes, length, Option, None, Some, refl, sym, ap, subst, ◌∙◌, arith, IsTrue}
 use Rattle.std.specs.Prelude.{slice_get, cond, nat_lt, nat_le, unwrap_or}
 use Rattle.std.specs.List.{list_all}
 use Rattle.std.specs.Option.{is_some, option_map, option_and_then}
 use Rattle.std.proofs.lemmas.Bool.{and_parts, ltb-true, lt-ltb, leb-true}
 use Rattle.std.proofs.lemmas.Option.{slice_get_within}
-use Rattle.naga_ir.specs.StatementTree.{emit, store, return, StatementTree, simple, BlockTree, no_statements, statement}
-use Rattle.naga_ir.specs.StatementViews.{tree_of, block_of}
-use Rattle.naga_ir.specs.declared.statement.Statement.{Statement}
+use Rattle.naga_ir.specs.StatementTree.{emit, store, StatementTree, simple}
 use Rattle.naga_ir.specs.declared.expression.Expression.{Expression}
 use Rattle.naga_ir.specs.declared.expression.Expression.TheVariants as expression
 use Rattle.naga_enumerations.specs.declared.expression.Literal as ir_literal

@@ -1,5 +1,5 @@
 -- The text of a function and of its parts, and what it wants of its module.
-use Rattle.std.specs.Prelude.{◌≡◌, ℕ, Bool, true, false, List, [], ◌∷◌, ◌++◌, length, Option, Some, None, IsTrue, codes, slice_get, unwrap_or, bit_and, ◌==◌, if◌then◌else◌, cond}
+use Rattle.std.specs.Prelude.{◌≡◌, ℕ, Bool, List, [], ◌∷◌, ◌++◌, Option, Some, None, IsTrue, codes, slice_get, unwrap_or, bit_and, ◌==◌, if◌then◌else◌, cond}
 use Rattle.std.specs.List.{list_all}
 use Rattle.std.specs.Option.{option_map, option_map_or, is_some}
 use Rattle.naga_ir.specs.declared.expression.Expression as ir

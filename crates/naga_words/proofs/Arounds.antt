@@ -1,5 +1,5 @@
 -- Parts written in order: what was written, and what was begun where a write failed.
-use Rattle.std.proofs.Common.{◌≡◌, ℕ, Bool, true, false, List, [], ◌∷◌, ◌++◌, refl}
+use Rattle.std.proofs.Common.{◌≡◌, ℕ, true, List, [], ◌∷◌, ◌++◌, refl}
 use Rattle.naga_words.specs.Sink.{IsBehind}
 use Rattle.naga_words.specs.Parts.{Part, Word, Shown, Missing, lacks, HasWritten, HasBegun}
 use Rattle.naga_words.proofs.PartTexts.{wrote_word, wrote_shown, wrote_more, begun_nothing, begun_word, begun_shown, begun_written, begun_behind, begun_before}

@@ -8,7 +8,7 @@ use Rattle.wgsl_text.specs.Token.{Piece, GreaterThan, Comma, Blank}
 use Rattle.wgsl_text.specs.Pieces.{mark, word, plain, type_pieces, has_gaps}
 use Rattle.wgsl_text.specs.Text.{text}
 use Rattle.wgsl_text.specs.Reading.{type_layout}
-use Rattle.wgsl_text.specs.Tree.{TypeSpecifier, Named, Template}
+use Rattle.wgsl_text.specs.Tree.{TypeSpecifier, Named}
 use Rattle.naga_ir.specs.declared.types.Type_.{Type_}
 use Rattle.naga_ir.specs.declared.types.TypeInner.{TypeInner}
 use Rattle.naga_ir.specs.declared.types.TypeInner.TheVariants as inner
@@ -26,9 +26,9 @@ use Rattle.naga_enumerations.specs.declared.image.ImageClass.TheVariants as clas
 use Rattle.naga_enumerations.specs.declared.image.ImageDimension.{ImageDimension}
 use Rattle.naga_enumerations.specs.declared.image.ImageDimension.TheVariants.{D1, D2, D3, Cube}
 use Rattle.wgsl_words.specs.Words.{scalar_word, space_word, space_access_word, image_access_word, role_word, format_word}
-use Rattle.naga_words.specs.Parts.{Part, Word, Shown, Missing, IsText, NoParts, WordThen, ShownThen, lacks, known_text}
-use Rattle.naga_words.specs.Spelling.{Context, scalar_parts_of, scalar_parts, template_parts, value_parts, vector_word, matrix_word, cooperative_word, image_word, role_tail, length_parts, acceleration_structure_text, ray_query_text, inner_parts, pointer_in, pointer_parts, value_pointer_parts, access_parts, array_parts, storage_image_parts, image_parts, is_struct, inner_parts_by, named_parts_by, found_parts_by, parts_within, type_parts}
-use Rattle.naga_words.specs.Trees.{Names, of_one, of_two, scalar_tree, vector_tree, value_tree, pointer_tree, pointer_tree_in, value_pointer_tree_in, array_tree, image_tree, ray_tree, inner_tree, inner_tree_by, named_tree_by, found_tree_by, tree_within, type_tree, writer_context}
+use Rattle.naga_words.specs.Parts.{Part, Word, Shown, Missing, IsText, NoParts, WordThen, lacks, known_text}
+use Rattle.naga_words.specs.Spelling.{scalar_parts_of, template_parts, value_parts, vector_word, matrix_word, cooperative_word, image_word, role_tail, length_parts, acceleration_structure_text, ray_query_text, inner_parts, pointer_in, pointer_parts, value_pointer_parts, access_parts, array_parts, storage_image_parts, image_parts, is_struct, inner_parts_by, found_parts_by, parts_within, type_parts}
+use Rattle.naga_words.specs.Trees.{Names, of_one, of_two, value_tree, pointer_tree, pointer_tree_in, value_pointer_tree_in, array_tree, image_tree, ray_tree, inner_tree, inner_tree_by, found_tree_by, tree_within, type_tree, writer_context}
 
 -- the only text of parts that are words alone
 only_word : (w : List ℕ) (ps : List Part) (b t : List ℕ) (o : Option (List ℕ)) → known_text ps ≡ o → ((u : List ℕ) → known_text ps ≡ Some u → b ≡ u) → option_map (λ r. w ++ r) o ≡ Some t → w ++ b ≡ t

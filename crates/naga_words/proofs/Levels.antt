@@ -1,9 +1,8 @@
 -- The spelling of a type is one level over the spellings of the types that it names.
-use Rattle.std.proofs.Common.{◌≡◌, ◌<◌, ◌≤◌, ◌+◌, ℕ, zero, suc, Bool, true, false, List, [], ◌∷◌, ◌++◌, length, Option, Some, None, refl, ap, sym, ◌∙◌, arith, slice_get, codes, if◌then◌else◌}
+use Rattle.std.proofs.Common.{◌≡◌, ◌<◌, ◌≤◌, ℕ, zero, suc, List, [], ◌∷◌, Option, Some, None, refl, ap, ◌∙◌, arith, slice_get, codes, if◌then◌else◌}
 use Rattle.naga_ir.specs.declared.types.Type_.{Type_}
 use Rattle.naga_ir.specs.declared.types.TypeInner.{TypeInner}
 use Rattle.naga_ir.specs.declared.types.TypeInner.TheVariants as inner
-use Rattle.naga_ir.specs.declared.types.ArraySize.{ArraySize}
 use Rattle.wgsl_words.specs.Words.{space_word, space_access_word}
 use Rattle.naga_words.specs.Parts.{Part, Word}
 use Rattle.naga_words.specs.Spelling.{Context, IsInOrder, is_struct, end_of_base, pointer_parts, array_parts, inner_parts_by, named_parts_by, found_parts_by, parts_within, type_parts}

@@ -1,5 +1,5 @@
 -- What stands in order for one context does so for each.
-use Rattle.std.proofs.Common.{◌≡◌, ◌<◌, ◌≤◌, ℕ, Bool, true, List, length, slice_get, Option, Some, refl, sym, ◌+◌, arith, subst}
+use Rattle.std.proofs.Common.{◌≡◌, ◌<◌, ℕ, List, length, slice_get, Some, refl, ◌+◌, subst}
 use borrow.Author.Count.{below_more}
 use Rattle.std.specs.Prelude.{IsTrue}
 use Rattle.naga_ir.specs.declared.types.Type_.{Type_}

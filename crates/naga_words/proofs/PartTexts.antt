@@ -1,8 +1,8 @@
 -- Texts in parts, put together in order.
-use Rattle.std.proofs.Common.{◌≡◌, ℕ, Bool, true, false, List, [], ◌∷◌, ◌++◌, refl, sym, ap, ◌∙◌, append_assoc}
+use Rattle.std.proofs.Common.{◌≡◌, ℕ, List, [], ◌∷◌, ◌++◌, refl, sym, ap, ◌∙◌, append_assoc}
 use Rattle.std.proofs.lemmas.List.{append-nil}
 use Rattle.naga_words.specs.Sink.{IsBehind}
-use Rattle.naga_words.specs.Parts.{Part, Word, Shown, Missing, IsText, NoParts, WordThen, ShownThen, lacks, before_missing, HasWritten, HasBegun}
+use Rattle.naga_words.specs.Parts.{Part, Word, Shown, Missing, IsText, NoParts, WordThen, ShownThen, before_missing, HasWritten, HasBegun}
 
 pub text_append : {ps qs : List Part} {s t : List ℕ} → IsText ps s → IsText qs t → IsText (ps ++ qs) (s ++ t)
 text_append NoParts q = q

@@ -1,8 +1,7 @@
 -- What is spelled is a type of the grammar.
-use Rattle.std.proofs.Common.{◌≡◌, ℕ, ◌<◌, zero, suc, Bool, true, false, not, ◌&&◌, ◌||◌, List, [], ◌∷◌, ◌++◌, Option, Some, None, refl, sym, ap, subst, ◌∙◌, codes, slice_get, ◌==◌}
-use Rattle.std.specs.Prelude.{IsTrue, IsFalse, if◌then◌else◌}
+use Rattle.std.proofs.Common.{◌≡◌, ℕ, zero, suc, Bool, true, false, not, ◌&&◌, ◌||◌, List, [], ◌∷◌, ◌++◌, Option, Some, None, refl, sym, ap, subst, ◌∙◌, codes, slice_get, ◌==◌}
+use Rattle.std.specs.Prelude.{if◌then◌else◌}
 use Rattle.std.specs.Str.{bytes_eq}
-use Rattle.std.specs.Int.NonZero.{non_zero_u32_get}
 use Rattle.std.specs.List.{list_all}
 use Rattle.std.specs.Option.{option_map}
 use Rattle.std.proofs.lemmas.Slice.Eq.{bytes_eq-Decides}
@@ -31,14 +30,14 @@ use Rattle.naga_ir.specs.declared.types.ArraySize.TheVariants as size
 use Rattle.naga_ir.specs.declared.types.Type_.{Type_}
 use Rattle.naga_ir.specs.declared.types.TypeInner.{TypeInner}
 use Rattle.naga_ir.specs.declared.types.TypeInner.TheVariants as inner
-use Rattle.wgsl_text.specs.Grammar.{IsType, is_type, plain_type_words, PartsRule, TakesScalar, TakesSampled, TakesElements, TakesFormat, TakesRole, rule_among, type_templates}
-use Rattle.wgsl_text.specs.Tables.{scalar_words, sampled_words, sampled_image_words, depth_image_words, storage_image_words, access_words, format_words, address_space_words, role_words, sampler_words, ray_words}
-use Rattle.wgsl_text.specs.Tree.{TypeSpecifier, Named, Template, TypePart, NoParts}
+use Rattle.wgsl_text.specs.Grammar.{IsType, is_type, plain_type_words, TakesScalar, TakesSampled, TakesElements, TakesFormat, TakesRole, rule_among, type_templates}
+use Rattle.wgsl_text.specs.Tables.{scalar_words, sampled_words, depth_image_words, access_words, format_words, address_space_words, role_words, sampler_words, ray_words}
+use Rattle.wgsl_text.specs.Tree.{TypeSpecifier, Named}
 use Rattle.wgsl_text.specs.Words.{IsWord, IsIdentifier, is_word_text, is_reserved, is_builtin, stands_in}
 use Rattle.wgsl_words.specs.Words.{scalar_word, scalar_word_of, space_word, space_access_word, image_access_word, role_word, format_word, has, atomic_bit, load_bit, store_bit}
 use Rattle.naga_words.specs.Readable.{LengthIsWithin, InnerIsWithin, ResolutionIsWithin, AreNamed}
 use Rattle.naga_words.specs.Spelling.{is_struct, vector_word, matrix_word, cooperative_word, image_word, sampler_word}
-use Rattle.naga_words.specs.Trees.{Names, of_one, of_two, scalar_tree, vector_tree, value_tree, pointer_tree, pointer_tree_in, value_pointer_tree_in, array_tree, image_tree, ray_tree, inner_tree_by, named_tree_by, found_tree_by, tree_within, type_tree, inner_tree, resolution_tree}
+use Rattle.naga_words.specs.Trees.{Names, of_one, of_two, scalar_tree, value_tree, pointer_tree, pointer_tree_in, value_pointer_tree_in, array_tree, image_tree, ray_tree, inner_tree_by, found_tree_by, tree_within, type_tree, resolution_tree}
 
 both : (a b : Bool) → a ≡ true → b ≡ true → (a && b) ≡ true
 both a b p q = rw p q

@@ -1,11 +1,11 @@
 -- What each context knows.
-use Rattle.std.specs.Prelude.{ℕ, true, false, List, [], ◌∷◌, Option, Some, None, codes, slice_get, length, nat_lt, string_bytes, Bool}
+use Rattle.std.specs.Prelude.{ℕ, true, false, List, [], ◌∷◌, Option, Some, None, codes, slice_get, length, nat_lt, string_bytes}
 use Rattle.std.specs.Option.{option_map, option_map_or}
 use Rattle.naga_ir.specs.declared.types.Type_.{Type_}
 use Rattle.naga_ir.specs.declared.module.Override.{Override}
 use Rattle.name_keys.specs.declared.key.NameKey.TheVariants as key
 use Rattle.name_keys.specs.Keys.{NameMap}
-use Rattle.naga_words.specs.Parts.{Part, Word, Missing, shown_between}
+use Rattle.naga_words.specs.Parts.{Part, Word, shown_between}
 use Rattle.naga_words.specs.Trees.{Names, writer_context}
 use Rattle.naga_words.specs.Spelling.{Context}
 

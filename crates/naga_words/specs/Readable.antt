@@ -1,5 +1,5 @@
 -- Which types are read from their text, and which types are alike.
-use Rattle.std.specs.Prelude.{◌≡◌, ℕ, ◌<◌, ◌^◌, Bool, true, List, [], ◌∷◌, ⊤, Option, Some, None, slice_get}
+use Rattle.std.specs.Prelude.{◌≡◌, ℕ, ◌<◌, ◌^◌, Bool, true, List, [], ◌∷◌, ⊤, Some, None, slice_get}
 use Rattle.std.specs.Option.{is_some}
 use Rattle.std.specs.Int.NonZero.{non_zero_u32_get}
 use Rattle.naga_info.specs.declared.info.TypeResolution.{TypeResolution}

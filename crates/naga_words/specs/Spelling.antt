@@ -1,13 +1,12 @@
 -- What a type is spelled as: its text, part by part, in a context that says how structs and overrides are named and
 -- whether what has no form is refused or shown in braces.
-use Rattle.std.specs.Prelude.{◌≡◌, ℕ, zero, suc, IsTrue, nat_lt, ◌≤◌, ◌<◌, ◌+◌, Bool, true, false, ◌&&◌, if◌then◌else◌, List, [], ◌∷◌, ◌++◌, Option, Some, None, codes, decimal, slice_get, length}
+use Rattle.std.specs.Prelude.{◌≡◌, ℕ, zero, suc, IsTrue, nat_lt, ◌≤◌, ◌<◌, ◌+◌, Bool, true, false, if◌then◌else◌, List, [], ◌∷◌, ◌++◌, Option, Some, None, codes, decimal, slice_get, length}
 use Rattle.std.specs.Int.NonZero.{non_zero_u32_get}
 use Rattle.naga_ir.specs.declared.types.Type_.{Type_}
 use Rattle.naga_ir.specs.declared.types.TypeInner.{TypeInner}
 use Rattle.naga_ir.specs.declared.types.TypeInner.TheVariants as inner
 use Rattle.naga_ir.specs.declared.types.ArraySize.{ArraySize}
 use Rattle.naga_ir.specs.declared.types.ArraySize.TheVariants as size
-use Rattle.naga_enumerations.specs.declared.types.AddressSpace.{AddressSpace}
 use Rattle.naga_enumerations.specs.declared.types.VectorSize.{VectorSize}
 use Rattle.naga_enumerations.specs.declared.types.VectorSize.TheVariants.{Bi, Tri, Quad}
 use Rattle.naga_enumerations.specs.declared.types.CooperativeSize.{CooperativeSize}
@@ -23,7 +22,7 @@ use Rattle.naga_info.specs.declared.info.TypeResolution.{TypeResolution}
 use Rattle.naga_info.specs.declared.info.TypeResolution.TheVariants.{Handle, Value}
 use Rattle.std.specs.Option.{is_none}
 use Rattle.wgsl_words.specs.Words.{scalar_word, space_word, space_access_word, image_access_word, role_word, dimension_word, format_word}
-use Rattle.naga_words.specs.Parts.{Part, Word, Shown, Missing, shown_between, three}
+use Rattle.naga_words.specs.Parts.{Part, Word, Missing, shown_between, three}
 
 -- how a context spells what is its own
 pub record Context : Type 0 where

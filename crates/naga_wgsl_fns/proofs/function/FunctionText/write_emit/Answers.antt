@@ -1,4 +1,4 @@
-use Rattle.std.proofs.Common.{◌≡◌, ℕ, List, ◌≤◌, ◌-◌, refl, sym, ap, ◌∙◌}
+use Rattle.std.proofs.Common.{◌≡◌, ℕ, List, ◌≤◌, refl, sym, ap, ◌∙◌}
 use Rattle.naga_form.specs.Form.{told_type}
 use Rattle.naga_form.specs.Names.{module_names}
 use Rattle.name_keys.specs.Keys.{names_in}

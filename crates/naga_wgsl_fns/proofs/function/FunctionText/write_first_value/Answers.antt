@@ -1,4 +1,4 @@
-use Rattle.std.proofs.Common.{ap, sym, subst, ◌∙◌, length, IsTrue}
+use Rattle.std.proofs.Common.{ap, sym, subst, length, IsTrue}
 use Rattle.std.proofs.lemmas.Bool.{ltb-true}
 use Rattle.naga_acceptance.specs.Accepted.{is_below}
 use Rattle.naga_form.specs.Form.{value_form}

@@ -1,12 +1,10 @@
 use Rattle.std.proofs.Common.{ap, sym, ◌∙◌}
-use Rattle.std.specs.Prelude.{slice_get}
-use Rattle.std.specs.Option.{option_map_or}
 use Rattle.name_keys.specs.Keys.{names_in}
 use Rattle.naga_form.specs.Types.{type_names}
 use Rattle.naga_wgsl_fns.specs.Texts.{naming_of, local_text_at}
 use Rattle.wgsl_pieces.proofs.Appending.{appends_as, appends_stopped, appends_then, stopped_first, stopped_then}
 use Rattle.naga_wgsl_fns.proofs.Rows.{local_row}
-use Rattle.naga_wgsl_fns.proofs.Wanted.{local_is_named, local_has_word, first_within}
+use Rattle.naga_wgsl_fns.proofs.Wanted.{local_has_word, first_within}
 use Rattle.naga_wgsl_fns.proofs.function.FunctionText.write_local.Goals as goal
 
 pub returns-in_err-put : goal.returns-in_err-put

@@ -1,4 +1,4 @@
-use Rattle.std.proofs.Common.{◌≡◌, ◌<◌, ◌≤◌, ℕ, Bool, [], codes, if◌then◌else◌, length, sym, ap, subst, slice_get, ◌∙◌}
+use Rattle.std.proofs.Common.{◌<◌, ◌≤◌, Bool, [], codes, if◌then◌else◌, length, sym, ap, subst, slice_get, ◌∙◌}
 use Rattle.naga_form.specs.Form.{locals_form}
 use Rattle.wgsl_text.specs.Declarations.{locals_pieces}
 use Rattle.wgsl_text.specs.Text.{text}

@@ -1,4 +1,4 @@
-use Rattle.std.proofs.Common.{sym, ap, ◌∙◌}
+use Rattle.std.proofs.Common.{sym, ◌∙◌}
 use Rattle.name_keys.specs.Keys.{names_in}
 use Rattle.naga_wgsl_fns.specs.Texts.{tells_types}
 use Rattle.wgsl_pieces.proofs.Appending.{appends_as, appends_stopped, appends_then, stopped_first}

@@ -1,4 +1,4 @@
-use Rattle.std.proofs.Common.{rules, arith, ◌≡◌, ℕ, refl}
+use Rattle.std.proofs.Common.{rules, arith, refl}
 use Rattle.std.proofs.lemmas.Option.{slice_get_within}
 use Rattle.naga_words.specs.Contexts.{arena_context, global_context, names_context}
 use Rattle.naga_words.proofs.Orders.{one_more, all_known, so_many_known}

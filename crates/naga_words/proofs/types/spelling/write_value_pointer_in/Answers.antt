@@ -1,5 +1,4 @@
-use Rattle.std.proofs.Common.{rules}
-use Rattle.naga_words.proofs.Arounds.{word_then, word_last, shown_then, parts_then, word_fails, shown_fails, parts_fail, word_then_fails, shown_then_fails, parts_then_fail, begun_all}
+use Rattle.naga_words.proofs.Arounds.{parts_then, parts_fail, parts_then_fail, begun_all}
 use Rattle.naga_words.proofs.types.spelling.write_value_pointer_in.Goals as goal
 
 pub returns-in_err-write_three-clause-begun : goal.returns-in_err-write_three-clause-begun
