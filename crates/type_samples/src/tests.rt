@@ -1,6 +1,5 @@
 //! The types that the tests spell, in a module.
 use super::*;
-
 use naga_info::{Conclusion, GlobalCtx, Rule, TypeResolution};
 use naga_ir::{
     AddressSpace, ArraySize, BuiltIn, CooperativeRole, CooperativeSize, Handle, ImageClass,
@@ -146,10 +145,7 @@ fn reads(
 }
 
 /// The answer is that the type has no form.
-fn refuses(
-    rt: &impl Abort,
-    answer: &Result<String, TypeTextError>,
-) -> Result<(), TypeTextError> {
+fn refuses(rt: &impl Abort, answer: &Result<String, TypeTextError>) -> Result<(), TypeTextError> {
     match answer {
         Err(TypeTextError::NoForm) => Ok(()),
         Err(error) => Err(*error),

@@ -69,17 +69,17 @@ fn type_at_last<C: TypeContext>(
     reads(rt, &first, want)
 }
 
-/// Each type has its text in each of both contexts.
+/// Each type has its text in both contexts.
 fn rows_hold(
     rt: &impl Abort,
     alloc: Global,
     context: &NumberedTypes<'_>,
 ) -> Result<(), TypeTextError> {
+    assert!(rt; types_in_order(context.types, 2));
+    assert!(rt; context.is_in_order(2));
     for (index, shown, numbered) in ROWS {
         let handle = Place::from_index(*index);
         assert!(rt; *index < context.types.len());
-        assert!(rt; types_in_order(context.types, 2));
-        assert!(rt; context.is_in_order(2));
         type_at_last(rt, alloc, context.types, handle, *shown)?;
         match numbered {
             Some(text) => type_at_last(rt, alloc, context, handle, *text)?,

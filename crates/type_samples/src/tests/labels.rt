@@ -179,11 +179,7 @@ fn pointer_row(row: usize) -> (TypeInner, &'static str) {
 }
 
 /// An array, and its text.
-fn array_row(
-    four: NonZeroU32,
-    eight: NonZeroU32,
-    row: usize,
-) -> (TypeInner, &'static str) {
+fn array_row(four: NonZeroU32, eight: NonZeroU32, row: usize) -> (TypeInner, &'static str) {
     match row {
         0 => (
             TypeInner::Array {

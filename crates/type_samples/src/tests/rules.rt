@@ -67,6 +67,9 @@ fn modf_rule(alloc: Global) -> Result<Rule, AllocError>
     })
 }
 
+/// The text by numbers.
+const COUNT_TEXT: &str = "fn count(array<T0, O0>) -> u32";
+
 /// A rule that names the type at index 1.
 fn count_rule(alloc: Global) -> Result<Rule, AllocError>
     ensures { IfOk result (FitsAmong 2) }
@@ -78,7 +81,17 @@ fn count_rule(alloc: Global) -> Result<Rule, AllocError>
     })
 }
 
-/// A sink of this limit fails or holds the rule's text, and it holds a beginning of it.
+/// Whether the text is as much of the rule's as has room.
+fn is_within(text: &str, want: &str, limit: usize, is_whole: bool) -> bool {
+    if is_whole {
+        text == want
+    } else {
+        text.len() <= limit && want.starts_with(text)
+    }
+}
+
+/// A sink with room for the rule's text holds it, and one with less fails and holds a beginning of
+/// it.
 fn written_within<C: TypeContext>(
     rt: &impl Abort,
     alloc: Global,
@@ -93,16 +106,18 @@ fn written_within<C: TypeContext>(
     requires fits { AllFit (C.context context.now) rule.now.arguments.items }
     requires gives { FitsConclusion (C.context context.now) rule.now.conclusion }
 {
-    match context.write_type_rule(alloc, name, rule, sink) {
-        Ok(()) => assert_eq!(rt; sink.text(), want, "took all with room for {limit} bytes"),
-        Err(TypeTextError::Sink(SinkError::Failed)) => {
-            assert!(rt; limit < want.len(), "refused what has room");
-        }
+    let is_whole = match context.write_type_rule(alloc, name, rule, sink) {
+        Ok(()) => true,
+        Err(TypeTextError::Sink(SinkError::Failed)) => false,
         Err(error) => return Err(error),
-    }
-    assert!(rt; sink.text().len() <= limit, "with room for {limit} bytes");
+    };
+    assert_eq!(rt;
+        is_whole,
+        limit == want.len(),
+        "with room for {limit} bytes"
+    );
     assert!(rt;
-        want.starts_with(sink.text()),
+        is_within(sink.text(), want, limit, is_whole),
         "with room for {limit} bytes"
     );
     Ok(())
@@ -128,7 +143,7 @@ fn rule_at_last<C: TypeContext>(
     reads(rt, &first, want)
 }
 
-/// The rule has this text, and a sink of each limit below the text's length refuses it.
+/// The rule has this text, in a sink of each limit up to the text's length and at last.
 fn rule_holds<C: TypeContext>(
     rt: &impl Abort,
     alloc: Global,
@@ -189,13 +204,5 @@ pub fn handle_rule_holds(
 ) -> Result<(), TypeTextError> {
     assert!(rt; context.is_in_order(2));
     assert!(rt; 2 <= context.types.len());
-    let rule = count_rule(alloc)?;
-    rule_holds(
-        rt,
-        alloc,
-        context,
-        "count",
-        &rule,
-        "fn count(array<T0, O0>) -> u32",
-    )
+    rule_holds(rt, alloc, context, "count", &count_rule(alloc)?, COUNT_TEXT)
 }

@@ -14,6 +14,13 @@ fn names(
     Ok(())
 }
 
+/// What each kind is called.
+fn descriptions_hold(rt: &impl Abort) {
+    assert_eq!(rt; MathFunction::DESCRIPTION, "math function");
+    assert_eq!(rt; BuiltIn::DESCRIPTION, "builtin value");
+    assert_eq!(rt; <Scalar as TryToWgsl>::DESCRIPTION, "scalar type");
+}
+
 /// A word for a diagnostic, of what has one and of what has none.
 fn words_in(rt: &impl Abort, alloc: Global) -> Result<(), AllocError> {
     let known = MathFunction::SmoothStep;
@@ -41,9 +48,7 @@ fn words_in(rt: &impl Abort, alloc: Global) -> Result<(), AllocError> {
 
 #[test]
 fn words_for_diagnostics(rt: HostRuntime) -> Result<(), Fail> {
-    assert_eq!(&rt; MathFunction::DESCRIPTION, "math function");
-    assert_eq!(&rt; BuiltIn::DESCRIPTION, "builtin value");
-    assert_eq!(&rt; <Scalar as TryToWgsl>::DESCRIPTION, "scalar type");
+    descriptions_hold(&rt);
     words_in(&rt, rt.alloc())?;
     Ok(())
 }
