@@ -69,6 +69,23 @@ fn type_at_last<C: TypeContext>(
     reads(rt, &first, want)
 }
 
+/// The type has this text, and none where it has no form.
+fn type_holds<C: TypeContext>(
+    rt: &impl Abort,
+    alloc: Global,
+    context: &C,
+    handle: Handle<Type_>,
+    want: Option<&str>,
+) -> Result<(), TypeTextError>
+    requires order { IsInOrder (C.context context.now) }
+    requires in_range { handle < length (C.context context.now).types }
+{
+    match want {
+        Some(text) => type_at_last(rt, alloc, context, handle, text),
+        None => refuses(rt, &context.type_to_string(alloc, handle)),
+    }
+}
+
 /// Each type has its text in both contexts.
 fn rows_hold(
     rt: &impl Abort,
@@ -81,10 +98,7 @@ fn rows_hold(
         let handle = Place::from_index(*index);
         assert!(rt; *index < context.types.len());
         type_at_last(rt, alloc, context.types, handle, *shown)?;
-        match numbered {
-            Some(text) => type_at_last(rt, alloc, context, handle, *text)?,
-            None => refuses(rt, &context.type_to_string(alloc, handle))?,
-        }
+        type_holds(rt, alloc, context, handle, *numbered)?;
     }
     Ok(())
 }
