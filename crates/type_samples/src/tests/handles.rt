@@ -199,11 +199,7 @@ fn written_names_hold(
     let module = context.module;
     assert!(rt; types_in_order(&module.types, module.overrides.len()));
     assert!(rt; LABELLED < module.types.len());
-    reads(
-        rt,
-        &context.type_to_string(alloc, Place::from_index(LABELLED)),
-        "S_1",
-    )?;
+    type_at_last(rt, alloc, context, Place::from_index(LABELLED), "S_1")?;
     let pointer = TypeResolution::Value(TypeInner::ValuePointer {
         size: None,
         scalar: Scalar::U32,
