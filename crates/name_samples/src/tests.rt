@@ -49,14 +49,8 @@ const MARKS_AND_FOREIGN: Calls = &[
     ("_e", "_e_1"),
 ];
 
-/// Calls with these labels, in order, give these names.
-fn gives(rt: &impl Abort, namer: &mut Namer, rows: &[(&str, &str)]) -> Result<(), NamerError> {
-    for (label, want) in rows {
-        let name = namer.call(*label)?;
-        assert_eq!(rt; name.as_str(), *want, "for {label:?}");
-    }
-    Ok(())
-}
+/// Calls that show that the `Namer` is a new one.
+const OF_A_NEW_NAMER: Calls = &[("fn", "fn"), ("x", "x")];
 
 /// A `reset` with the words of WGSL and the prefixes that its implementations reserve.
 fn reset_for_wgsl(
@@ -78,13 +72,6 @@ fn reset_for_wgsl(
     )
 }
 
-#[test]
-fn names_by_labels(rt: HostRuntime) -> Result<(), Fail> {
-    gives(&rt, &mut Namer::default(rt.alloc()), BY_THEIR_BASE)?;
-    gives(&rt, &mut Namer::default(rt.alloc()), MARKS_AND_FOREIGN)?;
-    Ok(())
-}
-
 /// 100,000 times `_`.
 fn long_label(alloc: Global) -> Result<String, AllocError> {
     let mut label = String::new(alloc);
@@ -94,54 +81,47 @@ fn long_label(alloc: Global) -> Result<String, AllocError> {
     Ok(label)
 }
 
-#[test]
-fn a_long_label(rt: HostRuntime) -> Result<(), Fail> {
-    let long = long_label(rt.alloc())?;
-    gives(
-        &rt,
-        &mut Namer::default(rt.alloc()),
-        &[(long.as_str(), "unnamed")],
-    )?;
-    Ok(())
-}
-
-#[test]
-fn fallbacks(rt: HostRuntime) -> Result<(), Fail> {
-    let mut namer = Namer::default(rt.alloc());
-    let empty = Some(String::new(rt.alloc()));
-    for (label, want) in [(&None, "param"), (&empty, "unnamed"), (&None, "param_1")] {
-        assert_eq!(rt; namer.call_or(label, "param")?.as_str(), want);
+/// The name of the label, where a call that memory refuses is repeated.
+fn name_at_last(namer: &mut Namer, label: &str) -> Result<String, NamerError> {
+    match namer.call(label) {
+        Err(NamerError::Memory(_)) => namer.call(label),
+        answer => answer,
     }
-    Ok(())
 }
 
-/// A call that memory refuses gives, when it is repeated, the name that it would have given.
-fn gives_at_last(rt: &impl Abort, namer: &mut Namer, rows: Calls) -> Result<(), NamerError> {
+/// Calls with these labels, in order, give these names. One that memory refuses gives, when it is
+/// repeated, the name that it would have given.
+fn gives(rt: &impl Abort, namer: &mut Namer, rows: &[(&str, &str)]) -> Result<(), NamerError> {
     for (label, want) in rows {
-        let name = match namer.call(*label) {
-            Err(NamerError::Memory(_)) => namer.call(*label)?,
-            answer => answer?,
-        };
-        assert_eq!(rt; name.as_str(), *want);
+        let name = name_at_last(namer, *label)?;
+        assert_eq!(rt; name.as_str(), *want, "for {label:?}");
     }
     Ok(())
 }
 
-#[test]
-fn a_refused_call_changes_nothing(rt: HostRuntime) -> Result<(), Fail> {
-    gives_at_last(&rt, &mut Namer::default(rt.alloc()), BY_THEIR_BASE)?;
+/// The refusal has this text.
+fn is_told(
+    rt: &impl Abort,
+    alloc: Global,
+    refusal: &NamerError,
+    want: &str,
+) -> Result<(), AllocError> {
+    let told = refusal.to_string(alloc)?;
+    assert_eq!(rt; told.as_str(), want);
     Ok(())
 }
 
 #[test]
 fn refusals_are_told(rt: HostRuntime) -> Result<(), Fail> {
-    for (refusal, want) in [
-        (NamerError::Full, "namer is full"),
-        (NamerError::KeyFull, "name key out of range"),
-        (NamerError::from(AllocError), "out of memory"),
-    ] {
-        assert_eq!(rt; refusal.to_string(rt.alloc())?.as_str(), want);
-    }
+    let memory = NamerError::from(AllocError);
+    is_told(&rt, rt.alloc(), &NamerError::Full, "namer is full")?;
+    is_told(
+        &rt,
+        rt.alloc(),
+        &NamerError::KeyFull,
+        "name key out of range",
+    )?;
+    is_told(&rt, rt.alloc(), &memory, "out of memory")?;
     Ok(())
 }
 
@@ -167,22 +147,58 @@ enum Item {
     Override(Label),
 }
 
-/// Items in the order of their names, and these names; what external images have in addition stands
-/// directly behind them.
-struct Row {
-    items: &'static [Item],
-    names: &'static [&'static str],
+/// What is asked of a new `Namer`.
+enum Case {
+    /// Calls, which give these names.
+    Calls(Calls),
+    /// A call with 100,000 times `_`.
+    LongLabel,
+    /// Calls with a label or none and the fallback `param`, which give these names.
+    OrParam(&'static [(Label, &'static str)]),
+    /// A `reset` by the empty module, and then calls.
+    Reset(Calls),
+    /// A `reset` by the module of the items, which stand in the order of their names, and these names;
+    /// what external images have in addition stands directly behind them.
+    Module {
+        items: &'static [Item],
+        names: &'static [&'static str],
+    },
 }
 
-const ROWS: &[Row] = &[
-    Row {
+const CASES: &[Case] = &[
+    Case::Calls(BY_THEIR_BASE),
+    Case::Calls(MARKS_AND_FOREIGN),
+    Case::LongLabel,
+    Case::OrParam(&[(None, "param"), (Some(""), "unnamed"), (None, "param_1")]),
+    Case::Reset(&[
+        ("fn", "fn_"),
+        ("_naga_x", "gen__naga_x"),
+        ("traceRay", "traceRay_"),
+    ]),
+    Case::Reset(&[("type", "type_"), ("type", "type_1")]),
+    Case::Reset(&[("\u{1f600}", "u1f600_")]),
+    Case::Reset(&[("\u{3b1}\u{3b2}", "u03b1_u03b2_")]),
+    Case::Reset(&[("\u{663}k", "k"), ("\u{2167}v", "v"), ("\u{bd}h", "h")]),
+    Case::Reset(&[("v\u{2167}", "v_u2167_")]),
+    Case::Reset(&[
+        ("\u{e9}9", "u00e9_9_"),
+        ("x\u{e9}\u{e9}y", "x_u00e9_u00e9_y"),
+    ]),
+    Case::Reset(&[("\n", "u000a"), ("\0", "u0000_")]),
+    Case::Reset(&[("a b", "a_u0020_b"), ("a-b", "a_u002d_b")]),
+    Case::Reset(&[("_naga", "gen__naga"), ("__x", "_x"), ("_:x", "_x_1")]),
+    Case::Reset(&[("Self", "Self_"), ("self", "self_"), ("self", "self_1")]),
+    Case::Reset(&[("x_1", "x_1_"), ("x", "x"), ("x", "x_1")]),
+    Case::Reset(&[("<a,b>", "_a_b"), ("a_", "a"), ("a__b", "a_b")]),
+    Case::Reset(&[("::", "unnamed"), ("9_", "unnamed_1")]),
+    Case::Module {
         items: &[
             Item::Number(None),
             Item::Function(Some("f"), &[Some("x"), Some("x")]),
         ],
         names: &["type_", "f", "x", "x_1"],
     },
-    Row {
+    Case::Module {
         items: &[
             Item::Number(None),
             Item::Function(Some("_naga"), &[Some("\u{e9}"), Some("1x")]),
@@ -190,7 +206,7 @@ const ROWS: &[Row] = &[
         names: &["type_", "gen__naga", "u00e9_", "x"],
     },
     // An external image of each kind has its parts.
-    Row {
+    Case::Module {
         items: &[Item::External, Item::Global(Some("t"))],
         names: &[
             "type_",
@@ -201,7 +217,7 @@ const ROWS: &[Row] = &[
             "t_params",
         ],
     },
-    Row {
+    Case::Module {
         items: &[Item::External, Item::Function(Some("f"), &[None, None])],
         names: &[
             "type_",
@@ -219,7 +235,7 @@ const ROWS: &[Row] = &[
         ],
     },
     // Members have a namespace of their own, in which builtin words are free.
-    Row {
+    Case::Module {
         items: &[
             Item::Number(None),
             Item::Struct(
@@ -241,7 +257,7 @@ const ROWS: &[Row] = &[
             "const_type_1",
         ],
     },
-    Row {
+    Case::Module {
         items: &[
             Item::Number(Some("x")),
             Item::Struct(None, &[Some("x"), Some("type")]),
@@ -266,7 +282,7 @@ const ROWS: &[Row] = &[
         ],
     },
     // A struct that entry points return is named by the last of them.
-    Row {
+    Case::Module {
         items: &[
             Item::Struct(None, &[]),
             Item::EntryPoint("main", ShaderStage::Vertex),
@@ -274,7 +290,7 @@ const ROWS: &[Row] = &[
         ],
         names: &["FragmentOutput", "main", "main_1"],
     },
-    Row {
+    Case::Module {
         items: &[
             Item::Struct(None, &[]),
             Item::EntryPoint("main", ShaderStage::Compute),
@@ -282,43 +298,13 @@ const ROWS: &[Row] = &[
         ],
         names: &["ComputeOutput", "main", "main_1"],
     },
-    Row {
+    Case::Module {
         items: &[
             Item::Struct(None, &[]),
             Item::EntryPoint("main", ShaderStage::Mesh),
         ],
         names: &["type_", "main"],
     },
-];
-
-const EMPTY: Row = Row {
-    items: &[],
-    names: &[],
-};
-
-/// Labels of calls of a `Namer` that was reset by the empty module.
-const LABELS: &[Calls] = &[
-    &[
-        ("fn", "fn_"),
-        ("_naga_x", "gen__naga_x"),
-        ("traceRay", "traceRay_"),
-    ],
-    &[("type", "type_"), ("type", "type_1")],
-    &[("\u{1f600}", "u1f600_")],
-    &[("\u{3b1}\u{3b2}", "u03b1_u03b2_")],
-    &[("\u{663}k", "k"), ("\u{2167}v", "v"), ("\u{bd}h", "h")],
-    &[("v\u{2167}", "v_u2167_")],
-    &[
-        ("\u{e9}9", "u00e9_9_"),
-        ("x\u{e9}\u{e9}y", "x_u00e9_u00e9_y"),
-    ],
-    &[("\n", "u000a"), ("\0", "u0000_")],
-    &[("a b", "a_u0020_b"), ("a-b", "a_u002d_b")],
-    &[("_naga", "gen__naga"), ("__x", "_x"), ("_:x", "_x_1")],
-    &[("Self", "Self_"), ("self", "self_"), ("self", "self_1")],
-    &[("x_1", "x_1_"), ("x", "x"), ("x", "x_1")],
-    &[("<a,b>", "_a_b"), ("a_", "a"), ("a__b", "a_b")],
-    &[("::", "unnamed"), ("9_", "unnamed_1")],
 ];
 
 /// A module that is built item by item, the keys of its items, and their names after a `reset`.
@@ -523,12 +509,12 @@ impl Sample {
     }
 
     fn add_constant(&mut self, label: Label) -> Result<(), AllocError> {
-        let name = text(self.alloc, label)?;
         let ty = first_type();
         let init = self
             .module
             .global_expressions
             .append(Expression::ZeroValue(ty))?;
+        let name = text(self.alloc, label)?;
         let handle = self.module.constants.append(Constant { name, ty, init })?;
         self.keys.push(NameKey::Constant(handle))?;
         Ok(())
@@ -559,66 +545,98 @@ impl Sample {
         reset_for_wgsl(self.alloc, &mut self.namer, &self.module, &mut self.names)
     }
 
-    /// Each key has its name, and the map no other keys than these and the one that it had.
-    fn has_names(&self, rt: &impl Abort, want: &[&str]) {
-        for (key, name) in self.keys.iter().zip(want) {
-            assert!(rt;
-                self.names
-                    .get(key)
-                    .is_some_and(|found| found.as_str() == *name),
-                "{key:?}"
-            );
+    /// Whether the key has the name, or is not in the map.
+    fn is_right(&self, key: &NameKey, name: &str, is_named: bool) -> bool {
+        match self.names.get(key) {
+            Some(found) => is_named && found.as_str() == name,
+            None => !is_named,
         }
-        assert_eq!(rt; self.keys.len(), want.len());
-        assert!(rt; self.names.contains_key(&OTHER) && self.names.len() - 1 == want.len());
     }
 
-    /// Some first keys have their names, and the map has the key that it had.
-    fn has_some_names(&self, rt: &impl Abort, want: &[&str]) {
-        let mut ended = false;
+    /// Each key has its name, and the map no other keys than these and the one that it had; or, where
+    /// the `reset` was refused, some first keys have their names, and the map has the key that it had.
+    fn has_names(&self, rt: &impl Abort, want: &[&str], is_reset: bool) {
+        let mut has_all = true;
         for (key, name) in self.keys.iter().zip(want) {
-            match self.names.get(key) {
-                Some(found) => assert!(rt; !ended && found.as_str() == *name, "{key:?}"),
-                None => ended = true,
-            }
+            has_all = has_all && (is_reset || self.names.contains_key(key));
+            assert!(rt; self.is_right(key, name, has_all), "{key:?}");
         }
         assert!(rt; self.names.contains_key(&OTHER));
+        assert!(rt; !is_reset || self.has_count(want.len()));
     }
 
-    /// A `reset` gives the names, and the calls theirs behind it, or it is refused for want of memory: then the map has the names of some
-    /// first items, and the `Namer` is a new one.
-    fn check(&mut self, rt: &impl Abort, row: &Row, calls: Calls) -> Result<(), NamerError> {
-        self.fill(row.items)?;
-        match self.reset() {
-            Ok(()) => {
-                self.has_names(rt, row.names);
-                gives(rt, &mut self.namer, calls)
-            }
-            Err(_) => {
-                self.has_some_names(rt, row.names);
-                gives(rt, &mut self.namer, &[("fn", "fn"), ("x", "x")])
-            }
+    /// Whether there are so many keys, and the map has one more.
+    fn has_count(&self, count: usize) -> bool {
+        self.keys.len() == count && self.names.len() == count.saturating_add(1)
+    }
+
+    /// A `reset` gives the names, and the calls theirs behind it, or it is refused for want of memory:
+    /// then the map has the names of some first items, and the `Namer` is a new one.
+    fn check_reset(
+        &mut self,
+        rt: &impl Abort,
+        items: &[Item],
+        names: &[&str],
+        calls: Calls,
+    ) -> Result<(), NamerError> {
+        self.fill(items)?;
+        let is_reset = self.reset().is_ok();
+        self.has_names(rt, names, is_reset);
+        gives(
+            rt,
+            &mut self.namer,
+            if is_reset { calls } else { OF_A_NEW_NAMER },
+        )
+    }
+
+    fn check_long_label(&mut self, rt: &impl Abort) -> Result<(), NamerError> {
+        let long = long_label(self.alloc)?;
+        gives(rt, &mut self.namer, &[(long.as_str(), "unnamed")])
+    }
+
+    /// The name of the label, or else of `param`.
+    fn name_or_param(&mut self, label: Label) -> Result<String, NamerError> {
+        let label = text(self.alloc, label)?;
+        self.namer.call_or(&label, "param")
+    }
+
+    /// Labels, or none, give these names with the fallback `param`.
+    fn gives_or_param(
+        &mut self,
+        rt: &impl Abort,
+        rows: &[(Label, &str)],
+    ) -> Result<(), NamerError> {
+        for (label, want) in rows {
+            let name = self.name_or_param(*label)?;
+            assert_eq!(rt; name.as_str(), *want, "for {label:?}");
+        }
+        Ok(())
+    }
+
+    fn check(&mut self, rt: &impl Abort, case: &Case) -> Result<(), NamerError> {
+        match case {
+            Case::Calls(calls) => gives(rt, &mut self.namer, *calls),
+            Case::LongLabel => self.check_long_label(rt),
+            Case::OrParam(rows) => self.gives_or_param(rt, *rows),
+            Case::Reset(calls) => self.check_reset(rt, &[], &[], *calls),
+            Case::Module { items, names } => self.check_reset(rt, *items, *names, &[]),
         }
     }
 }
 
-fn check_row(rt: &impl Abort, alloc: Global, row: &Row, calls: Calls) -> Result<(), NamerError> {
+/// Checks the case on a sample of its own. The sample is dropped by a call, which is proved faster than a
+/// drop at the end of a scope, since that takes the sample apart here.
+fn check(rt: &impl Abort, alloc: Global, case: &Case) -> Result<(), NamerError> {
     let mut sample = Sample::new(alloc);
-    sample.check(rt, row, calls)
+    let checked = sample.check(rt, case);
+    drop(sample);
+    checked
 }
 
 #[test]
-fn names_of_modules(rt: HostRuntime) -> Result<(), Fail> {
-    for row in ROWS {
-        check_row(&rt, rt.alloc(), row, &[])?;
-    }
-    Ok(())
-}
-
-#[test]
-fn names_by_labels_for_wgsl(rt: HostRuntime) -> Result<(), Fail> {
-    for calls in LABELS {
-        check_row(&rt, rt.alloc(), &EMPTY, *calls)?;
+fn names_are_given(rt: HostRuntime) -> Result<(), Fail> {
+    for case in CASES {
+        check(&rt, rt.alloc(), case)?;
     }
     Ok(())
 }
