@@ -7,6 +7,7 @@ use naga_wgsl_out::info::{accepts, count};
 use naga_wgsl_out::wgsl::{WriterFlags, write_string};
 use std::alloc::Global;
 use std::fmt::Display;
+use std::io;
 use std::io::Write;
 
 #[cfg(test)]
@@ -21,8 +22,23 @@ pub fn run<O: Write, E: Write>(alloc: Global, words: &[String], out: &mut O, err
     let Some((row, flags)) = request(words) else {
         return unknown_row(err);
     };
-    match row.sample(alloc) {
-        Ok(mut sample) => answer(alloc, &mut sample, flags, out, err),
+    let mut sample = Sample::new(alloc);
+    let status = build_and_answer(alloc, row, &mut sample, flags, out, err);
+    drop(sample);
+    status
+}
+
+/// Builds the row's module in the empty sample, and prints its text, or why there is none.
+fn build_and_answer<O: Write, E: Write>(
+    alloc: Global,
+    row: Row,
+    sample: &mut Sample,
+    flags: WriterFlags,
+    out: &mut O,
+    err: &mut E,
+) -> u8 {
+    match row.build(sample) {
+        Ok(()) => answer(alloc, sample, flags, out, err),
         Err(_) => refuse("out of memory", err),
     }
 }
@@ -60,14 +76,16 @@ pub fn answer<O: Write, E: Write>(
 }
 
 fn print_text<O: Write, E: Write>(text: &str, out: &mut O, err: &mut E) -> u8 {
-    let printed = match out.write_all(text.as_bytes()) {
-        Ok(()) => out.flush(),
-        Err(error) => Err(error),
-    };
-    match printed {
-        Ok(()) => 0,
-        Err(_) => refuse("output", err),
+    if write_and_flush(text, out).is_ok() {
+        0
+    } else {
+        refuse("output", err)
     }
+}
+
+fn write_and_flush<O: Write>(text: &str, out: &mut O) -> io::Result<()> {
+    out.write_all(text.as_bytes())?;
+    out.flush()
 }
 
 /// Tells why there is no text, as far as `err` takes it, and gives the status.

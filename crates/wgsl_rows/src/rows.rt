@@ -47,20 +47,14 @@ impl Row {
         }
     }
 
-    /// The row's module, with what is known of it.
-    pub fn sample(self, alloc: Global) -> Result<Sample, AllocError> {
-        let mut sample = Sample::new(alloc);
-        self.build(&mut sample)?;
-        Ok(sample)
-    }
-
-    fn build(self, sample: &mut Sample) -> Result<(), AllocError> {
+    /// Builds the row's module, with what is known of it, in an empty sample.
+    pub fn build(self, sample: &mut Sample) -> Result<(), AllocError> {
         match self {
             Row::Empty => Ok(()),
-            Row::Identity => build_identity(sample),
+            Row::Identity => build_argument(sample, "f", &["x"], 0),
             Row::Negative => build_negative(sample),
-            Row::Same => build_same(sample),
-            Row::Type_ => build_type(sample),
+            Row::Same => build_argument(sample, "f", &["x", "x"], 1),
+            Row::Type_ => build_argument(sample, "type", &["1x"], 0),
             Row::Store => build_store(sample, true),
             Row::Unused => build_store(sample, false),
             Row::Late => build_late(sample),
@@ -70,14 +64,19 @@ impl Row {
     }
 }
 
-fn build_identity(sample: &mut Sample) -> Result<(), AllocError> {
-    let i32_type = sample.scalar(Scalar::I32)?;
-    sample.label("f")?;
-    sample.argument("x", i32_type)?;
-    sample.returns(i32_type);
-    let x = sample.expression(Expression::FunctionArgument(0), i32_type)?;
-    sample.return_value(x)?;
-    sample.end_function()
+/// A function of this label that has arguments of these labels and returns its argument of this number.
+pub fn build_argument(
+    sample: &mut Sample,
+    label: &str,
+    arguments: &[&str],
+    number: u32,
+) -> Result<(), AllocError> {
+    let i32_type = sample.begin(label)?;
+    for argument in arguments {
+        sample.argument(*argument, i32_type)?;
+    }
+    let value = sample.expression(Expression::FunctionArgument(number), i32_type)?;
+    sample.end_with(value)
 }
 
 fn build_negative(sample: &mut Sample) -> Result<(), AllocError> {
@@ -87,61 +86,58 @@ fn build_negative(sample: &mut Sample) -> Result<(), AllocError> {
     sample.argument("b", bool_type)?;
     sample.returns(i64_type);
     let minus_seven = sample.literal(Literal::I64(-7), i64_type)?;
-    sample.return_value(minus_seven)?;
-    sample.end_function()
+    sample.end_with(minus_seven)
 }
 
-fn build_same(sample: &mut Sample) -> Result<(), AllocError> {
-    let i32_type = sample.scalar(Scalar::I32)?;
-    sample.label("f")?;
-    sample.argument("x", i32_type)?;
-    sample.argument("x", i32_type)?;
-    sample.returns(i32_type);
-    let second = sample.expression(Expression::FunctionArgument(1), i32_type)?;
-    sample.return_value(second)?;
-    sample.end_function()
+/// A local, a literal 1 that is its first value, and a read of it.
+#[derive(Clone, Copy)]
+struct Held {
+    i32_type: Handle<Type_>,
+    one: Handle<Expression>,
+    pointer: Handle<Expression>,
+    held: Handle<Expression>,
 }
 
-fn build_type(sample: &mut Sample) -> Result<(), AllocError> {
-    let i32_type = sample.scalar(Scalar::I32)?;
-    sample.label("type")?;
-    sample.argument("1x", i32_type)?;
-    sample.returns(i32_type);
-    let x = sample.expression(Expression::FunctionArgument(0), i32_type)?;
-    sample.return_value(x)?;
-    sample.end_function()
+fn begin_held(sample: &mut Sample, label: &str) -> Result<Held, AllocError> {
+    let i32_type = sample.begin(label)?;
+    let one = sample.literal(Literal::I32(1), i32_type)?;
+    let a = sample.local("a", i32_type, Some(one))?;
+    let pointer = sample.pointer(a, i32_type)?;
+    let held = sample.expression(Expression::Load { pointer }, i32_type)?;
+    Ok(Held {
+        i32_type,
+        one,
+        pointer,
+        held,
+    })
 }
 
 /// Stores 2 to a local that holds 1, and returns what it held, or 2.
 fn build_store(sample: &mut Sample, is_used: bool) -> Result<(), AllocError> {
-    let i32_type = sample.scalar(Scalar::I32)?;
-    sample.label("g")?;
-    sample.returns(i32_type);
-    let one = sample.literal(Literal::I32(1), i32_type)?;
-    let a = sample.local("a", i32_type, Some(one))?;
-    let pointer = sample.pointer(a, i32_type)?;
-    let held = sample.expression(Expression::Load { pointer }, i32_type)?;
+    let Held {
+        i32_type,
+        one: _,
+        pointer,
+        held,
+    } = begin_held(sample, "g")?;
     let two = sample.literal(Literal::I32(2), i32_type)?;
     sample.emit(held, held)?;
     sample.store(pointer, two)?;
-    sample.return_value(if is_used { held } else { two })?;
-    sample.end_function()
+    sample.end_with(if is_used { held } else { two })
 }
 
 fn build_late(sample: &mut Sample) -> Result<(), AllocError> {
-    let i32_type = sample.scalar(Scalar::I32)?;
-    sample.label("p")?;
-    sample.returns(i32_type);
-    let one = sample.literal(Literal::I32(1), i32_type)?;
-    let a = sample.local("a", i32_type, Some(one))?;
-    let pointer = sample.pointer(a, i32_type)?;
-    let held = sample.expression(Expression::Load { pointer }, i32_type)?;
+    let Held {
+        i32_type,
+        one,
+        pointer,
+        held,
+    } = begin_held(sample, "p")?;
     let sum = sample.binary(BinaryOperator::Add, held, one, i32_type)?;
     let two = sample.literal(Literal::I32(2), i32_type)?;
     sample.emit(held, sum)?;
     sample.store(pointer, two)?;
-    sample.return_value(sum)?;
-    sample.end_function()
+    sample.end_with(sum)
 }
 
 /// The argument's double, and what the local to which it was stored holds.
@@ -153,10 +149,8 @@ struct Doubled {
 }
 
 fn begin_doubled(sample: &mut Sample) -> Result<Doubled, AllocError> {
-    let i32_type = sample.scalar(Scalar::I32)?;
-    sample.label("q")?;
+    let i32_type = sample.begin("q")?;
     sample.argument("x", i32_type)?;
-    sample.returns(i32_type);
     let a = sample.local("a", i32_type, None)?;
     let x = sample.expression(Expression::FunctionArgument(0), i32_type)?;
     let pointer = sample.pointer(a, i32_type)?;
@@ -174,8 +168,7 @@ fn begin_doubled(sample: &mut Sample) -> Result<Doubled, AllocError> {
 fn build_inline(sample: &mut Sample) -> Result<(), AllocError> {
     let doubled = begin_doubled(sample)?;
     sample.emit(doubled.held, doubled.held)?;
-    sample.return_value(doubled.held)?;
-    sample.end_function()
+    sample.end_with(doubled.held)
 }
 
 fn build_twofold(sample: &mut Sample) -> Result<(), AllocError> {
@@ -187,6 +180,5 @@ fn build_twofold(sample: &mut Sample) -> Result<(), AllocError> {
     } = doubled;
     let product = sample.binary(BinaryOperator::Multiply, sum, held, i32_type)?;
     sample.emit(held, product)?;
-    sample.return_value(product)?;
-    sample.end_function()
+    sample.end_with(product)
 }

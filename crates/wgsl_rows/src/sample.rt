@@ -44,6 +44,14 @@ impl Sample {
         })
     }
 
+    /// Begins a function of this label with a result of the type `i32`, which it gives.
+    pub fn begin(&mut self, label: &str) -> Result<Handle<Type_>, AllocError> {
+        let i32_type = self.scalar(Scalar::I32)?;
+        self.label(label)?;
+        self.returns(i32_type);
+        Ok(i32_type)
+    }
+
     /// Labels the function.
     pub fn label(&mut self, label: &str) -> Result<(), AllocError> {
         self.function.name = Some(String::from_str(self.alloc, label)?);
@@ -156,6 +164,12 @@ impl Sample {
         self.function
             .body
             .push(Statement::Return { value: Some(value) })
+    }
+
+    /// Ends the function with the return of a value.
+    pub fn end_with(&mut self, value: Handle<Expression>) -> Result<(), AllocError> {
+        self.return_value(value)?;
+        self.end_function()
     }
 
     /// Puts the function behind the module's others, and begins with another.

@@ -1,5 +1,5 @@
 use super::{answer, run};
-use crate::rows::Row;
+use crate::rows::{Row, build_argument};
 use crate::sample::Sample;
 use bitflags::Flags;
 use naga_wgsl_out::ir::{Expression, Literal, Scalar};
@@ -7,7 +7,22 @@ use naga_wgsl_out::wgsl::WriterFlags;
 use std::alloc::{AllocError, Global};
 use std::io;
 use std::io::Write;
+use std::process::Abort;
 use std::test::Fail;
+
+/// The program's status on these words.
+fn status<O: Write, E: Write>(
+    alloc: Global,
+    words: &[&str],
+    out: &mut O,
+    err: &mut E,
+) -> Result<u8, AllocError> {
+    let mut texts = Vec::new(alloc);
+    for word in words {
+        texts.push(String::from_str(alloc, *word)?)?;
+    }
+    Ok(run(alloc, &texts, out, err))
+}
 
 /// Whether the words give this output, this error output and this status.
 fn gives(
@@ -15,129 +30,112 @@ fn gives(
     words: &[&str],
     text: &str,
     told: &str,
-    status: u8,
+    want: u8,
 ) -> Result<bool, AllocError> {
-    let mut texts = Vec::new(alloc);
-    for word in words {
-        texts.push(String::from_str(alloc, word)?)?;
-    }
     let mut out = Vec::new(alloc);
     let mut err = Vec::new(alloc);
-    let given = run(alloc, &texts, &mut out, &mut err);
-    Ok(given == status && out.as_slice() == text.as_bytes() && err.as_slice() == told.as_bytes())
+    let given = status(alloc, words, &mut out, &mut err)?;
+    Ok(given == want && out.as_slice() == text.as_bytes() && err.as_slice() == told.as_bytes())
 }
 
-/// Whether the row has this text, with either setting of the flags.
-fn has_text(alloc: Global, row: &str, text: &str) -> Result<bool, AllocError> {
-    Ok(gives(alloc, &[row], text, "", 0)? && gives(alloc, &[row, "explicit"], text, "", 0)?)
+/// The row has this text, and with the types of its `let`s the other one.
+fn check_row(
+    rt: &impl Abort,
+    alloc: Global,
+    row: &str,
+    text: &str,
+    explicit: &str,
+) -> Result<(), AllocError> {
+    assert!(rt; gives(alloc, &[row], text, "", 0)?, "{row}");
+    assert!(rt;
+        gives(alloc, &[row, "explicit"], explicit, "", 0)?,
+        "{row} explicit"
+    );
+    Ok(())
 }
+
+const IDENTITY: &str = "fn f(x: i32) -> i32 {\n    return x;\n}\n\n";
+
+/// Rows with their texts, which are the same with either setting of the flags.
+const ROWS: &[(&str, &str)] = &[
+    ("empty", ""),
+    ("identity", IDENTITY),
+    (
+        "negative",
+        "fn r(b: bool) -> i64 {\n    return -7li;\n}\n\n",
+    ),
+    (
+        "same",
+        "fn f(x: i32, x_1: i32) -> i32 {\n    return x_1;\n}\n\n",
+    ),
+    ("type", "fn type_1(x: i32) -> i32 {\n    return x;\n}\n\n"),
+    (
+        "unused",
+        "fn g() -> i32 {\n    var a: i32 = 1i;\n\n    a = 2i;\n    return 2i;\n}\n\n",
+    ),
+];
 
 #[test]
 fn rows_are_written(rt: HostRuntime) -> Result<(), Fail> {
-    let alloc = rt.alloc();
-    assert!(rt; has_text(alloc, "empty", "")?);
-    assert!(rt;
-        has_text(
-            alloc,
-            "identity",
-            "fn f(x: i32) -> i32 {\n    return x;\n}\n\n"
-        )?
-    );
-    assert!(rt;
-        has_text(
-            alloc,
-            "negative",
-            "fn r(b: bool) -> i64 {\n    return -7li;\n}\n\n"
-        )?
-    );
-    assert!(rt;
-        has_text(
-            alloc,
-            "same",
-            "fn f(x: i32, x_1: i32) -> i32 {\n    return x_1;\n}\n\n"
-        )?
-    );
-    assert!(rt;
-        has_text(
-            alloc,
-            "type",
-            "fn type_1(x: i32) -> i32 {\n    return x;\n}\n\n"
-        )?
-    );
+    for (row, text) in ROWS {
+        check_row(&rt, rt.alloc(), *row, *text, *text)?;
+    }
     Ok(())
 }
 
-/// Whether the row has these texts, without and with the types of its `let`s.
-fn has_texts(alloc: Global, row: &str, text: &str, told: &str) -> Result<bool, AllocError> {
-    Ok(gives(alloc, &[row], text, "", 0)? && gives(alloc, &[row, "explicit"], told, "", 0)?)
-}
+/// Rows with their texts, without and with the types of their `let`s. Loads are bound where they are
+/// emitted, and operators where they are used twice.
+const ROWS_WITH_LETS: &[(&str, &str, &str)] = &[
+    (
+        "store",
+        "fn g() -> i32 {\n    var a: i32 = 1i;\n\n    let _e2 = a;\n    a = 2i;\n    return _e2;\n}\n\n",
+        "fn g() -> i32 {\n    var a: i32 = 1i;\n\n    let _e2: i32 = a;\n    a = 2i;\n    return _e2;\n}\n\n",
+    ),
+    (
+        "late",
+        "fn p() -> i32 {\n    var a: i32 = 1i;\n\n    let _e2 = a;\n    a = 2i;\n    return (_e2 + 1i);\n}\n\n",
+        "fn p() -> i32 {\n    var a: i32 = 1i;\n\n    let _e2: i32 = a;\n    a = 2i;\n    return (_e2 + 1i);\n}\n\n",
+    ),
+    (
+        "inline",
+        "fn q(x: i32) -> i32 {\n    var a: i32;\n\n    a = (x + x);\n    let _e3 = a;\n    return _e3;\n}\n\n",
+        "fn q(x: i32) -> i32 {\n    var a: i32;\n\n    a = (x + x);\n    let _e3: i32 = a;\n    return _e3;\n}\n\n",
+    ),
+    (
+        "twofold",
+        "fn q(x: i32) -> i32 {\n    var a: i32;\n\n    let _e2 = (x + x);\n    a = _e2;\n    let _e3 = a;\n    return (_e2 * _e3);\n}\n\n",
+        "fn q(x: i32) -> i32 {\n    var a: i32;\n\n    let _e2: i32 = (x + x);\n    a = _e2;\n    let _e3: i32 = a;\n    return (_e2 * _e3);\n}\n\n",
+    ),
+];
 
 #[test]
-fn loads_are_bound_where_they_are_emitted(rt: HostRuntime) -> Result<(), Fail> {
-    let alloc = rt.alloc();
-    assert!(rt;
-        has_texts(
-            alloc,
-            "store",
-            "fn g() -> i32 {\n    var a: i32 = 1i;\n\n    let _e2 = a;\n    a = 2i;\n    return _e2;\n}\n\n",
-            "fn g() -> i32 {\n    var a: i32 = 1i;\n\n    let _e2: i32 = a;\n    a = 2i;\n    return _e2;\n}\n\n"
-        )?
-    );
-    assert!(rt;
-        has_text(
-            alloc,
-            "unused",
-            "fn g() -> i32 {\n    var a: i32 = 1i;\n\n    a = 2i;\n    return 2i;\n}\n\n"
-        )?
-    );
-    assert!(rt;
-        has_texts(
-            alloc,
-            "late",
-            "fn p() -> i32 {\n    var a: i32 = 1i;\n\n    let _e2 = a;\n    a = 2i;\n    return (_e2 + 1i);\n}\n\n",
-            "fn p() -> i32 {\n    var a: i32 = 1i;\n\n    let _e2: i32 = a;\n    a = 2i;\n    return (_e2 + 1i);\n}\n\n"
-        )?
-    );
+fn values_are_bound(rt: HostRuntime) -> Result<(), Fail> {
+    for (row, text, explicit) in ROWS_WITH_LETS {
+        check_row(&rt, rt.alloc(), *row, *text, *explicit)?;
+    }
     Ok(())
 }
 
-#[test]
-fn operators_are_bound_where_they_are_used_twice(rt: HostRuntime) -> Result<(), Fail> {
-    let alloc = rt.alloc();
-    assert!(rt;
-        has_texts(
-            alloc,
-            "inline",
-            "fn q(x: i32) -> i32 {\n    var a: i32;\n\n    a = (x + x);\n    let _e3 = a;\n    return _e3;\n}\n\n",
-            "fn q(x: i32) -> i32 {\n    var a: i32;\n\n    a = (x + x);\n    let _e3: i32 = a;\n    return _e3;\n}\n\n"
-        )?
-    );
-    assert!(rt;
-        has_texts(
-            alloc,
-            "twofold",
-            "fn q(x: i32) -> i32 {\n    var a: i32;\n\n    let _e2 = (x + x);\n    a = _e2;\n    let _e3 = a;\n    return (_e2 * _e3);\n}\n\n",
-            "fn q(x: i32) -> i32 {\n    var a: i32;\n\n    let _e2: i32 = (x + x);\n    a = _e2;\n    let _e3: i32 = a;\n    return (_e2 * _e3);\n}\n\n"
-        )?
-    );
-    Ok(())
-}
-
-fn is_unknown(alloc: Global, words: &[&str]) -> Result<bool, AllocError> {
-    gives(alloc, words, "", "unknown row\n", 2)
-}
+/// Words that name no row.
+const UNKNOWN: &[&[&str]] = &[
+    &[],
+    &[""],
+    &["Identity"],
+    &["identity "],
+    &["stores"],
+    &["identity", "Explicit"],
+    &["explicit", "identity"],
+    &["identity", "explicit", "explicit"],
+];
 
 #[test]
 fn unknown_words_are_refused(rt: HostRuntime) -> Result<(), Fail> {
-    let alloc = rt.alloc();
-    assert!(rt; is_unknown(alloc, &[])?);
-    assert!(rt; is_unknown(alloc, &[""])?);
-    assert!(rt; is_unknown(alloc, &["Identity"])?);
-    assert!(rt; is_unknown(alloc, &["identity "])?);
-    assert!(rt; is_unknown(alloc, &["stores"])?);
-    assert!(rt; is_unknown(alloc, &["identity", "Explicit"])?);
-    assert!(rt; is_unknown(alloc, &["explicit", "identity"])?);
-    assert!(rt; is_unknown(alloc, &["identity", "explicit", "explicit"])?);
+    for words in UNKNOWN {
+        assert!(rt;
+            gives(rt.alloc(), *words, "", "unknown row\n", 2)?,
+            "{words:?}"
+        );
+    }
     Ok(())
 }
 
@@ -155,134 +153,137 @@ impl Write for Broken {
     }
 }
 
+/// The statuses where the output is broken, where both are, and where the error output is.
+fn broken_statuses(alloc: Global, written: &mut Vec<u8>) -> Result<[u8; 3], AllocError> {
+    Ok([
+        status(alloc, &["identity"], &mut Broken, written)?,
+        status(alloc, &["identity"], &mut Broken, &mut Broken)?,
+        status(alloc, &["identity", "twice"], written, &mut Broken)?,
+    ])
+}
+
 #[test]
 fn broken_outputs_are_told(rt: HostRuntime) -> Result<(), Fail> {
-    let alloc = rt.alloc();
-    let mut words = Vec::new(alloc);
-    words.push(String::from_str(alloc, "identity")?)?;
-    let mut err = Vec::new(alloc);
-    assert_eq!(rt; run(alloc, &words, &mut Broken, &mut err), 1);
-    assert_eq!(rt; err.as_slice(), b"refused: output\n".as_slice());
-    assert_eq!(rt; run(alloc, &words, &mut Broken, &mut Broken), 1);
-    words.push(String::from_str(alloc, "twice")?)?;
-    assert_eq!(rt; run(alloc, &words, &mut err, &mut Broken), 2);
+    let mut written = Vec::new(rt.alloc());
+    let statuses = broken_statuses(rt.alloc(), &mut written)?;
+    assert_eq!(rt; statuses, [1, 1, 2]);
+    assert_eq!(rt; written.as_slice(), b"refused: output\n".as_slice());
     Ok(())
 }
 
-/// Whether the module is refused with these words.
-fn is_refused(alloc: Global, sample: &mut Sample, told: &str) -> bool {
-    let mut out = Vec::new(alloc);
-    let mut err = Vec::new(alloc);
-    let status = answer(alloc, sample, WriterFlags::empty(), &mut out, &mut err);
-    status == 1 && out.is_empty() && err.as_slice() == told.as_bytes()
+/// What a sample's function does.
+#[derive(Clone, Copy, Debug)]
+enum Case {
+    /// It has a local variable whose first value is its argument.
+    LocalOfArgument,
+    /// It returns what a local holds, with no `Emit` of the load.
+    LoadWithoutEmit,
+    /// It has one argument, and returns its argument of this number.
+    Argument(u32),
+    /// It has a result of type `i32`, and returns this literal, as if it had that type.
+    Return(Literal, Scalar),
+    /// It returns its argument, and nothing is known of it.
+    WithoutInfo,
 }
 
-/// A function with a local variable whose first value is the function's argument.
-fn build_local(sample: &mut Sample) -> Result<(), AllocError> {
-    let i32_type = sample.scalar(Scalar::I32)?;
-    sample.label("g")?;
+impl Case {
+    fn build(self, sample: &mut Sample) -> Result<(), AllocError> {
+        match self {
+            Case::LocalOfArgument => build_local_of_argument(sample),
+            Case::LoadWithoutEmit => build_load_without_emit(sample),
+            Case::Argument(number) => build_argument(sample, "f", &["x"], number),
+            Case::Return(literal, scalar) => build_return(sample, literal, scalar),
+            Case::WithoutInfo => build_without_info(sample),
+        }
+    }
+}
+
+fn build_local_of_argument(sample: &mut Sample) -> Result<(), AllocError> {
+    let i32_type = sample.begin("g")?;
     sample.argument("x", i32_type)?;
-    sample.returns(i32_type);
     let x = sample.expression(Expression::FunctionArgument(0), i32_type)?;
     sample.local("a", i32_type, Some(x))?;
-    sample.return_value(x)?;
-    sample.end_function()
+    sample.end_with(x)
 }
 
-fn is_not_yet_written(alloc: Global) -> Result<bool, AllocError> {
-    let mut sample = Sample::new(alloc);
-    build_local(&mut sample)?;
-    Ok(is_refused(alloc, &mut sample, "refused: not yet written\n"))
-}
-
-#[test]
-fn first_values_that_are_no_literals_are_not_yet_written(rt: HostRuntime) -> Result<(), Fail> {
-    assert!(rt; is_not_yet_written(rt.alloc())?);
-    Ok(())
-}
-
-/// A function that returns what a local holds, with no `Emit` of the load.
 fn build_load_without_emit(sample: &mut Sample) -> Result<(), AllocError> {
-    let i32_type = sample.scalar(Scalar::I32)?;
-    sample.label("g")?;
-    sample.returns(i32_type);
+    let i32_type = sample.begin("g")?;
     let a = sample.local("a", i32_type, None)?;
     let pointer = sample.pointer(a, i32_type)?;
     let held = sample.expression(Expression::Load { pointer }, i32_type)?;
-    sample.return_value(held)?;
-    sample.end_function()
+    sample.end_with(held)
 }
 
-fn is_out_of_scope(alloc: Global) -> Result<bool, AllocError> {
-    let mut sample = Sample::new(alloc);
-    build_load_without_emit(&mut sample)?;
-    Ok(is_refused(alloc, &mut sample, "refused: operand out of scope\n"))
-}
-
-#[test]
-fn loads_that_were_not_emitted_are_out_of_scope(rt: HostRuntime) -> Result<(), Fail> {
-    assert!(rt; is_out_of_scope(rt.alloc())?);
-    Ok(())
-}
-
-/// A function of one argument that returns its argument of this number.
-fn build_argument_number(sample: &mut Sample, number: u32) -> Result<(), AllocError> {
-    let i32_type = sample.scalar(Scalar::I32)?;
-    sample.label("f")?;
-    sample.argument("x", i32_type)?;
-    sample.returns(i32_type);
-    let x = sample.expression(Expression::FunctionArgument(number), i32_type)?;
-    sample.return_value(x)?;
-    sample.end_function()
-}
-
-fn argument_number_is_invalid(alloc: Global, number: u32) -> Result<bool, AllocError> {
-    let mut sample = Sample::new(alloc);
-    build_argument_number(&mut sample, number)?;
-    Ok(is_refused(alloc, &mut sample, "refused: invalid module\n"))
-}
-
-#[test]
-fn arguments_past_the_list_are_invalid(rt: HostRuntime) -> Result<(), Fail> {
-    assert!(rt; !argument_number_is_invalid(rt.alloc(), 0)?);
-    assert!(rt; argument_number_is_invalid(rt.alloc(), 1)?);
-    assert!(rt; argument_number_is_invalid(rt.alloc(), u32::MAX)?);
-    Ok(())
-}
-
-/// A function with a result of type `i32` that returns this literal, as if it had that type.
 fn build_return(sample: &mut Sample, literal: Literal, scalar: Scalar) -> Result<(), AllocError> {
-    let i32_type = sample.scalar(Scalar::I32)?;
+    let i32_type = sample.begin("f")?;
     let literal_type = sample.scalar(scalar)?;
-    sample.label("f")?;
-    sample.returns(i32_type);
     let value = sample.literal(literal, literal_type)?;
-    sample.return_value(value)?;
-    sample.end_function()
+    sample.end_with(value)
 }
 
-fn return_is_invalid(alloc: Global, literal: Literal, scalar: Scalar) -> Result<bool, AllocError> {
-    let mut sample = Sample::new(alloc);
-    build_return(&mut sample, literal, scalar)?;
-    Ok(is_refused(alloc, &mut sample, "refused: invalid module\n"))
-}
-
-#[test]
-fn values_of_wrong_types_are_invalid(rt: HostRuntime) -> Result<(), Fail> {
-    assert!(rt; !return_is_invalid(rt.alloc(), Literal::I32(1), Scalar::I32)?);
-    assert!(rt; return_is_invalid(rt.alloc(), Literal::U32(1), Scalar::U32)?);
-    assert!(rt; return_is_invalid(rt.alloc(), Literal::U32(1), Scalar::I32)?);
+fn build_without_info(sample: &mut Sample) -> Result<(), AllocError> {
+    Row::Identity.build(sample)?;
+    sample.info.functions.clear();
     Ok(())
 }
 
-fn identity_without_info_is_invalid(alloc: Global) -> Result<bool, AllocError> {
-    let mut sample = Row::Identity.sample(alloc)?;
-    sample.info.functions.clear();
-    Ok(is_refused(alloc, &mut sample, "refused: invalid module\n"))
+/// Whether the case, built in an empty sample, gives this output and is refused with these words, or is
+/// not refused where there are none.
+fn built_gives(
+    alloc: Global,
+    sample: &mut Sample,
+    case: Case,
+    text: &str,
+    told: &str,
+) -> Result<bool, AllocError> {
+    case.build(sample)?;
+    let mut out = Vec::new(alloc);
+    let mut err = Vec::new(alloc);
+    let status = answer(alloc, sample, WriterFlags::empty(), &mut out, &mut err);
+    Ok(
+        status == u8::from(!told.is_empty())
+            && out.as_slice() == text.as_bytes()
+            && err.as_slice() == told.as_bytes(),
+    )
 }
 
+/// The same on a sample of its own. It is dropped by a call, which is proved faster than a drop at the end
+/// of a scope, since that takes the sample apart here.
+fn case_gives(alloc: Global, case: Case, text: &str, told: &str) -> Result<bool, AllocError> {
+    let mut sample = Sample::new(alloc);
+    let given = built_gives(alloc, &mut sample, case, text, told);
+    drop(sample);
+    given
+}
+
+const INVALID: &str = "refused: invalid module\n";
+
+/// Cases with their texts, or with the words that refuse them.
+const CASES: &[(Case, &str, &str)] = &[
+    // First values that are no literals are not yet written.
+    (Case::LocalOfArgument, "", "refused: not yet written\n"),
+    // Loads that were not emitted are out of scope.
+    (Case::LoadWithoutEmit, "", "refused: operand out of scope\n"),
+    // Arguments past the list are invalid.
+    (Case::Argument(0), IDENTITY, ""),
+    (Case::Argument(1), "", INVALID),
+    (Case::Argument(u32::MAX), "", INVALID),
+    // Values of wrong types are invalid.
+    (
+        Case::Return(Literal::I32(1), Scalar::I32),
+        "fn f() -> i32 {\n    return 1i;\n}\n\n",
+        "",
+    ),
+    (Case::Return(Literal::U32(1), Scalar::U32), "", INVALID),
+    (Case::Return(Literal::U32(1), Scalar::I32), "", INVALID),
+    // Too little info is invalid.
+    (Case::WithoutInfo, "", INVALID),
+];
+
 #[test]
-fn too_little_info_is_invalid(rt: HostRuntime) -> Result<(), Fail> {
-    assert!(rt; identity_without_info_is_invalid(rt.alloc())?);
+fn refusals_are_told(rt: HostRuntime) -> Result<(), Fail> {
+    for (case, text, told) in CASES {
+        assert!(rt; case_gives(rt.alloc(), *case, *text, *told)?, "{case:?}");
+    }
     Ok(())
 }
