@@ -157,11 +157,11 @@ enum Case {
     OrParam(&'static [(Label, &'static str)]),
     /// A `reset` by the empty module, and then calls.
     Reset(Calls),
-    /// A `reset` by the module of the items, which stand in the order of their names, and these names;
-    /// what external images have in addition stands directly behind them.
+    /// A `reset` by the module of the items, which stand in the order of their names, and these names with
+    /// a space between; what external images have in addition stands directly behind them.
     Module {
         items: &'static [Item],
-        names: &'static [&'static str],
+        names: &'static str,
     },
 }
 
@@ -196,43 +196,23 @@ const CASES: &[Case] = &[
             Item::Number(None),
             Item::Function(Some("f"), &[Some("x"), Some("x")]),
         ],
-        names: &["type_", "f", "x", "x_1"],
+        names: "type_ f x x_1",
     },
     Case::Module {
         items: &[
             Item::Number(None),
             Item::Function(Some("_naga"), &[Some("\u{e9}"), Some("1x")]),
         ],
-        names: &["type_", "gen__naga", "u00e9_", "x"],
+        names: "type_ gen__naga u00e9_ x",
     },
     // An external image of each kind has its parts.
     Case::Module {
         items: &[Item::External, Item::Global(Some("t"))],
-        names: &[
-            "type_",
-            "t",
-            "t_plane0_",
-            "t_plane1_",
-            "t_plane2_",
-            "t_params",
-        ],
+        names: "type_ t t_plane0_ t_plane1_ t_plane2_ t_params",
     },
     Case::Module {
         items: &[Item::External, Item::Function(Some("f"), &[None, None])],
-        names: &[
-            "type_",
-            "f",
-            "param",
-            "param_plane0_",
-            "param_plane1_",
-            "param_plane2_",
-            "param_params",
-            "param_1",
-            "param_plane0_1",
-            "param_plane1_1",
-            "param_plane2_1",
-            "param_params_1",
-        ],
+        names: "type_ f param param_plane0_ param_plane1_ param_plane2_ param_params param_1 param_plane0_1 param_plane1_1 param_plane2_1 param_params_1",
     },
     // Members have a namespace of their own, in which builtin words are free.
     Case::Module {
@@ -245,17 +225,7 @@ const CASES: &[Case] = &[
             Item::Constant(None),
             Item::Constant(None),
         ],
-        names: &[
-            "type_",
-            "S",
-            "x",
-            "x_1",
-            "fract",
-            "fn_",
-            "member",
-            "const_type",
-            "const_type_1",
-        ],
+        names: "type_ S x x_1 fract fn_ member const_type const_type_1",
     },
     Case::Module {
         items: &[
@@ -267,19 +237,7 @@ const CASES: &[Case] = &[
             Item::Constant(Some("x")),
             Item::Override(None),
         ],
-        names: &[
-            "x",
-            "type_",
-            "x",
-            "type_",
-            "type_1",
-            "x",
-            "function_",
-            "x_1",
-            "global",
-            "x_2",
-            "override_x",
-        ],
+        names: "x type_ x type_ type_1 x function_ x_1 global x_2 override_x",
     },
     // A struct that entry points return is named by the last of them.
     Case::Module {
@@ -288,7 +246,7 @@ const CASES: &[Case] = &[
             Item::EntryPoint("main", ShaderStage::Vertex),
             Item::EntryPoint("main", ShaderStage::Fragment),
         ],
-        names: &["FragmentOutput", "main", "main_1"],
+        names: "FragmentOutput main main_1",
     },
     Case::Module {
         items: &[
@@ -296,14 +254,14 @@ const CASES: &[Case] = &[
             Item::EntryPoint("main", ShaderStage::Compute),
             Item::EntryPoint("main", ShaderStage::Mesh),
         ],
-        names: &["ComputeOutput", "main", "main_1"],
+        names: "ComputeOutput main main_1",
     },
     Case::Module {
         items: &[
             Item::Struct(None, &[]),
             Item::EntryPoint("main", ShaderStage::Mesh),
         ],
-        names: &["type_", "main"],
+        names: "type_ main",
     },
 ];
 
@@ -555,14 +513,14 @@ impl Sample {
 
     /// Each key has its name, and the map no other keys than these and the one that it had; or, where
     /// the `reset` was refused, some first keys have their names, and the map has the key that it had.
-    fn has_names(&self, rt: &impl Abort, want: &[&str], is_reset: bool) {
+    fn has_names(&self, rt: &impl Abort, want: &str, is_reset: bool) {
         let mut has_all = true;
-        for (key, name) in self.keys.iter().zip(want) {
+        for (key, name) in self.keys.iter().zip(want.split_whitespace()) {
             has_all = has_all && (is_reset || self.names.contains_key(key));
             assert!(rt; self.is_right(key, name, has_all), "{key:?}");
         }
         assert!(rt; self.names.contains_key(&OTHER));
-        assert!(rt; !is_reset || self.has_count(want.len()));
+        assert!(rt; !is_reset || self.has_count(want.split_whitespace().count()));
     }
 
     /// Whether there are so many keys, and the map has one more.
@@ -576,7 +534,7 @@ impl Sample {
         &mut self,
         rt: &impl Abort,
         items: &[Item],
-        names: &[&str],
+        names: &str,
         calls: Calls,
     ) -> Result<(), NamerError> {
         self.fill(items)?;
@@ -618,7 +576,7 @@ impl Sample {
             Case::Calls(calls) => gives(rt, &mut self.namer, *calls),
             Case::LongLabel => self.check_long_label(rt),
             Case::OrParam(rows) => self.gives_or_param(rt, *rows),
-            Case::Reset(calls) => self.check_reset(rt, &[], &[], *calls),
+            Case::Reset(calls) => self.check_reset(rt, &[], "", *calls),
             Case::Module { items, names } => self.check_reset(rt, *items, *names, &[]),
         }
     }
