@@ -12,7 +12,7 @@ use Rattle.naga_ir.specs.declared.module.LocalVariable.{LocalVariable}
 use Rattle.naga_info.specs.declared.info.ExpressionInfo.{ExpressionInfo}
 use Rattle.naga_acceptance.specs.Types.{word_at, spelling_of, literal_word, spelling_at, operator_word}
 use Rattle.naga_acceptance.specs.Accepted.{statement_fits, return_fits, block_fits, function_fits}
-use Rattle.naga_names.specs.Reset.{Labelled, labelled_items, labels_of}
+use Rattle.item_names.specs.Reset.{Labelled, labelled_items, labels_of}
 use Rattle.shader_runs.specs.Value.{ValueType, type_at, type_of}
 use Rattle.shader_runs.specs.Program as shapes
 use Rattle.shader_runs.specs.Program.{operands_of, handle_type, argument_count, expression_of, is_given, local_count, from}
@@ -32,10 +32,10 @@ use Rattle.naga_enumerations.specs.declared.operators.BinaryOperator.TheVariants
 use Rattle.naga_ir.specs.declared.module.Module.{Module}
 use Rattle.naga_acceptance.proofs.Accepting.{function_fits_word_at, function_fits_expressions, function_fits_block, local_word_at, load_word_at, binary_at}
 use Rattle.naga_keywords.specs.Plain.{is_word}
-use Rattle.naga_names.specs.Naming.{label_or}
+use Rattle.item_names.specs.Naming.{label_or}
 use Rattle.name_keys.specs.declared.key.NameKey.TheVariants as key
-use Rattle.naga_names.proofs.NameShapes.{name_after_is_word}
-use Rattle.naga_names.proofs.NamedItems.{Stands, local_stands}
+use Rattle.item_names.proofs.NameShapes.{name_after_is_word}
+use Rattle.item_names.proofs.NamedItems.{Stands, local_stands}
 use Rattle.naga_form.specs.Operators.{operator_form}
 use Rattle.naga_form.specs.Abstraction.{is_request}
 

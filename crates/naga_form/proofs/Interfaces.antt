@@ -8,8 +8,8 @@ use Rattle.naga_ir.specs.declared.types.Type_.{Type_}
 use Rattle.naga_info.specs.declared.info.ExpressionInfo.{ExpressionInfo}
 use Rattle.naga_info.specs.declared.info.ModuleInfo.{ModuleInfo}
 use Rattle.name_keys.specs.Keys.{NameMap}
-use Rattle.naga_words.specs.Contexts.{names_of}
-use Rattle.naga_words.specs.Trees.{Names as TypeNames}
+use Rattle.type_spelling.specs.Contexts.{names_of}
+use Rattle.type_spelling.specs.Trees.{Names as TypeNames}
 use Rattle.naga_form.specs.Names.{module_names}
 use Rattle.naga_form.specs.Form.{parameters_form, result_form, function_form, functions_form, written_program}
 use Rattle.naga_form.specs.Interface.{parameter_read, result_read, function_interface_read, passed, result_passed, function_interface, function_interfaces}

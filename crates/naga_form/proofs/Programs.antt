@@ -34,11 +34,11 @@ use Rattle.std.specs.Char.{is_ascii_digit}
 use Rattle.std.specs.Str.{bytes_eq}
 use Rattle.std.proofs.lemmas.Option.{slice_get_within, slice_get-map}
 use Rattle.std.proofs.lemmas.Slice.Eq.{bytes_eq-Decides}
-use Rattle.naga_names.proofs.NamedItems.{local_stands}
+use Rattle.item_names.proofs.NamedItems.{local_stands}
 use Rattle.indexmap.specs.IndexMap.{keys}
 use Rattle.naga_ir.specs.declared.expression.Expression.TheVariants as expression
 use Rattle.naga_ir.specs.declared.module.LocalVariable.{LocalVariable}
-use Rattle.naga_names.proofs.BaseShapes.{all_digits-decimal}
+use Rattle.item_names.proofs.BaseShapes.{all_digits-decimal}
 use Rattle.wgsl_text.specs.Keywords.{reserved_words, builtin_words}
 use Rattle.wgsl_text.specs.Tree as tree
 use Rattle.shader_runs.specs.World.{update}

@@ -23,8 +23,8 @@ use Rattle.naga_info.proofs.Options.{map_some}
 use Rattle.naga_acceptance.proofs.Accepting.{scalar_types_word_at, function_fits_expressions, function_fits_word_at}
 use Rattle.wgsl_words.specs.Words.{scalar_word_of, space_word, space_access_word}
 use Rattle.name_keys.specs.Keys.{NameMap}
-use Rattle.naga_words.specs.Contexts.{names_of}
-use Rattle.naga_words.specs.Trees.{Names as TypeNames, of_two, inner_tree, named_tree_by, pointer_tree_in, found_tree_by, tree_within, type_tree, resolution_tree}
+use Rattle.type_spelling.specs.Contexts.{names_of}
+use Rattle.type_spelling.specs.Trees.{Names as TypeNames, of_two, inner_tree, named_tree_by, pointer_tree_in, found_tree_by, tree_within, type_tree, resolution_tree}
 use Rattle.wgsl_text.specs.Grammar.{IsType}
 use Rattle.wgsl_text.specs.Tree.{TypeSpecifier, Named}
 use Rattle.wgsl_text.specs.Words.{is_reserved}

@@ -13,8 +13,8 @@ use Rattle.naga_ir.specs.declared.types.Type_.{Type_}
 use Rattle.name_keys.specs.Keys.{NameMap}
 use Rattle.wgsl_text.specs.Tree.{Truth, Expression, Constant, Name, Statement, Return, ReturnValue, Statements, NoStatements, Then, Parameter, Result, NoResult, ResultOf, Function, Program, no_declarations, TypeSpecifier, Binary, AddressOf, Dereference, Let, TypedLet, Assign, Block, Local}
 use Rattle.naga_form.specs.Names.{function_name, argument_name, module_names}
-use Rattle.naga_words.specs.Contexts.{names_of}
-use Rattle.naga_words.specs.Trees.{Names as TypeNames, resolution_tree}
+use Rattle.type_spelling.specs.Contexts.{names_of}
+use Rattle.type_spelling.specs.Trees.{Names as TypeNames, resolution_tree}
 use Rattle.naga_form.specs.Types.{type_form}
 use Rattle.naga_form.specs.Literals.{literal_form}
 use Rattle.naga_ir.specs.declared.module.LocalVariable.{LocalVariable}

@@ -7,8 +7,8 @@ use Rattle.naga_ir.specs.declared.types.Type_.{Type_}
 use Rattle.name_keys.specs.Keys.{NameMap}
 use Rattle.wgsl_text.specs.Tree.{Attribute, TypeSpecifier, Parameter, Result, NoResult, ResultOf, Function, EntryPoint, Struct, NamedConstant, Override, Global, Program}
 use Rattle.naga_form.specs.Names.{function_name}
-use Rattle.naga_words.specs.Contexts.{names_of}
-use Rattle.naga_words.specs.Trees.{Names as TypeNames}
+use Rattle.type_spelling.specs.Contexts.{names_of}
+use Rattle.type_spelling.specs.Trees.{Names as TypeNames}
 use Rattle.naga_form.specs.Types.{type_form}
 
 -- what passes in or out of a function: the attributes that bind it, and its type

@@ -4,8 +4,8 @@ use Rattle.std.specs.List.{starts_with}
 use Rattle.std.specs.Bool.{nat_eq}
 use Rattle.std.specs.Str.{bytes_eq}
 use Rattle.naga_ir.specs.declared.module.Module.{Module}
-use Rattle.naga_words.specs.Contexts.{names_of}
-use Rattle.naga_words.specs.Trees.{Names as TypeNames, type_tree}
+use Rattle.type_spelling.specs.Contexts.{names_of}
+use Rattle.type_spelling.specs.Trees.{Names as TypeNames, type_tree}
 use Rattle.naga_form.specs.Names.{module_names}
 use Rattle.wgsl_text.specs.Words.{stands_in}
 use Rattle.wgsl_text.specs.Tree.{TypeSpecifier, Named}

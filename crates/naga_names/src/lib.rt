@@ -4,7 +4,7 @@
 //! WGSL, and `namer` the `Namer`, which makes of any label an identifier that it has not given yet.
 #![tactic(auto)]
 
-pub mod laws;
 pub mod namer;
 
+pub use item_names::laws;
 pub use naga_keywords::{keyword_set, keywords};

@@ -1,67 +1,30 @@
 //! Identifiers from labels.
 ghost use Rattle.std.specs.Prelude.{◌≡◌, true, ◌∷◌, [], ◌++◌, List, ℕ, map, length, false, codes, IfOk, IfErr, OnOk, OnErr, IsErr, string_bytes};
 ghost use Rattle.name_keys.specs.declared.key.NameKey.TheVariants as keys;
-ghost use Rattle.naga_names.specs.Naming.{Names, names_code, no_names, new_names, label_or, first_name, is_taken, name_of, with_use, IsFull, HasNamed, name_after};
-ghost use Rattle.naga_names.specs.Members.{PutsName, PutsNoName, HasNamedMembers, RefusesMembers};
-ghost use Rattle.naga_names.specs.Refusal.{IsRefusalOf, IsResetRefusal, RefusesItems, RefusesModule, SomeNameIsFull, SomeKeyIsFull, KeysRunOut};
-ghost use Rattle.naga_names.specs.declared.namer.NamerError.TheVariants.{KeyFull};
+ghost use Rattle.item_names.specs.Naming.{Names, names_code, no_names, new_names, label_or, first_name, is_taken, name_of, with_use, IsFull, HasNamed, name_after};
+ghost use Rattle.item_names.specs.Members.{PutsName, PutsNoName, HasNamedMembers, RefusesMembers};
+ghost use Rattle.item_names.specs.Refusal.{IsRefusalOf, IsResetRefusal, RefusesItems, RefusesModule, SomeNameIsFull, SomeKeyIsFull, KeysRunOut};
+ghost use Rattle.item_names.specs.declared.error.NamerError.TheVariants.{KeyFull};
 ghost use Rattle.name_keys.specs.Keys.{same_key, names_in};
-ghost use Rattle.naga_names.specs.Reset.{is_external_inner, is_external, is_member, labelled_members, labelled_type, labelled_types, labelled_argument, labelled_arguments, labelled_locals, labelled_function, labelled_functions, labelled_entry_arguments, labelled_entry_locals, labelled_entry_point, labelled_entry_points, labelled_global, labelled_globals, labelled_declarations, value_label, labelled_constants, labelled_overrides, labelled_values, labelled_items, type_names_in, key_fits, NamesModule, HasNamedItems, PutsBeginning, NamesItems};
+ghost use Rattle.item_names.specs.Reset.{is_external_inner, is_external, is_member, labelled_members, labelled_type, labelled_types, labelled_argument, labelled_arguments, labelled_locals, labelled_function, labelled_functions, labelled_entry_arguments, labelled_entry_locals, labelled_entry_point, labelled_entry_points, labelled_global, labelled_globals, labelled_declarations, value_label, labelled_constants, labelled_overrides, labelled_values, labelled_items, type_names_in, key_fits, NamesModule, HasNamedItems, PutsBeginning, NamesItems};
 
 use crate::namer::fallback::{label_or, type_label, value_label};
 use crate::namer::uses::Uses;
+pub use item_names::NamerError;
 use naga_ir::{
     Arena, Constant, EntryPoint, Function, FunctionArgument, GlobalVariable, Handle, ImageClass,
     LocalVariable, Module, Override, StructMember, Type_, TypeInner, UniqueArena,
 };
 use naga_keywords::keyword_set::{CaseInsensitiveKeywordSet, KeywordSet};
 pub use name_keys::{EntryPointIndex, ExternalTextureNameKey, NameKey};
-use std::alloc::{AllocError, AllocFailed, Global};
+use std::alloc::{AllocError, Global};
 use std::collections::HashMap;
 use std::marker::Model;
 use std::mem;
-use thiserror::Error;
 
 mod fallback;
 mod label;
 mod uses;
-
-/// Why a name could not be given.
-#[derive(Debug, Drop, PartialEq, Eq, Error)]
-pub enum NamerError {
-    /// A base has been used so often that no further name can be counted: 4,294,967,295 times after
-    /// its first use.
-    #[error("namer is full")]
-    Full,
-    /// The module has more entry points than an `EntryPointIndex` can tell apart, or a member or an
-    /// argument whose index is no `u32`.
-    #[error("name key out of range")]
-    KeyFull,
-    /// Memory has run out.
-    #[error("out of memory")]
-    Memory(AllocError),
-}
-
-impl From<AllocError> for NamerError {
-    ghost use Rattle.naga_names.specs.declared.namer.NamerError.TheVariants.{Memory};
-
-    ghost from_gives = { λ refusal error. error ≡ Memory refusal };
-
-    fn from(refusal: AllocError) -> NamerError {
-        NamerError::Memory(refusal)
-    }
-}
-
-impl<T: Drop> From<AllocFailed<T>> for NamerError {
-    ghost use Rattle.std.specs.Prelude.{alloc_error};
-    ghost use Rattle.naga_names.specs.declared.namer.NamerError.TheVariants.{Memory};
-
-    ghost from_gives = { λ refusal error. error ≡ Memory alloc_error };
-
-    fn from(refusal: AllocFailed<T>) -> NamerError {
-        NamerError::Memory(AllocError::from(refusal))
-    }
-}
 
 /// Gives each label an identifier that it has given to no other label.
 ///

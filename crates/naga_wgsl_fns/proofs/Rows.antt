@@ -23,8 +23,8 @@ use Rattle.shader_runs.specs.Program.{binds, from}
 use Rattle.shader_runs.specs.Scope.{Handles, Naming, at_start, given_after, after_one, bound_name}
 use Rattle.naga_form.specs.Names.{argument_name}
 use Rattle.naga_form.specs.Operators.{operator_form}
-use Rattle.naga_words.specs.Contexts.{names_of}
-use Rattle.naga_words.specs.Trees.{Names as TypeNames}
+use Rattle.type_spelling.specs.Contexts.{names_of}
+use Rattle.type_spelling.specs.Trees.{Names as TypeNames}
 use Rattle.naga_form.proofs.Facts.{element}
 use Rattle.naga_form.specs.Form.{as_value, own_if, plain_form, value_form, let_form, then_if, lets_form, locals_form, parameter_form, parameters_form, result_form, function_form}
 use Rattle.wgsl_text.specs.Tree.{TypeSpecifier, Expression, Statements, NoStatements, Then, Local, BinaryOperator}

@@ -17,15 +17,15 @@ use Rattle.naga_acceptance.proofs.Accepting.{list_all_at}
 use Rattle.name_keys.specs.Keys.{NameMap}
 use Rattle.naga_info.specs.declared.info.TypeResolution.{TypeResolution}
 use Rattle.naga_info.specs.declared.info.TypeResolution.TheVariants as resolution
-use Rattle.naga_words.specs.Parts.{Part, Word, Shown, Missing, IsText, lacks, before_missing, known_text, HasWritten, HasBegun}
-use Rattle.naga_words.specs.Contexts.{names_of, names_context}
-use Rattle.naga_words.specs.Spelling.{Context, Fits, FitsResolution, IsInOrder, end_of_base, knows_override, type_parts, resolution_parts}
-use Rattle.naga_words.specs.Sink.{IsBehind}
-use Rattle.naga_words.specs.Trees.{type_tree, resolution_tree}
+use Rattle.type_spelling.specs.Parts.{Part, Word, Shown, Missing, IsText, lacks, before_missing, known_text, HasWritten, HasBegun}
+use Rattle.type_spelling.specs.Contexts.{names_of, names_context}
+use Rattle.type_spelling.specs.Spelling.{Context, Fits, FitsResolution, IsInOrder, end_of_base, knows_override, type_parts, resolution_parts}
+use Rattle.type_spelling.specs.Sink.{IsBehind}
+use Rattle.type_spelling.specs.Trees.{type_tree, resolution_tree}
 use Rattle.naga_words.specs.declared.sink.SinkError.TheVariants.{Failed, Memory as SinkMemory}
 use Rattle.naga_words.specs.declared.types.TypeTextError.{TypeTextError}
 use Rattle.naga_words.specs.declared.types.TypeTextError.TheVariants as type_error
-use Rattle.naga_words.proofs.Forms.{only_text, lacks_unknown, type_row, inner_tree_row}
+use Rattle.type_spelling.proofs.Forms.{only_text, lacks_unknown, type_row, inner_tree_row}
 use Rattle.wgsl_text.specs.Reading.{type_layout}
 use Rattle.wgsl_text.specs.Tree.{TypeSpecifier, Named}
 use Rattle.wgsl_text.proofs.RowText.{text-append}

@@ -26,7 +26,7 @@ use Rattle.naga_form.specs.Form.{told_type}
 use Rattle.naga_form.specs.Types.{type_names}
 use Rattle.naga_form.proofs.Facts.{element}
 use Rattle.naga_form.proofs.WrittenTypes.{known_spelled, resolution_has_form}
-use Rattle.naga_words.specs.Trees.{resolution_tree}
+use Rattle.type_spelling.specs.Trees.{resolution_tree}
 use Rattle.wgsl_text.specs.Reading.{type_layout}
 use Rattle.wgsl_text.specs.Tree.{Named}
 use Rattle.naga_form.proofs.Resolutions.{nothing_outside, written_parts}

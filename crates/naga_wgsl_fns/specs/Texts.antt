@@ -21,8 +21,8 @@ use Rattle.naga_form.specs.Names.{HasNamesOf, module_names, function_name}
 use Rattle.naga_form.specs.Shapes.{function_naming}
 use Rattle.naga_form.specs.Form.{as_value, own_if, plain_form, value_form, let_form, parameters_form, result_form, function_form}
 use Rattle.naga_info.specs.declared.info.TypeResolution.{TypeResolution}
-use Rattle.naga_words.specs.Contexts.{names_of}
-use Rattle.naga_words.specs.Trees.{Names as TypeNames, resolution_tree}
+use Rattle.type_spelling.specs.Contexts.{names_of}
+use Rattle.type_spelling.specs.Trees.{Names as TypeNames, resolution_tree}
 use Rattle.naga_form.specs.Types.{type_form}
 use Rattle.wgsl_text.specs.Tree.{TypeSpecifier, Named, Statement, Local}
 use Rattle.wgsl_text.specs.Declarations.{function_pieces, parameters_pieces, result_pieces, locals_pieces, group_end}

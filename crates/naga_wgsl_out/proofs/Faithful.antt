@@ -24,7 +24,7 @@ use Rattle.naga_form.proofs.Programs.{is_program}
 use Rattle.naga_form.specs.Resolution.{ResolvesAs}
 use Rattle.naga_form.proofs.Resolutions.{resolves, functions_are_written, written_parts}
 use Rattle.naga_form.proofs.Runs.{runs_as}
-use Rattle.naga_words.specs.Sink.{IsBehind}
+use Rattle.type_spelling.specs.Sink.{IsBehind}
 use Rattle.wgsl_pieces.specs.Appends.{Appends}
 use Rattle.wgsl_pieces.proofs.Appending.{appends_as}
 use Rattle.wgsl_pieces.specs.Errors.{IsWant, IsNotYetWritten, IsCustom}

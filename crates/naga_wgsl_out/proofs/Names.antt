@@ -7,14 +7,14 @@ use Rattle.naga_ir.specs.declared.module.Function.{Function}
 use Rattle.naga_ir.specs.declared.module.Module.{Module}
 use Rattle.naga_keywords.specs.Words.{Words}
 use Rattle.naga_keywords.specs.declared.keywords.TheConstants.{RESERVED, BUILTIN_IDENTIFIERS}
-use Rattle.naga_names.specs.Naming.{Names, new_names}
-use Rattle.naga_names.specs.Refusal.{SomeNameIsFull, SomeKeyIsFull, IsResetRefusal}
-use Rattle.naga_names.specs.declared.namer.NamerError.{NamerError}
+use Rattle.item_names.specs.Naming.{Names, new_names}
+use Rattle.item_names.specs.Refusal.{SomeNameIsFull, SomeKeyIsFull, IsResetRefusal}
+use Rattle.item_names.specs.declared.error.NamerError.{NamerError}
 use Rattle.wgsl_text.specs.Keywords.{reserved_words, builtin_words}
 use Rattle.name_keys.specs.Keys.{NameMap}
-use Rattle.naga_names.specs.Reset.{labelled_items, key_fits, HasNamedItems}
+use Rattle.item_names.specs.Reset.{labelled_items, key_fits, HasNamedItems}
 use Rattle.name_keys.specs.declared.key.NameKey.TheVariants as key
-use Rattle.naga_names.proofs.NamedItems.{named_there, few_labels, local_stands}
+use Rattle.item_names.proofs.NamedItems.{named_there, few_labels, local_stands}
 use Rattle.naga_form.specs.Names.{reserved_prefixes, wgsl_names, module_names, function_name, HasNamesOf}
 use Rattle.naga_form.proofs.Facts.{all_at, element}
 use Rattle.naga_form.proofs.Fits.{local_item}

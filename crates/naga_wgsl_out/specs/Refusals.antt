@@ -3,11 +3,11 @@ use Rattle.std.specs.Prelude.{◌≡◌, ⊤, ℕ, List, ◌⊎◌, codes, strin
 use Rattle.naga_ir.specs.declared.module.Module.{Module}
 use Rattle.naga_acceptance.specs.Part.{is_written_so_far}
 use Rattle.naga_info.specs.declared.info.ModuleInfo.{ModuleInfo}
-use Rattle.naga_names.specs.Refusal.{SomeNameIsFull, SomeKeyIsFull}
-use Rattle.naga_names.specs.declared.namer.NamerError.{NamerError}
-use Rattle.naga_names.specs.declared.namer.NamerError.TheVariants as namer_error
+use Rattle.item_names.specs.Refusal.{SomeNameIsFull, SomeKeyIsFull}
+use Rattle.item_names.specs.declared.error.NamerError.{NamerError}
+use Rattle.item_names.specs.declared.error.NamerError.TheVariants as namer_error
 use Rattle.name_keys.specs.Keys.{NameMap}
-use Rattle.naga_names.specs.Reset.{labelled_items}
+use Rattle.item_names.specs.Reset.{labelled_items}
 use Rattle.naga_form.specs.Names.{wgsl_names, HasNamesOf, NamesAreCounted}
 use Rattle.naga_form.specs.Premises.{scope_holds}
 use Rattle.wgsl_pieces.specs.Errors.{IsCustom, IsSinkWant}

@@ -1,8 +1,0 @@
-pub mod PartTexts
-pub mod Arounds
-pub mod Levels
-pub mod Forms
-pub mod Orders
-pub mod Empties
-pub mod TypeForms
-pub mod Likeness

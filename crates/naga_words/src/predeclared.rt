@@ -1,7 +1,7 @@
 //! The names of structs that WGSL has without a declaration.
 
 ghost use Rattle.std.specs.Prelude.{◌≡◌, ℕ, List, ◌++◌, codes, decimal, IfOk, string_bytes};
-ghost use Rattle.naga_words.specs.Predeclared.{kind_name, result_name, predeclared_name};
+ghost use Rattle.type_spelling.specs.Predeclared.{kind_name, result_name, predeclared_name};
 
 use crate::types::words::vector_str;
 use naga_ir::{PredeclaredType, Scalar, ScalarKind, VectorSize};

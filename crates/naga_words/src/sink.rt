@@ -2,7 +2,7 @@
 
 ghost use Rattle.std.specs.Prelude.{◌≡◌, ℕ, ◌<◌, List, ◌++◌, OnOk, OnErr, IsErrOf, string_bytes, alloc_error};
 ghost use Rattle.naga_words.specs.declared.sink.SinkError.TheVariants.{Memory};
-ghost use Rattle.naga_words.specs.Sink.{IsBehind};
+ghost use Rattle.type_spelling.specs.Sink.{IsBehind};
 
 use std::alloc::AllocError;
 use thiserror::Error;

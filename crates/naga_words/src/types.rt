@@ -2,13 +2,12 @@
 
 ghost use Rattle.std.specs.Prelude.{◌≡◌, ℕ, ◌<◌, true, List, length, None, IfOk, string_bytes, OnOk, IsErrOf, IsTrue, slice_get, Some};
 ghost use Rattle.naga_words.specs.declared.types.TypeTextError.TheVariants as error;
-ghost use Rattle.naga_words.specs.Parts.{HasWritten, HasBegun, IsText, lacks};
+ghost use Rattle.type_spelling.specs.Parts.{HasWritten, HasBegun, IsText, lacks};
 ghost use Rattle.wgsl_words.specs.Words.{scalar_word};
-ghost use Rattle.naga_words.specs.Rules.{conclusion_parts, rule_parts, AllFit, FitsConclusion};
-ghost use Rattle.naga_words.specs.Spelling.{Context, Fits, FitsResolution, IsInOrder, is_struct, is_formless_pointer, formless_parts, inner_parts, formless_scalar_parts, scalar_parts, type_parts, resolution_parts};
+ghost use Rattle.type_spelling.specs.Rules.{conclusion_parts, rule_parts, AllFit, FitsConclusion};
+ghost use Rattle.type_spelling.specs.Spelling.{Context, Fits, FitsResolution, IsInOrder, is_struct, is_formless_pointer, formless_parts, inner_parts, formless_scalar_parts, scalar_parts, type_parts, resolution_parts};
 
 pub mod contexts;
-pub mod laws;
 pub mod order;
 pub(crate) mod rules;
 pub(crate) mod scalars;
@@ -25,6 +24,7 @@ use naga_ir::{Handle, Override, Scalar, Type_, TypeInner};
 pub use order::{type_fits, types_in_order};
 use std::alloc::{AllocError, Global};
 use thiserror::Error;
+pub use type_spelling::laws;
 
 /// Why a type was not written.
 #[derive(Clone, Copy, Debug, PartialEq, Eq, Error)]

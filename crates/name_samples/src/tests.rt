@@ -14,6 +14,8 @@ use std::mem;
 use std::process::Abort;
 use std::test::Fail;
 
+mod words;
+
 /// Whether the type is an image from outside the graphics interface.
 fn is_external(types: &UniqueArena<Type_>, ty: Handle<Type_>) -> bool {
     ty.index() < types.len()

@@ -5,8 +5,6 @@
 #![tactic(auto)]
 
 mod program;
-mod rows;
-mod sample;
 mod words;
 
 pub use program::run;

@@ -1,10 +1,9 @@
 //! The program: its words, its answers and its statuses.
 
-use crate::rows::Row;
-use crate::sample::Sample;
 use bitflags::Flags;
 use naga_wgsl_out::info::{accepts, count};
 use naga_wgsl_out::wgsl::{WriterFlags, write_string};
+use sample_modules::{Row, Sample};
 use std::alloc::Global;
 use std::fmt::Display;
 use std::io;

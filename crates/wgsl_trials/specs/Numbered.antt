@@ -4,8 +4,8 @@ use Rattle.std.specs.declared.string.String.{String}
 use Rattle.naga_ir.specs.declared.types.Type_.{Type_}
 use Rattle.name_keys.specs.declared.key.NameKey.TheVariants as key
 use Rattle.name_keys.specs.Keys.{NameMap}
-use Rattle.naga_words.specs.Contexts.{names_context}
-use Rattle.naga_words.specs.Spelling.{Context}
+use Rattle.type_spelling.specs.Contexts.{names_context}
+use Rattle.type_spelling.specs.Spelling.{Context}
 
 -- the name of the struct at a handle
 abbrev pub type_number : ℕ → List ℕ

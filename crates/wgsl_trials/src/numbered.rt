@@ -1,7 +1,7 @@
 //! A context that names types and overrides by their indices.
 
 ghost use Rattle.std.specs.Prelude.{◌≡◌, ◌++◌, codes, decimal, IfOk, IsTrue, string_bytes};
-ghost use Rattle.naga_words.specs.Spelling.{IsInOrder};
+ghost use Rattle.type_spelling.specs.Spelling.{IsInOrder};
 ghost use Rattle.wgsl_trials.specs.Numbered.{numbered_context, AreNumbered};
 
 use naga_ir::{Handle, Override, Type_, TypeInner, UniqueArena};
@@ -42,7 +42,7 @@ impl<'a> NumberedTypes<'a> {
     }
 }
 
-#[tactic(auto, using(naga_words::proofs::Arounds::fails_at_once))]
+#[tactic(auto, using(type_spelling::proofs::Arounds::fails_at_once))]
 impl TypeContext for NumberedTypes<'_> {
     ghost context = { λ c. numbered_context c.types.now };
 

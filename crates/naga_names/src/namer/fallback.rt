@@ -1,9 +1,9 @@
 //! What an item without a label is labelled.
 ghost use Rattle.std.specs.Prelude.{◌≡◌, ◌++◌, length, unwrap_or, codes, if◌then◌else◌, IfOk, string_bytes};
 ghost use Rattle.std.specs.Option.{option_map};
-ghost use Rattle.naga_names.specs.Naming.{label_or};
+ghost use Rattle.item_names.specs.Naming.{label_or};
 ghost use Rattle.name_keys.specs.Keys.{names_in};
-ghost use Rattle.naga_names.specs.Reset.{output_word, returns, output_label, is_struct, type_label, type_names_in};
+ghost use Rattle.item_names.specs.Reset.{output_word, returns, output_label, is_struct, type_label, type_names_in};
 
 use crate::namer::NameKey;
 use naga_ir::{EntryPoint, Handle, ShaderStage, Type_, TypeInner, UniqueArena};

@@ -2,10 +2,10 @@
 
 ghost use Rattle.std.specs.Prelude.{◌≡◌, ◌<◌, true, [], ◌∷◌, OnOk, IsErrOf};
 ghost use Rattle.naga_words.specs.declared.types.TypeTextError.TheVariants as error;
-ghost use Rattle.naga_words.specs.Parts.{HasWritten, HasBegun, lacks, Word};
-ghost use Rattle.naga_words.specs.Predeclared.{predeclared_name};
-ghost use Rattle.naga_words.specs.Rules.{more_arguments_parts, arguments_parts, conclusion_parts, rule_parts, AllFit, FitsConclusion};
-ghost use Rattle.naga_words.specs.Spelling.{IsInOrder, FitsResolution, resolution_parts};
+ghost use Rattle.type_spelling.specs.Parts.{HasWritten, HasBegun, lacks, Word};
+ghost use Rattle.type_spelling.specs.Predeclared.{predeclared_name};
+ghost use Rattle.type_spelling.specs.Rules.{more_arguments_parts, arguments_parts, conclusion_parts, rule_parts, AllFit, FitsConclusion};
+ghost use Rattle.type_spelling.specs.Spelling.{IsInOrder, FitsResolution, resolution_parts};
 
 use crate::predeclared::PredeclaredName;
 use crate::sink::{SinkError, TextSink};
@@ -37,7 +37,7 @@ pub(crate) fn write_resolution_in<C: TypeContext, W: TextSink>(
     }
 }
 
-#[tactic(auto, using(crate::proofs::Arounds::lacks_before, crate::proofs::Arounds::lacks_behind))]
+#[tactic(auto, using(type_spelling::proofs::Arounds::lacks_before, type_spelling::proofs::Arounds::lacks_behind))]
 fn write_more_arguments<C: TypeContext, W: TextSink>(
     context: &C,
     alloc: Global,
@@ -63,7 +63,7 @@ fn write_more_arguments<C: TypeContext, W: TextSink>(
     }
 }
 
-#[tactic(auto, using(crate::proofs::Arounds::lacks_before, crate::proofs::Arounds::lacks_behind))]
+#[tactic(auto, using(type_spelling::proofs::Arounds::lacks_before, type_spelling::proofs::Arounds::lacks_behind))]
 fn write_arguments<C: TypeContext, W: TextSink>(
     context: &C,
     alloc: Global,
@@ -88,7 +88,7 @@ fn write_arguments<C: TypeContext, W: TextSink>(
     }
 }
 
-#[tactic(auto, using(crate::proofs::Arounds::fails_at_once))]
+#[tactic(auto, using(type_spelling::proofs::Arounds::fails_at_once))]
 fn write_predeclared<W: TextSink>(
     alloc: Global,
     predeclared: &PredeclaredType,
@@ -126,7 +126,7 @@ pub(crate) fn write_conclusion_in<C: TypeContext, W: TextSink>(
 }
 
 /// Writes a rule by its function's name.
-#[tactic(auto, using(crate::proofs::Arounds::lacks_before, crate::proofs::Arounds::lacks_behind))]
+#[tactic(auto, using(type_spelling::proofs::Arounds::lacks_before, type_spelling::proofs::Arounds::lacks_behind))]
 pub(crate) fn write_rule_in<C: TypeContext, W: TextSink>(
     context: &C,
     alloc: Global,

@@ -2,9 +2,9 @@
 
 ghost use Rattle.std.specs.Prelude.{◌≡◌, ◌<◌, true, codes, None, Some, [], ◌∷◌, OnOk, IsErrOf};
 ghost use Rattle.naga_words.specs.declared.types.TypeTextError.TheVariants as error;
-ghost use Rattle.naga_words.specs.Parts.{HasWritten, HasBegun, lacks, shown_between, three, Word};
+ghost use Rattle.type_spelling.specs.Parts.{HasWritten, HasBegun, lacks, shown_between, three, Word};
 ghost use Rattle.wgsl_words.specs.Words.{space_access_word};
-ghost use Rattle.naga_words.specs.Spelling.{scalar_parts, template_parts, value_parts, access_parts, storage_image_parts, formless_scalar_parts, braced_scalar_parts};
+ghost use Rattle.type_spelling.specs.Spelling.{scalar_parts, template_parts, value_parts, access_parts, storage_image_parts, formless_scalar_parts, braced_scalar_parts};
 
 use crate::sink::{SinkError, TextSink};
 use crate::types::words::vector_str;
@@ -63,7 +63,7 @@ pub(crate) fn write_shown<W: TextSink>(
     Ok(())
 }
 
-#[tactic(auto, using(crate::proofs::Arounds::fails_at_once))]
+#[tactic(auto, using(type_spelling::proofs::Arounds::fails_at_once))]
 fn write_shown_scalar<W: TextSink>(
     alloc: Global,
     scalar: Scalar,
@@ -102,7 +102,7 @@ fn write_braced_scalar<W: TextSink>(
 }
 
 /// Writes a scalar without a word, or refuses it.
-#[tactic(auto, using(crate::proofs::Arounds::fails_at_once))]
+#[tactic(auto, using(type_spelling::proofs::Arounds::fails_at_once))]
 pub(crate) fn write_formless_scalar<C: TypeContext, W: TextSink>(
     context: &C,
     alloc: Global,

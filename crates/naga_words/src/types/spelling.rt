@@ -3,10 +3,10 @@
 ghost use Rattle.std.specs.Prelude.{◌≡◌, ◌<◌, ◌≤◌, true, [], ◌∷◌, codes, length, OnOk, IsErrOf, IsTrue};
 ghost use Rattle.std.specs.Int.NonZero.{non_zero_u32_get};
 ghost use Rattle.naga_words.specs.declared.types.TypeTextError.TheVariants as error;
-ghost use Rattle.naga_words.specs.Parts.{HasWritten, HasBegun, lacks, Word, shown_between};
+ghost use Rattle.type_spelling.specs.Parts.{HasWritten, HasBegun, lacks, Word, shown_between};
 ghost use Rattle.naga_enumerations.specs.declared.image.ImageClass.TheVariants as class;
 ghost use Rattle.wgsl_words.specs.Words.{space_word, space_access_word};
-ghost use Rattle.naga_words.specs.Spelling.{IsInOrder, is_struct, end_of_base, knows_size, knows_override, formless_parts, value_parts, pointer_in, pointer_parts, value_pointer_parts, length_of_number, length_of_override, length_parts, array_parts, image_parts, inner_parts, named_parts_by, type_parts};
+ghost use Rattle.type_spelling.specs.Spelling.{IsInOrder, is_struct, end_of_base, knows_size, knows_override, formless_parts, value_parts, pointer_in, pointer_parts, value_pointer_parts, length_of_number, length_of_override, length_parts, array_parts, image_parts, inner_parts, named_parts_by, type_parts};
 
 use crate::sink::{SinkError, TextSink};
 use crate::types::scalars::{
@@ -34,7 +34,7 @@ pub(crate) fn is_struct_type(inner: &TypeInner) -> bool
 }
 
 /// Writes a type's debug text in braces.
-#[tactic(auto, using(crate::proofs::Arounds::fails_at_once))]
+#[tactic(auto, using(type_spelling::proofs::Arounds::fails_at_once))]
 fn write_shown_inner<W: TextSink>(
     alloc: Global,
     inner: &TypeInner,
@@ -51,7 +51,7 @@ fn write_shown_inner<W: TextSink>(
 }
 
 /// Writes a type without a form in braces, or refuses it.
-#[tactic(auto, using(crate::proofs::Arounds::fails_at_once))]
+#[tactic(auto, using(type_spelling::proofs::Arounds::fails_at_once))]
 pub(crate) fn write_formless_inner<C: TypeContext, W: TextSink>(
     context: &C,
     alloc: Global,
@@ -113,7 +113,7 @@ fn write_value_pointer<C: TypeContext, W: TextSink>(
     }
 }
 
-#[tactic(auto, using(crate::proofs::Arounds::fails_at_once))]
+#[tactic(auto, using(type_spelling::proofs::Arounds::fails_at_once))]
 fn write_number_length<W: TextSink>(
     alloc: Global,
     number: NonZeroU32,
@@ -129,7 +129,7 @@ fn write_number_length<W: TextSink>(
     write_three(", ", digits.as_str(), ">", out)
 }
 
-#[tactic(auto, using(crate::proofs::Arounds::lacks_before, crate::proofs::Arounds::lacks_behind))]
+#[tactic(auto, using(type_spelling::proofs::Arounds::lacks_before, type_spelling::proofs::Arounds::lacks_behind))]
 fn write_pending_length<C: TypeContext, W: TextSink>(
     context: &C,
     alloc: Global,
@@ -219,7 +219,7 @@ fn write_image<C: TypeContext, W: TextSink>(
 }
 
 #[cycle(spelling)]
-#[tactic(auto, using(crate::proofs::Arounds::lacks_before, crate::proofs::Arounds::lacks_behind))]
+#[tactic(auto, using(type_spelling::proofs::Arounds::lacks_before, type_spelling::proofs::Arounds::lacks_behind))]
 fn write_pointer_in<C: TypeContext, W: TextSink>(
     context: &C,
     alloc: Global,
@@ -266,7 +266,7 @@ fn write_pointer<C: TypeContext, W: TextSink>(
 }
 
 #[cycle(spelling)]
-#[tactic(auto, using(crate::proofs::Arounds::lacks_before, crate::proofs::Arounds::lacks_behind))]
+#[tactic(auto, using(type_spelling::proofs::Arounds::lacks_before, type_spelling::proofs::Arounds::lacks_behind))]
 fn write_array<C: TypeContext, W: TextSink>(
     context: &C,
     alloc: Global,
@@ -394,7 +394,7 @@ fn write_named<C: TypeContext, W: TextSink>(
 
 /// Writes the type at a handle.
 #[cycle(spelling)]
-#[tactic(auto, using(crate::proofs::Levels::type_parts_is))]
+#[tactic(auto, using(type_spelling::proofs::Levels::type_parts_is))]
 pub(crate) fn write_type_in<C: TypeContext, W: TextSink>(
     context: &C,
     alloc: Global,

@@ -1,7 +1,7 @@
 //! Words that types begin with.
 
 ghost use Rattle.std.specs.Prelude.{◌≡◌, codes, false};
-ghost use Rattle.naga_words.specs.Spelling.{vector_word, matrix_word, cooperative_word, image_word, role_tail, sampler_word, acceleration_structure_text, ray_query_text};
+ghost use Rattle.type_spelling.specs.Spelling.{vector_word, matrix_word, cooperative_word, image_word, role_tail, sampler_word, acceleration_structure_text, ray_query_text};
 
 use naga_ir::{CooperativeRole, CooperativeSize, ImageDimension, VectorSize};
 

@@ -1,6 +1,6 @@
 //! Types by their handles, in braces, by numbers and by the names of a writer.
 ghost use Rattle.std.specs.Prelude.{length, ◌<◌};
-ghost use Rattle.naga_words.specs.Spelling.{Context, FitsResolution, IsInOrder};
+ghost use Rattle.type_spelling.specs.Spelling.{Context, FitsResolution, IsInOrder};
 
 use super::*;
 

@@ -1,7 +1,7 @@
 //! Rules, sinks that refuse a write, and memory that is refused.
 ghost use Rattle.std.specs.Prelude.{IfOk};
-ghost use Rattle.naga_words.specs.Rules.{AllFit, FitsConclusion};
-ghost use Rattle.naga_words.specs.Spelling.{IsInOrder};
+ghost use Rattle.type_spelling.specs.Rules.{AllFit, FitsConclusion};
+ghost use Rattle.type_spelling.specs.Spelling.{IsInOrder};
 ghost use Rattle.type_samples.specs.Rules.{FitsAmong};
 
 use super::*;

@@ -1,9 +1,8 @@
 use super::{answer, run};
-use crate::rows::{Row, build_argument};
-use crate::sample::Sample;
 use bitflags::Flags;
 use naga_wgsl_out::ir::{Expression, Literal, Scalar};
 use naga_wgsl_out::wgsl::WriterFlags;
+use sample_modules::{Row, Sample, build_argument};
 use std::alloc::{AllocError, Global};
 use std::io;
 use std::io::Write;

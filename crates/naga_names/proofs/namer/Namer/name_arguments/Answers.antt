@@ -2,12 +2,12 @@ use Rattle.std.proofs.Common.{List, cond, sym, subst, [], ◌^◌, codes}
 use Rattle.std.specs.List.{flat_map, enumerate_from}
 use Rattle.naga_ir.specs.declared.module.FunctionArgument.{FunctionArgument}
 use Rattle.name_keys.specs.declared.key.NameKey.TheVariants as key
-use Rattle.naga_names.specs.declared.namer.NamerError.TheVariants.{KeyFull}
-use Rattle.naga_names.specs.Naming.{label_or}
+use Rattle.item_names.specs.declared.error.NamerError.TheVariants.{KeyFull}
+use Rattle.item_names.specs.Naming.{label_or}
 use Rattle.name_keys.specs.Keys.{names_in}
-use Rattle.naga_names.specs.Reset.{NamesItems, is_external, labelled_argument, labelled_parts}
-use Rattle.naga_names.specs.Refusal.{RefusesItems}
-use Rattle.naga_names.proofs.ResetLemmas.{if_err_at, names_then, refuses_then, refuses_more, refuses_key, not_below, items_at, items_left, items_more, sections_grown, sections_single}
+use Rattle.item_names.specs.Reset.{NamesItems, is_external, labelled_argument, labelled_parts}
+use Rattle.item_names.specs.Refusal.{RefusesItems}
+use Rattle.item_names.proofs.ResetLemmas.{if_err_at, names_then, refuses_then, refuses_more, refuses_key, not_below, items_at, items_left, items_more, sections_grown, sections_single}
 use Rattle.naga_names.proofs.namer.Namer.name_arguments.Goals as goal
 
 pub returns-in_default-clause-err : goal.returns-in_default-clause-err

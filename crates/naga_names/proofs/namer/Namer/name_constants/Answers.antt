@@ -3,9 +3,9 @@ use Rattle.std.specs.List.{enumerate_from}
 use Rattle.std.proofs.lemmas.Iterator.Consumers.{YieldsList-from_first, YieldsList-at, YieldsList-so_far, YieldsList-turn, YieldsList-end}
 use Rattle.name_keys.specs.declared.key.NameKey.TheVariants as key
 use Rattle.name_keys.specs.Keys.{names_in}
-use Rattle.naga_names.specs.Reset.{value_label, type_names_in, NamesItems}
-use Rattle.naga_names.specs.Refusal.{RefusesItems}
-use Rattle.naga_names.proofs.ResetLemmas.{if_err_at, names_then, refuses_then, refuses_more, same_type_names, map_at_turn, map_at_end, map_pushed}
+use Rattle.item_names.specs.Reset.{value_label, type_names_in, NamesItems}
+use Rattle.item_names.specs.Refusal.{RefusesItems}
+use Rattle.item_names.proofs.ResetLemmas.{if_err_at, names_then, refuses_then, refuses_more, same_type_names, map_at_turn, map_at_end, map_pushed}
 use Rattle.naga_names.proofs.namer.Namer.name_constants.Goals as goal
 
 pub returns-in_err-name_value-clause-err : goal.returns-in_err-name_value-clause-err

@@ -1,8 +1,8 @@
 use Rattle.std.proofs.Common.{◌++◌}
 use Rattle.name_keys.specs.Keys.{names_in}
-use Rattle.naga_names.specs.Reset.{labelled_types, labelled_functions, labelled_entry_points, labelled_globals}
-use Rattle.naga_names.specs.Refusal.{RefusesItems}
-use Rattle.naga_names.proofs.ResetLemmas.{if_err_at, refuses_then, refuses_more}
+use Rattle.item_names.specs.Reset.{labelled_types, labelled_functions, labelled_entry_points, labelled_globals}
+use Rattle.item_names.specs.Refusal.{RefusesItems}
+use Rattle.item_names.proofs.ResetLemmas.{if_err_at, refuses_then, refuses_more}
 use Rattle.naga_names.proofs.namer.Namer.name_declarations.Goals as goal
 
 pub returns-in_err-name_types-clause-err : goal.returns-in_err-name_types-clause-err

@@ -2,11 +2,11 @@ use Rattle.std.proofs.Common.{[], ◌∷◌, codes, sym, subst}
 use Rattle.std.specs.List.{enumerate_from}
 use Rattle.std.proofs.lemmas.Iterator.Consumers.{YieldsList-from_first, YieldsList-at, YieldsList-so_far, YieldsList-turn, YieldsList-end}
 use Rattle.name_keys.specs.declared.key.NameKey.TheVariants as key
-use Rattle.naga_names.specs.Naming.{label_or}
+use Rattle.item_names.specs.Naming.{label_or}
 use Rattle.name_keys.specs.Keys.{names_in}
-use Rattle.naga_names.specs.Reset.{NamesItems}
-use Rattle.naga_names.specs.Refusal.{RefusesItems}
-use Rattle.naga_names.proofs.ResetLemmas.{if_err_at, refuses_then, refuses_more, map_at_turn, map_at_end}
+use Rattle.item_names.specs.Reset.{NamesItems}
+use Rattle.item_names.specs.Refusal.{RefusesItems}
+use Rattle.item_names.proofs.ResetLemmas.{if_err_at, refuses_then, refuses_more, map_at_turn, map_at_end}
 use Rattle.naga_names.proofs.namer.Namer.name_entry_locals.Goals as goal
 
 pub returns-in_err-name_item-clause-err : goal.returns-in_err-name_item-clause-err

@@ -1,8 +1,8 @@
 use Rattle.std.proofs.Common.{map, codes}
 use Rattle.name_keys.specs.declared.key.NameKey.TheVariants as key
-use Rattle.naga_names.specs.Naming.{label_or}
+use Rattle.item_names.specs.Naming.{label_or}
 use Rattle.name_keys.specs.Keys.{names_in}
-use Rattle.naga_names.specs.Reset.{NamesItems}
+use Rattle.item_names.specs.Reset.{NamesItems}
 use Rattle.naga_names.proofs.namer.Namer.name_entry_locals.Given as goal
 
 abbrev pub invariant-loop-handle : goal.invariant-loop-handle

@@ -2,11 +2,11 @@ use Rattle.std.proofs.Common.{List, sym, subst, ◌++◌, ◌^◌, string_bytes}
 use Rattle.std.specs.List.{flat_map, enumerate_from}
 use Rattle.naga_ir.specs.declared.module.EntryPoint.{EntryPoint}
 use Rattle.name_keys.specs.declared.key.NameKey.TheVariants as key
-use Rattle.naga_names.specs.declared.namer.NamerError.TheVariants.{KeyFull}
+use Rattle.item_names.specs.declared.error.NamerError.TheVariants.{KeyFull}
 use Rattle.name_keys.specs.Keys.{names_in}
-use Rattle.naga_names.specs.Reset.{NamesItems, labelled_entry_point, labelled_entry_arguments, labelled_entry_locals}
-use Rattle.naga_names.specs.Refusal.{RefusesItems}
-use Rattle.naga_names.proofs.ResetLemmas.{if_err_at, names_then, refuses_then, refuses_more, refuses_key, not_below, items_at, items_left, items_more, sections_grown, sections_single}
+use Rattle.item_names.specs.Reset.{NamesItems, labelled_entry_point, labelled_entry_arguments, labelled_entry_locals}
+use Rattle.item_names.specs.Refusal.{RefusesItems}
+use Rattle.item_names.proofs.ResetLemmas.{if_err_at, names_then, refuses_then, refuses_more, refuses_key, not_below, items_at, items_left, items_more, sections_grown, sections_single}
 use Rattle.naga_names.proofs.namer.Namer.name_entry_points.Goals as goal
 
 pub returns-in_default-clause-err : goal.returns-in_default-clause-err

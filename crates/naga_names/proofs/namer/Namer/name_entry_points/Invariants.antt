@@ -1,6 +1,6 @@
 use Rattle.std.proofs.Common.{take}
 use Rattle.name_keys.specs.Keys.{names_in}
-use Rattle.naga_names.specs.Reset.{NamesItems, labelled_entry_points}
+use Rattle.item_names.specs.Reset.{NamesItems, labelled_entry_points}
 use Rattle.naga_names.proofs.namer.Namer.name_entry_points.Given as goal
 
 abbrev pub invariant-loop-index : goal.invariant-loop-index

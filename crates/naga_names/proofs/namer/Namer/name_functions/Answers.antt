@@ -2,9 +2,9 @@ use Rattle.std.proofs.Common.{sym, subst}
 use Rattle.std.specs.List.{enumerate_from}
 use Rattle.std.proofs.lemmas.Iterator.Consumers.{YieldsList-from_first, YieldsList-at, YieldsList-so_far, YieldsList-turn, YieldsList-end}
 use Rattle.name_keys.specs.Keys.{names_in}
-use Rattle.naga_names.specs.Reset.{NamesItems, labelled_function}
-use Rattle.naga_names.specs.Refusal.{RefusesItems}
-use Rattle.naga_names.proofs.ResetLemmas.{if_err_at, refuses_then, refuses_more, flat_map_at_turn, flat_map_at_end}
+use Rattle.item_names.specs.Reset.{NamesItems, labelled_function}
+use Rattle.item_names.specs.Refusal.{RefusesItems}
+use Rattle.item_names.proofs.ResetLemmas.{if_err_at, refuses_then, refuses_more, flat_map_at_turn, flat_map_at_end}
 use Rattle.naga_names.proofs.namer.Namer.name_functions.Goals as goal
 
 pub returns-in_err-name_function-clause-err : goal.returns-in_err-name_function-clause-err

@@ -1,6 +1,6 @@
 use Rattle.std.specs.List.{flat_map}
 use Rattle.name_keys.specs.Keys.{names_in}
-use Rattle.naga_names.specs.Reset.{NamesItems, labelled_function}
+use Rattle.item_names.specs.Reset.{NamesItems, labelled_function}
 use Rattle.naga_names.proofs.namer.Namer.name_functions.Given as goal
 
 abbrev pub invariant-loop-handle : goal.invariant-loop-handle

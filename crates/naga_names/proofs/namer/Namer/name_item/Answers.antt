@@ -1,9 +1,9 @@
 use Rattle.name_keys.specs.Keys.{names_in}
-use Rattle.naga_names.specs.Members.{PutsNoName}
-use Rattle.naga_names.specs.Refusal.{RefusesItems}
+use Rattle.item_names.specs.Members.{PutsNoName}
+use Rattle.item_names.specs.Refusal.{RefusesItems}
 use Rattle.std.proofs.Common.{[], ◌∷◌}
-use Rattle.naga_names.proofs.Spellings.{on_ok_then}
-use Rattle.naga_names.proofs.ResetLemmas.{names_one, refuses_one, if_err_more}
+use Rattle.item_names.proofs.Spellings.{on_ok_then}
+use Rattle.item_names.proofs.ResetLemmas.{names_one, refuses_one, if_err_more}
 use Rattle.naga_names.proofs.namer.Namer.name_item.Goals as goal
 
 pub returns-clause-ok : goal.returns-clause-ok

@@ -1,10 +1,10 @@
 use Rattle.std.proofs.Common.{length}
 use Rattle.name_keys.specs.Keys.{names_in}
-use Rattle.naga_names.specs.Reset.{labelled_values, type_names_in}
-use Rattle.naga_names.specs.Refusal.{RefusesItems, RefusesModule}
-use Rattle.naga_names.proofs.Spellings.{on_ok_then}
-use Rattle.naga_names.proofs.ResetLemmas.{if_err, if_err_more}
-use Rattle.naga_names.proofs.ModuleLemmas.{module_named, values_refused, declarations_refused}
+use Rattle.item_names.specs.Reset.{labelled_values, type_names_in}
+use Rattle.item_names.specs.Refusal.{RefusesItems, RefusesModule}
+use Rattle.item_names.proofs.Spellings.{on_ok_then}
+use Rattle.item_names.proofs.ResetLemmas.{if_err, if_err_more}
+use Rattle.item_names.proofs.ModuleLemmas.{module_named, values_refused, declarations_refused}
 use Rattle.naga_names.proofs.namer.Namer.name_items.Goals as goal
 
 pub returns-in_err-name_declarations-clause-err : goal.returns-in_err-name_declarations-clause-err

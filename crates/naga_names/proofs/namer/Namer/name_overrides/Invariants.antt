@@ -1,7 +1,7 @@
 use Rattle.std.proofs.Common.{◌≡◌, ℕ, map, length, codes}
 use Rattle.name_keys.specs.declared.key.NameKey.TheVariants as key
 use Rattle.name_keys.specs.Keys.{names_in}
-use Rattle.naga_names.specs.Reset.{value_label, type_names_in, NamesItems}
+use Rattle.item_names.specs.Reset.{value_label, type_names_in, NamesItems}
 use Rattle.naga_names.proofs.namer.Namer.name_overrides.Given as goal
 
 abbrev pub invariant-loop-handle : goal.invariant-loop-handle

@@ -1,7 +1,7 @@
 use Rattle.std.proofs.Common.{[], ◌∷◌, ◌++◌, codes}
 use Rattle.name_keys.specs.Keys.{names_in}
-use Rattle.naga_names.specs.Refusal.{RefusesItems}
-use Rattle.naga_names.proofs.ResetLemmas.{if_err, refuses_then, refuses_more}
+use Rattle.item_names.specs.Refusal.{RefusesItems}
+use Rattle.item_names.proofs.ResetLemmas.{if_err, refuses_then, refuses_more}
 use Rattle.naga_names.proofs.namer.Namer.name_parts.Goals as goal
 
 pub returns-in_err-name_part-clause-err : goal.returns-in_err-name_part-clause-err

@@ -1,9 +1,9 @@
 use Rattle.std.proofs.Common.{ap, [], ◌∷◌}
 use Rattle.name_keys.specs.declared.key.NameKey.TheVariants as key
 use Rattle.name_keys.specs.Keys.{names_in}
-use Rattle.naga_names.specs.Reset.{labelled_members, members_of}
-use Rattle.naga_names.specs.Refusal.{RefusesItems}
-use Rattle.naga_names.proofs.ResetLemmas.{if_err_at, refuses_more}
+use Rattle.item_names.specs.Reset.{labelled_members, members_of}
+use Rattle.item_names.specs.Refusal.{RefusesItems}
+use Rattle.item_names.proofs.ResetLemmas.{if_err_at, refuses_more}
 use Rattle.naga_names.proofs.namer.Namer.name_type.Goals as goal
 
 pub returns-in_err-name_item-clause-err : goal.returns-in_err-name_item-clause-err

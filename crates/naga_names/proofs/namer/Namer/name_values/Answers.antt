@@ -1,9 +1,9 @@
 use Rattle.std.proofs.Common.{ℕ, List, length, subst, ◌++◌}
 use Rattle.name_keys.specs.Keys.{names_in}
-use Rattle.naga_names.specs.Reset.{NamesItems, type_names_in, labelled_constants, labelled_overrides}
-use Rattle.naga_names.specs.Refusal.{RefusesItems}
-use Rattle.naga_names.proofs.Spellings.{on_ok_then}
-use Rattle.naga_names.proofs.ResetLemmas.{names_then, refuses_then, refuses_more, if_err, if_err_more, same_type_names}
+use Rattle.item_names.specs.Reset.{NamesItems, type_names_in, labelled_constants, labelled_overrides}
+use Rattle.item_names.specs.Refusal.{RefusesItems}
+use Rattle.item_names.proofs.Spellings.{on_ok_then}
+use Rattle.item_names.proofs.ResetLemmas.{names_then, refuses_then, refuses_more, if_err, if_err_more, same_type_names}
 use Rattle.naga_names.proofs.namer.Namer.name_values.Goals as goal
 
 pub returns-in_err-name_constants-clause-err : goal.returns-in_err-name_constants-clause-err

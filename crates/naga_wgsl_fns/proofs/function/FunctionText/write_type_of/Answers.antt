@@ -2,8 +2,8 @@ use Rattle.std.proofs.Common.{ap, Err}
 use Rattle.naga_form.specs.Names.{module_names}
 use Rattle.naga_form.specs.Types.{type_names}
 use Rattle.name_keys.specs.Keys.{names_in}
-use Rattle.naga_words.specs.Contexts.{names_context}
-use Rattle.naga_words.specs.Spelling.{resolution_parts}
+use Rattle.type_spelling.specs.Contexts.{names_context}
+use Rattle.type_spelling.specs.Spelling.{resolution_parts}
 use Rattle.naga_wgsl_fns.specs.Texts.{resolution_text}
 use Rattle.naga_wgsl_fns.proofs.TypeTexts.{in_order, resolution_fits, resolution_known, stopped_known, wrote_known}
 use Rattle.naga_wgsl_fns.proofs.function.FunctionText.write_type_of.Goals as goal

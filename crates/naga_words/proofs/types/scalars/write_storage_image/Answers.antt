@@ -1,4 +1,4 @@
-use Rattle.naga_words.proofs.Arounds.{parts_then, parts_fail, parts_then_fail, begun_all}
+use Rattle.type_spelling.proofs.Arounds.{parts_then, parts_fail, parts_then_fail, begun_all}
 use Rattle.naga_words.proofs.types.scalars.write_storage_image.Goals as goal
 
 pub returns-in_err-write_three-clause-begun : goal.returns-in_err-write_three-clause-begun

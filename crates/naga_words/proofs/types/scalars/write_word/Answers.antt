@@ -1,4 +1,4 @@
-use Rattle.naga_words.proofs.Arounds.{word_last, word_fails, begun_all}
+use Rattle.type_spelling.proofs.Arounds.{word_last, word_fails, begun_all}
 use Rattle.naga_words.proofs.types.scalars.write_word.Goals as goal
 
 pub returns-in_err-write_str-clause-begun : goal.returns-in_err-write_str-clause-begun

@@ -1,0 +1,9 @@
+//! Sample modules under their names, each with what is known of it, and a builder of others: what the
+//! programs and tests of this repository write and ask about.
+#![tactic(auto)]
+
+pub mod rows;
+pub mod sample;
+
+pub use rows::{Row, build_argument};
+pub use sample::Sample;

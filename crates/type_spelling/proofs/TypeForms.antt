@@ -1,0 +1,436 @@
+-- What is spelled is a type of the grammar.
+use Rattle.std.proofs.Common.{◌≡◌, ℕ, zero, suc, Bool, true, false, not, ◌&&◌, ◌||◌, List, [], ◌∷◌, ◌++◌, Option, Some, None, refl, sym, ap, subst, ◌∙◌, codes, slice_get, ◌==◌}
+use Rattle.std.specs.Prelude.{if◌then◌else◌}
+use Rattle.std.specs.Str.{bytes_eq}
+use Rattle.std.specs.List.{list_all}
+use Rattle.std.specs.Option.{option_map}
+use Rattle.std.proofs.lemmas.Slice.Eq.{bytes_eq-Decides}
+use Rattle.naga_enumerations.specs.declared.image.ImageClass.{ImageClass}
+use Rattle.naga_enumerations.specs.declared.image.ImageClass.TheVariants as class
+use Rattle.naga_enumerations.specs.declared.image.ImageDimension.{ImageDimension}
+use Rattle.naga_enumerations.specs.declared.image.ImageDimension.TheVariants.{D1, D2, D3, Cube}
+use Rattle.naga_enumerations.specs.declared.image.StorageFormat.{StorageFormat}
+use Rattle.naga_enumerations.specs.declared.image.StorageFormat.TheVariants as format
+use Rattle.naga_enumerations.specs.declared.types.AddressSpace.{AddressSpace}
+use Rattle.naga_enumerations.specs.declared.types.AddressSpace.TheVariants as space
+use Rattle.naga_enumerations.specs.declared.types.CooperativeRole.{CooperativeRole}
+use Rattle.naga_enumerations.specs.declared.types.CooperativeRole.TheVariants.{A, B, C}
+use Rattle.naga_enumerations.specs.declared.types.CooperativeSize.{CooperativeSize}
+use Rattle.naga_enumerations.specs.declared.types.CooperativeSize.TheVariants.{Eight, Sixteen}
+use Rattle.naga_enumerations.specs.declared.types.Scalar.{Scalar}
+use Rattle.naga_enumerations.specs.declared.types.ScalarKind.{ScalarKind}
+use Rattle.naga_enumerations.specs.declared.types.ScalarKind.TheVariants as kind
+use Rattle.naga_enumerations.specs.declared.types.VectorSize.{VectorSize}
+use Rattle.naga_enumerations.specs.declared.types.VectorSize.TheVariants.{Bi, Tri, Quad}
+use Rattle.naga_info.proofs.Options.{map_some}
+use Rattle.naga_info.specs.declared.info.TypeResolution.{TypeResolution}
+use Rattle.naga_info.specs.declared.info.TypeResolution.TheVariants as resolution
+use Rattle.naga_ir.specs.declared.types.ArraySize.{ArraySize}
+use Rattle.naga_ir.specs.declared.types.ArraySize.TheVariants as size
+use Rattle.naga_ir.specs.declared.types.Type_.{Type_}
+use Rattle.naga_ir.specs.declared.types.TypeInner.{TypeInner}
+use Rattle.naga_ir.specs.declared.types.TypeInner.TheVariants as inner
+use Rattle.wgsl_text.specs.Grammar.{IsType, is_type, plain_type_words, TakesScalar, TakesSampled, TakesElements, TakesFormat, TakesRole, rule_among, type_templates}
+use Rattle.wgsl_text.specs.Tables.{scalar_words, sampled_words, depth_image_words, access_words, format_words, address_space_words, role_words, sampler_words, ray_words}
+use Rattle.wgsl_text.specs.Tree.{TypeSpecifier, Named}
+use Rattle.wgsl_text.specs.Words.{IsWord, IsIdentifier, is_word_text, is_reserved, is_builtin, stands_in}
+use Rattle.wgsl_words.specs.Words.{scalar_word, scalar_word_of, space_word, space_access_word, image_access_word, role_word, format_word, has, atomic_bit, load_bit, store_bit}
+use Rattle.type_spelling.specs.Readable.{LengthIsWithin, InnerIsWithin, ResolutionIsWithin, AreNamed}
+use Rattle.type_spelling.specs.Spelling.{is_struct, vector_word, matrix_word, cooperative_word, image_word, sampler_word}
+use Rattle.type_spelling.specs.Trees.{Names, of_one, of_two, scalar_tree, value_tree, pointer_tree, pointer_tree_in, value_pointer_tree_in, array_tree, image_tree, ray_tree, inner_tree_by, found_tree_by, tree_within, type_tree, resolution_tree}
+
+both : (a b : Bool) → a ≡ true → b ≡ true → (a && b) ≡ true
+both a b p q = rw p q
+
+-- ---- words
+
+-- a word of letters and digits that is not reserved
+is_free : List ℕ → Bool
+is_free w = is_word_text w && not (is_reserved w)
+
+parts_are_word : (w : List ℕ) (a b : Bool) → is_word_text w ≡ a → is_reserved w ≡ b → (a && not b) ≡ true → IsWord w
+parts_are_word w true false p q e = record { text = p; free = q }
+parts_are_word w true true p q e = absurd (cc)
+parts_are_word w false b p q e = absurd (cc)
+
+free_is_word : (w : List ℕ) → is_free w ≡ true → IsWord w
+unfolding is_free
+free_is_word w e = parts_are_word w (is_word_text w) (is_reserved w) refl refl e
+
+-- what holds of each word of a table holds of a word that stands in it
+in_table : (ws : List (List ℕ)) → list_all is_free ws ≡ true → (w : List ℕ) → stands_in ws w ≡ true → IsWord w
+in_table [] all w e = absurd (cc)
+in_table (v ∷ ws) all w e = by (bytes_eq v w) refl (is_free v) refl (list_all is_free ws) refl (in_table ws)
+  where
+    by : (b : Bool) → bytes_eq v w ≡ b → (f : Bool) → is_free v ≡ f → (r : Bool) → list_all is_free ws ≡ r → (list_all is_free ws ≡ true → (w : List ℕ) → stands_in ws w ≡ true → IsWord w) → IsWord w
+    by b same false free r rest more = absurd (cc)
+    by b same true free false rest more = absurd (cc)
+    by true same true free true rest more = subst IsWord ((bytes_eq-Decides v w).0 same) (free_is_word v free)
+    by false same true free true rest more = more rest w (sym (ap (λ b. b || stands_in ws w) same) ∙ e)
+
+scalars_are_free : list_all is_free scalar_words ≡ true
+unfolding is_free is_reserved
+scalars_are_free = refl
+
+formats_are_free : list_all is_free format_words ≡ true
+unfolding is_free is_reserved
+formats_are_free = refl
+
+accesses_are_free : list_all is_free access_words ≡ true
+unfolding is_free is_reserved
+accesses_are_free = refl
+
+spaces_are_free : list_all is_free address_space_words ≡ true
+unfolding is_free is_reserved
+spaces_are_free = refl
+
+plain_are_free : list_all is_free plain_type_words ≡ true
+unfolding is_free is_reserved
+plain_are_free = refl
+
+role_is : (r : CooperativeRole) → IsWord (role_word r)
+unfolding is_reserved
+role_is A = record { text = refl; free = refl }
+role_is B = record { text = refl; free = refl }
+role_is C = record { text = refl; free = refl }
+
+vertex_return_is : IsWord (codes "vertex_return")
+unfolding is_reserved
+vertex_return_is = record { text = refl; free = refl }
+
+-- ---- tables
+by_widths : (a b c : Bool) (x y z w : List ℕ) → stands_in scalar_words x ≡ true → stands_in scalar_words y ≡ true → stands_in scalar_words z ≡ true → (if a then Some x else (if b then Some y else (if c then Some z else None))) ≡ Some w → stands_in scalar_words w ≡ true
+by_widths true b c x y z w p q r e = let same : x ≡ w = cc in rw (← same) p
+by_widths false true c x y z w p q r e = let same : y ≡ w = cc in rw (← same) q
+by_widths false false true x y z w p q r e = let same : z ≡ w = cc in rw (← same) r
+by_widths false false false x y z w p q r e = absurd (cc)
+
+width_is_scalar : (k : ScalarKind) (n : ℕ) (w : List ℕ) → scalar_word_of k n ≡ Some w → stands_in scalar_words w ≡ true
+width_is_scalar kind.Bool n w e = by_widths (n == 1) false false (codes "bool") (codes "bool") (codes "bool") w refl refl refl e
+width_is_scalar kind.Sint n w e = by_widths (n == 2) (n == 4) (n == 8) (codes "i16") (codes "i32") (codes "i64") w refl refl refl e
+width_is_scalar kind.Uint n w e = by_widths (n == 2) (n == 4) (n == 8) (codes "u16") (codes "u32") (codes "u64") w refl refl refl e
+width_is_scalar kind.Float n w e = by_widths (n == 2) (n == 4) (n == 8) (codes "f16") (codes "f32") (codes "f64") w refl refl refl e
+width_is_scalar kind.AbstractInt n w e = absurd (cc)
+width_is_scalar kind.AbstractFloat n w e = absurd (cc)
+
+scalar_is_scalar : (s : Scalar) (w : List ℕ) → scalar_word s ≡ Some w → stands_in scalar_words w ≡ true
+scalar_is_scalar s w e = width_is_scalar s.kind s.width w e
+
+sampled_is_sampled : (k : ScalarKind) (w : List ℕ) → scalar_word_of k 4 ≡ Some w → stands_in sampled_words w ≡ true
+sampled_is_sampled kind.Bool w e = absurd (cc)
+sampled_is_sampled kind.Sint w e = let same : codes "i32" ≡ w = cc in rw (← same) refl
+sampled_is_sampled kind.Uint w e = let same : codes "u32" ≡ w = cc in rw (← same) refl
+sampled_is_sampled kind.Float w e = let same : codes "f32" ≡ w = cc in rw (← same) refl
+sampled_is_sampled kind.AbstractInt w e = absurd (cc)
+sampled_is_sampled kind.AbstractFloat w e = absurd (cc)
+
+format_is_format : (f : StorageFormat) → stands_in format_words (format_word f) ≡ true
+format_is_format format.R8Unorm = refl
+format_is_format format.R8Snorm = refl
+format_is_format format.R8Uint = refl
+format_is_format format.R8Sint = refl
+format_is_format format.Rg8Unorm = refl
+format_is_format format.Rg8Snorm = refl
+format_is_format format.Rg8Uint = refl
+format_is_format format.Rg8Sint = refl
+format_is_format format.Rgba8Unorm = refl
+format_is_format format.Rgba8Snorm = refl
+format_is_format format.Rgba8Uint = refl
+format_is_format format.Rgba8Sint = refl
+format_is_format format.R16Unorm = refl
+format_is_format format.R16Snorm = refl
+format_is_format format.R16Uint = refl
+format_is_format format.R16Sint = refl
+format_is_format format.R16Float = refl
+format_is_format format.Rg16Unorm = refl
+format_is_format format.Rg16Snorm = refl
+format_is_format format.Rg16Uint = refl
+format_is_format format.Rg16Sint = refl
+format_is_format format.Rg16Float = refl
+format_is_format format.Rgba16Unorm = refl
+format_is_format format.Rgba16Snorm = refl
+format_is_format format.Rgba16Uint = refl
+format_is_format format.Rgba16Sint = refl
+format_is_format format.Rgba16Float = refl
+format_is_format format.R32Uint = refl
+format_is_format format.R32Sint = refl
+format_is_format format.R32Float = refl
+format_is_format format.Rg32Uint = refl
+format_is_format format.Rg32Sint = refl
+format_is_format format.Rg32Float = refl
+format_is_format format.Rgba32Uint = refl
+format_is_format format.Rgba32Sint = refl
+format_is_format format.Rgba32Float = refl
+format_is_format format.Bgra8Unorm = refl
+format_is_format format.Rgb10a2Uint = refl
+format_is_format format.Rgb10a2Unorm = refl
+format_is_format format.Rg11b10Ufloat = refl
+format_is_format format.R64Uint = refl
+
+image_access_is : (x y z : Bool) → stands_in access_words (if x then codes "atomic" else (if y then (if z then codes "read_write" else codes "read") else codes "write")) ≡ true
+image_access_is true y z = refl
+image_access_is false true true = refl
+image_access_is false true false = refl
+image_access_is false false z = refl
+
+-- ---- templates
+one_is : (word w : List ℕ) → rule_among type_templates word ≡ TakesScalar → stands_in scalar_words w ≡ true → IsType (of_one word (Named w))
+one_is word w rule scalar = record { part = (rw rule scalar, (in_table scalar_words scalars_are_free w scalar, tt)); whole = refl }
+
+vector_rule : (v : VectorSize) → rule_among type_templates (vector_word v) ≡ TakesScalar
+vector_rule Bi = refl
+vector_rule Tri = refl
+vector_rule Quad = refl
+
+matrix_rule : (c r : VectorSize) → rule_among type_templates (matrix_word c r) ≡ TakesScalar
+matrix_rule Bi Bi = refl
+matrix_rule Bi Tri = refl
+matrix_rule Bi Quad = refl
+matrix_rule Tri Bi = refl
+matrix_rule Tri Tri = refl
+matrix_rule Tri Quad = refl
+matrix_rule Quad Bi = refl
+matrix_rule Quad Tri = refl
+matrix_rule Quad Quad = refl
+
+cooperative_rule : (c r : CooperativeSize) → rule_among type_templates (cooperative_word c r) ≡ TakesRole
+cooperative_rule Eight Eight = refl
+cooperative_rule Eight Sixteen = refl
+cooperative_rule Sixteen Eight = refl
+cooperative_rule Sixteen Sixteen = refl
+
+role_fits : (r : CooperativeRole) → stands_in role_words (role_word r) ≡ true
+role_fits A = refl
+role_fits B = refl
+role_fits C = refl
+
+in_front : (ws vs : List (List ℕ)) (w : List ℕ) → stands_in ws w ≡ true → stands_in (ws ++ vs) w ≡ true
+in_front [] vs w e = absurd (cc)
+in_front (v ∷ ws) vs w e = by (bytes_eq v w) refl (in_front ws vs w)
+  where
+    by : (b : Bool) → bytes_eq v w ≡ b → (stands_in ws w ≡ true → stands_in (ws ++ vs) w ≡ true) → (bytes_eq v w || stands_in (ws ++ vs) w) ≡ true
+    by true same more = ap (λ b. b || stands_in (ws ++ vs) w) same
+    by false same more = ap (λ b. b || stands_in (ws ++ vs) w) same ∙ more (sym (ap (λ b. b || stands_in ws w) same) ∙ e)
+
+-- a word of the types of one word
+plain_is : (w : List ℕ) → stands_in plain_type_words w ≡ true → IsType (Named w)
+plain_is w plain = record { part = in_table plain_type_words plain_are_free w plain; whole = ap (λ b. b || not (is_builtin w)) plain }
+
+scalar_is_plain : (w : List ℕ) → stands_in scalar_words w ≡ true → stands_in plain_type_words w ≡ true
+scalar_is_plain w scalar = in_front scalar_words (sampler_words ++ (ray_words ++ depth_image_words)) w scalar
+
+-- an identifier, as a struct's name
+name_is : (w : List ℕ) → IsIdentifier w → IsType (Named w)
+name_is w is = record { part = is.word; whole = by (stands_in plain_type_words w) (is_builtin w) is.own }
+  where
+    by : (a b : Bool) → b ≡ false → (a || not b) ≡ true
+    by true b e = refl
+    by false b e = ap not e
+
+same_some : {X : Type 0} (x y : X) → Some x ≡ Some y → x ≡ y
+same_some x y e = cc
+
+-- ---- types that name no others
+scalar_tree_is : (s : Scalar) (t : TypeSpecifier) → scalar_tree s ≡ Some t → IsType t
+scalar_tree_is s t e =
+    let w = map_some Named (scalar_word s) t e in
+    subst IsType w.2 (plain_is w.0 (scalar_is_plain w.0 (scalar_is_scalar s w.0 w.1)))
+
+-- a word with a scalar
+of_scalar_is : (word : List ℕ) → rule_among type_templates word ≡ TakesScalar → (s : Scalar) (t : TypeSpecifier) → option_map (of_one word) (scalar_tree s) ≡ Some t → IsType t
+of_scalar_is word rule s t e =
+    let x = map_some (of_one word) (scalar_tree s) t e in
+    let w = map_some Named (scalar_word s) x.0 x.1 in
+    subst IsType (ap (of_one word) w.2 ∙ x.2) (one_is word w.0 rule (scalar_is_scalar s w.0 w.1))
+
+value_tree_is : (v : Option VectorSize) (s : Scalar) (t : TypeSpecifier) → value_tree v s ≡ Some t → IsType t
+value_tree_is None s t e = scalar_tree_is s t e
+value_tree_is (Some v) s t e = of_scalar_is (vector_word v) (vector_rule v) s t e
+
+cooperative_is : (c r : CooperativeSize) (l : CooperativeRole) (s : Scalar) (t : TypeSpecifier) → option_map (λ x. of_two (cooperative_word c r) x (Named (role_word l))) (scalar_tree s) ≡ Some t → IsType t
+cooperative_is c r l s t e =
+    let x = map_some (λ x. of_two (cooperative_word c r) x (Named (role_word l))) (scalar_tree s) t e in
+    let w = map_some Named (scalar_word s) x.0 x.1 in
+    let scalar = scalar_is_scalar s w.0 w.1 in
+    subst IsType (ap (λ x. of_two (cooperative_word c r) x (Named (role_word l))) w.2 ∙ x.2)
+    (record { part = (rw (cooperative_rule c r) (both (stands_in scalar_words w.0) (stands_in role_words (role_word l)) scalar (role_fits l)), (in_table scalar_words scalars_are_free w.0 scalar, (role_is l, tt))); whole = refl })
+
+-- a pointer, in a space that has a word
+space_is : (a : AddressSpace) (w : List ℕ) → space_word a ≡ Some w → stands_in address_space_words w ≡ true
+space_is space.Function w e = let same : codes "function" ≡ w = cc in rw (← same) refl
+space_is space.Private w e = let same : codes "private" ≡ w = cc in rw (← same) refl
+space_is space.WorkGroup w e = let same : codes "workgroup" ≡ w = cc in rw (← same) refl
+space_is space.Uniform w e = let same : codes "uniform" ≡ w = cc in rw (← same) refl
+space_is (space.Storage access) w e = let same : codes "storage" ≡ w = cc in rw (← same) refl
+space_is space.Handle w e = absurd (cc)
+space_is space.Immediate w e = let same : codes "immediate" ≡ w = cc in rw (← same) refl
+space_is space.TaskPayload w e = let same : codes "task_payload" ≡ w = cc in rw (← same) refl
+space_is space.RayPayload w e = let same : codes "ray_payload" ≡ w = cc in rw (← same) refl
+space_is space.IncomingRayPayload w e = let same : codes "incoming_ray_payload" ≡ w = cc in rw (← same) refl
+
+access_is : (x y : Bool) (m : List ℕ) → (if x then Some (codes "atomic") else (if y then Some (codes "read_write") else None)) ≡ Some m → stands_in access_words m ≡ true
+access_is true y m e = let same : codes "atomic" ≡ m = cc in rw (← same) refl
+access_is false true m e = let same : codes "read_write" ≡ m = cc in rw (← same) refl
+access_is false false m e = absurd (cc)
+
+-- what may be done has a word in storage alone
+storage_is : (a : AddressSpace) (w m : List ℕ) → space_word a ≡ Some w → space_access_word a ≡ Some m → (codes "storage" ≡ w) × (stands_in access_words m ≡ true)
+storage_is (space.Storage access) w m e f = (let same : codes "storage" ≡ w = cc in same, access_is (has atomic_bit access) (has store_bit access) m f)
+storage_is _ w m e f = absurd (cc)
+
+pointer_is : (a : AddressSpace) (w : List ℕ) → space_word a ≡ Some w → (o : Option (List ℕ)) → space_access_word a ≡ o → (x : TypeSpecifier) → IsType x → IsType (pointer_tree w o x)
+pointer_is a w at None access x is =
+    let known = space_is a w at in
+    record { part = (both (stands_in address_space_words w) (is_type x) known is.whole, (in_table address_space_words spaces_are_free w known, (is.part, tt))); whole = refl }
+pointer_is a w at (Some m) access x is =
+    let known = storage_is a w m at access in
+    record {
+      part = (
+        both (bytes_eq (codes "storage") w) (is_type x && stands_in access_words m) ((bytes_eq-Decides (codes "storage") w).1 known.0) (both (is_type x) (stands_in access_words m) is.whole known.1),
+        (in_table address_space_words spaces_are_free w (space_is a w at), (is.part, (in_table access_words accesses_are_free m known.1, tt))),
+      );
+      whole = refl;
+    }
+
+pointer_tree_is : (a : AddressSpace) (s : Option (List ℕ)) → space_word a ≡ s → (o : Option TypeSpecifier) → ((x : TypeSpecifier) → o ≡ Some x → IsType x) → (t : TypeSpecifier) → pointer_tree_in s (space_access_word a) o ≡ Some t → IsType t
+pointer_tree_is a None at o all t e = all t e
+pointer_tree_is a (Some w) at o all t e =
+    let x = map_some (pointer_tree w (space_access_word a)) o t e in
+    subst IsType x.2 (pointer_is a w at (space_access_word a) refl x.0 (all x.0 x.1))
+
+value_pointer_is : (a : AddressSpace) (s : Option (List ℕ)) → space_word a ≡ s → (o : Option TypeSpecifier) → ((x : TypeSpecifier) → o ≡ Some x → IsType x) → (t : TypeSpecifier) → value_pointer_tree_in s (space_access_word a) o ≡ Some t → IsType t
+value_pointer_is a None at o all t e = absurd (cc)
+value_pointer_is a (Some w) at o all t e =
+    let x = map_some (pointer_tree w (space_access_word a)) o t e in
+    subst IsType x.2 (pointer_is a w at (space_access_word a) refl x.0 (all x.0 x.1))
+
+-- images
+sampled_rule : (multi : Bool) (dim : ImageDimension) (arrayed : Bool) → rule_among type_templates (image_word (codes "texture_") multi dim arrayed) ≡ TakesSampled
+sampled_rule false D1 false = refl
+sampled_rule false D1 true = refl
+sampled_rule false D2 false = refl
+sampled_rule false D2 true = refl
+sampled_rule false D3 false = refl
+sampled_rule false D3 true = refl
+sampled_rule false Cube false = refl
+sampled_rule false Cube true = refl
+sampled_rule true D1 false = refl
+sampled_rule true D1 true = refl
+sampled_rule true D2 false = refl
+sampled_rule true D2 true = refl
+sampled_rule true D3 false = refl
+sampled_rule true D3 true = refl
+sampled_rule true Cube false = refl
+sampled_rule true Cube true = refl
+
+depth_is_plain : (multi : Bool) (dim : ImageDimension) (arrayed : Bool) → stands_in plain_type_words (image_word (codes "texture_depth_") multi dim arrayed) ≡ true
+depth_is_plain false D1 false = refl
+depth_is_plain false D1 true = refl
+depth_is_plain false D2 false = refl
+depth_is_plain false D2 true = refl
+depth_is_plain false D3 false = refl
+depth_is_plain false D3 true = refl
+depth_is_plain false Cube false = refl
+depth_is_plain false Cube true = refl
+depth_is_plain true D1 false = refl
+depth_is_plain true D1 true = refl
+depth_is_plain true D2 false = refl
+depth_is_plain true D2 true = refl
+depth_is_plain true D3 false = refl
+depth_is_plain true D3 true = refl
+depth_is_plain true Cube false = refl
+depth_is_plain true Cube true = refl
+
+storage_rule : (dim : ImageDimension) (arrayed : Bool) → rule_among type_templates (image_word (codes "texture_storage_") false dim arrayed) ≡ TakesFormat
+storage_rule D1 false = refl
+storage_rule D1 true = refl
+storage_rule D2 false = refl
+storage_rule D2 true = refl
+storage_rule D3 false = refl
+storage_rule D3 true = refl
+storage_rule Cube false = refl
+storage_rule Cube true = refl
+
+image_tree_is : (dim : ImageDimension) (arrayed : Bool) (c : ImageClass) (t : TypeSpecifier) → image_tree dim arrayed c ≡ Some t → IsType t
+image_tree_is dim arrayed (class.Sampled k multi) t e =
+    let word = image_word (codes "texture_") multi dim arrayed in
+    let x = map_some (of_one word) (option_map Named (scalar_word_of k 4)) t e in
+    let w = map_some Named (scalar_word_of k 4) x.0 x.1 in
+    subst IsType (ap (of_one word) w.2 ∙ x.2)
+    (record { part = (rw (sampled_rule multi dim arrayed) (sampled_is_sampled k w.0 w.1), (in_table scalar_words scalars_are_free w.0 (width_is_scalar k 4 w.0 w.1), tt)); whole = refl })
+image_tree_is dim arrayed (class.Depth multi) t e =
+    subst IsType (same_some (Named (image_word (codes "texture_depth_") multi dim arrayed)) t e) (plain_is (image_word (codes "texture_depth_") multi dim arrayed) (depth_is_plain multi dim arrayed))
+image_tree_is dim arrayed class.External t e = subst IsType (same_some (Named (codes "texture_external")) t e) (plain_is (codes "texture_external") refl)
+image_tree_is dim arrayed (class.Storage f a) t e =
+    let access = image_access_is (has atomic_bit a) (has load_bit a) (has store_bit a) in
+    subst IsType (same_some (of_two (image_word (codes "texture_storage_") false dim arrayed) (Named (format_word f)) (Named (image_access_word a))) t e)
+    (record {
+      part = (
+        rw (storage_rule dim arrayed) (both (stands_in format_words (format_word f)) (stands_in access_words (image_access_word a)) (format_is_format f) access),
+        (in_table format_words formats_are_free (format_word f) (format_is_format f), (in_table access_words accesses_are_free (image_access_word a) access, tt)),
+      );
+      whole = refl;
+    })
+
+sampler_is : (comparison : Bool) → IsType (Named (sampler_word comparison))
+sampler_is true = plain_is (codes "sampler_comparison") refl
+sampler_is false = plain_is (codes "sampler") refl
+
+structure_is : (b : Bool) → IsType (ray_tree (codes "acceleration_structure") b)
+structure_is true = record { part = (refl, (vertex_return_is, tt)); whole = refl }
+structure_is false = plain_is (codes "acceleration_structure") refl
+
+query_is : (b : Bool) → IsType (ray_tree (codes "ray_query") b)
+query_is true = record { part = (refl, (vertex_return_is, tt)); whole = refl }
+query_is false = plain_is (codes "ray_query") refl
+
+-- ---- types that name others
+module _ (n : Names) (count : ℕ) (named : AreNamed n count) where
+  array_is : (word : List ℕ) → rule_among type_templates word ≡ TakesElements → (l : ArraySize) → LengthIsWithin count l → (x : TypeSpecifier) → IsType x → IsType (array_tree n word l x)
+  array_is word rule (size.Constant number) within x is = record { part = (rw rule is.whole, (is.part, (within, tt))); whole = refl }
+  array_is word rule (size.Pending o) within x is =
+      let name = named.overrides o within in
+      record { part = (rw rule (both (is_type x) (not (is_builtin (n.override_name o))) is.whole (ap not name.own)), (is.part, (name.word, tt))); whole = refl }
+  array_is word rule size.Dynamic within x is = record { part = (rw rule is.whole, (is.part, tt)); whole = refl }
+
+  array_tree_is : (word : List ℕ) → rule_among type_templates word ≡ TakesElements → (l : ArraySize) → LengthIsWithin count l → (o : Option TypeSpecifier) → ((x : TypeSpecifier) → o ≡ Some x → IsType x) → (t : TypeSpecifier) → option_map (array_tree n word l) o ≡ Some t → IsType t
+  array_tree_is word rule l within o all t e =
+      let x = map_some (array_tree n word l) o t e in
+      subst IsType x.2 (array_is word rule l within x.0 (all x.0 x.1))
+
+  inner_is : (f : ℕ → Option TypeSpecifier) → ((b : ℕ) (x : TypeSpecifier) → f b ≡ Some x → IsType x) → (it : TypeInner) → InnerIsWithin count it → (t : TypeSpecifier) → inner_tree_by n f it ≡ Some t → IsType t
+  inner_is f all (inner.Scalar s) within t e = scalar_tree_is s t e
+  inner_is f all (inner.Vector v s) within t e = of_scalar_is (vector_word v) (vector_rule v) s t e
+  inner_is f all (inner.Matrix c r s) within t e = of_scalar_is (matrix_word c r) (matrix_rule c r) s t e
+  inner_is f all (inner.CooperativeMatrix c r s l) within t e = cooperative_is c r l s t e
+  inner_is f all (inner.Atomic s) within t e = of_scalar_is (codes "atomic") refl s t e
+  inner_is f all (inner.Pointer base a) within t e = pointer_tree_is a (space_word a) refl (f base) (all base) t e
+  inner_is f all (inner.ValuePointer v s a) within t e = value_pointer_is a (space_word a) refl (value_tree v s) (value_tree_is v s) t e
+  inner_is f all (inner.Array base l stride) within t e = array_tree_is (codes "array") refl l within (f base) (all base) t e
+  inner_is f all (inner.Struct members span) within t e = absurd (cc)
+  inner_is f all (inner.Image dim arrayed c) within t e = image_tree_is dim arrayed c t e
+  inner_is f all (inner.Sampler comparison) within t e = subst IsType (same_some (Named (sampler_word comparison)) t e) (sampler_is comparison)
+  inner_is f all (inner.AccelerationStructure b) within t e = subst IsType (same_some (ray_tree (codes "acceleration_structure") b) t e) (structure_is b)
+  inner_is f all (inner.RayQuery b) within t e = subst IsType (same_some (ray_tree (codes "ray_query") b) t e) (query_is b)
+  inner_is f all (inner.BindingArray base l) within t e = array_tree_is (codes "binding_array") refl l within (f base) (all base) t e
+
+  named_is : (f : ℕ → Option TypeSpecifier) → ((b : ℕ) (x : TypeSpecifier) → f b ≡ Some x → IsType x) → (h : ℕ) (y : Type_) → slice_get n.types h ≡ Some y → (b : Bool) → is_struct y.inner ≡ b → (t : TypeSpecifier) → (if b then Some (Named (n.struct_name h)) else inner_tree_by n f y.inner) ≡ Some t → IsType t
+  named_is f all h y at true struct t e = subst IsType (same_some (Named (n.struct_name h)) t e) (name_is (n.struct_name h) (named.structs h y at struct))
+  named_is f all h y at false struct t e = inner_is f all y.inner (named.lengths h y at) t e
+
+  found_is : (k h : ℕ) → ((b : ℕ) (x : TypeSpecifier) → tree_within k n b ≡ Some x → IsType x) → (o : Option Type_) → slice_get n.types h ≡ o → (t : TypeSpecifier) → found_tree_by n (tree_within k n) h o ≡ Some t → IsType t
+  found_is k h all None at t e = absurd (cc)
+  found_is k h all (Some y) at t e = named_is (tree_within k n) all h y at (is_struct y.inner) refl t e
+
+  within_is : (k h : ℕ) (t : TypeSpecifier) → tree_within k n h ≡ Some t → IsType t
+  within_is zero h t e = absurd (cc)
+  within_is (suc k) h t e = found_is k h (within_is k) (slice_get n.types h) refl t e
+
+  pub type_is : (h : ℕ) (t : TypeSpecifier) → type_tree n h ≡ Some t → IsType t
+  unfolding type_tree
+  type_is h t e = within_is (suc h) h t e
+
+  -- the type of an expression, where it has a form
+  pub resolution_is : (r : TypeResolution) → ResolutionIsWithin count r → (t : TypeSpecifier) → resolution_tree n r ≡ Some t → IsType t
+  resolution_is (resolution.Handle h) within t e = type_is h t e
+  resolution_is (resolution.Value it) within t e = inner_is (type_tree n) type_is it within t e
