@@ -1,5 +1,8 @@
 //! Why a label or an item gets no name.
 
+ghost use Rattle.std.specs.Prelude.{◌≡◌, alloc_error};
+ghost use Rattle.item_names.specs.declared.error.NamerError.TheVariants.{Memory};
+
 use std::alloc::{AllocError, AllocFailed};
 use thiserror::Error;
 
@@ -20,8 +23,6 @@ pub enum NamerError {
 }
 
 impl From<AllocError> for NamerError {
-    ghost use Rattle.item_names.specs.declared.error.NamerError.TheVariants.{Memory};
-
     ghost from_gives = { λ refusal error. error ≡ Memory refusal };
 
     fn from(refusal: AllocError) -> NamerError {
@@ -30,9 +31,6 @@ impl From<AllocError> for NamerError {
 }
 
 impl<T: Drop> From<AllocFailed<T>> for NamerError {
-    ghost use Rattle.std.specs.Prelude.{alloc_error};
-    ghost use Rattle.item_names.specs.declared.error.NamerError.TheVariants.{Memory};
-
     ghost from_gives = { λ refusal error. error ≡ Memory alloc_error };
 
     fn from(refusal: AllocFailed<T>) -> NamerError {

@@ -1,7 +1,7 @@
 use Rattle.std.proofs.Common.{None, cond, sym, ap, ◌∙◌, take}
 use Rattle.std.specs.Option.{option_map, option_or}
-use Rattle.naga_names.specs.Reset.{output_label, output_word}
-use Rattle.naga_names.proofs.ResetLemmas.{output_label-more}
+use Rattle.item_names.specs.Reset.{output_label, output_word}
+use Rattle.item_names.proofs.ResetLemmas.{output_label-more}
 use Rattle.naga_names.proofs.namer.fallback.output_label.Goals.{in-Some, in_default}
 use Rattle.naga_names.proofs.namer.fallback.output_label.Goals as goal
 

@@ -1,6 +1,6 @@
 use Rattle.std.proofs.Common.{◌≡◌, take}
 use Rattle.std.specs.Option.{option_map}
-use Rattle.naga_names.specs.Reset.{output_label}
+use Rattle.item_names.specs.Reset.{output_label}
 use Rattle.naga_names.proofs.namer.fallback.output_label.Given as goal
 
 abbrev pub invariant-loop-entry_point : goal.invariant-loop-entry_point
