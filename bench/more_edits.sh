@@ -1,7 +1,7 @@
 #!/bin/sh
-# Tries the edits of bench/edits: more ways to turn what public functions do than the edits in must-fail/ of their
-# crates, of which `rt ci` tries about one for each public function. Each edit must be refused. Run it at the top of the
-# repository, with the names of crates for these alone; it works on a copy.
+# Tries the edits of bench/edits: ways to turn what public functions do, beside those in must-fail/ of their crates, which
+# `rt ci` tries. Each edit must be refused. Run it at the top of the repository, with the names of crates for these alone;
+# it works on a copy.
 set -e
 top=$(pwd)
 copy=$(mktemp -d)
@@ -11,6 +11,7 @@ cd "$copy"
 rm -f crates/*/must-fail/*.edit
 [ $# -gt 0 ] || set -- $(ls "$top/bench/edits")
 for crate in "$@"; do
+    mkdir -p "crates/$crate/must-fail"
     cp "$top/bench/edits/$crate/"*.edit "crates/$crate/must-fail/"
 done
 rt must-fail "$@"
