@@ -1,7 +1,5 @@
-pub mod Accepting
 pub mod Agreeing
 pub mod Counting
-pub mod Fitting
 pub mod Recounted
 pub mod Numbering
 pub mod Operating

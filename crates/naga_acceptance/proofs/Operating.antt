@@ -9,13 +9,13 @@ use Rattle.naga_ir.specs.declared.expression.Expression.{Expression}
 use Rattle.naga_ir.specs.declared.expression.Expression.TheVariants.{Binary}
 use Rattle.naga_ir.specs.declared.module.Function.{Function}
 use Rattle.naga_ir.specs.declared.module.Module.{Module}
-use Rattle.naga_enumerations.specs.declared.operators.BinaryOperator.{BinaryOperator}
+use Rattle.naga_operators.specs.declared.BinaryOperator.{BinaryOperator}
 use Rattle.naga_ir.specs.declared.types.Type_.{Type_}
 use Rattle.naga_info.specs.declared.info.ExpressionInfo.{ExpressionInfo}
 use Rattle.naga_info.specs.declared.info.ModuleInfo.{ModuleInfo}
-use Rattle.naga_acceptance.specs.Operations.{Operation, agrees, all_agree, operation_of, expression_operations, function_operations, all_operations}
-use Rattle.naga_acceptance.specs.Accepted.{is_accepted}
-use Rattle.naga_acceptance.proofs.Accepting.{list_all_at, IsOperation, accepted_operators_agree}
+use Rattle.accepted_modules.specs.Operations.{Operation, agrees, all_agree, operation_of, expression_operations, function_operations, all_operations}
+use Rattle.accepted_modules.specs.Accepted.{is_accepted}
+use Rattle.accepted_modules.proofs.Accepting.{list_all_at, IsOperation, accepted_operators_agree}
 
 -- ---- operations that agree
 

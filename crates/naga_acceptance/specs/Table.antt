@@ -3,8 +3,8 @@
 use Rattle.std.specs.Prelude.{ℕ, Bool, suc, ◌+◌, ◌*◌, List, [], ◌∷◌, Option, Some, None, ◌==◌, if◌then◌else◌, codes, slice_index_or, slice_set}
 use Rattle.std.specs.Option.{option_and_then}
 use Rattle.std.specs.Str.{bytes_eq}
-use Rattle.naga_acceptance.specs.Types.{local_pointer}
-use Rattle.naga_acceptance.specs.Operations.{Operation}
+use Rattle.accepted_modules.specs.Types.{local_pointer}
+use Rattle.accepted_modules.specs.Operations.{Operation}
 
 -- where a word stands in a list of words
 abbrev pub position : List (List ℕ) → List ℕ → ℕ

@@ -4,9 +4,9 @@ ghost use Rattle.std.specs.Prelude.{◌≡◌, nat_lt};
 ghost use Rattle.std.specs.List.{list_all};
 ghost use Rattle.indexmap.specs.IndexMap.{values};
 ghost use Rattle.naga_ir.specs.StatementViews.{tree_of};
-ghost use Rattle.naga_acceptance.specs.Accepted.{block_fits, declares_functions, expected_type, expression_fits, is_within, expressions_fit, function_fits, functions_fit, is_accepted, is_below, is_within, is_scalar_type, local_fits, names_fit, operand_fits, return_fits, signature_fits, special_types_fit, statement_fits, value_fits};
+ghost use Rattle.accepted_modules.specs.Accepted.{block_fits, declares_functions, expected_type, expression_fits, is_within, expressions_fit, function_fits, functions_fit, is_accepted, is_below, is_within, is_scalar_type, local_fits, names_fit, operand_fits, return_fits, signature_fits, special_types_fit, statement_fits, value_fits};
 ghost use Rattle.naga_acceptance.specs.Spelled.{spelled};
-ghost use Rattle.naga_acceptance.specs.Types.{literal_is_within};
+ghost use Rattle.accepted_modules.specs.Types.{literal_is_within};
 
 use crate::operations::operators_agree;
 use crate::spelling::{
@@ -40,7 +40,7 @@ use naga_ir::{
 ///   where the function has no result.
 ///
 /// The counts are not looked at. Each other module is answered `false`.
-#[tactic(auto, using(crate::proofs::Accepting::functions_fit_length), unfolding(crate::specs::Accepted::is_accepted))]
+#[tactic(auto, using(accepted_modules::proofs::Accepting::functions_fit_length), unfolding(accepted_modules::specs::Accepted::is_accepted))]
 pub fn accepts(module: &Module, info: &ModuleInfo) -> bool
     ensures { result ≡ is_accepted «module».now info.now }
 {

@@ -5,10 +5,10 @@
 
 ghost use Rattle.std.specs.Prelude.{◌≡◌, ◌<◌, length, IfSome, Some};
 ghost use Rattle.std.specs.Option.{option_map};
-ghost use Rattle.naga_acceptance.specs.Operations.{expression_operations, function_operations, operators_agree};
+ghost use Rattle.accepted_modules.specs.Operations.{expression_operations, function_operations, operators_agree};
 ghost use Rattle.naga_acceptance.specs.Spelled.{spelled};
 ghost use Rattle.naga_acceptance.specs.Table.{all_entered, entered, operator_number, type_number, written};
-ghost use Rattle.naga_acceptance.specs.Types.{operator_word, scalar_word, spelling_at};
+ghost use Rattle.accepted_modules.specs.Types.{operator_word, scalar_word, spelling_at};
 
 use crate::spelling::{Spelled, spelled_expression};
 use naga_info::{ExpressionInfo, FunctionInfo};

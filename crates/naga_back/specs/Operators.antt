@@ -1,7 +1,7 @@
 -- The texts of operators.
 use Rattle.std.specs.Prelude.{ℕ, List, codes}
-use Rattle.naga_enumerations.specs.declared.operators.BinaryOperator.{BinaryOperator}
-use Rattle.naga_enumerations.specs.declared.operators.BinaryOperator.TheVariants.{Add, Subtract, Multiply, Divide, Modulo, Equal, NotEqual, Less, LessEqual, Greater, GreaterEqual, And, ExclusiveOr, InclusiveOr, LogicalAnd, LogicalOr, ShiftLeft, ShiftRight}
+use Rattle.naga_operators.specs.declared.BinaryOperator.{BinaryOperator}
+use Rattle.naga_operators.specs.declared.BinaryOperator.TheVariants.{Add, Subtract, Multiply, Divide, Modulo, Equal, NotEqual, Less, LessEqual, Greater, GreaterEqual, And, ExclusiveOr, InclusiveOr, LogicalAnd, LogicalOr, ShiftLeft, ShiftRight}
 
 -- the text of an operator between its operands
 abbrev pub operator_text : BinaryOperator → List ℕ

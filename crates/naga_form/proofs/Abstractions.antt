@@ -13,7 +13,7 @@ use Rattle.naga_ir.specs.declared.module.FunctionArgument.{FunctionArgument}
 use Rattle.naga_ir.specs.declared.module.LocalVariable.{LocalVariable}
 use Rattle.naga_ir.specs.declared.types.Type_.{Type_}
 use Rattle.naga_info.specs.declared.info.ExpressionInfo.{ExpressionInfo}
-use Rattle.naga_acceptance.specs.Types.{word_at}
+use Rattle.accepted_modules.specs.Types.{word_at}
 use Rattle.name_keys.specs.Keys.{NameMap}
 use Rattle.wgsl_text.specs.Token.{SuffixI, SuffixLi}
 use Rattle.wgsl_text.specs.Tree.{LeastInteger, LeastLong, Suffixed, TypeSpecifier}
@@ -30,8 +30,8 @@ use Rattle.naga_form.specs.Literals.{literal_form, literal_value, value_read}
 use Rattle.naga_form.specs.Shapes.{expression_shape, statements_shape, function_shape, function_naming, statement_shape}
 use Rattle.naga_form.specs.Abstraction.{expression_read, statements_read, function_read, statement_read, variable_read}
 use Rattle.naga_ir.specs.declared.expression.Expression.TheVariants as expression
-use Rattle.naga_enumerations.specs.declared.operators.BinaryOperator.{BinaryOperator}
-use Rattle.naga_enumerations.specs.declared.operators.BinaryOperator.TheVariants as operator
+use Rattle.naga_operators.specs.declared.BinaryOperator.{BinaryOperator}
+use Rattle.naga_operators.specs.declared.BinaryOperator.TheVariants as operator
 use Rattle.wgsl_text.specs.Tree as tree
 use Rattle.wgsl_text.specs.Pieces.{binary_pieces}
 use Rattle.wgsl_text.specs.Text.{text}

@@ -9,8 +9,8 @@ use Rattle.naga_ir.specs.declared.module.Function as ir_function
 use Rattle.naga_ir.specs.declared.module.Module.{Module}
 use Rattle.naga_info.specs.declared.info.ExpressionInfo.{ExpressionInfo}
 use Rattle.naga_info.specs.declared.info.ModuleInfo.{ModuleInfo}
-use Rattle.naga_acceptance.specs.Accepted.{is_accepted, function_fits, functions_fit}
-use Rattle.naga_acceptance.proofs.Accepting.{accepted_parts}
+use Rattle.accepted_modules.specs.Accepted.{is_accepted, function_fits, functions_fit}
+use Rattle.accepted_modules.proofs.Accepting.{accepted_parts}
 use Rattle.shader_runs.specs.Program.{binds, from}
 use Rattle.shader_runs.specs.Scope.{Handles, Naming, at_start, bound_name, given_after, given_by, after_one, after}
 use Rattle.wgsl_text.specs.Tree.{TypeSpecifier}

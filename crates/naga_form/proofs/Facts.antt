@@ -9,9 +9,9 @@ use Rattle.naga_ir.specs.declared.module.Function.{Function}
 use Rattle.naga_ir.specs.declared.module.FunctionResult.{FunctionResult}
 use Rattle.naga_ir.specs.declared.types.Type_.{Type_}
 use Rattle.naga_info.specs.declared.info.ExpressionInfo.{ExpressionInfo}
-use Rattle.naga_acceptance.specs.Types.{word_at, spelling_of, spelling_at, is_alike}
-use Rattle.naga_acceptance.specs.Accepted.{expression_fits, expressions_fit, return_fits}
-use Rattle.naga_acceptance.proofs.Accepting.{expressions_fit_known, expressions_fit_length}
+use Rattle.accepted_modules.specs.Types.{word_at, spelling_of, spelling_at, is_alike}
+use Rattle.accepted_modules.specs.Accepted.{expression_fits, expressions_fit, return_fits}
+use Rattle.accepted_modules.proofs.Accepting.{expressions_fit_known, expressions_fit_length}
 
 pub and_left : (a b : Bool) → IsTrue (a && b) → IsTrue a
 and_left true b h = refl

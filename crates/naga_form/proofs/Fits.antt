@@ -10,8 +10,8 @@ use Rattle.naga_enumerations.specs.declared.expression.Literal.TheVariants as li
 use Rattle.naga_ir.specs.declared.module.Function as ir_function
 use Rattle.naga_ir.specs.declared.module.LocalVariable.{LocalVariable}
 use Rattle.naga_info.specs.declared.info.ExpressionInfo.{ExpressionInfo}
-use Rattle.naga_acceptance.specs.Types.{word_at, spelling_of, literal_word, spelling_at, operator_word}
-use Rattle.naga_acceptance.specs.Accepted.{statement_fits, return_fits, block_fits, function_fits}
+use Rattle.accepted_modules.specs.Types.{word_at, spelling_of, literal_word, spelling_at, operator_word}
+use Rattle.accepted_modules.specs.Accepted.{statement_fits, return_fits, block_fits, function_fits}
 use Rattle.item_names.specs.Reset.{Labelled, labelled_items, labels_of}
 use Rattle.shader_runs.specs.Value.{ValueType, type_at, type_of}
 use Rattle.shader_runs.specs.Program as shapes
@@ -27,10 +27,10 @@ use Rattle.naga_form.proofs.Facts.{and_left, and_right, then_some, returned_at, 
 use Rattle.std.proofs.lemmas.Option.{slice_get-map, slice_get_within}
 use Rattle.indexmap.specs.IndexMap.{keys}
 use Rattle.naga_ir.specs.declared.expression.Expression.TheVariants as expression
-use Rattle.naga_enumerations.specs.declared.operators.BinaryOperator.{BinaryOperator}
-use Rattle.naga_enumerations.specs.declared.operators.BinaryOperator.TheVariants as operator
+use Rattle.naga_operators.specs.declared.BinaryOperator.{BinaryOperator}
+use Rattle.naga_operators.specs.declared.BinaryOperator.TheVariants as operator
 use Rattle.naga_ir.specs.declared.module.Module.{Module}
-use Rattle.naga_acceptance.proofs.Accepting.{function_fits_word_at, function_fits_expressions, function_fits_block, local_word_at, load_word_at, binary_at}
+use Rattle.accepted_modules.proofs.Accepting.{function_fits_word_at, function_fits_expressions, function_fits_block, local_word_at, load_word_at, binary_at}
 use Rattle.naga_keywords.specs.Plain.{is_word}
 use Rattle.item_names.specs.Naming.{label_or}
 use Rattle.name_keys.specs.declared.key.NameKey.TheVariants as key

@@ -14,9 +14,9 @@ use Rattle.naga_ir.specs.declared.module.FunctionResult.{FunctionResult}
 use Rattle.naga_ir.specs.declared.module.Module.{Module}
 use Rattle.naga_info.specs.declared.info.ExpressionInfo.{ExpressionInfo}
 use Rattle.naga_info.specs.declared.info.ModuleInfo.{ModuleInfo}
-use Rattle.naga_acceptance.specs.Types.{literal_word, literal_is_within, spelling_of, is_alike, word_at}
-use Rattle.naga_acceptance.specs.Accepted.{is_scalar_type, is_below, is_accepted, function_fits, functions_fit, local_fits}
-use Rattle.naga_acceptance.proofs.Accepting.{accepted_parts, function_fits_word_at, function_fits_expressions, function_fits_parts, expressions_fit_known, local_word_at, local_fits_parts}
+use Rattle.accepted_modules.specs.Types.{literal_word, literal_is_within, spelling_of, is_alike, word_at}
+use Rattle.accepted_modules.specs.Accepted.{is_scalar_type, is_below, is_accepted, function_fits, functions_fit, local_fits}
+use Rattle.accepted_modules.proofs.Accepting.{accepted_parts, function_fits_word_at, function_fits_expressions, function_fits_parts, expressions_fit_known, local_word_at, local_fits_parts}
 use Rattle.wgsl_text.specs.Words.{IsIdentifier, is_reserved, is_letter, is_word_byte, all_word_bytes, stands_in, is_builtin}
 use Rattle.wgsl_text.specs.Tree.{LeastInteger, Suffixed, LeastLong, TypeSpecifier, Named as NamedType}
 use Rattle.wgsl_text.specs.Token.{SuffixI, SuffixLi}

@@ -19,10 +19,10 @@ use Rattle.naga_ir.specs.declared.module.LocalVariable.{LocalVariable}
 use Rattle.naga_ir.specs.declared.module.Module.{Module}
 use Rattle.naga_info.specs.declared.info.ExpressionInfo.{ExpressionInfo}
 use Rattle.naga_info.specs.declared.info.ModuleInfo.{ModuleInfo}
-use Rattle.naga_acceptance.specs.Accepted.{is_accepted, is_scalar_type, declares_functions, function_fits, functions_fit}
-use Rattle.naga_acceptance.specs.Types.{word_at}
-use Rattle.naga_acceptance.specs.Part.{is_written_so_far, function_is_written, local_is_written, is_literal, names_nothing, is_unbound, expression_is_written, block_is_written}
-use Rattle.naga_acceptance.proofs.Accepting.{accepted_parts, function_fits_word_at, local_word_at}
+use Rattle.accepted_modules.specs.Accepted.{is_accepted, is_scalar_type, declares_functions, function_fits, functions_fit}
+use Rattle.accepted_modules.specs.Types.{word_at}
+use Rattle.accepted_modules.specs.Part.{is_written_so_far, function_is_written, local_is_written, is_literal, names_nothing, is_unbound, expression_is_written, block_is_written}
+use Rattle.accepted_modules.proofs.Accepting.{accepted_parts, function_fits_word_at, local_word_at}
 use Rattle.shader_runs.specs.Program as shapes
 use Rattle.shader_runs.specs.Program.{binds, expression_of, operands_of, from}
 use Rattle.shader_runs.specs.Scope.{Standing, Absent, Named, Handles, Naming, at_start, start_standing, is_pure, is_constant_below, usable_all, unbound, emitted, bound_name, given_after, given_by, after_one, after_emit, after}

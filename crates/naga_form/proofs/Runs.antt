@@ -8,10 +8,10 @@ use Rattle.indexmap.proofs.ReorderLemmas.{map-reverse}
 use Rattle.naga_ir.specs.declared.module.Function as ir_function
 use Rattle.naga_ir.specs.declared.module.Module.{Module}
 use Rattle.naga_ir.specs.declared.types.Type_.{Type_}
-use Rattle.naga_acceptance.specs.Accepted.{is_accepted, function_fits, functions_fit}
+use Rattle.accepted_modules.specs.Accepted.{is_accepted, function_fits, functions_fit}
 use Rattle.naga_info.specs.declared.info.ExpressionInfo.{ExpressionInfo}
 use Rattle.naga_info.specs.declared.info.ModuleInfo.{ModuleInfo}
-use Rattle.naga_acceptance.proofs.Accepting.{accepted_parts}
+use Rattle.accepted_modules.proofs.Accepting.{accepted_parts}
 use Rattle.name_keys.specs.Keys.{NameMap}
 use Rattle.name_keys.specs.declared.key.NameKey.TheVariants as key
 use Rattle.shader_runs.specs.Program as shapes

@@ -16,11 +16,11 @@ use Rattle.naga_ir.specs.declared.types.TypeInner.TheVariants as inner
 use Rattle.naga_info.specs.declared.info.ExpressionInfo.{ExpressionInfo}
 use Rattle.naga_info.specs.declared.info.TypeResolution.{TypeResolution}
 use Rattle.naga_info.specs.declared.info.TypeResolution.TheVariants.{Handle, Value}
-use Rattle.naga_acceptance.specs.Accepted.{is_scalar_type, function_fits}
+use Rattle.accepted_modules.specs.Accepted.{is_scalar_type, function_fits}
 use Rattle.naga_info.specs.Resolution.{inner_of}
-use Rattle.naga_acceptance.specs.Types.{word_of_width, word_of_type, word_at, pointer_spelling, spelling, spelling_of}
+use Rattle.accepted_modules.specs.Types.{word_of_width, word_of_type, word_at, pointer_spelling, spelling, spelling_of}
 use Rattle.naga_info.proofs.Options.{map_some}
-use Rattle.naga_acceptance.proofs.Accepting.{scalar_types_word_at, function_fits_expressions, function_fits_word_at}
+use Rattle.accepted_modules.proofs.Accepting.{scalar_types_word_at, function_fits_expressions, function_fits_word_at}
 use Rattle.wgsl_words.specs.Words.{scalar_word_of, space_word, space_access_word}
 use Rattle.name_keys.specs.Keys.{NameMap}
 use Rattle.type_spelling.specs.Contexts.{names_of}

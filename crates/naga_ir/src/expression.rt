@@ -3,11 +3,12 @@
 use crate::module::{Constant, Function, GlobalVariable, LocalVariable, Override};
 use crate::types::Type_;
 use naga_arena::{Handle, Item};
-use naga_enumerations::{
-    BinaryOperator, CooperativeRole, CooperativeSize, DerivativeAxis, DerivativeControl,
-    MathFunction, RelationalFunction, ScalarKind, UnaryOperator, VectorSize,
-};
+use naga_enumerations::{CooperativeRole, CooperativeSize, ScalarKind, VectorSize};
 pub use naga_enumerations::{Literal, SwizzleComponent};
+use naga_operators::{
+    BinaryOperator, DerivativeAxis, DerivativeControl, MathFunction, RelationalFunction,
+    UnaryOperator,
+};
 
 /// The mark of [`Expression`] in a handle.
 pub enum ExpressionMark {}

@@ -24,10 +24,10 @@ pub use module::{
     LocalVariable, MeshStageInfo, Module, Override, ShaderStage, SpecialTypes,
 };
 pub use naga_arena::{Arena, Handle, Item, Place, UniqueArena, arena, unique_arena};
+pub use naga_bindings::{Binding, BuiltIn, Interpolation, ResourceBinding, Sampling, binding};
 pub use naga_enumerations::{
-    Binding, BuiltIn, FilterableTriggeringRule, ImageClass, ImageDimension, Interpolation,
-    ResourceBinding, Sampling, Severity, StandardFilterableTriggeringRule, StorageFormat, binding,
-    diagnostics, image,
+    FilterableTriggeringRule, ImageClass, ImageDimension, Severity,
+    StandardFilterableTriggeringRule, StorageFormat, diagnostics, image,
 };
 pub use naga_flags::{Barrier, MemoryDecorations, StorageAccess, flags};
 pub use operators::{

@@ -5,8 +5,9 @@ use crate::statement::Block;
 use crate::types::Type_;
 use indexmap::IndexMap;
 use naga_arena::{Arena, Handle, Item, UniqueArena};
+use naga_bindings::{Binding, ResourceBinding};
 pub use naga_enumerations::ShaderStage;
-use naga_enumerations::{AddressSpace, Binding, PredeclaredType, ResourceBinding};
+use naga_enumerations::{AddressSpace, PredeclaredType};
 use naga_flags::MemoryDecorations;
 use std::alloc::Global;
 

@@ -2,7 +2,7 @@
 
 use crate::expression::Expression;
 use naga_arena::Handle;
-pub use naga_enumerations::{
+pub use naga_operators::{
     BinaryOperator, CollectiveOperation, DerivativeAxis, DerivativeControl, Direction,
     MathFunction, RelationalFunction, SubgroupOperation, UnaryOperator,
 };

@@ -2,7 +2,8 @@
 
 use crate::module::Override;
 use naga_arena::{Handle, Item};
-use naga_enumerations::{Binding, ImageClass, ImageDimension};
+use naga_bindings::Binding;
+use naga_enumerations::{ImageClass, ImageDimension};
 pub use naga_enumerations::{
     AddressSpace, CooperativeRole, CooperativeSize, PredeclaredType, Scalar, ScalarKind, VectorSize,
 };

@@ -12,10 +12,10 @@ use Rattle.naga_ir.specs.declared.module.Function as ir_function
 use Rattle.naga_ir.specs.declared.module.LocalVariable.{LocalVariable}
 use Rattle.naga_ir.specs.declared.statement.Statement.{Statement}
 use Rattle.naga_ir.specs.declared.types.Type_.{Type_}
-use Rattle.naga_acceptance.specs.Accepted.{function_fits}
+use Rattle.accepted_modules.specs.Accepted.{function_fits}
 use Rattle.naga_info.specs.declared.info.ExpressionInfo.{ExpressionInfo}
-use Rattle.naga_acceptance.proofs.Accepting.{load_word_at, binary_at}
-use Rattle.naga_acceptance.proofs.Fitting.{drop_first, item_at}
+use Rattle.accepted_modules.proofs.Accepting.{load_word_at, binary_at}
+use Rattle.accepted_modules.proofs.Fitting.{drop_first, item_at}
 use Rattle.name_keys.specs.Keys.{NameMap}
 use Rattle.wgsl_text.specs.Tree.{BinaryOperator as tree_operator}
 use Rattle.shader_runs.specs.Program.{Function, operands_of, from}

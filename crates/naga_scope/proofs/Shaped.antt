@@ -8,7 +8,7 @@ use Rattle.indexmap.specs.IndexMap.{keys}
 use Rattle.naga_ir.specs.declared.expression.Expression as ir
 use Rattle.naga_ir.specs.declared.expression.Expression.TheVariants as expression
 use Rattle.naga_ir.specs.declared.module.Function as ir_function
-use Rattle.naga_enumerations.specs.declared.operators.BinaryOperator.{BinaryOperator as ir_operator}
+use Rattle.naga_operators.specs.declared.BinaryOperator.{BinaryOperator as ir_operator}
 use Rattle.naga_ir.specs.declared.types.Type_.{Type_}
 use Rattle.naga_info.specs.declared.info.ExpressionInfo.{ExpressionInfo}
 use Rattle.wgsl_text.specs.Tree.{BinaryOperator, LogicalAnd, LogicalOr}

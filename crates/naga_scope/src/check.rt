@@ -4,7 +4,7 @@ ghost use Rattle.std.specs.Prelude.{◌≡◌, ◌==◌, ◌-◌, ◌^◌, ℕ, 
 ghost use Rattle.indexmap.specs.IndexMap.{keys};
 ghost use Rattle.naga_form.specs.Premises.{handles_are_counted, nothing_named, scope_holds};
 ghost use Rattle.naga_form.specs.Shapes.{function_shape, function_naming, statement_shape, OperandsStandBefore};
-ghost use Rattle.naga_acceptance.specs.Accepted.{is_accepted};
+ghost use Rattle.accepted_modules.specs.Accepted.{is_accepted};
 ghost use Rattle.naga_info.specs.declared.info.ExpressionInfo.{ExpressionInfo};
 ghost use Rattle.naga_ir.specs.StatementViews.{tree_of};
 ghost use Rattle.naga_ir.specs.declared.types.Type_.{Type_};

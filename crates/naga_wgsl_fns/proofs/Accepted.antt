@@ -6,9 +6,9 @@ use Rattle.naga_ir.specs.declared.module.Function.{Function}
 use Rattle.naga_ir.specs.declared.module.Module.{Module}
 use Rattle.naga_info.specs.declared.info.ExpressionInfo.{ExpressionInfo}
 use Rattle.naga_info.specs.declared.info.ModuleInfo.{ModuleInfo}
-use Rattle.naga_acceptance.specs.Accepted.{is_accepted, function_fits}
-use Rattle.naga_acceptance.specs.Part.{function_is_written, is_written_so_far}
-use Rattle.naga_acceptance.proofs.Accepting.{accepted_types_are_scalar, accepted_functions_fit, list_all_at, functions_fit_at}
+use Rattle.accepted_modules.specs.Accepted.{is_accepted, function_fits}
+use Rattle.accepted_modules.specs.Part.{function_is_written, is_written_so_far}
+use Rattle.accepted_modules.proofs.Accepting.{accepted_types_are_scalar, accepted_functions_fit, list_all_at, functions_fit_at}
 use Rattle.name_keys.specs.Keys.{NameMap}
 use Rattle.naga_form.specs.Names.{HasNamesOf, module_names}
 use Rattle.naga_form.specs.Form.{function_form}

@@ -9,7 +9,7 @@ use Rattle.naga_ir.specs.declared.expression.Expression as ir
 use Rattle.naga_ir.specs.declared.module.FunctionResult.{FunctionResult}
 use Rattle.naga_ir.specs.declared.types.Type_.{Type_}
 use Rattle.naga_info.specs.declared.info.ExpressionInfo.{ExpressionInfo}
-use Rattle.naga_acceptance.specs.Accepted.{statement_fits, block_fits}
+use Rattle.accepted_modules.specs.Accepted.{statement_fits, block_fits}
 use Rattle.shader_runs.specs.Program.{from}
 use Rattle.shader_runs.specs.Scope.{Handles, Naming, given_after, given_by, after_one, after_emit}
 use Rattle.naga_form.specs.Shapes.{statement_shape}

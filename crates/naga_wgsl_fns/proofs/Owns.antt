@@ -6,7 +6,7 @@ use Rattle.std.proofs.lemmas.Bool.{lt-ltb}
 use Rattle.std.proofs.lemmas.List.{append-nil}
 use Rattle.naga_ir.specs.declared.expression.Expression as ir
 use Rattle.naga_ir.specs.declared.expression.Expression.TheVariants as expression
-use Rattle.naga_enumerations.specs.declared.operators.BinaryOperator as ir_operator
+use Rattle.naga_operators.specs.declared.BinaryOperator as ir_operator
 use Rattle.shader_runs.specs.Scope.{Handles, Naming}
 use Rattle.naga_form.specs.Names.{numbered_name, numbered_text}
 use Rattle.naga_form.specs.Form.{PlainForm, ValueForm, as_value, as_reference, own_plain, own_if, plain_form, standing_plain, value_form}

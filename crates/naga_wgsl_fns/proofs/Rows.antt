@@ -12,8 +12,8 @@ use Rattle.naga_ir.specs.declared.module.Function.{Function}
 use Rattle.naga_ir.specs.declared.module.FunctionArgument.{FunctionArgument}
 use Rattle.naga_ir.specs.declared.module.FunctionResult.{FunctionResult}
 use Rattle.naga_ir.specs.declared.module.LocalVariable.{LocalVariable}
-use Rattle.naga_enumerations.specs.declared.operators.BinaryOperator as ir_operator
-use Rattle.naga_enumerations.specs.declared.operators.BinaryOperator.TheVariants as operator
+use Rattle.naga_operators.specs.declared.BinaryOperator as ir_operator
+use Rattle.naga_operators.specs.declared.BinaryOperator.TheVariants as operator
 use Rattle.naga_ir.specs.declared.types.Type_.{Type_}
 use Rattle.naga_info.specs.declared.info.ExpressionInfo.{ExpressionInfo}
 use Rattle.naga_back.specs.Indentation.{indentation}

@@ -9,22 +9,22 @@ use Rattle.naga_enumerations.specs.declared.types.AddressSpace.TheVariants as sp
 use Rattle.naga_ir.specs.declared.types.Type_.{Type_}
 use Rattle.naga_ir.specs.declared.types.TypeInner.{TypeInner}
 use Rattle.naga_ir.specs.declared.types.TypeInner.TheVariants as inner
-use Rattle.naga_acceptance.specs.Accepted.{is_scalar_type}
+use Rattle.accepted_modules.specs.Accepted.{is_scalar_type}
 use Rattle.naga_info.specs.Resolution.{inner_of}
-use Rattle.naga_acceptance.specs.Types.{word_of_type, word_at, pointer_spelling, spelling, spelling_of}
+use Rattle.accepted_modules.specs.Types.{word_of_type, word_at, pointer_spelling, spelling, spelling_of}
 use Rattle.naga_info.proofs.Options.{map_some, then_some}
-use Rattle.naga_acceptance.proofs.Accepting.{list_all_at}
+use Rattle.accepted_modules.proofs.Accepting.{list_all_at}
 use Rattle.name_keys.specs.Keys.{NameMap}
 use Rattle.naga_info.specs.declared.info.TypeResolution.{TypeResolution}
 use Rattle.naga_info.specs.declared.info.TypeResolution.TheVariants as resolution
-use Rattle.type_spelling.specs.Parts.{Part, Word, Shown, Missing, IsText, lacks, before_missing, known_text, HasWritten, HasBegun}
+use Rattle.spelling_parts.specs.Parts.{Part, Word, Shown, Missing, IsText, lacks, before_missing, known_text, HasWritten, HasBegun}
 use Rattle.type_spelling.specs.Contexts.{names_of, names_context}
 use Rattle.type_spelling.specs.Spelling.{Context, Fits, FitsResolution, IsInOrder, end_of_base, knows_override, type_parts, resolution_parts}
-use Rattle.type_spelling.specs.Sink.{IsBehind}
+use Rattle.spelling_parts.specs.Sink.{IsBehind}
 use Rattle.type_spelling.specs.Trees.{type_tree, resolution_tree}
-use Rattle.naga_words.specs.declared.sink.SinkError.TheVariants.{Failed, Memory as SinkMemory}
-use Rattle.naga_words.specs.declared.types.TypeTextError.{TypeTextError}
-use Rattle.naga_words.specs.declared.types.TypeTextError.TheVariants as type_error
+use Rattle.spelling_parts.specs.declared.sink.SinkError.TheVariants.{Failed, Memory as SinkMemory}
+use Rattle.spelling_parts.specs.declared.error.TypeTextError.{TypeTextError}
+use Rattle.spelling_parts.specs.declared.error.TypeTextError.TheVariants as type_error
 use Rattle.type_spelling.proofs.Forms.{only_text, lacks_unknown, type_row, inner_tree_row}
 use Rattle.wgsl_text.specs.Reading.{type_layout}
 use Rattle.wgsl_text.specs.Tree.{TypeSpecifier, Named}

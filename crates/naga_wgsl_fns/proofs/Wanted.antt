@@ -14,7 +14,7 @@ use Rattle.naga_ir.specs.declared.module.FunctionArgument as argument
 use Rattle.naga_ir.specs.declared.module.FunctionResult.{FunctionResult}
 use Rattle.naga_ir.specs.declared.module.LocalVariable.{LocalVariable}
 use Rattle.naga_ir.specs.declared.module.Module.{Module}
-use Rattle.naga_enumerations.specs.declared.operators.BinaryOperator.{BinaryOperator}
+use Rattle.naga_operators.specs.declared.BinaryOperator.{BinaryOperator}
 use Rattle.naga_info.specs.declared.info.ExpressionInfo.{ExpressionInfo}
 use Rattle.name_keys.specs.Keys.{NameMap}
 use Rattle.name_keys.specs.declared.key.NameKey.TheVariants as key
@@ -30,11 +30,11 @@ use Rattle.type_spelling.specs.Trees.{resolution_tree}
 use Rattle.wgsl_text.specs.Reading.{type_layout}
 use Rattle.wgsl_text.specs.Tree.{Named}
 use Rattle.naga_form.proofs.Resolutions.{nothing_outside, written_parts}
-use Rattle.naga_acceptance.specs.Types.{literal_word, word_at, spelling_of, local_pointer}
-use Rattle.naga_acceptance.specs.Accepted.{is_below, expected_type, local_fits, statement_fits, return_fits, block_fits}
-use Rattle.naga_acceptance.specs.Part.{names_nothing}
+use Rattle.accepted_modules.specs.Types.{literal_word, word_at, spelling_of, local_pointer}
+use Rattle.accepted_modules.specs.Accepted.{is_below, expected_type, local_fits, statement_fits, return_fits, block_fits}
+use Rattle.accepted_modules.specs.Part.{names_nothing}
 use Rattle.naga_info.proofs.Options.{then_some}
-use Rattle.naga_acceptance.proofs.Accepting.{list_all_at, scalar_types_word_at, function_fits_signature, function_fits_locals, function_fits_block, function_fits_length, function_fits_word_at, local_fits_parts, value_fits_word, local_word_at, load_word_at, binary_at, store_fits_word, local_first_word}
+use Rattle.accepted_modules.proofs.Accepting.{list_all_at, scalar_types_word_at, function_fits_signature, function_fits_locals, function_fits_block, function_fits_length, function_fits_word_at, local_fits_parts, value_fits_word, local_word_at, load_word_at, binary_at, store_fits_word, local_first_word}
 use Rattle.naga_wgsl_fns.specs.Texts.{CanWrite, has_word, naming_of, resolution_text, told_text}
 
 module _ (m : Module) (names : NameMap) (g : ℕ) (f : Function) (es : List ExpressionInfo) (can : CanWrite m names g f es) where

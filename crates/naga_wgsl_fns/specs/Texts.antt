@@ -9,9 +9,9 @@ use Rattle.naga_ir.specs.declared.module.Module.{Module}
 use Rattle.naga_ir.specs.declared.types.Type_.{Type_}
 use Rattle.naga_info.specs.declared.info.ExpressionInfo.{ExpressionInfo}
 use Rattle.naga_info.specs.declared.info.ModuleInfo.{ModuleInfo}
-use Rattle.naga_acceptance.specs.Types.{word_at}
-use Rattle.naga_acceptance.specs.Accepted.{is_scalar_type, function_fits}
-use Rattle.naga_acceptance.specs.Part.{function_is_written}
+use Rattle.accepted_modules.specs.Types.{word_at}
+use Rattle.accepted_modules.specs.Accepted.{is_scalar_type, function_fits}
+use Rattle.accepted_modules.specs.Part.{function_is_written}
 use Rattle.name_keys.specs.Keys.{NameMap}
 use Rattle.naga_scope.specs.declared.points.Standing.{Standing}
 use Rattle.naga_scope.specs.Standings.{handles_of}

@@ -5,9 +5,9 @@ use Rattle.std.specs.List.{enumerate_from, list_all}
 use Rattle.std.proofs.lemmas.Bool.{and_parts}
 use Rattle.naga_ir.specs.declared.module.Function.{Function}
 use Rattle.naga_ir.specs.declared.module.Module.{Module}
-use Rattle.naga_acceptance.specs.Accepted.{is_accepted}
-use Rattle.naga_acceptance.specs.Part.{is_written_so_far, function_is_written, names_nothing}
-use Rattle.naga_acceptance.proofs.Accepting.{accepted_functions_fit, functions_fit_length}
+use Rattle.accepted_modules.specs.Accepted.{is_accepted}
+use Rattle.accepted_modules.specs.Part.{is_written_so_far, function_is_written, names_nothing}
+use Rattle.accepted_modules.proofs.Accepting.{accepted_functions_fit, functions_fit_length}
 use Rattle.naga_info.specs.declared.info.ModuleInfo.{ModuleInfo}
 use Rattle.name_keys.specs.Keys.{NameMap}
 use Rattle.wgsl_text.specs.Reading.{Reads, HasOneReading}
@@ -24,7 +24,7 @@ use Rattle.naga_form.proofs.Programs.{is_program}
 use Rattle.naga_form.specs.Resolution.{ResolvesAs}
 use Rattle.naga_form.proofs.Resolutions.{resolves, functions_are_written, written_parts}
 use Rattle.naga_form.proofs.Runs.{runs_as}
-use Rattle.type_spelling.specs.Sink.{IsBehind}
+use Rattle.spelling_parts.specs.Sink.{IsBehind}
 use Rattle.wgsl_pieces.specs.Appends.{Appends}
 use Rattle.wgsl_pieces.proofs.Appending.{appends_as}
 use Rattle.wgsl_pieces.specs.Errors.{IsWant, IsNotYetWritten, IsCustom}

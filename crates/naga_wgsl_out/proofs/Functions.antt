@@ -6,8 +6,8 @@ use Rattle.naga_ir.specs.declared.module.Function.{Function}
 use Rattle.naga_ir.specs.declared.module.Module.{Module}
 use Rattle.naga_info.specs.declared.info.ExpressionInfo.{ExpressionInfo}
 use Rattle.naga_info.specs.declared.info.ModuleInfo.{ModuleInfo}
-use Rattle.naga_acceptance.specs.Accepted.{is_accepted}
-use Rattle.naga_acceptance.proofs.Accepting.{accepted_functions_fit, functions_fit_length}
+use Rattle.accepted_modules.specs.Accepted.{is_accepted}
+use Rattle.accepted_modules.proofs.Accepting.{accepted_functions_fit, functions_fit_length}
 use Rattle.wgsl_text.specs.Declarations.{function_pieces, functions_pieces}
 use Rattle.wgsl_text.specs.Text.{text}
 use Rattle.wgsl_text.specs.Token.{LineEnd}

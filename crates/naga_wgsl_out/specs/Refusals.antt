@@ -1,7 +1,7 @@
 -- Why a module is refused, each reason with what it says.
 use Rattle.std.specs.Prelude.{◌≡◌, ⊤, ℕ, List, ◌⊎◌, codes, string_bytes, IsTrue, IsFalse, Result, Ok, Err}
 use Rattle.naga_ir.specs.declared.module.Module.{Module}
-use Rattle.naga_acceptance.specs.Part.{is_written_so_far}
+use Rattle.accepted_modules.specs.Part.{is_written_so_far}
 use Rattle.naga_info.specs.declared.info.ModuleInfo.{ModuleInfo}
 use Rattle.item_names.specs.Refusal.{SomeNameIsFull, SomeKeyIsFull}
 use Rattle.item_names.specs.declared.error.NamerError.{NamerError}

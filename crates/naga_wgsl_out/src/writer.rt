@@ -2,10 +2,10 @@
 
 ghost use Rattle.std.specs.Prelude.{◌≡◌, ◌<◌, ◌++◌, [], IfErr, IfOk, IsTrue, OnErr, OnOk, codes, length, string_bytes};
 ghost use Rattle.std.specs.List.{enumerate_from};
-ghost use Rattle.naga_acceptance.specs.Accepted.{is_accepted};
-ghost use Rattle.naga_acceptance.specs.Part.{is_written_so_far};
+ghost use Rattle.accepted_modules.specs.Accepted.{is_accepted};
+ghost use Rattle.accepted_modules.specs.Part.{is_written_so_far};
 ghost use Rattle.name_keys.specs.Keys.{names_in};
-ghost use Rattle.type_spelling.specs.Sink.{IsBehind};
+ghost use Rattle.spelling_parts.specs.Sink.{IsBehind};
 ghost use Rattle.item_names.specs.Refusal.{IsResetRefusal};
 ghost use Rattle.naga_form.specs.Names.{HasNamesOf, wgsl_names};
 ghost use Rattle.naga_form.specs.Resolution.{ResolvesAs};

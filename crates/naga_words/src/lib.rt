@@ -1,11 +1,8 @@
-//! Texts: what text is written to, WGSL's words, and the spelling of types in a context.
+//! The spelling of types in a context. It passes on text sinks and WGSL's words.
 #![tactic(auto)]
 
-pub mod predeclared;
-pub mod sink;
 pub mod types;
 
-pub use predeclared::PredeclaredName;
-pub use sink::{SinkError, TextSink};
+pub use spelling_parts::{PredeclaredName, SinkError, TextSink, predeclared, sink};
 pub use types::{TypeContext, TypeTextError, WriterTypeContext};
 pub use wgsl_words::{ToWgsl, TryToWgsl, address_space_str, to_wgsl};

@@ -1,60 +1,31 @@
 //! How types are spelled, in a context that names what they are made of.
 
 ghost use Rattle.std.specs.Prelude.{◌≡◌, ℕ, ◌<◌, true, List, length, None, IfOk, string_bytes, OnOk, IsErrOf, IsTrue, slice_get, Some};
-ghost use Rattle.naga_words.specs.declared.types.TypeTextError.TheVariants as error;
-ghost use Rattle.type_spelling.specs.Parts.{HasWritten, HasBegun, IsText, lacks};
+ghost use Rattle.spelling_parts.specs.declared.error.TypeTextError.TheVariants as error;
+ghost use Rattle.spelling_parts.specs.Parts.{HasWritten, HasBegun, IsText, lacks};
 ghost use Rattle.wgsl_words.specs.Words.{scalar_word};
 ghost use Rattle.type_spelling.specs.Rules.{conclusion_parts, rule_parts, AllFit, FitsConclusion};
-ghost use Rattle.type_spelling.specs.Spelling.{Context, Fits, FitsResolution, IsInOrder, is_struct, is_formless_pointer, formless_parts, inner_parts, formless_scalar_parts, scalar_parts, type_parts, resolution_parts};
+ghost use Rattle.spelling_parts.specs.Values.{formless_parts, formless_scalar_parts, scalar_parts};
+ghost use Rattle.type_spelling.specs.Spelling.{Context, Fits, FitsResolution, IsInOrder, is_struct, is_formless_pointer, inner_parts, type_parts, resolution_parts};
 
 pub mod contexts;
 pub mod order;
 pub(crate) mod rules;
 pub(crate) mod scalars;
 pub(crate) mod spelling;
-pub(crate) mod words;
 
-use crate::sink::{SinkError, TextSink};
 use crate::types::rules::{write_conclusion_in, write_resolution_in, write_rule_in};
-use crate::types::scalars::{write_formless_scalar, write_scalar_in};
+use crate::types::scalars::write_scalar_in;
 use crate::types::spelling::{write_formless_inner, write_inner_in, write_type_in};
 pub use contexts::WriterTypeContext;
 use naga_info::{Conclusion, Rule, TypeResolution};
 use naga_ir::{Handle, Override, Scalar, Type_, TypeInner};
 pub use order::{type_fits, types_in_order};
-use std::alloc::{AllocError, Global};
-use thiserror::Error;
+pub use spelling_parts::TypeTextError;
+use spelling_parts::scalars::write_formless_scalar;
+use spelling_parts::{SinkError, TextSink};
+use std::alloc::Global;
 pub use type_spelling::laws;
-
-/// Why a type was not written.
-#[derive(Clone, Copy, Debug, PartialEq, Eq, Error)]
-pub enum TypeTextError {
-    /// The sink refused a piece.
-    #[error("{0}")]
-    Sink(SinkError),
-    /// There was not enough memory for a text on the way.
-    #[error("out of memory")]
-    Memory(AllocError),
-    /// The type has no form in WGSL, and the context refuses such types.
-    #[error("type without a WGSL form")]
-    NoForm,
-}
-
-impl From<SinkError> for TypeTextError {
-    ghost from_gives = { λ s e. e ≡ error.Sink s };
-
-    fn from(error: SinkError) -> TypeTextError {
-        TypeTextError::Sink(error)
-    }
-}
-
-impl From<AllocError> for TypeTextError {
-    ghost from_gives = { λ a e. e ≡ error.Memory a };
-
-    fn from(error: AllocError) -> TypeTextError {
-        TypeTextError::Memory(error)
-    }
-}
 
 /// What the spelling of a type takes from around it: the types that it names, the names of structs
 /// and overrides, and what becomes of a type without a form.
@@ -154,7 +125,7 @@ pub trait TypeContext {
         ensures failures_ok { OnOk result (W.failures out.new ≡ W.failures out.old) }
         ensures failed { IsErrOf result (error.Sink SinkError.Failed) → W.failures out.old < W.failures out.new }
     {
-        write_formless_scalar(self, alloc, scalar, out)
+        write_formless_scalar(self.refuses(), alloc, scalar, out)
     }
 
     /// Writes a scalar.

@@ -26,8 +26,10 @@ use Rattle.naga_enumerations.specs.declared.image.ImageClass.TheVariants as clas
 use Rattle.naga_enumerations.specs.declared.image.ImageDimension.{ImageDimension}
 use Rattle.naga_enumerations.specs.declared.image.ImageDimension.TheVariants.{D1, D2, D3, Cube}
 use Rattle.wgsl_words.specs.Words.{scalar_word, space_word, space_access_word, image_access_word, role_word, format_word}
-use Rattle.type_spelling.specs.Parts.{Part, Word, Shown, Missing, IsText, NoParts, WordThen, lacks, known_text}
-use Rattle.type_spelling.specs.Spelling.{scalar_parts_of, template_parts, value_parts, vector_word, matrix_word, cooperative_word, image_word, role_tail, length_parts, acceleration_structure_text, ray_query_text, inner_parts, pointer_in, pointer_parts, value_pointer_parts, access_parts, array_parts, storage_image_parts, image_parts, is_struct, inner_parts_by, found_parts_by, parts_within, type_parts}
+use Rattle.spelling_parts.specs.Parts.{Part, Word, Shown, Missing, IsText, NoParts, WordThen, lacks, known_text}
+use Rattle.spelling_parts.specs.Words.{vector_word, matrix_word, cooperative_word, image_word, role_tail, acceleration_structure_text, ray_query_text}
+use Rattle.spelling_parts.specs.Values.{scalar_parts_of, template_parts, value_parts, pointer_in, value_pointer_parts, access_parts, storage_image_parts, image_parts}
+use Rattle.type_spelling.specs.Spelling.{length_parts, inner_parts, pointer_parts, array_parts, is_struct, inner_parts_by, found_parts_by, parts_within, type_parts}
 use Rattle.type_spelling.specs.Trees.{Names, of_one, of_two, value_tree, pointer_tree, pointer_tree_in, value_pointer_tree_in, array_tree, image_tree, ray_tree, inner_tree, inner_tree_by, found_tree_by, tree_within, type_tree, writer_context}
 
 -- the only text of parts that are words alone

@@ -4,7 +4,7 @@ use Rattle.naga_ir.specs.declared.types.Type_.{Type_}
 use Rattle.naga_ir.specs.declared.types.TypeInner.{TypeInner}
 use Rattle.naga_ir.specs.declared.types.TypeInner.TheVariants as inner
 use Rattle.wgsl_words.specs.Words.{space_word, space_access_word}
-use Rattle.type_spelling.specs.Parts.{Part, Word}
+use Rattle.spelling_parts.specs.Parts.{Part, Word}
 use Rattle.type_spelling.specs.Spelling.{Context, IsInOrder, is_struct, end_of_base, pointer_parts, array_parts, inner_parts_by, named_parts_by, found_parts_by, parts_within, type_parts}
 
 module _ (f g : ℕ → List Part) (n : ℕ) (same : (k : ℕ) → k < n → f k ≡ g k) where

@@ -1,5 +1,3 @@
-pub mod PartTexts
-pub mod Arounds
 pub mod Levels
 pub mod Forms
 pub mod Orders

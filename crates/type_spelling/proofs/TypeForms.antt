@@ -36,7 +36,8 @@ use Rattle.wgsl_text.specs.Tree.{TypeSpecifier, Named}
 use Rattle.wgsl_text.specs.Words.{IsWord, IsIdentifier, is_word_text, is_reserved, is_builtin, stands_in}
 use Rattle.wgsl_words.specs.Words.{scalar_word, scalar_word_of, space_word, space_access_word, image_access_word, role_word, format_word, has, atomic_bit, load_bit, store_bit}
 use Rattle.type_spelling.specs.Readable.{LengthIsWithin, InnerIsWithin, ResolutionIsWithin, AreNamed}
-use Rattle.type_spelling.specs.Spelling.{is_struct, vector_word, matrix_word, cooperative_word, image_word, sampler_word}
+use Rattle.spelling_parts.specs.Words.{vector_word, matrix_word, cooperative_word, image_word, sampler_word}
+use Rattle.type_spelling.specs.Spelling.{is_struct}
 use Rattle.type_spelling.specs.Trees.{Names, of_one, of_two, scalar_tree, value_tree, pointer_tree, pointer_tree_in, value_pointer_tree_in, array_tree, image_tree, ray_tree, inner_tree_by, found_tree_by, tree_within, type_tree, resolution_tree}
 
 both : (a b : Bool) → a ≡ true → b ≡ true → (a && b) ≡ true

@@ -5,7 +5,7 @@ use Rattle.naga_ir.specs.declared.types.Type_.{Type_}
 use Rattle.naga_ir.specs.declared.module.Override.{Override}
 use Rattle.name_keys.specs.declared.key.NameKey.TheVariants as key
 use Rattle.name_keys.specs.Keys.{NameMap}
-use Rattle.type_spelling.specs.Parts.{Part, Word, shown_between}
+use Rattle.spelling_parts.specs.Parts.{Part, Word, shown_between}
 use Rattle.type_spelling.specs.Trees.{Names, writer_context}
 use Rattle.type_spelling.specs.Spelling.{Context}
 

@@ -4,8 +4,8 @@ use Rattle.naga_info.specs.declared.info.TypeResolution.{TypeResolution}
 use Rattle.naga_info.specs.declared.rules.Conclusion.{Conclusion}
 use Rattle.naga_info.specs.declared.rules.Conclusion.TheVariants.{Value, Predeclared}
 use Rattle.naga_info.specs.declared.rules.Rule.{Rule}
-use Rattle.type_spelling.specs.Parts.{Part, Word}
-use Rattle.type_spelling.specs.Predeclared.{predeclared_name}
+use Rattle.spelling_parts.specs.Parts.{Part, Word}
+use Rattle.spelling_parts.specs.Predeclared.{predeclared_name}
 use Rattle.type_spelling.specs.Spelling.{Context, Fits, FitsResolution, inner_parts, resolution_parts}
 
 -- the types behind the first

@@ -1,28 +1,19 @@
 -- What a type is spelled as: its text, part by part, in a context that says how structs and overrides are named and
 -- whether what has no form is refused or shown in braces.
-use Rattle.std.specs.Prelude.{◌≡◌, ℕ, zero, suc, IsTrue, nat_lt, ◌≤◌, ◌<◌, ◌+◌, Bool, true, false, if◌then◌else◌, List, [], ◌∷◌, ◌++◌, Option, Some, None, codes, decimal, slice_get, length}
+use Rattle.std.specs.Prelude.{◌≡◌, ℕ, zero, suc, IsTrue, nat_lt, ◌≤◌, ◌<◌, ◌+◌, Bool, true, false, if◌then◌else◌, List, [], ◌∷◌, ◌++◌, Option, Some, None, codes, slice_get, length}
 use Rattle.std.specs.Int.NonZero.{non_zero_u32_get}
 use Rattle.naga_ir.specs.declared.types.Type_.{Type_}
 use Rattle.naga_ir.specs.declared.types.TypeInner.{TypeInner}
 use Rattle.naga_ir.specs.declared.types.TypeInner.TheVariants as inner
 use Rattle.naga_ir.specs.declared.types.ArraySize.{ArraySize}
 use Rattle.naga_ir.specs.declared.types.ArraySize.TheVariants as size
-use Rattle.naga_enumerations.specs.declared.types.VectorSize.{VectorSize}
-use Rattle.naga_enumerations.specs.declared.types.VectorSize.TheVariants.{Bi, Tri, Quad}
-use Rattle.naga_enumerations.specs.declared.types.CooperativeSize.{CooperativeSize}
-use Rattle.naga_enumerations.specs.declared.types.CooperativeSize.TheVariants.{Eight, Sixteen}
-use Rattle.naga_enumerations.specs.declared.types.CooperativeRole.{CooperativeRole}
-use Rattle.naga_enumerations.specs.declared.types.Scalar.{Scalar}
-use Rattle.naga_enumerations.specs.declared.types.ScalarKind.{ScalarKind}
-use Rattle.naga_enumerations.specs.declared.types.ScalarKind.TheVariants.{AbstractInt, AbstractFloat}
-use Rattle.naga_enumerations.specs.declared.image.ImageClass.{ImageClass}
-use Rattle.naga_enumerations.specs.declared.image.ImageClass.TheVariants as class
-use Rattle.naga_enumerations.specs.declared.image.ImageDimension.{ImageDimension}
 use Rattle.naga_info.specs.declared.info.TypeResolution.{TypeResolution}
 use Rattle.naga_info.specs.declared.info.TypeResolution.TheVariants.{Handle, Value}
 use Rattle.std.specs.Option.{is_none}
-use Rattle.wgsl_words.specs.Words.{scalar_word, space_word, space_access_word, image_access_word, role_word, dimension_word, format_word}
-use Rattle.type_spelling.specs.Parts.{Part, Word, Missing, shown_between, three}
+use Rattle.wgsl_words.specs.Words.{space_word, space_access_word}
+use Rattle.spelling_parts.specs.Parts.{Part, Word, Missing}
+use Rattle.spelling_parts.specs.Words.{matrix_word, cooperative_word, role_tail, sampler_word, acceleration_structure_text, ray_query_text}
+use Rattle.spelling_parts.specs.Values.{scalar_parts, vector_parts, template_parts, pointer_in, value_parts, value_pointer_parts, length_of_number, image_parts}
 
 -- how a context spells what is its own
 pub record Context : Type 0 where
@@ -38,84 +29,10 @@ pub record Context : Type 0 where
   -- Is what has no form refused? Otherwise it is shown in braces.
   pub refuses : Bool
 
--- a type without a form
-abbrev pub formless_parts : Bool → List Part
-formless_parts true = Missing ∷ []
-formless_parts false = shown_between (codes "{non-WGSL Naga type ") (codes "}")
-
--- a scalar without a word, in braces
-abbrev pub braced_scalar_parts : ScalarKind → List Part
-braced_scalar_parts AbstractInt = Word (codes "{AbstractInt}") ∷ []
-braced_scalar_parts AbstractFloat = Word (codes "{AbstractFloat}") ∷ []
-braced_scalar_parts _ = shown_between (codes "{non-WGSL Naga scalar ") (codes "}")
-
--- a scalar without a word
-abbrev pub formless_scalar_parts : Bool → ScalarKind → List Part
-formless_scalar_parts true kind = Missing ∷ []
-formless_scalar_parts false kind = braced_scalar_parts kind
-
-abbrev pub scalar_parts_of : Bool → Option (List ℕ) → ScalarKind → List Part
-scalar_parts_of refuses (Some w) kind = Word w ∷ []
-scalar_parts_of refuses None kind = formless_scalar_parts refuses kind
-
--- a scalar
-abbrev pub scalar_parts : Bool → Scalar → List Part
-scalar_parts refuses scalar = scalar_parts_of refuses (scalar_word scalar) scalar.kind
-
--- the number in a vector's or a matrix's word
-abbrev pub size_text : VectorSize → List ℕ
-size_text Bi = codes "2"
-size_text Tri = codes "3"
-size_text Quad = codes "4"
-
-abbrev pub cooperative_size_text : CooperativeSize → List ℕ
-cooperative_size_text Eight = codes "8"
-cooperative_size_text Sixteen = codes "16"
-
--- the words of types with a size
-abbrev pub vector_word : VectorSize → List ℕ
-vector_word size = codes "vec" ++ size_text size
-
--- columns first
-abbrev pub matrix_word : VectorSize → VectorSize → List ℕ
-matrix_word columns rows = codes "mat" ++ (size_text columns ++ (codes "x" ++ size_text rows))
-
-abbrev pub cooperative_word : CooperativeSize → CooperativeSize → List ℕ
-cooperative_word columns rows = codes "coop_mat" ++ (cooperative_size_text columns ++ (codes "x" ++ cooperative_size_text rows))
-
--- a word with a scalar in angle brackets, of which the tail has the closing one
-abbrev pub template_parts : List ℕ → List Part → List ℕ → List Part
-template_parts word parts tail = Word word ∷ Word (codes "<") ∷ (parts ++ (Word tail ∷ []))
-
-abbrev pub vector_parts : Bool → VectorSize → Scalar → List Part
-vector_parts refuses size scalar = template_parts (vector_word size) (scalar_parts refuses scalar) (codes ">")
-
--- what a value pointer points to: one scalar, or a vector
-abbrev pub value_parts : Bool → Option VectorSize → Scalar → List Part
-value_parts refuses None scalar = scalar_parts refuses scalar
-value_parts refuses (Some size) scalar = vector_parts refuses size scalar
-
--- the end of a pointer, with what may be done through it where that has a word
-abbrev pub access_parts : Option (List ℕ) → List Part
-access_parts None = Word (codes ">") ∷ []
-access_parts (Some w) = three (codes ", ") w (codes ">")
-
--- a pointer in a space that has a word
-abbrev pub pointer_in : List ℕ → Option (List ℕ) → List Part → List Part
-pointer_in space access pointee = Word (codes "ptr<") ∷ Word space ∷ Word (codes ", ") ∷ (pointee ++ access_parts access)
-
 -- a pointer; where its space has no word, what it points to alone
 abbrev pub pointer_parts : Option (List ℕ) → Option (List ℕ) → List Part → List Part
 pointer_parts None access pointee = pointee
 pointer_parts (Some space) access pointee = pointer_in space access pointee
-
--- a pointer to a value; where its space has no word, it has no form
-abbrev pub value_pointer_parts : Bool → Option (List ℕ) → Option (List ℕ) → List Part → List Part
-value_pointer_parts refuses None access value = formless_parts refuses
-value_pointer_parts refuses (Some space) access value = pointer_in space access value
-
-abbrev pub length_of_number : ℕ → List Part
-length_of_number number = three (codes ", ") (decimal number) (codes ">")
 
 abbrev pub length_of_override : List Part → List Part
 length_of_override name = Word (codes ", ") ∷ (name ++ (Word (codes ">") ∷ []))
@@ -129,47 +46,6 @@ length_parts c size.Dynamic = Word (codes ">") ∷ []
 -- an array of this word, by its length
 abbrev pub array_parts : Context → List ℕ → List Part → ArraySize → List Part
 array_parts c word element size = Word word ∷ Word (codes "<") ∷ (element ++ length_parts c size)
-
--- the words of images
-abbrev pub array_suffix : Bool → List ℕ
-array_suffix true = codes "_array"
-array_suffix false = []
-
-abbrev pub multisampled_prefix : Bool → List ℕ
-multisampled_prefix true = codes "multisampled_"
-multisampled_prefix false = []
-
-abbrev pub image_word : List ℕ → Bool → ImageDimension → Bool → List ℕ
-image_word prefix multi dim arrayed = prefix ++ (multisampled_prefix multi ++ (dimension_word dim ++ array_suffix arrayed))
-
--- a storage image, by its word, its format and what may be done with it; no blank stands behind the comma
-abbrev pub storage_image_parts : List ℕ → List ℕ → List ℕ → List Part
-storage_image_parts word format access = Word word ∷ Word (codes "<") ∷ Word format ∷ Word (codes ",") ∷ Word access ∷ Word (codes ">") ∷ []
-
-abbrev pub image_parts : Bool → ImageDimension → Bool → ImageClass → List Part
-image_parts refuses dim arrayed (class.Sampled kind multi) =
-    template_parts (image_word (codes "texture_") multi dim arrayed) (scalar_parts refuses (record { kind = kind; width = 4 })) (codes ">")
-image_parts refuses dim arrayed (class.Depth multi) = Word (image_word (codes "texture_depth_") multi dim arrayed) ∷ []
-image_parts refuses dim arrayed class.External = Word (codes "texture_external") ∷ []
-image_parts refuses dim arrayed (class.Storage format access) =
-    storage_image_parts (image_word (codes "texture_storage_") false dim arrayed) (format_word format) (image_access_word access)
-
--- the end of a cooperative matrix; no blank stands behind the comma
-abbrev pub role_tail : CooperativeRole → List ℕ
-role_tail role = codes "," ++ (role_word role ++ codes ">")
-
-abbrev pub sampler_word : Bool → List ℕ
-sampler_word true = codes "sampler_comparison"
-sampler_word false = codes "sampler"
-
--- what rays are traced with, and with the vertices of a hit or without
-abbrev pub acceleration_structure_text : Bool → List ℕ
-acceleration_structure_text true = codes "acceleration_structure<vertex_return>"
-acceleration_structure_text false = codes "acceleration_structure"
-
-abbrev pub ray_query_text : Bool → List ℕ
-ray_query_text true = codes "ray_query<vertex_return>"
-ray_query_text false = codes "ray_query"
 
 -- a type by itself, with the spellings of the types that it names
 abbrev pub inner_parts_by : Context → (ℕ → List Part) → TypeInner → List Part

@@ -16,8 +16,9 @@ use Rattle.naga_enumerations.specs.declared.image.ImageClass.{ImageClass}
 use Rattle.naga_enumerations.specs.declared.image.ImageClass.TheVariants as class
 use Rattle.naga_enumerations.specs.declared.image.ImageDimension.{ImageDimension}
 use Rattle.wgsl_words.specs.Words.{scalar_word, space_word, space_access_word, image_access_word, role_word, format_word}
-use Rattle.type_spelling.specs.Spelling.{Context, is_struct, vector_word, matrix_word, cooperative_word, image_word, sampler_word}
-use Rattle.type_spelling.specs.Parts.{Word, Missing}
+use Rattle.spelling_parts.specs.Words.{vector_word, matrix_word, cooperative_word, image_word, sampler_word}
+use Rattle.type_spelling.specs.Spelling.{Context, is_struct}
+use Rattle.spelling_parts.specs.Parts.{Word, Missing}
 
 -- types, and the names of structs and overrides by their handles
 pub record Names : Type 0 where

@@ -9,7 +9,7 @@ ghost use Rattle.naga_ir.specs.declared.types.Type_.{Type_};
 ghost use Rattle.naga_info.specs.declared.info.TypeResolution.{TypeResolution};
 ghost use Rattle.naga_info.specs.declared.info.TypeResolution.TheVariants as resolutions;
 ghost use Rattle.type_spelling.specs.Readable.{AreAlike, AreNamed, ResolutionIsWithin, handle_names, has_form};
-ghost use Rattle.type_spelling.specs.Parts.{Part, IsText, known_text, lacks};
+ghost use Rattle.spelling_parts.specs.Parts.{Part, IsText, known_text, lacks};
 ghost use Rattle.type_spelling.specs.Spelling.{inner_parts, type_parts};
 ghost use Rattle.type_spelling.specs.Trees.{Names, inner_tree, resolution_tree, type_tree, writer_context};
 ghost use Rattle.wgsl_text.specs.Grammar.{IsType};

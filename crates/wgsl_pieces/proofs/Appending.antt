@@ -3,7 +3,7 @@ use Rattle.std.proofs.Common.{◌≡◌, ℕ, List, [], ◌++◌, append_assoc, 
 use Rattle.std.proofs.lemmas.List.{append-nil}
 use Rattle.std.specs.Result.{IsErrAnd, IfErr, OnOk, OnErr}
 use Rattle.std.specs.declared.alloc.AllocError.{AllocError}
-use Rattle.type_spelling.specs.Sink.{IsBehind}
+use Rattle.spelling_parts.specs.Sink.{IsBehind}
 use Rattle.wgsl_pieces.specs.declared.error.Error.{Error}
 use Rattle.wgsl_pieces.specs.declared.error.Error.TheVariants.{Memory as Want}
 use Rattle.wgsl_pieces.specs.Errors.{IsWant}

@@ -1,6 +1,6 @@
 -- What a call that writes a text to a sink does, by what the sink held, how often it had failed, and both afterwards.
 use Rattle.std.specs.Prelude.{◌≡◌, ℕ, List, ◌++◌, Result, Ok, Err}
-use Rattle.type_spelling.specs.Sink.{IsBehind}
+use Rattle.spelling_parts.specs.Sink.{IsBehind}
 use Rattle.wgsl_pieces.specs.declared.error.Error.{Error}
 use Rattle.wgsl_pieces.specs.Errors.{IsWant}
 

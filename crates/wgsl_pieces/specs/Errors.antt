@@ -1,9 +1,9 @@
 -- What the writer's errors say.
 use Rattle.std.specs.Prelude.{◌≡◌, ⊤, ℕ, ◌<◌, List, codes, string_bytes}
-use Rattle.naga_words.specs.declared.sink.SinkError.{SinkError}
-use Rattle.naga_words.specs.declared.sink.SinkError.TheVariants.{Failed, Memory}
-use Rattle.naga_words.specs.declared.types.TypeTextError.{TypeTextError}
-use Rattle.naga_words.specs.declared.types.TypeTextError.TheVariants as type_error
+use Rattle.spelling_parts.specs.declared.sink.SinkError.{SinkError}
+use Rattle.spelling_parts.specs.declared.sink.SinkError.TheVariants.{Failed, Memory}
+use Rattle.spelling_parts.specs.declared.error.TypeTextError.{TypeTextError}
+use Rattle.spelling_parts.specs.declared.error.TypeTextError.TheVariants as type_error
 use Rattle.wgsl_pieces.specs.declared.error.Error.{Error}
 use Rattle.wgsl_pieces.specs.declared.error.Error.TheVariants.{FmtError, Memory as Want, Custom as CustomError, Unimplemented}
 

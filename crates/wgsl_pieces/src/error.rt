@@ -5,7 +5,7 @@ ghost use Rattle.wgsl_pieces.specs.declared.error.Error.TheVariants.{Memory};
 ghost use Rattle.wgsl_pieces.specs.Errors.{error_of_sink, IsErrorOfType, IsNotYetWritten, IsCustom};
 
 use naga_ir::RelationalFunction;
-use naga_words::{SinkError, TypeTextError};
+use spelling_parts::{SinkError, TypeTextError};
 use std::alloc::{AllocError, Global};
 use thiserror::Error as DisplayedError;
 

@@ -3,9 +3,9 @@
 ghost use Rattle.std.specs.Prelude.{◌≡◌, IfOk, IsErr, None, Some};
 
 use crate::error::Error;
-use naga_words::TryToWgsl;
 use std::alloc::Global;
 use std::fmt::Debug;
+use wgsl_words::TryToWgsl;
 
 /// WGSL's word for a value. One without a word is refused with its kind and its debug text.
 pub fn to_wgsl_if_implemented<T: TryToWgsl + Debug + Copy>(

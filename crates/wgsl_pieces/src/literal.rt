@@ -2,7 +2,7 @@
 
 ghost use Rattle.std.specs.Prelude.{IsTrue};
 ghost use Rattle.std.specs.Option.{is_some};
-ghost use Rattle.naga_acceptance.specs.Types.{literal_word};
+ghost use Rattle.accepted_modules.specs.Types.{literal_word};
 ghost use Rattle.naga_form.specs.Literals.{integer_form, long_form, literal_form};
 ghost use Rattle.wgsl_text.specs.Pieces.{literal_pieces};
 ghost use Rattle.wgsl_text.specs.Text.{text};
@@ -11,7 +11,7 @@ ghost use Rattle.wgsl_pieces.specs.Appends.{Appends};
 use crate::error::Error;
 use crate::sinks::{put, put_two};
 use naga_ir::Literal;
-use naga_words::TextSink;
+use spelling_parts::TextSink;
 use std::alloc::Global;
 
 /// Writes a literal as one expression: `5i`, `-5i`, `5u`, `5li`, `5lu`, `true`. The least `i32` and

@@ -4,7 +4,7 @@ ghost use Rattle.std.specs.Prelude.{◌++◌};
 ghost use Rattle.wgsl_pieces.specs.Appends.{Appends};
 
 use crate::error::Error;
-use naga_words::TextSink;
+use spelling_parts::TextSink;
 
 /// Writes a piece of text behind what the sink holds. Want of memory is told as
 /// [`Error::Memory`], a failure of the sink as [`Error::FmtError`]; a beginning of the piece may then stand there.

@@ -42,7 +42,7 @@ impl<'a> NumberedTypes<'a> {
     }
 }
 
-#[tactic(auto, using(type_spelling::proofs::Arounds::fails_at_once))]
+#[tactic(auto, using(spelling_parts::proofs::Arounds::fails_at_once))]
 impl TypeContext for NumberedTypes<'_> {
     ghost context = { λ c. numbered_context c.types.now };
 

@@ -1,19 +1,19 @@
 -- The words that WGSL has for values of the IR: one table for each kind of value. `None` stands where WGSL has no word.
 use Rattle.std.specs.Prelude.{ℕ, true, false, List, Option, Some, None, codes, if◌then◌else◌, ◌==◌, Bool}
-use Rattle.naga_enumerations.specs.declared.binding.Interpolation.{Interpolation}
-use Rattle.naga_enumerations.specs.declared.binding.Interpolation.TheVariants as interpolation
-use Rattle.naga_enumerations.specs.declared.binding.Sampling.{Sampling}
-use Rattle.naga_enumerations.specs.declared.binding.Sampling.TheVariants as sampling
+use Rattle.naga_bindings.specs.declared.binding.Interpolation.{Interpolation}
+use Rattle.naga_bindings.specs.declared.binding.Interpolation.TheVariants as interpolation
+use Rattle.naga_bindings.specs.declared.binding.Sampling.{Sampling}
+use Rattle.naga_bindings.specs.declared.binding.Sampling.TheVariants as sampling
 use Rattle.naga_enumerations.specs.declared.types.CooperativeRole.{CooperativeRole}
 use Rattle.naga_enumerations.specs.declared.types.CooperativeRole.TheVariants as role
 use Rattle.naga_enumerations.specs.declared.image.ImageDimension.{ImageDimension}
 use Rattle.naga_enumerations.specs.declared.image.ImageDimension.TheVariants as dimension
 use Rattle.naga_enumerations.specs.declared.image.StorageFormat.{StorageFormat}
 use Rattle.naga_enumerations.specs.declared.image.StorageFormat.TheVariants as format
-use Rattle.naga_enumerations.specs.declared.operators.MathFunction.{MathFunction}
-use Rattle.naga_enumerations.specs.declared.operators.MathFunction.TheVariants as math
-use Rattle.naga_enumerations.specs.declared.binding.BuiltIn.{BuiltIn}
-use Rattle.naga_enumerations.specs.declared.binding.BuiltIn.TheVariants as builtin
+use Rattle.naga_operators.specs.declared.MathFunction.{MathFunction}
+use Rattle.naga_operators.specs.declared.MathFunction.TheVariants as math
+use Rattle.naga_bindings.specs.declared.binding.BuiltIn.{BuiltIn}
+use Rattle.naga_bindings.specs.declared.binding.BuiltIn.TheVariants as builtin
 use Rattle.naga_flags.specs.declared.flags.StorageAccess.{StorageAccess}
 use Rattle.naga_enumerations.specs.declared.types.AddressSpace.{AddressSpace}
 use Rattle.naga_enumerations.specs.declared.types.AddressSpace.TheVariants as space

@@ -1,30 +1,24 @@
 //! Types in a context, each by its row: a word and the types that it names.
 
 ghost use Rattle.std.specs.Prelude.{◌≡◌, ◌<◌, ◌≤◌, true, [], ◌∷◌, codes, length, OnOk, IsErrOf, IsTrue};
-ghost use Rattle.std.specs.Int.NonZero.{non_zero_u32_get};
-ghost use Rattle.naga_words.specs.declared.types.TypeTextError.TheVariants as error;
-ghost use Rattle.type_spelling.specs.Parts.{HasWritten, HasBegun, lacks, Word, shown_between};
-ghost use Rattle.naga_enumerations.specs.declared.image.ImageClass.TheVariants as class;
+ghost use Rattle.spelling_parts.specs.declared.error.TypeTextError.TheVariants as error;
+ghost use Rattle.spelling_parts.specs.Parts.{HasWritten, HasBegun, lacks, Word, shown_between};
 ghost use Rattle.wgsl_words.specs.Words.{space_word, space_access_word};
-ghost use Rattle.type_spelling.specs.Spelling.{IsInOrder, is_struct, end_of_base, knows_size, knows_override, formless_parts, value_parts, pointer_in, pointer_parts, value_pointer_parts, length_of_number, length_of_override, length_parts, array_parts, image_parts, inner_parts, named_parts_by, type_parts};
+ghost use Rattle.spelling_parts.specs.Values.{formless_parts, value_parts, pointer_in, value_pointer_parts};
+ghost use Rattle.type_spelling.specs.Spelling.{IsInOrder, is_struct, end_of_base, knows_size, knows_override, pointer_parts, length_of_override, length_parts, array_parts, inner_parts, named_parts_by, type_parts};
 
-use crate::sink::{SinkError, TextSink};
-use crate::types::scalars::{
-    write_access, write_scalar_in, write_shown, write_storage_image, write_template, write_three,
-    write_value, write_word,
+use crate::types::TypeContext;
+use crate::types::scalars::{write_image_in, write_scalar_in, write_template_in};
+use naga_ir::{AddressSpace, ArraySize, Handle, Override, Scalar, Type_, TypeInner, VectorSize};
+use spelling_parts::pieces::{write_number_length, write_shown, write_three, write_word};
+use spelling_parts::scalars::{write_access, write_value_pointer_in};
+use spelling_parts::words::{
+    acceleration_structure_str, cooperative_str, matrix_str, ray_query_str, role_tail_str,
+    sampler_str, vector_str,
 };
-use crate::types::words::{
-    acceleration_structure_str, cooperative_str, depth_image_str, matrix_str, ray_query_str,
-    role_tail_str, sampled_image_str, sampler_str, storage_image_str, vector_str,
-};
-use crate::types::{TypeContext, TypeTextError};
-use naga_ir::{
-    AddressSpace, ArraySize, Handle, ImageClass, ImageDimension, Override, Scalar, ScalarKind,
-    Type_, TypeInner, VectorSize,
-};
+use spelling_parts::{SinkError, TextSink, TypeTextError};
 use std::alloc::Global;
-use std::num::NonZeroU32;
-use wgsl_words::{ToWgsl, image_access_str, space_str};
+use wgsl_words::space_str;
 
 /// Whether a type is a struct.
 pub(crate) fn is_struct_type(inner: &TypeInner) -> bool
@@ -34,7 +28,7 @@ pub(crate) fn is_struct_type(inner: &TypeInner) -> bool
 }
 
 /// Writes a type's debug text in braces.
-#[tactic(auto, using(type_spelling::proofs::Arounds::fails_at_once))]
+#[tactic(auto, using(spelling_parts::proofs::Arounds::fails_at_once))]
 fn write_shown_inner<W: TextSink>(
     alloc: Global,
     inner: &TypeInner,
@@ -51,7 +45,7 @@ fn write_shown_inner<W: TextSink>(
 }
 
 /// Writes a type without a form in braces, or refuses it.
-#[tactic(auto, using(type_spelling::proofs::Arounds::fails_at_once))]
+#[tactic(auto, using(spelling_parts::proofs::Arounds::fails_at_once))]
 pub(crate) fn write_formless_inner<C: TypeContext, W: TextSink>(
     context: &C,
     alloc: Global,
@@ -68,27 +62,6 @@ pub(crate) fn write_formless_inner<C: TypeContext, W: TextSink>(
         return Err(TypeTextError::NoForm);
     }
     write_shown_inner(alloc, inner, out)
-}
-
-fn write_value_pointer_in<C: TypeContext, W: TextSink>(
-    context: &C,
-    alloc: Global,
-    word: &str,
-    size: Option<VectorSize>,
-    scalar: Scalar,
-    space: AddressSpace,
-    out: &mut W,
-) -> Result<(), TypeTextError>
-    ensures written { OnOk result (HasWritten (pointer_in word.now (space_access_word space) (value_parts (C.context context.now).refuses size scalar)) (W.text out.old) (W.text out.new)) }
-    ensures begun { HasBegun (pointer_in word.now (space_access_word space) (value_parts (C.context context.now).refuses size scalar)) (W.text out.old) (W.text out.new) }
-    ensures no_form { IsErrOf result error.NoForm → ((C.context context.now).refuses ≡ true) × (lacks (pointer_in word.now (space_access_word space) (value_parts (C.context context.now).refuses size scalar)) ≡ true) }
-    ensures failures_ok { OnOk result (W.failures out.new ≡ W.failures out.old) }
-    ensures failed { IsErrOf result (error.Sink SinkError.Failed) → W.failures out.old < W.failures out.new }
-{
-    write_three("ptr<", word, ", ", out)?;
-    write_value(context, alloc, size, scalar, out)?;
-    write_access(space, out)?;
-    Ok(())
 }
 
 /// Writes a pointer to a scalar or a vector; `inner` is that pointer.
@@ -108,28 +81,20 @@ fn write_value_pointer<C: TypeContext, W: TextSink>(
     ensures failed { IsErrOf result (error.Sink SinkError.Failed) → W.failures out.old < W.failures out.new }
 {
     match space_str(space) {
-        Some(word) => write_value_pointer_in(context, alloc, word, size, scalar, space, out),
+        Some(word) => write_value_pointer_in(
+            context.refuses(),
+            alloc,
+            word,
+            size,
+            scalar,
+            space,
+            out,
+        ),
         None => write_formless_inner(context, alloc, inner, out),
     }
 }
 
-#[tactic(auto, using(type_spelling::proofs::Arounds::fails_at_once))]
-fn write_number_length<W: TextSink>(
-    alloc: Global,
-    number: NonZeroU32,
-    out: &mut W,
-) -> Result<(), TypeTextError>
-    ensures written { OnOk result (HasWritten (length_of_number (non_zero_u32_get number)) (W.text out.old) (W.text out.new)) }
-    ensures begun { HasBegun (length_of_number (non_zero_u32_get number)) (W.text out.old) (W.text out.new) }
-    ensures form { IsErrOf result error.NoForm → ⊥ }
-    ensures failures_ok { OnOk result (W.failures out.new ≡ W.failures out.old) }
-    ensures failed { IsErrOf result (error.Sink SinkError.Failed) → W.failures out.old < W.failures out.new }
-{
-    let digits = number.get().to_string(alloc)?;
-    write_three(", ", digits.as_str(), ">", out)
-}
-
-#[tactic(auto, using(type_spelling::proofs::Arounds::lacks_before, type_spelling::proofs::Arounds::lacks_behind))]
+#[tactic(auto, using(spelling_parts::proofs::Arounds::lacks_before, spelling_parts::proofs::Arounds::lacks_behind))]
 fn write_pending_length<C: TypeContext, W: TextSink>(
     context: &C,
     alloc: Global,
@@ -170,56 +135,8 @@ fn write_length<C: TypeContext, W: TextSink>(
     }
 }
 
-fn write_sampled_image<C: TypeContext, W: TextSink>(
-    context: &C,
-    alloc: Global,
-    multi: bool,
-    dim: ImageDimension,
-    arrayed: bool,
-    kind: ScalarKind,
-    out: &mut W,
-) -> Result<(), TypeTextError>
-    ensures written { OnOk result (HasWritten (image_parts (C.context context.now).refuses dim arrayed (class.Sampled kind multi)) (W.text out.old) (W.text out.new)) }
-    ensures begun { HasBegun (image_parts (C.context context.now).refuses dim arrayed (class.Sampled kind multi)) (W.text out.old) (W.text out.new) }
-    ensures no_form { IsErrOf result error.NoForm → ((C.context context.now).refuses ≡ true) × (lacks (image_parts (C.context context.now).refuses dim arrayed (class.Sampled kind multi)) ≡ true) }
-    ensures failures_ok { OnOk result (W.failures out.new ≡ W.failures out.old) }
-    ensures failed { IsErrOf result (error.Sink SinkError.Failed) → W.failures out.old < W.failures out.new }
-{
-    let word = sampled_image_str(multi, dim, arrayed);
-    write_template(context, alloc, word, Scalar { kind, width: 4 }, ">", out)
-}
-
-fn write_image<C: TypeContext, W: TextSink>(
-    context: &C,
-    alloc: Global,
-    dim: ImageDimension,
-    arrayed: bool,
-    class: ImageClass,
-    out: &mut W,
-) -> Result<(), TypeTextError>
-    ensures written { OnOk result (HasWritten (image_parts (C.context context.now).refuses dim arrayed class) (W.text out.old) (W.text out.new)) }
-    ensures begun { HasBegun (image_parts (C.context context.now).refuses dim arrayed class) (W.text out.old) (W.text out.new) }
-    ensures no_form { IsErrOf result error.NoForm → ((C.context context.now).refuses ≡ true) × (lacks (image_parts (C.context context.now).refuses dim arrayed class) ≡ true) }
-    ensures failures_ok { OnOk result (W.failures out.new ≡ W.failures out.old) }
-    ensures failed { IsErrOf result (error.Sink SinkError.Failed) → W.failures out.old < W.failures out.new }
-{
-    match class {
-        ImageClass::Sampled { kind, multi } => {
-            write_sampled_image(context, alloc, multi, dim, arrayed, kind, out)
-        }
-        ImageClass::Depth { multi } => write_word(depth_image_str(multi, dim, arrayed), out),
-        ImageClass::External => write_word("texture_external", out),
-        ImageClass::Storage { format, access } => write_storage_image(
-            storage_image_str(dim, arrayed),
-            format.to_wgsl(),
-            image_access_str(access),
-            out,
-        ),
-    }
-}
-
 #[cycle(spelling)]
-#[tactic(auto, using(type_spelling::proofs::Arounds::lacks_before, type_spelling::proofs::Arounds::lacks_behind))]
+#[tactic(auto, using(spelling_parts::proofs::Arounds::lacks_before, spelling_parts::proofs::Arounds::lacks_behind))]
 fn write_pointer_in<C: TypeContext, W: TextSink>(
     context: &C,
     alloc: Global,
@@ -266,7 +183,7 @@ fn write_pointer<C: TypeContext, W: TextSink>(
 }
 
 #[cycle(spelling)]
-#[tactic(auto, using(type_spelling::proofs::Arounds::lacks_before, type_spelling::proofs::Arounds::lacks_behind))]
+#[tactic(auto, using(spelling_parts::proofs::Arounds::lacks_before, spelling_parts::proofs::Arounds::lacks_behind))]
 fn write_array<C: TypeContext, W: TextSink>(
     context: &C,
     alloc: Global,
@@ -311,14 +228,14 @@ pub(crate) fn write_inner_in<C: TypeContext, W: TextSink>(
     match inner {
         TypeInner::Scalar(scalar) => write_scalar_in(context, alloc, *scalar, out),
         TypeInner::Vector { size, scalar } => {
-            write_template(context, alloc, vector_str(*size), *scalar, ">", out)
+            write_template_in(context, alloc, vector_str(*size), *scalar, ">", out)
         }
         TypeInner::Matrix {
             columns,
             rows,
             scalar,
         } => {
-            write_template(
+            write_template_in(
                 context,
                 alloc,
                 matrix_str(*columns, *rows),
@@ -332,7 +249,7 @@ pub(crate) fn write_inner_in<C: TypeContext, W: TextSink>(
             rows,
             scalar,
             role,
-        } => write_template(
+        } => write_template_in(
             context,
             alloc,
             cooperative_str(*columns, *rows),
@@ -340,7 +257,7 @@ pub(crate) fn write_inner_in<C: TypeContext, W: TextSink>(
             role_tail_str(*role),
             out,
         ),
-        TypeInner::Atomic(scalar) => write_template(context, alloc, "atomic", *scalar, ">", out),
+        TypeInner::Atomic(scalar) => write_template_in(context, alloc, "atomic", *scalar, ">", out),
         TypeInner::Pointer { base, space } => write_pointer(context, alloc, *base, *space, out),
         TypeInner::ValuePointer {
             size,
@@ -355,7 +272,7 @@ pub(crate) fn write_inner_in<C: TypeContext, W: TextSink>(
             dim,
             arrayed,
             class,
-        } => { write_image(context, alloc, *dim, *arrayed, *class, out) }
+        } => { write_image_in(context, alloc, *dim, *arrayed, *class, out) }
         TypeInner::Sampler { comparison } => write_word(sampler_str(*comparison), out),
         TypeInner::AccelerationStructure { vertex_return } => {
             write_word(acceleration_structure_str(*vertex_return), out)

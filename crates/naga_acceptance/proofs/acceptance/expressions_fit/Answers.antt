@@ -1,6 +1,6 @@
 use Rattle.std.proofs.Common.{◌≡◌, ◌≢◌, ◌<◌, length, sym, ◌∙◌, arith, slice_get, Some}
-use Rattle.naga_acceptance.specs.Accepted.{expression_fits}
-use Rattle.naga_acceptance.proofs.Fitting.{expressions_fit-unequal, expressions_fit-next, expressions_fit-not}
+use Rattle.accepted_modules.specs.Accepted.{expression_fits}
+use Rattle.accepted_modules.proofs.Fitting.{expressions_fit-unequal, expressions_fit-next, expressions_fit-not}
 use Rattle.naga_acceptance.proofs.acceptance.expressions_fit.Goals as goal
 
 pub returns-then-len-infos : goal.returns-then-len-infos

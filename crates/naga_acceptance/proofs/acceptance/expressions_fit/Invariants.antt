@@ -1,5 +1,5 @@
 use Rattle.std.proofs.Common.{◌≡◌, drop}
-use Rattle.naga_acceptance.specs.Accepted.{expressions_fit_from, expressions_fit}
+use Rattle.accepted_modules.specs.Accepted.{expressions_fit_from, expressions_fit}
 use Rattle.naga_acceptance.proofs.acceptance.expressions_fit.Given as goal
 
 abbrev pub invariant-loop-index : goal.invariant-loop-index

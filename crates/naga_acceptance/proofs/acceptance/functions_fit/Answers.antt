@@ -1,6 +1,6 @@
 use Rattle.std.proofs.Common.{◌≡◌, ◌≢◌, ◌<◌, length, ap, sym, ◌∙◌, arith, slice_get, slice_index_or, Some}
-use Rattle.naga_acceptance.specs.Accepted.{function_fits}
-use Rattle.naga_acceptance.proofs.Fitting.{functions_fit-unequal, functions_fit-next, functions_fit-not}
+use Rattle.accepted_modules.specs.Accepted.{function_fits}
+use Rattle.accepted_modules.proofs.Fitting.{functions_fit-unequal, functions_fit-next, functions_fit-not}
 use Rattle.naga_acceptance.proofs.acceptance.functions_fit.Goals as goal
 
 pub returns-then-len-infos : goal.returns-then-len-infos

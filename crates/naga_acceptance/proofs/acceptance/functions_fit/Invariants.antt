@@ -1,5 +1,5 @@
 use Rattle.std.proofs.Common.{◌≡◌, drop}
-use Rattle.naga_acceptance.specs.Accepted.{functions_fit}
+use Rattle.accepted_modules.specs.Accepted.{functions_fit}
 use Rattle.naga_acceptance.proofs.acceptance.functions_fit.Given as goal
 
 abbrev pub invariant-loop-index : goal.invariant-loop-index

@@ -1,6 +1,6 @@
 use Rattle.std.proofs.Common.{ap, sym, ◌∙◌, Some}
 use Rattle.std.specs.List.{flat_map}
-use Rattle.naga_acceptance.specs.Operations.{expression_operations}
+use Rattle.accepted_modules.specs.Operations.{expression_operations}
 use Rattle.naga_acceptance.specs.Table.{all_entered}
 use Rattle.naga_acceptance.proofs.Agreeing.{entered_not, entered_next}
 use Rattle.naga_acceptance.proofs.operations.enter_function.Goals as goal

@@ -1,6 +1,6 @@
 use Rattle.std.proofs.Common.{◌≡◌, length, Some}
 use Rattle.std.specs.List.{flat_map}
-use Rattle.naga_acceptance.specs.Operations.{expression_operations, function_operations}
+use Rattle.accepted_modules.specs.Operations.{expression_operations, function_operations}
 use Rattle.naga_acceptance.specs.Table.{all_entered}
 use Rattle.naga_acceptance.proofs.operations.enter_function.Given as goal
 

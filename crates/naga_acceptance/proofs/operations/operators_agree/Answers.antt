@@ -1,6 +1,6 @@
 use Rattle.std.proofs.Common.{◌≡◌, ◌<◌, ◌≤◌, ◌+◌, length, drop, ap, sym, ◌∙◌, arith, slice_get, slice_index_or, Some, None, ◌++◌}
 use Rattle.std.proofs.lemmas.List.{drop_all}
-use Rattle.naga_acceptance.specs.Operations.{function_operations, all_operations}
+use Rattle.accepted_modules.specs.Operations.{function_operations, all_operations}
 use Rattle.naga_acceptance.specs.Table.{all_entered}
 use Rattle.naga_acceptance.proofs.Agreeing.{entered_not, entered_next}
 use Rattle.naga_acceptance.proofs.Numbering.{operations_step, agree_by_table}

@@ -1,5 +1,5 @@
 use Rattle.std.proofs.Common.{◌≡◌, length, drop, replicate, Some, None}
-use Rattle.naga_acceptance.specs.Operations.{all_operations}
+use Rattle.accepted_modules.specs.Operations.{all_operations}
 use Rattle.naga_acceptance.specs.Table.{all_entered}
 use Rattle.naga_acceptance.proofs.operations.operators_agree.Given as goal
 

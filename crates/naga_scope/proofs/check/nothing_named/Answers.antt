@@ -1,7 +1,7 @@
 use Rattle.std.proofs.Common.{◌==◌, length, ap, ◌∙◌}
 use Rattle.std.specs.List.{list_all}
 use Rattle.indexmap.specs.IndexMap.{keys}
-use Rattle.naga_acceptance.proofs.Fitting.{list_all-pairs}
+use Rattle.accepted_modules.proofs.Fitting.{list_all-pairs}
 use Rattle.naga_scope.proofs.check.nothing_named.Goals as goal
 
 pub loop-function-init : goal.loop-function-init

@@ -3,7 +3,7 @@ use Rattle.std.specs.List.{list_all}
 use Rattle.std.proofs.lemmas.List.{drop_all}
 use Rattle.indexmap.specs.IndexMap.{keys}
 use Rattle.shader_runs.specs.Scope.{fits_function}
-use Rattle.naga_acceptance.proofs.Accepting.{accepted_functions_fit, functions_fit_length, functions_fit_at, list_all_at}
+use Rattle.accepted_modules.proofs.Accepting.{accepted_functions_fit, functions_fit_length, functions_fit_at, list_all_at}
 use Rattle.naga_form.specs.Names.{module_names}
 use Rattle.naga_form.specs.Shapes.{function_shapes, namings_from}
 use Rattle.naga_scope.proofs.Holding.{ordered_function, functions_hold, functions_refused, functions_end, all_reversed, counted_more}

@@ -1,5 +1,5 @@
 use Rattle.std.proofs.Common.{◌≡◌, ◌<◌, ◌∙◌, length, subst, sym}
-use Rattle.naga_acceptance.proofs.Accepting.{accepted_functions_fit, functions_fit_length}
+use Rattle.accepted_modules.proofs.Accepting.{accepted_functions_fit, functions_fit_length}
 use Rattle.name_keys.specs.Keys.{names_in}
 use Rattle.naga_wgsl_fns.proofs.Accepted.{can_write}
 use Rattle.naga_wgsl_fns.proofs.function.write_function.Goals as goal

@@ -1,6 +1,6 @@
 use Rattle.std.proofs.Common.{◌≡◌, drop, length, IsTrue}
 use Rattle.naga_form.specs.Form.{told_type}
-use Rattle.naga_acceptance.specs.Accepted.{block_fits}
+use Rattle.accepted_modules.specs.Accepted.{block_fits}
 use Rattle.naga_ir.specs.StatementViews.{block_of}
 use Rattle.naga_scope.specs.Standings.{handles_of}
 use Rattle.naga_form.specs.Types.{type_names}

@@ -1,6 +1,6 @@
 use Rattle.std.proofs.Common.{ap, sym, subst, length, IsTrue}
 use Rattle.std.proofs.lemmas.Bool.{ltb-true}
-use Rattle.naga_acceptance.specs.Accepted.{is_below}
+use Rattle.accepted_modules.specs.Accepted.{is_below}
 use Rattle.naga_form.specs.Form.{value_form}
 use Rattle.shader_runs.specs.Scope.{Handles}
 use Rattle.wgsl_text.specs.Pieces.{expression_pieces}

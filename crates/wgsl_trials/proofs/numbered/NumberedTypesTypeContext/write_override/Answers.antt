@@ -1,5 +1,5 @@
 use Rattle.std.proofs.Common.{rules, ◌≡◌, ◌∷◌, decimal}
-use Rattle.type_spelling.proofs.Arounds.{word_last, word_fails, begun_all}
+use Rattle.spelling_parts.proofs.Arounds.{word_last, word_fails, begun_all}
 use Rattle.wgsl_trials.proofs.numbered.NumberedTypesTypeContext.write_override.Goals as goal
 
 pub returns-in_err-write_str-clause-begun : goal.returns-in_err-write_str-clause-begun

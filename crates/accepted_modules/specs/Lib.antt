@@ -1,0 +1,4 @@
+pub mod Accepted
+pub mod Operations
+pub mod Part
+pub mod Types

@@ -1,0 +1,5 @@
+pub mod Parts
+pub mod Predeclared
+pub mod Sink
+pub mod Values
+pub mod Words
