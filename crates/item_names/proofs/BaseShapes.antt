@@ -6,19 +6,13 @@ use Rattle.std.specs.Bool.{nat_eq}
 use Rattle.std.specs.Fmt.{digits, digits_onto, digit_glyph, decimal}
 use Rattle.std.proofs.lemmas.List.Folds.{list_all-append}
 use Rattle.std.proofs.lemmas.Bool.Decides.{nat_tests}
+use Rattle.std.proofs.lemmas.Bool.{and_parts, and_from}
+use Rattle.std.proofs.Math.Bool.{and-false}
 use Rattle.ucd_category.proofs.Computing.{ucd_category}
 use borrow.Author.Tests.{eqb-true}
 use Rattle.naga_keywords.specs.Plain.{is_identifier_char, is_word}
 use Rattle.item_names.specs.Label.{is_numeric, after_numerics, is_mark, is_foreign, hexadecimal, by_number, spelled, begins_separated, squeezed, begins_foreign, spelling, ends_separated, kept_before, without_last_separators, or_unnamed, kept_off, base_of}
 use Rattle.item_names.proofs.Spellings.{body, spelling-body, spelled-mark, spelled-plain, spelled-foreign}
-
-and_both : (a b : Bool) → a ≡ true → b ≡ true → (a && b) ≡ true
-and_both true b x y = y
-and_both false b x y = absurd (cc)
-
-and_parts : (a b : Bool) → (a && b) ≡ true → (a ≡ true) × (b ≡ true)
-and_parts true b e = (refl, e)
-and_parts false b e = absurd (cc)
 
 -- ---- digits
 module _ (p : ℕ → Bool) (base : ℕ) (each : (n : ℕ) → p (digit_glyph false (n % base)) ≡ true) where
@@ -76,7 +70,7 @@ abbrev only : List ℕ → Type 0
 only text = list_all is_identifier_char text ≡ true
 
 only_append : (xs ys : List ℕ) → only xs → only ys → only (xs ++ ys)
-only_append xs ys x y = list_all-append is_identifier_char xs ys ∙ and_both _ _ x y
+only_append xs ys x y = list_all-append is_identifier_char xs ys ∙ and_from _ _ x y
 
 only_hexadecimal : (c : ℕ) → only (hexadecimal c)
 unfolding hexadecimal digits
@@ -109,7 +103,7 @@ only_squeezed (c ∷ cs) e =
   where
     either : (b : Bool) → is_identifier_char c ≡ true → only (squeezed cs) → only (cond b (squeezed cs) (c ∷ squeezed cs))
     either true one rest = rest
-    either false one rest = and_both _ _ one rest
+    either false one rest = and_from _ _ one rest
 
 only_spelling : (cs : List ℕ) → only (spelling cs)
 unfolding spelling
@@ -125,7 +119,7 @@ only_kept c [] one all = either (c == 95)
     either : (b : Bool) → only (cond b [] (c ∷ []))
     either true = refl
     either false = ap (λ b. b && true) one
-only_kept c (d ∷ rest) one all = and_both _ _ one all
+only_kept c (d ∷ rest) one all = and_from _ _ one all
 
 only_without : (text : List ℕ) → only text → only (without_last_separators text)
 only_without [] e = refl
@@ -219,7 +213,7 @@ body-first (c ∷ cs) e = either (is_foreign c) (is_mark c) (is_identifier_char 
 unnamed_word : (text : List ℕ) → only text → begins_by is_ascii_digit text ≡ false → is_word (or_unnamed text) ≡ true
 unfolding begins_by
 unnamed_word [] all first = refl
-unnamed_word (c ∷ cs) all first = and_both _ _ all (ap not first)
+unnamed_word (c ∷ cs) all first = and_from _ _ all (ap not first)
 
 unnamed_end : (text : List ℕ) → ends_separated text ≡ false → ends_separated (or_unnamed text) ≡ false
 unnamed_end [] e = refl
@@ -230,7 +224,7 @@ kept_word prefixes [] e = absurd (cc)
 kept_word prefixes (c ∷ cs) e = either (list_any (starts_with nat_eq (c ∷ cs)) prefixes)
   where
     either : (b : Bool) → is_word (cond b (codes "gen_" ++ c ∷ cs) (c ∷ cs)) ≡ true
-    either true = and_both _ _ (and_parts (list_all is_identifier_char (c ∷ cs)) (not (is_ascii_digit c)) e).0 refl
+    either true = and_from _ _ (and_parts (list_all is_identifier_char (c ∷ cs)) (not (is_ascii_digit c)) e).0 refl
     either false = e
 
 kept_end : (prefixes : List (List ℕ)) (text : List ℕ) → is_word text ≡ true → ends_separated text ≡ false → ends_separated (kept_off prefixes text) ≡ false
@@ -277,10 +271,6 @@ begins_double [] = false
 begins_double (c ∷ []) = false
 begins_double (c ∷ d ∷ cs) = c == 95 && d == 95
 
-and_false : (b : Bool) → (b && false) ≡ false
-and_false true = refl
-and_false false = refl
-
 squeezed-double : (text : List ℕ) → begins_double (squeezed text) ≡ false
 unfolding begins_by
 squeezed-double [] = refl
@@ -294,7 +284,7 @@ squeezed-double (c ∷ d ∷ cs) = either (c == 95) (d == 95) refl refl (squeeze
     either : (x y : Bool) → (c == 95) ≡ x → (d == 95) ≡ y → (rest : List ℕ) → begins_double rest ≡ false → begins_by (λ x. x == 95) rest ≡ begins_by (λ x. x == 95) (d ∷ cs) → begins_double (cond (x && y) rest (c ∷ rest)) ≡ false
     either true true ex ey rest single first = single
     either true false ex ey [] single first = refl
-    either true false ex ey (e ∷ rest) single first = ap (λ b. (c == 95) && b) (first ∙ ey) ∙ and_false (c == 95)
+    either true false ex ey (e ∷ rest) single first = ap (λ b. (c == 95) && b) (first ∙ ey) ∙ and-false (c == 95)
     either false y ex ey [] single first = refl
     either false y ex ey (e ∷ rest) single first = ap (λ b. b && e == 95) ex
 

@@ -1,22 +1,17 @@
 -- The identifiers given so far follow from the uses, and the next one is new.
-use Rattle.std.proofs.Common.{◌≡◌, ℕ, ◌+◌, ◌<◌, ◌≤◌, ◌^◌, zero, suc, Bool, true, false, cond, List, [], ◌∷◌, ◌++◌, take, Some, None, refl, ap, sym, subst, ◌∙◌, arith, unwrap_or, slice_get}
+use Rattle.std.proofs.Common.{◌≡◌, ℕ, ◌+◌, ◌<◌, ◌≤◌, ◌^◌, zero, suc, Bool, true, false, cond, List, [], ◌∷◌, ◌++◌, take, Some, refl, ap, sym, subst, ◌∙◌, arith, unwrap_or, slice_get}
 use Rattle.std.specs.Str.{bytes_eq, chars}
 use Rattle.std.specs.Cmp.Lexicographic.{bytes_decides}
 use Rattle.std.proofs.lemmas.List.Sums.{sum_by-cons}
+use Rattle.std.proofs.lemmas.Option.{none-some}
 use Rattle.item_names.specs.Label.{ends_separated}
 use Rattle.item_names.specs.Naming.{Names, uses_of, label_base, labels_with_base, name_of, name_of_base, HasNamed}
 use Rattle.item_names.specs.Laws.{WasGiven, FollowsFromUses}
 use Rattle.item_names.proofs.BaseShapes.{base_ends}
 use Rattle.item_names.proofs.NameShapes.{counted_more, same_base_and_number}
 
-nothing_there : {A X : Type 0} (x : X) → None ≡ Some x → A
-nothing_there x e = absurd (cc)
-
-differ : true ≡ false → ⊥
-differ e = cc
-
 split_at : (labels : List (List ℕ)) (i : ℕ) (label : List ℕ) → slice_get labels i ≡ Some label → (rest : List (List ℕ)) × (labels ≡ take i labels ++ label ∷ rest)
-split_at [] i label e = nothing_there label e
+split_at [] i label e = absurd (none-some label e)
 split_at (x ∷ labels) zero label e = (labels, ap (λ o. unwrap_or o x ∷ labels) e)
 split_at (x ∷ labels) (suc i) label e = let rest = split_at labels i label e in (rest.0, ap (λ t. x ∷ t) rest.1)
 

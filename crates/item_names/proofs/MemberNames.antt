@@ -1,14 +1,15 @@
 -- The names of the members of one struct, after a `reset`.
-use Rattle.std.proofs.Common.{◌≡◌, ℕ, ◌+◌, ◌<◌, ◌≤◌, ◌^◌, zero, suc, Bool, true, false, List, [], ◌∷◌, ◌++◌, map, length, take, Some, None, refl, ap, sym, subst, ◌∙◌, arith, unwrap_or, slice_get}
+use Rattle.std.proofs.Common.{◌≡◌, ℕ, ◌+◌, ◌<◌, ◌≤◌, ◌^◌, zero, suc, Bool, true, false, List, [], ◌∷◌, ◌++◌, map, length, take, Some, refl, ap, sym, subst, ◌∙◌, arith, unwrap_or, slice_get}
 use Rattle.std.specs.Prelude.{◌⊎◌}
 use mathlib.Core.Logic.{inl, inr}
 use Rattle.std.specs.FinSet as set
 use Rattle.std.specs.List.{flat_map, enumerate_from, list_all}
 use Rattle.std.specs.Str.{bytes_eq}
-use Rattle.std.proofs.lemmas.Bool.{ltb-true}
+use Rattle.std.proofs.lemmas.Bool.{ltb-true, and_parts}
 use Rattle.std.proofs.lemmas.List.{length-append, length-map, length-take-le, map-append, take-append-le}
 use Rattle.std.proofs.lemmas.List.FromFn.{length-enumerate_from}
 use Rattle.std.proofs.lemmas.List.Sums.{count_by-le-length}
+use Rattle.std.proofs.lemmas.Option.{none-some, slice_get_within}
 use Rattle.naga_ir.specs.declared.module.Module.{Module}
 use Rattle.naga_ir.specs.declared.types.StructMember.{StructMember}
 use Rattle.naga_ir.specs.declared.types.Type_.{Type_}
@@ -19,18 +20,14 @@ use Rattle.naga_keywords.specs.Plain.{HasPlainEnds}
 use Rattle.name_keys.specs.Keys.{NameMap}
 use Rattle.item_names.specs.Reset.{Labelled, members_of, member_label, labelled_members, labelled_type, labelled_types, labelled_entry_points, labelled_functions, labelled_globals, labelled_declarations, labelled_values, type_label, type_name, labelled_items, member_names, item_name, key_fits, HasNamedItems}
 use Rattle.item_names.proofs.MemberLemmas.{member_name, own_labels}
-use Rattle.item_names.proofs.ModuleLemmas.{within}
 use Rattle.item_names.proofs.NameKeys.{items_apart}
 use Rattle.item_names.proofs.NamedItems.{place_left, item_put, order}
-use Rattle.item_names.proofs.NameShapes.{and_parts, name_after_no_keyword, names_differ, plain_ends}
+use Rattle.item_names.proofs.NameShapes.{name_after_no_keyword, names_differ, plain_ends}
 use Rattle.naga_keywords.proofs.Plains.{words_are}
-
-nothing_there : {A X : Type 0} (x : X) → None ≡ Some x → A
-nothing_there x e = absurd (cc)
 
 -- what is found in a list passes the test that all of it passes
 all_at : (test : Labelled → Bool) (xs : List Labelled) (i : ℕ) (x : Labelled) → list_all test xs ≡ true → slice_get xs i ≡ Some x → test x ≡ true
-all_at test [] i x all e = nothing_there x e
+all_at test [] i x all e = absurd (none-some x e)
 all_at test (y ∷ xs) zero x all e = subst (λ z. test z ≡ true) (ap (λ o. unwrap_or o y) e) (and_parts (test y) (list_all test xs) all).0
 all_at test (y ∷ xs) (suc i) x all e = all_at test xs i x (and_parts (test y) (list_all test xs) all).1 e
 
@@ -46,7 +43,7 @@ pub record StandsBehind (items : List Labelled) (item : Labelled) (done : List L
 
 behind_left : (xs ys : List Labelled) (item : Labelled) (done : List Labelled) → StandsBehind xs item done → StandsBehind (xs ++ ys) item done
 behind_left xs ys item done s =
-    let le : s.place ≤ length xs = omega (arith, within xs s.place item s.there) in
+    let le : s.place ≤ length xs = omega (arith, slice_get_within xs s.place item s.there) in
     record { place = s.place; there = place_left xs ys s.place item s.there; front = s.front; before = take-append-le s.place xs ys le ∙ s.before }
 
 behind_right : (xs ys : List Labelled) (item : Labelled) (done : List Labelled) → StandsBehind ys item done → StandsBehind (xs ++ ys) item done
@@ -56,7 +53,7 @@ behind_right (x ∷ xs) ys item done s =
     record { place = suc inner.place; there = inner.there; front = x ∷ inner.front; before = ap (λ items. x ∷ items) inner.before }
 
 behind_sections : {X : Type 0} (section : ℕ → X → List Labelled) (n i : ℕ) (xs : List X) (x : X) (item : Labelled) (done : List Labelled) → slice_get xs i ≡ Some x → StandsBehind (section (n + i) x) item done → StandsBehind (flat_map (λ p. section p.0 p.1) (enumerate_from n xs)) item done
-behind_sections section n i [] x item done e s = nothing_there x e
+behind_sections section n i [] x item done e s = absurd (none-some x e)
 behind_sections section n zero (y ∷ xs) x item done e s =
     let here : n + zero ≡ n = omega arith in
     behind_left (section n y) (flat_map (λ p. section p.0 p.1) (enumerate_from (n + 1) xs)) item done
@@ -67,7 +64,7 @@ behind_sections section n (suc i) (y ∷ xs) x item done e s =
 
 module _ {X : Type 0} (entry : ℕ → X → Labelled) where
   entry_at : (n i : ℕ) (xs : List X) (x : X) → slice_get xs i ≡ Some x → slice_get (map (λ p. entry p.0 p.1) (enumerate_from n xs)) i ≡ Some (entry (n + i) x)
-  entry_at n i [] x e = nothing_there x e
+  entry_at n i [] x e = absurd (none-some x e)
   entry_at n zero (y ∷ xs) x e =
       let same : n ≡ n + zero = omega arith in
       let is : y ≡ x = ap (λ o. unwrap_or o y) e in
@@ -107,7 +104,7 @@ module _ (start : Names) («module» : Module) (t : ℕ) (ty : Type_) (found : s
       (behind_sections (labelled_type m.entry_points.items) 0 t m.types ty item done found (subst (λ k. StandsBehind (labelled_type m.entry_points.items k ty) item done) same in_type)))
 
   long : length (take n (members_of ty.inner)) ≡ n
-  long = let le : n ≤ length (members_of ty.inner) = omega (arith, within (members_of ty.inner) n member there) in omega (arith, length-take-le n (members_of ty.inner) le)
+  long = let le : n ≤ length (members_of ty.inner) = omega (arith, slice_get_within (members_of ty.inner) n member there) in omega (arith, length-take-le n (members_of ty.inner) le)
 
   module _ (before now : NameMap) (names : Names) (has : HasNamedItems start before (labelled_items start «module») names now) where
     pub member_named : now (key.StructMember t n) ≡ Some (name_after (member_names start) (map member_label (take n (members_of ty.inner))) (member_label member))
@@ -130,7 +127,7 @@ module _ (start : Names) («module» : Module) (t : ℕ) (ty : Type_) (found : s
 -- ---- no two members of one struct have one name
 module _ (start : Names) where
   split_before : (xs : List StructMember) (n k : ℕ) (x : StructMember) → n < k → slice_get xs n ≡ Some x → (middle : List StructMember) × (take k xs ≡ take n xs ++ x ∷ middle)
-  split_before [] n k x lt e = nothing_there x e
+  split_before [] n k x lt e = absurd (none-some x e)
   split_before (y ∷ xs) zero zero x lt e = absurd (omega (arith, lt))
   split_before (y ∷ xs) zero (suc k) x lt e = (take k xs, ap (λ z. z ∷ take k xs) (ap (λ o. unwrap_or o y) e))
   split_before (y ∷ xs) (suc n) zero x lt e = absurd (omega (arith, lt))
@@ -146,7 +143,7 @@ module _ (start : Names) where
       let first : List (List ℕ) = map member_label (take n members) in
       let middle : List (List ℕ) = map member_label parts.0 in
       let before : map member_label (take k members) ≡ first ++ member_label a ∷ middle = ap (map member_label) parts.1 ∙ map-append member_label (take n members) (a ∷ parts.0) in
-      let le : k ≤ length members = omega (arith, within members k b there_b) in
+      let le : k ≤ length members = omega (arith, slice_get_within members k b there_b) in
       let long : length (first ++ member_label a ∷ middle) ≡ k = ap length (sym before) ∙ length-map (take k members) member_label ∙ omega (arith, length-take-le k members le) in
       let all : length ((first ++ member_label a ∷ middle) ++ member_label b ∷ []) ≡ length (first ++ member_label a ∷ middle) + 1 = length-append (first ++ member_label a ∷ middle) (member_label b ∷ []) in
       names_differ (member_names start) first (member_label a) middle (member_label b) []

@@ -1,8 +1,9 @@
 -- The names of a whole module: its values are labelled by the names of its types.
-use Rattle.std.proofs.Common.{◌≡◌, ℕ, ◌+◌, ◌<◌, ◌≤◌, zero, suc, List, [], ◌∷◌, ◌++◌, map, length, Option, Some, None, true, false, cond, refl, ap, sym, subst, ◌∙◌, arith, unwrap_or, slice_get}
+use Rattle.std.proofs.Common.{◌≡◌, ℕ, ◌+◌, ◌≤◌, zero, suc, List, [], ◌∷◌, ◌++◌, map, length, Option, Some, None, false, cond, refl, ap, sym, subst, ◌∙◌, arith, unwrap_or, slice_get}
 use borrow.Author.Tests.{lt-ltb}
 use Rattle.std.specs.List.{AllByRecursion, flat_map, enumerate_from}
 use Rattle.std.proofs.lemmas.List.{take-append-le}
+use Rattle.std.proofs.lemmas.Option.{none-some, slice_get_within}
 use Rattle.naga_ir.specs.declared.module.Module.{Module}
 use Rattle.naga_ir.specs.declared.module.EntryPoint.{EntryPoint}
 use Rattle.naga_ir.specs.declared.types.StructMember.{StructMember}
@@ -17,20 +18,9 @@ use Rattle.item_names.proofs.NameKeys.{all_append, unlike_types, types_apart, de
 use Rattle.item_names.proofs.NamedItems.{place_left, type_among_types, item_put, name_found, name_absent}
 use Rattle.item_names.proofs.ResetLemmas.{not_below, refuses_more}
 
-wrong : {A : Type 0} → true ≡ false → A
-wrong e = absurd (cc)
-
-nothing_there : {A X : Type 0} (x : X) → None ≡ Some x → A
-nothing_there x e = absurd (cc)
-
-pub within : {X : Type 0} (xs : List X) (i : ℕ) (x : X) → slice_get xs i ≡ Some x → i < length xs
-within [] i x e = nothing_there x e
-within (y ∷ xs) zero x e = omega arith
-within (y ∷ xs) (suc i) x e = omega (arith, within xs i x e)
-
 past : {X : Type 0} (xs : List X) (i : ℕ) → slice_get xs i ≡ None → length xs ≤ i
 past [] i e = omega arith
-past (y ∷ xs) zero e = nothing_there y (sym e)
+past (y ∷ xs) zero e = absurd (none-some y (sym e))
 past (y ∷ xs) (suc i) e = omega (arith, past xs i e)
 
 -- no item is a type behind the last one
@@ -58,7 +48,7 @@ module _ (start : Names) («module» : Module) where
     there t ty e =
         let item : Labelled = (key.Type_ t, type_label «module».entry_points.items t ty) in
         let s = type_among_types start «module» t ty e in
-        let le : s.place ≤ length the_types = omega (arith, within the_types s.place item s.there) in
+        let le : s.place ≤ length the_types = omega (arith, slice_get_within the_types s.place item s.there) in
         item_put start first now (labelled_declarations «module») has.put (declarations_apart «module») s.place item (place_left the_types the_others s.place item s.there)
         ∙ ap (λ items. Some (item_name start items item)) (take-append-le s.place the_types the_others le)
         ∙ sym (ap (λ o. Some (unwrap_or o [])) (name_found start the_types s.place item (types_apart «module».entry_points.items «module».types) s.there))
@@ -68,7 +58,7 @@ module _ (start : Names) («module» : Module) where
       where
         by : (o : Option Type_) → slice_get «module».types t ≡ o → type_names_in now (length «module».types) t ≡ type_name start «module» t
         by (Some ty) e =
-            ap (λ b. cond b (unwrap_or (now (key.Type_ t)) []) []) (lt-ltb t (length «module».types) (within «module».types t ty e))
+            ap (λ b. cond b (unwrap_or (now (key.Type_ t)) []) []) (lt-ltb t (length «module».types) (slice_get_within «module».types t ty e))
             ∙ ap (λ o. unwrap_or o []) (there t ty e)
         by None e =
             let past_end : length «module».types ≤ t = past «module».types t e in

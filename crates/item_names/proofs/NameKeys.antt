@@ -2,6 +2,7 @@
 use Rattle.std.proofs.Common.{◌≡◌, ℕ, ◌+◌, ◌<◌, ◌≤◌, List, [], ◌∷◌, ◌++◌, map, get_or, Bool, true, false, ◌==◌, ◌&&◌, cond, refl, ap, sym, ◌∙◌, subst, arith, codes, string_bytes}
 use Rattle.std.specs.List.{AllByRecursion, flat_map, enumerate_from}
 use Rattle.std.specs.Cmp.{IsEquivalence}
+use Rattle.std.proofs.lemmas.Bool.{and_parts}
 use Rattle.naga_ir.specs.declared.module.Module.{Module}
 use Rattle.naga_ir.specs.declared.module.Function.{Function as AFunction}
 use Rattle.naga_ir.specs.declared.module.FunctionArgument.{FunctionArgument as AnArgument}
@@ -48,19 +49,8 @@ key_code (Override o) = 5 ∷ o ∷ 0 ∷ 0 ∷ 0 ∷ []
 wrong : {A : Type 0} → false ≡ true → A
 wrong e = absurd (cc)
 
-first_true : (a b : Bool) → (a && b) ≡ true → a ≡ true
-first_true true b e = refl
-first_true false b e = wrong e
-
-second_true : (a b : Bool) → (a && b) ≡ true → b ≡ true
-second_true true b e = e
-second_true false b e = wrong e
-
 one : (a b : ℕ) → ((a == b) && true) ≡ true → a ≡ b
-one a b e = eqb-true a b (first_true (a == b) true e)
-
-both_parts : (a b : Bool) → (a && b) ≡ true → (a ≡ true) × (b ≡ true)
-both_parts a b e = (first_true a b e, second_true a b e)
+one a b e = eqb-true a b (and_parts (a == b) true e).0
 
 pub same_part : (x y : ExternalTextureNameKey) → part_eq.eq-value.it x y ≡ true → part_code x ≡ part_code y
 same_part (Plane m) (Plane n) e = ap (λ k. k + 2) (eqb-true m n e)
@@ -68,16 +58,16 @@ same_part Params Params e = refl
 same_part x y e = wrong e
 
 handle_then : (t u n m : ℕ) → (((t == u) && true) && (n == m)) ≡ true → (t ≡ u) × (n ≡ m)
-handle_then t u n m e = let p = both_parts ((t == u) && true) (n == m) e in (one t u p.0, eqb-true n m p.1)
+handle_then t u n m e = let p = and_parts ((t == u) && true) (n == m) e in (one t u p.0, eqb-true n m p.1)
 
 handle_then_handle : (t u n m : ℕ) → (((t == u) && true) && ((n == m) && true)) ≡ true → (t ≡ u) × (n ≡ m)
-handle_then_handle t u n m e = let p = both_parts ((t == u) && true) ((n == m) && true) e in (one t u p.0, one n m p.1)
+handle_then_handle t u n m e = let p = and_parts ((t == u) && true) ((n == m) && true) e in (one t u p.0, one n m p.1)
 
 then_number : (t u n m : ℕ) → ((t == u) && (n == m)) ≡ true → (t ≡ u) × (n ≡ m)
-then_number t u n m e = let p = both_parts (t == u) (n == m) e in (eqb-true t u p.0, eqb-true n m p.1)
+then_number t u n m e = let p = and_parts (t == u) (n == m) e in (eqb-true t u p.0, eqb-true n m p.1)
 
 then_handle : (t u n m : ℕ) → ((t == u) && ((n == m) && true)) ≡ true → (t ≡ u) × (n ≡ m)
-then_handle t u n m e = let p = both_parts (t == u) ((n == m) && true) e in (eqb-true t u p.0, one n m p.1)
+then_handle t u n m e = let p = and_parts (t == u) ((n == m) && true) e in (eqb-true t u p.0, one n m p.1)
 
 pub same_code : (a b : NameKey) → same_key a b ≡ true → key_code a ≡ key_code b
 same_code (Type_ t) (Type_ u) e = ap (λ x. 0 ∷ x ∷ 0 ∷ 0 ∷ 0 ∷ []) (one t u e)
@@ -94,13 +84,13 @@ same_code (FunctionArgument t n) (FunctionArgument u m) e = let s = handle_then 
 same_code (FunctionLocal t n) (FunctionLocal u m) e = let s = handle_then_handle t u n m e in λ i. 2 ∷ s.0 i ∷ 2 ∷ s.1 i ∷ 0 ∷ []
 same_code (FunctionOobLocal t n) (FunctionOobLocal u m) e = let s = handle_then_handle t u n m e in λ i. 2 ∷ s.0 i ∷ 3 ∷ s.1 i ∷ 0 ∷ []
 same_code (ExternalTextureGlobalVariable t x) (ExternalTextureGlobalVariable u y) e =
-    let p = both_parts ((t == u) && true) (part_eq.eq-value.it x y) e in
+    let p = and_parts ((t == u) && true) (part_eq.eq-value.it x y) e in
     let a = one t u p.0 in
     let b = same_part x y p.1 in
     λ i. 3 ∷ a i ∷ 0 ∷ 0 ∷ b i ∷ []
 same_code (ExternalTextureFunctionArgument t n x) (ExternalTextureFunctionArgument u m y) e =
-    let p = both_parts ((t == u) && true) ((n == m) && part_eq.eq-value.it x y) e in
-    let q = both_parts (n == m) (part_eq.eq-value.it x y) p.1 in
+    let p = and_parts ((t == u) && true) ((n == m) && part_eq.eq-value.it x y) e in
+    let q = and_parts (n == m) (part_eq.eq-value.it x y) p.1 in
     let a = one t u p.0 in
     let c = eqb-true n m q.0 in
     let b = same_part x y q.1 in
@@ -175,7 +165,7 @@ pub unlike_types : (t u : ℕ) → (t ≡ u → ⊥) → same_key (Type_ t) (Typ
 unlike_types t u apart = different (digit_of 1) (same_digit 1) (Type_ t) (Type_ u) apart
 
 -- ---- the items of a module
-single : {A : Type 0} (g : A → Labelled) (xs : List A) → flat_map (λ a. g a ∷ []) xs ≡ map g xs
+pub single : {A : Type 0} (g : A → Labelled) (xs : List A) → flat_map (λ a. g a ∷ []) xs ≡ map g xs
 single g [] = refl
 single g (x ∷ xs) = ap (λ items. g x ∷ items) (single g xs)
 

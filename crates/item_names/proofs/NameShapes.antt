@@ -1,5 +1,5 @@
 -- What every name looks like, and that a name tells its base and its number.
-use Rattle.std.proofs.Common.{◌≡◌, ℕ, ◌+◌, ◌-◌, ◌<◌, ◌≤◌, ◌^◌, Bool, true, false, not, ◌&&◌, ◌||◌, ◌==◌, cond, List, [], ◌∷◌, ◌++◌, length, get_or, drop, codes, refl, sym, ap, ◌∙◌, arith, append_assoc, append-nil, All}
+use Rattle.std.proofs.Common.{◌≡◌, ℕ, ◌+◌, ◌<◌, ◌≤◌, ◌^◌, Bool, true, false, not, ◌&&◌, ◌||◌, ◌==◌, cond, List, [], ◌∷◌, ◌++◌, get_or, drop, codes, refl, sym, ap, ◌∙◌, arith, append_assoc, append-nil, All}
 use Rattle.std.specs.List.{list_all, starts_with}
 use Rattle.std.specs.Bool.{nat_eq}
 use Rattle.std.specs.Prelude.{◌⊎◌}
@@ -15,30 +15,14 @@ use Rattle.std.proofs.lemmas.List.Folds.{list_all-append, list_any_none}
 use Rattle.std.proofs.lemmas.List.Sums.{sum_by-append, sum_by-cons}
 use Rattle.std.proofs.lemmas.Bool.Decides.{nat_tests}
 use Rattle.std.proofs.lemmas.Map.Text.{is_eq-slice_cmp}
+use Rattle.std.proofs.lemmas.Bool.{and_parts, and_from, true≢false, or_parts}
+use Rattle.std.proofs.Math.Bool.{and-false}
+use Rattle.item_names.proofs.Spellings.{get_or-last}
 use Rattle.item_names.specs.Label.{ends_separated, after_numerics, spelling, without_last_separators, or_unnamed, kept_off, base_of}
 use Rattle.naga_keywords.specs.Plain.{is_identifier_char, is_word, is_identifier, is_empty_or_separated, HasPlainEnds, IsPlain}
 use Rattle.naga_keywords.specs.Words.{lowered}
 use Rattle.item_names.specs.Naming.{Names, label_base, is_taken, ends_in_digit, first_name, later_name, name_of_base, labels_with_base, name_after}
 use Rattle.item_names.proofs.BaseShapes.{base_is_word, base_ends, begins_double, base_not_double, is_text, is_text-decimal, all_digits-decimal}
-
-and_both : (a b : Bool) → a ≡ true → b ≡ true → (a && b) ≡ true
-and_both true b x y = y
-and_both false b x y = absurd (cc)
-
-pub and_parts : (a b : Bool) → (a && b) ≡ true → (a ≡ true) × (b ≡ true)
-and_parts true b e = (refl, e)
-and_parts false b e = absurd (cc)
-
-and_false : (b : Bool) → (b && false) ≡ false
-and_false true = refl
-and_false false = refl
-
-differ : true ≡ false → ⊥
-differ e = cc
-
-neither : (a b : Bool) → (a || b) ≡ false → (a ≡ false) × (b ≡ false)
-neither true b e = absurd (cc)
-neither false b e = (refl, e)
 
 -- ---- the last character
 -- the text ends in a character that passes
@@ -59,9 +43,6 @@ ends_by-all p [] some all = absurd (cc)
 ends_by-all p (c ∷ []) some all = (and_parts (p c) true all).0
 ends_by-all p (c ∷ d ∷ cs) some all = ends_by-all p (d ∷ cs) refl (and_parts (p c) (list_all p (d ∷ cs)) all).1
 
-get_or-last : (c d : ℕ) (text : List ℕ) → get_or (c ∷ d ∷ text) (length (c ∷ d ∷ text) - 1) 0 ≡ get_or (d ∷ text) (length (d ∷ text) - 1) 0
-get_or-last c d text = grind (arith)
-
 ends_by-last : (text : List ℕ) → ends_in_digit text ≡ ends_by is_ascii_digit text
 unfolding ends_by
 ends_by-last [] = refl
@@ -78,12 +59,12 @@ abbrev has_none : List ℕ → Bool
 has_none text = list_all (λ c. not (c == 95)) text
 
 has_none-not : (xs ys : List ℕ) → has_none (xs ++ 95 ∷ ys) ≡ false
-has_none-not xs ys = list_all-append (λ c. not (c == 95)) xs (95 ∷ ys) ∙ and_false (has_none xs)
+has_none-not xs ys = list_all-append (λ c. not (c == 95)) xs (95 ∷ ys) ∙ and-false (has_none xs)
 
 split_last : (a b c d : List ℕ) → has_none b ≡ true → has_none d ≡ true → a ++ 95 ∷ b ≡ c ++ 95 ∷ d → (a ≡ c) × (b ≡ d)
 split_last [] b [] d nb nd e = (refl, ap (drop 1) e)
-split_last [] b (x ∷ c) d nb nd e = absurd (differ (sym nb ∙ ap (λ t. has_none (drop 1 t)) e ∙ has_none-not c d))
-split_last (x ∷ a) b [] d nb nd e = absurd (differ (sym nd ∙ ap (λ t. has_none (drop 1 t)) (sym e) ∙ has_none-not a b))
+split_last [] b (x ∷ c) d nb nd e = absurd (true≢false (sym nb ∙ ap (λ t. has_none (drop 1 t)) e ∙ has_none-not c d))
+split_last (x ∷ a) b [] d nb nd e = absurd (true≢false (sym nd ∙ ap (λ t. has_none (drop 1 t)) (sym e) ∙ has_none-not a b))
 split_last (x ∷ a) b (y ∷ c) d nb nd e =
     let rest = split_last a b c d nb nd (ap (drop 1) e) in
     ((λ i. ap (λ t. get_or t 0 0) e i ∷ rest.0 i), rest.1)
@@ -92,7 +73,7 @@ digits_have_none : (ds : List ℕ) → list_all is_ascii_digit ds ≡ true → h
 digits_have_none [] e = refl
 digits_have_none (d ∷ ds) e =
     let parts = and_parts (is_ascii_digit d) (list_all is_ascii_digit ds) e in
-    and_both _ _ (one d parts.0) (digits_have_none ds parts.1)
+    and_from _ _ (one d parts.0) (digits_have_none ds parts.1)
   where
     one : (d : ℕ) → is_ascii_digit d ≡ true → not (d == 95) ≡ true
     one d e = grind (arith, nat_tests)
@@ -107,7 +88,7 @@ module _ (names : Names) (base : List ℕ) where
     where
       either : (b : Bool) → (ends_in_digit base || is_taken names base) ≡ b → (cond b (base ++ codes "_") base ≡ base ++ 95 ∷ []) ⊎ ((cond b (base ++ codes "_") base ≡ base) × (ends_in_digit base ≡ false) × (is_taken names base ≡ false))
       either true e = inl refl
-      either false e = let parts = neither (ends_in_digit base) (is_taken names base) e in inr (refl, parts.0, parts.1)
+      either false e = let parts = or_parts (ends_in_digit base) (is_taken names base) e in inr (refl, parts.0, parts.1)
 
   later_is : (n : ℕ) → later_name base n ≡ base ++ 95 ∷ decimal n
   later_is n = append_assoc base (95 ∷ []) (decimal n)
@@ -146,13 +127,13 @@ module _ (names : Names) (base : List ℕ) where
       grown [] e = absurd (cc)
       grown (c ∷ cs) e =
           let parts = and_parts (list_all is_identifier_char (c ∷ cs)) (not (is_ascii_digit c)) e in
-          and_both _ _ (list_all-append is_identifier_char (c ∷ cs) more ∙ and_both _ _ parts.0 all) parts.1
+          and_from _ _ (list_all-append is_identifier_char (c ∷ cs) more ∙ and_from _ _ parts.0 all) parts.1
 
   digits_are_only : (ds : List ℕ) → list_all is_ascii_digit ds ≡ true → list_all is_identifier_char ds ≡ true
   digits_are_only [] e = refl
   digits_are_only (d ∷ ds) e =
       let parts = and_parts (is_ascii_digit d) (list_all is_ascii_digit ds) e in
-      and_both _ _ (one d parts.0) (digits_are_only ds parts.1)
+      and_from _ _ (one d parts.0) (digits_are_only ds parts.1)
     where
       one : (d : ℕ) → is_ascii_digit d ≡ true → is_identifier_char d ≡ true
       one d e = grind (arith, nat_tests)
@@ -187,10 +168,10 @@ module _ (names : Names) (base : List ℕ) where
   numbered_of_base word n h is = either (name_cases n)
     where
       nothing : base ≡ [] → ⊥
-      nothing e = differ (sym word ∙ ap is_word e)
+      nothing e = true≢false (sym word ∙ ap is_word e)
 
       either : ((n ≡ 0) × (name_of_base names base n ≡ first_name names base)) ⊎ (name_of_base names base n ≡ base ++ 95 ∷ decimal n) → ⊥
-      either (inl first) = differ (sym numbered_ends ∙ ap (ends_by is_ascii_digit) (sym is ∙ first.1) ∙ first_ends)
+      either (inl first) = true≢false (sym numbered_ends ∙ ap (ends_by is_ascii_digit) (sym is ∙ first.1) ∙ first_ends)
         where
           numbered_ends : ends_by is_ascii_digit (codes "_e" ++ decimal h) ≡ true
           numbered_ends = ended (decimal h) (is_text-decimal h) (all_digits-decimal h)
@@ -210,14 +191,14 @@ module _ (names : Names) (b c : List ℕ) (m n : ℕ) (b_ends : ends_separated b
 
   both_first : FirstCases b → FirstCases c → first_name names b ≡ first_name names c → b ≡ c
   both_first (inl x) (inl y) e = (split_last b [] c [] refl refl (sym x ∙ e ∙ y)).0
-  both_first (inl x) (inr y) e = absurd (differ (sym (ends_separated-append b) ∙ ap ends_separated (sym x ∙ e ∙ y.0) ∙ c_ends))
-  both_first (inr x) (inl y) e = absurd (differ (sym (ends_separated-append c) ∙ ap ends_separated (sym y ∙ sym e ∙ x.0) ∙ b_ends))
+  both_first (inl x) (inr y) e = absurd (true≢false (sym (ends_separated-append b) ∙ ap ends_separated (sym x ∙ e ∙ y.0) ∙ c_ends))
+  both_first (inr x) (inl y) e = absurd (true≢false (sym (ends_separated-append c) ∙ ap ends_separated (sym y ∙ sym e ∙ x.0) ∙ b_ends))
   both_first (inr x) (inr y) e = sym x.0 ∙ e ∙ y.0
 
   both : NameCases b m → NameCases c n → name_of_base names b m ≡ name_of_base names c n → (b ≡ c) × (m ≡ n)
   both (inl x) (inl y) e = (both_first (first_cases names b) (first_cases names c) (sym x.1 ∙ e ∙ y.1), x.0 ∙ sym y.0)
-  both (inl x) (inr y) e = absurd (differ (sym (later_ends names c n) ∙ ap (ends_by is_ascii_digit) (sym y ∙ sym e ∙ x.1) ∙ first_ends names b))
-  both (inr x) (inl y) e = absurd (differ (sym (later_ends names b m) ∙ ap (ends_by is_ascii_digit) (sym x ∙ e ∙ y.1) ∙ first_ends names c))
+  both (inl x) (inr y) e = absurd (true≢false (sym (later_ends names c n) ∙ ap (ends_by is_ascii_digit) (sym y ∙ sym e ∙ x.1) ∙ first_ends names b))
+  both (inr x) (inl y) e = absurd (true≢false (sym (later_ends names b m) ∙ ap (ends_by is_ascii_digit) (sym x ∙ e ∙ y.1) ∙ first_ends names c))
   both (inr x) (inr y) e =
       let parts = split_last b (decimal m) c (decimal n) (number_has_none m) (number_has_none n) (sym x ∙ e ∙ y) in
       (parts.0, decimal_injective m n m_small n_small parts.1)
@@ -232,15 +213,15 @@ name_after_is_word start earlier label = word_of_base start (label_base start la
 
 kept_three : (start : Names) (word : List ℕ) → is_taken start word ≡ false → (set.contains start.keywords word ≡ false) × (set.contains start.builtin_identifiers word ≡ false) × (set.contains start.caseless_keywords (lowered word) ≡ false)
 kept_three start word e =
-    let outer = neither (set.contains start.keywords word || set.contains start.builtin_identifiers word) (set.contains start.caseless_keywords (lowered word)) e in
-    let inner = neither (set.contains start.keywords word) (set.contains start.builtin_identifiers word) outer.0 in
+    let outer = or_parts (set.contains start.keywords word || set.contains start.builtin_identifiers word) (set.contains start.caseless_keywords (lowered word)) e in
+    let inner = or_parts (set.contains start.keywords word) (set.contains start.builtin_identifiers word) outer.0 in
     (inner.0, inner.1, outer.1)
 
 -- a word that does not begin with `__`, with more behind it, where it does not end in `_`
 identifier_more : (base more : List ℕ) → is_word base ≡ true → ends_separated base ≡ false → begins_double base ≡ false → is_word (base ++ more) ≡ true → is_identifier (base ++ more) ≡ true
 identifier_more [] more some ends single word = absurd (cc)
-identifier_more (c ∷ []) more some ends single word = and_both _ _ word (ap (λ b. not (b && is_empty_or_separated more)) ends)
-identifier_more (c ∷ d ∷ cs) more some ends single word = and_both _ _ word (ap not single)
+identifier_more (c ∷ []) more some ends single word = and_from _ _ word (ap (λ b. not (b && is_empty_or_separated more)) ends)
+identifier_more (c ∷ d ∷ cs) more some ends single word = and_from _ _ word (ap not single)
 
 identifier_of_base : (names : Names) (base : List ℕ) (n : ℕ) → is_word base ≡ true → ends_separated base ≡ false → begins_double base ≡ false → is_identifier (name_of_base names base n) ≡ true
 identifier_of_base names base n some ends single = either (name_cases names base n) (word_of_base names base some n)
@@ -283,7 +264,7 @@ base_no_naga prefixes characters is =
 
     either : (b : Bool) → (starts_with nat_eq text (codes "__") || (naga text || false)) ≡ b → naga (cond b (codes "gen_" ++ text) text) ≡ false
     either true e = refl
-    either false e = (neither (naga text) false (neither (starts_with nat_eq text (codes "__")) (naga text || false) e).1).0
+    either false e = (or_parts (naga text) false (or_parts (starts_with nat_eq text (codes "__")) (naga text || false) e).1).0
 
 naga_of_base : (names : Names) (base : List ℕ) (n : ℕ) → is_word base ≡ true → naga base ≡ false → naga (name_of_base names base n) ≡ false
 naga_of_base names base n some off = either (name_cases names base n)
@@ -326,7 +307,7 @@ name_after_no_caseless start earlier label plain =
     lowered_digits [] e = refl
     lowered_digits (d ∷ digits) e =
         let parts = and_parts (is_ascii_digit d) (list_all is_ascii_digit digits) e in
-        and_both _ _ (one d parts.0) (lowered_digits digits parts.1)
+        and_from _ _ (one d parts.0) (lowered_digits digits parts.1)
       where
         one : (d : ℕ) → is_ascii_digit d ≡ true → is_ascii_digit (to_ascii_lowercase d) ≡ true
         one d e = grind (arith, nat_tests)

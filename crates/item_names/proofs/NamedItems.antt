@@ -6,6 +6,7 @@ use Rattle.std.specs.List.{AllByRecursion, IsDistinct, scan, flat_map, enumerate
 use Rattle.std.specs.Map.{keys_of, lookup}
 use Rattle.std.specs.Option.{option_or}
 use Rattle.std.proofs.lemmas.Map.Made.{update_all_distinct}
+use Rattle.std.proofs.lemmas.Option.{none-some}
 use Rattle.naga_ir.specs.declared.module.Module.{Module}
 use Rattle.naga_ir.specs.declared.module.Function.{Function}
 use Rattle.naga_ir.specs.declared.module.FunctionArgument.{FunctionArgument}
@@ -20,26 +21,20 @@ use Rattle.name_keys.specs.declared.key.NameKey.TheVariants as key
 use Rattle.item_names.specs.Naming.{Names, name_after, labels_with_base, label_or}
 use Rattle.name_keys.specs.Keys.{NameMap, same_key}
 use Rattle.item_names.specs.Reset.{Labelled, is_member, item_name, labels_of, named_items, members_of, labelled_members, labelled_type, type_label, is_external, labelled_parts, labelled_types, labelled_argument, labelled_arguments, labelled_locals, labelled_function, labelled_functions, labelled_entry_arguments, labelled_entry_locals, labelled_entry_point, labelled_entry_points, labelled_global, labelled_globals, labelled_declarations, value_label, type_name, labelled_constants, labelled_overrides, labelled_values, labelled_items, PutsInto, HasNamedItems}
-use Rattle.item_names.proofs.NameKeys.{AreApart, same_key_laws, items_apart}
+use Rattle.item_names.proofs.NameKeys.{AreApart, same_key_laws, items_apart, single}
 use Rattle.item_names.proofs.NameShapes.{names_differ}
 use Rattle.item_names.proofs.ResetLemmas.{labels_of-around, item_name-outside}
-
-nothing_there : {A X : Type 0} (x : X) → None ≡ Some x → A
-nothing_there x e = absurd (cc)
-
-wrong : {A : Type 0} → true ≡ false → A
-wrong e = absurd (cc)
-
-it_is : {X : Type 0} (x y : X) → Some x ≡ Some y → x ≡ y
-it_is x y e = ap (λ o. unwrap_or o x) e
 
 -- ---- the name of the item at a place
 abbrev named_from : Names → List Labelled → List Labelled → List (NameKey × List ℕ)
 named_from start earlier items = scan (λ earlier item. earlier ++ item ∷ []) (λ earlier item. (item.0, item_name start earlier item)) earlier items
 
+it_is : {X : Type 0} (x y : X) → Some x ≡ Some y → x ≡ y
+it_is x y e = ap (λ o. unwrap_or o x) e
+
 -- ---- no name comes twice
 split_one : (xs : List Labelled) (j : ℕ) (y : Labelled) → slice_get xs j ≡ Some y → (rest : List Labelled) × (xs ≡ take j xs ++ y ∷ rest)
-split_one [] j y e = nothing_there y e
+split_one [] j y e = absurd (none-some y e)
 split_one (x ∷ xs) zero y e = (xs, ap (λ z. z ∷ xs) (it_is x y e))
 split_one (x ∷ xs) (suc j) y e = let rest = split_one xs j y e in (rest.0, ap (λ t. x ∷ t) rest.1)
 
@@ -50,7 +45,7 @@ record Split (xs : List Labelled) (i j : ℕ) (x y : Labelled) : Type 0 where
   before : take j xs ≡ take i xs ++ x ∷ middle
 
 split_two : (xs : List Labelled) (i j : ℕ) (x y : Labelled) → i < j → slice_get xs i ≡ Some x → slice_get xs j ≡ Some y → Split xs i j x y
-split_two [] i j x y lt ex ey = nothing_there x ex
+split_two [] i j x y lt ex ey = absurd (none-some x ex)
 split_two (z ∷ xs) zero zero x y lt ex ey = absurd (omega (arith, lt))
 split_two (z ∷ xs) zero (suc j) x y lt ex ey =
     let after = split_one xs j y ey in
@@ -105,12 +100,12 @@ keys_distinct start earlier [] apart = tt
 keys_distinct start earlier (x ∷ items) apart = (apart_from start x.0 (earlier ++ x ∷ []) items apart.0, keys_distinct start (earlier ++ x ∷ []) items apart.1)
 
 at_place : (P : Labelled → Type 0) (xs : List Labelled) (i : ℕ) (y : Labelled) → AllByRecursion P xs → slice_get xs i ≡ Some y → P y
-at_place P [] i y all e = nothing_there y e
+at_place P [] i y all e = absurd (none-some y e)
 at_place P (x ∷ xs) zero y all e = subst P (it_is x y e) all.0
 at_place P (x ∷ xs) (suc i) y all e = at_place P xs i y all.1 e
 
 found : (start : Names) (earlier items : List Labelled) (i : ℕ) (item : Labelled) → AreApart items → slice_get items i ≡ Some item → lookup (same_key item.0) (named_from start earlier items) ≡ Some (item_name start (earlier ++ take i items) item)
-found start earlier [] i item apart e = nothing_there item e
+found start earlier [] i item apart e = absurd (none-some item e)
 found start earlier (x ∷ items) zero item apart e =
     let same = it_is x item e in
     let yes = ap (same_key item.0) (ap (λ (y : Labelled). y.0) same) ∙ same_key_laws.refl item.0 in
@@ -175,7 +170,7 @@ pub first_among : (item : Labelled) (items : List Labelled) → IsAmong (item �
 first_among item items = record { place = 0; there = refl }
 
 pub place_left : (xs ys : List Labelled) (i : ℕ) (item : Labelled) → slice_get xs i ≡ Some item → slice_get (xs ++ ys) i ≡ Some item
-place_left [] ys i item e = nothing_there item e
+place_left [] ys i item e = absurd (none-some item e)
 place_left (x ∷ xs) ys zero item e = e
 place_left (x ∷ xs) ys (suc i) item e = place_left xs ys i item e
 
@@ -187,17 +182,13 @@ among_right [] ys item s = s
 among_right (x ∷ xs) ys item s = let inner = among_right xs ys item s in record { place = suc inner.place; there = inner.there }
 
 pub among_sections : {X : Type 0} (section : ℕ → X → List Labelled) (n i : ℕ) (xs : List X) (x : X) (item : Labelled) → slice_get xs i ≡ Some x → IsAmong (section (n + i) x) item → IsAmong (flat_map (λ p. section p.0 p.1) (enumerate_from n xs)) item
-among_sections section n i [] x item e s = nothing_there x e
+among_sections section n i [] x item e s = absurd (none-some x e)
 among_sections section n zero (y ∷ xs) x item e s =
     let here : n + zero ≡ n = omega arith in
     among_left (section n y) (flat_map (λ p. section p.0 p.1) (enumerate_from (n + 1) xs)) item (subst (λ z. IsAmong (section n z) item) (sym (it_is y x e)) (subst (λ m. IsAmong (section m x) item) here s))
 among_sections section n (suc i) (y ∷ xs) x item e s =
     let next : n + suc i ≡ n + 1 + i = omega arith in
     among_right (section n y) (flat_map (λ p. section p.0 p.1) (enumerate_from (n + 1) xs)) item (among_sections section (n + 1) i xs x item e (subst (λ m. IsAmong (section m x) item) next s))
-
-single : {A : Type 0} (g : A → Labelled) (xs : List A) → flat_map (λ a. g a ∷ []) xs ≡ map g xs
-single g [] = refl
-single g (x ∷ xs) = ap (λ items. g x ∷ items) (single g xs)
 
 pub among_entries : {X : Type 0} (entry : ℕ → X → Labelled) (i : ℕ) (xs : List X) (x : X) → slice_get xs i ≡ Some x → IsAmong (map (λ p. entry p.0 p.1) (enumerate_from 0 xs)) (entry i x)
 among_entries entry i xs x e =

@@ -23,6 +23,7 @@ use Rattle.item_names.specs.Refusal.{IsRefusalOf, SomeNameIsFull, IsRefusalOfIte
 use Rattle.item_names.specs.declared.error.NamerError.{NamerError}
 use Rattle.item_names.specs.declared.error.NamerError.TheVariants.{Full, KeyFull, Memory}
 use Rattle.std.proofs.lemmas.List.Folds.{list_all-append}
+use Rattle.std.proofs.Math.Bool.{and-false}
 use Rattle.item_names.proofs.NameShapes.{counted_more}
 use Rattle.item_names.proofs.NamerLemmas.{name_of-after, has_named_nothing}
 
@@ -215,12 +216,8 @@ pub refuses_key : (old : Names) (before : NameMap) (item : Labelled) (others : L
 refuses_key old before item others not_so = record {
   some = λ start first earlier has. beginning_unchanged start first before before earlier (item ∷ others) old (λ q. refl) has;
   why = λ start first earlier has.
-      list_all-append (λ item. key_fits item.0) earlier (item ∷ others) ∙ ap (λ b. keys_fit earlier && (b && keys_fit others)) not_so ∙ and_false (keys_fit earlier);
+      list_all-append (λ item. key_fits item.0) earlier (item ∷ others) ∙ ap (λ b. keys_fit earlier && (b && keys_fit others)) not_so ∙ and-false (keys_fit earlier);
 }
-  where
-    and_false : (b : Bool) → (b && false) ≡ false
-    and_false true = refl
-    and_false false = refl
 
 -- where all items got their names, none met a full base
 pub none_full : (start : Names) (before : NameMap) (items : List Labelled) (names : Names) (now : NameMap) → HasNamedItems start before items names now → SomeNameIsFull start items → ⊥

@@ -11,21 +11,11 @@ use Rattle.std.specs.Char.{is_ascii_alphanumeric}
 use Rattle.std.proofs.lemmas.Grind.{flat_map-append}
 use Rattle.std.proofs.lemmas.List.Folds.{list_all-append}
 use Rattle.std.proofs.lemmas.Bool.Decides.{nat_tests}
+use Rattle.std.proofs.lemmas.Bool.{and_parts, not-true, or_parts}
+use Rattle.std.proofs.Math.Bool.{and-false}
 use borrow.Author.Tests.{eqb-true}
 use Rattle.naga_keywords.specs.Plain.{is_identifier_char}
 use Rattle.item_names.specs.Label.{is_numeric, after_numerics, is_mark, is_foreign, hexadecimal, by_number, spelled, begins_separated, squeezed, begins_foreign, spelling, ends_separated, with_separator, kept_before, without_last_separators}
-
-and_false : (b : Bool) → (b && false) ≡ false
-and_false true = refl
-and_false false = refl
-
-both_true : (a b : Bool) → (a && b) ≡ true → (a ≡ true) × (b ≡ true)
-both_true true b e = (refl, e)
-both_true false b e = absurd (cc)
-
-not_true : (b : Bool) → not b ≡ true → b ≡ false
-not_true true e = absurd (cc)
-not_true false e = refl
 
 -- ---- numeric characters at the front
 pub after_numerics-drop : (cs : List ℕ) → after_numerics cs ≡ drop (prefix_len is_numeric cs) cs
@@ -33,7 +23,7 @@ after_numerics-drop [] = refl
 after_numerics-drop (c ∷ cs) = elim (is_numeric c) as (λ b. cond b (after_numerics cs) (c ∷ cs) ≡ drop (cond b (1 + prefix_len is_numeric cs) 0) (c ∷ cs)) [ true ↦ after_numerics-drop cs ∙ rw one-add refl | false ↦ refl ]
 
 -- ---- `_` at the end
-get_or-last : (c d : ℕ) (text : List ℕ) → get_or (c ∷ d ∷ text) (length (c ∷ d ∷ text) - 1) 0 ≡ get_or (d ∷ text) (length (d ∷ text) - 1) 0
+pub get_or-last : (c d : ℕ) (text : List ℕ) → get_or (c ∷ d ∷ text) (length (c ∷ d ∷ text) - 1) 0 ≡ get_or (d ∷ text) (length (d ∷ text) - 1) 0
 get_or-last c d text = grind (arith)
 
 pub ends_separated-last : (text : List ℕ) → (get_or text (length text - 1) 0 == 95) ≡ ends_separated text
@@ -80,8 +70,8 @@ squeezed-push_separator (c ∷ d ∷ cs) = more (squeezed-push_separator (d ∷ 
 pub squeezed-append : (cs : List ℕ) (d : ℕ) (ds : List ℕ) → (d == 95) ≡ false → squeezed (cs ++ d ∷ ds) ≡ squeezed cs ++ squeezed (d ∷ ds)
 squeezed-append [] d ds e = refl
 squeezed-append (c ∷ []) d ds e =
-    ap (λ b. cond b (squeezed (d ∷ ds)) (c ∷ squeezed (d ∷ ds))) (ap (λ b. c == 95 && b) e ∙ and_false (c == 95))
-    ∙ sym (ap (λ b. cond b [] (c ∷ []) ++ squeezed (d ∷ ds)) (and_false (c == 95)))
+    ap (λ b. cond b (squeezed (d ∷ ds)) (c ∷ squeezed (d ∷ ds))) (ap (λ b. c == 95 && b) e ∙ and-false (c == 95))
+    ∙ sym (ap (λ b. cond b [] (c ∷ []) ++ squeezed (d ∷ ds)) (and-false (c == 95)))
 squeezed-append (c ∷ x ∷ cs) d ds e = more (c == 95 && x == 95) (squeezed-append (x ∷ cs) d ds e)
   where
     more : (b : Bool) → squeezed (x ∷ cs ++ d ∷ ds) ≡ squeezed (x ∷ cs) ++ squeezed (d ∷ ds) → cond b (squeezed (x ∷ cs ++ d ∷ ds)) (c ∷ squeezed (x ∷ cs ++ d ∷ ds)) ≡ cond b (squeezed (x ∷ cs)) (c ∷ squeezed (x ∷ cs)) ++ squeezed (d ∷ ds)
@@ -94,14 +84,14 @@ unseparated cs = list_all (λ c. not (c == 95)) cs
 
 unseparated-ends : (cs : List ℕ) → unseparated cs ≡ true → ends_separated cs ≡ false
 unseparated-ends [] e = refl
-unseparated-ends (c ∷ []) e = not_true (c == 95) (both_true (not (c == 95)) true e).0
-unseparated-ends (c ∷ d ∷ cs) e = unseparated-ends (d ∷ cs) (both_true (not (c == 95)) (unseparated (d ∷ cs)) e).1
+unseparated-ends (c ∷ []) e = not-true (c == 95) (and_parts (not (c == 95)) true e).0
+unseparated-ends (c ∷ d ∷ cs) e = unseparated-ends (d ∷ cs) (and_parts (not (c == 95)) (unseparated (d ∷ cs)) e).1
 
 unseparated-squeezed : (cs : List ℕ) → unseparated cs ≡ true → squeezed cs ≡ cs
 unseparated-squeezed [] e = refl
 unseparated-squeezed (c ∷ cs) e =
-    let parts = both_true (not (c == 95)) (unseparated cs) e in
-    ap (λ b. cond (b && begins_separated cs) (squeezed cs) (c ∷ squeezed cs)) (not_true (c == 95) parts.0) ∙ ap (λ t. c ∷ t) (unseparated-squeezed cs parts.1)
+    let parts = and_parts (not (c == 95)) (unseparated cs) e in
+    ap (λ b. cond (b && begins_separated cs) (squeezed cs) (c ∷ squeezed cs)) (not-true (c == 95) parts.0) ∙ ap (λ t. c ∷ t) (unseparated-squeezed cs parts.1)
 
 unseparated-zeros : (n : ℕ) → unseparated (replicate n 48) ≡ true
 unseparated-zeros zero = refl
@@ -141,9 +131,9 @@ spelled-plain c mark plain =
 
 pub spelled-foreign : (c : ℕ) → is_foreign c ≡ true → spelled c ≡ 95 ∷ by_number c
 spelled-foreign c foreign =
-    let parts = both_true (not (is_mark c)) (not (is_identifier_char c)) foreign in
-    ap (λ b. cond b (codes "_") (cond (is_identifier_char c) (c ∷ []) (codes "_" ++ by_number c))) (not_true (is_mark c) parts.0)
-    ∙ ap (λ b. cond b (c ∷ []) (codes "_" ++ by_number c)) (not_true (is_identifier_char c) parts.1)
+    let parts = and_parts (not (is_mark c)) (not (is_identifier_char c)) foreign in
+    ap (λ b. cond b (codes "_") (cond (is_identifier_char c) (c ∷ []) (codes "_" ++ by_number c))) (not-true (is_mark c) parts.0)
+    ∙ ap (λ b. cond b (c ∷ []) (codes "_" ++ by_number c)) (not-true (is_identifier_char c) parts.1)
 
 squeezed-by_number : (c : ℕ) → squeezed (by_number c) ≡ by_number c
 squeezed-by_number c =
@@ -188,7 +178,7 @@ not_foreign-mark : (c : ℕ) → is_mark c ≡ true → is_foreign c ≡ false
 not_foreign-mark c mark = ap (λ b. not b && not (is_identifier_char c)) mark
 
 not_foreign-plain : (c : ℕ) → is_identifier_char c ≡ true → is_foreign c ≡ false
-not_foreign-plain c plain = ap (λ b. not (is_mark c) && not b) plain ∙ and_false (not (is_mark c))
+not_foreign-plain c plain = ap (λ b. not (is_mark c) && not b) plain ∙ and-false (not (is_mark c))
 
 pub spelling-separator : (cs : List ℕ) (c : ℕ) → is_mark c ≡ true → spelling (cs ++ c ∷ []) ≡ with_separator (spelling cs)
 spelling-separator [] c mark = spelling-first c (codes "_") (not_foreign-mark c mark) (spelled-mark c mark) ∙ sym (ap with_separator spelling-nil)
@@ -201,7 +191,7 @@ spelling-underscore (d ∷ cs) =
     spelling-push d cs 95 (codes "_") refl ∙ squeezed-push_separator (body (d ∷ cs)) ∙ ap with_separator (sym (spelling-body (d ∷ cs)))
 
 squeezed-one : (c : ℕ) → squeezed (c ∷ []) ≡ c ∷ []
-squeezed-one c = ap (λ b. cond b [] (c ∷ [])) (and_false (c == 95))
+squeezed-one c = ap (λ b. cond b [] (c ∷ [])) (and-false (c == 95))
 
 pub spelling-plain : (cs : List ℕ) (c : ℕ) → is_mark c ≡ false → is_identifier_char c ≡ true → (c == 95) ≡ false → spelling (cs ++ c ∷ []) ≡ spelling cs ++ c ∷ []
 spelling-plain [] c mark plain other = spelling-first c (c ∷ []) (not_foreign-plain c plain) (spelled-plain c mark plain) ∙ squeezed-one c ∙ sym (ap (λ t. t ++ c ∷ []) spelling-nil)
@@ -252,17 +242,13 @@ spelling-separating cs c test = either (is_mark c) refl test
     either true mark test = spelling-separator cs c mark
     either false mark test = ap (λ d. spelling (cs ++ d ∷ [])) (eqb-true c 95 test) ∙ spelling-underscore cs
 
-neither : (a b : Bool) → (a || b) ≡ false → (a ≡ false) × (b ≡ false)
-neither true b e = absurd (cc)
-neither false b e = (refl, e)
-
 pub spelling-alphanumeric : (cs : List ℕ) (c : ℕ) → (is_mark c || c == 95) ≡ false → is_ascii_alphanumeric c ≡ true → spelling (cs ++ c ∷ []) ≡ spelling cs ++ c ∷ []
 spelling-alphanumeric cs c test plain =
-    let parts = neither (is_mark c) (c == 95) test in spelling-plain cs c parts.0 (ap (λ b. b || c == 95) plain) parts.1
+    let parts = or_parts (is_mark c) (c == 95) test in spelling-plain cs c parts.0 (ap (λ b. b || c == 95) plain) parts.1
 
 pub foreign-from_tests : (c : ℕ) → (is_mark c || c == 95) ≡ false → is_ascii_alphanumeric c ≡ false → is_foreign c ≡ true
 foreign-from_tests c test plain =
-    let parts = neither (is_mark c) (c == 95) test in
+    let parts = or_parts (is_mark c) (c == 95) test in
     ap (λ b. not b && not (is_ascii_alphanumeric c || c == 95)) parts.0 ∙ ap (λ b. not (b || c == 95)) plain ∙ ap not parts.1
 
 -- what `{:04x}` writes

@@ -1,5 +1,5 @@
 -- Uses that are counted one by one add up to the number of places.
-use Rattle.std.proofs.Common.{◌≡◌, ◌≢◌, ℕ, ◌+◌, ◌<◌, ◌≤◌, ◌==◌, zero, suc, min, List, [], ◌∷◌, ◌++◌, length, true, false, cond, drop, refl, ap, sym, ◌∙◌, arith, add-one, add-zero, zero-add, drop-cons, slice_index_or, slice_set, slice_get, Some, unwrap_or, eq-eqb, ne_eqb}
+use Rattle.std.proofs.Common.{◌≡◌, ◌≢◌, ℕ, ◌+◌, ◌<◌, ◌≤◌, ◌==◌, zero, suc, min, List, [], ◌∷◌, ◌++◌, length, true, false, cond, drop, refl, ap, sym, ◌∙◌, arith, add-zero, zero-add, slice_index_or, slice_set, slice_get, Some, unwrap_or, eq-eqb, ne_eqb}
 use Rattle.std.specs.List.{flat_map, enumerate_from}
 use Rattle.std.proofs.lemmas.List.Sums.{sum_by-cons}
 use Rattle.naga_ir.specs.declared.module.Function.{Function}
@@ -11,6 +11,7 @@ use Rattle.naga_ir.specs.declared.statement.SwitchCase.{SwitchCase}
 use Rattle.naga_ir.specs.StatementTree.{block_size, cases_size}
 use Rattle.naga_ir.specs.StatementViews.{tree_of, block_of, cases_of}
 use Rattle.naga_info.specs.declared.info.ExpressionInfo.{ExpressionInfo}
+use Rattle.accepted_modules.proofs.Fitting.{drop_first}
 use Rattle.naga_acceptance.specs.Operands.{expression_operands, statement_operands, block_operands, cases_operands}
 use Rattle.naga_acceptance.specs.Counts.{with_use, with_uses, used_again, counted_from, use_count, greatest_count, without_uses, operand_places, counted, all_counted, functions_of}
 
@@ -27,9 +28,6 @@ with_use_past (e ∷ es) (suc handle) h = ap (λ fs. e ∷ fs) (with_use_past es
 pub with_uses_append : (es : List ExpressionInfo) (xs ys : List ℕ) → with_uses es (xs ++ ys) ≡ with_uses (with_uses es xs) ys
 with_uses_append es [] ys = refl
 with_uses_append es (x ∷ xs) ys = with_uses_append (with_use es x) xs ys
-
-drop_first : {X : Type 0} (i : ℕ) (xs : List X) (d : X) → i < length xs → drop i xs ≡ slice_index_or xs i d ∷ drop (i + 1) xs
-drop_first i xs d h = rw (add-one, drop-cons xs i d)
 
 -- a loop over statements: one more
 pub block_step : (es : List ExpressionInfo) (ss : List Statement) (i : ℕ) (d : Statement) → i < length ss

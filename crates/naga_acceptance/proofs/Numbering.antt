@@ -20,7 +20,7 @@ use Rattle.naga_info.specs.Resolution.{inner_of}
 use Rattle.accepted_modules.specs.Types.{word_of_width, scalar_word, word_of_type, word_at, local_pointer, spelling, spelling_of, spelling_at, operator_word}
 use Rattle.accepted_modules.specs.Operations.{Operation, operation_of, expression_operations, function_operations, all_operations, operators_agree}
 use Rattle.naga_acceptance.specs.Table.{type_number, operator_number, all_entered}
-use Rattle.naga_info.proofs.Options.{then_some, map_some}
+use Rattle.naga_info.proofs.Options.{then_some, map_some, same_some}
 use Rattle.naga_acceptance.proofs.Agreeing.{AreNumbered, entered_where_all_agree}
 use Rattle.accepted_modules.proofs.Fitting.{drop_first, item_at}
 
@@ -43,9 +43,6 @@ is_i64 = let small : 3 < 5 = omega arith in record { number = small; pointer = r
 
 is_u64 : IsScalarWord (codes "u64")
 is_u64 = let small : 4 < 5 = omega arith in record { number = small; pointer = refl }
-
-same_some : {X : Type 0} (x y : X) → Some x ≡ Some y → x ≡ y
-same_some x y e = cc
 
 by_one : (a : Bool) (x w : List ℕ) → IsScalarWord x → (if a then Some x else None) ≡ Some w → IsScalarWord w
 by_one true x w p e = subst IsScalarWord (same_some x w e) p

@@ -1,5 +1,5 @@
 -- The `let`s of what is written are those of the bound handles.
-use Rattle.std.proofs.Common.{◌≡◌, ℕ, suc, ◌+◌, ◌-◌, Bool, true, false, List, [], ◌∷◌, ◌++◌, map, length, Option, Some, None, refl, sym, ap, subst, ◌∙◌, arith}
+use Rattle.std.proofs.Common.{◌≡◌, ℕ, ◌+◌, ◌-◌, Bool, true, false, List, [], ◌∷◌, ◌++◌, map, length, Option, Some, None, refl, sym, ap, subst, ◌∙◌, arith}
 use Rattle.std.specs.Prelude.{IsTrue, slice_get, cond, ◌==◌}
 use Rattle.std.specs.List.{list_all, filter}
 use Rattle.std.proofs.lemmas.List.{map-append}
@@ -15,13 +15,14 @@ use Rattle.shader_runs.specs.Program.{binds, from}
 use Rattle.shader_runs.specs.Scope.{Handles, Naming, at_start, bound_name, given_after, given_by, after_one, after}
 use Rattle.wgsl_text.specs.Tree.{TypeSpecifier}
 use Rattle.wgsl_text.specs.Tree as tree
+use Rattle.shader_runs.proofs.Update.{and_left, and_right}
+use Rattle.naga_form.proofs.Facts.{further, from_start}
 use Rattle.naga_form.specs.Types.{type_names}
 use Rattle.naga_form.specs.Names.{module_names, numbered_name}
 use Rattle.naga_form.specs.Shapes.{statement_shape, function_naming}
 use Rattle.naga_form.specs.Form.{as_value, own_if, plain_form, let_form, then_if, lets_form, return_line, line_form, lines_form, functions_form, written_program, told_type}
 use Rattle.naga_form.specs.Premises.{nothing_named}
 use Rattle.naga_form.specs.Bindings.{binding_of, bindings_of, emitted_by, emitted_handles, module_bindings, BindsAs}
-use Rattle.naga_form.proofs.Facts.{and_left, and_right}
 use Rattle.naga_form.proofs.Fits.{not_given}
 use Rattle.naga_form.proofs.Resolutions.{nothing_outside}
 
@@ -87,14 +88,8 @@ functions_bind m explicit g (f ∷ fs) (es ∷ ess) there fits unnamed =
     let here : g + 0 ≡ g = omega arith in
     let found = subst (λ h. slice_get m.functions h ≡ Some f) here (there 0 f refl) in
     let one = lines_bind m g f found es fit (and_left (named_none f) (list_all named_none fs) unnamed) (told_type explicit (type_names m) es) 0 f.body (at_start (function_naming (module_names m) m.types g f es).function) in
-    let rest = functions_bind m explicit (g + 1) fs ess later (and_right (function_fits m.types f es) (functions_fit m.types fs ess) fits) (and_right (named_none f) (list_all named_none fs) unnamed) in
+    let rest = functions_bind m explicit (g + 1) fs ess (further m.functions g f fs there) (and_right (function_fits m.types f es) (functions_fit m.types fs ess) fits) (and_right (named_none f) (list_all named_none fs) unnamed) in
     λ i. one i ∷ rest i
-  where
-    later : (i : ℕ) (f1 : ir_function.Function) → slice_get fs i ≡ Some f1 → slice_get m.functions ((g + 1) + i) ≡ Some f1
-    later i f1 e = let moved : g + suc i ≡ (g + 1) + i = omega arith in subst (λ h. slice_get m.functions h ≡ Some f1) moved (there (suc i) f1 e)
 
 pub binds_as : (m : Module) (info : ModuleInfo) (explicit : Bool) → IsTrue (is_accepted m info) → IsTrue (nothing_named m) → BindsAs m info (written_program m info explicit)
-binds_as m info explicit accepted unnamed = functions_bind m explicit 0 m.functions info.functions.items from_start (accepted_parts m info accepted).5 unnamed
-  where
-    from_start : (i : ℕ) (f : ir_function.Function) → slice_get m.functions i ≡ Some f → slice_get m.functions (0 + i) ≡ Some f
-    from_start i f e = let same : i ≡ 0 + i = omega arith in subst (λ h. slice_get m.functions h ≡ Some f) same e
+binds_as m info explicit accepted unnamed = functions_bind m explicit 0 m.functions info.functions.items (from_start m.functions) (accepted_parts m info accepted).5 unnamed

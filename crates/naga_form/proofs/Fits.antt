@@ -18,12 +18,15 @@ use Rattle.shader_runs.specs.Program as shapes
 use Rattle.shader_runs.specs.Program.{operands_of, handle_type, argument_count, expression_of, is_given, local_count, from}
 use Rattle.shader_runs.specs.Scope.{Naming, given_by_all, given_after, given_after_all, given_by, fits_function}
 use Rattle.shader_runs.specs.Premises.{AllBelow, WordFits, LeafFits, ReturnFits, AreRegular, AreDistinct, FunctionFits, FixedKey, NumberedKey, GivenKey, ArgumentName, LocalName, ConstantName, GlobalName, OperatesBy, StandsFree, IsNoName, IsRegular, IsName, NameKey, name_at}
+use Rattle.naga_info.proofs.Options.{then_some}
+use Rattle.shader_runs.proofs.Update.{and_left, and_right}
+use Rattle.item_names.proofs.Counts.{element}
 use Rattle.naga_form.specs.Names.{argument_name, numbered_name, wgsl_names, module_names, name_in, function_name, local_name, numbered_text, NamesAreCounted}
 use Rattle.naga_form.specs.Types.{value_type}
 use Rattle.naga_form.specs.Literals.{literal_value}
 use Rattle.naga_form.specs.Shapes.{expression_shape, statements_shape, function_shape, outer_names, function_naming, binary_shape, statement_shape, given_from}
 use Rattle.naga_form.proofs.Named.{numbered_distinct, name_is, item_not_numbered, items_tell, function_item, argument_item, function_there, argument_there}
-use Rattle.naga_form.proofs.Facts.{and_left, and_right, then_some, returned_at, element}
+use Rattle.naga_form.proofs.Facts.{returned_at}
 use Rattle.std.proofs.lemmas.Option.{slice_get-map, slice_get_within}
 use Rattle.indexmap.specs.IndexMap.{keys}
 use Rattle.naga_ir.specs.declared.expression.Expression.TheVariants as expression
@@ -58,12 +61,12 @@ mapped_length f [] = refl
 mapped_length f (x ∷ xs) = ap suc (mapped_length f xs)
 
 -- ---- no front end's names
-nothing_given : (n : ℕ) (es : List ir.Expression) (h : ℕ) → get_or (given_from [] n es) h false ≡ false
+pub nothing_given : (n : ℕ) (es : List ir.Expression) (h : ℕ) → get_or (given_from [] n es) h false ≡ false
 nothing_given n [] h = refl
 nothing_given n (e ∷ es) zero = refl
 nothing_given n (e ∷ es) (suc h) = nothing_given (n + 1) es h
 
-no_keys : (ks : List ℕ) → IsTrue (length ks == 0) → ks ≡ []
+pub no_keys : (ks : List ℕ) → IsTrue (length ks == 0) → ks ≡ []
 no_keys [] e = refl
 no_keys (k ∷ ks) e = absurd (some_none (length ks) (eqb-true (length (k ∷ ks)) 0 e))
   where
@@ -217,7 +220,7 @@ module _ (m : Module) (g : ℕ) (f : ir_function.Function) (found : slice_get m.
   return_at None fit = tt
   return_at (Some h) fit =
       let r = returned_at m.types f es h (function_fits_expressions m.types f es fits) f.result refl fit in
-      ap (option_map (λ a. value_type (word_at m.types a.ty))) r.answers ∙ ap (λ w. Some (value_type w)) r.alike.second ∙ ap Some (sym (typed_as h r.alike.word r.alike.first))
+      ap (option_map (λ a. value_type (word_at m.types a.ty))) r.answers ∙ ap (λ w. Some (value_type w)) r.wanted ∙ ap Some (sym (typed_as h r.word r.typed))
 
   regular_at : (callees : List shapes.Function) (st : StatementTree) → statement_fits m.types es f.result st ≡ true → IsRegular p callees own (statement_shape st)
   regular_at callees (simple (emit first last)) fit = tt

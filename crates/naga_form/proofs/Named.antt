@@ -1,12 +1,12 @@
 -- The names of a module's items: identifiers of WGSL, no two alike, and none that a handle has.
-use Rattle.std.proofs.Common.{[], ◌≡◌, ◌≢◌, ℕ, suc, zero, Bool, true, false, not, ◌&&◌, ◌||◌, ◌<◌, ◌^◌, List, ◌∷◌, ◌++◌, map, length, take, drop, codes, decimal, replicate, nat_lt, Some, None, refl, sym, ap, subst, ◌∙◌, true≢false, nat_eq}
+use Rattle.std.proofs.Common.{[], ◌≡◌, ◌≢◌, ℕ, suc, zero, Bool, true, false, not, ◌||◌, ◌<◌, ◌^◌, List, ◌∷◌, ◌++◌, map, length, take, drop, codes, decimal, replicate, nat_lt, Some, None, refl, sym, ap, subst, ◌∙◌, true≢false, nat_eq}
 use Rattle.std.specs.Prelude.{slice_get, unwrap_or, ◌==◌}
 use Rattle.std.specs.FinSet as set
 use Rattle.std.specs.Bool.{one_answer}
 use Rattle.std.specs.Char.{is_ascii_digit, is_ascii_uppercase, is_ascii_lowercase}
 use Rattle.std.specs.List.{list_all, list_any}
 use Rattle.std.specs.Str.{bytes_eq}
-use Rattle.std.proofs.lemmas.Bool.{ltb-true}
+use Rattle.std.proofs.lemmas.Bool.{ltb-true, and_from}
 use Rattle.std.proofs.lemmas.Fmt.{decimal_injective}
 use Rattle.std.proofs.lemmas.Slice.Eq.{bytes_eq-Decides}
 use Rattle.naga_ir.specs.declared.module.Function as ir_function
@@ -24,8 +24,8 @@ use Rattle.item_names.proofs.NameKeys.{items_apart}
 use Rattle.item_names.proofs.NamedItems.{Stands, put_at, item_names_tell, function_stands, argument_stands}
 use Rattle.wgsl_text.specs.Keywords.{reserved_words, builtin_words}
 use Rattle.wgsl_text.specs.Words.{is_letter, is_word_byte, all_word_bytes, is_word_text, stands_in, is_reserved, is_builtin, IsIdentifier}
+use Rattle.shader_runs.proofs.Update.{and_left, and_right}
 use Rattle.naga_form.specs.Names.{wgsl_names, module_names, name_in, numbered_text, numbered_name, NamesAreCounted}
-use Rattle.naga_form.proofs.Facts.{and_left, and_right}
 
 -- ---- words
 letter_of : (d u l s : Bool) → (((d || u) || l) || s) ≡ true → not d ≡ true → (l || (u || s)) ≡ true
@@ -44,26 +44,16 @@ byte_of false false false false e = e
 all_bytes : (w : List ℕ) → list_all is_identifier_char w ≡ true → all_word_bytes w ≡ true
 all_bytes [] e = refl
 all_bytes (c ∷ w) e =
-    both (is_word_byte c) (all_word_bytes w) (byte_of (is_ascii_digit c) (is_ascii_uppercase c) (is_ascii_lowercase c) (c == 95) (and_left (is_identifier_char c) (list_all is_identifier_char w) e)) (all_bytes w (and_right (is_identifier_char c) (list_all is_identifier_char w) e))
-  where
-    both : (a b : Bool) → a ≡ true → b ≡ true → (a && b) ≡ true
-    both true true e f = refl
-    both true false e f = f
-    both false b e f = e
+    and_from (is_word_byte c) (all_word_bytes w) (byte_of (is_ascii_digit c) (is_ascii_uppercase c) (is_ascii_lowercase c) (c == 95) (and_left (is_identifier_char c) (list_all is_identifier_char w) e)) (all_bytes w (and_right (is_identifier_char c) (list_all is_identifier_char w) e))
 
 word_text : (w : List ℕ) → is_word w ≡ true → is_word_text w ≡ true
 word_text [] e = absurd (cc)
 word_text (c ∷ w) e =
     let chars = list_all is_identifier_char (c ∷ w) in
     let each = and_left chars (not (is_ascii_digit c)) e in
-    both (is_letter c) (all_word_bytes w)
+    and_from (is_letter c) (all_word_bytes w)
     (letter_of (is_ascii_digit c) (is_ascii_uppercase c) (is_ascii_lowercase c) (c == 95) (and_left (is_identifier_char c) (list_all is_identifier_char w) each) (and_right chars (not (is_ascii_digit c)) e))
     (all_bytes w (and_right (is_identifier_char c) (list_all is_identifier_char w) each))
-  where
-    both : (a b : Bool) → a ≡ true → b ≡ true → (a && b) ≡ true
-    both true true e f = refl
-    both true false e f = f
-    both false b e f = e
 
 -- ---- the two tables
 same_either_way : (a b : List ℕ) → bytes_eq a b ≡ bytes_eq b a

@@ -3,7 +3,7 @@ use Rattle.std.proofs.Common.{[], ◌≡◌, ℕ, suc, ◌+◌, ◌<◌, ◌^◌
 use Rattle.std.specs.Prelude.{IsTrue, slice_get, ◌==◌, if◌then◌else◌, get_or, cond}
 use Rattle.std.specs.List.{list_all}
 use Rattle.std.specs.Option.{is_some, option_map}
-use Rattle.std.proofs.lemmas.Bool.{eqb-false, ltb-true, leb-true, lt-ltb}
+use Rattle.std.proofs.lemmas.Bool.{eqb-false, ltb-true, leb-true, lt-ltb, and_from, or_right}
 use Rattle.naga_ir.specs.StatementTree.{BlockTree, no_statements, statement, emit, store, return, StatementTree, simple}
 use Rattle.naga_ir.specs.declared.expression.Expression as ir
 use Rattle.naga_enumerations.specs.declared.expression.Literal as ir_literal
@@ -22,13 +22,16 @@ use Rattle.wgsl_text.specs.Tree.{LeastInteger, Suffixed, LeastLong, TypeSpecifie
 use Rattle.wgsl_text.specs.Token.{SuffixI, SuffixLi}
 use Rattle.wgsl_text.specs.Grammar.{IsType, IsLiteral, IsExpression}
 use Rattle.wgsl_text.specs.GrammarOfLines.{IsStatement, IsStatements, IsParameter, IsResult, IsFunction, IsProgram, Each, is_reference, IsValue, IsLocal}
+use Rattle.naga_info.proofs.Options.{then_some}
+use Rattle.shader_runs.proofs.Update.{and_left, and_right}
+use Rattle.item_names.proofs.Counts.{element}
 use Rattle.naga_form.specs.Form.{parameters_form, result_form, function_form, functions_form, told_type, PlainForm, ValueForm, ReferenceForm, as_value, as_reference, own_plain, own_if, standing_plain, plain_below, plain_form, value_form, let_form, then_if, lets_form, return_line, line_form, lines_form, locals_form, written_program}
 use Rattle.naga_form.specs.Premises.{nothing_named, handles_are_counted}
 use Rattle.naga_form.specs.Names.{module_names, wgsl_names, numbered_text, numbered_name}
 use Rattle.naga_form.specs.Types.{type_names}
 use Rattle.naga_form.proofs.WrittenTypes.{is_type_at, told_is, known_spelled}
 use Rattle.naga_form.specs.Literals.{literal_form}
-use Rattle.naga_form.proofs.Facts.{and_left, and_right, then_some, element}
+use Rattle.naga_form.proofs.Facts.{further, from_start}
 use Rattle.naga_form.proofs.Named.{item_is_identifier, function_item, argument_item, function_there, argument_there}
 use Rattle.std.specs.Char.{is_ascii_digit}
 use Rattle.std.specs.Str.{bytes_eq}
@@ -69,15 +72,7 @@ literal_is _ w e = absurd (cc)
 -- ---- numbered names
 digits_are_bytes : (w : List ℕ) → list_all is_ascii_digit w ≡ true → all_word_bytes w ≡ true
 digits_are_bytes [] e = refl
-digits_are_bytes (c ∷ w) e = both (is_word_byte c) (all_word_bytes w) (behind (is_letter c) (is_ascii_digit c) (and_left (is_ascii_digit c) (list_all is_ascii_digit w) e)) (digits_are_bytes w (and_right (is_ascii_digit c) (list_all is_ascii_digit w) e))
-  where
-    both : (a b : Bool) → a ≡ true → b ≡ true → (a && b) ≡ true
-    both true b e f = f
-    both false b e f = e
-
-    behind : (a b : Bool) → b ≡ true → (a || b) ≡ true
-    behind true b e = refl
-    behind false b e = e
+digits_are_bytes (c ∷ w) e = and_from (is_word_byte c) (all_word_bytes w) (or_right (is_letter c) (is_ascii_digit c) (and_left (is_ascii_digit c) (list_all is_ascii_digit w) e)) (digits_are_bytes w (and_right (is_ascii_digit c) (list_all is_ascii_digit w) e))
 
 -- a word that begins with `_e`
 abbrev begins_numbered : List ℕ → Bool
@@ -321,11 +316,8 @@ functions_are explicit m g (f ∷ fs) (es ∷ ess) there fits unnamed few scalar
     let named_none = λ (f : ir_function.Function). length (keys f.named_expressions) == 0 in
     let counted = λ (f : ir_function.Function). nat_le (length f.expressions) (2 ^ 64) in (
       function_is m g f found es (and_left (function_fits m.types f es) (functions_fit m.types fs ess) fits) (and_left (named_none f) (list_all named_none fs) unnamed) scalars (leb-true (length f.expressions) (2 ^ 64) (and_left (counted f) (list_all counted fs) few)) explicit,
-      functions_are explicit m (g + 1) fs ess later (and_right (function_fits m.types f es) (functions_fit m.types fs ess) fits) (and_right (named_none f) (list_all named_none fs) unnamed) (and_right (counted f) (list_all counted fs) few) scalars,
+      functions_are explicit m (g + 1) fs ess (further m.functions g f fs there) (and_right (function_fits m.types f es) (functions_fit m.types fs ess) fits) (and_right (named_none f) (list_all named_none fs) unnamed) (and_right (counted f) (list_all counted fs) few) scalars,
     )
-  where
-    later : (i : ℕ) (f1 : ir_function.Function) → slice_get fs i ≡ Some f1 → slice_get m.functions ((g + 1) + i) ≡ Some f1
-    later i f1 e = let moved : g + suc i ≡ (g + 1) + i = omega arith in subst (λ h. slice_get m.functions h ≡ Some f1) moved (there (suc i) f1 e)
 
 pub is_program : (m : Module) (info : ModuleInfo) (explicit : Bool) → IsTrue (is_accepted m info) → IsTrue (nothing_named m) → IsTrue (handles_are_counted m) → IsProgram (written_program m info explicit)
 is_program m info explicit accepted unnamed few =
@@ -336,9 +328,6 @@ is_program m info explicit accepted unnamed few =
       constants = tt;
       overrides = tt;
       globals = tt;
-      functions = functions_are explicit m 0 m.functions info.functions.items from_start parts.5 unnamed few parts.1;
+      functions = functions_are explicit m 0 m.functions info.functions.items (from_start m.functions) parts.5 unnamed few parts.1;
       entry_points = tt;
     }
-  where
-    from_start : (i : ℕ) (f : ir_function.Function) → slice_get m.functions i ≡ Some f → slice_get m.functions (0 + i) ≡ Some f
-    from_start i f e = let same : i ≡ 0 + i = omega arith in subst (λ h. slice_get m.functions h ≡ Some f) same e

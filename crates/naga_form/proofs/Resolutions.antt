@@ -30,12 +30,14 @@ use Rattle.shader_runs.specs.World.{update}
 use Rattle.shader_runs.specs.Premises.{NameKey, FixedKey, NumberedKey, ArgumentName, LocalName, IsName, name_at}
 use Rattle.wgsl_text.specs.Tree.{TypeSpecifier, Statements, Parameter}
 use Rattle.wgsl_text.specs.Tree as tree
+use Rattle.naga_info.proofs.Options.{then_some}
+use Rattle.shader_runs.proofs.Update.{and_left, and_right}
+use Rattle.naga_form.proofs.Facts.{further, from_start}
 use Rattle.naga_form.specs.Names.{NamesAreCounted, module_names, argument_name, local_name, numbered_name}
 use Rattle.naga_form.specs.Types.{value_type, type_names}
 use Rattle.naga_form.specs.Shapes.{statement_shape, function_naming}
 use Rattle.naga_form.specs.Form.{PlainForm, ValueForm, ReferenceForm, as_value, as_reference, own_plain, own_if, standing_plain, plain_below, plain_form, value_form, let_form, then_if, lets_form, line_form, lines_form, locals_form, parameters_form, function_form, functions_form, written_program, told_type}
 use Rattle.naga_form.specs.Resolution.{Target, ArgumentTarget, LocalTarget, LetTarget, Scope, lookup, parameters_scope, functions_scope, expression_targets, statements_targets, locals_targets, function_targets, let_number, standing_meant, own_meant, own_meant_if, meant_below, value_meant, bound_after, bound_after_all, bound_behind, lets_meant, line_meant, lines_meant, first_values_meant, function_meant, functions_meant, ResolvesAs}
-use Rattle.naga_form.proofs.Facts.{and_left, and_right, then_some}
 use Rattle.naga_form.proofs.Fits.{mapped_length, not_given, distinct}
 
 -- ---- lookups
@@ -400,15 +402,9 @@ functions_resolve m counted explicit outer g (f ∷ fs) (es ∷ ess) there fits 
     let here : g + 0 ≡ g = omega arith in
     let found = subst (λ h. slice_get m.functions h ≡ Some f) here (there 0 f refl) in
     let one = function_resolves m g f found es fit is.0 counted explicit is.1 outer in
-    let rest = functions_resolve m counted explicit outer (g + 1) fs ess later (and_right (function_fits m.types f es) (functions_fit m.types fs ess) fits) (and_right (function_is_written f) (list_all function_is_written fs) written) in
+    let rest = functions_resolve m counted explicit outer (g + 1) fs ess (further m.functions g f fs there) (and_right (function_fits m.types f es) (functions_fit m.types fs ess) fits) (and_right (function_is_written f) (list_all function_is_written fs) written) in
     (λ i. one i ++ rest i) ∙ sym (map-append Some (function_meant (module_names m) m.types g f es) (functions_meant (module_names m) m.types (g + 1) fs ess))
-  where
-    later : (i : ℕ) (f1 : ir_function.Function) → slice_get fs i ≡ Some f1 → slice_get m.functions ((g + 1) + i) ≡ Some f1
-    later i f1 e = let moved : g + suc i ≡ (g + 1) + i = omega arith in subst (λ h. slice_get m.functions h ≡ Some f1) moved (there (suc i) f1 e)
 
 pub resolves : (m : Module) (info : ModuleInfo) (explicit : Bool) → IsTrue (is_accepted m info) → IsTrue (is_written_so_far m) → NamesAreCounted m → ResolvesAs m info (written_program m info explicit)
 resolves m info explicit accepted written counted =
-    functions_resolve m counted explicit (functions_scope 0 (written_program m info explicit).functions) 0 m.functions info.functions.items from_start (accepted_parts m info accepted).5 (functions_are_written m written)
-  where
-    from_start : (i : ℕ) (f : ir_function.Function) → slice_get m.functions i ≡ Some f → slice_get m.functions (0 + i) ≡ Some f
-    from_start i f e = let same : i ≡ 0 + i = omega arith in subst (λ h. slice_get m.functions h ≡ Some f) same e
+    functions_resolve m counted explicit (functions_scope 0 (written_program m info explicit).functions) 0 m.functions info.functions.items (from_start m.functions) (accepted_parts m info accepted).5 (functions_are_written m written)

@@ -1,9 +1,10 @@
 -- The program that is written for a module does what the module does.
-use Rattle.std.proofs.Common.{[], ◌≡◌, ℕ, suc, ◌+◌, ◌<◌, Bool, ◌&&◌, List, ◌∷◌, map, length, Some, refl, sym, ap, subst, ◌∙◌, arith, add-one, append-nil, true, false}
+use Rattle.std.proofs.Common.{[], ◌≡◌, ℕ, suc, ◌+◌, ◌<◌, Bool, List, ◌∷◌, map, length, Some, refl, sym, ap, subst, ◌∙◌, arith, add-one, append-nil}
 use Rattle.std.specs.Prelude.{IsTrue, slice_get, reverse, ◌==◌}
 use Rattle.std.specs.List.{list_all}
 use mathlib.Core.List.{reverse_aux}
 use Rattle.std.proofs.lemmas.List.{length-reverse}
+use Rattle.std.proofs.lemmas.Bool.{and_from}
 use Rattle.indexmap.proofs.ReorderLemmas.{map-reverse}
 use Rattle.naga_ir.specs.declared.module.Function as ir_function
 use Rattle.naga_ir.specs.declared.module.Module.{Module}
@@ -21,14 +22,16 @@ use Rattle.shader_runs.specs.TextRun.{module_scope, follow_call}
 use Rattle.shader_runs.specs.Form.{form_function, form_functions, form_module, functions_of}
 use Rattle.shader_runs.specs.Premises.{AllFit}
 use Rattle.shader_runs.specs.Correct.{ModuleFits}
-use Rattle.shader_runs.proofs.Calls.{runs_alike}
+use Rattle.shader_runs.proofs.Calls.{runs_alike, length-functions_of}
+use Rattle.shader_runs.proofs.Update.{and_left, and_right}
+use Rattle.item_names.proofs.Counts.{element}
 use Rattle.naga_form.specs.Form.{functions_form, written_program}
 use Rattle.naga_form.specs.Premises.{nothing_named, scope_holds}
 use Rattle.naga_form.specs.Names.{NamesAreCounted, module_names, function_name}
 use Rattle.naga_form.specs.Shapes.{function_shapes, program_shape, namings_from, namings, outer_names, function_naming}
 use Rattle.naga_form.specs.Abstraction.{function_read, program_read, is_request}
 use Rattle.naga_form.specs.Faithful.{RunsAs}
-use Rattle.naga_form.proofs.Facts.{and_left, and_right, element}
+use Rattle.naga_form.proofs.Facts.{further, from_start}
 use Rattle.naga_form.proofs.Abstractions.{function_reads}
 use Rattle.naga_form.proofs.Fits.{function_fits_shape}
 use Rattle.naga_form.proofs.Named.{items_tell, function_item, function_there}
@@ -45,10 +48,6 @@ functions_of-map (n ∷ ns) = ap (λ fs. n.function ∷ fs) (functions_of-map ns
 pub functions_of_namings : (names : NameMap) (g : ℕ) (fs : List shapes.Function) → map (λ n. n.function) (namings_from names g fs) ≡ fs
 functions_of_namings names g [] = refl
 functions_of_namings names g (f ∷ fs) = ap (λ fs. f ∷ fs) (functions_of_namings names (g + 1) fs)
-
-pub length-functions_of : (ns : List Naming) → length (functions_of ns) ≡ length ns
-length-functions_of [] = refl
-length-functions_of (n ∷ ns) = ap suc (length-functions_of ns)
 
 pub shapes_counted : (types : List Type_) (fs : List ir_function.Function) (ess : List (List ExpressionInfo)) → IsTrue (functions_fit types fs ess) → length (function_shapes types fs ess) ≡ length fs
 shapes_counted types [] [] fits = refl
@@ -69,11 +68,7 @@ behind_all test (x ∷ xs) behind all = and_right (test x) (list_all test behind
 
 all_reversed : {X : Type 0} (test : X → Bool) (xs behind : List X) → IsTrue (list_all test (reverse_aux xs behind)) → IsTrue (list_all test xs)
 all_reversed test [] behind all = refl
-all_reversed test (x ∷ xs) behind all = both (test x) (list_all test xs) (and_left (test x) (list_all test behind) (behind_all test xs (x ∷ behind) all)) (all_reversed test xs (x ∷ behind) all)
-  where
-    both : (a b : Bool) → IsTrue a → IsTrue b → IsTrue (a && b)
-    both true b e f = f
-    both false b e f = e
+all_reversed test (x ∷ xs) behind all = and_from (test x) (list_all test xs) (and_left (test x) (list_all test behind) (behind_all test xs (x ∷ behind) all)) (all_reversed test xs (x ∷ behind) all)
 
 -- the square: what is written of the module is read as its program of shapes is written
 pub program_reads : (m : Module) (info : ModuleInfo) (explicit : Bool) → program_read (written_program m info explicit) ≡ form_module (program_shape m info) (outer_names (module_names m)) (namings (module_names m) m info)
@@ -103,10 +98,7 @@ module _ (m : Module) (info : ModuleInfo) (accepted : IsTrue (is_accepted m info
       let unnamed_here = and_left (length (keys f.named_expressions) == 0) (list_all (λ f. length (keys f.named_expressions) == 0) fs) named_none in
       let scoped_here = and_left (fits_function own) (list_all fits_function (namings_from (module_names m) (g + 1) (function_shapes m.types fs ess))) scoped in
       let this = function_fits_shape m g f found es fit unnamed_here p refl refl (functions_of behind) (length-functions_of behind ∙ at) counted scoped_here in
-      all_fit (g + 1) fs ess (and_right (function_fits m.types f es) (functions_fit m.types fs ess) fits) later (and_right (length (keys f.named_expressions) == 0) (list_all (λ f. length (keys f.named_expressions) == 0) fs) named_none) (and_right (fits_function own) (list_all fits_function (namings_from (module_names m) (g + 1) (function_shapes m.types fs ess))) scoped) (own ∷ behind) (ap suc at ∙ sym (add-one g)) (this, so_far)
-    where
-      later : (i : ℕ) (f1 : ir_function.Function) → slice_get fs i ≡ Some f1 → slice_get m.functions ((g + 1) + i) ≡ Some f1
-      later i f1 e = let moved : g + suc i ≡ (g + 1) + i = omega arith in subst (λ h. slice_get m.functions h ≡ Some f1) moved (there (suc i) f1 e)
+      all_fit (g + 1) fs ess (and_right (function_fits m.types f es) (functions_fit m.types fs ess) fits) (further m.functions g f fs there) (and_right (length (keys f.named_expressions) == 0) (list_all (λ f. length (keys f.named_expressions) == 0) fs) named_none) (and_right (fits_function own) (list_all fits_function (namings_from (module_names m) (g + 1) (function_shapes m.types fs ess))) scoped) (own ∷ behind) (ap suc at ∙ sym (add-one g)) (this, so_far)
 
   fits : ModuleFits p (outer_names (module_names m)) (namings (module_names m) m info)
   fits =
@@ -121,14 +113,11 @@ module _ (m : Module) (info : ModuleInfo) (accepted : IsTrue (is_accepted m info
               let b = element m.functions k (subst (λ n. k < n) count lk) in
               one_function g k (ap (λ item. item.0) (items_tell m counted (function_item m g a.0) (function_item m k b.0) (function_there m g a.0 a.1) (function_there m k b.0 b.1) e));
         };
-        all = all_fit 0 m.functions info.functions.items parts.5 from_start unnamed (all_reversed fits_function listed [] scope) [] refl tt;
+        all = all_fit 0 m.functions info.functions.items parts.5 (from_start m.functions) unnamed (all_reversed fits_function listed [] scope) [] refl tt;
       }
     where
       one_function : (g k : ℕ) → key.Function g ≡ key.Function k → g ≡ k
       one_function g k e = cc
-
-      from_start : (i : ℕ) (f : ir_function.Function) → slice_get m.functions i ≡ Some f → slice_get m.functions (0 + i) ≡ Some f
-      from_start i f e = let same : i ≡ 0 + i = omega arith in subst (λ h. slice_get m.functions h ≡ Some f) same e
 
   runs : (explicit : Bool) → RunsAs m info (written_program m info explicit)
   runs explicit environment fit meaning typed g f found arguments typed_arguments world turns past keeps =

@@ -19,7 +19,7 @@ use Rattle.naga_info.specs.declared.info.TypeResolution.TheVariants.{Handle, Val
 use Rattle.accepted_modules.specs.Accepted.{is_scalar_type, function_fits}
 use Rattle.naga_info.specs.Resolution.{inner_of}
 use Rattle.accepted_modules.specs.Types.{word_of_width, word_of_type, word_at, pointer_spelling, spelling, spelling_of}
-use Rattle.naga_info.proofs.Options.{map_some}
+use Rattle.naga_info.proofs.Options.{map_some, then_some, same_some}
 use Rattle.accepted_modules.proofs.Accepting.{scalar_types_word_at, function_fits_expressions, function_fits_word_at}
 use Rattle.wgsl_words.specs.Words.{scalar_word_of, space_word, space_access_word}
 use Rattle.name_keys.specs.Keys.{NameMap}
@@ -30,7 +30,7 @@ use Rattle.wgsl_text.specs.Tree.{TypeSpecifier, Named}
 use Rattle.wgsl_text.specs.Words.{is_reserved}
 use Rattle.naga_form.specs.Form.{told_type}
 use Rattle.naga_form.specs.Types.{type_form}
-use Rattle.naga_form.proofs.Facts.{then_some, expression_at}
+use Rattle.naga_form.proofs.Facts.{expression_at}
 
 -- a pointer to a local of the type with this word
 abbrev pub pointer_to : List ℕ → TypeSpecifier
@@ -75,9 +75,6 @@ u64_is = record {
   itself = record { part = record { text = refl; free = refl }; whole = refl };
   pointer = record { part = (refl, (record { text = refl; free = refl }, (record { text = refl; free = refl }, tt))); whole = refl };
 }
-
-same_some : {X : Type 0} (x y : X) → Some x ≡ Some y → x ≡ y
-same_some x y e = cc
 
 by_one : (a : Bool) (y w : List ℕ) → IsTypeWord y → (if a then Some y else None) ≡ Some w → IsTypeWord w
 by_one true y w p e = subst IsTypeWord (same_some y w e) p

@@ -1,29 +1,20 @@
 -- The tests of a word are the rule.
-use Rattle.std.proofs.Common.{◌≡◌, ℕ, get_or, List, [], ◌∷◌, ◌++◌, Bool, true, false, not, ◌&&◌, ◌==◌, refl, ap, sym, ◌∙◌}
+use Rattle.std.proofs.Common.{◌≡◌, ℕ, get_or, List, [], ◌∷◌, ◌++◌, true, false, not, ◌&&◌, ◌==◌, ap, sym, ◌∙◌}
 use Rattle.std.specs.List.{list_all, All}
 use Rattle.std.proofs.lemmas.List.Sums.{AllPass-from_list_all}
 use Rattle.std.specs.Char.{is_ascii_digit}
+use Rattle.std.proofs.lemmas.Bool.{and_parts, true≢false}
+use Rattle.std.proofs.Math.Bool.{and-false}
 use Rattle.naga_keywords.specs.Plain.{is_identifier, has_plain_end, IsPlain}
-
-and_false : (b : Bool) → (b && false) ≡ false
-and_false true = refl
-and_false false = refl
-
-both_true : (a b : Bool) → (a && b) ≡ true → (a ≡ true) × (b ≡ true)
-both_true true b e = (refl, e)
-both_true false b e = absurd (cc)
 
 refused : (front digits : List ℕ) → list_all is_ascii_digit digits ≡ true → has_plain_end (front ++ 95 ∷ digits) ≡ false
 refused [] digits h = ap (λ b. not b && has_plain_end digits) h
-refused (c ∷ front) digits h = ap (λ b. not (c == 95 && list_all is_ascii_digit (front ++ 95 ∷ digits)) && b) (refused front digits h) ∙ and_false (not (c == 95 && list_all is_ascii_digit (front ++ 95 ∷ digits)))
-
-differ : true ≡ false → ⊥
-differ e = cc
+refused (c ∷ front) digits h = ap (λ b. not (c == 95 && list_all is_ascii_digit (front ++ 95 ∷ digits)) && b) (refused front digits h) ∙ and-false (not (c == 95 && list_all is_ascii_digit (front ++ 95 ∷ digits)))
 
 pub plain_is : (word : List ℕ) → (is_identifier word && has_plain_end word) ≡ true → IsPlain word
 plain_is word h =
-    let parts = both_true (is_identifier word) (has_plain_end word) h in
-    record { identifier = parts.0; no_end = λ front digits all is. differ (sym parts.1 ∙ ap has_plain_end is ∙ refused front digits all) }
+    let parts = and_parts (is_identifier word) (has_plain_end word) h in
+    record { identifier = parts.0; no_end = λ front digits all is. true≢false (sym parts.1 ∙ ap has_plain_end is ∙ refused front digits all) }
 
 -- a table that passes the tests has the rule at each entry
 pub words_are : (words : List (List ℕ)) → list_all (λ w. is_identifier w && has_plain_end w) words ≡ true → All IsPlain words

@@ -11,14 +11,11 @@ use Rattle.std.specs.Str.{bytes_eq}
 use Rattle.std.proofs.lemmas.List.Sorted.{list_any-IsPermutation}
 use Rattle.std.proofs.lemmas.List.{take_more}
 use Rattle.std.proofs.lemmas.Map.Text.{is_eq-slice_cmp}
+use Rattle.std.proofs.lemmas.Bool.{and_parts}
 use Rattle.naga_keywords.specs.Words.{Words, same_words, same_words_itself, equal_from_same_words, alike_words}
 
 antisymmetric : set.IsAntisymmetric (slice_cmp nat_cmp)
 antisymmetric = set.slice_cmp-IsAntisymmetric set.nat_cmp-IsAntisymmetric
-
-both_true : (a b : Bool) → (a && b) ≡ true → (a ≡ true) × (b ≡ true)
-both_true true b e = (refl, e)
-both_true false b e = absurd (cc)
 
 or_true_right : (a : Bool) → (a || true) ≡ true
 or_true_right true = refl
@@ -83,7 +80,7 @@ module _ {K : Type 0} (read : K → List ℕ) where
   member_of_all : (ks others : List K) (q : List ℕ) → list_all (λ k. list_any (λ x. bytes_eq (read k) (read x)) others) ks ≡ true → list_any (λ k. bytes_eq q (read k)) ks ≡ true → list_any (λ x. bytes_eq q (read x)) others ≡ true
   member_of_all [] others q all one = absurd (cc)
   member_of_all (k ∷ ks) others q all one =
-      let parts = both_true (list_any (λ x. bytes_eq (read k) (read x)) others) (list_all (λ k. list_any (λ x. bytes_eq (read k) (read x)) others) ks) all in
+      let parts = and_parts (list_any (λ x. bytes_eq (read k) (read x)) others) (list_all (λ k. list_any (λ x. bytes_eq (read k) (read x)) others) ks) all in
       either (bytes_eq q (read k)) refl one parts.0 (member_of_all ks others q parts.1)
     where
       either : (b : Bool) → bytes_eq q (read k) ≡ b → (b || list_any (λ k. bytes_eq q (read k)) ks) ≡ true → list_any (λ x. bytes_eq (read k) (read x)) others ≡ true → (list_any (λ k. bytes_eq q (read k)) ks ≡ true → list_any (λ x. bytes_eq q (read x)) others ≡ true) → list_any (λ x. bytes_eq q (read x)) others ≡ true
@@ -94,7 +91,7 @@ module _ {K : Type 0} (read : K → List ℕ) where
   pub same_words-texts_of : (xs ys : List K) → (list_all (λ k. list_any (λ x. bytes_eq (read k) (read x)) ys) xs && list_all (λ k. list_any (λ x. bytes_eq (read k) (read x)) xs) ys) ≡ same_words (texts_of read xs) (texts_of read ys)
   same_words-texts_of xs ys =
       both_ways _ _
-      (λ all. let parts = both_true (list_all (λ k. list_any (λ x. bytes_eq (read k) (read x)) ys) xs) (list_all (λ k. list_any (λ x. bytes_eq (read k) (read x)) xs) ys) all in
+      (λ all. let parts = and_parts (list_all (λ k. list_any (λ x. bytes_eq (read k) (read x)) ys) xs) (list_all (λ k. list_any (λ x. bytes_eq (read k) (read x)) xs) ys) all in
       ap (λ b. b && set.is_subset (texts_of read ys) (texts_of read xs)) (subset xs ys parts.0) ∙ subset ys xs parts.1)
       (λ same. let equal = equal_from_same_words (texts_of read xs) (texts_of read ys) same in
       ap (λ b. b && list_all (λ k. list_any (λ x. bytes_eq (read k) (read x)) xs) ys) (every xs ys equal) ∙ every ys xs (sym equal))

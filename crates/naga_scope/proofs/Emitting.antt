@@ -50,7 +50,7 @@ cell_emitted false false u table h lt = ap handles_of (set-get_or table h Absent
 pub range_none : (i e : ℕ) → e ≤ i → from i (e - i) ≡ []
 range_none i e le = let none : e - i ≡ 0 = omega (arith, le) in ap (from i) none
 
-range_more : (i e : ℕ) → i < e → from i (e - i) ≡ i ∷ from (i + 1) (e - (i + 1))
+pub range_more : (i e : ℕ) → i < e → from i (e - i) ≡ i ∷ from (i + 1) (e - (i + 1))
 range_more i e lt =
     let more : e - i ≡ suc (e - (i + 1)) = omega (arith, lt) in
     ap (from i) more ∙ ap (λ j. i ∷ from j (e - (i + 1))) (sym (add-one i))

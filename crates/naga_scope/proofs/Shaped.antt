@@ -1,8 +1,7 @@
 -- The shapes of a function's expressions, and what is not named in it.
-use Rattle.std.proofs.Common.{◌≡◌, ◌≢◌, ℕ, zero, suc, ◌+◌, ◌==◌, ◌&&◌, ◌||◌, Bool, true, false, List, [], ◌∷◌, length, map, get_or, nat_le, Option, Some, None, refl, sym, ap, ◌∙◌}
+use Rattle.std.proofs.Common.{◌≡◌, ◌≢◌, ℕ, ◌==◌, ◌&&◌, ◌||◌, Bool, true, false, List, [], ◌∷◌, length, map, get_or, nat_le, Option, Some, None, refl, sym, ap, ◌∙◌}
 use Rattle.std.specs.Prelude.{IsTrue, slice_get}
 use Rattle.std.specs.Option.{option_map}
-use Rattle.std.proofs.lemmas.Bool.{eqb-true}
 use Rattle.std.proofs.lemmas.Option.{slice_get-map}
 use Rattle.indexmap.specs.IndexMap.{keys}
 use Rattle.naga_ir.specs.declared.expression.Expression as ir
@@ -16,19 +15,7 @@ use Rattle.shader_runs.specs.Program.{Function, operands_of, expression_of, is_g
 use Rattle.shader_runs.specs.Scope.{Standing, Handles, is_present, usable_as, usable, usable_all, is_pure, is_constant_leaf, is_emittable}
 use Rattle.naga_form.specs.Operators.{operator_form}
 use Rattle.naga_form.specs.Shapes.{binary_shape, expression_shape, given_from, function_shape}
-
--- ---- no front end's names
-nothing_given : (n : ℕ) (es : List ir.Expression) (h : ℕ) → get_or (given_from [] n es) h false ≡ false
-nothing_given n [] h = refl
-nothing_given n (e ∷ es) zero = refl
-nothing_given n (e ∷ es) (suc h) = nothing_given (n + 1) es h
-
-no_keys : (ks : List ℕ) → IsTrue (length ks == 0) → ks ≡ []
-no_keys [] e = refl
-no_keys (k ∷ ks) e = absurd (some_none (length ks) (eqb-true (length (k ∷ ks)) 0 e))
-  where
-    some_none : (n : ℕ) → suc n ≡ 0 → ⊥
-    some_none n q = cc
+use Rattle.naga_form.proofs.Fits.{nothing_given, no_keys}
 
 -- no handle of a function is named, where front ends name none
 pub not_given : (types : List Type_) (f : ir_function.Function) (es : List ExpressionInfo) (h : ℕ) → IsTrue (length (keys f.named_expressions) == 0) → is_given (function_shape types f es) h ≡ false

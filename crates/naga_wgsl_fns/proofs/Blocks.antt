@@ -18,8 +18,9 @@ use Rattle.wgsl_text.specs.Tree.{TypeSpecifier, Statements, NoStatements, Assign
 use Rattle.wgsl_text.specs.Lines.{statement_pieces, statements_pieces}
 use Rattle.wgsl_text.specs.Text.{text}
 use Rattle.wgsl_text.proofs.RowText.{then_text}
+use Rattle.naga_scope.proofs.Emitting.{range_more}
 use Rattle.naga_wgsl_fns.specs.Texts.{emitted_text}
-use Rattle.naga_wgsl_fns.proofs.Rows.{block_step, from_first, lets_first, lets_then}
+use Rattle.naga_wgsl_fns.proofs.Rows.{block_step, lets_first, lets_then}
 
 module _ (n : Naming) (told : ℕ → Option TypeSpecifier) (es : List ir.Expression) (level : ℕ) where
   -- ---- the handles of an Emit
@@ -32,7 +33,7 @@ module _ (n : Naming) (told : ℕ → Option TypeSpecifier) (es : List ir.Expres
       → lets_left (from index (last - index)) s ≡ emitted_text n told es s level h ++ lets_left (from (index + 1) (last - (index + 1))) t
   lets_step index last h s t lt at none is =
       let rest = from (index + 1) (last - (index + 1)) in
-      ap (λ (hs : List ℕ). lets_left hs s) (from_first index last lt ∙ ap (λ (k : ℕ). k ∷ rest) (sym at))
+      ap (λ (hs : List ℕ). lets_left hs s) (range_more index last lt ∙ ap (λ (k : ℕ). k ∷ rest) (sym at))
       ∙ (lets_first n told es h rest s level none
       ∙ ap (λ (u : Handles). emitted_text n told es s level h ++ lets_left rest u) (sym is))
 
@@ -41,7 +42,7 @@ module _ (n : Naming) (told : ℕ → Option TypeSpecifier) (es : List ir.Expres
       → after_emit n 0 (from index (last - index)) s ≡ after_emit n 0 (from (index + 1) (last - (index + 1))) t
   after_step index last h s t lt at none is =
       let rest = from (index + 1) (last - (index + 1)) in
-      ap (λ (hs : List ℕ). after_emit n 0 hs s) (from_first index last lt ∙ ap (λ (k : ℕ). k ∷ rest) (sym at))
+      ap (λ (hs : List ℕ). after_emit n 0 hs s) (range_more index last lt ∙ ap (λ (k : ℕ). k ∷ rest) (sym at))
       ∙ (ap (λ (k : ℕ). after_emit n k rest (after_one n 0 h s)) none
       ∙ ap (λ (u : Handles). after_emit n 0 rest u) (sym is))
 

@@ -1,27 +1,22 @@
 -- A handle's form by its operands' forms, where operands stand before it.
-use Rattle.std.proofs.Common.{◌≡◌, ℕ, zero, suc, ◌<◌, List, [], ◌∷◌, length, Option, Some, None, refl, ap, subst, arith}
+use Rattle.std.proofs.Common.{◌≡◌, ℕ, zero, suc, ◌<◌, List, length, Option, Some, None, refl, ap, subst, arith}
 use Rattle.std.specs.Prelude.{slice_get}
 use Rattle.naga_ir.specs.declared.expression.Expression as ir
 use Rattle.naga_ir.specs.declared.expression.Expression.TheVariants as expression
 use Rattle.shader_runs.specs.Program.{operands_of}
 use Rattle.shader_runs.specs.Premises.{AllBelow}
 use Rattle.shader_runs.specs.Scope.{Handles, Naming}
-use Rattle.wgsl_text.specs.Tree.{BinaryOperator, LogicalAnd, LogicalOr, Binary}
+use Rattle.wgsl_text.specs.Tree.{Binary}
 use Rattle.naga_form.specs.Operators.{operator_form}
-use Rattle.naga_form.specs.Shapes.{binary_shape, expression_shape, OperandsStandBefore}
+use Rattle.naga_form.specs.Shapes.{expression_shape, OperandsStandBefore}
 use Rattle.naga_form.specs.Form.{PlainForm, ValueForm, as_value, as_reference, own_plain, own_if, standing_plain, plain_below, plain_form}
-
--- the operands of an operator
-pub binary_operands : (o : BinaryOperator) (l r : ℕ) → operands_of (Some (binary_shape o l r)) ≡ l ∷ r ∷ []
-binary_operands LogicalAnd l r = refl
-binary_operands LogicalOr l r = refl
-binary_operands _ l r = refl
+use Rattle.naga_scope.proofs.Shaped.{operator_operands}
 
 module _ (n : Naming) (es : List ir.Expression) (before : OperandsStandBefore es) (s : Handles) where
   own_same : (a b : ℕ → PlainForm) (h : ℕ) (e : ir.Expression) → AllBelow h (operands_of (Some (expression_shape e))) → ((x : ℕ) → x < h → a x ≡ b x) → own_plain n a e ≡ own_plain n b e
   own_same a b h (expression.Load p) below same = ap (λ q. ValueForm (as_reference q)) (same p below.0)
   own_same a b h (expression.Binary op l r) below same =
-      let two = subst (AllBelow h) (binary_operands (operator_form op) l r) below in
+      let two = subst (AllBelow h) (operator_operands (operator_form op) l r) below in
       λ i. ValueForm (Binary (as_value (same l two.0 i)) (operator_form op) (as_value (same r two.1.0 i)))
   own_same a b h _ below same = refl
 

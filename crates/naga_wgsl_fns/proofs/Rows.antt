@@ -1,5 +1,5 @@
 -- The text of each row of a function, from what is written of it in turn.
-use Rattle.std.proofs.Common.{◌≡◌, ℕ, ◌+◌, ◌-◌, ◌<◌, ◌≤◌, ◌*◌, ◌==◌, zero, suc, Bool, true, false, List, [], ◌∷◌, ◌++◌, Option, None, Some, length, refl, sym, ap, ◌∙◌, arith, add-one, codes, replicate, drop, drop-cons, slice_index_or, ne_eqb, append_assoc}
+use Rattle.std.proofs.Common.{◌≡◌, ℕ, ◌+◌, ◌<◌, ◌≤◌, ◌*◌, ◌==◌, zero, suc, Bool, true, false, List, [], ◌∷◌, ◌++◌, Option, None, Some, length, refl, sym, ap, ◌∙◌, arith, add-one, codes, replicate, drop, drop-cons, slice_index_or, ne_eqb, append_assoc}
 use Rattle.std.specs.Prelude.{slice_get, cond, if◌then◌else◌}
 use Rattle.std.specs.Option.{option_map}
 use Rattle.std.proofs.lemmas.List.{append-nil, drop_all}
@@ -19,13 +19,12 @@ use Rattle.naga_info.specs.declared.info.ExpressionInfo.{ExpressionInfo}
 use Rattle.naga_back.specs.Indentation.{indentation}
 use Rattle.naga_back.specs.Operators.{operator_text}
 use Rattle.name_keys.specs.Keys.{NameMap}
-use Rattle.shader_runs.specs.Program.{binds, from}
+use Rattle.shader_runs.specs.Program.{binds}
 use Rattle.shader_runs.specs.Scope.{Handles, Naming, at_start, given_after, after_one, bound_name}
 use Rattle.naga_form.specs.Names.{argument_name}
 use Rattle.naga_form.specs.Operators.{operator_form}
 use Rattle.type_spelling.specs.Contexts.{names_of}
 use Rattle.type_spelling.specs.Trees.{Names as TypeNames}
-use Rattle.naga_form.proofs.Facts.{element}
 use Rattle.naga_form.specs.Form.{as_value, own_if, plain_form, value_form, let_form, then_if, lets_form, locals_form, parameter_form, parameters_form, result_form, function_form}
 use Rattle.wgsl_text.specs.Tree.{TypeSpecifier, Expression, Statements, NoStatements, Then, Local, BinaryOperator}
 use Rattle.wgsl_text.specs.Tree as tree
@@ -35,6 +34,7 @@ use Rattle.wgsl_text.specs.Declarations.{parameter_pieces, parameters_pieces, mo
 use Rattle.wgsl_text.specs.Reading.{type_layout}
 use Rattle.wgsl_text.specs.Text.{text}
 use Rattle.wgsl_text.proofs.RowText.{text-append, function_text, return_text, then_text, let_text, typed_let_text, assign_text, binary_text, locals_text as local_row_text, value_text}
+use Rattle.item_names.proofs.Counts.{element}
 use Rattle.naga_wgsl_fns.specs.Texts.{separator, type_text, head_text, locals_text, local_form, local_text, local_text_at, first_text, told_text, let_line, emitted_text}
 
 -- the blanks before a line
@@ -224,12 +224,3 @@ module _ (n : Naming) (told : ℕ → Option TypeSpecifier) (es : List ir.Expres
       by : (b : Bool) → text (statements_pieces (then_if b (let_line n told es s h) behind) level) ≡ cond b (text (statement_pieces (let_line n told es s h) level)) [] ++ text (statements_pieces behind level)
       by true = then_text (let_line n told es s h) behind level
       by false = refl
-
--- the handles from the first of a range on
-pub from_first : (first last : ℕ) → first < last → from first (last - first) ≡ first ∷ from (first + 1) (last - (first + 1))
-from_first first last lt =
-    let one : last - first ≡ suc (last - (first + 1)) = omega (arith, lt) in
-    ap (from first) one ∙ ap (λ k. first ∷ from k (last - (first + 1))) (sym (add-one first))
-
-pub from_none : (first last : ℕ) → last ≤ first → from first (last - first) ≡ []
-from_none first last past = let none : last - first ≡ 0 = omega (arith, past) in ap (from first) none

@@ -24,7 +24,6 @@ use Rattle.naga_form.specs.Shapes.{statement_shape, OperandsStandBefore}
 use Rattle.naga_form.proofs.Fits.{not_given, given_line, ordered_at}
 use Rattle.naga_form.specs.Form.{told_type}
 use Rattle.naga_form.specs.Types.{type_names}
-use Rattle.naga_form.proofs.Facts.{element}
 use Rattle.naga_form.proofs.WrittenTypes.{known_spelled, resolution_has_form}
 use Rattle.type_spelling.specs.Trees.{resolution_tree}
 use Rattle.wgsl_text.specs.Reading.{type_layout}
@@ -35,6 +34,7 @@ use Rattle.accepted_modules.specs.Accepted.{is_below, expected_type, local_fits,
 use Rattle.accepted_modules.specs.Part.{names_nothing}
 use Rattle.naga_info.proofs.Options.{then_some}
 use Rattle.accepted_modules.proofs.Accepting.{list_all_at, scalar_types_word_at, function_fits_signature, function_fits_locals, function_fits_block, function_fits_length, function_fits_word_at, local_fits_parts, value_fits_word, local_word_at, load_word_at, binary_at, store_fits_word, local_first_word}
+use Rattle.item_names.proofs.Counts.{element}
 use Rattle.naga_wgsl_fns.specs.Texts.{CanWrite, has_word, naming_of, resolution_text, told_text}
 
 module _ (m : Module) (names : NameMap) (g : ℕ) (f : Function) (es : List ExpressionInfo) (can : CanWrite m names g f es) where

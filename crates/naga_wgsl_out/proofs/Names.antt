@@ -16,9 +16,10 @@ use Rattle.item_names.specs.Reset.{labelled_items, key_fits, HasNamedItems}
 use Rattle.name_keys.specs.declared.key.NameKey.TheVariants as key
 use Rattle.item_names.proofs.NamedItems.{named_there, few_labels, local_stands}
 use Rattle.naga_form.specs.Names.{reserved_prefixes, wgsl_names, module_names, function_name, HasNamesOf}
-use Rattle.naga_form.proofs.Facts.{all_at, element}
+use Rattle.accepted_modules.proofs.Accepting.{list_all_at}
 use Rattle.naga_form.proofs.Fits.{local_item}
 use Rattle.naga_form.proofs.Named.{name_is, function_item, argument_item, function_there, argument_there}
+use Rattle.item_names.proofs.Counts.{element}
 use Rattle.naga_wgsl_out.specs.Refusals.{NamerIsFull, KeyIsOutOfRange, HasAllNames}
 
 module _ (m : Module) (before now : NameMap) (names : Names) (has : HasNamedItems wgsl_names before (labelled_items wgsl_names m) names now) where
@@ -42,7 +43,7 @@ module _ (m : Module) (before now : NameMap) (names : Names) (has : HasNamedItem
     numbers = λ g f found. at_most (length f.arguments.items) (λ n lt.
         let a = element f.arguments.items n lt in
         let s = argument_there m g f n a.0 found a.1 in
-        ltb-true n (2 ^ 32) (all_at (λ item. key_fits item.0) (labelled_items wgsl_names m) s.place (argument_item m g n a.0) has.keys s.there));
+        ltb-true n (2 ^ 32) (list_all_at (λ item. key_fits item.0) (labelled_items wgsl_names m) s.place (argument_item m g n a.0) has.keys s.there));
   }
     where
       at_most : (k : ℕ) → ((n : ℕ) → n < k → n < 2 ^ 32) → k ≤ 2 ^ 32

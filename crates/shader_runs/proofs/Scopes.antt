@@ -1,5 +1,6 @@
 -- The scope only grows, and the text holds a `continue` and a label where the module does.
 use Rattle.std.proofs.Common.{◌≡◌, ℕ, Bool, true, false, List, [], ◌∷◌, ◌++◌, Some, None, ◌||◌, refl, sym, ap, ap₂, ◌∙◌}
+use Rattle.std.proofs.Math.Bool.{or-false}
 use Rattle.shader_runs.specs.Value.{Bytes}
 use Rattle.shader_runs.specs.Program.{Label, Statement, Emit, Store, Block, If, Switch, Loop, Break, Continue, Return, Kill, Barrier, Act, Statements, end, then, Cases, no_case, case, Module, from, binds, holds_continue, any_continue, some_case_continues, expression_of, handle_type}
 use Rattle.shader_runs.specs.Text.{Tree, Lines}
@@ -74,12 +75,8 @@ or_assoc : (a b c : Bool) → ((a || b) || c) ≡ (a || (b || c))
 or_assoc true b c = refl
 or_assoc false b c = refl
 
-or_false : (a : Bool) → (a || false) ≡ a
-or_false true = refl
-or_false false = refl
-
 pub among_append : (x : Label) (labels : List Label) (l : Label) → among x (labels ++ l ∷ []) ≡ (among x labels || same_label x l)
-among_append x [] l = or_false (same_label x l)
+among_append x [] l = or-false (same_label x l)
 among_append x (y ∷ ys) l =
     ap (λ b. same_label x y || b) (among_append x ys l) ∙ sym (or_assoc (same_label x y) (among x ys) (same_label x l))
 

@@ -1,2 +1,1 @@
 pub mod Arounds
-pub mod PartTexts

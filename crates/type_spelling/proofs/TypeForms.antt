@@ -2,9 +2,9 @@
 use Rattle.std.proofs.Common.{◌≡◌, ℕ, zero, suc, Bool, true, false, not, ◌&&◌, ◌||◌, List, [], ◌∷◌, ◌++◌, Option, Some, None, refl, sym, ap, subst, ◌∙◌, codes, slice_get, ◌==◌}
 use Rattle.std.specs.Prelude.{if◌then◌else◌}
 use Rattle.std.specs.Str.{bytes_eq}
-use Rattle.std.specs.List.{list_all}
 use Rattle.std.specs.Option.{option_map}
 use Rattle.std.proofs.lemmas.Slice.Eq.{bytes_eq-Decides}
+use Rattle.std.proofs.lemmas.Bool.{and_from}
 use Rattle.naga_enumerations.specs.declared.image.ImageClass.{ImageClass}
 use Rattle.naga_enumerations.specs.declared.image.ImageClass.TheVariants as class
 use Rattle.naga_enumerations.specs.declared.image.ImageDimension.{ImageDimension}
@@ -22,7 +22,7 @@ use Rattle.naga_enumerations.specs.declared.types.ScalarKind.{ScalarKind}
 use Rattle.naga_enumerations.specs.declared.types.ScalarKind.TheVariants as kind
 use Rattle.naga_enumerations.specs.declared.types.VectorSize.{VectorSize}
 use Rattle.naga_enumerations.specs.declared.types.VectorSize.TheVariants.{Bi, Tri, Quad}
-use Rattle.naga_info.proofs.Options.{map_some}
+use Rattle.naga_info.proofs.Options.{map_some, same_some}
 use Rattle.naga_info.specs.declared.info.TypeResolution.{TypeResolution}
 use Rattle.naga_info.specs.declared.info.TypeResolution.TheVariants as resolution
 use Rattle.naga_ir.specs.declared.types.ArraySize.{ArraySize}
@@ -33,60 +33,26 @@ use Rattle.naga_ir.specs.declared.types.TypeInner.TheVariants as inner
 use Rattle.wgsl_text.specs.Grammar.{IsType, is_type, plain_type_words, TakesScalar, TakesSampled, TakesElements, TakesFormat, TakesRole, rule_among, type_templates}
 use Rattle.wgsl_text.specs.Tables.{scalar_words, sampled_words, depth_image_words, access_words, format_words, address_space_words, role_words, sampler_words, ray_words}
 use Rattle.wgsl_text.specs.Tree.{TypeSpecifier, Named}
-use Rattle.wgsl_text.specs.Words.{IsWord, IsIdentifier, is_word_text, is_reserved, is_builtin, stands_in}
+use Rattle.wgsl_text.specs.Words.{IsWord, IsIdentifier, is_reserved, is_builtin, stands_in}
 use Rattle.wgsl_words.specs.Words.{scalar_word, scalar_word_of, space_word, space_access_word, image_access_word, role_word, format_word, has, atomic_bit, load_bit, store_bit}
+use Rattle.wgsl_text.proofs.WordLemmas.{all_words, is_free, table_word, address_spaces_free, accesses_free}
 use Rattle.type_spelling.specs.Readable.{LengthIsWithin, InnerIsWithin, ResolutionIsWithin, AreNamed}
 use Rattle.spelling_parts.specs.Words.{vector_word, matrix_word, cooperative_word, image_word, sampler_word}
 use Rattle.type_spelling.specs.Spelling.{is_struct}
 use Rattle.type_spelling.specs.Trees.{Names, of_one, of_two, scalar_tree, value_tree, pointer_tree, pointer_tree_in, value_pointer_tree_in, array_tree, image_tree, ray_tree, inner_tree_by, found_tree_by, tree_within, type_tree, resolution_tree}
 
-both : (a b : Bool) → a ≡ true → b ≡ true → (a && b) ≡ true
-both a b p q = rw p q
-
 -- ---- words
 
--- a word of letters and digits that is not reserved
-is_free : List ℕ → Bool
-is_free w = is_word_text w && not (is_reserved w)
-
-parts_are_word : (w : List ℕ) (a b : Bool) → is_word_text w ≡ a → is_reserved w ≡ b → (a && not b) ≡ true → IsWord w
-parts_are_word w true false p q e = record { text = p; free = q }
-parts_are_word w true true p q e = absurd (cc)
-parts_are_word w false b p q e = absurd (cc)
-
-free_is_word : (w : List ℕ) → is_free w ≡ true → IsWord w
-unfolding is_free
-free_is_word w e = parts_are_word w (is_word_text w) (is_reserved w) refl refl e
-
--- what holds of each word of a table holds of a word that stands in it
-in_table : (ws : List (List ℕ)) → list_all is_free ws ≡ true → (w : List ℕ) → stands_in ws w ≡ true → IsWord w
-in_table [] all w e = absurd (cc)
-in_table (v ∷ ws) all w e = by (bytes_eq v w) refl (is_free v) refl (list_all is_free ws) refl (in_table ws)
-  where
-    by : (b : Bool) → bytes_eq v w ≡ b → (f : Bool) → is_free v ≡ f → (r : Bool) → list_all is_free ws ≡ r → (list_all is_free ws ≡ true → (w : List ℕ) → stands_in ws w ≡ true → IsWord w) → IsWord w
-    by b same false free r rest more = absurd (cc)
-    by b same true free false rest more = absurd (cc)
-    by true same true free true rest more = subst IsWord ((bytes_eq-Decides v w).0 same) (free_is_word v free)
-    by false same true free true rest more = more rest w (sym (ap (λ b. b || stands_in ws w) same) ∙ e)
-
-scalars_are_free : list_all is_free scalar_words ≡ true
-unfolding is_free is_reserved
+scalars_are_free : all_words is_free scalar_words ≡ true
+unfolding is_reserved
 scalars_are_free = refl
 
-formats_are_free : list_all is_free format_words ≡ true
-unfolding is_free is_reserved
+formats_are_free : all_words is_free format_words ≡ true
+unfolding is_reserved
 formats_are_free = refl
 
-accesses_are_free : list_all is_free access_words ≡ true
-unfolding is_free is_reserved
-accesses_are_free = refl
-
-spaces_are_free : list_all is_free address_space_words ≡ true
-unfolding is_free is_reserved
-spaces_are_free = refl
-
-plain_are_free : list_all is_free plain_type_words ≡ true
-unfolding is_free is_reserved
+plain_are_free : all_words is_free plain_type_words ≡ true
+unfolding is_reserved
 plain_are_free = refl
 
 role_is : (r : CooperativeRole) → IsWord (role_word r)
@@ -176,7 +142,7 @@ image_access_is false false z = refl
 
 -- ---- templates
 one_is : (word w : List ℕ) → rule_among type_templates word ≡ TakesScalar → stands_in scalar_words w ≡ true → IsType (of_one word (Named w))
-one_is word w rule scalar = record { part = (rw rule scalar, (in_table scalar_words scalars_are_free w scalar, tt)); whole = refl }
+one_is word w rule scalar = record { part = (rw rule scalar, (table_word scalar_words w scalars_are_free scalar, tt)); whole = refl }
 
 vector_rule : (v : VectorSize) → rule_among type_templates (vector_word v) ≡ TakesScalar
 vector_rule Bi = refl
@@ -215,7 +181,7 @@ in_front (v ∷ ws) vs w e = by (bytes_eq v w) refl (in_front ws vs w)
 
 -- a word of the types of one word
 plain_is : (w : List ℕ) → stands_in plain_type_words w ≡ true → IsType (Named w)
-plain_is w plain = record { part = in_table plain_type_words plain_are_free w plain; whole = ap (λ b. b || not (is_builtin w)) plain }
+plain_is w plain = record { part = table_word plain_type_words w plain_are_free plain; whole = ap (λ b. b || not (is_builtin w)) plain }
 
 scalar_is_plain : (w : List ℕ) → stands_in scalar_words w ≡ true → stands_in plain_type_words w ≡ true
 scalar_is_plain w scalar = in_front scalar_words (sampler_words ++ (ray_words ++ depth_image_words)) w scalar
@@ -227,9 +193,6 @@ name_is w is = record { part = is.word; whole = by (stands_in plain_type_words w
     by : (a b : Bool) → b ≡ false → (a || not b) ≡ true
     by true b e = refl
     by false b e = ap not e
-
-same_some : {X : Type 0} (x y : X) → Some x ≡ Some y → x ≡ y
-same_some x y e = cc
 
 -- ---- types that name no others
 scalar_tree_is : (s : Scalar) (t : TypeSpecifier) → scalar_tree s ≡ Some t → IsType t
@@ -254,7 +217,7 @@ cooperative_is c r l s t e =
     let w = map_some Named (scalar_word s) x.0 x.1 in
     let scalar = scalar_is_scalar s w.0 w.1 in
     subst IsType (ap (λ x. of_two (cooperative_word c r) x (Named (role_word l))) w.2 ∙ x.2)
-    (record { part = (rw (cooperative_rule c r) (both (stands_in scalar_words w.0) (stands_in role_words (role_word l)) scalar (role_fits l)), (in_table scalar_words scalars_are_free w.0 scalar, (role_is l, tt))); whole = refl })
+    (record { part = (rw (cooperative_rule c r) (and_from (stands_in scalar_words w.0) (stands_in role_words (role_word l)) scalar (role_fits l)), (table_word scalar_words w.0 scalars_are_free scalar, (role_is l, tt))); whole = refl })
 
 -- a pointer, in a space that has a word
 space_is : (a : AddressSpace) (w : List ℕ) → space_word a ≡ Some w → stands_in address_space_words w ≡ true
@@ -282,13 +245,13 @@ storage_is _ w m e f = absurd (cc)
 pointer_is : (a : AddressSpace) (w : List ℕ) → space_word a ≡ Some w → (o : Option (List ℕ)) → space_access_word a ≡ o → (x : TypeSpecifier) → IsType x → IsType (pointer_tree w o x)
 pointer_is a w at None access x is =
     let known = space_is a w at in
-    record { part = (both (stands_in address_space_words w) (is_type x) known is.whole, (in_table address_space_words spaces_are_free w known, (is.part, tt))); whole = refl }
+    record { part = (and_from (stands_in address_space_words w) (is_type x) known is.whole, (table_word address_space_words w address_spaces_free known, (is.part, tt))); whole = refl }
 pointer_is a w at (Some m) access x is =
     let known = storage_is a w m at access in
     record {
       part = (
-        both (bytes_eq (codes "storage") w) (is_type x && stands_in access_words m) ((bytes_eq-Decides (codes "storage") w).1 known.0) (both (is_type x) (stands_in access_words m) is.whole known.1),
-        (in_table address_space_words spaces_are_free w (space_is a w at), (is.part, (in_table access_words accesses_are_free m known.1, tt))),
+        and_from (bytes_eq (codes "storage") w) (is_type x && stands_in access_words m) ((bytes_eq-Decides (codes "storage") w).1 known.0) (and_from (is_type x) (stands_in access_words m) is.whole known.1),
+        (table_word address_space_words w address_spaces_free (space_is a w at), (is.part, (table_word access_words m accesses_free known.1, tt))),
       );
       whole = refl;
     }
@@ -358,7 +321,7 @@ image_tree_is dim arrayed (class.Sampled k multi) t e =
     let x = map_some (of_one word) (option_map Named (scalar_word_of k 4)) t e in
     let w = map_some Named (scalar_word_of k 4) x.0 x.1 in
     subst IsType (ap (of_one word) w.2 ∙ x.2)
-    (record { part = (rw (sampled_rule multi dim arrayed) (sampled_is_sampled k w.0 w.1), (in_table scalar_words scalars_are_free w.0 (width_is_scalar k 4 w.0 w.1), tt)); whole = refl })
+    (record { part = (rw (sampled_rule multi dim arrayed) (sampled_is_sampled k w.0 w.1), (table_word scalar_words w.0 scalars_are_free (width_is_scalar k 4 w.0 w.1), tt)); whole = refl })
 image_tree_is dim arrayed (class.Depth multi) t e =
     subst IsType (same_some (Named (image_word (codes "texture_depth_") multi dim arrayed)) t e) (plain_is (image_word (codes "texture_depth_") multi dim arrayed) (depth_is_plain multi dim arrayed))
 image_tree_is dim arrayed class.External t e = subst IsType (same_some (Named (codes "texture_external")) t e) (plain_is (codes "texture_external") refl)
@@ -367,8 +330,8 @@ image_tree_is dim arrayed (class.Storage f a) t e =
     subst IsType (same_some (of_two (image_word (codes "texture_storage_") false dim arrayed) (Named (format_word f)) (Named (image_access_word a))) t e)
     (record {
       part = (
-        rw (storage_rule dim arrayed) (both (stands_in format_words (format_word f)) (stands_in access_words (image_access_word a)) (format_is_format f) access),
-        (in_table format_words formats_are_free (format_word f) (format_is_format f), (in_table access_words accesses_are_free (image_access_word a) access, tt)),
+        rw (storage_rule dim arrayed) (and_from (stands_in format_words (format_word f)) (stands_in access_words (image_access_word a)) (format_is_format f) access),
+        (table_word format_words (format_word f) formats_are_free (format_is_format f), (table_word access_words (image_access_word a) accesses_free access, tt)),
       );
       whole = refl;
     })
@@ -391,7 +354,7 @@ module _ (n : Names) (count : ℕ) (named : AreNamed n count) where
   array_is word rule (size.Constant number) within x is = record { part = (rw rule is.whole, (is.part, (within, tt))); whole = refl }
   array_is word rule (size.Pending o) within x is =
       let name = named.overrides o within in
-      record { part = (rw rule (both (is_type x) (not (is_builtin (n.override_name o))) is.whole (ap not name.own)), (is.part, (name.word, tt))); whole = refl }
+      record { part = (rw rule (and_from (is_type x) (not (is_builtin (n.override_name o))) is.whole (ap not name.own)), (is.part, (name.word, tt))); whole = refl }
   array_is word rule size.Dynamic within x is = record { part = (rw rule is.whole, (is.part, tt)); whole = refl }
 
   array_tree_is : (word : List ℕ) → rule_among type_templates word ≡ TakesElements → (l : ArraySize) → LengthIsWithin count l → (o : Option TypeSpecifier) → ((x : TypeSpecifier) → o ≡ Some x → IsType x) → (t : TypeSpecifier) → option_map (array_tree n word l) o ≡ Some t → IsType t

@@ -2,6 +2,7 @@
 use Rattle.std.proofs.Common.{◌≡◌, ℕ, true, false, ◌||◌, List, [], ◌∷◌, ◌++◌, refl, sym, ap, subst, append_assoc}
 use Rattle.std.specs.Prelude.{Option, None, Some, IsTrue, codes}
 use Rattle.std.specs.Str.{bytes_eq}
+use Rattle.std.proofs.lemmas.Bool.{and_parts}
 use Rattle.wgsl_text.specs.Token.{Colon, Piece, Blank, KeywordVar}
 use Rattle.wgsl_text.specs.Words.{stands_in, is_reserved, IsWord}
 use Rattle.wgsl_text.specs.Tables.{address_space_words, access_words, builtin_value_words, interpolation_words, sampling_words, enable_words}
@@ -13,7 +14,7 @@ use Rattle.wgsl_text.specs.GrammarOfLines.{IsAttribute, IsAttributes, IsValue, I
 use Rattle.wgsl_text.specs.Text.{text}
 use Rattle.wgsl_text.proofs.Scans.{IsWordToken, ends_word}
 use Rattle.wgsl_text.proofs.Chain.{◌$◌}
-use Rattle.wgsl_text.proofs.WordLemmas.{both, all_words, is_free, table_word, address_spaces_free, accesses_free, builtin_values_free, interpolations_free, samplings_free, enables_free}
+use Rattle.wgsl_text.proofs.WordLemmas.{all_words, is_free, table_word, address_spaces_free, accesses_free, builtin_values_free, interpolations_free, samplings_free, enables_free}
 use Rattle.wgsl_text.proofs.Spacing.{expression_spaced, type_spaced, word_opens}
 use Rattle.wgsl_text.proofs.StatementSpacing.{Closed, none, line, gap, indent, tok, free, size, sign, angle, part, ◌then◌, stop, statements_closed}
 
@@ -182,7 +183,7 @@ var_closed (SpaceAlone a) is b =
     let w = table_word address_space_words a address_spaces_free is in
     sign (λ _. refl) $ angle (word_opens a w) $ free w (λ _. refl) $ sign (λ _. refl) $ gap b
 var_closed (SpaceAndAccess a m) is b =
-    let h = both (bytes_eq (codes "storage") a) (stands_in access_words m) is in
+    let h = and_parts (bytes_eq (codes "storage") a) (stands_in access_words m) is in
     let w = table_word (codes "storage" ∷ []) a storage_free (ap (λ c. c || false) h.0) in
     sign (λ _. refl) $ angle (word_opens a w) $ free w (λ _. refl) $ sign (λ _. refl) $ gap $ free (table_word access_words m accesses_free h.1) (λ _. refl) $ sign (λ _. refl) $ gap b
 

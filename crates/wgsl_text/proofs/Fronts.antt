@@ -4,7 +4,7 @@ use Rattle.std.specs.Prelude.{◌==◌}
 use Rattle.std.specs.Char.{is_ascii_digit}
 use Rattle.std.specs.Str.{all_ascii_digits, bytes_eq}
 use Rattle.std.specs.Str.Parse.{digits_value}
-use Rattle.std.proofs.lemmas.Bool.{false≢true}
+use Rattle.std.proofs.lemmas.Bool.{false≢true, not-true, and_parts}
 use Rattle.std.proofs.lemmas.Slice.Eq.{bytes_eq-Decides}
 use Rattle.std.proofs.Math.Seq.{take-append_seam, drop-append_seam}
 use Rattle.wgsl_text.specs.Token.{Mark, Equals, LessThan, Ampersand, Bar, Not, Minus, EqualsEquals, NotEquals, LessEquals, AndAnd, BarBar, LessLess}
@@ -12,7 +12,6 @@ use Rattle.wgsl_text.specs.Token.{Suffix, NoSuffix, Token, Fixed, Number, ZeroPo
 use Rattle.wgsl_text.specs.Words.{is_letter, is_word_byte, all_word_bytes}
 use Rattle.wgsl_text.specs.Text.{Lexeme, Takes, Skips, mark_text, suffix_text, starts_with, word_length, digits_length, word_token, word_lexeme, suffix_at, is_point_zero, is_empty, number_of, number_lexeme, one_more, minus_lexeme, sign_or, single, single_signs, sign_lexeme, lexeme, behind, scan}
 use Rattle.wgsl_text.specs.Spelling.{is_sign, Spells, SpellsWord, SpellsNumber, SpellsZeroPointZero, SpellsSign, is_blank, Begins, AtBlank, AtToken, AtForeign}
-use Rattle.wgsl_text.proofs.WordLemmas.{both}
 use Rattle.wgsl_text.proofs.Scans.{when_true, when_false, past}
 use Rattle.wgsl_text.proofs.Longest.{AtLeast, lexeme_of, longest}
 
@@ -115,14 +114,10 @@ no_more : (ds : List ℕ) → is_empty ds ≡ true → ds ≡ []
 no_more [] e = refl
 no_more (d ∷ ds) e = absurd (false≢true e)
 
-not_negative : (negative : Bool) → not negative ≡ true → negative ≡ false
-not_negative false e = refl
-not_negative true e = absurd (false≢true e)
-
 point_zero : (bytes : List ℕ) → is_point_zero bytes ≡ true → (rest : List ℕ) × (bytes ≡ 46 ∷ 48 ∷ rest)
 point_zero [] e = absurd (false≢true e)
 point_zero (b ∷ bytes) e =
-    let h = both (b == 46) (starts_with 48 bytes) e in
+    let h = and_parts (b == 46) (starts_with 48 bytes) e in
     let s = starts 48 bytes h.1 in
     (s.0, ap (λ v. v ∷ bytes) (eqb-true b 46 h.0) ∙ ap (λ v. 46 ∷ v) s.1)
 
@@ -134,11 +129,11 @@ number_of_digits negative b bytes ds rest is whole = zero_or (is_point_zero rest
 
     zero_or : (c : Bool) → (is_point_zero rest && (not negative && (b == 48 && is_empty ds))) ≡ c → NumberFront negative b bytes (cond c (Takes ZeroPointZero 2) (Takes (Number negative (digits_value 10 (b ∷ ds)) (suffix_at rest)) (length (ds ++ suffix_text (suffix_at rest)))))
     zero_or true e =
-        let h = both (is_point_zero rest) (not negative && (b == 48 && is_empty ds)) e in
-        let i = both (not negative) (b == 48 && is_empty ds) h.1 in
-        let j = both (b == 48) (is_empty ds) i.1 in
+        let h = and_parts (is_point_zero rest) (not negative && (b == 48 && is_empty ds)) e in
+        let i = and_parts (not negative) (b == 48 && is_empty ds) h.1 in
+        let j = and_parts (b == 48) (is_empty ds) i.1 in
         let p = point_zero rest h.0 in
-        PointZero (not_negative negative i.0) (eqb-true b 48 j.0) p.0 (whole ∙ (ap (λ v. v ++ rest) (no_more ds j.1) ∙ p.1)) refl
+        PointZero (not-true negative i.0) (eqb-true b 48 j.0) p.0 (whole ∙ (ap (λ v. v ++ rest) (no_more ds j.1) ∙ p.1)) refl
     zero_or false e = Digits ds s.0 (suffix_at rest) is (whole ∙ (ap (λ v. ds ++ v) s.1 ∙ sym (append_assoc ds (suffix_text (suffix_at rest)) s.0))) refl
 
 number_front : (negative : Bool) (b : ℕ) (bytes : List ℕ) → NumberFront negative b bytes (number_lexeme negative b bytes)
@@ -194,7 +189,7 @@ all_signs (m ∷ marks) = is_sign m && all_signs marks
 single_answer : (b : ℕ) (bytes : List ℕ) (marks : List Mark) → all_signs marks ≡ true → is_blank b ≡ false → Answer b bytes (single b marks)
 single_answer b bytes [] signs plain = Unknown plain refl
 single_answer b bytes (m ∷ marks) signs plain =
-    let h = both (is_sign m) (all_signs marks) signs in
+    let h = and_parts (is_sign m) (all_signs marks) signs in
     choose (bytes_eq (mark_text m) (b ∷ [])) _ _
     (λ same. Spelled [] bytes (Fixed m) refl (subst (λ v. Spells v (Fixed m)) ((bytes_eq-Decides (mark_text m) (b ∷ [])).0 same) (SpellsSign m h.0)) refl)
     (λ _. single_answer b bytes marks h.1 plain)

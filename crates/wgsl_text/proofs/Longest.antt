@@ -3,14 +3,13 @@ use Rattle.std.proofs.Common.{◌≡◌, ℕ, ◌<◌, ◌≤◌, suc, Bool, tru
 use Rattle.std.specs.Prelude.{◌==◌, ◌+◌, ⊤}
 use Rattle.std.specs.Char.{is_ascii_digit}
 use Rattle.std.specs.Str.{all_ascii_digits, bytes_eq}
-use Rattle.std.proofs.lemmas.Bool.{false≢true}
+use Rattle.std.proofs.lemmas.Bool.{false≢true, and_parts}
 use Rattle.std.proofs.lemmas.List.{append-nil, length-append}
 use Rattle.wgsl_text.specs.Token.{Mark, Equals, LessThan, Ampersand, Bar, Not, Minus, EqualsEquals, NotEquals, AndAnd, BarBar, LessLess, KeywordTrue, KeywordFalse, KeywordLet, KeywordVar, KeywordIf, KeywordElse, KeywordLoop, KeywordContinuing, KeywordBreak, KeywordContinue, KeywordSwitch, KeywordCase, KeywordDefault, KeywordReturn, KeywordDiscard, KeywordFn, KeywordStruct, KeywordConst, KeywordEnable, KeywordOverride}
 use Rattle.wgsl_text.specs.Token.{Suffix, NoSuffix, SuffixI, SuffixU, SuffixLi, SuffixLu, Token, Fixed, Word, Foreign}
 use Rattle.wgsl_text.specs.Words.{is_letter, is_word_byte, all_word_bytes, is_word_text, is_reserved}
 use Rattle.wgsl_text.specs.Text.{Lexeme, Takes, Skips, mark_text, suffix_text, starts_with, word_length, digits_length, keyword_among, keywords, word_token, word_lexeme, suffix_at, is_point_zero, is_empty, number_of, number_lexeme, one_more, minus_lexeme, sign_or, lexeme}
 use Rattle.wgsl_text.specs.Spelling.{is_sign, number_text, Spells, SpellsWord, SpellsNumber, SpellsZeroPointZero, SpellsSign}
-use Rattle.wgsl_text.proofs.WordLemmas.{both}
 use Rattle.wgsl_text.proofs.Scans.{when_true, when_false, digits_scan, digit_no_letter}
 
 -- how many bytes after its first a lexeme has
@@ -40,7 +39,7 @@ moved n e a = subst (AtLeast n) (sym e) a
 word_long : (w rest : List ℕ) → all_word_bytes w ≡ true → length w ≤ word_length (w ++ rest)
 word_long [] rest is = omega arith
 word_long (b ∷ w) rest is =
-    let h = both (is_word_byte b) (all_word_bytes w) is in
+    let h = and_parts (is_word_byte b) (all_word_bytes w) is in
     let more : length w ≤ word_length (w ++ rest) = word_long w rest h.1 in
     subst (λ v. suc (length w) ≤ v) (sym (when_true 0 h.0)) (omega arith)
 
@@ -58,7 +57,7 @@ word_known w = known_if (is_reserved w) (keyword_among keywords w) (Word w) (key
 word_at_least : (w rest : List ℕ) → is_word_text w ≡ true → AtLeast (length w) (lexeme_of (w ++ rest))
 word_at_least [] rest is = absurd (false≢true is)
 word_at_least (b ∷ w) rest is =
-    let h = both (is_letter b) (all_word_bytes w) is in
+    let h = and_parts (is_letter b) (all_word_bytes w) is in
     let more : length w ≤ word_length (w ++ rest) = word_long w rest h.1 in
     moved (suc (length w)) {l = word_lexeme b (w ++ rest)} (when_true _ h.0) (word_known (b ∷ take (word_length (w ++ rest)) (w ++ rest)), omega arith)
 
@@ -67,13 +66,13 @@ word_at_least (b ∷ w) rest is =
 digits_taken : (ds rest : List ℕ) → all_ascii_digits ds ≡ true → take (digits_length (ds ++ rest)) (ds ++ rest) ≡ ds ++ take (digits_length rest) rest
 digits_taken [] rest is = refl
 digits_taken (d ∷ ds) rest is =
-    let h = both (is_ascii_digit d) (all_ascii_digits ds) is in
+    let h = and_parts (is_ascii_digit d) (all_ascii_digits ds) is in
     ap (λ n. take n (d ∷ (ds ++ rest))) (when_true 0 h.0) ∙ ap (λ v. d ∷ v) (digits_taken ds rest h.1)
 
 digits_dropped : (ds rest : List ℕ) → all_ascii_digits ds ≡ true → drop (digits_length (ds ++ rest)) (ds ++ rest) ≡ drop (digits_length rest) rest
 digits_dropped [] rest is = refl
 digits_dropped (d ∷ ds) rest is =
-    let h = both (is_ascii_digit d) (all_ascii_digits ds) is in
+    let h = and_parts (is_ascii_digit d) (all_ascii_digits ds) is in
     ap (λ n. drop n (d ∷ (ds ++ rest))) (when_true 0 h.0) ∙ digits_dropped ds rest h.1
 
 and_last_false : (a b c d : Bool) → d ≡ false → (a && (b && (c && d))) ≡ false
@@ -115,11 +114,11 @@ one_more_at_least n Skips a = absurd a
 number_front : (negative : Bool) (ds : List ℕ) (suffix : Suffix) (rest : List ℕ) → 0 < length ds → all_ascii_digits ds ≡ true → AtLeast (length (number_text negative ds suffix)) (lexeme_of (number_text negative ds suffix ++ rest))
 number_front negative [] suffix rest some is = absurd (omega arith)
 number_front false (b ∷ ds) suffix rest some is =
-    let h = both (is_ascii_digit b) (all_ascii_digits ds) is in
+    let h = and_parts (is_ascii_digit b) (all_ascii_digits ds) is in
     subst (λ v. AtLeast (suc (length (ds ++ suffix_text suffix))) (lexeme b v)) (sym (append_assoc ds (suffix_text suffix) rest))
     (moved (suc (length (ds ++ suffix_text suffix))) {l = number_lexeme false b (ds ++ (suffix_text suffix ++ rest))} (when_false _ (digit_no_letter b h.0) ∙ when_true _ h.0) (number_at_least false b ds suffix rest h.1))
 number_front true (b ∷ ds) suffix rest some is =
-    let h = both (is_ascii_digit b) (all_ascii_digits ds) is in
+    let h = and_parts (is_ascii_digit b) (all_ascii_digits ds) is in
     let n = suc (length (ds ++ suffix_text suffix)) in
     subst (λ v. AtLeast (suc n) (minus_lexeme (b ∷ v))) (sym (append_assoc ds (suffix_text suffix) rest))
     (moved (suc n) {l = one_more (number_lexeme true b (ds ++ (suffix_text suffix ++ rest)))} (when_true _ h.0) (one_more_at_least n _ (number_at_least true b ds suffix rest h.1)))

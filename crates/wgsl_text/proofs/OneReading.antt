@@ -41,13 +41,13 @@ expression_read e r = reads_to r.tokens (expression_runs e r.form Bottom)
 pub program_read : {ts : List Token} (p : Program) → Reads ts p → read ts (Want (InProgram [] no_declarations)) ≡ Want (InProgram [] (newest_first p))
 program_read p r = reads_to r.tokens (program_runs p r.form)
 
-same_type : (a b : TypeSpecifier) (s : State) → s ≡ GotType a Bottom → s ≡ GotType b Bottom → a ≡ b
+pub same_type : (a b : TypeSpecifier) (s : State) → s ≡ GotType a Bottom → s ≡ GotType b Bottom → a ≡ b
 same_type a b s e f = cc
 
-same_expression : (a b : Expression) (s : State) → s ≡ Got a Bottom → s ≡ Got b Bottom → a ≡ b
+pub same_expression : (a b : Expression) (s : State) → s ≡ Got a Bottom → s ≡ Got b Bottom → a ≡ b
 same_expression a b s e f = cc
 
-same_program : (a b : Program) (s : State) → s ≡ Want (InProgram [] a) → s ≡ Want (InProgram [] b) → a ≡ b
+pub same_program : (a b : Program) (s : State) → s ≡ Want (InProgram [] a) → s ≡ Want (InProgram [] b) → a ≡ b
 same_program a b s e f = cc
 
 -- Two trees with the same tokens are one.

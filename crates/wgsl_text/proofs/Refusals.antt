@@ -11,7 +11,7 @@ use Rattle.wgsl_text.specs.Reading.{ReadsType, ReadsExpression, Reads}
 use Rattle.wgsl_text.specs.Refused.{Refused, IsNoExpression}
 use Rattle.wgsl_text.proofs.Machine.{State, Want, WantType, Got, GotType, Bottom, InProgram}
 use Rattle.wgsl_text.proofs.DeclarationRuns.{newest_first, newest_twice}
-use Rattle.wgsl_text.proofs.OneReading.{read, type_read, expression_read, program_read}
+use Rattle.wgsl_text.proofs.OneReading.{read, type_read, expression_read, program_read, same_type, same_expression, same_program}
 
 abbrev is_type : State → Bool
 is_type (GotType t Bottom) = true
@@ -37,25 +37,16 @@ no_program ts stops p r = false≢true (sym stops ∙ ap is_program (program_rea
 
 -- Where the machine finds a tree, no other is read.
 the_expression : (ts : List Token) (found e : Expression) → read ts (Want Bottom) ≡ Got found Bottom → ReadsExpression ts e → e ≡ found
-the_expression ts found e f r = same e found (read ts (Want Bottom)) (expression_read e r) f
-  where
-    same : (a b : Expression) (s : State) → s ≡ Got a Bottom → s ≡ Got b Bottom → a ≡ b
-    same a b s e f = cc
+the_expression ts found e f r = same_expression e found (read ts (Want Bottom)) (expression_read e r) f
 
 found_expression : (ts : List Token) (found : Expression) → read ts (Want Bottom) ≡ Got found Bottom → (ReadsExpression ts found → ⊥) → (e : Expression) → ReadsExpression ts e → ⊥
 found_expression ts found f refused e r = refused (subst (ReadsExpression ts) (the_expression ts found e f r) r)
 
 found_type : (ts : List Token) (found : TypeSpecifier) → read ts (WantType Bottom) ≡ GotType found Bottom → (ReadsType ts found → ⊥) → (t : TypeSpecifier) → ReadsType ts t → ⊥
-found_type ts found f refused t r = refused (subst (ReadsType ts) (same t found (read ts (WantType Bottom)) (type_read t r) f) r)
-  where
-    same : (a b : TypeSpecifier) (s : State) → s ≡ GotType a Bottom → s ≡ GotType b Bottom → a ≡ b
-    same a b s e f = cc
+found_type ts found f refused t r = refused (subst (ReadsType ts) (same_type t found (read ts (WantType Bottom)) (type_read t r) f) r)
 
 found_program : (ts : List Token) (found : Program) → read ts (Want (InProgram [] no_declarations)) ≡ Want (InProgram [] found) → (Reads ts (newest_first found) → ⊥) → (p : Program) → Reads ts p → ⊥
-found_program ts found f refused p r = refused (subst (Reads ts) (sym (newest_twice p) ∙ ap newest_first (same (newest_first p) found _ (program_read p r) f)) r)
-  where
-    same : (a b : Program) (s : State) → s ≡ Want (InProgram [] a) → s ≡ Want (InProgram [] b) → a ≡ b
-    same a b s e f = cc
+found_program ts found f refused p r = refused (subst (Reads ts) (sym (newest_twice p) ∙ ap newest_first (same_program (newest_first p) found _ (program_read p r) f)) r)
 
 member_of_unary : IsNoExpression (codes "-(v).x")
 unfolding is_reserved is_builtin

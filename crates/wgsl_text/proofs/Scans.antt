@@ -5,7 +5,7 @@ use Rattle.std.specs.Char.{is_ascii_digit}
 use Rattle.std.specs.Str.{all_ascii_digits}
 use Rattle.std.specs.Str.Parse.{digits_value}
 use Rattle.std.specs.Fmt.{decimal}
-use Rattle.std.proofs.lemmas.Bool.{false≢true}
+use Rattle.std.proofs.lemmas.Bool.{false≢true, and_parts, not-true}
 use Rattle.std.proofs.lemmas.Bool.Decides.{nat_tests}
 use Rattle.std.proofs.lemmas.Str.Parse.{IsNumeralModel, numerals_by_value, tells_all_ascii_digits}
 use Rattle.std.proofs.lemmas.Fmt.{digits_decimal, digits_value-decimal, decimal_nonempty}
@@ -14,7 +14,6 @@ use Rattle.wgsl_text.specs.Token.{Mark, OpenParen, CloseParen, OpenBracket, Clos
 use Rattle.wgsl_text.specs.Token.{Suffix, NoSuffix, SuffixI, SuffixU, SuffixLi, SuffixLu, Token, Fixed, Word, Number, ZeroPointZero, Foreign, Piece, TokenPiece, Blank, LineEnd, Indent}
 use Rattle.wgsl_text.specs.Words.{is_letter, is_word_byte, all_word_bytes, is_word_text, is_reserved, IsWord}
 use Rattle.wgsl_text.specs.Text.{mark_text, suffix_text, token_text, text, tokens_in, Takes, starts_with, word_length, digits_length, word_token, word_lexeme, one_more, sign_or, suffix_at, is_point_zero, is_empty, number_of, number_lexeme, lexeme, behind, scan}
-use Rattle.wgsl_text.proofs.WordLemmas.{both, not_true}
 
 both_not : (a b : Bool) → (not a && not b) ≡ true → (a ≡ false) × (b ≡ false)
 both_not false false e = (refl, refl)
@@ -122,14 +121,14 @@ word_end (b ∷ rest) e =
 word_whole : (w rest : List ℕ) → all_word_bytes w ≡ true → ends_word rest ≡ true → word_length (w ++ rest) ≡ length w
 word_whole [] rest is e = word_end rest e
 word_whole (b ∷ w) rest is e =
-    let h = both (is_word_byte b) (all_word_bytes w) is in
+    let h = and_parts (is_word_byte b) (all_word_bytes w) is in
     ap (λ c. cond c (suc (word_length (w ++ rest))) 0) h.0 ∙ ap suc (word_whole w rest h.1 e)
 
 -- any word, keywords too
 pub word_scans : (w rest : List ℕ) → is_word_text w ≡ true → ends_word rest ≡ true → scan (w ++ rest) 0 ≡ word_token w ∷ scan rest 0
 word_scans [] rest is e = absurd (false≢true is)
 word_scans (b ∷ w) rest is e =
-    let h = both (is_letter b) (all_word_bytes w) is in
+    let h = and_parts (is_letter b) (all_word_bytes w) is in
     let n = word_whole w rest h.1 e in
     let after = ap (λ k. word_token (b ∷ take k (w ++ rest)) ∷ scan (w ++ rest) k) n
     ∙ ap (λ v. word_token (b ∷ v) ∷ scan (w ++ rest) (length w)) (take-append_seam w rest)
@@ -150,7 +149,7 @@ digit_no_letter b e = grind (arith, nat_tests)
 
 digits_end : (suffix : Suffix) (rest : List ℕ) → ends_number suffix rest ≡ true → digits_length (suffix_text suffix ++ rest) ≡ 0
 digits_end NoSuffix [] e = refl
-digits_end NoSuffix (b ∷ rest) e = when_false _ (both_not (is_letter b) (is_ascii_digit b) (both _ _ e).0).1
+digits_end NoSuffix (b ∷ rest) e = when_false _ (both_not (is_letter b) (is_ascii_digit b) (and_parts _ _ e).0).1
 digits_end SuffixI rest e = refl
 digits_end SuffixU rest e = refl
 digits_end SuffixLi rest e = refl
@@ -159,19 +158,19 @@ digits_end SuffixLu rest e = refl
 digits_whole : (ds rest : List ℕ) → all_ascii_digits ds ≡ true → digits_length rest ≡ 0 → digits_length (ds ++ rest) ≡ length ds
 digits_whole [] rest is e = e
 digits_whole (b ∷ ds) rest is e =
-    let h = both (is_ascii_digit b) (all_ascii_digits ds) is in
+    let h = and_parts (is_ascii_digit b) (all_ascii_digits ds) is in
     when_true _ h.0 ∙ ap suc (digits_whole ds rest h.1 e)
 
 suffix_found : (suffix : Suffix) (rest : List ℕ) → ends_number suffix rest ≡ true → suffix_at (suffix_text suffix ++ rest) ≡ suffix
 suffix_found NoSuffix [] e = refl
-suffix_found NoSuffix (b ∷ rest) e = when_false _ (both_not (is_letter b) (is_ascii_digit b) (both _ _ e).0).0
+suffix_found NoSuffix (b ∷ rest) e = when_false _ (both_not (is_letter b) (is_ascii_digit b) (and_parts _ _ e).0).0
 suffix_found SuffixI rest e = refl
 suffix_found SuffixU rest e = refl
 suffix_found SuffixLi rest e = refl
 suffix_found SuffixLu rest e = refl
 
 no_point : (suffix : Suffix) (rest : List ℕ) → ends_number suffix rest ≡ true → is_point_zero (suffix_text suffix ++ rest) ≡ false
-no_point NoSuffix rest e = not_true _ (both _ _ e).1
+no_point NoSuffix rest e = not-true _ (and_parts _ _ e).1
 no_point SuffixI rest e = refl
 no_point SuffixU rest e = refl
 no_point SuffixLi rest e = refl
@@ -195,13 +194,13 @@ number_left ds suffix rest =
 pub number_scans : (negative : Bool) (ds : List ℕ) (suffix : Suffix) (rest : List ℕ) → 0 < length ds → all_ascii_digits ds ≡ true → ends_number suffix rest ≡ true → scan (cond negative (codes "-") [] ++ (ds ++ (suffix_text suffix ++ rest))) 0 ≡ Number negative (digits_value 10 ds) suffix ∷ scan rest 0
 number_scans negative [] suffix rest some is e = absurd (omega arith)
 number_scans false (b ∷ ds) suffix rest some is e =
-    let h = both (is_ascii_digit b) (all_ascii_digits ds) is in
+    let h = and_parts (is_ascii_digit b) (all_ascii_digits ds) is in
     let after = ds ++ (suffix_text suffix ++ rest) in
     let first : lexeme b after ≡ number_lexeme false b after = when_false _ (digit_no_letter b h.0) ∙ when_true _ h.0 in
     ap (λ l. behind l (scan after)) (first ∙ digits_scan false b ds suffix rest h.1 e)
     ∙ ap (λ ts. Number false (digits_value 10 (b ∷ ds)) suffix ∷ ts) (number_left ds suffix rest)
 number_scans true (b ∷ ds) suffix rest some is e =
-    let h = both (is_ascii_digit b) (all_ascii_digits ds) is in
+    let h = and_parts (is_ascii_digit b) (all_ascii_digits ds) is in
     let after = ds ++ (suffix_text suffix ++ rest) in
     let first : lexeme 45 (b ∷ after) ≡ one_more (number_lexeme true b after) = when_true _ h.0 in
     ap (λ l. behind l (scan (b ∷ after))) (first ∙ ap one_more (digits_scan true b ds suffix rest h.1 e))
@@ -224,7 +223,7 @@ not_next x (c ∷ rest) shut opening = not_same x c (c == x) refl shut opening
 
 minus_scans : (rest : List ℕ) → ends_minus rest ≡ true → scan (45 ∷ rest) 0 ≡ Fixed Minus ∷ scan rest 0
 minus_scans [] e = refl
-minus_scans (b ∷ rest) e = ap (λ c. behind (cond c (one_more (number_lexeme true b rest)) (Takes (Fixed Minus) 0)) (scan (b ∷ rest))) (not_true _ e)
+minus_scans (b ∷ rest) e = ap (λ c. behind (cond c (one_more (number_lexeme true b rest)) (Takes (Fixed Minus) 0)) (scan (b ∷ rest))) (not-true _ e)
 
 less_scans : (rest : List ℕ) → opens rest ≡ true → scan (60 ∷ rest) 0 ≡ Fixed LessThan ∷ scan rest 0
 less_scans rest e =

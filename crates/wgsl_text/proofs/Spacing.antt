@@ -3,7 +3,7 @@ use Rattle.std.proofs.Common.{◌≡◌, ℕ, Bool, true, false, ◌||◌, List,
 use Rattle.std.specs.Prelude.{◌==◌, ◌<◌, ◌^◌, length, codes}
 use Rattle.std.specs.Char.{is_ascii_digit}
 use Rattle.std.specs.Fmt.{decimal}
-use Rattle.std.proofs.lemmas.Bool.{false≢true}
+use Rattle.std.proofs.lemmas.Bool.{false≢true, and_parts}
 use Rattle.std.specs.Str.{all_ascii_digits}
 use Rattle.std.proofs.lemmas.Fmt.{digits_decimal, decimal_nonempty}
 use Rattle.wgsl_text.specs.Token.{OpenParen, CloseParen, Suffix, NoSuffix, SuffixI, SuffixU, SuffixLi, SuffixLu, Token, Word, Number, Piece, TokenPiece, Blank}
@@ -13,7 +13,7 @@ use Rattle.wgsl_text.specs.Pieces.{gap_if, has_gaps, binary_pieces, unary_mark, 
 use Rattle.wgsl_text.specs.Grammar.{IsPlainNumber, IsSigned, IsSuffixed, IsLiteral, IsPart, IsParts, IsCallee, IsExpression, IsArguments}
 use Rattle.wgsl_text.specs.Text.{text, suffix_text}
 use Rattle.wgsl_text.proofs.Chain.{◌$◌}
-use Rattle.wgsl_text.proofs.WordLemmas.{both, type_template, call_template, HasParts, parts_of_fit}
+use Rattle.wgsl_text.proofs.WordLemmas.{type_template, call_template, HasParts, parts_of_fit}
 use Rattle.wgsl_text.proofs.Scans.{IsToken, IsNumber, word_token_of, ends, ends_word, opens, Apart, own_digits, digit_no_letter}
 
 -- Before pieces that end a word these pieces stand apart.
@@ -62,12 +62,12 @@ opens_first {ps} qs a = record { at = λ more. ap (λ l. opens (text l)) (append
 
 pub word_opens : (w : List ℕ) → IsWord w → {ps : List Piece} → Opens (TokenPiece (Word w) ∷ ps)
 word_opens [] is = absurd (false≢true is.text)
-word_opens (b ∷ w) is = record { at = λ more. ap (λ c. c || (is_ascii_digit b || (b == 32 || (b == 33 || (b == 40 || (b == 45 || b == 126)))))) (both (is_letter b) (all_word_bytes w) is.text).0 }
+word_opens (b ∷ w) is = record { at = λ more. ap (λ c. c || (is_ascii_digit b || (b == 32 || (b == 33 || (b == 40 || (b == 45 || b == 126)))))) (and_parts (is_letter b) (all_word_bytes w) is.text).0 }
 
 digits_open : (ds rest : List ℕ) → 0 < length ds → all_ascii_digits ds ≡ true → opens (ds ++ rest) ≡ true
 digits_open [] rest some is = absurd (omega arith)
 digits_open (b ∷ ds) rest some is =
-    let h = both (is_ascii_digit b) (all_ascii_digits ds) is in
+    let h = and_parts (is_ascii_digit b) (all_ascii_digits ds) is in
     ap (λ c. c || (is_ascii_digit b || (b == 32 || (b == 33 || (b == 40 || (b == 45 || b == 126)))))) (digit_no_letter b h.0)
     ∙ ap (λ c. c || (b == 32 || (b == 33 || (b == 40 || (b == 45 || b == 126))))) h.0
 

@@ -2,25 +2,16 @@
 use Rattle.std.proofs.Common.{◌≡◌, ℕ, Bool, true, false, not, ◌&&◌, ◌||◌, List, [], ◌∷◌, refl, sym, ap, ◌∙◌, inl, inr}
 use Rattle.std.specs.Prelude.{IsTrue, ⊤, ◌⊎◌, cond}
 use Rattle.std.specs.Str.{bytes_eq}
-use Rattle.std.proofs.lemmas.Bool.{false≢true}
+use Rattle.std.proofs.lemmas.Bool.{false≢true, and_parts, not-true}
 use Rattle.std.proofs.lemmas.Slice.Eq.{bytes_eq-Decides}
 use Rattle.wgsl_text.specs.Words.{is_word_text, stands_in, is_reserved, is_builtin, IsWord}
 use Rattle.wgsl_text.specs.Tables.{address_space_words, access_words, builtin_value_words, interpolation_words, sampling_words, enable_words}
 use Rattle.wgsl_text.specs.Tree.{TypeSpecifier, Named, Template, TypeParts, NoParts}
 use Rattle.wgsl_text.specs.Grammar.{PartsRule, TakesNone, TakesScalar, TakesSampled, TakesElements, TakesPointee, TakesFormat, TakesVertexReturn, TakesRole, TakesType, rule_among, type_templates, type_taking_words, call_templates, fits, IsType, IsCallee}
 
--- Bool tests
-pub both : (a b : Bool) → (a && b) ≡ true → (a ≡ true) × (b ≡ true)
-both true b e = (refl, e)
-both false b e = absurd (false≢true e)
-
 pub either : (a b : Bool) → (a || b) ≡ true → (a ≡ true) ⊎ (b ≡ true)
 either true b e = inl refl
 either false b e = inr e
-
-pub not_true : (b : Bool) → not b ≡ true → b ≡ false
-not_true false e = refl
-not_true true e = absurd (false≢true e)
 
 -- each word passes the test
 abbrev pub all_words : (List ℕ → Bool) → List (List ℕ) → Bool
@@ -31,8 +22,8 @@ pub passes : (p : List ℕ → Bool) (words : List (List ℕ)) (w : List ℕ) �
 passes p [] w all at = absurd (false≢true at)
 passes p (v ∷ words) w all at =
     elim (either (bytes_eq v w) (stands_in words w) at) [
-      | inl same ↦ ap p (sym ((bytes_eq-Decides v w).0 same)) ∙ (both (p v) (all_words p words) all).0
-      | inr later ↦ passes p words w (both (p v) (all_words p words) all).1 later
+      | inl same ↦ ap p (sym ((bytes_eq-Decides v w).0 same)) ∙ (and_parts (p v) (all_words p words) all).0
+      | inr later ↦ passes p words w (and_parts (p v) (all_words p words) all).1 later
     ]
 
 -- a word outside the reserved ones
@@ -40,7 +31,7 @@ abbrev pub is_free : List ℕ → Bool
 is_free w = is_word_text w && not (is_reserved w)
 
 pub free_word : (w : List ℕ) → is_free w ≡ true → IsWord w
-free_word w e = let h = both (is_word_text w) (not (is_reserved w)) e in record { text = h.0; free = not_true (is_reserved w) h.1 }
+free_word w e = let h = and_parts (is_word_text w) (not (is_reserved w)) e in record { text = h.0; free = not-true (is_reserved w) h.1 }
 
 pub table_word : (words : List (List ℕ)) (w : List ℕ) → all_words is_free words ≡ true → stands_in words w ≡ true → IsWord w
 table_word words w all at = free_word w (passes is_free words w all at)
@@ -89,7 +80,7 @@ fits_none _ = refl
 row_word : (p : List ℕ → Bool) (rows : List (List (List ℕ) × PartsRule)) (w : List ℕ) (parts : TypeParts) → all_rows p rows ≡ true → IsTrue (fits (rule_among rows w) parts) → p w ≡ true
 row_word p [] w parts all fit = absurd (false≢true (sym (fits_none parts) ∙ fit))
 row_word p (row ∷ rows) w parts all fit =
-    let h = both (all_words p row.0) (all_rows p rows) all in
+    let h = and_parts (all_words p row.0) (all_rows p rows) all in
     found (stands_in row.0 w) refl h.0 (row_word p rows w parts h.1) fit
   where
     found : (b : Bool) → stands_in row.0 w ≡ b → all_words p row.0 ≡ true → (IsTrue (fits (rule_among rows w) parts) → p w ≡ true) → IsTrue (fits (cond b row.1 (rule_among rows w)) parts) → p w ≡ true
@@ -105,7 +96,7 @@ unfolding is_reserved is_builtin
 calls_are_templates = refl
 
 template_of : (w : List ℕ) → is_template w ≡ true → IsTemplateWord w
-template_of w e = let h = both (is_free w) (is_builtin w) e in record { word = free_word w h.0; builtin = h.1 }
+template_of w e = let h = and_parts (is_free w) (is_builtin w) e in record { word = free_word w h.0; builtin = h.1 }
 
 pub type_template : (w : List ℕ) (parts : TypeParts) → IsTrue (fits (rule_among type_templates w) parts) → IsTemplateWord w
 type_template w parts fit = template_of w (row_word is_template type_templates w parts types_are_templates fit)

@@ -5,10 +5,10 @@ use Rattle.name_keys.specs.Keys.{names_in}
 use Rattle.naga_scope.specs.Standings.{handles_of}
 use Rattle.shader_runs.specs.Scope.{after_emit, after_one}
 use Rattle.naga_form.specs.Types.{type_names}
+use Rattle.naga_scope.proofs.Emitting.{range_none}
 use Rattle.naga_wgsl_fns.specs.Texts.{naming_of, tells_types}
 use Rattle.wgsl_pieces.proofs.Appending.{along_start, along_more, along_stopped, along_done, appends_stopped}
 use Rattle.naga_wgsl_fns.proofs.Blocks.{lets_left, lets_step, after_step}
-use Rattle.naga_wgsl_fns.proofs.Rows.{from_none}
 use Rattle.naga_wgsl_fns.proofs.Wanted.{none_given}
 use Rattle.naga_wgsl_fns.proofs.function.FunctionText.write_emit.Goals as goal
 
@@ -60,14 +60,14 @@ returns-clause-lets g c =
     let told = told_type (tells_types self.flags) (type_names self.shader.now) self.info.now in
     let past : c.args.range.end ≤ c.loop-index.index = c.loop-index-test.false in
     along_done c.loop-index.invariant.0
-    (ap (λ (hs : List ℕ). lets_left n told self.function.now.expressions c.args.level.0 hs (handles_of c.loop-index.scope)) (from_none c.loop-index.index c.args.range.end past))
+    (ap (λ (hs : List ℕ). lets_left n told self.function.now.expressions c.args.level.0 hs (handles_of c.loop-index.scope)) (range_none c.loop-index.index c.args.range.end past))
 
 pub returns-clause-after : goal.returns-clause-after
 returns-clause-after g c =
     let self = c.args.self.now in
     let n = naming_of self.shader.now self.handle self.function.now self.info.now in
     let past : c.args.range.end ≤ c.loop-index.index = c.loop-index-test.false in
-    ap (λ (hs : List ℕ). after_emit n 0 hs (handles_of c.loop-index.scope)) (sym (from_none c.loop-index.index c.args.range.end past)) ∙ c.loop-index.invariant.1.0
+    ap (λ (hs : List ℕ). after_emit n 0 hs (handles_of c.loop-index.scope)) (sym (range_none c.loop-index.index c.args.range.end past)) ∙ c.loop-index.invariant.1.0
 
 pub returns-clause-size : goal.returns-clause-size
 returns-clause-size g c = c.loop-index.invariant.1.1

@@ -1,4 +1,4 @@
-use Rattle.spelling_parts.proofs.PartTexts.{wrote_nothing, begun_nothing}
+use Rattle.spelling_parts.proofs.Arounds.{wrote_nothing, fails_at_once}
 use Rattle.type_spelling.proofs.Empties.{no_items}
 use Rattle.spelling_parts.proofs.Arounds.{parts_then, parts_fail, parts_then_fail, begun_all}
 use Rattle.naga_words.proofs.types.rules.write_arguments.Goals as goal
@@ -19,4 +19,4 @@ pub returns-in-None-clause-written : goal.returns-in-None-clause-written
 returns-in-None-clause-written g c = rw (no_items c.args.arguments.now c.in-None.ensures.cases) (wrote_nothing _)
 
 pub returns-in-None-clause-begun : goal.returns-in-None-clause-begun
-returns-in-None-clause-begun g c = rw (no_items c.args.arguments.now c.in-None.ensures.cases) (begun_nothing _ _)
+returns-in-None-clause-begun g c = rw (no_items c.args.arguments.now c.in-None.ensures.cases) (fails_at_once _ _)
