@@ -21,6 +21,7 @@ use Rattle.item_names.proofs.NameKeys.{all_append, with_parts_all}
 use Rattle.item_names.proofs.NamedItems.{entry_point_stands, entry_argument_stands, argument_stands}
 use Rattle.item_names.proofs.ResetLemmas.{not_below, or_not_this}
 
+-- what stands in a list below its length
 pub element : {X : Type 0} (xs : List X) (n : ℕ) → n < length xs → (x : X) × (slice_get xs n ≡ Some x)
 element [] n lt = absurd (omega (arith, lt))
 element (x ∷ xs) zero lt = (x, refl)
