@@ -5,7 +5,7 @@ use Rattle.shader_runs.specs.World.{World, Meaning, Event, Environment}
 use Rattle.shader_runs.specs.Outcome.{Mistyped, Reached, Gives, Halts}
 use Rattle.shader_runs.specs.Program.{Function, function_numbered, Module}
 use Rattle.shader_runs.specs.ProgramRun.{run_call}
-use Rattle.shader_runs.specs.TextRun.{module_scope, follow_call}
+use Rattle.shader_runs.specs.TextRun.{module_scope, word_use, follow_call}
 use Rattle.shader_runs.specs.Scope.{ModuleNames, Naming}
 use Rattle.shader_runs.specs.Form.{form_module, functions_of}
 use Rattle.shader_runs.specs.Typing.{IsConsistent}
@@ -33,10 +33,11 @@ RunsAlike =
     (env : Environment) → EnvironmentFits p env →
     (m : Meaning) → IsTyped p m →
     (g : ℕ) (f : Function) → function_numbered p.functions g ≡ Some f →
-    (vs : List Value) → IsTrue (has_types f.argument_types vs) →
+    (vs : List Value) → IsTrue (has_types p.parts f.argument_types vs) →
     (w : World) (turns : ℕ) (t : List Event) →
     KeepsTypes (run_call env w m turns p.functions g vs t) →
-    follow_call (module_scope (form_module p n fs) env) w m n.is_request turns (form_module p n fs).functions (n.function g) vs t
+    let text = form_module p n fs in
+    follow_call (module_scope text env) w m (word_use text.functions n.is_request) turns text.functions (n.function g) vs t
     ≡ run_call env w m turns p.functions g vs t
 
 -- the law above isn't empty: every module whose operators are typed consistently has a typed meaning

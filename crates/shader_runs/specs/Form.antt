@@ -1,9 +1,9 @@
 -- The abstract text that is written for a module.
 use Rattle.std.specs.Prelude.{ℕ, zero, suc, Bool, true, false, List, [], ◌∷◌, ◌++◌, length, Option, Some, None}
-use Rattle.shader_runs.specs.Value.{Bytes, Selector, ValueType, PointerType, Truth}
-use Rattle.shader_runs.specs.Program.{ConstantTree, Fixed, NamedConstant, Constructed, ConstantTrees, no_constant, constant, Expression, Constant, Argument, Local, Global, Load, Operator, Access, AccessIndex, Logical, Request, Result, Action, Asked, Called, Label, Statement, Emit, Store, Block, If, Switch, Loop, Break, Continue, Return, Kill, Barrier, Act, Statements, end, then, Cases, no_case, case, Function, argument_count, expression_of, handle_type, binds, from, Module}
+use Rattle.shader_runs.specs.Value.{Bytes, Selector, MemberNamed, ValueType, PointerType, type_at, Truth}
+use Rattle.shader_runs.specs.Program.{ConstantTree, Fixed, NamedConstant, Constructed, ConstantTrees, no_constant, constant, Expression, Constant, Argument, Local, Global, Load, Operator, Access, AccessIndex, Logical, Swizzle, Request, Result, Action, Asked, Called, Label, Statement, Emit, Store, Block, If, Switch, Loop, Break, Continue, Return, Kill, Barrier, Act, Statements, end, then, Cases, no_case, case, Function, argument_count, local_pointer, expression_of, handle_type, binds, from, Module}
 use Rattle.shader_runs.specs.ProgramRun.{barrier_words}
-use Rattle.shader_runs.specs.Text.{Tree, Name, LiteralOf, Apply, Deref, AddressOf, Index, PartOf, LogicalOf, Trees, no_more, more, Line, Let, Assign, Braces, IfElse, SwitchOn, LoopOf, BreakLine, ContinueLine, ReturnLine, DiscardLine, Perform, Lines, last, before, Groups, no_group, group, Variable, TextFunction, TextModule}
+use Rattle.shader_runs.specs.Text.{Tree, Name, LiteralOf, Apply, Deref, AddressOf, Index, PartOf, LogicalOf, Trees, no_more, more, Line, Let, Assign, Braces, IfElse, SwitchOn, LoopOf, BreakLine, ContinueLine, ReturnLine, DiscardLine, Perform, Lines, last, before, Groups, no_group, group, Variable, ModuleVariable, TextFunction, TextModule}
 use Rattle.shader_runs.specs.Scope.{Standing, Named, Handles, ModuleNames, Names, Naming, bound_name, after_one, given_after, given_by, given_by_all, after, after_all, at_start}
 
 -- a plain form, a value or a reference
@@ -33,12 +33,12 @@ value_forms_then operand (x ∷ xs) tail = more (value_form (operand x)) (value_
 
 -- through a pointer an index makes a reference
 abbrev pub access_form : ValueType → (base index : Plain) → Plain
-access_form PointerType b i = AsPlace (Index (place_form b) (value_form i))
+access_form (PointerType spelling) b i = AsPlace (Index (place_form b) (value_form i))
 access_form _ b i = AsValue (Index (value_form b) (value_form i))
 
 -- through a pointer a member or an element makes a reference
 abbrev pub part_form : ValueType → Selector → Plain → Plain
-part_form PointerType x b = AsPlace (PartOf x (place_form b))
+part_form (PointerType spelling) x b = AsPlace (PartOf x (place_form b))
 part_form _ x b = AsValue (PartOf x (value_form b))
 
 abbrev mutual
@@ -53,7 +53,7 @@ abbrev mutual
 
 -- a module-level variable's name is a reference if the name stands for a pointer
 abbrev pub global_form : ValueType → Tree → Plain
-global_form PointerType e = AsPlace e
+global_form (PointerType spelling) e = AsPlace e
 global_form _ e = AsValue e
 
 -- an expression that isn't named, over its operands' forms
@@ -67,6 +67,7 @@ own_form f operand k (Some (Operator w xs)) = AsValue (Apply w (value_forms oper
 own_form f operand k (Some (Access b i)) = access_form (handle_type f.function b) (operand b) (operand i)
 own_form f operand k (Some (AccessIndex x b)) = part_form (handle_type f.function b) x (operand b)
 own_form f operand k (Some (Logical j l r)) = AsValue (LogicalOf j (value_form (operand l)) (value_form (operand r)))
+own_form f operand k (Some (Swizzle w v)) = AsValue (PartOf (MemberNamed w) (value_form (operand v)))
 own_form f operand k (Some (Request a w xs es)) = AsValue (Apply w (value_forms_then operand xs (constant_forms f.names.outer es)))
 own_form f operand k (Some Result) = AsValue (LiteralOf (Truth false))
 own_form f operand k None = AsValue (LiteralOf (Truth false))
@@ -162,7 +163,11 @@ names_from name i (suc n) = name i ∷ names_from name (suc i) n
 abbrev pub variables_from : Naming → ℕ → List (Option ℕ) → List Variable
 variables_from f i [] = []
 variables_from f i (o ∷ os) =
-    record { name = f.names.local_ i; first_value = value_if f (at_start f.function) o } ∷ variables_from f (suc i) os
+    record {
+      name = f.names.local_ i;
+      pointer = local_pointer f.function i;
+      first_value = value_if f (at_start f.function) o;
+    } ∷ variables_from f (suc i) os
 
 -- a function: its name, its parameters, its variables and its lines
 abbrev pub form_function : Naming → TextFunction
@@ -184,11 +189,21 @@ abbrev pub functions_of : List Naming → List Function
 functions_of [] = []
 functions_of (f ∷ fs) = f.function ∷ functions_of fs
 
+-- the spelling of a pointer's type; what is held and not stored has none
+abbrev pub pointer_spelling : ValueType → Bytes
+pointer_spelling (PointerType spelling) = spelling
+pointer_spelling _ = []
+
+-- the module-level variables from the index i on
+abbrev pub globals_from : (ℕ → Bytes) → ℕ → List ValueType → List ModuleVariable
+globals_from name i [] = []
+globals_from name i (k ∷ ks) = record { name = name i; pointer = pointer_spelling k } ∷ globals_from name (suc i) ks
+
 -- a module, whose functions have these names
 abbrev pub form_module : Module → ModuleNames → List Naming → TextModule
 form_module p n fs =
     record {
       constants = names_from n.constant 0 (length p.constant_types);
-      globals = names_from n.global 0 (length p.global_types);
+      globals = globals_from n.global 0 p.global_types;
       functions = form_functions fs;
     }

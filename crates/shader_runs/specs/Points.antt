@@ -5,7 +5,7 @@ use Rattle.shader_runs.specs.World.{Event, entries, World, Meaning, Environment}
 use Rattle.shader_runs.specs.Outcome.{Done, Gives}
 use Rattle.shader_runs.specs.Program.{Module}
 use Rattle.shader_runs.specs.ProgramRun.{Call, Kept, used, constants_kept, run_all, run_call}
-use Rattle.shader_runs.specs.TextRun.{IsValue, Scope, Words, value_of, with_parameters, with_variables, module_scope, follow_all, follow_call}
+use Rattle.shader_runs.specs.TextRun.{IsValue, Scope, Words, value_of, with_parameters, with_variables, word_use, module_scope, follow_all, follow_call}
 use Rattle.shader_runs.specs.Scope.{Named, Handles, ModuleNames, Naming, usable, after_all, at_start}
 use Rattle.shader_runs.specs.Form.{value_at, form_all, form_function, form_functions, form_module, functions_of}
 use Rattle.shader_runs.specs.Premises.{IsTyped, EnvironmentFits}
@@ -31,19 +31,19 @@ call_of env w m turns f fs vs t =
       calls = run_call env w m turns (functions_of fs);
     }
 
--- what words do in its text
-abbrev pub words_of : Module → ModuleNames → Environment → World → Meaning → (turns : ℕ) → List Naming → Words
-words_of p n env w m turns fs =
+-- what words do in its text, where these are all functions of the module
+abbrev pub words_of : Module → ModuleNames → (all : List Naming) → Environment → World → Meaning → (turns : ℕ) → List Naming → Words
+words_of p n all env w m turns fs =
     record {
       world = w;
       meaning = m;
-      respond = follow_call (module_scope (form_module p n fs) env) w m n.is_request turns (form_functions fs);
+      respond = follow_call (module_scope (form_module p n fs) env) w m (word_use (form_functions all) n.is_request) turns (form_functions fs);
     }
 
 -- the names that its text starts with
 abbrev pub names_of : Module → ModuleNames → Environment → Naming → List Naming → List Value → List Event → Scope
 names_of p n env f fs vs t =
-    with_parameters (form_function f).parameters vs (with_variables (form_function f).variables (entries t) 0 (module_scope (form_module p n fs) env))
+    with_variables (form_function f).variables (entries t) 0 (with_parameters (form_function f).parameters vs (module_scope (form_module p n fs) env))
 
 -- where the module's run has come to the end of a body, the text's run has come to the end of its lines, after the same events, and the two facts hold.
 -- A point behind any beginning of a body is the end of the body that is cut there
@@ -53,10 +53,10 @@ PointsAgree =
     ModuleFits p n (f ∷ fs) →
     (env : Environment) → EnvironmentFits p env →
     (m : Meaning) → IsTyped p m →
-    (vs : List Value) → IsTrue (has_types f.function.argument_types vs) →
+    (vs : List Value) → IsTrue (has_types p.parts f.function.argument_types vs) →
     (w : World) (turns : ℕ) (before_entry t : List Event) (kept : Kept) (t1 : List Event) →
     let c = call_of env w m turns f fs vs before_entry in
-    let l = words_of p n env w m turns fs in
+    let l = words_of p n (f ∷ fs) env w m turns fs in
     let start = at_start f.function in
     run_all c turns f.function.body (constants_kept f.function env m) t ≡ Done kept t1 →
     (names : Scope) × (follow_all l turns (form_all f 0 f.function.body start) (names_of p n env f fs vs before_entry) t ≡ Done names t1) × FactsHold c l f (after_all f 0 f.function.body start) kept names

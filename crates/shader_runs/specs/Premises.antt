@@ -1,8 +1,8 @@
 -- What is asked of a module, of its names, of the environment and of the meaning.
 use Rattle.std.specs.Prelude.{◌≡◌, ◌≢◌, ℕ, ◌<◌, Bool, true, false, List, [], ◌∷◌, length, Option, Some, None, ◌&&◌, IsTrue}
-use Rattle.shader_runs.specs.Value.{Bytes, ValueType, PointerType, type_at, type_of, Value, has_type, has_types, Spelled}
+use Rattle.shader_runs.specs.Value.{Bytes, same_bytes, PartTypes, ValueType, PointerType, type_at, type_of, Value, has_type, has_types, Spelled}
 use Rattle.shader_runs.specs.World.{Environment, GlobalValue, Stored, Held, Meaning}
-use Rattle.shader_runs.specs.Program.{ConstantTree, Fixed, NamedConstant, Constructed, ConstantTrees, no_constant, constant, Expression, Constant, Argument, Local, Global, Operator, Request, Result, Action, Asked, Called, Statement, Block, If, Switch, Loop, Return, Barrier, Act, Statements, end, then, Cases, no_case, case, Function, argument_count, local_count, function_numbered, expression_of, handle_type, operands_of, Module}
+use Rattle.shader_runs.specs.Program.{ConstantTree, Fixed, NamedConstant, Constructed, ConstantTrees, no_constant, constant, Expression, Constant, Argument, Local, Global, Operator, Swizzle, Request, Result, Action, Asked, Called, Statement, Block, If, Switch, Loop, Return, Barrier, Act, Statements, end, then, Cases, no_case, case, Function, argument_count, local_count, local_pointer, function_numbered, expression_of, handle_type, operands_of, Module}
 use Rattle.shader_runs.specs.ProgramRun.{combined, barrier_words}
 use Rattle.shader_runs.specs.Scope.{ModuleNames, Names, Naming, is_pure, given_by_all, fits_function}
 use Rattle.shader_runs.specs.Form.{functions_of}
@@ -50,9 +50,9 @@ IsName p f (GivenKey k) = k < given_by_all f f.body 0
 abbrev pub IsNoName : Module → Naming → Bytes → Type 0
 IsNoName p f w = (a : NameKey) → IsName p f.function a → name_at f.names a ≢ w
 
--- a word that stands for no function of the module and for no variable
+-- a word that is the name of no function of the module, earlier or later, and of no variable
 abbrev pub StandsFree : Module → Naming → Bytes → Type 0
-StandsFree p f w = ((g : ℕ) → g < f.names.earlier → f.names.outer.function g ≢ w) × IsNoName p f w
+StandsFree p f w = ((g : ℕ) → g < length p.functions → f.names.outer.function g ≢ w) × IsNoName p f w
 
 -- a word that asks for an event
 abbrev pub AsksBy : Module → Naming → Bytes → Type 0
@@ -156,7 +156,7 @@ abbrev mutual
 -- the types of a function's leaves
 abbrev mutual
   pub constant_type : Module → ConstantTree → ValueType
-  constant_type p (Fixed v) = type_of v
+  constant_type p (Fixed v) = type_of p.parts v
   constant_type p (NamedConstant i) = type_at p.constant_types i
   constant_type p (Constructed w ty es) = ty
 
@@ -175,13 +175,19 @@ abbrev mutual
   ConstantsInRange p no_constant = Unit {0}
   ConstantsInRange p (constant e es) = ConstantInRange p e × ConstantsInRange p es
 
--- a leaf has the type of its item
+-- a value that is no pointer
+abbrev pub IsNoPointer : ValueType → Type 0
+IsNoPointer (PointerType spelling) = ⊥
+IsNoPointer _ = Unit {0}
+
+-- a leaf has the type of its item; and what is swizzled is a vector, and no pointer to one
 abbrev pub LeafFits : Module → Function → ValueType → Option Expression → Type 0
 LeafFits p f k (Some (Constant e)) = ConstantInRange p e × (k ≡ constant_type p e)
 LeafFits p f k (Some (Argument i)) = k ≡ type_at f.argument_types i
-LeafFits p f k (Some (Local i)) = k ≡ PointerType
+LeafFits p f k (Some (Local i)) = k ≡ PointerType (local_pointer f i)
 LeafFits p f k (Some (Global i)) = (i < length p.global_types) × (k ≡ type_at p.global_types i)
 LeafFits p f k (Some (Request a w xs es)) = ConstantsInRange p es
+LeafFits p f k (Some (Swizzle w v)) = IsNoPointer (handle_type f v)
 LeafFits p f k _ = Unit {0}
 
 abbrev mutual
@@ -190,7 +196,7 @@ abbrev mutual
   ConstantTyped p m (Fixed v) = Unit {0}
   ConstantTyped p m (NamedConstant i) = Unit {0}
   ConstantTyped p m (Constructed w ty es) =
-      ((vs : List Value) → IsTrue (has_types (constant_types_of p es) vs) → IsTrue (has_type ty (m (Spelled w) vs))) × ConstantsTyped p m es
+      ((vs : List Value) → IsTrue (has_types p.parts (constant_types_of p es) vs) → IsTrue (has_type p.parts ty (m (Spelled w) vs))) × ConstantsTyped p m es
 
   pub ConstantsTyped : Module → Meaning → ConstantTrees → Type 0
   ConstantsTyped p m no_constant = Unit {0}
@@ -205,7 +211,7 @@ LeafTyped p m _ = Unit {0}
 -- each operator of a function gives a value of its handle's type whenever its operands have theirs
 pub record IsTypedIn (p : Module) (m : Meaning) (f : Function) : Type 0 where
   pub constants : (h : ℕ) → LeafTyped p m (expression_of f h)
-  pub operators : (h : ℕ) → IsTrue (is_pure (expression_of f h)) → (vs : List Value) → IsTrue (has_types (handle_types f (operands_of (expression_of f h))) vs) → (v : Value) × (combined m (expression_of f h) vs ≡ Some v) × IsTrue (has_type (handle_type f h) v)
+  pub operators : (h : ℕ) → IsTrue (is_pure (expression_of f h)) → (vs : List Value) → IsTrue (has_types p.parts (handle_types f (operands_of (expression_of f h))) vs) → (v : Value) × (combined m (expression_of f h) vs ≡ Some v) × IsTrue (has_type p.parts (handle_type f h) v)
 
 -- the operators of each function
 abbrev pub AllTypedIn : Module → Meaning → List Function → Type 0
@@ -238,23 +244,24 @@ AllFit p n [] = Unit {0}
 AllFit p n (f ∷ fs) = FunctionFits p n (functions_of fs) f × AllFit p n fs
 
 -- what the variables' names stand for
-abbrev pub global_has_type : ValueType → GlobalValue → Bool
-global_has_type PointerType Stored = true
-global_has_type PointerType (Held v) = false
-global_has_type t Stored = false
-global_has_type t (Held v) = has_type t v
+abbrev pub global_has_type : PartTypes → ValueType → GlobalValue → Bool
+global_has_type parts (PointerType spelling) (Stored pointer) = same_bytes spelling pointer
+global_has_type parts (PointerType spelling) (Held v) = false
+global_has_type parts t (Stored pointer) = false
+global_has_type parts t (Held v) = has_type parts t v
 
 -- as many variables as types, each as its type says
-abbrev pub globals_have_types : List ValueType → List GlobalValue → Bool
-globals_have_types [] [] = true
-globals_have_types [] (g ∷ gs) = false
-globals_have_types (t ∷ ts) [] = false
-globals_have_types (t ∷ ts) (g ∷ gs) = global_has_type t g && globals_have_types ts gs
+abbrev pub globals_have_types : PartTypes → List ValueType → List GlobalValue → Bool
+globals_have_types parts [] [] = true
+globals_have_types parts [] (g ∷ gs) = false
+globals_have_types parts (t ∷ ts) [] = false
+globals_have_types parts (t ∷ ts) (g ∷ gs) = global_has_type parts t g && globals_have_types parts ts gs
 
--- the constants, overrides and variables have their types
+-- the constants, overrides and variables have their types, and types have the module's parts
 pub record EnvironmentFits (p : Module) (env : Environment) : Type 0 where
-  pub constants : IsTrue (has_types p.constant_types env.constants)
-  pub globals : IsTrue (globals_have_types p.global_types env.globals)
+  pub parts : env.parts ≡ p.parts
+  pub constants : IsTrue (has_types p.parts p.constant_types env.constants)
+  pub globals : IsTrue (globals_have_types p.parts p.global_types env.globals)
 
 -- no two items of a module have one name
 pub record ModuleNamesAreDistinct (p : Module) (n : ModuleNames) : Type 0 where

@@ -1,6 +1,6 @@
 -- A module as shapes: expressions in a list, statements that name them by their index.
 use Rattle.std.specs.Prelude.{ℕ, zero, suc, ℤ, Bool, true, false, cond, ◌-◌, ◌^◌, List, [], ◌∷◌, length, Option, Some, None, ◌||◌, nat_eq, nat_le, get_or, slice_get}
-use Rattle.shader_runs.specs.Value.{Bytes, Selector, Value, ValueType, type_at, ShortCircuit}
+use Rattle.shader_runs.specs.Value.{Bytes, PartTypes, Selector, Value, ValueType, type_at, ShortCircuit}
 
 mutual
   -- an expression over constants alone that no handle of the function names inside: a literal, a named constant or override,
@@ -29,6 +29,7 @@ pub data Expression : Type 0 where
   Operator : (word : Bytes) → (operands : List ℕ) → Expression
   Access : (base index : ℕ) → Expression
   AccessIndex : Selector → (base : ℕ) → Expression
+  Swizzle : (letters : Bytes) → (vector : ℕ) → Expression
   Logical : ShortCircuit → (left right : ℕ) → Expression
   Request : Asking → (word : Bytes) → (operands : List ℕ) → (constants : ConstantTrees) → Expression
   Result : Expression
@@ -74,11 +75,13 @@ mutual
     no_case : Cases
     case : Label → Statements → (falls_through : Bool) → Cases → Cases
 
--- types, counts and given names are by handle, first values are the initialisers of the locals
+-- types, counts and given names are by handle, first values are the initialisers of the locals, and local pointers the spellings
+-- of pointers to these
 pub record Function : Type 0 where
   pub argument_types : List ValueType
   pub result : Option ValueType
   pub first_values : List (Option ℕ)
+  pub local_pointers : List Bytes
   pub expressions : List Expression
   pub types : List ValueType
   pub counts : List ℕ
@@ -92,6 +95,10 @@ argument_count f = length f.argument_types
 -- how many locals it has
 abbrev pub local_count : Function → ℕ
 local_count f = length f.first_values
+
+-- the spelling of a pointer to a local
+abbrev pub local_pointer : Function → ℕ → Bytes
+local_pointer f i = get_or f.local_pointers i []
 
 -- the function of this number, that of the functions behind it
 abbrev pub function_numbered : List Function → ℕ → Option Function
@@ -112,6 +119,7 @@ operands_of (Some (Load p)) = p ∷ []
 operands_of (Some (Operator w xs)) = xs
 operands_of (Some (Access b i)) = b ∷ i ∷ []
 operands_of (Some (AccessIndex x b)) = b ∷ []
+operands_of (Some (Swizzle w v)) = v ∷ []
 operands_of (Some (Logical j l r)) = l ∷ r ∷ []
 operands_of (Some (Request a w xs es)) = xs
 operands_of _ = []
@@ -139,6 +147,7 @@ binds_as f h (Some (Load p)) = is_counted f 1 h
 binds_as f h (Some (Request a w xs es)) = is_asked f h a
 binds_as f h (Some (Operator w xs)) = is_counted f 2 h
 binds_as f h (Some (Logical j l r)) = is_counted f 2 h
+binds_as f h (Some (Swizzle w v)) = is_counted f 2 h
 binds_as f h (Some (Access b i)) = is_counted f greatest_count h
 binds_as f h (Some (AccessIndex x b)) = is_counted f greatest_count h
 binds_as f h _ = false
@@ -176,9 +185,10 @@ abbrev mutual
   some_case_continues no_case = false
   some_case_continues (case l b falls cs) = any_continue b || some_case_continues cs
 
--- a module: the types of its named constants and overrides and of what its variables' names stand for,
--- and its functions, then its entry points, in their order, the last one first
+-- a module: the types of its named constants and overrides and of what its variables' names stand for, how pointers to parts
+-- of its types are spelled, and its functions, then its entry points, in their order, the last one first
 pub record Module : Type 0 where
   pub constant_types : List ValueType
   pub global_types : List ValueType
+  pub parts : PartTypes
   pub functions : List Function

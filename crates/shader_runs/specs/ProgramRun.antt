@@ -1,9 +1,9 @@
 -- A module's run by handles: an emitted expression is evaluated once, and its value kept.
 use Rattle.std.specs.Prelude.{ℕ, zero, suc, ℤ, Bool, true, false, cond, nat_eq, List, [], ◌∷◌, ◌++◌, length, Option, Some, None, ◌||◌, slice_get, codes}
-use Rattle.shader_runs.specs.Value.{Bytes, same_integer, Place, Part, Rooted, GlobalRoot, LocalRoot, At, step_of, ValueType, has_type, Selector, Value, Truth, Whole, Pointer, Opaque, Word, Spelled, PartWord, IndexWord, ShortCircuit, short_circuit_word, is_decided}
+use Rattle.shader_runs.specs.Value.{Bytes, same_integer, PartTypes, Place, Part, Rooted, GlobalRoot, LocalRoot, At, step_of, ValueType, has_type, Selector, MemberNamed, Value, Truth, Whole, Pointer, Opaque, Word, Spelled, PartWord, IndexWord, ShortCircuit, short_circuit_word, is_decided}
 use Rattle.shader_runs.specs.World.{Event, Entry, Ask, Read, Write, Discard, entries, World, Meaning, GlobalValue, Stored, Held, Environment, update}
 use Rattle.shader_runs.specs.Outcome.{Stuck, Discarded, Mistyped, Outcome, Done, Continued, Broke, Returned, Stopped, Reached, Gives, Halts, answer, Next, and_then, turn, turns, after_switch, chosen, with_integer}
-use Rattle.shader_runs.specs.Program.{ConstantTree, Fixed, NamedConstant, Constructed, ConstantTrees, no_constant, constant, Expression, Constant, Argument, Local, Global, Load, Operator, Access, AccessIndex, Logical, Request, Action, Asked, Called, BarrierBits, Label, Numbered, Default, Statement, Emit, Store, Block, If, Switch, Loop, Break, Continue, Return, Kill, Barrier, Act, Statements, end, then, Cases, no_case, case, Function, argument_count, expression_of, handle_type, operands_of, is_counted, is_asked, from}
+use Rattle.shader_runs.specs.Program.{ConstantTree, Fixed, NamedConstant, Constructed, ConstantTrees, no_constant, constant, Expression, Constant, Argument, Local, Global, Load, Operator, Access, AccessIndex, Logical, Swizzle, Request, Action, Asked, Called, BarrierBits, Label, Numbered, Default, Statement, Emit, Store, Block, If, Switch, Loop, Break, Continue, Return, Kill, Barrier, Act, Statements, end, then, Cases, no_case, case, Function, argument_count, local_pointer, expression_of, handle_type, operands_of, is_counted, is_asked, from}
 
 -- one call of a function: callees are the functions before it and calls what they do, frame is the number of entries before it
 pub record Call : Type 0 where
@@ -45,14 +45,14 @@ abbrev mutual
 -- what a module-level variable's name gives: a pointer to it, or the value itself
 abbrev pub global_value : ℕ → Option GlobalValue → Option Value
 global_value i None = None
-global_value i (Some Stored) = Some (Pointer (Rooted (GlobalRoot i)))
+global_value i (Some (Stored pointer)) = Some (Pointer (Rooted (GlobalRoot pointer i)))
 global_value i (Some (Held v)) = Some v
 
 -- what a use of a handle takes
 abbrev pub used_as : Call → Option Expression → Option Value → Option Value
 used_as c (Some (Constant e)) kept = constant_value c.environment c.meaning e
 used_as c (Some (Argument i)) kept = slice_get c.arguments i
-used_as c (Some (Local i)) kept = Some (Pointer (Rooted (LocalRoot c.frame i)))
+used_as c (Some (Local i)) kept = Some (Pointer (Rooted (LocalRoot (local_pointer c.function i) c.frame i)))
 used_as c (Some (Global i)) kept = global_value i (slice_get c.environment.globals i)
 used_as c None kept = None
 used_as c _ kept = kept
@@ -92,6 +92,10 @@ abbrev pub part_value : Meaning → Selector → Value → Option Value
 part_value m x (Pointer p) = Some (Pointer (Part p (step_of x)))
 part_value m x v = Some (m (PartWord x) (v ∷ []))
 
+-- the components of a vector by their letters
+abbrev pub swizzle_value : Meaning → Bytes → Value → Option Value
+swizzle_value m letters v = Some (m (PartWord (MemberNamed letters)) (v ∷ []))
+
 -- whether the left side's value decides
 abbrev pub decides : ShortCircuit → Value → Bool
 decides j (Truth a) = is_decided j a
@@ -114,6 +118,7 @@ combined m (Some (Operator w xs)) vs = Some (m (Spelled w) vs)
 combined m (Some (Access b i)) vs = on_two (index_value_of m) vs
 combined m (Some (AccessIndex x b)) vs = on_one (part_value m x) vs
 combined m (Some (Logical j l r)) vs = on_two (logical_value m j) vs
+combined m (Some (Swizzle letters v)) vs = on_one (swizzle_value m letters) vs
 combined m _ vs = None
 
 -- an operator without all its operands has no value
@@ -131,8 +136,8 @@ if_typed true t o = o
 if_typed false t o = Stopped Mistyped t
 
 -- an answer is kept, if it has its type
-abbrev pub keep_typed : ValueType → ℕ → Value → Next Kept
-keep_typed k h v kept t = if_typed (has_type k v) t (Done (update kept h (Some v)) t)
+abbrev pub keep_typed : PartTypes → ValueType → ℕ → Value → Next Kept
+keep_typed parts k h v kept t = if_typed (has_type parts k v) t (Done (update kept h (Some v)) t)
 
 -- goes on with a value, or is stuck
 abbrev pub with_used : {S : Type 0} → Option Value → List Event → (Value → Outcome S) → Outcome S
@@ -140,12 +145,12 @@ with_used None t go = Stopped Stuck t
 with_used (Some v) t go = go v
 
 -- a handle without its pointer's value gets none
-abbrev pub loaded : ValueType → World → ℕ → Option Value → Next Kept
-loaded k w h None kept t = Done (update kept h None) t
-loaded k w h (Some (Pointer p)) kept t = keep_typed k h (w t (Read p)) kept (Read p ∷ t)
-loaded k w h (Some (Truth b)) kept t = Stopped Stuck t
-loaded k w h (Some (Whole spelling z)) kept t = Stopped Stuck t
-loaded k w h (Some (Opaque spelling payload)) kept t = Stopped Stuck t
+abbrev pub loaded : PartTypes → ValueType → World → ℕ → Option Value → Next Kept
+loaded parts k w h None kept t = Done (update kept h None) t
+loaded parts k w h (Some (Pointer p)) kept t = keep_typed parts k h (w t (Read p)) kept (Read p ∷ t)
+loaded parts k w h (Some (Truth b)) kept t = Stopped Stuck t
+loaded parts k w h (Some (Whole spelling z)) kept t = Stopped Stuck t
+loaded parts k w h (Some (Opaque spelling payload)) kept t = Stopped Stuck t
 
 -- the operands' values, and those of the constants behind them
 abbrev pub joined : Option (List Value) → Option (List Value) → Option (List Value)
@@ -154,9 +159,9 @@ joined (Some vs) None = None
 joined (Some vs) (Some us) = Some (vs ++ us)
 
 -- a handle without its operands' values gets none
-abbrev pub asked : ValueType → World → ℕ → Bytes → Option (List Value) → Next Kept
-asked k w h word None kept t = Done (update kept h None) t
-asked k w h word (Some vs) kept t = keep_typed k h (w t (Ask word vs)) kept (Ask word vs ∷ t)
+abbrev pub asked : PartTypes → ValueType → World → ℕ → Bytes → Option (List Value) → Next Kept
+asked parts k w h word None kept t = Done (update kept h None) t
+asked parts k w h word (Some vs) kept t = keep_typed parts k h (w t (Ask word vs)) kept (Ask word vs ∷ t)
 
 -- what isn't written is no event
 abbrev pub if_counted : Bool → Next Kept → Next Kept
@@ -165,12 +170,13 @@ if_counted false next kept t = Done kept t
 
 -- an emitted expression: an event is asked for, an operator computed
 abbrev pub emit_as : Call → ℕ → Option Expression → Next Kept
-emit_as c h (Some (Load p)) kept t = if_counted (is_counted c.function 1 h) (loaded (handle_type c.function h) c.world h (used c kept p)) kept t
-emit_as c h (Some (Request a w xs es)) kept t = if_counted (is_asked c.function h a) (asked (handle_type c.function h) c.world h w (joined (used_all c kept xs) (constant_values c.environment c.meaning es))) kept t
+emit_as c h (Some (Load p)) kept t = if_counted (is_counted c.function 1 h) (loaded c.environment.parts (handle_type c.function h) c.world h (used c kept p)) kept t
+emit_as c h (Some (Request a w xs es)) kept t = if_counted (is_asked c.function h a) (asked c.environment.parts (handle_type c.function h) c.world h w (joined (used_all c kept xs) (constant_values c.environment c.meaning es))) kept t
 emit_as c h (Some (Operator w xs)) kept t = Done (update kept h (computed c kept (Some (Operator w xs)))) t
 emit_as c h (Some (Access b i)) kept t = Done (update kept h (computed c kept (Some (Access b i)))) t
 emit_as c h (Some (AccessIndex x b)) kept t = Done (update kept h (computed c kept (Some (AccessIndex x b)))) t
 emit_as c h (Some (Logical j l r)) kept t = Done (update kept h (computed c kept (Some (Logical j l r)))) t
+emit_as c h (Some (Swizzle w v)) kept t = Done (update kept h (computed c kept (Some (Swizzle w v)))) t
 emit_as c h _ kept t = Done kept t
 
 -- handles are emitted in order
@@ -202,13 +208,13 @@ acted c (Asked w) vs t = Gives (Some (c.world t (Ask w vs))) (Ask w vs ∷ t)
 acted c (Called g) vs t = c.calls g vs t
 
 -- an action's result is kept where one is wanted
-abbrev pub with_result : Function → Action → Option ℕ → Kept → Reached (Option Value) → Outcome Kept
-with_result f a None kept (Gives v t) = Done kept t
-with_result f a None kept (Halts x t) = Stopped x t
-with_result f a (Some h) kept (Gives None t) = Stopped Stuck t
-with_result f (Asked w) (Some h) kept (Gives (Some v) t) = keep_typed (handle_type f h) h v kept t
-with_result f (Called g) (Some h) kept (Gives (Some v) t) = Done (update kept h (Some v)) t
-with_result f a (Some h) kept (Halts x t) = Stopped x t
+abbrev pub with_result : PartTypes → Function → Action → Option ℕ → Kept → Reached (Option Value) → Outcome Kept
+with_result parts f a None kept (Gives v t) = Done kept t
+with_result parts f a None kept (Halts x t) = Stopped x t
+with_result parts f a (Some h) kept (Gives None t) = Stopped Stuck t
+with_result parts f (Asked w) (Some h) kept (Gives (Some v) t) = keep_typed parts (handle_type f h) h v kept t
+with_result parts f (Called g) (Some h) kept (Gives (Some v) t) = Done (update kept h (Some v)) t
+with_result parts f a (Some h) kept (Halts x t) = Stopped x t
 
 -- goes on with all operands' values, or is stuck
 abbrev pub with_all : {S : Type 0} → Option (List Value) → List Event → (List Value → Outcome S) → Outcome S
@@ -262,7 +268,7 @@ abbrev mutual
   run c n (Return v) kept t = returned c v kept t
   run c n Kill kept t = Stopped Discarded (Discard ∷ t)
   run c n (Barrier bits) kept t = ask_each (barrier_words bits) kept t
-  run c n (Act a xs r) kept t = with_all (used_all c kept xs) t (λ vs. with_result c.function a r kept (acted c a vs t))
+  run c n (Act a xs r) kept t = with_all (used_all c kept xs) t (λ vs. with_result c.environment.parts c.function a r kept (acted c a vs t))
 
   pub run_all : Call → ℕ → Statements → Next Kept
   run_all c n end kept t = Done kept t

@@ -1,8 +1,8 @@
 -- What is bound and what is in scope at each point of a function, and the check of both.
-use Rattle.std.specs.Prelude.{ℕ, zero, suc, Bool, true, false, cond, not, nat_lt, List, [], ◌∷◌, length, Option, Some, None, ◌&&◌, ◌||◌}
+use Rattle.std.specs.Prelude.{ℕ, zero, suc, Bool, true, false, cond, not, nat_lt, List, [], ◌∷◌, take, length, Option, Some, None, ◌&&◌, ◌||◌}
 use Rattle.shader_runs.specs.Value.{Bytes}
 use Rattle.shader_runs.specs.World.{update}
-use Rattle.shader_runs.specs.Program.{Expression, Constant, Argument, Local, Global, Load, Operator, Access, AccessIndex, Logical, Request, Statement, Emit, Store, Block, If, Switch, Loop, Return, Act, Statements, end, then, Cases, no_case, case, Function, argument_count, local_count, expression_of, operands_of, is_given, binds, from, holds_continue}
+use Rattle.shader_runs.specs.Program.{Expression, Constant, Argument, Local, Global, Load, Operator, Access, AccessIndex, Logical, Swizzle, Request, Statement, Emit, Store, Block, If, Switch, Loop, Return, Act, Statements, end, then, Cases, no_case, case, Function, argument_count, local_count, expression_of, operands_of, is_given, binds, from, holds_continue}
 
 -- a handle at a point: not emitted here; emitted where an operand was out of scope; a constant tree that wasn't emitted here;
 -- written where it is used; or bound under a name
@@ -88,6 +88,7 @@ is_pure (Some (Operator w xs)) = true
 is_pure (Some (Access b i)) = true
 is_pure (Some (AccessIndex x b)) = true
 is_pure (Some (Logical j l r)) = true
+is_pure (Some (Swizzle w v)) = true
 is_pure _ = false
 
 -- the test holds of all these handles
@@ -253,12 +254,16 @@ abbrev mutual
   fits_cases f k no_case s = true
   fits_cases f k (case l b falls cs) s = fits_all f k b s && fits_cases f (given_by_all f.function b k) cs s
 
--- the initialisers of locals are in scope at the start
-abbrev pub first_values_fit : Function → List (Option ℕ) → Bool
-first_values_fit f [] = true
-first_values_fit f (o ∷ os) = usable_if f (at_start f) o && first_values_fit f os
+-- the function with its first locals alone, as many as these: what is in scope in front of the declaration of the next one
+abbrev pub before_local : Function → ℕ → Function
+before_local f i = record f { first_values = take i f.first_values }
+
+-- the initialisers of locals, from this one on, are in scope at the start, where the locals before them are
+abbrev pub first_values_fit : Function → ℕ → List (Option ℕ) → Bool
+first_values_fit f i [] = true
+first_values_fit f i (o ∷ os) = usable_if (before_local f i) (at_start f) o && first_values_fit f (suc i) os
 
 -- the check of a function: false is the refusal 'operand out of scope'
 abbrev pub fits_function : Naming → Bool
 fits_function f =
-    first_values_fit f.function f.function.first_values && fits_all f 0 f.function.body (at_start f.function)
+    first_values_fit f.function 0 f.function.first_values && fits_all f 0 f.function.body (at_start f.function)

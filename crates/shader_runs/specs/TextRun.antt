@@ -5,7 +5,7 @@ use Rattle.shader_runs.specs.World.{Event, Entry, Ask, Read, Write, Discard, ent
 use Rattle.shader_runs.specs.Outcome.{Stuck, Discarded, Outcome, Done, Continued, Broke, Returned, Stopped, Reached, Gives, Halts, answer, Next, and_then, turn, turns, after_switch, chosen, with_integer, closed, closed_if}
 use Rattle.shader_runs.specs.Program.{Label, Numbered}
 use Rattle.shader_runs.specs.ProgramRun.{called, decides, undecided, same_label, label_if}
-use Rattle.shader_runs.specs.Text.{Tree, Name, LiteralOf, Apply, Deref, AddressOf, Index, PartOf, LogicalOf, Trees, no_more, more, Line, Let, Assign, Braces, IfElse, SwitchOn, LoopOf, BreakLine, ContinueLine, ReturnLine, DiscardLine, Perform, Lines, last, before, Groups, no_group, group, Variable, TextFunction, TextModule}
+use Rattle.shader_runs.specs.Text.{Tree, Name, LiteralOf, Apply, Deref, AddressOf, Index, PartOf, LogicalOf, Trees, no_more, more, Line, Let, Assign, Braces, IfElse, SwitchOn, LoopOf, BreakLine, ContinueLine, ReturnLine, DiscardLine, Perform, Lines, last, before, Groups, no_group, group, Variable, ModuleVariable, TextFunction, TextModule}
 
 -- what an expression stands for: a value, or a reference, the place of a variable or of a part of one
 pub data Denoted : Type 0 where
@@ -234,22 +234,25 @@ with_parameters [] vs names = names
 with_parameters (x ∷ xs) [] names = names
 with_parameters (x ∷ xs) (v ∷ vs) names = bind (with_parameters xs vs names) x (Some (IsValue v))
 
--- a function's variables with their places, in scope in the whole function
+-- behind the declaration of a function's variable its name stands for its place
+abbrev pub with_variable : Variable → (entries index : ℕ) → Scope → Scope
+with_variable x k i names = bind names x.name (Some (IsPlace (Rooted (LocalRoot x.pointer k i))))
+
+-- behind the declarations of a function's variables
 abbrev pub with_variables : List Variable → (entries index : ℕ) → Scope → Scope
 with_variables [] k i names = names
-with_variables (x ∷ xs) k i names =
-    bind (with_variables xs k (suc i) names) x.name (Some (IsPlace (Rooted (LocalRoot k i))))
+with_variables (x ∷ xs) k i names = with_variables xs k (suc i) (with_variable x k i names)
 
--- what a variable's name stands for
-abbrev pub global_denoted : ℕ → GlobalValue → Denoted
-global_denoted i Stored = IsPlace (Rooted (GlobalRoot i))
-global_denoted i (Held v) = IsValue v
+-- what a module-level variable's name stands for: a place of the declared type, or a value
+abbrev pub global_denoted : (pointer : Bytes) → ℕ → GlobalValue → Denoted
+global_denoted pointer i (Stored s) = IsPlace (Rooted (GlobalRoot pointer i))
+global_denoted pointer i (Held v) = IsValue v
 
 -- module-level variables with their places or values
-abbrev pub with_globals : List Bytes → List GlobalValue → ℕ → Scope → Scope
+abbrev pub with_globals : List ModuleVariable → List GlobalValue → ℕ → Scope → Scope
 with_globals [] gs i names = names
 with_globals (x ∷ xs) [] i names = names
-with_globals (x ∷ xs) (g ∷ gs) i names = bind (with_globals xs gs (suc i) names) x (Some (global_denoted i g))
+with_globals (x ∷ xs) (g ∷ gs) i names = bind (with_globals xs gs (suc i) names) x.name (Some (global_denoted x.pointer i g))
 
 -- nothing is in scope
 abbrev pub no_names : Scope
@@ -259,10 +262,26 @@ no_names x = None
 abbrev pub module_scope : TextModule → Environment → Scope
 module_scope text env = with_parameters text.constants env.constants (with_globals text.globals env.globals 0 no_names)
 
--- a word of no function: one that asks for an event, or an operator
-abbrev pub respond_by_table : World → Meaning → (Bytes → Bool) → Bytes → List Value → List Event → Reached (Option Value)
-respond_by_table w m is_request word vs t =
-    cond (is_request word) (Gives (Some (w t (Ask word vs))) (Ask word vs ∷ t)) (Gives (Some (m (Spelled word) vs)) t)
+-- what a word before operands is, wherever no variable hides it: the name of a function of the module, a word that asks for an event, or an operator
+pub data WordUse : Type 0 where
+  NamesFunction : WordUse
+  AsksForEvent : WordUse
+  Operates : WordUse
+
+-- what a word does that is the name of no function which stands before. A function behind can't be called
+abbrev pub respond_by_use : WordUse → World → Meaning → Bytes → List Value → List Event → Reached (Option Value)
+respond_by_use NamesFunction w m word vs t = Halts Stuck t
+respond_by_use AsksForEvent w m word vs t = Gives (Some (w t (Ask word vs))) (Ask word vs ∷ t)
+respond_by_use Operates w m word vs t = Gives (Some (m (Spelled word) vs)) t
+
+-- some function has this name
+abbrev pub names_function : List TextFunction → Bytes → Bool
+names_function [] word = false
+names_function (f ∷ fs) word = same_bytes word f.name || names_function fs word
+
+-- what each word is in a text, by a test for those that ask for events
+abbrev pub word_use : List TextFunction → (Bytes → Bool) → Bytes → WordUse
+word_use fs is_request word = cond (names_function fs word) NamesFunction (cond (is_request word) AsksForEvent Operates)
 
 -- one more first value
 abbrev pub put_first : Option Value → Reached (List (Option Value)) → Reached (List (Option Value))
@@ -274,28 +293,32 @@ abbrev pub first_followed : Reached Value → (List Event → Reached (List (Opt
 first_followed (Halts x t) rest = Halts x t
 first_followed (Gives v t) rest = put_first (Some v) (rest t)
 
--- the first values of a function's variables, in their order
-abbrev pub first_of_each : Words → List Variable → Scope → List Event → Reached (List (Option Value))
-first_of_each l [] names t = Gives [] t
-first_of_each l (x ∷ xs) names t =
-    elim x.first_value [ None ↦ put_first None (first_of_each l xs names t) | Some e ↦ first_followed (value_of l e names t) (first_of_each l xs names) ]
+-- a variable's first value, if it has one, and those of the variables behind it
+abbrev pub first_then : Words → Option Tree → Scope → List Event → (List Event → Reached (List (Option Value))) → Reached (List (Option Value))
+first_then l None names t rest = put_first None (rest t)
+first_then l (Some e) names t rest = first_followed (value_of l e names t) rest
+
+-- the first values of a function's variables, in their order: each is evaluated where the variables before it are in scope
+abbrev pub first_of_each : Words → List Variable → (entries index : ℕ) → Scope → List Event → Reached (List (Option Value))
+first_of_each l [] k i names t = Gives [] t
+first_of_each l (x ∷ xs) k i names t =
+    first_then l x.first_value names t (first_of_each l xs k (suc i) (with_variable x k i names))
 
 -- the entry, with the first values
 abbrev pub entered_by : ℕ → List Value → Reached (List (Option Value)) → (List Event → Reached (Option Value)) → Reached (Option Value)
 entered_by g vs (Halts x t) body = Halts x t
 entered_by g vs (Gives firsts t) body = body (Entry g vs firsts ∷ t)
 
--- a body, from the first values of its variables on
+-- a body, from the first values of its variables on, in the scope of its parameters
 abbrev pub follow_body : Words → ℕ → ℕ → TextFunction → List Value → Scope → List Event → Reached (Option Value)
 follow_body l n g f vs names t =
-    entered_by g vs (first_of_each l f.variables names t) (λ t1. answer (follow_all l n f.lines names t1))
+    entered_by g vs (first_of_each l f.variables (entries t) 0 names t) (λ t1. answer (follow_all l n f.lines (with_variables f.variables (entries t) 0 names) t1))
 
--- a word among these functions, the last one first
-abbrev pub follow_call : Scope → World → Meaning → (Bytes → Bool) → ℕ → List TextFunction → Bytes → List Value → List Event → Reached (Option Value)
-follow_call outer w m is_request n [] word vs t = respond_by_table w m is_request word vs t
-follow_call outer w m is_request n (f ∷ fs) word vs t =
-    let l : Words = record { world = w; meaning = m; respond = follow_call outer w m is_request n fs } in
-    let names = with_parameters f.parameters vs (with_variables f.variables (entries t) 0 outer) in
-    let own = called (nat_eq (length vs) (length f.parameters)) (follow_body l n (length fs) f vs names t) t in
-    let other = follow_call outer w m is_request n fs word vs t in
+-- a word among these functions, the last one first; uses tells what a word is that names none of these functions
+abbrev pub follow_call : Scope → World → Meaning → (uses : Bytes → WordUse) → ℕ → List TextFunction → Bytes → List Value → List Event → Reached (Option Value)
+follow_call outer w m uses n [] word vs t = respond_by_use (uses word) w m word vs t
+follow_call outer w m uses n (f ∷ fs) word vs t =
+    let l : Words = record { world = w; meaning = m; respond = follow_call outer w m uses n fs } in
+    let own = called (nat_eq (length vs) (length f.parameters)) (follow_body l n (length fs) f vs (with_parameters f.parameters vs outer) t) t in
+    let other = follow_call outer w m uses n fs word vs t in
     cond (same_bytes word f.name) own other

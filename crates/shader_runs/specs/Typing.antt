@@ -1,7 +1,7 @@
 -- When a module's operators are typed consistently.
-use Rattle.std.specs.Prelude.{◌≡◌, ℕ, List, [], ◌∷◌, ◌++◌, Option, Some, slice_get}
-use Rattle.shader_runs.specs.Value.{ValueType, BooleanType, IntegerType, PointerType, Word, Spelled, PartWord, IndexWord, short_circuit_word}
-use Rattle.shader_runs.specs.Program.{ConstantTree, Fixed, NamedConstant, Constructed, ConstantTrees, no_constant, constant, Expression, Constant, Operator, Access, AccessIndex, Logical, Request, Function, expression_of, handle_type, Module}
+use Rattle.std.specs.Prelude.{◌≡◌, ℕ, ℤ, List, [], ◌∷◌, ◌++◌, Option, Some, slice_get}
+use Rattle.shader_runs.specs.Value.{PartTypes, At, Selector, MemberNamed, step_of, ValueType, BooleanType, IntegerType, PointerType, Word, Spelled, PartWord, IndexWord, short_circuit_word}
+use Rattle.shader_runs.specs.Program.{ConstantTree, Fixed, NamedConstant, Constructed, ConstantTrees, no_constant, constant, Expression, Constant, Operator, Access, AccessIndex, Logical, Swizzle, Request, Function, expression_of, handle_type, Module}
 use Rattle.shader_runs.specs.Premises.{constant_types_of, handle_types}
 
 -- a spelled operator with its operands' types and its result's
@@ -28,6 +28,7 @@ signatures_of p f k (Some (Operator w xs)) = record { word = Spelled w; operands
 signatures_of p f k (Some (Access b i)) = record { word = IndexWord; operands = handle_types f (b ∷ i ∷ []); result = k } ∷ []
 signatures_of p f k (Some (AccessIndex x b)) = record { word = PartWord x; operands = handle_types f (b ∷ []); result = k } ∷ []
 signatures_of p f k (Some (Logical j l r)) = record { word = Spelled (short_circuit_word j); operands = handle_types f (l ∷ r ∷ []); result = k } ∷ []
+signatures_of p f k (Some (Swizzle w v)) = record { word = PartWord (MemberNamed w); operands = handle_types f (v ∷ []); result = k } ∷ []
 signatures_of p f k (Some (Request a w xs es)) = constants_signatures p es
 signatures_of p f k _ = []
 
@@ -44,16 +45,16 @@ pub record IsSpelled (p : Module) (x : Signature) : Type 0 where
   pub handle : ℕ
   pub among : IsOneOf x (signatures_of p function (handle_type function handle) (expression_of function handle))
 
--- an integer's index through a pointer gives a pointer
-abbrev pub AccessFits : (base index result : ValueType) → Type 0
-AccessFits PointerType (IntegerType spelling) PointerType = Unit {0}
-AccessFits PointerType i k = ⊥
-AccessFits b i k = Unit {0}
+-- an integer's index through a pointer gives a pointer to the part, which is of one type whatever the index is
+abbrev pub AccessFits : PartTypes → (base index result : ValueType) → Type 0
+AccessFits parts (PointerType whole) (IntegerType spelling) k = (z : ℤ) → k ≡ PointerType (parts whole (At z))
+AccessFits parts (PointerType whole) i k = ⊥
+AccessFits parts b i k = Unit {0}
 
--- a member or element through a pointer gives a pointer
-abbrev pub AccessIndexFits : (base result : ValueType) → Type 0
-AccessIndexFits PointerType k = k ≡ PointerType
-AccessIndexFits b k = Unit {0}
+-- a member or element through a pointer gives a pointer to that part
+abbrev pub AccessIndexFits : PartTypes → Selector → (base result : ValueType) → Type 0
+AccessIndexFits parts x (PointerType whole) k = k ≡ PointerType (parts whole (step_of x))
+AccessIndexFits parts x b k = Unit {0}
 
 -- `&&` and `||` on `bool` give `bool`
 abbrev pub LogicalFits : (left result : ValueType) → Type 0
@@ -61,13 +62,13 @@ LogicalFits BooleanType k = k ≡ BooleanType
 LogicalFits l k = Unit {0}
 
 -- what an expression over pointers or truth values gives
-abbrev pub PartsFit : Function → ValueType → Option Expression → Type 0
-PartsFit f k (Some (Access b i)) = AccessFits (handle_type f b) (handle_type f i) k
-PartsFit f k (Some (AccessIndex x b)) = AccessIndexFits (handle_type f b) k
-PartsFit f k (Some (Logical j l r)) = LogicalFits (handle_type f l) k
-PartsFit f k _ = Unit {0}
+abbrev pub PartsFit : PartTypes → Function → ValueType → Option Expression → Type 0
+PartsFit parts f k (Some (Access b i)) = AccessFits parts (handle_type f b) (handle_type f i) k
+PartsFit parts f k (Some (AccessIndex x b)) = AccessIndexFits parts x (handle_type f b) k
+PartsFit parts f k (Some (Logical j l r)) = LogicalFits (handle_type f l) k
+PartsFit parts f k _ = Unit {0}
 
 -- what is spelled alike over operands of types alike has a result of types alike
 pub record IsConsistent (p : Module) : Type 0 where
   pub alike : (x y : Signature) → IsSpelled p x → IsSpelled p y → x.word ≡ y.word → x.operands ≡ y.operands → x.result ≡ y.result
-  pub parts : (place : ℕ) (f : Function) → slice_get p.functions place ≡ Some f → (h : ℕ) → PartsFit f (handle_type f h) (expression_of f h)
+  pub parts : (place : ℕ) (f : Function) → slice_get p.functions place ≡ Some f → (h : ℕ) → PartsFit p.parts f (handle_type f h) (expression_of f h)

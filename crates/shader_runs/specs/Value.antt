@@ -40,21 +40,36 @@ step_of (MemberNamed word) =
     )
     )
 
--- a module's variable by its index, or a local by the number of function entries before its own function's and its index
+-- a variable, with the spelling of a pointer to it: a module's by its index, or a local by the number of function entries
+-- before its own function's and its index
 pub data Root : Type 0 where
-  GlobalRoot : (index : ℕ) → Root
-  LocalRoot : (entries index : ℕ) → Root
+  GlobalRoot : (pointer : Bytes) → (index : ℕ) → Root
+  LocalRoot : (pointer : Bytes) → (entries index : ℕ) → Root
 
 -- a root and a path of steps
 pub data Place : Type 0 where
   Rooted : Root → Place
   Part : Place → Step → Place
 
--- a value's type: `bool`, an integer's spelling, or any other spelling. What a pointer points to is decided by its place
+-- how a pointer to a part is spelled, by the spelling of a pointer to the whole and the step that leads to the part
+abbrev pub PartTypes : Type 0
+PartTypes = Bytes → Step → Bytes
+
+-- the spelling of a pointer to a variable
+abbrev pub root_type : Root → Bytes
+root_type (GlobalRoot pointer index) = pointer
+root_type (LocalRoot pointer entries index) = pointer
+
+-- the spelling of a pointer to a place: a place knows its type, by its variable and its steps
+abbrev pub place_type : PartTypes → Place → Bytes
+place_type parts (Rooted root) = root_type root
+place_type parts (Part place step) = parts (place_type parts place) step
+
+-- a value's type: `bool`, or the spelling of an integer's, a pointer's or any other type
 pub data ValueType : Type 0 where
   BooleanType : ValueType
   IntegerType : (spelling : Bytes) → ValueType
-  PointerType : ValueType
+  PointerType : (spelling : Bytes) → ValueType
   OtherType : (spelling : Bytes) → ValueType
 
 -- a payload stands for whatever a value of another type is
@@ -65,30 +80,30 @@ pub data Value : Type 0 where
   Opaque : (spelling : Bytes) → (payload : ℕ) → Value
 
 -- a value's type
-abbrev pub type_of : Value → ValueType
-type_of (Truth b) = BooleanType
-type_of (Whole spelling z) = IntegerType spelling
-type_of (Pointer p) = PointerType
-type_of (Opaque spelling payload) = OtherType spelling
+abbrev pub type_of : PartTypes → Value → ValueType
+type_of parts (Truth b) = BooleanType
+type_of parts (Whole spelling z) = IntegerType spelling
+type_of parts (Pointer p) = PointerType (place_type parts p)
+type_of parts (Opaque spelling payload) = OtherType spelling
 
 -- equal types
 abbrev pub same_type : ValueType → ValueType → Bool
 same_type BooleanType BooleanType = true
 same_type (IntegerType a) (IntegerType b) = same_bytes a b
-same_type PointerType PointerType = true
+same_type (PointerType a) (PointerType b) = same_bytes a b
 same_type (OtherType a) (OtherType b) = same_bytes a b
 same_type _ _ = false
 
 -- the value has this type
-abbrev pub has_type : ValueType → Value → Bool
-has_type t v = same_type t (type_of v)
+abbrev pub has_type : PartTypes → ValueType → Value → Bool
+has_type parts t v = same_type t (type_of parts v)
 
 -- as many values as types, each of its type
-abbrev pub has_types : List ValueType → List Value → Bool
-has_types [] [] = true
-has_types [] (v ∷ vs) = false
-has_types (t ∷ ts) [] = false
-has_types (t ∷ ts) (v ∷ vs) = has_type t v && has_types ts vs
+abbrev pub has_types : PartTypes → List ValueType → List Value → Bool
+has_types parts [] [] = true
+has_types parts [] (v ∷ vs) = false
+has_types parts (t ∷ ts) [] = false
+has_types parts (t ∷ ts) (v ∷ vs) = has_type parts t v && has_types parts ts vs
 
 -- the type at an index
 abbrev pub type_at : List ValueType → ℕ → ValueType
