@@ -1,16 +1,19 @@
 -- Calls, by the functions of a module in their order.
-use Rattle.std.proofs.Common.{◌≡◌, ◌≢◌, ℕ, suc, ◌+◌, ◌<◌, Bool, true, false, cond, nat_eq, List, [], ◌∷◌, length, Option, Some, None, slice_get, refl, sym, ap, ◌∙◌, subst, arith, eqb-true}
+use Rattle.std.proofs.Common.{◌≡◌, ◌≢◌, ℕ, zero, suc, ◌+◌, ◌<◌, ◌≤◌, min, Bool, true, false, cond, nat_eq, List, [], ◌∷◌, take, length, Option, Some, None, ◌||◌, slice_get, refl, sym, ap, ◌∙◌, subst, add-zero, zero-add, arith, eqb-true}
+use Rattle.std.proofs.Math.Nat.{min-le_right}
+use Rattle.std.proofs.lemmas.List.{length-take, length-take-le}
+use Rattle.std.proofs.lemmas.Option.{slice_get_within}
 use Rattle.std.proofs.lemmas.Bool.{eqb-false}
 use Rattle.std.specs.Prelude.{IsTrue}
-use Rattle.shader_runs.specs.Value.{Bytes, same_bytes, Rooted, LocalRoot, has_types, Value}
-use Rattle.shader_runs.specs.World.{Event, Entry, entries, World, Meaning, Environment}
+use Rattle.shader_runs.specs.Value.{Bytes, same_bytes, PartTypes, ValueType, has_types, Value}
+use Rattle.shader_runs.specs.World.{Event, Entry, entries, World, Meaning, Environment, bind}
 use Rattle.shader_runs.specs.Outcome.{Stuck, Reached, Gives, Halts, answer}
-use Rattle.shader_runs.specs.Program.{Function, argument_count, function_numbered, Module, any_continue}
-use Rattle.shader_runs.specs.ProgramRun.{Call, constants_kept, called, used, wrapped, with_first, first_used_all, entered, run_all, run_body, run_call}
-use Rattle.shader_runs.specs.TextRun.{IsPlace, Scope, with_parameters, with_variables, with_globals, no_names, module_scope, respond_by_table, put_first, first_followed, first_of_each, entered_by, follow_all, follow_body, follow_call}
-use Rattle.shader_runs.specs.Scope.{ModuleNames, Naming, usable_if, at_start, first_values_fit, fits_all, after_all}
-use Rattle.shader_runs.specs.Form.{names_from, variables_from, form_all, form_function, form_functions, form_module, functions_of}
-use Rattle.shader_runs.specs.Premises.{FixedName, ArgumentName, LocalName, ConstantName, GlobalName, FixedKey, fixed_name, FunctionFits, AllFit, EnvironmentFits, IsTypedIn, AllTypedIn}
+use Rattle.shader_runs.specs.Program.{ConstantTree, Fixed, NamedConstant, Constructed, ConstantTrees, no_constant, constant, Expression, Constant, Operator, Request, Function, argument_count, local_count, function_numbered, expression_of, handle_type, operands_of, from, Statement, Emit, Store, Block, If, Switch, Loop, Break, Continue, Return, Kill, Barrier, Act, Statements, end, then, Cases, no_case, case, Module, any_continue}
+use Rattle.shader_runs.specs.ProgramRun.{Call, Kept, constants_kept, called, used, wrapped, with_first, first_used, first_used_all, entered, run_all, run_body, run_call}
+use Rattle.shader_runs.specs.TextRun.{Scope, Words, WordUse, NamesFunction, AsksForEvent, Operates, value_of, with_parameters, with_variables, with_globals, no_names, module_scope, respond_by_use, names_function, word_use, put_first, first_followed, first_then, first_of_each, entered_by, follow_all, follow_body, follow_call}
+use Rattle.shader_runs.specs.Scope.{ModuleNames, Naming, usable, usable_if, given_after, given_after_all, given_by, given_by_all, given_by_cases, at_start, before_local, first_values_fit, fits_all, after_all}
+use Rattle.shader_runs.specs.Form.{names_from, variables_from, globals_from, value_at, value_if, form_all, form_function, form_functions, form_module, functions_of}
+use Rattle.shader_runs.specs.Premises.{FixedName, ArgumentName, LocalName, ConstantName, GlobalName, NameKey, FixedKey, NumberedKey, GivenKey, fixed_name, IsFixedName, IsName, StandsFree, ConstantWords, ConstantsWords, WordFits, AllBelow, LeafFits, AreDistinct, FunctionFits, AllFit, EnvironmentFits, IsTypedIn, AllTypedIn}
 use Rattle.shader_runs.specs.Correct.{KeepsTypes, RunsAlike}
 use Rattle.shader_runs.proofs.Alike.{Answers, same_answer, mistyped_answer, alike_answers, reached}
 use Rattle.shader_runs.proofs.Update.{and_left, and_right, same_bytes_equal, same_bytes_apart, has_types_length}
@@ -20,7 +23,7 @@ use Rattle.shader_runs.proofs.Written.{Given, globals_length, value_here}
 use Rattle.shader_runs.proofs.Statements.{Same, same_all}
 use Rattle.shader_runs.proofs.Fresh.{all_fresh, start_sources}
 use Rattle.shader_runs.proofs.Start.{start_stands}
-use Rattle.shader_runs.proofs.Names.{parameter_other, parameter_at, variable_other, variable_at, globals_other, globals_at, length-names_from}
+use Rattle.shader_runs.proofs.Names.{parameter_other, parameter_at, variable_place, variable_other, variable_at, one_more_variable, take_one_more, globals_other, globals_at, length-names_from}
 
 length-form_functions : (fs : List Naming) → length (form_functions fs) ≡ length fs
 length-form_functions [] = refl
@@ -82,7 +85,121 @@ entered_alike R g g' vs None t body body' e h = same_answer tt
 entered_alike R g g' vs (Some firsts) t body body' e h =
     subst (λ g'. Answers R (body (Entry g vs firsts ∷ t)) (body' (Entry g' vs firsts ∷ t))) (sym e) (h (Entry g vs firsts ∷ t))
 
-module _ (p : Module) (n : ModuleNames) (env : Environment) (environment : EnvironmentFits p env) (w : World) (m : Meaning) (bound : ℕ) where
+-- what the start of a function's text asks of it, behind these functions
+pub record Starting (p : Module) (n : ModuleNames) (callees : List Function) (f : Naming) : Type 0 where
+  pub outer : f.names.outer ≡ n
+  pub earlier : f.names.earlier ≡ length callees
+  pub ordered : (h : ℕ) → AllBelow h (operands_of (expression_of f.function h))
+  pub words : (h : ℕ) → WordFits p f (expression_of f.function h)
+  pub leaves : (h : ℕ) → LeafFits p f.function (handle_type f.function h) (expression_of f.function h)
+  pub distinct : AreDistinct p f
+
+pub starting : (p : Module) (n : ModuleNames) (callees : List Function) (f : Naming) → FunctionFits p n callees f → Starting p n callees f
+starting p n callees f fit =
+    record {
+      outer = fit.outer;
+      earlier = fit.earlier;
+      ordered = fit.ordered;
+      words = fit.words;
+      leaves = fit.leaves;
+      distinct = fit.distinct;
+    }
+
+-- a function in front of the declaration of its i-th local
+abbrev before : Naming → ℕ → Naming
+before f i = record f { function = before_local f.function i }
+
+module _ (p : Module) (f : Naming) (i : ℕ) where
+  fewer : local_count (before f i).function ≤ local_count f.function
+  fewer =
+      let short : min i (length f.function.first_values) ≤ length f.function.first_values = min-le_right i (length f.function.first_values) in
+      subst (λ k. k ≤ length f.function.first_values) (sym (length-take i f.function.first_values)) short
+
+  fixed_before : (x : FixedName) → IsFixedName p (before f i).function x → IsFixedName p f.function x
+  fixed_before (ArgumentName k) h = h
+  fixed_before (LocalName k) h = omega (arith, fewer)
+  fixed_before (ConstantName k) h = h
+  fixed_before (GlobalName k) h = h
+
+  given_handles : (hs : List ℕ) (k : ℕ) → given_after_all (before f i).function hs k ≡ given_after_all f.function hs k
+  given_handles [] k = refl
+  given_handles (h ∷ hs) k = given_handles hs (given_after f.function h k)
+
+  mutual
+    given_statement : (st : Statement) (k : ℕ) → given_by (before f i).function st k ≡ given_by f.function st k
+    given_statement (Emit first count) k = given_handles (from first count) k
+    given_statement (Block b) k = given_list b k
+    given_statement (If x a b) k =
+        ap (given_by_all (before f i).function b) (given_list a k) ∙ given_list b (given_by_all f.function a k)
+    given_statement (Switch x cases) k = given_cases cases k
+    given_statement (Loop b d e) k =
+        ap (given_by_all (before f i).function d) (given_list b k) ∙ given_list d (given_by_all f.function b k)
+    given_statement (Store x y) k = refl
+    given_statement Break k = refl
+    given_statement Continue k = refl
+    given_statement (Return x) k = refl
+    given_statement Kill k = refl
+    given_statement (Barrier bits) k = refl
+    given_statement (Act a xs r) k = refl
+
+    given_list : (ss : Statements) (k : ℕ) → given_by_all (before f i).function ss k ≡ given_by_all f.function ss k
+    given_list end k = refl
+    given_list (then st ss) k =
+        ap (given_by_all (before f i).function ss) (given_statement st k) ∙ given_list ss (given_by f.function st k)
+
+    given_cases : (cs : Cases) (k : ℕ) → given_by_cases (before f i).function cs k ≡ given_by_cases f.function cs k
+    given_cases no_case k = refl
+    given_cases (case l b falls cs) k =
+        ap (given_by_cases (before f i).function cs) (given_list b k) ∙ given_cases cs (given_by_all f.function b k)
+
+  name_before : (a : NameKey) → IsName p (before f i).function a → IsName p f.function a
+  name_before (FixedKey x) h = fixed_before x h
+  name_before (NumberedKey k) h = h
+  name_before (GivenKey k) h = subst (λ n. k < n) (given_list f.function.body 0) h
+
+  free_before : (w : Bytes) → StandsFree p f w → StandsFree p (before f i) w
+  free_before w h = (h.0, λ a is. h.1 a (name_before a is))
+
+  mutual
+    constant_before : (e : ConstantTree) → ConstantWords p f e → ConstantWords p (before f i) e
+    constant_before (Fixed v) w = tt
+    constant_before (NamedConstant k) w = tt
+    constant_before (Constructed word ty es) w = ((w.0.0, free_before word w.0.1), constants_before es w.1)
+
+    constants_before : (es : ConstantTrees) → ConstantsWords p f es → ConstantsWords p (before f i) es
+    constants_before no_constant w = tt
+    constants_before (constant e es) w = (constant_before e w.0, constants_before es w.1)
+
+  word_before : (e : Option Expression) → WordFits p f e → WordFits p (before f i) e
+  word_before (Some (Constant e)) w = constant_before e w
+  word_before (Some (Operator word xs)) w = (w.0, free_before word w.1)
+  word_before (Some (Request a word xs es)) w = ((w.0.0, free_before word w.0.1), constants_before es w.1)
+  word_before (Some _) w = tt
+  word_before None w = tt
+
+  leaf_before : (k : ValueType) (e : Option Expression) → LeafFits p f.function k e → LeafFits p (before f i).function k e
+  leaf_before k e l = l
+
+  starting_before : (n : ModuleNames) (callees : List Function) → Starting p n callees f → Starting p n callees (before f i)
+  starting_before n callees s =
+      record {
+        outer = s.outer;
+        earlier = s.earlier;
+        ordered = s.ordered;
+        words = λ h. word_before (expression_of f.function h) (s.words h);
+        leaves = λ h. leaf_before (handle_type f.function h) (expression_of f.function h) (s.leaves h);
+        distinct = λ a b ha hb e. s.distinct a b (name_before a ha) (name_before b hb) e;
+      }
+
+  typed_before : (parts : PartTypes) (m : Meaning) → IsTypedIn parts p m f.function → IsTypedIn parts p m (before f i).function
+  typed_before parts m t = record { constants = t.constants; operators = t.operators }
+
+-- what words do that are no function's names
+pub record UsesFit (p : Module) (n : ModuleNames) (uses : Bytes → WordUse) : Type 0 where
+  pub requests : (w : Bytes) → ((g : ℕ) → g < length p.functions → n.function g ≢ w) → IsTrue (n.is_request w) → uses w ≡ AsksForEvent
+  pub operators : (w : Bytes) → ((g : ℕ) → g < length p.functions → n.function g ≢ w) → n.is_request w ≡ false → uses w ≡ Operates
+
+module _ (p : Module) (n : ModuleNames) (uses : Bytes → WordUse) (uses_fit : UsesFit p n uses) (env : Environment) (environment : EnvironmentFits p env) (w : World) (m : Meaning) (bound : ℕ) where
   abbrev call_of : List Naming → Naming → List Value → List Event → Call
   call_of fs f vs t =
       record {
@@ -99,43 +216,57 @@ module _ (p : Module) (n : ModuleNames) (env : Environment) (environment : Envir
   -- the names of the module
   abbrev outer_of : ModuleNames → Scope
   outer_of n =
-      with_parameters (names_from n.constant 0 (length p.constant_types)) env.constants (with_globals (names_from n.global 0 (length p.global_types)) env.globals 0 no_names)
+      with_parameters (names_from n.constant 0 (length p.constant_types)) env.constants (with_globals (globals_from n.global 0 p.global_types) env.globals 0 no_names)
 
   abbrev responses : List Naming → Respond
-  responses fs = follow_call (outer_of n) w m n.is_request bound (form_functions fs)
+  responses fs = follow_call (outer_of n) w m uses bound (form_functions fs)
+
+  abbrev parameter_names : ModuleNames → Naming → List Value → Scope
+  parameter_names n f vs =
+      with_parameters (names_from f.names.argument 0 (argument_count f.function)) vs (outer_of n)
 
   abbrev first_names : ModuleNames → Naming → List Value → List Event → Scope
   first_names n f vs t =
-      with_parameters (names_from f.names.argument 0 (argument_count f.function)) vs (with_variables (variables_from f 0 f.function.first_values) (entries t) 0 (outer_of n))
+      with_variables (variables_from f 0 f.function.first_values) (entries t) 0 (parameter_names n f vs)
 
   abbrev text_call : List Naming → Naming → List Value → List Event → Reached (Option Value)
   text_call fs f vs t =
-      called (nat_eq (length vs) (length (names_from f.names.argument 0 (argument_count f.function)))) (follow_body (words (call_of fs f vs t) (responses fs)) bound (length (form_functions fs)) (form_function f) vs (first_names n f vs t) t) t
+      called (nat_eq (length vs) (length (names_from f.names.argument 0 (argument_count f.function)))) (follow_body (words (call_of fs f vs t) (responses fs)) bound (length (form_functions fs)) (form_function f) vs (parameter_names n f vs) t) t
 
   abbrev program_call : List Naming → Naming → List Value → List Event → Reached (Option Value)
   program_call fs f vs t =
       called (nat_eq (length vs) (argument_count f.function)) (run_body (call_of fs f vs t) bound (length (functions_of fs)) vs t) t
 
-  -- a word of no function comes to the table
-  by_table : (fs : List Naming) → AllFit p n fs → (word : Bytes) → ((g : ℕ) → g < length fs → n.function g ≢ word) → (vs : List Value) (t : List Event) → responses fs word vs t ≡ respond_by_table w m n.is_request word vs t
-  by_table [] fits word other vs t = refl
-  by_table (f ∷ fs) fits word other vs t =
+  -- a word that is no function's name comes to its use
+  by_use : (fs : List Naming) → AllFit p n fs → (word : Bytes) → ((g : ℕ) → g < length fs → n.function g ≢ word) → (vs : List Value) (t : List Event) → responses fs word vs t ≡ respond_by_use (uses word) w m word vs t
+  by_use [] fits word other vs t = refl
+  by_use (f ∷ fs) fits word other vs t =
       let own_name = f.names.outer.function f.names.earlier in
       let is_name : own_name ≡ n.function (length fs) = ap (λ n. n.function f.names.earlier) fits.0.outer ∙ ap n.function (fits.0.earlier ∙ length-functions_of fs) in
       let apart : same_bytes word own_name ≡ false = same_bytes_apart word own_name (λ e. other (length fs) (omega arith) (sym (e ∙ is_name))) in
       ap (λ b. cond b (text_call fs f vs t) (responses fs word vs t)) apart
-      ∙ by_table fs fits.1 word (λ g lt. other g (omega arith)) vs t
+      ∙ by_use fs fits.1 word (λ g lt. other g (omega arith)) vs t
 
   abbrev Alike_calls : List Naming → Type 0
   Alike_calls fs =
-      (g : ℕ) (callee : Function) → function_numbered (functions_of fs) g ≡ Some callee → (vs : List Value) → IsTrue (has_types callee.argument_types vs) → (t : List Event) → Answers (Returns callee) (run_call env w m bound (functions_of fs) g vs t) (responses fs (n.function g) vs t)
+      (g : ℕ) (callee : Function) → function_numbered (functions_of fs) g ≡ Some callee → (vs : List Value) → IsTrue (has_types env.parts callee.argument_types vs) → (t : List Event) → Answers (Returns env.parts callee) (run_call env w m bound (functions_of fs) g vs t) (responses fs (n.function g) vs t)
 
-  module _ (fs : List Naming) (fits : AllFit p n fs) (earlier : Alike_calls fs) (f : Naming) (fit : FunctionFits p n (functions_of fs) f) (typed : IsTypedIn p m f.function) (vs : List Value) (t : List Event) where
-    responds : Responds (call_of fs f vs t) f.names (responses fs)
+  module _ (fs : List Naming) (within : length fs ≤ length p.functions) (fits : AllFit p n fs) (earlier : Alike_calls fs) (f : Naming) (fit : Starting p n (functions_of fs) f) (typed : IsTypedIn env.parts p m f.function) (vs : List Value) (t : List Event) where
+    -- a name of another function
+    no_function : (word : Bytes) → ((g : ℕ) → g < length p.functions → f.names.outer.function g ≢ word) → (g : ℕ) → g < length p.functions → n.function g ≢ word
+    no_function word other g lt e = other g lt (ap (λ n. n.function g) fit.outer ∙ e)
+
+    reaches_use : (word : Bytes) → ((g : ℕ) → g < length p.functions → f.names.outer.function g ≢ word) → (use_of : WordUse) → uses word ≡ use_of → (vs : List Value) (t : List Event) → responses fs word vs t ≡ respond_by_use use_of w m word vs t
+    reaches_use word other use_of e vs t =
+        by_use fs fits word (λ g lt. no_function word other g (omega (arith, within))) vs t
+        ∙ ap (λ u. respond_by_use u w m word vs t) e
+
+    responds : Responds p (call_of fs f vs t) f.names (responses fs)
     responds =
         record {
-          table = λ word other vs t. by_table fs fits word (λ g lt e. other g (subst (λ k. g < k) (sym (fit.earlier ∙ length-functions_of fs)) lt) (ap (λ n. n.function g) fit.outer ∙ e)) vs t ∙ ap (λ n. respond_by_table w m n.is_request word vs t) (sym fit.outer);
-          calls = λ g callee e vs h t. subst (λ n'. Answers (Returns callee) (run_call env w m bound (functions_of fs) g vs t) (responses fs (n'.function g) vs t)) (sym fit.outer) (earlier g callee e vs h t);
+          requests = λ word a. reaches_use word a.1.0 AsksForEvent (uses_fit.requests word (no_function word a.1.0) (ap (λ n. n.is_request word) (sym fit.outer) ∙ a.0));
+          operators = λ word a. reaches_use word a.1.0 Operates (uses_fit.operators word (no_function word a.1.0) (ap (λ n. n.is_request word) (sym fit.outer) ∙ a.0));
+          calls = λ g callee e vs h t. subst (λ n'. Answers (Returns env.parts callee) (run_call env w m bound (functions_of fs) g vs t) (responses fs (n'.function g) vs t)) (sym fit.outer) (earlier g callee e vs h t);
         }
 
     argument_same : (i k : ℕ) → FixedKey (ArgumentName i) ≡ FixedKey (ArgumentName k) → i ≡ k
@@ -171,43 +302,43 @@ module _ (p : Module) (n : ModuleNames) (env : Environment) (environment : Envir
     start_fixed : length vs ≡ argument_count f.function → (x : FixedName) → IsHere (call_of fs f vs t) x → first_names f.names.outer f vs t (fixed_name f.names x) ≡ fixed_denoted (call_of fs f vs t) x
     start_fixed e (ArgumentName i) lt =
         let here : i ≡ i + 0 = omega arith in
-        ap (λ k. first_names f.names.outer f vs t (f.names.argument k)) here
+        variable_other f (f.names.argument i) f.function.first_values 0 (entries t) (λ a le la q. argument_local i a (fit.distinct (FixedKey (ArgumentName i)) (FixedKey (LocalName a)) lt (omega arith) (sym q))) (parameter_names f.names.outer f vs)
+        ∙ ap (λ k. parameter_names f.names.outer f vs (f.names.argument k)) here
         ∙ parameter_at f.names.argument (argument_count f.function) 0 (λ a b la lb q. argument_same a b (fit.distinct (FixedKey (ArgumentName a)) (FixedKey (ArgumentName b)) (omega arith) (omega arith) q)) vs _ e i lt
     start_fixed e (LocalName i) lt =
         let here : i ≡ i + 0 = omega arith in
         let back : i + 0 ≡ i = omega arith in
-        parameter_other f.names.argument (f.names.local_ i) (argument_count f.function) 0 (λ a le la q. argument_local a i (fit.distinct (FixedKey (ArgumentName a)) (FixedKey (LocalName i)) (omega arith) lt q)) vs _
-        ∙ ap (λ k. with_variables (variables_from f 0 f.function.first_values) (entries t) 0 (outer_of f.names.outer) (f.names.local_ k)) here
-        ∙ variable_at f f.function.first_values 0 (entries t) 0 (λ a b la lb q. local_same a b (fit.distinct (FixedKey (LocalName a)) (FixedKey (LocalName b)) (omega arith) (omega arith) q)) (outer_of f.names.outer) i lt
-        ∙ ap (λ k. Some (IsPlace (Rooted (LocalRoot (entries t) k)))) back
+        ap (λ k. first_names f.names.outer f vs t (f.names.local_ k)) here
+        ∙ variable_at f f.function.first_values 0 (entries t) (λ a b la lb q. local_same a b (fit.distinct (FixedKey (LocalName a)) (FixedKey (LocalName b)) (omega arith) (omega arith) q)) (parameter_names f.names.outer f vs) i lt
+        ∙ ap (variable_place f (entries t)) back
     start_fixed e (ConstantName i) lt =
         let here : i ≡ i + 0 = omega arith in
-        let count = has_types_length p.constant_types env.constants environment.constants in
+        let count = has_types_length env.parts p.constant_types env.constants environment.constants in
         let lt' : i < length p.constant_types = subst (λ k. i < k) count lt in
         let name = f.names.outer.constant in
-        parameter_other f.names.argument (name i) (argument_count f.function) 0 (λ a le la q. argument_constant a i (fit.distinct (FixedKey (ArgumentName a)) (FixedKey (ConstantName i)) (omega arith) lt' q)) vs _
-        ∙ variable_other f (name i) f.function.first_values 0 (entries t) 0 (λ a le la q. local_constant a i (fit.distinct (FixedKey (LocalName a)) (FixedKey (ConstantName i)) (omega arith) lt' q)) (outer_of f.names.outer)
+        variable_other f (name i) f.function.first_values 0 (entries t) (λ a le la q. local_constant a i (fit.distinct (FixedKey (LocalName a)) (FixedKey (ConstantName i)) (omega arith) lt' q)) (parameter_names f.names.outer f vs)
+        ∙ parameter_other f.names.argument (name i) (argument_count f.function) 0 (λ a le la q. argument_constant a i (fit.distinct (FixedKey (ArgumentName a)) (FixedKey (ConstantName i)) (omega arith) lt' q)) vs _
         ∙ ap (λ k. outer_of f.names.outer (name k)) here
         ∙ parameter_at name (length p.constant_types) 0 (λ a b la lb q. constant_same a b (fit.distinct (FixedKey (ConstantName a)) (FixedKey (ConstantName b)) (omega arith) (omega arith) q)) env.constants _ count i lt'
     start_fixed e (GlobalName i) lt =
         let here : i ≡ i + 0 = omega arith in
         let back : i + 0 ≡ i = omega arith in
-        let count = globals_length p.global_types env.globals environment.globals in
+        let count = globals_length env.parts p.global_types env.globals environment.globals in
         let lt' : i < length p.global_types = subst (λ k. i < k) count lt in
         let name = f.names.outer.global in
-        parameter_other f.names.argument (name i) (argument_count f.function) 0 (λ a le la q. argument_global a i (fit.distinct (FixedKey (ArgumentName a)) (FixedKey (GlobalName i)) (omega arith) lt' q)) vs _
-        ∙ variable_other f (name i) f.function.first_values 0 (entries t) 0 (λ a le la q. local_global a i (fit.distinct (FixedKey (LocalName a)) (FixedKey (GlobalName i)) (omega arith) lt' q)) (outer_of f.names.outer)
+        variable_other f (name i) f.function.first_values 0 (entries t) (λ a le la q. local_global a i (fit.distinct (FixedKey (LocalName a)) (FixedKey (GlobalName i)) (omega arith) lt' q)) (parameter_names f.names.outer f vs)
+        ∙ parameter_other f.names.argument (name i) (argument_count f.function) 0 (λ a le la q. argument_global a i (fit.distinct (FixedKey (ArgumentName a)) (FixedKey (GlobalName i)) (omega arith) lt' q)) vs _
         ∙ parameter_other f.names.outer.constant (name i) (length p.constant_types) 0 (λ a le la q. constant_global a i (fit.distinct (FixedKey (ConstantName a)) (FixedKey (GlobalName i)) (omega arith) lt' q)) env.constants _
-        ∙ ap (λ k. with_globals (names_from name 0 (length p.global_types)) env.globals 0 no_names (name k)) here
-        ∙ globals_at name (length p.global_types) 0 0 (λ a b la lb q. global_same a b (fit.distinct (FixedKey (GlobalName a)) (FixedKey (GlobalName b)) (omega arith) (omega arith) q)) env.globals no_names count i lt'
+        ∙ ap (λ k. with_globals (globals_from name 0 p.global_types) env.globals 0 no_names (name k)) here
+        ∙ globals_at env.parts name p.global_types 0 (λ a b la lb q. global_same a b (fit.distinct (FixedKey (GlobalName a)) (FixedKey (GlobalName b)) (omega arith) (omega arith) q)) env.globals no_names environment.globals i lt'
         ∙ ap (λ k. global_as k (slice_get env.globals i)) back
 
     start_words : (x : Bytes) → NoName (call_of fs f vs t) f.names x → first_names f.names.outer f vs t x ≡ None
     start_words x free =
-        parameter_other f.names.argument x (argument_count f.function) 0 (λ a le la q. free.fixed (ArgumentName a) (omega arith) q) vs _
-        ∙ variable_other f x f.function.first_values 0 (entries t) 0 (λ a le la q. free.fixed (LocalName a) (omega arith) q) (outer_of f.names.outer)
-        ∙ parameter_other f.names.outer.constant x (length p.constant_types) 0 (λ a le la q. let count = has_types_length p.constant_types env.constants environment.constants in let here : a < length p.constant_types = omega arith in free.fixed (ConstantName a) (subst (λ k. a < k) (sym count) here) q) env.constants _
-        ∙ globals_other f.names.outer.global x (length p.global_types) 0 0 (λ a le la q. let count = globals_length p.global_types env.globals environment.globals in let here : a < length p.global_types = omega arith in free.fixed (GlobalName a) (subst (λ k. a < k) (sym count) here) q) env.globals no_names
+        variable_other f x f.function.first_values 0 (entries t) (λ a le la q. free.fixed (LocalName a) (omega arith) q) (parameter_names f.names.outer f vs)
+        ∙ parameter_other f.names.argument x (argument_count f.function) 0 (λ a le la q. free.fixed (ArgumentName a) (omega arith) q) vs _
+        ∙ parameter_other f.names.outer.constant x (length p.constant_types) 0 (λ a le la q. let count = has_types_length env.parts p.constant_types env.constants environment.constants in let here : a < length p.constant_types = omega arith in free.fixed (ConstantName a) (subst (λ k. a < k) (sym count) here) q) env.constants _
+        ∙ globals_other f.names.outer.global x p.global_types 0 (λ a le la q. let count = globals_length env.parts p.global_types env.globals environment.globals in let here : a < length p.global_types = omega arith in free.fixed (GlobalName a) (subst (λ k. a < k) (sym count) here) q) env.globals no_names
 
     starts_own : length vs ≡ argument_count f.function → Related (call_of fs f vs t) f.names (at_start f.function) (first_names f.names.outer f vs t) (constants_kept f.function env m)
     starts_own e =
@@ -221,7 +352,7 @@ module _ (p : Module) (n : ModuleNames) (env : Environment) (environment : Envir
     starts e =
         subst (λ n'. Related (call_of fs f vs t) f.names (at_start f.function) (first_names n' f vs t) (constants_kept f.function env m)) fit.outer (starts_own e)
 
-    pub given : IsTrue (has_types f.function.argument_types vs) → Given p (call_of fs f vs t) f.names (responses fs)
+    pub given : IsTrue (has_types env.parts f.function.argument_types vs) → Given p (call_of fs f vs t) f.names (responses fs)
     given k =
         record {
           responds = responds;
@@ -233,68 +364,144 @@ module _ (p : Module) (n : ModuleNames) (env : Environment) (environment : Envir
           typed = typed;
         }
 
-    firsts_reached : IsTrue (has_types f.function.argument_types vs) → length vs ≡ argument_count f.function → (os : List (Option ℕ)) (j : ℕ) → IsTrue (first_values_fit f.function os) → (t1 : List Event) → first_of_each (words (call_of fs f vs t) (responses fs)) (variables_from f j os) (first_names n f vs t) t1 ≡ reached_firsts (first_used_all (call_of fs f vs t) (constants_kept f.function env m) os) t1
-    firsts_reached k e [] j u t1 = refl
-    firsts_reached k e (None ∷ os) j u t1 =
-        ap (put_first None) (firsts_reached k e os (suc j) u t1)
-        ∙ put_reached (first_used_all (call_of fs f vs t) (constants_kept f.function env m) os) t1
-    firsts_reached k e (Some h ∷ os) j u t1 =
-        let l = words (call_of fs f vs t) (responses fs) in
-        let names = first_names n f vs t in
-        let kept = constants_kept f.function env m in
-        let here = and_left (usable_if f.function (at_start f.function) (Some h)) (first_values_fit f.function os) u in
-        let rest = first_of_each l (variables_from f (suc j) os) names in
-        ap (λ q. first_followed q rest) (value_here p (call_of fs f vs t) f.names (responses fs) (given k) (at_start f.function) names kept (starts e) h here t1)
-        ∙ followed_firsts (used (call_of fs f vs t) kept h) (first_used_all (call_of fs f vs t) kept os) t1 rest (firsts_reached k e os (suc j) (and_right (usable_if f.function (at_start f.function) (Some h)) (first_values_fit f.function os) u))
+    -- a handle at the start
+    pub first_value_here : IsTrue (has_types env.parts f.function.argument_types vs) → length vs ≡ argument_count f.function → (h : ℕ) → IsTrue (usable f.function (at_start f.function) h) → (t1 : List Event) → value_of (words (call_of fs f vs t) (responses fs)) (value_at f (at_start f.function) h) (first_names n f vs t) t1 ≡ reached (used (call_of fs f vs t) (constants_kept f.function env m) h) t1
+    first_value_here k e h u t1 =
+        value_here p (call_of fs f vs t) f.names (responses fs) (given k) (at_start f.function) (first_names n f vs t) (constants_kept f.function env m) (starts e) h u t1
+
+  module _ (fs : List Naming) (within : length fs ≤ length p.functions) (fits : AllFit p n fs) (earlier : Alike_calls fs) (f : Naming) (fit : FunctionFits p n (functions_of fs) f) (typed : IsTypedIn env.parts p m f.function) (vs : List Value) (t : List Event) where
+    start : Starting p n (functions_of fs) f
+    start = starting p n (functions_of fs) f fit
+
+    abbrev all : List (Option ℕ)
+    all = f.function.first_values
+
+    -- the names in front of the declaration of the i-th local
+    abbrev names_before : ℕ → Scope
+    names_before i = with_variables (variables_from f 0 (take i all)) (entries t) 0 (parameter_names n f vs)
+
+    next_names : (i : ℕ) (o : Option ℕ) → slice_get all i ≡ Some o → names_before (suc i) ≡ bind (names_before i) (f.names.local_ i) (variable_place f (entries t) i)
+    next_names i o e =
+        let lt = slice_get_within all i o e in
+        let count : length (take i all) + 0 ≡ i = ap (λ k. k + 0) (length-take-le i all (omega (arith, lt))) ∙ add-zero i in
+        ap (λ os. with_variables (variables_from f 0 os) (entries t) 0 (parameter_names n f vs)) (take_one_more all i o e)
+        ∙ one_more_variable f (take i all) o 0 (entries t) (parameter_names n f vs)
+        ∙ ap (λ k. bind (names_before i) (f.names.local_ k) (variable_place f (entries t) k)) count
+
+    abbrev spelled : Words
+    spelled = words (call_of fs f vs t) (responses fs)
+
+    abbrev kept : Kept
+    kept = constants_kept f.function env m
+
+    -- one first value, and those of the variables behind it
+    first_reached : IsTrue (has_types env.parts f.function.argument_types vs) → length vs ≡ argument_count f.function → (i : ℕ) (o : Option ℕ) → IsTrue (usable_if (before_local f.function i) (at_start f.function) o) → (names : Scope) → names ≡ names_before i → (os : Option (List (Option Value))) (rest : List Event → Reached (List (Option Value))) → ((t2 : List Event) → rest t2 ≡ reached_firsts os t2) → (t1 : List Event) → first_then spelled (value_if f (at_start f.function) o) names t1 rest ≡ reached_firsts (with_first (first_used (call_of fs f vs t) kept o) os) t1
+    first_reached k e i None u names q os rest r t1 = ap (put_first None) (r t1) ∙ put_reached os t1
+    first_reached k e i (Some h) u names q os rest r t1 =
+        let fit1 = starting_before p f i n (functions_of fs) start in
+        let value = first_value_here fs within fits earlier (before f i) fit1 (typed_before p f i env.parts m typed) vs t k e h u t1 in
+        ap (λ z. first_followed (value_of spelled (value_at f (at_start f.function) h) z t1) rest) q
+        ∙ ap (λ q. first_followed q rest) value
+        ∙ followed_firsts (used (call_of fs f vs t) kept h) os t1 rest r
+
+    firsts_reached : IsTrue (has_types env.parts f.function.argument_types vs) → length vs ≡ argument_count f.function → (os : List (Option ℕ)) (i : ℕ) → ((k : ℕ) → slice_get os k ≡ slice_get all (k + i)) → IsTrue (first_values_fit f.function i os) → (names : Scope) → names ≡ names_before i → (t1 : List Event) → first_of_each spelled (variables_from f i os) (entries t) i names t1 ≡ reached_firsts (first_used_all (call_of fs f vs t) kept os) t1
+    firsts_reached k e [] i at u names q t1 = refl
+    firsts_reached k e (o ∷ os) i at u names q t1 =
+        let here = usable_if (before_local f.function i) (at_start f.function) o in
+        let later = first_values_fit f.function (suc i) os in
+        let there : slice_get all i ≡ Some o = ap (slice_get all) (sym (zero-add i)) ∙ sym (at 0) in
+        let next = bind names (f.names.local_ i) (variable_place f (entries t) i) in
+        let known : next ≡ names_before (suc i) = ap (λ z. bind z (f.names.local_ i) (variable_place f (entries t) i)) q ∙ sym (next_names i o there) in
+        let rest = first_of_each spelled (variables_from f (suc i) os) (entries t) (suc i) next in
+        first_reached k e i o (and_left here later u) names q (first_used_all (call_of fs f vs t) kept os) rest (firsts_reached k e os (suc i) further (and_right here later u) next known) t1
+      where
+        further : (k : ℕ) → slice_get os k ≡ slice_get all (k + suc i)
+        further k =
+            let same : suc k + i ≡ k + suc i = omega arith in
+            at (suc k) ∙ ap (slice_get all) same
 
     -- both runs of the body
-    pub list_alike : length vs ≡ argument_count f.function → IsTrue (has_types f.function.argument_types vs) → (t1 : List Event) → Same (call_of fs f vs t) f.names (at_start f.function) (constants_kept f.function env m) (after_all f 0 f.function.body (at_start f.function)) (any_continue f.function.body) (run_all (call_of fs f vs t) bound f.function.body (constants_kept f.function env m) t1) (follow_all (words (call_of fs f vs t) (responses fs)) bound (form_all f 0 f.function.body (at_start f.function)) (first_names n f vs t) t1)
+    pub list_alike : length vs ≡ argument_count f.function → IsTrue (has_types env.parts f.function.argument_types vs) → (t1 : List Event) → Same (call_of fs f vs t) f.names (at_start f.function) (constants_kept f.function env m) (after_all f 0 f.function.body (at_start f.function)) (any_continue f.function.body) (run_all (call_of fs f vs t) bound f.function.body (constants_kept f.function env m) t1) (follow_all (words (call_of fs f vs t) (responses fs)) bound (form_all f 0 f.function.body (at_start f.function)) (first_names n f vs t) t1)
     list_alike e k t1 =
         let c = call_of fs f vs t in
-        let firsts_fit = first_values_fit f.function f.function.first_values in
+        let firsts_fit = first_values_fit f.function 0 f.function.first_values in
         let body_fits = fits_all f 0 f.function.body (at_start f.function) in
         let checked = all_fresh p c f.names environment fit.distinct f.function.body 0 (at_start f.function) (omega arith) (start_sources p c f.names environment fit.distinct) fit.regular (and_right firsts_fit body_fits fit.scope) in
-        same_all p c f.names (responses fs) (given k) bound f.function.body 0 (at_start f.function) (first_names n f vs t) (constants_kept f.function env m) t1 (starts e) checked
+        same_all p c f.names (responses fs) (given fs within fits earlier f start typed vs t k) bound f.function.body 0 (at_start f.function) (first_names n f vs t) (constants_kept f.function env m) t1 (starts fs within fits earlier f start typed vs t e) checked
 
-    body_alike : (place place' : ℕ) → place' ≡ place → length vs ≡ argument_count f.function → IsTrue (has_types f.function.argument_types vs) → Answers (Returns f.function) (run_body (call_of fs f vs t) bound place vs t) (follow_body (words (call_of fs f vs t) (responses fs)) bound place' (form_function f) vs (first_names n f vs t) t)
+    body_alike : (place place' : ℕ) → place' ≡ place → length vs ≡ argument_count f.function → IsTrue (has_types env.parts f.function.argument_types vs) → Answers (Returns env.parts f.function) (run_body (call_of fs f vs t) bound place vs t) (follow_body (words (call_of fs f vs t) (responses fs)) bound place' (form_function f) vs (parameter_names n f vs) t)
     body_alike place place' pe e k =
         let c = call_of fs f vs t in
         let kept = constants_kept f.function env m in
         let os = f.function.first_values in
-        let firsts_fit = first_values_fit f.function os in
+        let firsts_fit = first_values_fit f.function 0 os in
         let body_fits = fits_all f 0 f.function.body (at_start f.function) in
-        subst (λ q. Answers (Returns f.function) (run_body c bound place vs t) (entered_by place' vs q (λ t1. answer (follow_all (words c (responses fs)) bound (form_all f 0 f.function.body (at_start f.function)) (first_names n f vs t) t1)))) (sym (firsts_reached k e os 0 (and_left firsts_fit body_fits fit.scope) t)) (entered_alike (Returns f.function) place place' vs (first_used_all c kept os) t _ _ pe (λ t1. alike_answers tt (list_alike e k t1)))
+        subst (λ q. Answers (Returns env.parts f.function) (run_body c bound place vs t) (entered_by place' vs q (λ t1. answer (follow_all (words c (responses fs)) bound (form_all f 0 f.function.body (at_start f.function)) (first_names n f vs t) t1)))) (sym (firsts_reached k e os 0 (λ i. ap (slice_get all) (sym (add-zero i))) (and_left firsts_fit body_fits fit.scope) (parameter_names n f vs) refl t)) (entered_alike (Returns env.parts f.function) place place' vs (first_used_all c kept os) t _ _ pe (λ t1. alike_answers tt (list_alike e k t1)))
 
-    call_alike : IsTrue (has_types f.function.argument_types vs) → Answers (Returns f.function) (program_call fs f vs t) (text_call fs f vs t)
+    call_alike : IsTrue (has_types env.parts f.function.argument_types vs) → Answers (Returns env.parts f.function) (program_call fs f vs t) (text_call fs f vs t)
     call_alike h =
         let count = length-names_from f.names.argument 0 (argument_count f.function) in
         let there = length (functions_of fs) in
         let place : length (form_functions fs) ≡ there = length-form_functions fs ∙ sym (length-functions_of fs) in
-        called_alike (Returns f.function) (nat_eq (length vs) (length (names_from f.names.argument 0 (argument_count f.function)))) (nat_eq (length vs) (argument_count f.function)) _ _ t (ap (nat_eq (length vs)) count) (λ e. body_alike there (length (form_functions fs)) place (eqb-true (length vs) (argument_count f.function) e) h)
+        called_alike (Returns env.parts f.function) (nat_eq (length vs) (length (names_from f.names.argument 0 (argument_count f.function)))) (nat_eq (length vs) (argument_count f.function)) _ _ t (ap (nat_eq (length vs)) count) (λ e. body_alike there (length (form_functions fs)) place (eqb-true (length vs) (argument_count f.function) e) h)
 
-  pub calls_alike : (fs : List Naming) → AllFit p n fs → AllTypedIn p m (functions_of fs) → ((g k : ℕ) → g < length fs → k < length fs → n.function g ≡ n.function k → g ≡ k) → Alike_calls fs
-  calls_alike [] fits typed one g callee e vs h t = absurd (nothing e)
+  pub calls_alike : (fs : List Naming) → length fs ≤ length p.functions → AllFit p n fs → AllTypedIn env.parts p m (functions_of fs) → ((g k : ℕ) → g < length fs → k < length fs → n.function g ≡ n.function k → g ≡ k) → Alike_calls fs
+  calls_alike [] within fits typed one g callee e vs h t = absurd (nothing e)
     where
       nothing : None ≡ Some callee → ⊥
       nothing e = cc
-  calls_alike (f ∷ fs) fits typed one g callee e vs h t =
+  calls_alike (f ∷ fs) within fits typed one g callee e vs h t =
       let own_name = f.names.outer.function f.names.earlier in
       let place : length (functions_of fs) ≡ length fs = length-functions_of fs in
       let is_name : own_name ≡ n.function (length fs) = ap (λ n. n.function f.names.earlier) fits.0.outer ∙ ap n.function (fits.0.earlier ∙ place) in
-      let earlier = calls_alike fs fits.1 typed.1 (λ a b la lb q. one a b (omega arith) (omega arith) q) in
+      let fewer : length fs ≤ length p.functions = omega (arith, within) in
+      let earlier = calls_alike fs fewer fits.1 typed.1 (λ a b la lb q. one a b (omega arith) (omega arith) q) in
       let within : g < suc (length (functions_of fs)) = numbered_within (functions_of (f ∷ fs)) g callee e in
       let lt : g < suc (length fs) = subst (λ k. g < suc k) place within in
       let test = same_test (n.function g) own_name g (length (functions_of fs)) (λ e. one g (length fs) lt (omega arith) (e ∙ is_name) ∙ sym place) (λ e. ap n.function (e ∙ place) ∙ sym is_name) in
-      pick_alike (Returns callee) (same_bytes (n.function g) own_name) (nat_eq g (length (functions_of fs))) (program_call fs f vs t) (text_call fs f vs t) (run_call env w m bound (functions_of fs) g vs t) (responses fs (n.function g) vs t) test (λ q. let same : f.function ≡ callee = same_function f.function callee (ap (λ b. cond b (Some f.function) (function_numbered (functions_of fs) g)) (sym q) ∙ e) in subst (λ k. Answers (Returns k) (program_call fs f vs t) (text_call fs f vs t)) same (call_alike fs fits.1 earlier f fits.0 typed.0 vs t (subst (λ k. IsTrue (has_types k.argument_types vs)) (sym same) h))) (λ q. earlier g callee (ap (λ b. cond b (Some f.function) (function_numbered (functions_of fs) g)) (sym q) ∙ e) vs h t)
+      pick_alike (Returns env.parts callee) (same_bytes (n.function g) own_name) (nat_eq g (length (functions_of fs))) (program_call fs f vs t) (text_call fs f vs t) (run_call env w m bound (functions_of fs) g vs t) (responses fs (n.function g) vs t) test (λ q. let same : f.function ≡ callee = same_function f.function callee (ap (λ b. cond b (Some f.function) (function_numbered (functions_of fs) g)) (sym q) ∙ e) in subst (λ k. Answers (Returns env.parts k) (program_call fs f vs t) (text_call fs f vs t)) same (call_alike fs fewer fits.1 earlier f fits.0 typed.0 vs t (subst (λ k. IsTrue (has_types env.parts k.argument_types vs)) (sym same) h))) (λ q. earlier g callee (ap (λ b. cond b (Some f.function) (function_numbered (functions_of fs) g)) (sym q) ∙ e) vs h t)
 
 answers_same : {A : Type 0} (R : A → Type 0) (q q' : Reached A) → KeepsTypes q → Answers R q q' → q' ≡ q
 answers_same R q q' k (same_answer h) = refl
 answers_same R q q' k mistyped_answer = absurd k
 
+-- no function has a word for its name that is none of the module's
+no_name_among : (p : Module) (n : ModuleNames) (fs : List Naming) → length fs ≤ length p.functions → AllFit p n fs → (word : Bytes) → ((g : ℕ) → g < length p.functions → n.function g ≢ word) → names_function (form_functions fs) word ≡ false
+no_name_among p n [] within fits word other = refl
+no_name_among p n (f ∷ fs) within fits word other =
+    let own_name = f.names.outer.function f.names.earlier in
+    let is_name : own_name ≡ n.function (length fs) = ap (λ n. n.function f.names.earlier) fits.0.outer ∙ ap n.function (fits.0.earlier ∙ length-functions_of fs) in
+    let apart : same_bytes word own_name ≡ false = same_bytes_apart word own_name (λ e. other (length fs) (omega (arith, within)) (sym (e ∙ is_name))) in
+    let fewer : length fs ≤ length p.functions = omega (arith, within) in
+    ap (λ b. b || names_function (form_functions fs) word) apart ∙ no_name_among p n fs fewer fits.1 word other
+
+pub uses_fit : (p : Module) (n : ModuleNames) (fs : List Naming) → length fs ≤ length p.functions → AllFit p n fs → UsesFit p n (word_use (form_functions fs) n.is_request)
+uses_fit p n fs within fits =
+    record {
+      requests = λ word other q. named word other ∙ ap (λ b. cond b AsksForEvent Operates) q;
+      operators = λ word other q. named word other ∙ ap (λ b. cond b AsksForEvent Operates) q;
+    }
+  where
+    named : (word : Bytes) → ((g : ℕ) → g < length p.functions → n.function g ≢ word) → word_use (form_functions fs) n.is_request word ≡ cond (n.is_request word) AsksForEvent Operates
+    named word other =
+        ap (λ b. cond b NamesFunction (cond (n.is_request word) AsksForEvent Operates)) (no_name_among p n fs within fits word other)
+
+-- what a module's functions are, and how many
+pub module_within : (p : Module) (fs : List Naming) → functions_of fs ≡ p.functions → length fs ≤ length p.functions
+module_within p fs e =
+    let count : length fs ≡ length p.functions = sym (length-functions_of fs) ∙ ap length e in
+    omega (arith, count)
+
 pub runs_alike : RunsAlike
 runs_alike p n fs fits env environment m typed g f e vs h w turns t keeps =
-    subst (λ l. function_numbered l g ≡ Some f → AllTypedIn p m l → KeepsTypes (run_call env w m turns l g vs t) → follow_call (module_scope (form_module p n fs) env) w m n.is_request turns (form_functions fs) (n.function g) vs t ≡ run_call env w m turns l g vs t) fits.functions there e typed keeps
+    subst (λ l. function_numbered l g ≡ Some f → AllTypedIn env.parts p m l → KeepsTypes (run_call env w m turns l g vs t) → follow_call (module_scope (form_module p n fs) env) w m uses turns (form_functions fs) (n.function g) vs t ≡ run_call env w m turns l g vs t) fits.functions there e (subst (λ parts. AllTypedIn parts p m p.functions) (sym environment.parts) typed) keeps
   where
+    uses : Bytes → WordUse
+    uses = word_use (form_functions fs) n.is_request
+
+    within : length fs ≤ length p.functions
+    within = module_within p fs fits.functions
+
     count : length (functions_of fs) ≡ length p.functions
     count = ap length fits.functions
 
@@ -303,6 +510,6 @@ runs_alike p n fs fits env environment m typed g f e vs h w turns t keeps =
         let same : length fs ≡ length p.functions = sym (length-functions_of fs) ∙ count in
         fits.distinct.functions g k (subst (λ z. g < z) same lg) (subst (λ z. k < z) same lk)
 
-    there : function_numbered (functions_of fs) g ≡ Some f → AllTypedIn p m (functions_of fs) → KeepsTypes (run_call env w m turns (functions_of fs) g vs t) → follow_call (module_scope (form_module p n fs) env) w m n.is_request turns (form_functions fs) (n.function g) vs t ≡ run_call env w m turns (functions_of fs) g vs t
+    there : function_numbered (functions_of fs) g ≡ Some f → AllTypedIn env.parts p m (functions_of fs) → KeepsTypes (run_call env w m turns (functions_of fs) g vs t) → follow_call (module_scope (form_module p n fs) env) w m uses turns (form_functions fs) (n.function g) vs t ≡ run_call env w m turns (functions_of fs) g vs t
     there e typed keeps =
-        answers_same (Returns f) (run_call env w m turns (functions_of fs) g vs t) _ keeps (calls_alike p n env environment w m turns fs fits.all typed one g f e vs h t)
+        answers_same (Returns env.parts f) (run_call env w m turns (functions_of fs) g vs t) _ keeps (calls_alike p n uses (uses_fit p n fs within fits.all) env environment w m turns fs within fits.all typed one g f e vs (subst (λ parts. IsTrue (has_types parts f.argument_types vs)) (sym environment.parts) h) t)

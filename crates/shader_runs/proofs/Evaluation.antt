@@ -1,16 +1,16 @@
 -- What a text's expression gives where it makes no event, by its parts.
 use Rattle.std.proofs.Common.{◌≡◌, ◌≢◌, ℕ, ◌<◌, Bool, true, false, cond, List, [], ◌∷◌, Option, Some, None, refl, sym, ap, ◌∙◌, true≢false}
 use Rattle.std.specs.Prelude.{IsTrue}
-use Rattle.shader_runs.specs.Value.{Bytes, Part, At, Selector, step_of, ValueType, BooleanType, IntegerType, PointerType, OtherType, has_type, has_types, Value, Truth, Whole, Pointer, Opaque, Spelled, PartWord, IndexWord, ShortCircuit}
+use Rattle.shader_runs.specs.Value.{Bytes, PartTypes, Part, At, Selector, MemberNamed, step_of, ValueType, BooleanType, IntegerType, PointerType, OtherType, has_type, has_types, Value, Truth, Whole, Pointer, Opaque, Spelled, PartWord, IndexWord, ShortCircuit}
 use Rattle.shader_runs.specs.World.{Event, Ask, World, Meaning}
 use Rattle.shader_runs.specs.Outcome.{Stuck, Reached, Gives, Halts}
 use Rattle.shader_runs.specs.Program.{Module, Function, function_numbered, Expression}
-use Rattle.shader_runs.specs.ProgramRun.{Call, Kept, used, also, used_all, applied, index_value_of, part_value, decides, undecided, combined, gathered}
+use Rattle.shader_runs.specs.ProgramRun.{Call, Kept, used, also, used_all, applied, index_value_of, part_value, swizzle_value, decides, undecided, combined, gathered}
 use Rattle.shader_runs.specs.Text.{Index, PartOf, LogicalOf}
-use Rattle.shader_runs.specs.TextRun.{part_reached, index_reached, indexed, part_picked, undecided_reached, logical_reached, Denoted, IsValue, IsPlace, Words, Scope, named, valued, responded, unhidden, as_value, dereferenced, addressed, put_before, followed_by, evaluate, evaluate_all, value_of, respond_by_table}
+use Rattle.shader_runs.specs.TextRun.{part_reached, index_reached, indexed, part_picked, undecided_reached, logical_reached, Denoted, IsValue, IsPlace, Words, Scope, named, valued, responded, unhidden, as_value, dereferenced, addressed, put_before, followed_by, evaluate, evaluate_all, value_of, WordUse, AsksForEvent, Operates, respond_by_use}
 use Rattle.shader_runs.specs.Scope.{Names, Naming}
 use Rattle.shader_runs.specs.Form.{Plain, AsValue, AsPlace, value_form, place_form, value_forms, access_form, part_form}
-use Rattle.shader_runs.specs.Premises.{OperatesBy, AsksBy}
+use Rattle.shader_runs.specs.Premises.{IsNoPointer, OperatesBy, AsksBy}
 use Rattle.shader_runs.proofs.Alike.{Answers, reached, placed}
 use Rattle.shader_runs.proofs.Relation.{Returns, as_denoted}
 
@@ -24,9 +24,10 @@ abbrev pub words : Call → Respond → Words
 words c d = record { world = c.world; meaning = c.meaning; respond = d }
 
 -- what the text makes of a word: a callee's run, or what the table says
-pub record Responds (c : Call) (n : Names) (d : Respond) : Type 0 where
-  pub table : (w : Bytes) → ((g : ℕ) → g < n.earlier → n.outer.function g ≢ w) → (vs : List Value) (t : List Event) → d w vs t ≡ respond_by_table c.world c.meaning n.outer.is_request w vs t
-  pub calls : (g : ℕ) (callee : Function) → function_numbered c.callees g ≡ Some callee → (vs : List Value) → IsTrue (has_types callee.argument_types vs) → (t : List Event) → Answers (Returns callee) (c.calls g vs t) (d (n.outer.function g) vs t)
+pub record Responds (p : Module) (c : Call) (n : Names) (d : Respond) : Type 0 where
+  pub requests : (w : Bytes) → AsksBy p (naming c n) w → (vs : List Value) (t : List Event) → d w vs t ≡ respond_by_use AsksForEvent c.world c.meaning w vs t
+  pub operators : (w : Bytes) → OperatesBy p (naming c n) w → (vs : List Value) (t : List Event) → d w vs t ≡ respond_by_use Operates c.world c.meaning w vs t
+  pub calls : (g : ℕ) (callee : Function) → function_numbered c.callees g ≡ Some callee → (vs : List Value) → IsTrue (has_types c.environment.parts callee.argument_types vs) → (t : List Event) → Answers (Returns c.environment.parts callee) (c.calls g vs t) (d (n.outer.function g) vs t)
 
 abbrev pub denoted : Option Value → List Event → Reached Denoted
 denoted None t = Halts Stuck t
@@ -93,20 +94,18 @@ pub named_denoted : (o : Option Value) (t : List Event) → named (as_denoted o)
 named_denoted None t = refl
 named_denoted (Some v) t = refl
 
-pub operator_responds : (p : Module) (c : Call) (n : Names) (d : Respond) → Responds c n d → (w : Bytes) → OperatesBy p (naming c n) w → (vs : List Value) (t : List Event) → d w vs t ≡ Gives (Some (c.meaning (Spelled w) vs)) t
-operator_responds p c n d r w f vs t =
-    r.table w f.1.0 vs t ∙ ap (λ b. cond b (Gives (Some (c.world t (Ask w vs))) (Ask w vs ∷ t)) (Gives (Some (c.meaning (Spelled w) vs)) t)) f.0
+pub operator_responds : (p : Module) (c : Call) (n : Names) (d : Respond) → Responds p c n d → (w : Bytes) → OperatesBy p (naming c n) w → (vs : List Value) (t : List Event) → d w vs t ≡ Gives (Some (c.meaning (Spelled w) vs)) t
+operator_responds p c n d r w f vs t = r.operators w f vs t
 
-pub request_responds : (p : Module) (c : Call) (n : Names) (d : Respond) → Responds c n d → (w : Bytes) → AsksBy p (naming c n) w → (vs : List Value) (t : List Event) → d w vs t ≡ Gives (Some (c.world t (Ask w vs))) (Ask w vs ∷ t)
-request_responds p c n d r w f vs t =
-    r.table w f.1.0 vs t ∙ ap (λ b. cond b (Gives (Some (c.world t (Ask w vs))) (Ask w vs ∷ t)) (Gives (Some (c.meaning (Spelled w) vs)) t)) f.0
+pub request_responds : (p : Module) (c : Call) (n : Names) (d : Respond) → Responds p c n d → (w : Bytes) → AsksBy p (naming c n) w → (vs : List Value) (t : List Event) → d w vs t ≡ Gives (Some (c.world t (Ask w vs))) (Ask w vs ∷ t)
+request_responds p c n d r w f vs t = r.requests w f vs t
 
-operated : (p : Module) (c : Call) (n : Names) (d : Respond) → Responds c n d → (w : Bytes) → OperatesBy p (naming c n) w → (os : Option (List Value)) (t : List Event) → as_value (responded (words c d) w (reached_all os t)) ≡ denoted (applied c.meaning (Spelled w) os) t
+operated : (p : Module) (c : Call) (n : Names) (d : Respond) → Responds p c n d → (w : Bytes) → OperatesBy p (naming c n) w → (os : Option (List Value)) (t : List Event) → as_value (responded (words c d) w (reached_all os t)) ≡ denoted (applied c.meaning (Spelled w) os) t
 operated p c n d r w f None t = refl
 operated p c n d r w f (Some vs) t = ap as_value (operator_responds p c n d r w f vs t)
 
 -- an operator's word on what its operands give
-pub applied_reached : (p : Module) (c : Call) (n : Names) (d : Respond) → Responds c n d → (w : Bytes) → OperatesBy p (naming c n) w → (o : Option Denoted) → o ≡ None → (os : Option (List Value)) (t : List Event) → as_value (unhidden o t (responded (words c d) w (reached_all os t))) ≡ denoted (applied c.meaning (Spelled w) os) t
+pub applied_reached : (p : Module) (c : Call) (n : Names) (d : Respond) → Responds p c n d → (w : Bytes) → OperatesBy p (naming c n) w → (o : Option Denoted) → o ≡ None → (os : Option (List Value)) (t : List Event) → as_value (unhidden o t (responded (words c d) w (reached_all os t))) ≡ denoted (applied c.meaning (Spelled w) os) t
 applied_reached p c n d r w f o e os t =
     ap (λ o. as_value (unhidden o t (responded (words c d) w (reached_all os t)))) e ∙ operated p c n d r w f os t
 
@@ -131,17 +130,17 @@ not_pointer (Pointer p) = false
 not_pointer _ = true
 
 abbrev pub not_pointer_type : ValueType → Bool
-not_pointer_type PointerType = false
+not_pointer_type (PointerType s) = false
 not_pointer_type _ = true
 
-pub typed_not_pointer : (k : ValueType) (x : Value) → IsTrue (not_pointer_type k) → IsTrue (has_type k x) → IsTrue (not_pointer x)
-typed_not_pointer k (Truth b) n h = refl
-typed_not_pointer k (Whole s z) n h = refl
-typed_not_pointer k (Opaque s z) n h = refl
-typed_not_pointer BooleanType (Pointer p) n h = h
-typed_not_pointer (IntegerType s) (Pointer p) n h = h
-typed_not_pointer (OtherType s) (Pointer p) n h = h
-typed_not_pointer PointerType (Pointer p) n h = n
+pub typed_not_pointer : (parts : PartTypes) (k : ValueType) (x : Value) → IsTrue (not_pointer_type k) → IsTrue (has_type parts k x) → IsTrue (not_pointer x)
+typed_not_pointer parts k (Truth b) n h = refl
+typed_not_pointer parts k (Whole s z) n h = refl
+typed_not_pointer parts k (Opaque s z) n h = refl
+typed_not_pointer parts BooleanType (Pointer p) n h = h
+typed_not_pointer parts (IntegerType s) (Pointer p) n h = h
+typed_not_pointer parts (OtherType s) (Pointer p) n h = h
+typed_not_pointer parts (PointerType s) (Pointer p) n h = n
 
 -- an index into a value that is no pointer
 pub index_value : (m : Meaning) (x y v : Value) → IsTrue (not_pointer x) → index_value_of m x y ≡ Some v → (p : Reached Denoted) (rest : List Event → Reached Value) (t : List Event) → p ≡ Gives (IsValue x) t → rest t ≡ Gives y t → indexed m p rest ≡ Gives (IsValue v) t
@@ -171,43 +170,60 @@ logical_reached_value m j l r p rest t e q = ap (λ p. logical_reached m j p res
     go false = ap (undecided_reached m j l) q
 
 module _ (c : Call) (d : Respond) (names : Scope) where
-  index_place : (b i : Plain) (x y v : Value) → Means c d names b (Some x) → Means c d names i (Some y) → IsTrue (has_type PointerType x) → index_value_of c.meaning x y ≡ Some v → Means c d names (AsPlace (Index (place_form b) (value_form i))) (Some v)
-  index_place b i (Pointer p) (Whole s z) v mb mi h e =
+  index_place : (pt : Bytes) (b i : Plain) (x y v : Value) → Means c d names b (Some x) → Means c d names i (Some y) → IsTrue (has_type c.environment.parts (PointerType pt) x) → index_value_of c.meaning x y ≡ Some v → Means c d names (AsPlace (Index (place_form b) (value_form i))) (Some v)
+  index_place pt b i (Pointer p) (Whole s z) v mb mi h e =
       (Part p (At z), sym e, λ t. ap (λ q. indexed c.meaning q (value_of (words c d) (value_form i) names)) (place_form_gives c d names b (Some (Pointer p)) mb t) ∙ ap (part_reached p) (value_form_gives c d names i (Some (Whole s z)) mi t))
-  index_place b i (Pointer p) (Truth y) v mb mi h e = absurd (none_some v e)
-  index_place b i (Pointer p) (Pointer y) v mb mi h e = absurd (none_some v e)
-  index_place b i (Pointer p) (Opaque y z) v mb mi h e = absurd (none_some v e)
-  index_place b i (Truth x) y v mb mi h e = absurd (true≢false (sym h))
-  index_place b i (Whole x z) y v mb mi h e = absurd (true≢false (sym h))
-  index_place b i (Opaque x z) y v mb mi h e = absurd (true≢false (sym h))
+  index_place pt b i (Pointer p) (Truth y) v mb mi h e = absurd (none_some v e)
+  index_place pt b i (Pointer p) (Pointer y) v mb mi h e = absurd (none_some v e)
+  index_place pt b i (Pointer p) (Opaque y z) v mb mi h e = absurd (none_some v e)
+  index_place pt b i (Truth x) y v mb mi h e = absurd (true≢false (sym h))
+  index_place pt b i (Whole x z) y v mb mi h e = absurd (true≢false (sym h))
+  index_place pt b i (Opaque x z) y v mb mi h e = absurd (true≢false (sym h))
 
   index_means : (b i : Plain) (x y v : Value) → Means c d names b (Some x) → Means c d names i (Some y) → IsTrue (not_pointer x) → index_value_of c.meaning x y ≡ Some v → Means c d names (AsValue (Index (value_form b) (value_form i))) (Some v)
   index_means b i x y v mb mi h e t =
       index_value c.meaning x y v h e (evaluate (words c d) (value_form b) names t) (value_of (words c d) (value_form i) names) t (value_form_denotes c d names b (Some x) mb t) (value_form_gives c d names i (Some y) mi t)
 
-  pub access_means : (k : ValueType) (b i : Plain) (x y v : Value) → Means c d names b (Some x) → Means c d names i (Some y) → IsTrue (has_type k x) → index_value_of c.meaning x y ≡ Some v → Means c d names (access_form k b i) (Some v)
-  access_means PointerType b i x y v mb mi h e = index_place b i x y v mb mi h e
-  access_means BooleanType b i x y v mb mi h e = index_means b i x y v mb mi (typed_not_pointer BooleanType x refl h) e
+  pub access_means : (k : ValueType) (b i : Plain) (x y v : Value) → Means c d names b (Some x) → Means c d names i (Some y) → IsTrue (has_type c.environment.parts k x) → index_value_of c.meaning x y ≡ Some v → Means c d names (access_form k b i) (Some v)
+  access_means (PointerType s) b i x y v mb mi h e = index_place s b i x y v mb mi h e
+  access_means BooleanType b i x y v mb mi h e = index_means b i x y v mb mi (typed_not_pointer c.environment.parts BooleanType x refl h) e
   access_means (IntegerType s) b i x y v mb mi h e =
-      index_means b i x y v mb mi (typed_not_pointer (IntegerType s) x refl h) e
-  access_means (OtherType s) b i x y v mb mi h e = index_means b i x y v mb mi (typed_not_pointer (OtherType s) x refl h) e
+      index_means b i x y v mb mi (typed_not_pointer c.environment.parts (IntegerType s) x refl h) e
+  access_means (OtherType s) b i x y v mb mi h e = index_means b i x y v mb mi (typed_not_pointer c.environment.parts (OtherType s) x refl h) e
 
-  part_place : (x : Selector) (b : Plain) (y v : Value) → Means c d names b (Some y) → IsTrue (has_type PointerType y) → part_value c.meaning x y ≡ Some v → Means c d names (AsPlace (PartOf x (place_form b))) (Some v)
-  part_place x b (Pointer p) v mb h e =
+  part_place : (pt : Bytes) (x : Selector) (b : Plain) (y v : Value) → Means c d names b (Some y) → IsTrue (has_type c.environment.parts (PointerType pt) y) → part_value c.meaning x y ≡ Some v → Means c d names (AsPlace (PartOf x (place_form b))) (Some v)
+  part_place pt x b (Pointer p) v mb h e =
       (Part p (step_of x), sym e, λ t. ap (part_picked c.meaning x) (place_form_gives c d names b (Some (Pointer p)) mb t))
-  part_place x b (Truth y) v mb h e = absurd (true≢false (sym h))
-  part_place x b (Whole y z) v mb h e = absurd (true≢false (sym h))
-  part_place x b (Opaque y z) v mb h e = absurd (true≢false (sym h))
+  part_place pt x b (Truth y) v mb h e = absurd (true≢false (sym h))
+  part_place pt x b (Whole y z) v mb h e = absurd (true≢false (sym h))
+  part_place pt x b (Opaque y z) v mb h e = absurd (true≢false (sym h))
 
   part_value_means : (x : Selector) (b : Plain) (y v : Value) → Means c d names b (Some y) → IsTrue (not_pointer y) → part_value c.meaning x y ≡ Some v → Means c d names (AsValue (PartOf x (value_form b))) (Some v)
   part_value_means x b y v mb h e t =
       part_picked_value c.meaning x y v h e (evaluate (words c d) (value_form b) names t) t (value_form_denotes c d names b (Some y) mb t)
 
-  pub part_means : (k : ValueType) (x : Selector) (b : Plain) (y v : Value) → Means c d names b (Some y) → IsTrue (has_type k y) → part_value c.meaning x y ≡ Some v → Means c d names (part_form k x b) (Some v)
-  part_means PointerType x b y v mb h e = part_place x b y v mb h e
-  part_means BooleanType x b y v mb h e = part_value_means x b y v mb (typed_not_pointer BooleanType y refl h) e
-  part_means (IntegerType s) x b y v mb h e = part_value_means x b y v mb (typed_not_pointer (IntegerType s) y refl h) e
-  part_means (OtherType s) x b y v mb h e = part_value_means x b y v mb (typed_not_pointer (OtherType s) y refl h) e
+  pub part_means : (k : ValueType) (x : Selector) (b : Plain) (y v : Value) → Means c d names b (Some y) → IsTrue (has_type c.environment.parts k y) → part_value c.meaning x y ≡ Some v → Means c d names (part_form k x b) (Some v)
+  part_means (PointerType s) x b y v mb h e = part_place s x b y v mb h e
+  part_means BooleanType x b y v mb h e = part_value_means x b y v mb (typed_not_pointer c.environment.parts BooleanType y refl h) e
+  part_means (IntegerType s) x b y v mb h e = part_value_means x b y v mb (typed_not_pointer c.environment.parts (IntegerType s) y refl h) e
+  part_means (OtherType s) x b y v mb h e = part_value_means x b y v mb (typed_not_pointer c.environment.parts (OtherType s) y refl h) e
+
+  swizzled_value : (letters : Bytes) (y v : Value) → IsTrue (not_pointer y) → swizzle_value c.meaning letters y ≡ Some v → part_value c.meaning (MemberNamed letters) y ≡ Some v
+  swizzled_value letters (Truth y) v h e = e
+  swizzled_value letters (Whole y z) v h e = e
+  swizzled_value letters (Opaque y z) v h e = e
+  swizzled_value letters (Pointer y) v h e = absurd (true≢false (sym h))
+
+  no_pointer_type : (k : ValueType) → IsNoPointer k → IsTrue (not_pointer_type k)
+  no_pointer_type BooleanType n = refl
+  no_pointer_type (IntegerType s) n = refl
+  no_pointer_type (OtherType s) n = refl
+  no_pointer_type (PointerType s) n = absurd n
+
+  pub swizzle_means : (k : ValueType) (letters : Bytes) (b : Plain) (y v : Value) → Means c d names b (Some y) → IsNoPointer k → IsTrue (has_type c.environment.parts k y) → swizzle_value c.meaning letters y ≡ Some v → Means c d names (AsValue (PartOf (MemberNamed letters) (value_form b))) (Some v)
+  swizzle_means k letters b y v mb n h e =
+      let other = typed_not_pointer c.environment.parts k y (no_pointer_type k n) h in
+      part_value_means (MemberNamed letters) b y v mb other (swizzled_value letters y v other e)
 
   pub logical_means : (j : ShortCircuit) (a b : Plain) (l r : Value) → Means c d names a (Some l) → Means c d names b (Some r) → Means c d names (AsValue (LogicalOf j (value_form a) (value_form b))) (Some (cond (decides j l) l (undecided c.meaning j l r)))
   logical_means j a b l r ma mb t =

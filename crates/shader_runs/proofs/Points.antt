@@ -1,13 +1,14 @@
 -- The two facts at the end of a body.
-use Rattle.std.proofs.Common.{◌≡◌, ℕ, suc, ◌<◌, List, length, Option, sym, ap, ◌∙◌, subst, arith}
-use Rattle.shader_runs.specs.Value.{Value}
+use Rattle.std.proofs.Common.{◌≡◌, ℕ, suc, ◌<◌, ◌≤◌, List, ◌∷◌, length, Option, sym, ap, ◌∙◌, subst, arith}
+use Rattle.std.specs.Prelude.{IsTrue}
+use Rattle.shader_runs.specs.Value.{Value, has_types}
 use Rattle.shader_runs.specs.World.{Event}
 use Rattle.shader_runs.specs.Outcome.{Stop, Outcome, Done, Continued, Broke, Returned, Stopped}
 use Rattle.shader_runs.specs.Program.{expression_of, handle_type, Module}
 use Rattle.shader_runs.specs.ProgramRun.{Call, Kept}
-use Rattle.shader_runs.specs.TextRun.{Scope}
+use Rattle.shader_runs.specs.TextRun.{Scope, word_use}
 use Rattle.shader_runs.specs.Scope.{Handles, Names, after_all, at_start}
-use Rattle.shader_runs.specs.Form.{functions_of}
+use Rattle.shader_runs.specs.Form.{form_functions, functions_of}
 use Rattle.shader_runs.specs.Premises.{AllTypedIn}
 use Rattle.shader_runs.specs.Points.{FactsHold, call_of, words_of, PointsAgree}
 use Rattle.shader_runs.proofs.Alike.{reached, Alike, done, continued, broke, returned_alike, stopped, mistyped}
@@ -15,7 +16,7 @@ use Rattle.shader_runs.proofs.Update.{has_types_length}
 use Rattle.shader_runs.proofs.Relation.{as_denoted, Stands, Related}
 use Rattle.shader_runs.proofs.Evaluation.{naming, words, Respond}
 use Rattle.shader_runs.proofs.Written.{Given, typed_value, value_here}
-use Rattle.shader_runs.proofs.Calls.{length-functions_of, given, list_alike, calls_alike}
+use Rattle.shader_runs.proofs.Calls.{length-functions_of, starting, given, list_alike, calls_alike, uses_fit, module_within}
 
 facts_hold : (p : Module) (c : Call) (n : Names) (d : Respond) → Given p c n d → (s : Handles) (names : Scope) (kept : Kept) → Related c n s names kept → FactsHold c (words c d) (naming c n) s kept names
 facts_hold p c n d given s names kept r =
@@ -54,12 +55,18 @@ both_done (mistyped {e = e}) k t q = absurd (not_stopped _ k e t q)
 
 pub points_agree : PointsAgree
 points_agree p n f fs fits env environment m typed vs h w turns before_entry t kept t1 ended =
-    let all = subst (λ l. AllTypedIn p m l) (sym fits.functions) typed in
-    let earlier = calls_alike p n env environment w m turns fs fits.all.1 all.1 one in
-    let alike = list_alike p n env environment w m turns fs fits.all.1 earlier f fits.all.0 all.0 vs before_entry (has_types_length f.function.argument_types vs h) h t in
+    let uses = word_use (form_functions (f ∷ fs)) n.is_request in
+    let whole = module_within p (f ∷ fs) fits.functions in
+    let within : length fs ≤ length p.functions = omega (arith, whole) in
+    let known = uses_fit p n (f ∷ fs) whole fits.all in
+    let all = subst (λ l. AllTypedIn env.parts p m l) (sym fits.functions) (subst (λ parts. AllTypedIn parts p m p.functions) (sym environment.parts) typed) in
+    let has = subst (λ parts. IsTrue (has_types parts f.function.argument_types vs)) (sym environment.parts) h in
+    let earlier = calls_alike p n uses known env environment w m turns fs within fits.all.1 all.1 one in
+    let alike = list_alike p n uses known env environment w m turns fs within fits.all.1 earlier f fits.all.0 all.0 vs before_entry (has_types_length env.parts f.function.argument_types vs has) has t in
     let last = both_done alike kept t1 ended in
     let c = call_of env w m turns f fs vs before_entry in
-    (last.0, last.1, facts_hold p c f.names (words_of p n env w m turns fs).respond (given p n env environment w m turns fs fits.all.1 earlier f fits.all.0 all.0 vs before_entry h) (after_all f 0 f.function.body (at_start f.function)) last.0 kept last.2.0)
+    let start = starting p n (functions_of fs) f fits.all.0 in
+    (last.0, last.1, facts_hold p c f.names (words_of p n (f ∷ fs) env w m turns fs).respond (given p n uses known env environment w m turns fs within fits.all.1 earlier f start all.0 vs before_entry has) (after_all f 0 f.function.body (at_start f.function)) last.0 kept last.2.0)
   where
     count : suc (length (functions_of fs)) ≡ length p.functions
     count = ap length fits.functions

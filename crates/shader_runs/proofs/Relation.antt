@@ -1,35 +1,39 @@
 -- What relates the module's kept values and the text's names, at each point of both runs.
 use Rattle.std.proofs.Common.{◌≡◌, ◌≢◌, ℕ, ◌<◌, Bool, true, false, cond, List, [], ◌∷◌, length, Option, Some, None, slice_get, refl, sym, ap, ◌∙◌}
 use Rattle.std.specs.Prelude.{IsTrue}
-use Rattle.shader_runs.specs.Value.{Bytes, Rooted, LocalRoot, ValueType, has_type, Value}
-use Rattle.shader_runs.specs.World.{GlobalValue}
-use Rattle.shader_runs.specs.Program.{Expression, Constant, Argument, Local, Global, Function, argument_count, local_count, expression_of, handle_type, operands_of}
+use Rattle.shader_runs.specs.Value.{Bytes, Rooted, LocalRoot, GlobalRoot, PartTypes, ValueType, has_type, Value}
+use Rattle.shader_runs.specs.World.{GlobalValue, Stored, Held}
+use Rattle.shader_runs.specs.Program.{Expression, Constant, Argument, Local, Global, Function, argument_count, local_count, local_pointer, expression_of, handle_type, operands_of}
 use Rattle.shader_runs.specs.ProgramRun.{Call, Kept, used_as, used, also, used_all, gathered, computed}
-use Rattle.shader_runs.specs.TextRun.{Denoted, IsValue, IsPlace, Scope, global_denoted}
+use Rattle.shader_runs.specs.TextRun.{Denoted, IsValue, IsPlace, Scope}
 use Rattle.shader_runs.specs.Scope.{Standing, Absent, Barred, Everywhere, Inline, Named, Handles, Names, usable, usable_as, usable_all, is_present, is_new, forgotten, forgotten_one, given_by_all}
 use Rattle.shader_runs.specs.Premises.{FixedName, ArgumentName, LocalName, ConstantName, GlobalName, fixed_name}
 use Rattle.shader_runs.proofs.Update.{and_left, and_right, and_both}
 
 -- a value of this type
-abbrev pub TypedValue : ValueType → Option Value → Type 0
-TypedValue k o = (v : Value) × (o ≡ Some v) × IsTrue (has_type k v)
+abbrev pub TypedValue : PartTypes → ValueType → Option Value → Type 0
+TypedValue parts k o = (v : Value) × (o ≡ Some v) × IsTrue (has_type parts k v)
 
 -- a returned value has the result's type
-abbrev pub ResultTyped : Option Value → Option ValueType → Type 0
-ResultTyped None k = Unit {0}
-ResultTyped (Some v) None = Unit {0}
-ResultTyped (Some v) (Some k) = IsTrue (has_type k v)
+abbrev pub ResultTyped : PartTypes → Option Value → Option ValueType → Type 0
+ResultTyped parts None k = Unit {0}
+ResultTyped parts (Some v) None = Unit {0}
+ResultTyped parts (Some v) (Some k) = IsTrue (has_type parts k v)
 
-abbrev pub Returns : Function → Option Value → Type 0
-Returns f o = ResultTyped o f.result
+abbrev pub Returns : PartTypes → Function → Option Value → Type 0
+Returns parts f o = ResultTyped parts o f.result
 
 abbrev pub as_denoted : Option Value → Option Denoted
 as_denoted None = None
 as_denoted (Some v) = Some (IsValue v)
 
+abbrev pub stored_denoted : ℕ → GlobalValue → Denoted
+stored_denoted i (Stored pointer) = IsPlace (Rooted (GlobalRoot pointer i))
+stored_denoted i (Held v) = IsValue v
+
 abbrev pub global_as : ℕ → Option GlobalValue → Option Denoted
 global_as i None = None
-global_as i (Some g) = Some (global_denoted i g)
+global_as i (Some g) = Some (stored_denoted i g)
 
 -- the names that are there from the start
 abbrev pub IsHere : Call → FixedName → Type 0
@@ -41,7 +45,7 @@ IsHere c (GlobalName i) = i < length c.environment.globals
 -- and what they stand for
 abbrev pub fixed_denoted : Call → FixedName → Option Denoted
 fixed_denoted c (ArgumentName i) = as_denoted (slice_get c.arguments i)
-fixed_denoted c (LocalName i) = Some (IsPlace (Rooted (LocalRoot c.frame i)))
+fixed_denoted c (LocalName i) = Some (IsPlace (Rooted (LocalRoot (local_pointer c.function i) c.frame i)))
 fixed_denoted c (ConstantName i) = as_denoted (slice_get c.environment.constants i)
 fixed_denoted c (GlobalName i) = global_as i (slice_get c.environment.globals i)
 
@@ -55,9 +59,9 @@ pub record NoName (c : Call) (n : Names) (w : Bytes) : Type 0 where
 abbrev pub Stands : Call → Handles → Scope → Kept → ValueType → Option Expression → Option Value → Standing → Type 0
 Stands c s names kept y e o Absent = Unit {0}
 Stands c s names kept y e o Barred = Unit {0}
-Stands c s names kept y e o Inline = IsTrue (usable_all c.function s (operands_of e)) × TypedValue y o × (o ≡ computed c kept e)
-Stands c s names kept y e o Everywhere = IsTrue (usable_all c.function s (operands_of e)) × TypedValue y o × (o ≡ computed c kept e)
-Stands c s names kept y e o (Named x) = TypedValue y (used_as c e o) × (names x ≡ as_denoted (used_as c e o))
+Stands c s names kept y e o Inline = IsTrue (usable_all c.function s (operands_of e)) × TypedValue c.environment.parts y o × (o ≡ computed c kept e)
+Stands c s names kept y e o Everywhere = IsTrue (usable_all c.function s (operands_of e)) × TypedValue c.environment.parts y o × (o ≡ computed c kept e)
+Stands c s names kept y e o (Named x) = TypedValue c.environment.parts y (used_as c e o) × (names x ≡ as_denoted (used_as c e o))
 
 pub record Related (c : Call) (n : Names) (s : Handles) (names : Scope) (kept : Kept) : Type 0 where
   pub standing : (h : ℕ) → Stands c s names kept (handle_type c.function h) (expression_of c.function h) (kept h) (s h)

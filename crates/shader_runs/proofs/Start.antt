@@ -4,7 +4,7 @@ use Rattle.std.specs.Prelude.{IsTrue}
 use Rattle.std.proofs.lemmas.Option.{slice_get_within}
 use Rattle.shader_runs.specs.Value.{ValueType, Value, has_type, has_types}
 use Rattle.shader_runs.specs.World.{Environment, Meaning}
-use Rattle.shader_runs.specs.Program.{Expression, Constant, Operator, Access, AccessIndex, Logical, Function, expression_of, handle_type, operands_of, Module}
+use Rattle.shader_runs.specs.Program.{Expression, Constant, Operator, Access, AccessIndex, Logical, Swizzle, Function, expression_of, handle_type, operands_of, Module}
 use Rattle.shader_runs.specs.ProgramRun.{Call, used_as, used, also, used_all, gathered, all_of, or_constant, constant_as, constant_below, constants_kept}
 use Rattle.shader_runs.specs.TextRun.{Scope}
 use Rattle.shader_runs.specs.Scope.{is_pure, all_constant, is_constant_leaf, constant_test, is_constant_below, start_standing, at_start, is_present, usable, usable_as, usable_all}
@@ -13,10 +13,10 @@ use Rattle.shader_runs.proofs.Update.{and_left, and_right, and_both}
 use Rattle.shader_runs.proofs.Relation.{TypedValue, Stands}
 use Rattle.shader_runs.proofs.Written.{constant_typed}
 
-leaf_value : (p : Module) (env : Environment) → EnvironmentFits p env → (m : Meaning) (f : Function) (k : ValueType) (e : Option Expression) (o : Option Value) → LeafFits p f k e → LeafTyped p m e → IsTrue (is_constant_leaf e) → TypedValue k (or_constant env m e o)
+leaf_value : (p : Module) (env : Environment) → EnvironmentFits p env → (m : Meaning) (f : Function) (k : ValueType) (e : Option Expression) (o : Option Value) → LeafFits p f k e → LeafTyped env.parts p m e → IsTrue (is_constant_leaf e) → TypedValue env.parts k (or_constant env m e o)
 leaf_value p env fits m f k (Some (Constant e)) o l t i =
     let v = constant_typed p env fits m e l.0 t in
-    (v.0, v.1, ap (λ k. has_type k v.0) l.1 ∙ v.2)
+    (v.0, v.1, ap (λ k. has_type env.parts k v.0) l.1 ∙ v.2)
 leaf_value p env fits m f k (Some _) o l t i = absurd (true≢false (sym i))
 leaf_value p env fits m f k None o l t i = absurd (true≢false (sym i))
 
@@ -30,15 +30,15 @@ or_cases : {A : Type 0} (a b : Bool) → IsTrue (a || b) → (IsTrue a → A) �
 or_cases true b h f g = f refl
 or_cases false b h f g = g h
 
-module _ (p : Module) (env : Environment) (fits : EnvironmentFits p env) (f : Function) (m : Meaning) (below : (h : ℕ) → AllBelow h (operands_of (expression_of f h))) (leaves : (h : ℕ) → LeafFits p f (handle_type f h) (expression_of f h)) (typed : IsTypedIn p m f) where
-  typed_list : (value : ℕ → Option Value) (test : ℕ → Bool) (h : ℕ) → ((x : ℕ) → x < h → IsTrue (test x) → TypedValue (handle_type f x) (value x)) → (xs : List ℕ) → AllBelow h xs → IsTrue (all_constant test xs) → (vs : List Value) × (all_of value xs ≡ Some vs) × IsTrue (has_types (handle_types f xs) vs)
+module _ (p : Module) (env : Environment) (fits : EnvironmentFits p env) (f : Function) (m : Meaning) (below : (h : ℕ) → AllBelow h (operands_of (expression_of f h))) (leaves : (h : ℕ) → LeafFits p f (handle_type f h) (expression_of f h)) (typed : IsTypedIn env.parts p m f) where
+  typed_list : (value : ℕ → Option Value) (test : ℕ → Bool) (h : ℕ) → ((x : ℕ) → x < h → IsTrue (test x) → TypedValue env.parts (handle_type f x) (value x)) → (xs : List ℕ) → AllBelow h xs → IsTrue (all_constant test xs) → (vs : List Value) × (all_of value xs ≡ Some vs) × IsTrue (has_types env.parts (handle_types f xs) vs)
   typed_list value test h each [] b t = ([], refl, refl)
   typed_list value test h each (x ∷ xs) b t =
       let v = each x b.0 (and_left (test x) (all_constant test xs) t) in
       let vs = typed_list value test h each xs b.1 (and_right (test x) (all_constant test xs) t) in
-      (v.0 ∷ vs.0, ap (λ o. also o (all_of value xs)) v.1 ∙ ap (also (Some v.0)) vs.1, and_both (has_type (handle_type f x) v.0) (has_types (handle_types f xs) vs.0) v.2 vs.2)
+      (v.0 ∷ vs.0, ap (λ o. also o (all_of value xs)) v.1 ∙ ap (also (Some v.0)) vs.1, and_both (has_type env.parts (handle_type f x) v.0) (has_types env.parts (handle_types f xs) vs.0) v.2 vs.2)
 
-  constant_has_type : (n h : ℕ) → IsTrue (is_constant_below f n h) → TypedValue (handle_type f h) (constant_below f env m n h)
+  constant_has_type : (n h : ℕ) → IsTrue (is_constant_below f n h) → TypedValue env.parts (handle_type f h) (constant_below f env m n h)
   constant_has_type zero h t = absurd (true≢false (sym t))
   constant_has_type (suc n) h t =
       let e = expression_of f h in
@@ -98,6 +98,7 @@ usable_start f (Some (Operator w xs)) t i c = ap (λ t. is_present (start_standi
 usable_start f (Some (Access x y)) t i c = ap (λ t. is_present (start_standing t)) i
 usable_start f (Some (AccessIndex x y)) t i c = ap (λ t. is_present (start_standing t)) i
 usable_start f (Some (Logical j x y)) t i c = ap (λ t. is_present (start_standing t)) i
+usable_start f (Some (Swizzle x y)) t i c = ap (λ t. is_present (start_standing t)) i
 usable_start f (Some _) t i (inl c) = absurd (true≢false (sym c))
 usable_start f (Some _) t i (inr c) = absurd (true≢false (sym c))
 usable_start f None t i (inl c) = absurd (true≢false (sym c))
@@ -109,6 +110,7 @@ used_start c (Some (Operator w xs)) o o' q t = refl
 used_start c (Some (Access x y)) o o' q t = refl
 used_start c (Some (AccessIndex x y)) o o' q t = refl
 used_start c (Some (Logical j x y)) o o' q t = refl
+used_start c (Some (Swizzle x y)) o o' q t = refl
 used_start c (Some _) o o' q (inl t) = absurd (true≢false (sym t))
 used_start c (Some _) o o' q (inr t) = absurd (true≢false (sym t))
 used_start c None o o' q (inl t) = absurd (true≢false (sym t))
@@ -128,7 +130,7 @@ pure_test : (test : ℕ → Bool) (e : Option Expression) → IsTrue (is_pure e)
 pure_test test e p t =
     or_cases (is_constant_leaf e) (is_pure e && all_constant test (operands_of e)) t (λ l. absurd (pure_no_leaf e p l)) (λ u. and_right (is_pure e) (all_constant test (operands_of e)) u)
 
-module _ (p : Module) (c : Call) (fits : EnvironmentFits p c.environment) (below : (h : ℕ) → AllBelow h (operands_of (expression_of c.function h))) (leaves : (h : ℕ) → LeafFits p c.function (handle_type c.function h) (expression_of c.function h)) (typed : IsTypedIn p c.meaning c.function) where
+module _ (p : Module) (c : Call) (fits : EnvironmentFits p c.environment) (below : (h : ℕ) → AllBelow h (operands_of (expression_of c.function h))) (leaves : (h : ℕ) → LeafFits p c.function (handle_type c.function h) (expression_of c.function h)) (typed : IsTypedIn c.environment.parts p c.meaning c.function) where
   abbrev Top : ℕ
   Top = length c.function.expressions
 

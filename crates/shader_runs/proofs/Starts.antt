@@ -1,9 +1,9 @@
 -- One world for all starts: it looks at the entry that its history began with.
 use Rattle.std.proofs.Common.{◌≡◌, ℕ, zero, suc, ℤ, Bool, true, false, cond, nat_eq, List, [], ◌∷◌, length, Option, Some, None, refl, sym, ap, ap₂, ◌∙◌, subst, eqb-true}
-use Rattle.shader_runs.specs.Value.{Bytes, Place, ValueType, has_type, Value, Truth, Whole, Pointer, Opaque}
+use Rattle.shader_runs.specs.Value.{Bytes, PartTypes, Place, ValueType, has_type, Value, Truth, Whole, Pointer, Opaque}
 use Rattle.shader_runs.specs.World.{Event, Entry, Ask, Read, Write, Discard, entries, World, Meaning, Environment, update}
 use Rattle.shader_runs.specs.Outcome.{Outcome, Done, Continued, Broke, Returned, Stopped, Reached, Gives, Halts, answer, Next, and_then, and_continue, within, turn, and_again, turns, after_switch, chosen, with_integer}
-use Rattle.shader_runs.specs.Program.{Expression, Constant, Argument, Local, Global, Load, Operator, Access, AccessIndex, Logical, Request, Action, Asked, Called, Label, Numbered, Statement, Emit, Store, Block, If, Switch, Loop, Break, Continue, Return, Kill, Barrier, Act, Statements, end, then, Cases, no_case, case, Function, argument_count, expression_of, handle_type, operands_of, is_counted, is_asked, from, Module}
+use Rattle.shader_runs.specs.Program.{Expression, Constant, Argument, Local, Global, Load, Operator, Access, AccessIndex, Logical, Swizzle, Request, Action, Asked, Called, Label, Numbered, Statement, Emit, Store, Block, If, Switch, Loop, Break, Continue, Return, Kill, Barrier, Act, Statements, end, then, Cases, no_case, case, Function, argument_count, expression_of, handle_type, operands_of, is_counted, is_asked, from, Module}
 use Rattle.shader_runs.specs.ProgramRun.{Call, Kept, constant_values, used, used_as, also, used_all, gathered, computed, joined, if_typed, keep_typed, with_used, loaded, asked, if_counted, emit_as, emit, with_pointer, leave, returned, acted, with_result, with_all, barrier_words, ask_each, same_label, has_label, label_if, run, run_all, run_cases, run_on, constants_kept, with_first, wrapped, first_used, first_used_all, entered, run_body, called, run_call}
 use Rattle.shader_runs.specs.Correct.{KeepsTypes, HasTypedWorld}
 use Rattle.shader_runs.proofs.Worlds.{world_of, events_of, reached_events, call_types, call_keeps}
@@ -136,9 +136,9 @@ module _ (s : Start) where
   typed_start false t o e = refl
 
   module _ (w w' : World) (same : (t : List Event) (r : Event) → start_of t ≡ Some s → w t r ≡ w' t r) where
-    request_kin : (k : ValueType) (h : ℕ) (r : Event) (kept : Kept) (t : List Event) → start_of t ≡ Some s → Kin (keep_typed k h (w t r) kept (r ∷ t)) (keep_typed k h (w' t r) kept (r ∷ t))
-    request_kin k h r kept t q =
-        (ap (λ v. keep_typed k h v kept (r ∷ t)) (same t r q), ap start_of (typed_start (has_type k (w t r)) (r ∷ t) (Done (update kept h (Some (w t r))) (r ∷ t)) refl) ∙ start_kept s r t q)
+    request_kin : (parts : PartTypes) (k : ValueType) (h : ℕ) (r : Event) (kept : Kept) (t : List Event) → start_of t ≡ Some s → Kin (keep_typed parts k h (w t r) kept (r ∷ t)) (keep_typed parts k h (w' t r) kept (r ∷ t))
+    request_kin parts k h r kept t q =
+        (ap (λ v. keep_typed parts k h v kept (r ∷ t)) (same t r q), ap start_of (typed_start (has_type parts k (w t r)) (r ∷ t) (Done (update kept h (Some (w t r))) (r ∷ t)) refl) ∙ start_kept s r t q)
 
     module _ (f : Function) (cs : List Function) (env : Environment) (m : Meaning) (vs : List Value) (frame n : ℕ) (calls calls' : ℕ → List Value → List Event → Reached (Option Value)) (calls_kin : (g : ℕ) (us : List Value) (t : List Event) → start_of t ≡ Some s → KinReached (calls g us t) (calls' g us t)) where
       abbrev c : Call
@@ -166,22 +166,22 @@ module _ (s : Start) where
       pure_kin h e kept t q =
           (ap (λ o. Done (update kept h (gathered m e o)) t) (used_all_same kept (operands_of e)), q)
 
-      loaded_kin : (k : ValueType) (h : ℕ) (o o' : Option Value) (kept : Kept) (t : List Event) → o ≡ o' → start_of t ≡ Some s → Kin (loaded k w h o kept t) (loaded k w' h o' kept t)
-      loaded_kin k h o o' kept t e q = subst (λ o'. Kin (loaded k w h o kept t) (loaded k w' h o' kept t)) e (go o)
+      loaded_kin : (k : ValueType) (h : ℕ) (o o' : Option Value) (kept : Kept) (t : List Event) → o ≡ o' → start_of t ≡ Some s → Kin (loaded env.parts k w h o kept t) (loaded env.parts k w' h o' kept t)
+      loaded_kin k h o o' kept t e q = subst (λ o'. Kin (loaded env.parts k w h o kept t) (loaded env.parts k w' h o' kept t)) e (go o)
         where
-          go : (o : Option Value) → Kin (loaded k w h o kept t) (loaded k w' h o kept t)
+          go : (o : Option Value) → Kin (loaded env.parts k w h o kept t) (loaded env.parts k w' h o kept t)
           go None = (refl, q)
-          go (Some (Pointer p)) = request_kin k h (Read p) kept t q
+          go (Some (Pointer p)) = request_kin env.parts k h (Read p) kept t q
           go (Some (Truth b)) = (refl, q)
           go (Some (Whole r z)) = (refl, q)
           go (Some (Opaque r z)) = (refl, q)
 
-      asked_kin : (k : ValueType) (h : ℕ) (word : Bytes) (o o' : Option (List Value)) (kept : Kept) (t : List Event) → o ≡ o' → start_of t ≡ Some s → Kin (asked k w h word o kept t) (asked k w' h word o' kept t)
-      asked_kin k h word o o' kept t e q = subst (λ o'. Kin (asked k w h word o kept t) (asked k w' h word o' kept t)) e (go o)
+      asked_kin : (k : ValueType) (h : ℕ) (word : Bytes) (o o' : Option (List Value)) (kept : Kept) (t : List Event) → o ≡ o' → start_of t ≡ Some s → Kin (asked env.parts k w h word o kept t) (asked env.parts k w' h word o' kept t)
+      asked_kin k h word o o' kept t e q = subst (λ o'. Kin (asked env.parts k w h word o kept t) (asked env.parts k w' h word o' kept t)) e (go o)
         where
-          go : (o : Option (List Value)) → Kin (asked k w h word o kept t) (asked k w' h word o kept t)
+          go : (o : Option (List Value)) → Kin (asked env.parts k w h word o kept t) (asked env.parts k w' h word o kept t)
           go None = (refl, q)
-          go (Some us) = request_kin k h (Ask word us) kept t q
+          go (Some us) = request_kin env.parts k h (Ask word us) kept t q
 
       counted_kin : (x : Bool) (a a' : Next Kept) (kept : Kept) (t : List Event) → start_of t ≡ Some s → Kin (a kept t) (a' kept t) → Kin (if_counted x a kept t) (if_counted x a' kept t)
       counted_kin true a a' kept t q k = k
@@ -189,13 +189,14 @@ module _ (s : Start) where
 
       emit_as_kin : (h : ℕ) (e : Option Expression) (kept : Kept) (t : List Event) → start_of t ≡ Some s → Kin (emit_as c h e kept t) (emit_as c' h e kept t)
       emit_as_kin h (Some (Load p)) kept t q =
-          counted_kin (is_counted f 1 h) (loaded (handle_type f h) w h (used c kept p)) (loaded (handle_type f h) w' h (used c' kept p)) kept t q (loaded_kin (handle_type f h) h (used c kept p) (used c' kept p) kept t (used_same kept p) q)
+          counted_kin (is_counted f 1 h) (loaded env.parts (handle_type f h) w h (used c kept p)) (loaded env.parts (handle_type f h) w' h (used c' kept p)) kept t q (loaded_kin (handle_type f h) h (used c kept p) (used c' kept p) kept t (used_same kept p) q)
       emit_as_kin h (Some (Request a word xs es)) kept t q =
-          counted_kin (is_asked f h a) (asked (handle_type f h) w h word (joined (used_all c kept xs) (constant_values env m es))) (asked (handle_type f h) w' h word (joined (used_all c' kept xs) (constant_values env m es))) kept t q (asked_kin (handle_type f h) h word (joined (used_all c kept xs) (constant_values env m es)) (joined (used_all c' kept xs) (constant_values env m es)) kept t (ap (λ o. joined o (constant_values env m es)) (used_all_same kept xs)) q)
+          counted_kin (is_asked f h a) (asked env.parts (handle_type f h) w h word (joined (used_all c kept xs) (constant_values env m es))) (asked env.parts (handle_type f h) w' h word (joined (used_all c' kept xs) (constant_values env m es))) kept t q (asked_kin (handle_type f h) h word (joined (used_all c kept xs) (constant_values env m es)) (joined (used_all c' kept xs) (constant_values env m es)) kept t (ap (λ o. joined o (constant_values env m es)) (used_all_same kept xs)) q)
       emit_as_kin h (Some (Operator word xs)) kept t q = pure_kin h (Some (Operator word xs)) kept t q
       emit_as_kin h (Some (Access x y)) kept t q = pure_kin h (Some (Access x y)) kept t q
       emit_as_kin h (Some (AccessIndex x y)) kept t q = pure_kin h (Some (AccessIndex x y)) kept t q
       emit_as_kin h (Some (Logical j x y)) kept t q = pure_kin h (Some (Logical j x y)) kept t q
+      emit_as_kin h (Some (Swizzle x y)) kept t q = pure_kin h (Some (Swizzle x y)) kept t q
       emit_as_kin h (Some _) kept t q = (refl, q)
       emit_as_kin h None kept t q = (refl, q)
 
@@ -208,20 +209,20 @@ module _ (s : Start) where
       asks_kin [] kept t q = (refl, q)
       asks_kin (word ∷ ws) kept t q = asks_kin ws kept (Ask word [] ∷ t) (start_kept s (Ask word []) t q)
 
-      called_kin : (g : ℕ) (r : Option ℕ) (kept : Kept) (a a' : Reached (Option Value)) → KinReached a a' → Kin (with_result f (Called g) r kept a) (with_result f (Called g) r kept a')
+      called_kin : (g : ℕ) (r : Option ℕ) (kept : Kept) (a a' : Reached (Option Value)) → KinReached a a' → Kin (with_result env.parts f (Called g) r kept a) (with_result env.parts f (Called g) r kept a')
       called_kin g r kept a a' k =
-          subst (λ a'. Kin (with_result f (Called g) r kept a) (with_result f (Called g) r kept a')) k.0 (go r a k.1)
+          subst (λ a'. Kin (with_result env.parts f (Called g) r kept a) (with_result env.parts f (Called g) r kept a')) k.0 (go r a k.1)
         where
-          go : (r : Option ℕ) (a : Reached (Option Value)) → start_of (reached_events a) ≡ Some s → Kin (with_result f (Called g) r kept a) (with_result f (Called g) r kept a)
+          go : (r : Option ℕ) (a : Reached (Option Value)) → start_of (reached_events a) ≡ Some s → Kin (with_result env.parts f (Called g) r kept a) (with_result env.parts f (Called g) r kept a)
           go None (Gives v t) q = (refl, q)
           go None (Halts x t) q = (refl, q)
           go (Some h) (Gives None t) q = (refl, q)
           go (Some h) (Gives (Some v) t) q = (refl, q)
           go (Some h) (Halts x t) q = (refl, q)
 
-      act_kin : (a : Action) (r : Option ℕ) (kept : Kept) (us : List Value) (t : List Event) → start_of t ≡ Some s → Kin (with_result f a r kept (acted c a us t)) (with_result f a r kept (acted c' a us t))
+      act_kin : (a : Action) (r : Option ℕ) (kept : Kept) (us : List Value) (t : List Event) → start_of t ≡ Some s → Kin (with_result env.parts f a r kept (acted c a us t)) (with_result env.parts f a r kept (acted c' a us t))
       act_kin (Asked word) None kept us t q = (refl, start_kept s (Ask word us) t q)
-      act_kin (Asked word) (Some h) kept us t q = request_kin (handle_type f h) h (Ask word us) kept t q
+      act_kin (Asked word) (Some h) kept us t q = request_kin env.parts (handle_type f h) h (Ask word us) kept t q
       act_kin (Called g) r kept us t q = called_kin g r kept (calls g us t) (calls' g us t) (calls_kin g us t q)
 
       leave_kin : (o : Option ℕ) → KinNext (leave c o) (leave c' o)
@@ -256,7 +257,7 @@ module _ (s : Start) where
         run_kin Kill kept t q = (refl, start_kept s Discard t q)
         run_kin (Barrier bits) kept t q = asks_kin (barrier_words bits) kept t q
         run_kin (Act a xs r) kept t q =
-            all_kin (used_all c kept xs) (used_all c' kept xs) t (λ us. with_result f a r kept (acted c a us t)) (λ us. with_result f a r kept (acted c' a us t)) (used_all_same kept xs) q (λ us. act_kin a r kept us t q)
+            all_kin (used_all c kept xs) (used_all c' kept xs) t (λ us. with_result env.parts f a r kept (acted c a us t)) (λ us. with_result env.parts f a r kept (acted c' a us t)) (used_all_same kept xs) q (λ us. act_kin a r kept us t q)
 
         list_kin : (ss : Statements) → KinNext (run_all c n ss) (run_all c' n ss)
         list_kin end kept t q = (refl, q)

@@ -22,16 +22,16 @@ use Rattle.shader_runs.proofs.Scopes.{IsFollowed, falls_followed, continue_all, 
 -- both runs of a list from the scope s end alike, in the scope s2; held: it holds a `continue`
 abbrev pub Same : Call → Names → Handles → Kept → Handles → Bool → Outcome Kept → Outcome Scope → Type 0
 Same c n s kept s2 held =
-    Alike (Returns c.function) (λ k l. Related c n s2 l k × Agree s kept k) (λ k l. Related c n s2 l k × Agree s kept k × IsTrue held) (λ k l. Agree s kept k)
+    Alike (Returns c.environment.parts c.function) (λ k l. Related c n s2 l k × Agree s kept k) (λ k l. Related c n s2 l k × Agree s kept k × IsTrue held) (λ k l. Agree s kept k)
 
 -- the same for one statement, which gives no name
 abbrev pub SameLine : Call → Names → Handles → Kept → Bool → Outcome Kept → Outcome Scope → Type 0
 SameLine c n s kept held =
-    Alike (Returns c.function) (λ k l. Related c n s l k × Agree s kept k) (λ k l. Agree s kept k × IsTrue held) (λ k l. Agree s kept k)
+    Alike (Returns c.environment.parts c.function) (λ k l. Related c n s l k × Agree s kept k) (λ k l. Agree s kept k × IsTrue held) (λ k l. Agree s kept k)
 
 -- the same for the body of a case, whose names are forgotten
 abbrev pub SameBody : Call → Handles → Kept → Bool → Outcome Kept → Outcome Scope → Type 0
-SameBody c s kept held = Alike (Returns c.function) (λ k l. Agree s kept k) (λ k l. Agree s kept k × IsTrue held) (λ k l. Agree s kept k)
+SameBody c s kept held = Alike (Returns c.environment.parts c.function) (λ k l. Agree s kept k) (λ k l. Agree s kept k × IsTrue held) (λ k l. Agree s kept k)
 
 -- a statement and what follows it
 row : (c : Call) (n : Names) (s : Handles) (names : Scope) (kept : Kept) → Related c n s names kept → (held held2 : Bool) (s2 : Handles) (o : Outcome Kept) (o' : Outcome Scope) (f : Next Kept) (g : Next Scope) → SameLine c n s kept held o o' → ((kept1 : Kept) (names1 : Scope) (t : List Event) → Related c n s names1 kept1 → Agree s kept kept1 → Same c n s kept s2 held2 (f kept1 t) (g names1 t)) → Same c n s kept (forgotten_if held s s2) (held || held2) (and_then o f) (closed_if held names (and_then o' g))
@@ -54,7 +54,7 @@ module _ (p : Module) (c : Call) (n : Names) (d : Respond) (given : Given p c n 
   block_line s s1 names kept held o o' r same =
       closed_alike names (λ k l p. (related_agree c n s names kept k p.1 r, p.1)) (λ k l q. (q.1, q.2)) (λ k l b. b) same
 
-  leave_alike : (s s2 : Handles) (kept0 : Kept) (e : Option ℕ) → IsTrue (usable_if c.function s2 e) → (kept : Kept) (names : Scope) (t : List Event) → Related c n s2 names kept → Agree s kept0 kept → Alike (Returns c.function) (λ k l. Agree s kept0 k) (λ k l. Agree s kept0 k) (λ k l. Agree s kept0 k) (leave c e kept t) (break_line (words c d) (value_if (naming c n) s2 e) names t)
+  leave_alike : (s s2 : Handles) (kept0 : Kept) (e : Option ℕ) → IsTrue (usable_if c.function s2 e) → (kept : Kept) (names : Scope) (t : List Event) → Related c n s2 names kept → Agree s kept0 kept → Alike (Returns c.environment.parts c.function) (λ k l. Agree s kept0 k) (λ k l. Agree s kept0 k) (λ k l. Agree s kept0 k) (leave c e kept t) (break_line (words c d) (value_if (naming c n) s2 e) names t)
   leave_alike s s2 kept0 None u kept names t r a = done a
   leave_alike s s2 kept0 (Some h) u kept names t r a =
       used_alike _ _ (used c kept h) t (value_of (words c d) (value_at (naming c n) s2 h) names t) (value_here p c n d given s2 names kept r h u t) (λ v. chosen_alike v t (broke a) (done a))
@@ -64,7 +64,7 @@ module _ (p : Module) (c : Call) (n : Names) (d : Respond) (given : Given p c n 
   return_alike s names kept t (Some h) u w r =
       let v = typed_value p c n d given s names kept r h u in
       let there = value_here p c n d given s names kept r h u t ∙ ap (λ o. reached o t) v.1 in
-      let typed : Returns c.function (Some v.0) = subst (λ k. ResultTyped (Some v.0) k) (sym w) v.2 in
+      let typed : Returns c.environment.parts c.function (Some v.0) = subst (λ k. ResultTyped c.environment.parts (Some v.0) k) (sym w) v.2 in
       subst (λ o. SameLine c n s kept false (with_used o t (λ v. Returned (Some v) t)) (return_line (words c d) (value_if (naming c n) s (Some h)) names t)) (sym v.1) (subst (λ q. SameLine c n s kept false (Returned (Some v.0) t) (with_value q (λ v t1. Returned (Some v) t1))) (sym there) (returned_alike typed))
 
   -- a choice, where each branch is alike
@@ -78,15 +78,15 @@ module _ (p : Module) (c : Call) (n : Names) (d : Respond) (given : Given p c n 
       let start : Related c n s names kept × Agree s kept kept = (r, agree_refl s kept) in
       turns_alike {I = λ k l. Related c n s l k × Agree s kept k} {P = λ k l. Related c n s l k × Agree s kept k} once bound kept names t start
     where
-      tail_alike : (k1 k2 : Kept) (l2 : Scope) (t2 : List Event) → Related c n s1 l2 k2 → Agree s k1 k2 → Alike (Returns c.function) (λ k l. Agree s k1 k) (λ k l. Agree s k1 k) (λ k l. Agree s k1 k) (and_then (within (continuing k2 t2)) (leave c e)) (and_then (within (continuing' l2 t2)) (break_line (words c d) (value_if (naming c n) s2 e)))
+      tail_alike : (k1 k2 : Kept) (l2 : Scope) (t2 : List Event) → Related c n s1 l2 k2 → Agree s k1 k2 → Alike (Returns c.environment.parts c.function) (λ k l. Agree s k1 k) (λ k l. Agree s k1 k) (λ k l. Agree s k1 k) (and_then (within (continuing k2 t2)) (leave c e)) (and_then (within (continuing' l2 t2)) (break_line (words c d) (value_if (naming c n) s2 e)))
       tail_alike k1 k2 l2 t2 r2 a =
           then_alike {P = λ k l. Related c n s2 l k × Agree s1 k2 k} (λ k l t p. leave_alike s s2 k1 e u k l t p.0 (agree_trans s s1 k1 k2 k x a p.1)) (within_alike (same_d k2 l2 t2 r2))
 
-      turn_alike : (k1 : Kept) (l1 : Scope) (t1 : List Event) → Related c n s l1 k1 → Alike (Returns c.function) (λ k l. Agree s k1 k) (λ k l. Agree s k1 k) (λ k l. Agree s k1 k) (turn body continuing (leave c e) k1 t1) (turn body' continuing' (break_line (words c d) (value_if (naming c n) s2 e)) l1 t1)
+      turn_alike : (k1 : Kept) (l1 : Scope) (t1 : List Event) → Related c n s l1 k1 → Alike (Returns c.environment.parts c.function) (λ k l. Agree s k1 k) (λ k l. Agree s k1 k) (λ k l. Agree s k1 k) (turn body continuing (leave c e) k1 t1) (turn body' continuing' (break_line (words c d) (value_if (naming c n) s2 e)) l1 t1)
       turn_alike k1 l1 t1 r1 =
           continue_alike {P = λ k l. Related c n s1 l k × Agree s k1 k} (λ k l t p. tail_alike k1 k l t p.0 p.1) (weaker (λ k l p. p) (λ k l q. (q.0, q.1)) (λ k l b. b) (same_b k1 l1 t1 r1))
 
-      once : Steps (Returns c.function) (λ k l. Related c n s l k × Agree s kept k) (λ k l. Related c n s l k × Agree s kept k) (λ k l. Related c n s l k × Agree s kept k) (λ k l. Related c n s l k × Agree s kept k) (turn body continuing (leave c e)) (λ names1 t1. closed names1 (turn body' continuing' (break_line (words c d) (value_if (naming c n) s2 e)) names1 t1))
+      once : Steps (Returns c.environment.parts c.function) (λ k l. Related c n s l k × Agree s kept k) (λ k l. Related c n s l k × Agree s kept k) (λ k l. Related c n s l k × Agree s kept k) (λ k l. Related c n s l k × Agree s kept k) (turn body continuing (leave c e)) (λ names1 t1. closed names1 (turn body' continuing' (break_line (words c d) (value_if (naming c n) s2 e)) names1 t1))
       once k1 l1 t1 i =
           closed_alike l1 (λ k l a. kept_on k a) (λ k l a. kept_on k a) (λ k l a. kept_on k a) (turn_alike k1 l1 t1 i.0)
         where
@@ -114,7 +114,7 @@ module _ (p : Module) (c : Call) (n : Names) (d : Respond) (given : Given p c n 
 
   emit_row : (k first count : ℕ) (s : Handles) → Row k (Emit first count) s
   emit_row k first count s names kept t held2 s2 f tail r m next =
-      emit_alike p c n d given (Returns c.function) (λ k l. Related c n s2 l k × Agree s kept k) (λ k l. Related c n s2 l k × Agree s kept k × IsTrue held2) (λ k l. Agree s kept k) bound f tail k (from first count) s names kept t r m next
+      emit_alike p c n d given (Returns c.environment.parts c.function) (λ k l. Related c n s2 l k × Agree s kept k) (λ k l. Related c n s2 l k × Agree s kept k × IsTrue held2) (λ k l. Agree s kept k) bound f tail k (from first count) s names kept t r m next
 
   store_row : (k q v : ℕ) (s : Handles) → Row k (Store q v) s
   store_row k q v s names kept t held2 s2 f tail r m next =
@@ -175,7 +175,7 @@ module _ (p : Module) (c : Call) (n : Names) (d : Respond) (given : Given p c n 
   -- what an action gives
   abbrev ReturnsOf : Option Function → Option Value → Type 0
   ReturnsOf None o = Unit {0}
-  ReturnsOf (Some callee) o = Returns callee o
+  ReturnsOf (Some callee) o = Returns c.environment.parts callee o
 
   abbrev ActionReturns : Action → Option Value → Type 0
   ActionReturns (Asked w) o = Unit {0}
@@ -185,28 +185,28 @@ module _ (p : Module) (c : Call) (n : Names) (d : Respond) (given : Given p c n 
   as_answer q q' e h = subst (λ x. Answers (λ o. Unit {0}) q x) (sym e) (same_answer h)
 
   -- an action's word does the same in the text
-  action_responds : (a : Action) (xs : List ℕ) (result : Option ℕ) → ActionFits p c.callees (naming c n) a xs result → (vs : List Value) → IsTrue (has_types (handle_types c.function xs) vs) → (t : List Event) → Answers (ActionReturns a) (acted c a vs t) (d (word_of n a) vs t)
+  action_responds : (a : Action) (xs : List ℕ) (result : Option ℕ) → ActionFits p c.callees (naming c n) a xs result → (vs : List Value) → IsTrue (has_types c.environment.parts (handle_types c.function xs) vs) → (t : List Event) → Answers (ActionReturns a) (acted c a vs t) (d (word_of n a) vs t)
   action_responds (Asked w) xs result m vs h t = as_answer (acted c (Asked w) vs t) (d w vs t) (request_responds p c n d given.responds w m vs t) tt
   action_responds (Called g) xs result m vs h t = go (function_numbered c.callees g) refl m.2
     where
       go : (o : Option Function) → function_numbered c.callees g ≡ o → CallFits c.function o xs result → Answers (ReturnsOf o) (c.calls g vs t) (d (n.outer.function g) vs t)
       go None e w = absurd w
-      go (Some callee) e w = given.responds.calls g callee e vs (subst (λ ts. IsTrue (has_types ts vs)) w.0 h) t
+      go (Some callee) e w = given.responds.calls g callee e vs (subst (λ ts. IsTrue (has_types c.environment.parts ts vs)) w.0 h) t
 
   not_hidden : (a : Action) (xs : List ℕ) (result : Option ℕ) → ActionFits p c.callees (naming c n) a xs result → IsNoName p (naming c n) (word_of n a)
   not_hidden (Asked w) xs result m = m.1.1
   not_hidden (Called g) xs result m = m.1
 
-  responded_written : (s : Handles) (names : Scope) (kept : Kept) → Related c n s names kept → (a : Action) (xs : List ℕ) (result : Option ℕ) → ActionFits p c.callees (naming c n) a xs result → IsTrue (usable_all c.function s xs) → (vs : List Value) → used_all c kept xs ≡ Some vs → IsTrue (has_types (handle_types c.function xs) vs) → (t : List Event) → Answers (ActionReturns a) (acted c a vs t) (word_reached (words c d) (word_of n a) names t (evaluate_all (words c d) (value_forms (written (naming c n) s) xs) names t))
+  responded_written : (s : Handles) (names : Scope) (kept : Kept) → Related c n s names kept → (a : Action) (xs : List ℕ) (result : Option ℕ) → ActionFits p c.callees (naming c n) a xs result → IsTrue (usable_all c.function s xs) → (vs : List Value) → used_all c kept xs ≡ Some vs → IsTrue (has_types c.environment.parts (handle_types c.function xs) vs) → (t : List Event) → Answers (ActionReturns a) (acted c a vs t) (word_reached (words c d) (word_of n a) names t (evaluate_all (words c d) (value_forms (written (naming c n) s) xs) names t))
   responded_written s names kept r a xs result m u vs e h t =
       let there = value_forms_give c d names kept (written (naming c n) s) xs (all_here p c n d given s names kept r xs u) t ∙ ap (λ os. reached_all os t) e in
       subst (λ q. Answers (ActionReturns a) (acted c a vs t) (word_reached (words c d) (word_of n a) names t q)) (sym there) (subst (λ o. Answers (ActionReturns a) (acted c a vs t) (unhidden o t (d (word_of n a) vs t))) (sym (free p c n d given s names kept r (word_of n a) (not_hidden a xs result m))) (action_responds a xs result m vs h t))
 
-  performed_same : (s : Handles) (names : Scope) (kept : Kept) (a : Action) (q : Reached (Option Value)) → Related c n s names kept → SameLine c n s kept false (with_result c.function a None kept q) (performed names q)
+  performed_same : (s : Handles) (names : Scope) (kept : Kept) (a : Action) (q : Reached (Option Value)) → Related c n s names kept → SameLine c n s kept false (with_result c.environment.parts c.function a None kept q) (performed names q)
   performed_same s names kept a (Gives v t) r = done (r, agree_refl s kept)
   performed_same s names kept a (Halts x t) r = stopped
 
-  performed_alike : (s : Handles) (names : Scope) (kept : Kept) (a : Action) (q q' : Reached (Option Value)) → Answers (ActionReturns a) q q' → Related c n s names kept → SameLine c n s kept false (with_result c.function a None kept q) (performed names q')
+  performed_alike : (s : Handles) (names : Scope) (kept : Kept) (a : Action) (q q' : Reached (Option Value)) → Answers (ActionReturns a) q q' → Related c n s names kept → SameLine c n s kept false (with_result c.environment.parts c.function a None kept q) (performed names q')
   performed_alike s names kept a q q' (same_answer h) r = performed_same s names kept a q r
   performed_alike s names kept a q q' mistyped_answer r = mistyped
 
@@ -214,7 +214,7 @@ module _ (p : Module) (c : Call) (n : Names) (d : Respond) (given : Given p c n 
   perform_row k a xs s names kept t held2 s2 f tail r m next =
       let v = values_here p c n d given s names kept r xs m.0 in
       let q' = word_reached (words c d) (word_of n a) names t (evaluate_all (words c d) (value_forms (written (naming c n) s) xs) names t) in
-      row c n s names kept r false held2 s2 _ _ f (Follow tail) (subst (λ os. SameLine c n s kept false (with_all os t (λ vs. with_result c.function a None kept (acted c a vs t))) (performed names q')) (sym v.1) (performed_alike s names kept a (acted c a v.0 t) q' (responded_written s names kept r a xs None m.1 m.0 v.0 v.1 v.2 t) r)) next
+      row c n s names kept r false held2 s2 _ _ f (Follow tail) (subst (λ os. SameLine c n s kept false (with_all os t (λ vs. with_result c.environment.parts c.function a None kept (acted c a vs t))) (performed names q')) (sym v.1) (performed_alike s names kept a (acted c a v.0 t) q' (responded_written s names kept r a xs None m.1 m.0 v.0 v.1 v.2 t) r)) next
 
   abbrev bound_to : Scope → Bytes → Next Scope → Reached (Option Value) → Outcome Scope
   bound_to names x g q =
@@ -225,27 +225,27 @@ module _ (p : Module) (c : Call) (n : Names) (d : Respond) (given : Given p c n 
       (kept1 : Kept) (names1 : Scope) (t1 : List Event) → Related c n (update s h (Named (n.numbered h))) names1 kept1 → Agree s kept kept1 → Same c n s kept s2 held2 (f kept1 t1) (g names1 t1)
 
   -- what a callee gives has its handle's type
-  called_typed : (o : Option Function) (xs : List ℕ) (h : ℕ) (v : Value) → CallFits c.function o xs (Some h) → ReturnsOf o (Some v) → IsTrue (has_type (handle_type c.function h) v)
+  called_typed : (o : Option Function) (xs : List ℕ) (h : ℕ) (v : Value) → CallFits c.function o xs (Some h) → ReturnsOf o (Some v) → IsTrue (has_type c.environment.parts (handle_type c.function h) v)
   called_typed None xs h v w q = absurd w
-  called_typed (Some callee) xs h v w q = subst (λ k. ResultTyped (Some v) k) w.1 q
+  called_typed (Some callee) xs h v w q = subst (λ k. ResultTyped c.environment.parts (Some v) k) w.1 q
 
   -- a result that is kept
-  result_kept : (s s2 : Handles) (names : Scope) (kept : Kept) (held2 : Bool) (h : ℕ) (f : Next Kept) (g : Next Scope) → Related c n s names kept → MayResult c n h s → ResultNext s kept s2 held2 h f g → (v : Value) (t : List Event) → IsTrue (has_type (handle_type c.function h) v) → Same c n s kept s2 held2 (f (update kept h (Some v)) t) (g (bind names (n.numbered h) (Some (IsValue v))) t)
+  result_kept : (s s2 : Handles) (names : Scope) (kept : Kept) (held2 : Bool) (h : ℕ) (f : Next Kept) (g : Next Scope) → Related c n s names kept → MayResult c n h s → ResultNext s kept s2 held2 h f g → (v : Value) (t : List Event) → IsTrue (has_type c.environment.parts (handle_type c.function h) v) → Same c n s kept s2 held2 (f (update kept h (Some v)) t) (g (bind names (n.numbered h) (Some (IsValue v))) t)
   result_kept s s2 names kept held2 h f g r m next v t y =
       next (update kept h (Some v)) (bind names (n.numbered h) (Some (IsValue v))) t (bind_related c n s names kept h (n.numbered h) v r (λ p. absurd (not_there p)) (λ o. result_used c (expression_of c.function h) o m.kind) m.fresh y) (agree_update s kept h (Some v) (λ p. absurd (not_there p)))
     where
       not_there : IsTrue (is_present (s h)) → ⊥
       not_there = new_event c s names kept (handle_type c.function h) (expression_of c.function h) (kept h) (result_combined c (expression_of c.function h) m.kind) (s h) m.new (r.standing h)
 
-  result_same : (s s2 : Handles) (names : Scope) (kept : Kept) (held2 : Bool) (a : Action) (xs : List ℕ) (h : ℕ) (f : Next Kept) (g : Next Scope) → Related c n s names kept → ActionFits p c.callees (naming c n) a xs (Some h) → MayResult c n h s → ResultNext s kept s2 held2 h f g → (q : Reached (Option Value)) → HoldsOf (ActionReturns a) q → Same c n s kept s2 held2 (and_then (with_result c.function a (Some h) kept q) f) (bound_to names (n.numbered h) g q)
+  result_same : (s s2 : Handles) (names : Scope) (kept : Kept) (held2 : Bool) (a : Action) (xs : List ℕ) (h : ℕ) (f : Next Kept) (g : Next Scope) → Related c n s names kept → ActionFits p c.callees (naming c n) a xs (Some h) → MayResult c n h s → ResultNext s kept s2 held2 h f g → (q : Reached (Option Value)) → HoldsOf (ActionReturns a) q → Same c n s kept s2 held2 (and_then (with_result c.environment.parts c.function a (Some h) kept q) f) (bound_to names (n.numbered h) g q)
   result_same s s2 names kept held2 a xs h f g r w m next (Gives None t) q = stopped
   result_same s s2 names kept held2 (Asked word) xs h f g r w m next (Gives (Some v) t) q =
-      typed_alike (has_type (handle_type c.function h) v) t (Done (update kept h (Some v)) t) f (λ y. result_kept s s2 names kept held2 h f g r m next v t y)
+      typed_alike (has_type c.environment.parts (handle_type c.function h) v) t (Done (update kept h (Some v)) t) f (λ y. result_kept s s2 names kept held2 h f g r m next v t y)
   result_same s s2 names kept held2 (Called callee) xs h f g r w m next (Gives (Some v) t) q =
       result_kept s s2 names kept held2 h f g r m next v t (called_typed (function_numbered c.callees callee) xs h v w.2 q)
   result_same s s2 names kept held2 a xs h f g r w m next (Halts x t) q = stopped
 
-  result_alike : (s s2 : Handles) (names : Scope) (kept : Kept) (held2 : Bool) (a : Action) (xs : List ℕ) (h : ℕ) (f : Next Kept) (g : Next Scope) → Related c n s names kept → ActionFits p c.callees (naming c n) a xs (Some h) → MayResult c n h s → ResultNext s kept s2 held2 h f g → (q q' : Reached (Option Value)) → Answers (ActionReturns a) q q' → Same c n s kept s2 held2 (and_then (with_result c.function a (Some h) kept q) f) (bound_to names (n.numbered h) g q')
+  result_alike : (s s2 : Handles) (names : Scope) (kept : Kept) (held2 : Bool) (a : Action) (xs : List ℕ) (h : ℕ) (f : Next Kept) (g : Next Scope) → Related c n s names kept → ActionFits p c.callees (naming c n) a xs (Some h) → MayResult c n h s → ResultNext s kept s2 held2 h f g → (q q' : Reached (Option Value)) → Answers (ActionReturns a) q q' → Same c n s kept s2 held2 (and_then (with_result c.environment.parts c.function a (Some h) kept q) f) (bound_to names (n.numbered h) g q')
   result_alike s s2 names kept held2 a xs h f g r w m next q q' (same_answer y) = result_same s s2 names kept held2 a xs h f g r w m next q y
   result_alike s s2 names kept held2 a xs h f g r w m next q q' mistyped_answer = mistyped
 
@@ -253,7 +253,7 @@ module _ (p : Module) (c : Call) (n : Names) (d : Respond) (given : Given p c n 
   result_row k a xs h s names kept t held2 s2 f tail r m next =
       let v = values_here p c n d given s names kept r xs m.0 in
       let q' = word_reached (words c d) (word_of n a) names t (evaluate_all (words c d) (value_forms (written (naming c n) s) xs) names t) in
-      subst (λ os. Same c n s kept s2 held2 (and_then (with_all os t (λ vs. with_result c.function a (Some h) kept (acted c a vs t))) f) (bound_to names (n.numbered h) (Follow tail) q')) (sym v.1) (result_alike s s2 names kept held2 a xs h f (Follow tail) r m.1 m.2 next (acted c a v.0 t) q' (responded_written s names kept r a xs (Some h) m.1 m.0 v.0 v.1 v.2 t))
+      subst (λ os. Same c n s kept s2 held2 (and_then (with_all os t (λ vs. with_result c.environment.parts c.function a (Some h) kept (acted c a vs t))) f) (bound_to names (n.numbered h) (Follow tail) q')) (sym v.1) (result_alike s s2 names kept held2 a xs h f (Follow tail) r m.1 m.2 next (acted c a v.0 t) q' (responded_written s names kept r a xs (Some h) m.1 m.0 v.0 v.1 v.2 t))
 
   -- what is to be shown of the cases of a switch, behind waiting labels: entered, or on the way to the label x
   pub record Cases_row (k : ℕ) (cs : Cases) (s : Handles) : Type 0 where

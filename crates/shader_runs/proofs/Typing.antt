@@ -3,9 +3,9 @@ use Rattle.std.proofs.Common.{◌≡◌, ◌≢◌, ◌⊎◌, inl, inr, ℕ, ze
 use Rattle.std.specs.Prelude.{IsTrue}
 use Rattle.std.proofs.lemmas.Bool.{eqb-false}
 use Rattle.std.proofs.lemmas.Option.{slice_get_within}
-use Rattle.shader_runs.specs.Value.{Rooted, GlobalRoot, Part, At, Selector, MemberNamed, ElementAt, step_of, ValueType, BooleanType, IntegerType, PointerType, OtherType, type_of, same_type, has_type, has_types, same_bytes, Value, Truth, Whole, Pointer, Opaque, Word, Spelled, PartWord, IndexWord, ShortCircuit, short_circuit_word}
+use Rattle.shader_runs.specs.Value.{Bytes, PartTypes, Place, place_type, Step, Rooted, GlobalRoot, Part, At, Selector, MemberNamed, ElementAt, step_of, ValueType, BooleanType, IntegerType, PointerType, OtherType, type_of, same_type, has_type, has_types, same_bytes, Value, Truth, Whole, Pointer, Opaque, Word, Spelled, PartWord, IndexWord, ShortCircuit, short_circuit_word}
 use Rattle.shader_runs.specs.World.{Meaning}
-use Rattle.shader_runs.specs.Program.{ConstantTree, Fixed, NamedConstant, Constructed, ConstantTrees, no_constant, constant, Expression, Constant, Operator, Access, AccessIndex, Logical, Request, Function, expression_of, handle_type, operands_of, Module}
+use Rattle.shader_runs.specs.Program.{ConstantTree, Fixed, NamedConstant, Constructed, ConstantTrees, no_constant, constant, Expression, Constant, Operator, Access, AccessIndex, Logical, Swizzle, Request, Function, expression_of, handle_type, operands_of, Module}
 use Rattle.shader_runs.specs.ProgramRun.{index_value_of, part_value, decides, undecided, combined}
 use Rattle.shader_runs.specs.Scope.{is_pure}
 use Rattle.shader_runs.specs.Premises.{constant_types_of, handle_types, ConstantTyped, ConstantsTyped, LeafTyped, IsTypedIn, AllTypedIn}
@@ -17,14 +17,14 @@ use Rattle.shader_runs.proofs.Evaluation.{not_pointer, not_pointer_type, typed_n
 abbrev pub default_value : ValueType → Value
 default_value BooleanType = Truth false
 default_value (IntegerType s) = Whole s (pos 0)
-default_value PointerType = Pointer (Rooted (GlobalRoot 0))
+default_value (PointerType s) = Pointer (Rooted (GlobalRoot s 0))
 default_value (OtherType s) = Opaque s 0
 
-pub default_typed : (t : ValueType) → IsTrue (has_type t (default_value t))
-default_typed BooleanType = refl
-default_typed (IntegerType s) = same_bytes_self s
-default_typed PointerType = refl
-default_typed (OtherType s) = same_bytes_self s
+pub default_typed : (parts : PartTypes) (t : ValueType) → IsTrue (has_type parts t (default_value t))
+default_typed parts BooleanType = refl
+default_typed parts (IntegerType s) = same_bytes_self s
+default_typed parts (PointerType s) = same_bytes_self s
+default_typed parts (OtherType s) = same_bytes_self s
 
 abbrev same_selector : Selector → Selector → Bool
 same_selector (MemberNamed a) (MemberNamed b) = same_bytes a b
@@ -80,24 +80,24 @@ same_types_self : (a : List ValueType) → IsTrue (same_types a a)
 same_types_self [] = refl
 same_types_self (x ∷ xs) = and_both (same_type x x) (same_types xs xs) (same_type_self x) (same_types_self xs)
 
-abbrev types_of : List Value → List ValueType
-types_of [] = []
-types_of (v ∷ vs) = type_of v ∷ types_of vs
+abbrev types_of : PartTypes → List Value → List ValueType
+types_of parts [] = []
+types_of parts (v ∷ vs) = type_of parts v ∷ types_of parts vs
 
-types_of_typed : (ts : List ValueType) (vs : List Value) → IsTrue (has_types ts vs) → types_of vs ≡ ts
-types_of_typed [] [] e = refl
-types_of_typed [] (v ∷ vs) e = absurd (true≢false (sym e))
-types_of_typed (t ∷ ts) [] e = absurd (true≢false (sym e))
-types_of_typed (t ∷ ts) (v ∷ vs) e =
-    ap₂ ◌∷◌ (sym (same_type_true t (type_of v) (and_left (has_type t v) (has_types ts vs) e))) (types_of_typed ts vs (and_right (has_type t v) (has_types ts vs) e))
+types_of_typed : (parts : PartTypes) (ts : List ValueType) (vs : List Value) → IsTrue (has_types parts ts vs) → types_of parts vs ≡ ts
+types_of_typed parts [] [] e = refl
+types_of_typed parts [] (v ∷ vs) e = absurd (true≢false (sym e))
+types_of_typed parts (t ∷ ts) [] e = absurd (true≢false (sym e))
+types_of_typed parts (t ∷ ts) (v ∷ vs) e =
+    ap₂ ◌∷◌ (sym (same_type_true t (type_of parts v) (and_left (has_type parts t v) (has_types parts ts vs) e))) (types_of_typed parts ts vs (and_right (has_type parts t v) (has_types parts ts vs) e))
 
 -- the result's type of the first operator that is spelled so over such operands
 abbrev result_in : List Signature → Word → List ValueType → ValueType
 result_in [] w ts = BooleanType
 result_in (x ∷ xs) w ts = cond (same_word x.word w && same_types x.operands ts) x.result (result_in xs w ts)
 
-abbrev meaning_of : List Signature → Meaning
-meaning_of xs w vs = default_value (result_in xs w (types_of vs))
+abbrev meaning_of : PartTypes → List Signature → Meaning
+meaning_of parts xs w vs = default_value (result_in xs w (types_of parts vs))
 
 -- one of a list whose signatures agree
 result_found : (xs : List Signature) (x : Signature) → ((y : Signature) → IsOneOf y xs → y.word ≡ x.word → y.operands ≡ x.operands → y.result ≡ x.result) → IsOneOf x xs → result_in xs x.word x.operands ≡ x.result
@@ -214,7 +214,7 @@ module _ (p : Module) (consistent : IsConsistent p) where
   All = signatures_in p p.functions
 
   abbrev m : Meaning
-  m = meaning_of All
+  m = meaning_of p.parts All
 
   all_spelled : (x : Signature) → IsOneOf x All → IsSpelled p x
   all_spelled x k = spelled_in p p.functions 0 at x k
@@ -225,12 +225,12 @@ module _ (p : Module) (consistent : IsConsistent p) where
           subst (λ k. slice_get p.functions k ≡ Some f) same e
 
   -- a spelled operator gives a value of its result's type
-  spelled_typed : (x : Signature) → IsSpelled p x → (vs : List Value) → IsTrue (has_types x.operands vs) → IsTrue (has_type x.result (m x.word vs))
+  spelled_typed : (x : Signature) → IsSpelled p x → (vs : List Value) → IsTrue (has_types p.parts x.operands vs) → IsTrue (has_type p.parts x.result (m x.word vs))
   spelled_typed x s vs h =
       let there = spelled_there p p.functions s.place s.function s.there s.handle x s.among in
       let found = result_found All x (λ y k w o. consistent.alike y x (all_spelled y k) s w o) there in
-      let typed = ap (result_in All x.word) (types_of_typed x.operands vs h) ∙ found in
-      subst (λ t. IsTrue (has_type x.result (default_value t))) (sym typed) (default_typed x.result)
+      let typed = ap (result_in All x.word) (types_of_typed p.parts x.operands vs h) ∙ found in
+      subst (λ t. IsTrue (has_type p.parts x.result (default_value t))) (sym typed) (default_typed p.parts x.result)
 
   module _ (place : ℕ) (f : Function) (here : slice_get p.functions place ≡ Some f) where
     abbrev IsHere : ℕ → Signature → Type 0
@@ -240,19 +240,19 @@ module _ (p : Module) (consistent : IsConsistent p) where
     spelled h x k = record { place = place; function = f; there = here; handle = h; among = k }
 
     mutual
-      constant_fits : (h : ℕ) (e : ConstantTree) → ((x : Signature) → IsOneOf x (constant_signatures p e) → IsHere h x) → ConstantTyped p m e
+      constant_fits : (h : ℕ) (e : ConstantTree) → ((x : Signature) → IsOneOf x (constant_signatures p e) → IsHere h x) → ConstantTyped p.parts p m e
       constant_fits h (Fixed v) at = tt
       constant_fits h (NamedConstant i) at = tt
       constant_fits h (Constructed w ty es) at =
           let x : Signature = record { word = Spelled w; operands = constant_types_of p es; result = ty } in
           (λ vs k. spelled_typed x (spelled h x (at x first_of)) vs k, constants_fit h es (λ y k. at y (later_of k)))
 
-      constants_fit : (h : ℕ) (es : ConstantTrees) → ((x : Signature) → IsOneOf x (constants_signatures p es) → IsHere h x) → ConstantsTyped p m es
+      constants_fit : (h : ℕ) (es : ConstantTrees) → ((x : Signature) → IsOneOf x (constants_signatures p es) → IsHere h x) → ConstantsTyped p.parts p m es
       constants_fit h no_constant at = tt
       constants_fit h (constant e es) at =
           (constant_fits h e (λ y k. at y (one_of_left y (constant_signatures p e) (constants_signatures p es) k)), constants_fit h es (λ y k. at y (one_of_right y (constant_signatures p e) (constants_signatures p es) k)))
 
-    leaf_fits : (h : ℕ) (e : Option Expression) → ((x : Signature) → IsOneOf x (signatures_of p f (handle_type f h) e) → IsHere h x) → LeafTyped p m e
+    leaf_fits : (h : ℕ) (e : Option Expression) → ((x : Signature) → IsOneOf x (signatures_of p f (handle_type f h) e) → IsHere h x) → LeafTyped p.parts p m e
     leaf_fits h (Some (Constant e)) at = constant_fits h e at
     leaf_fits h (Some (Request a w xs es)) at = constants_fit h es at
     leaf_fits h (Some _) at = tt
@@ -260,29 +260,29 @@ module _ (p : Module) (consistent : IsConsistent p) where
 
     -- an operator's value, over values of its operands' types
     abbrev Gives_typed : ValueType → Option Expression → List Value → Type 0
-    Gives_typed k e vs = (v : Value) × (combined m e vs ≡ Some v) × IsTrue (has_type k v)
+    Gives_typed k e vs = (v : Value) × (combined m e vs ≡ Some v) × IsTrue (has_type p.parts k v)
 
     abbrev pair_types : ValueType → ValueType → List Value → Bool
-    pair_types a b vs = has_types (a ∷ b ∷ []) vs
+    pair_types a b vs = has_types p.parts (a ∷ b ∷ []) vs
 
-    by_pair : (k a b : ValueType) (e : Option Expression) → ((x y : Value) → IsTrue (has_type a x) → IsTrue (has_type b y) → Gives_typed k e (x ∷ y ∷ [])) → (vs : List Value) → IsTrue (has_types (a ∷ b ∷ []) vs) → Gives_typed k e vs
+    by_pair : (k a b : ValueType) (e : Option Expression) → ((x y : Value) → IsTrue (has_type p.parts a x) → IsTrue (has_type p.parts b y) → Gives_typed k e (x ∷ y ∷ [])) → (vs : List Value) → IsTrue (has_types p.parts (a ∷ b ∷ []) vs) → Gives_typed k e vs
     by_pair k a b e g [] h = absurd (true≢false (sym h))
     by_pair k a b e g (x ∷ []) h =
-        absurd (true≢false (sym (and_right (has_type a x) (has_types (b ∷ []) []) h)))
+        absurd (true≢false (sym (and_right (has_type p.parts a x) (has_types p.parts (b ∷ []) []) h)))
     by_pair k a b e g (x ∷ y ∷ []) h =
-        let rest = and_right (has_type a x) (has_types (b ∷ []) (y ∷ [])) h in
-        g x y (and_left (has_type a x) (has_types (b ∷ []) (y ∷ [])) h) (and_left (has_type b y) true rest)
+        let rest = and_right (has_type p.parts a x) (has_types p.parts (b ∷ []) (y ∷ [])) h in
+        g x y (and_left (has_type p.parts a x) (has_types p.parts (b ∷ []) (y ∷ [])) h) (and_left (has_type p.parts b y) true rest)
     by_pair k a b e g (x ∷ y ∷ z ∷ vs) h =
-        let rest = and_right (has_type a x) (has_types (b ∷ []) (y ∷ z ∷ vs)) h in
-        absurd (true≢false (sym (and_right (has_type b y) (has_types [] (z ∷ vs)) rest)))
+        let rest = and_right (has_type p.parts a x) (has_types p.parts (b ∷ []) (y ∷ z ∷ vs)) h in
+        absurd (true≢false (sym (and_right (has_type p.parts b y) (has_types p.parts [] (z ∷ vs)) rest)))
 
-    by_one : (k a : ValueType) (e : Option Expression) → ((x : Value) → IsTrue (has_type a x) → Gives_typed k e (x ∷ [])) → (vs : List Value) → IsTrue (has_types (a ∷ []) vs) → Gives_typed k e vs
+    by_one : (k a : ValueType) (e : Option Expression) → ((x : Value) → IsTrue (has_type p.parts a x) → Gives_typed k e (x ∷ [])) → (vs : List Value) → IsTrue (has_types p.parts (a ∷ []) vs) → Gives_typed k e vs
     by_one k a e g [] h = absurd (true≢false (sym h))
-    by_one k a e g (x ∷ []) h = g x (and_left (has_type a x) true h)
-    by_one k a e g (x ∷ y ∷ vs) h = absurd (true≢false (sym (and_right (has_type a x) (has_types [] (y ∷ vs)) h)))
+    by_one k a e g (x ∷ []) h = g x (and_left (has_type p.parts a x) true h)
+    by_one k a e g (x ∷ y ∷ vs) h = absurd (true≢false (sym (and_right (has_type p.parts a x) (has_types p.parts [] (y ∷ vs)) h)))
 
-    pair_typed : (a b : ValueType) (x y : Value) → IsTrue (has_type a x) → IsTrue (has_type b y) → IsTrue (has_types (a ∷ b ∷ []) (x ∷ y ∷ []))
-    pair_typed a b x y h k = and_both (has_type a x) (has_types (b ∷ []) (y ∷ [])) h (and_both (has_type b y) true k refl)
+    pair_typed : (a b : ValueType) (x y : Value) → IsTrue (has_type p.parts a x) → IsTrue (has_type p.parts b y) → IsTrue (has_types p.parts (a ∷ b ∷ []) (x ∷ y ∷ []))
+    pair_typed a b x y h k = and_both (has_type p.parts a x) (has_types p.parts (b ∷ []) (y ∷ [])) h (and_both (has_type p.parts b y) true k refl)
 
     index_value_is : (x y : Value) → IsTrue (not_pointer x) → index_value_of m x y ≡ Some (m IndexWord (x ∷ y ∷ []))
     index_value_is (Truth b) y n = refl
@@ -296,73 +296,78 @@ module _ (p : Module) (consistent : IsConsistent p) where
     part_value_is x (Opaque s z) n = refl
     part_value_is x (Pointer q) n = absurd (true≢false (sym n))
 
-    access_pointer : (i k : ValueType) → AccessFits PointerType i k → (b j : ℕ) (x y : Value) → IsTrue (has_type PointerType x) → IsTrue (has_type i y) → Gives_typed k (Some (Access b j)) (x ∷ y ∷ [])
-    access_pointer (IntegerType s) PointerType w b j (Pointer q) (Whole t z) h l = (Pointer (Part q (At z)), refl, refl)
-    access_pointer (IntegerType s) PointerType w b j (Pointer q) (Truth t) h l = absurd (true≢false (sym l))
-    access_pointer (IntegerType s) PointerType w b j (Pointer q) (Pointer t) h l = absurd (true≢false (sym l))
-    access_pointer (IntegerType s) PointerType w b j (Pointer q) (Opaque t z) h l = absurd (true≢false (sym l))
-    access_pointer i k w b j (Truth q) y h l = absurd (true≢false (sym h))
-    access_pointer i k w b j (Whole q z) y h l = absurd (true≢false (sym h))
-    access_pointer i k w b j (Opaque q z) y h l = absurd (true≢false (sym h))
-    access_pointer (IntegerType s) BooleanType w b j (Pointer q) y h l = absurd w
-    access_pointer (IntegerType s) (IntegerType t) w b j (Pointer q) y h l = absurd w
-    access_pointer (IntegerType s) (OtherType t) w b j (Pointer q) y h l = absurd w
-    access_pointer BooleanType k w b j (Pointer q) y h l = absurd w
-    access_pointer PointerType k w b j (Pointer q) y h l = absurd w
-    access_pointer (OtherType s) k w b j (Pointer q) y h l = absurd w
+    -- a pointer to a part has the type that its place has
+    part_has_type : (k : ValueType) (whole : Bytes) (q : Place) (x : Step) → k ≡ PointerType (p.parts whole x) → IsTrue (has_type p.parts (PointerType whole) (Pointer q)) → IsTrue (has_type p.parts k (Pointer (Part q x)))
+    part_has_type k whole q x w h =
+        let same = same_bytes_true whole (place_type p.parts q) h in
+        ap (λ k. has_type p.parts k (Pointer (Part q x))) (w ∙ ap (λ s. PointerType (p.parts s x)) same)
+        ∙ same_bytes_self (p.parts (place_type p.parts q) x)
 
-    access_other : (a i k : ValueType) → IsTrue (not_pointer_type a) → ((vs : List Value) → IsTrue (has_types (a ∷ i ∷ []) vs) → IsTrue (has_type k (m IndexWord vs))) → (b j : ℕ) (x y : Value) → IsTrue (has_type a x) → IsTrue (has_type i y) → Gives_typed k (Some (Access b j)) (x ∷ y ∷ [])
+    access_pointer : (whole : Bytes) (i k : ValueType) → AccessFits p.parts (PointerType whole) i k → (b j : ℕ) (x y : Value) → IsTrue (has_type p.parts (PointerType whole) x) → IsTrue (has_type p.parts i y) → Gives_typed k (Some (Access b j)) (x ∷ y ∷ [])
+    access_pointer whole (IntegerType s) k w b j (Pointer q) (Whole t z) h l =
+        (Pointer (Part q (At z)), refl, part_has_type k whole q (At z) (w z) h)
+    access_pointer whole (IntegerType s) k w b j (Pointer q) (Truth t) h l = absurd (true≢false (sym l))
+    access_pointer whole (IntegerType s) k w b j (Pointer q) (Pointer t) h l = absurd (true≢false (sym l))
+    access_pointer whole (IntegerType s) k w b j (Pointer q) (Opaque t z) h l = absurd (true≢false (sym l))
+    access_pointer whole i k w b j (Truth q) y h l = absurd (true≢false (sym h))
+    access_pointer whole i k w b j (Whole q z) y h l = absurd (true≢false (sym h))
+    access_pointer whole i k w b j (Opaque q z) y h l = absurd (true≢false (sym h))
+    access_pointer whole BooleanType k w b j (Pointer q) y h l = absurd w
+    access_pointer whole (PointerType s) k w b j (Pointer q) y h l = absurd w
+    access_pointer whole (OtherType s) k w b j (Pointer q) y h l = absurd w
+
+    access_other : (a i k : ValueType) → IsTrue (not_pointer_type a) → ((vs : List Value) → IsTrue (has_types p.parts (a ∷ i ∷ []) vs) → IsTrue (has_type p.parts k (m IndexWord vs))) → (b j : ℕ) (x y : Value) → IsTrue (has_type p.parts a x) → IsTrue (has_type p.parts i y) → Gives_typed k (Some (Access b j)) (x ∷ y ∷ [])
     access_other a i k n g b j x y h l =
-        (m IndexWord (x ∷ y ∷ []), index_value_is x y (typed_not_pointer a x n h), g (x ∷ y ∷ []) (pair_typed a i x y h l))
+        (m IndexWord (x ∷ y ∷ []), index_value_is x y (typed_not_pointer p.parts a x n h), g (x ∷ y ∷ []) (pair_typed a i x y h l))
 
-    access_typed : (a i k : ValueType) → AccessFits a i k → ((vs : List Value) → IsTrue (has_types (a ∷ i ∷ []) vs) → IsTrue (has_type k (m IndexWord vs))) → (b j : ℕ) (x y : Value) → IsTrue (has_type a x) → IsTrue (has_type i y) → Gives_typed k (Some (Access b j)) (x ∷ y ∷ [])
-    access_typed PointerType i k w g b j x y h l = access_pointer i k w b j x y h l
+    access_typed : (a i k : ValueType) → AccessFits p.parts a i k → ((vs : List Value) → IsTrue (has_types p.parts (a ∷ i ∷ []) vs) → IsTrue (has_type p.parts k (m IndexWord vs))) → (b j : ℕ) (x y : Value) → IsTrue (has_type p.parts a x) → IsTrue (has_type p.parts i y) → Gives_typed k (Some (Access b j)) (x ∷ y ∷ [])
+    access_typed (PointerType s) i k w g b j x y h l = access_pointer s i k w b j x y h l
     access_typed BooleanType i k w g b j x y h l = access_other BooleanType i k refl g b j x y h l
     access_typed (IntegerType s) i k w g b j x y h l = access_other (IntegerType s) i k refl g b j x y h l
     access_typed (OtherType s) i k w g b j x y h l = access_other (OtherType s) i k refl g b j x y h l
 
-    part_other : (x : Selector) (a k : ValueType) → IsTrue (not_pointer_type a) → ((vs : List Value) → IsTrue (has_types (a ∷ []) vs) → IsTrue (has_type k (m (PartWord x) vs))) → (b : ℕ) (y : Value) → IsTrue (has_type a y) → Gives_typed k (Some (AccessIndex x b)) (y ∷ [])
+    part_other : (x : Selector) (a k : ValueType) → IsTrue (not_pointer_type a) → ((vs : List Value) → IsTrue (has_types p.parts (a ∷ []) vs) → IsTrue (has_type p.parts k (m (PartWord x) vs))) → (b : ℕ) (y : Value) → IsTrue (has_type p.parts a y) → Gives_typed k (Some (AccessIndex x b)) (y ∷ [])
     part_other x a k n g b y h =
-        (m (PartWord x) (y ∷ []), part_value_is x y (typed_not_pointer a y n h), g (y ∷ []) (and_both (has_type a y) true h refl))
+        (m (PartWord x) (y ∷ []), part_value_is x y (typed_not_pointer p.parts a y n h), g (y ∷ []) (and_both (has_type p.parts a y) true h refl))
 
-    part_pointer : (x : Selector) (k : ValueType) → k ≡ PointerType → (b : ℕ) (y : Value) → IsTrue (has_type PointerType y) → Gives_typed k (Some (AccessIndex x b)) (y ∷ [])
-    part_pointer x k w b (Pointer q) h = (Pointer (Part q (step_of x)), refl, ap (λ k. has_type k (Pointer (Part q (step_of x)))) w)
-    part_pointer x k w b (Truth q) h = absurd (true≢false (sym h))
-    part_pointer x k w b (Whole q z) h = absurd (true≢false (sym h))
-    part_pointer x k w b (Opaque q z) h = absurd (true≢false (sym h))
+    part_pointer : (whole : Bytes) (x : Selector) (k : ValueType) → k ≡ PointerType (p.parts whole (step_of x)) → (b : ℕ) (y : Value) → IsTrue (has_type p.parts (PointerType whole) y) → Gives_typed k (Some (AccessIndex x b)) (y ∷ [])
+    part_pointer whole x k w b (Pointer q) h = (Pointer (Part q (step_of x)), refl, part_has_type k whole q (step_of x) w h)
+    part_pointer whole x k w b (Truth q) h = absurd (true≢false (sym h))
+    part_pointer whole x k w b (Whole q z) h = absurd (true≢false (sym h))
+    part_pointer whole x k w b (Opaque q z) h = absurd (true≢false (sym h))
 
-    part_typed : (x : Selector) (a k : ValueType) → AccessIndexFits a k → ((vs : List Value) → IsTrue (has_types (a ∷ []) vs) → IsTrue (has_type k (m (PartWord x) vs))) → (b : ℕ) (y : Value) → IsTrue (has_type a y) → Gives_typed k (Some (AccessIndex x b)) (y ∷ [])
-    part_typed x PointerType k w g b y h = part_pointer x k w b y h
+    part_typed : (x : Selector) (a k : ValueType) → AccessIndexFits p.parts x a k → ((vs : List Value) → IsTrue (has_types p.parts (a ∷ []) vs) → IsTrue (has_type p.parts k (m (PartWord x) vs))) → (b : ℕ) (y : Value) → IsTrue (has_type p.parts a y) → Gives_typed k (Some (AccessIndex x b)) (y ∷ [])
+    part_typed x (PointerType s) k w g b y h = part_pointer s x k w b y h
     part_typed x BooleanType k w g b y h = part_other x BooleanType k refl g b y h
     part_typed x (IntegerType s) k w g b y h = part_other x (IntegerType s) k refl g b y h
     part_typed x (OtherType s) k w g b y h = part_other x (OtherType s) k refl g b y h
 
     -- what `&&` or `||` gives behind a truth value
-    truths_typed : (j : ShortCircuit) (t k : ValueType) → k ≡ BooleanType → ((vs : List Value) → IsTrue (has_types (BooleanType ∷ t ∷ []) vs) → IsTrue (has_type k (m (Spelled (short_circuit_word j)) vs))) → (a : Bool) (y : Value) → IsTrue (has_type t y) → IsTrue (has_type k (undecided m j (Truth a) y))
-    truths_typed j t k w g a (Truth b) l = ap (λ k. has_type k (Truth b)) w
+    truths_typed : (j : ShortCircuit) (t k : ValueType) → k ≡ BooleanType → ((vs : List Value) → IsTrue (has_types p.parts (BooleanType ∷ t ∷ []) vs) → IsTrue (has_type p.parts k (m (Spelled (short_circuit_word j)) vs))) → (a : Bool) (y : Value) → IsTrue (has_type p.parts t y) → IsTrue (has_type p.parts k (undecided m j (Truth a) y))
+    truths_typed j t k w g a (Truth b) l = ap (λ k. has_type p.parts k (Truth b)) w
     truths_typed j t k w g a (Whole s z) l = g (Truth a ∷ Whole s z ∷ []) (pair_typed BooleanType t (Truth a) (Whole s z) refl l)
     truths_typed j t k w g a (Pointer s) l = g (Truth a ∷ Pointer s ∷ []) (pair_typed BooleanType t (Truth a) (Pointer s) refl l)
     truths_typed j t k w g a (Opaque s z) l = g (Truth a ∷ Opaque s z ∷ []) (pair_typed BooleanType t (Truth a) (Opaque s z) refl l)
 
-    truth_cases : (j : ShortCircuit) (t k : ValueType) → k ≡ BooleanType → ((vs : List Value) → IsTrue (has_types (BooleanType ∷ t ∷ []) vs) → IsTrue (has_type k (m (Spelled (short_circuit_word j)) vs))) → (d a : Bool) (y : Value) → IsTrue (has_type t y) → IsTrue (has_type k (cond d (Truth a) (undecided m j (Truth a) y)))
-    truth_cases j t k w g true a y l = ap (λ k. has_type k (Truth a)) w
+    truth_cases : (j : ShortCircuit) (t k : ValueType) → k ≡ BooleanType → ((vs : List Value) → IsTrue (has_types p.parts (BooleanType ∷ t ∷ []) vs) → IsTrue (has_type p.parts k (m (Spelled (short_circuit_word j)) vs))) → (d a : Bool) (y : Value) → IsTrue (has_type p.parts t y) → IsTrue (has_type p.parts k (cond d (Truth a) (undecided m j (Truth a) y)))
+    truth_cases j t k w g true a y l = ap (λ k. has_type p.parts k (Truth a)) w
     truth_cases j t k w g false a y l = truths_typed j t k w g a y l
 
-    boolean_of : (a k : ValueType) → LogicalFits a k → (b : Bool) → IsTrue (has_type a (Truth b)) → (a ≡ BooleanType) × (k ≡ BooleanType)
+    boolean_of : (a k : ValueType) → LogicalFits a k → (b : Bool) → IsTrue (has_type p.parts a (Truth b)) → (a ≡ BooleanType) × (k ≡ BooleanType)
     boolean_of BooleanType k w b h = (refl, w)
     boolean_of (IntegerType s) k w b h = absurd (true≢false (sym h))
-    boolean_of PointerType k w b h = absurd (true≢false (sym h))
+    boolean_of (PointerType s) k w b h = absurd (true≢false (sym h))
     boolean_of (OtherType s) k w b h = absurd (true≢false (sym h))
 
-    logical_typed : (j : ShortCircuit) (a t k : ValueType) → LogicalFits a k → ((vs : List Value) → IsTrue (has_types (a ∷ t ∷ []) vs) → IsTrue (has_type k (m (Spelled (short_circuit_word j)) vs))) → (x y : Value) → IsTrue (has_type a x) → IsTrue (has_type t y) → IsTrue (has_type k (cond (decides j x) x (undecided m j x y)))
+    logical_typed : (j : ShortCircuit) (a t k : ValueType) → LogicalFits a k → ((vs : List Value) → IsTrue (has_types p.parts (a ∷ t ∷ []) vs) → IsTrue (has_type p.parts k (m (Spelled (short_circuit_word j)) vs))) → (x y : Value) → IsTrue (has_type p.parts a x) → IsTrue (has_type p.parts t y) → IsTrue (has_type p.parts k (cond (decides j x) x (undecided m j x y)))
     logical_typed j a t k w g (Truth b) y h l =
         let q = boolean_of a k w b h in
-        truth_cases j t k q.1 (subst (λ a. (vs : List Value) → IsTrue (has_types (a ∷ t ∷ []) vs) → IsTrue (has_type k (m (Spelled (short_circuit_word j)) vs))) q.0 g) (decides j (Truth b)) b y l
+        truth_cases j t k q.1 (subst (λ a. (vs : List Value) → IsTrue (has_types p.parts (a ∷ t ∷ []) vs) → IsTrue (has_type p.parts k (m (Spelled (short_circuit_word j)) vs))) q.0 g) (decides j (Truth b)) b y l
     logical_typed j a t k w g (Whole s z) y h l = g (Whole s z ∷ y ∷ []) (pair_typed a t (Whole s z) y h l)
     logical_typed j a t k w g (Pointer s) y h l = g (Pointer s ∷ y ∷ []) (pair_typed a t (Pointer s) y h l)
     logical_typed j a t k w g (Opaque s z) y h l = g (Opaque s z ∷ y ∷ []) (pair_typed a t (Opaque s z) y h l)
 
-    operator_fits : (h : ℕ) (e : Option Expression) → PartsFit f (handle_type f h) e → ((x : Signature) → IsOneOf x (signatures_of p f (handle_type f h) e) → IsHere h x) → IsTrue (is_pure e) → (vs : List Value) → IsTrue (has_types (handle_types f (operands_of e)) vs) → Gives_typed (handle_type f h) e vs
+    operator_fits : (h : ℕ) (e : Option Expression) → PartsFit p.parts f (handle_type f h) e → ((x : Signature) → IsOneOf x (signatures_of p f (handle_type f h) e) → IsHere h x) → IsTrue (is_pure e) → (vs : List Value) → IsTrue (has_types p.parts (handle_types f (operands_of e)) vs) → Gives_typed (handle_type f h) e vs
     operator_fits h (Some (Operator w xs)) fit at q vs t =
         let x : Signature = record { word = Spelled w; operands = handle_types f xs; result = handle_type f h } in
         (m (Spelled w) vs, refl, spelled_typed x (spelled h x (at x first_of)) vs t)
@@ -375,17 +380,20 @@ module _ (p : Module) (consistent : IsConsistent p) where
     operator_fits h (Some (Logical j l r)) fit at q vs t =
         let x : Signature = record { word = Spelled (short_circuit_word j); operands = handle_types f (l ∷ r ∷ []); result = handle_type f h } in
         by_pair (handle_type f h) (handle_type f l) (handle_type f r) (Some (Logical j l r)) (λ a b ta tb. (cond (decides j a) a (undecided m j a b), refl, logical_typed j (handle_type f l) (handle_type f r) (handle_type f h) fit (λ vs k. spelled_typed x (spelled h x (at x first_of)) vs k) a b ta tb)) vs t
+    operator_fits h (Some (Swizzle s v)) fit at q vs t =
+        let x : Signature = record { word = PartWord (MemberNamed s); operands = handle_types f (v ∷ []); result = handle_type f h } in
+        by_one (handle_type f h) (handle_type f v) (Some (Swizzle s v)) (λ y k. (m (PartWord (MemberNamed s)) (y ∷ []), refl, spelled_typed x (spelled h x (at x first_of)) (y ∷ []) (and_both (has_type p.parts (handle_type f v) y) true k refl))) vs t
     operator_fits h (Some _) fit at q vs t = absurd (true≢false (sym q))
     operator_fits h None fit at q vs t = absurd (true≢false (sym q))
 
-    function_typed : IsTypedIn p m f
+    function_typed : IsTypedIn p.parts p m f
     function_typed =
         record {
           constants = λ h. leaf_fits h (expression_of f h) (λ x k. k);
           operators = λ h q vs t. operator_fits h (expression_of f h) (consistent.parts place f here h) (λ x k. k) q vs t;
         }
 
-  all_typed : (fs : List Function) (shift : ℕ) → ((i : ℕ) (f : Function) → slice_get fs i ≡ Some f → slice_get p.functions (i + shift) ≡ Some f) → AllTypedIn p m fs
+  all_typed : (fs : List Function) (shift : ℕ) → ((i : ℕ) (f : Function) → slice_get fs i ≡ Some f → slice_get p.functions (i + shift) ≡ Some f) → AllTypedIn p.parts p m fs
   all_typed [] shift at = tt
   all_typed (f ∷ fs) shift at = (function_typed (0 + shift) f (at 0 f refl), all_typed fs (suc shift) later)
     where

@@ -2,7 +2,7 @@
 use Rattle.std.proofs.Common.{◌≡◌, ◌≢◌, ℕ, suc, Bool, true, false, cond, nat_eq, List, [], ◌∷◌, length, ◌&&◌, refl, sym, ap, ap₂, ◌∙◌, subst, true≢false, eqb-true, eq-eqb}
 use Rattle.std.proofs.lemmas.Bool.{eqb-false}
 use Rattle.std.specs.Prelude.{IsTrue}
-use Rattle.shader_runs.specs.Value.{Bytes, same_bytes, ValueType, BooleanType, IntegerType, PointerType, OtherType, same_type, has_type, has_types, Value}
+use Rattle.shader_runs.specs.Value.{Bytes, same_bytes, PartTypes, ValueType, BooleanType, IntegerType, PointerType, OtherType, same_type, has_type, has_types, Value}
 use Rattle.shader_runs.specs.World.{update, bind}
 
 pub and_left : (a b : Bool) → IsTrue (a && b) → IsTrue a
@@ -44,33 +44,33 @@ same_bytes_apart a b n = go (same_bytes a b) refl
 pub same_type_true : (a b : ValueType) → IsTrue (same_type a b) → a ≡ b
 same_type_true BooleanType BooleanType e = refl
 same_type_true BooleanType (IntegerType y) e = absurd (true≢false (sym e))
-same_type_true BooleanType PointerType e = absurd (true≢false (sym e))
+same_type_true BooleanType (PointerType y) e = absurd (true≢false (sym e))
 same_type_true BooleanType (OtherType y) e = absurd (true≢false (sym e))
 same_type_true (IntegerType x) BooleanType e = absurd (true≢false (sym e))
 same_type_true (IntegerType x) (IntegerType y) e = ap IntegerType (same_bytes_true x y e)
-same_type_true (IntegerType x) PointerType e = absurd (true≢false (sym e))
+same_type_true (IntegerType x) (PointerType y) e = absurd (true≢false (sym e))
 same_type_true (IntegerType x) (OtherType y) e = absurd (true≢false (sym e))
-same_type_true PointerType BooleanType e = absurd (true≢false (sym e))
-same_type_true PointerType (IntegerType y) e = absurd (true≢false (sym e))
-same_type_true PointerType PointerType e = refl
-same_type_true PointerType (OtherType y) e = absurd (true≢false (sym e))
+same_type_true (PointerType x) BooleanType e = absurd (true≢false (sym e))
+same_type_true (PointerType x) (IntegerType y) e = absurd (true≢false (sym e))
+same_type_true (PointerType x) (PointerType y) e = ap PointerType (same_bytes_true x y e)
+same_type_true (PointerType x) (OtherType y) e = absurd (true≢false (sym e))
 same_type_true (OtherType x) BooleanType e = absurd (true≢false (sym e))
 same_type_true (OtherType x) (IntegerType y) e = absurd (true≢false (sym e))
-same_type_true (OtherType x) PointerType e = absurd (true≢false (sym e))
+same_type_true (OtherType x) (PointerType y) e = absurd (true≢false (sym e))
 same_type_true (OtherType x) (OtherType y) e = ap OtherType (same_bytes_true x y e)
 
 pub same_type_self : (a : ValueType) → IsTrue (same_type a a)
 same_type_self BooleanType = refl
 same_type_self (IntegerType x) = same_bytes_self x
-same_type_self PointerType = refl
+same_type_self (PointerType x) = same_bytes_self x
 same_type_self (OtherType x) = same_bytes_self x
 
-pub has_types_length : (ts : List ValueType) (vs : List Value) → IsTrue (has_types ts vs) → length vs ≡ length ts
-has_types_length [] [] e = refl
-has_types_length [] (v ∷ vs) e = absurd (true≢false (sym e))
-has_types_length (t ∷ ts) [] e = absurd (true≢false (sym e))
-has_types_length (t ∷ ts) (v ∷ vs) e =
-    ap suc (has_types_length ts vs (and_right (has_type t v) (has_types ts vs) e))
+pub has_types_length : (parts : PartTypes) (ts : List ValueType) (vs : List Value) → IsTrue (has_types parts ts vs) → length vs ≡ length ts
+has_types_length parts [] [] e = refl
+has_types_length parts [] (v ∷ vs) e = absurd (true≢false (sym e))
+has_types_length parts (t ∷ ts) [] e = absurd (true≢false (sym e))
+has_types_length parts (t ∷ ts) (v ∷ vs) e =
+    ap suc (has_types_length parts ts vs (and_right (has_type parts t v) (has_types parts ts vs) e))
 
 -- what holds of an updated map holds of the new entry and of the others
 pub update_cases : {A : Type 0} (P : A → Type 0) (f : ℕ → A) (h : ℕ) (a : A) (k : ℕ) → (k ≡ h → P a) → (k ≢ h → P (f k)) → P (update f h a k)

@@ -1,10 +1,10 @@
 -- A world whose answers have their types, for a start and a bound on loop turns.
 use Rattle.std.proofs.Common.{◌≡◌, ℕ, zero, suc, ◌<◌, ◌≤◌, ℤ, Bool, true, false, cond, nat_eq, List, [], ◌∷◌, length, Option, Some, None, refl, sym, ap, ap₂, ◌∙◌, subst, true≢false, arith}
 use Rattle.std.specs.Prelude.{IsTrue}
-use Rattle.shader_runs.specs.Value.{Bytes, Place, ValueType, BooleanType, has_type, Value, Truth, Whole, Pointer, Opaque}
+use Rattle.shader_runs.specs.Value.{Bytes, PartTypes, Place, ValueType, BooleanType, has_type, Value, Truth, Whole, Pointer, Opaque}
 use Rattle.shader_runs.specs.World.{Event, Entry, Ask, Read, Write, Discard, entries, World, Meaning, Environment, update}
 use Rattle.shader_runs.specs.Outcome.{Stop, Stuck, OutOfTurns, Discarded, Mistyped, Outcome, Done, Continued, Broke, Returned, Stopped, Reached, Gives, Halts, answer, Next, and_then, and_continue, within, turn, and_again, turns, after_switch, chosen, with_integer}
-use Rattle.shader_runs.specs.Program.{ConstantTrees, Expression, Constant, Argument, Local, Global, Load, Operator, Access, AccessIndex, Logical, Request, Action, Asked, Called, Label, Numbered, Statement, Emit, Store, Block, If, Switch, Loop, Break, Continue, Return, Kill, Barrier, Act, Statements, end, then, Cases, no_case, case, Function, argument_count, expression_of, handle_type, operands_of, is_counted, is_asked, from}
+use Rattle.shader_runs.specs.Program.{ConstantTrees, Expression, Constant, Argument, Local, Global, Load, Operator, Access, AccessIndex, Logical, Swizzle, Request, Action, Asked, Called, Label, Numbered, Statement, Emit, Store, Block, If, Switch, Loop, Break, Continue, Return, Kill, Barrier, Act, Statements, end, then, Cases, no_case, case, Function, argument_count, expression_of, handle_type, operands_of, is_counted, is_asked, from}
 use Rattle.shader_runs.specs.ProgramRun.{Call, Kept, constant_values, used, used_as, also, used_all, gathered, computed, joined, if_typed, keep_typed, with_used, loaded, asked, if_counted, emit_as, emit, with_pointer, leave, returned, acted, with_result, with_all, barrier_words, ask_each, same_label, has_label, label_if, run, run_all, run_cases, run_on, constants_kept, with_first, wrapped, first_used, first_used_all, entered, run_body, called, run_call}
 use Rattle.shader_runs.specs.Correct.{KeepsTypes}
 use Rattle.shader_runs.proofs.Update.{update_cases}
@@ -204,15 +204,15 @@ more_event {S} o e t f q a =
     constant_built events_of Fine t a o f longer
 
 -- a request: its answer has the type that is wanted here
-request_makes : (k : ValueType) (h : ℕ) (r : Event) (kept : Kept) (t : List Event) → Makes t (λ b. keep_typed k h (world_of b t r) kept (r ∷ t))
-request_makes k h r kept t a =
+request_makes : (parts : PartTypes) (k : ValueType) (h : ℕ) (r : Event) (kept : Kept) (t : List Event) → Makes t (λ b. keep_typed parts k h (world_of b t r) kept (r ∷ t))
+request_makes parts k h r kept t a =
     record {
       after = update a (length t) k;
       agrees = λ i lt. update_cases (λ z. z ≡ a i) a (length t) k i (λ e. absurd (beside i lt e)) (λ e. refl);
       result = Done (update kept h (Some (default_value k))) (r ∷ t);
       is_fine = tt;
       longer = omega arith;
-      same = λ b q. ap (λ y. keep_typed k h (default_value y) kept (r ∷ t)) (q (length t) (omega arith) ∙ here) ∙ typed (has_type k (default_value k)) (default_typed k);
+      same = λ b q. ap (λ y. keep_typed parts k h (default_value y) kept (r ∷ t)) (q (length t) (omega arith) ∙ here) ∙ typed (has_type parts k (default_value k)) (default_typed parts k);
     }
   where
     beside : (i : ℕ) → i < length t → i ≡ length t → ⊥
@@ -265,24 +265,24 @@ module _ (f : Function) (cs : List Function) (env : Environment) (m : Meaning) (
   pure_makes h e kept t a =
       along events_of Fine t a (λ b. Done (update kept h (computed (c b) kept e)) t) (λ b. Done (update kept h (computed (c none) kept e)) t) (λ b. ap (λ o. Done (update kept h o) t) (computed_at kept e b)) (ends (Done (update kept h (computed (c none) kept e)) t) tt a)
 
-  loaded_makes : (k : ValueType) (h q : ℕ) (kept : Kept) (t : List Event) → Makes t (λ b. loaded k (world_of b) h (used (c b) kept q) kept t)
+  loaded_makes : (k : ValueType) (h q : ℕ) (kept : Kept) (t : List Event) → Makes t (λ b. loaded env.parts k (world_of b) h (used (c b) kept q) kept t)
   loaded_makes k h q kept t a =
-      along events_of Fine t a (λ b. loaded k (world_of b) h (used (c b) kept q) kept t) (λ b. loaded k (world_of b) h (used (c none) kept q) kept t) (λ b. ap (λ o. loaded k (world_of b) h o kept t) (used_at kept q b)) (go (used (c none) kept q) a)
+      along events_of Fine t a (λ b. loaded env.parts k (world_of b) h (used (c b) kept q) kept t) (λ b. loaded env.parts k (world_of b) h (used (c none) kept q) kept t) (λ b. ap (λ o. loaded env.parts k (world_of b) h o kept t) (used_at kept q b)) (go (used (c none) kept q) a)
     where
-      go : (o : Option Value) → Makes t (λ b. loaded k (world_of b) h o kept t)
+      go : (o : Option Value) → Makes t (λ b. loaded env.parts k (world_of b) h o kept t)
       go None = ends (Done (update kept h None) t) tt
-      go (Some (Pointer p)) = request_makes k h (Read p) kept t
+      go (Some (Pointer p)) = request_makes env.parts k h (Read p) kept t
       go (Some (Truth b)) = ends (Stopped Stuck t) tt
       go (Some (Whole s z)) = ends (Stopped Stuck t) tt
       go (Some (Opaque s z)) = ends (Stopped Stuck t) tt
 
-  asked_makes : (k : ValueType) (h : ℕ) (w : Bytes) (xs : List ℕ) (es : ConstantTrees) (kept : Kept) (t : List Event) → Makes t (λ b. asked k (world_of b) h w (joined (used_all (c b) kept xs) (constant_values env m es)) kept t)
+  asked_makes : (k : ValueType) (h : ℕ) (w : Bytes) (xs : List ℕ) (es : ConstantTrees) (kept : Kept) (t : List Event) → Makes t (λ b. asked env.parts k (world_of b) h w (joined (used_all (c b) kept xs) (constant_values env m es)) kept t)
   asked_makes k h w xs es kept t a =
-      along events_of Fine t a (λ b. asked k (world_of b) h w (joined (used_all (c b) kept xs) (constant_values env m es)) kept t) (λ b. asked k (world_of b) h w (joined (used_all (c none) kept xs) (constant_values env m es)) kept t) (λ b. ap (λ o. asked k (world_of b) h w (joined o (constant_values env m es)) kept t) (used_all_at kept xs b)) (go (joined (used_all (c none) kept xs) (constant_values env m es)) a)
+      along events_of Fine t a (λ b. asked env.parts k (world_of b) h w (joined (used_all (c b) kept xs) (constant_values env m es)) kept t) (λ b. asked env.parts k (world_of b) h w (joined (used_all (c none) kept xs) (constant_values env m es)) kept t) (λ b. ap (λ o. asked env.parts k (world_of b) h w (joined o (constant_values env m es)) kept t) (used_all_at kept xs b)) (go (joined (used_all (c none) kept xs) (constant_values env m es)) a)
     where
-      go : (o : Option (List Value)) → Makes t (λ b. asked k (world_of b) h w o kept t)
+      go : (o : Option (List Value)) → Makes t (λ b. asked env.parts k (world_of b) h w o kept t)
       go None = ends (Done (update kept h None) t) tt
-      go (Some us) = request_makes k h (Ask w us) kept t
+      go (Some us) = request_makes env.parts k h (Ask w us) kept t
 
   counted_makes : (x : Bool) (A : Types → Next Kept) (kept : Kept) (t : List Event) → Makes t (λ b. A b kept t) → Makes t (λ b. if_counted x (A b) kept t)
   counted_makes true A kept t k = k
@@ -290,13 +290,14 @@ module _ (f : Function) (cs : List Function) (env : Environment) (m : Meaning) (
 
   emit_as_makes : (h : ℕ) (e : Option Expression) (kept : Kept) (t : List Event) → Makes t (λ b. emit_as (c b) h e kept t)
   emit_as_makes h (Some (Load q)) kept t =
-      counted_makes (is_counted f 1 h) (λ b. loaded (handle_type f h) (world_of b) h (used (c b) kept q)) kept t (loaded_makes (handle_type f h) h q kept t)
+      counted_makes (is_counted f 1 h) (λ b. loaded env.parts (handle_type f h) (world_of b) h (used (c b) kept q)) kept t (loaded_makes (handle_type f h) h q kept t)
   emit_as_makes h (Some (Request q w xs es)) kept t =
-      counted_makes (is_asked f h q) (λ b. asked (handle_type f h) (world_of b) h w (joined (used_all (c b) kept xs) (constant_values env m es))) kept t (asked_makes (handle_type f h) h w xs es kept t)
+      counted_makes (is_asked f h q) (λ b. asked env.parts (handle_type f h) (world_of b) h w (joined (used_all (c b) kept xs) (constant_values env m es))) kept t (asked_makes (handle_type f h) h w xs es kept t)
   emit_as_makes h (Some (Operator w xs)) kept t = pure_makes h (Some (Operator w xs)) kept t
   emit_as_makes h (Some (Access x y)) kept t = pure_makes h (Some (Access x y)) kept t
   emit_as_makes h (Some (AccessIndex x y)) kept t = pure_makes h (Some (AccessIndex x y)) kept t
   emit_as_makes h (Some (Logical j x y)) kept t = pure_makes h (Some (Logical j x y)) kept t
+  emit_as_makes h (Some (Swizzle x y)) kept t = pure_makes h (Some (Swizzle x y)) kept t
   emit_as_makes h (Some _) kept t = ends (Done kept t) tt
   emit_as_makes h None kept t = ends (Done kept t) tt
 
@@ -310,13 +311,13 @@ module _ (f : Function) (cs : List Function) (env : Environment) (m : Meaning) (
   asks_make (w ∷ ws) kept t =
       λ a. shorter events_of Fine t (Ask w [] ∷ t) a (λ b. ask_each ws kept (Ask w [] ∷ t)) (omega arith) (asks_make ws kept (Ask w [] ∷ t) a)
 
-  act_makes : (act : Action) (r : Option ℕ) (kept : Kept) (us : List Value) (t : List Event) → Makes t (λ b. with_result f act r kept (acted (c b) act us t))
+  act_makes : (act : Action) (r : Option ℕ) (kept : Kept) (us : List Value) (t : List Event) → Makes t (λ b. with_result env.parts f act r kept (acted (c b) act us t))
   act_makes (Asked w) None kept us t = more_event (Done kept (Ask w us ∷ t)) (Ask w us) t tt refl
-  act_makes (Asked w) (Some h) kept us t = request_makes (handle_type f h) h (Ask w us) kept t
+  act_makes (Asked w) (Some h) kept us t = request_makes env.parts (handle_type f h) h (Ask w us) kept t
   act_makes (Called g) r kept us t =
-      λ a. sequence reached_events FineReached events_of Fine t a (λ b. calls b g us t) (λ q b. with_result f (Called g) r kept q) (calls_make g us t a) (λ q k a. go r q k a)
+      λ a. sequence reached_events FineReached events_of Fine t a (λ b. calls b g us t) (λ q b. with_result env.parts f (Called g) r kept q) (calls_make g us t a) (λ q k a. go r q k a)
     where
-      go : (r : Option ℕ) (q : Reached (Option Value)) → FineReached q → Makes (reached_events q) (λ b. with_result f (Called g) r kept q)
+      go : (r : Option ℕ) (q : Reached (Option Value)) → FineReached q → Makes (reached_events q) (λ b. with_result env.parts f (Called g) r kept q)
       go None (Gives v e) k = ends (Done kept e) tt
       go None (Halts x e) k = ends (Stopped x e) k
       go (Some h) (Gives None e) k = ends (Stopped Stuck e) tt
@@ -355,7 +356,7 @@ module _ (f : Function) (cs : List Function) (env : Environment) (m : Meaning) (
     run_makes Kill kept t = more_event (Stopped Discarded (Discard ∷ t)) Discard t tt refl
     run_makes (Barrier bits) kept t = asks_make (barrier_words bits) kept t
     run_makes (Act act xs r) kept t =
-        all_makes (λ b. used_all (c b) kept xs) (used_all (c none) kept xs) (used_all_at kept xs) t (λ b us. with_result f act r kept (acted (c b) act us t)) (λ us. act_makes act r kept us t)
+        all_makes (λ b. used_all (c b) kept xs) (used_all (c none) kept xs) (used_all_at kept xs) t (λ b us. with_result env.parts f act r kept (acted (c b) act us t)) (λ us. act_makes act r kept us t)
 
     list_makes : (ss : Statements) (kept : Kept) (t : List Event) → Makes t (λ b. run_all (c b) n ss kept t)
     list_makes end kept t = ends (Done kept t) tt

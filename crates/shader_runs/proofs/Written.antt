@@ -2,32 +2,32 @@
 use Rattle.std.proofs.Common.{◌≡◌, ℕ, zero, suc, ◌<◌, ◌≤◌, true, nat_lt, List, [], ◌∷◌, ◌++◌, length, Option, Some, None, slice_get, refl, sym, ap, ◌∙◌, subst, true≢false, arith, ltb-true}
 use Rattle.std.specs.Prelude.{IsTrue}
 use Rattle.std.proofs.lemmas.Option.{slice_get_within}
-use Rattle.shader_runs.specs.Value.{Bytes, Rooted, GlobalRoot, LocalRoot, Selector, ShortCircuit, ValueType, BooleanType, IntegerType, PointerType, OtherType, type_at, type_of, has_type, has_types, Value, Pointer, Spelled}
+use Rattle.shader_runs.specs.Value.{Bytes, PartTypes, Rooted, GlobalRoot, LocalRoot, Selector, ShortCircuit, ValueType, BooleanType, IntegerType, PointerType, OtherType, type_at, has_type, has_types, Value, Truth, Whole, Pointer, Opaque, Spelled}
 use Rattle.shader_runs.specs.World.{Event, GlobalValue, Stored, Held, Environment, Meaning}
-use Rattle.shader_runs.specs.Program.{ConstantTree, Fixed, NamedConstant, Constructed, ConstantTrees, no_constant, constant, Expression, Constant, Argument, Local, Global, Load, Operator, Access, AccessIndex, Logical, Request, Result, argument_count, local_count, expression_of, handle_type, operands_of, Module}
+use Rattle.shader_runs.specs.Program.{ConstantTree, Fixed, NamedConstant, Constructed, ConstantTrees, no_constant, constant, Expression, Constant, Argument, Local, Global, Load, Operator, Access, AccessIndex, Logical, Swizzle, Request, Result, argument_count, local_count, local_pointer, expression_of, handle_type, operands_of, Module}
 use Rattle.shader_runs.specs.ProgramRun.{Call, Kept, constant_value, constant_values, global_value, used_as, used, also, used_all, joined, applied, combined, gathered, computed}
 use Rattle.shader_runs.specs.Text.{Name}
-use Rattle.shader_runs.specs.TextRun.{Scope, named, valued, responded, unhidden, followed_by, as_value, evaluate, evaluate_all, value_of, global_denoted}
+use Rattle.shader_runs.specs.TextRun.{Scope, named, valued, responded, unhidden, followed_by, as_value, evaluate, evaluate_all, value_of}
 use Rattle.shader_runs.specs.Scope.{Standing, Absent, Barred, Everywhere, Inline, Named, Handles, Names, usable, usable_as, usable_all, is_pure}
 use Rattle.shader_runs.specs.Form.{Plain, AsValue, AsPlace, value_form, place_form, value_forms_then, constant_form, constant_forms, global_form, own_form, standing_form, written_below, written}
-use Rattle.shader_runs.specs.Premises.{FixedName, FixedKey, NumberedKey, GivenKey, IsFixedName, IsNoName, ConstantWords, ConstantsWords, WordFits, AllBelow, constant_type, constant_types_of, ConstantInRange, ConstantsInRange, LeafFits, ConstantTyped, ConstantsTyped, LeafTyped, handle_types, IsTypedIn, ConstantName, ArgumentName, LocalName, GlobalName, global_has_type, globals_have_types, EnvironmentFits}
+use Rattle.shader_runs.specs.Premises.{FixedName, FixedKey, NumberedKey, GivenKey, IsFixedName, IsNoName, ConstantWords, ConstantsWords, WordFits, AllBelow, IsLiteral, literal_type, constant_type, constant_types_of, ConstantInRange, ConstantsInRange, LeafFits, ConstantTyped, ConstantsTyped, LeafTyped, handle_types, IsTypedIn, ConstantName, ArgumentName, LocalName, GlobalName, global_has_type, globals_have_types, EnvironmentFits}
 use Rattle.shader_runs.proofs.Alike.{reached, placed}
 use Rattle.shader_runs.proofs.Update.{and_left, and_right, and_both, same_type_self, has_types_length}
-use Rattle.shader_runs.proofs.Relation.{IsHere, NoName, TypedValue, global_as, Stands, Related}
-use Rattle.shader_runs.proofs.Evaluation.{naming, Respond, words, Responds, denoted, Means, some_same, value_form_gives, place_form_gives, AllMean, reached_all, followed_reached, value_forms_give, named_denoted, applied_reached, OneOf, one_of, TwoOf, two_of, one_there, two_there, access_means, part_means, logical_means}
+use Rattle.shader_runs.proofs.Relation.{IsHere, NoName, TypedValue, stored_denoted, global_as, Stands, Related}
+use Rattle.shader_runs.proofs.Evaluation.{naming, Respond, words, Responds, denoted, Means, some_same, value_form_gives, place_form_gives, AllMean, reached_all, followed_reached, value_forms_give, named_denoted, applied_reached, OneOf, one_of, TwoOf, two_of, one_there, two_there, access_means, part_means, swizzle_means, logical_means}
 
 -- what a call owes to its function's text
 pub record Given (p : Module) (c : Call) (n : Names) (d : Respond) : Type 0 where
-  pub responds : Responds c n d
-  pub arguments : IsTrue (has_types c.function.argument_types c.arguments)
+  pub responds : Responds p c n d
+  pub arguments : IsTrue (has_types c.environment.parts c.function.argument_types c.arguments)
   pub environment : EnvironmentFits p c.environment
   pub ordered : (h : ℕ) → AllBelow h (operands_of (expression_of c.function h))
   pub words : (h : ℕ) → WordFits p (naming c n) (expression_of c.function h)
   pub leaves : (h : ℕ) → LeafFits p c.function (handle_type c.function h) (expression_of c.function h)
-  pub typed : IsTypedIn p c.meaning c.function
+  pub typed : IsTypedIn c.environment.parts p c.meaning c.function
 
-pub no_value : (y : ValueType) (o : Option Value) → TypedValue y o → o ≡ None → ⊥
-no_value y o v e = not_some v.0 (sym v.1 ∙ e)
+pub no_value : (parts : PartTypes) (y : ValueType) (o : Option Value) → TypedValue parts y o → o ≡ None → ⊥
+no_value parts y o v e = not_some v.0 (sym v.1 ∙ e)
   where
     not_some : (v : Value) → Some v ≡ None → ⊥
     not_some v e = cc
@@ -36,41 +36,41 @@ pub unwritten : (m : Meaning) (e : Option Expression) → ((vs : List Value) →
 unwritten m e h None = refl
 unwritten m e h (Some vs) = h vs
 
-pub has_type_at : (ts : List ValueType) (vs : List Value) → IsTrue (has_types ts vs) → (i : ℕ) → i < length ts → TypedValue (type_at ts i) (slice_get vs i)
-has_type_at [] [] h i lt = absurd (omega arith)
-has_type_at [] (v ∷ vs) h i lt = absurd (omega arith)
-has_type_at (t ∷ ts) [] h i lt = absurd (true≢false (sym h))
-has_type_at (t ∷ ts) (v ∷ vs) h zero lt = (v, refl, and_left (has_type t v) (has_types ts vs) h)
-has_type_at (t ∷ ts) (v ∷ vs) h (suc i) lt =
-    has_type_at ts vs (and_right (has_type t v) (has_types ts vs) h) i (omega arith)
+pub has_type_at : (parts : PartTypes) (ts : List ValueType) (vs : List Value) → IsTrue (has_types parts ts vs) → (i : ℕ) → i < length ts → TypedValue parts (type_at ts i) (slice_get vs i)
+has_type_at parts [] [] h i lt = absurd (omega arith)
+has_type_at parts [] (v ∷ vs) h i lt = absurd (omega arith)
+has_type_at parts (t ∷ ts) [] h i lt = absurd (true≢false (sym h))
+has_type_at parts (t ∷ ts) (v ∷ vs) h zero lt = (v, refl, and_left (has_type parts t v) (has_types parts ts vs) h)
+has_type_at parts (t ∷ ts) (v ∷ vs) h (suc i) lt =
+    has_type_at parts ts vs (and_right (has_type parts t v) (has_types parts ts vs) h) i (omega arith)
 
 -- a variable of the module, by what its name stands for
-pub data GlobalThere (k : ValueType) (o : Option GlobalValue) : Type 0 where
-  global_there : (g : GlobalValue) → o ≡ Some g → IsTrue (global_has_type k g) → GlobalThere k o
+pub data GlobalThere (parts : PartTypes) (k : ValueType) (o : Option GlobalValue) : Type 0 where
+  global_there : (g : GlobalValue) → o ≡ Some g → IsTrue (global_has_type parts k g) → GlobalThere parts k o
 
-pub global_at : (ts : List ValueType) (gs : List GlobalValue) → IsTrue (globals_have_types ts gs) → (i : ℕ) → i < length ts → GlobalThere (type_at ts i) (slice_get gs i)
-global_at [] [] h i lt = absurd (omega arith)
-global_at [] (v ∷ vs) h i lt = absurd (omega arith)
-global_at (t ∷ ts) [] h i lt = absurd (true≢false (sym h))
-global_at (t ∷ ts) (v ∷ vs) h zero lt =
-    global_there v refl (and_left (global_has_type t v) (globals_have_types ts vs) h)
-global_at (t ∷ ts) (v ∷ vs) h (suc i) lt =
-    global_at ts vs (and_right (global_has_type t v) (globals_have_types ts vs) h) i (omega arith)
+pub global_at : (parts : PartTypes) (ts : List ValueType) (gs : List GlobalValue) → IsTrue (globals_have_types parts ts gs) → (i : ℕ) → i < length ts → GlobalThere parts (type_at ts i) (slice_get gs i)
+global_at parts [] [] h i lt = absurd (omega arith)
+global_at parts [] (v ∷ vs) h i lt = absurd (omega arith)
+global_at parts (t ∷ ts) [] h i lt = absurd (true≢false (sym h))
+global_at parts (t ∷ ts) (v ∷ vs) h zero lt =
+    global_there v refl (and_left (global_has_type parts t v) (globals_have_types parts ts vs) h)
+global_at parts (t ∷ ts) (v ∷ vs) h (suc i) lt =
+    global_at parts ts vs (and_right (global_has_type parts t v) (globals_have_types parts ts vs) h) i (omega arith)
 
-pub globals_length : (ts : List ValueType) (gs : List GlobalValue) → IsTrue (globals_have_types ts gs) → length gs ≡ length ts
-globals_length [] [] e = refl
-globals_length [] (v ∷ vs) e = absurd (true≢false (sym e))
-globals_length (t ∷ ts) [] e = absurd (true≢false (sym e))
-globals_length (t ∷ ts) (v ∷ vs) e =
-    ap suc (globals_length ts vs (and_right (global_has_type t v) (globals_have_types ts vs) e))
+pub globals_length : (parts : PartTypes) (ts : List ValueType) (gs : List GlobalValue) → IsTrue (globals_have_types parts ts gs) → length gs ≡ length ts
+globals_length parts [] [] e = refl
+globals_length parts [] (v ∷ vs) e = absurd (true≢false (sym e))
+globals_length parts (t ∷ ts) [] e = absurd (true≢false (sym e))
+globals_length parts (t ∷ ts) (v ∷ vs) e =
+    ap suc (globals_length parts ts vs (and_right (global_has_type parts t v) (globals_have_types parts ts vs) e))
 
 -- the names that are there from the start are the module's and the function's
 pub in_range : (p : Module) (c : Call) → EnvironmentFits p c.environment → (y : FixedName) → IsHere c y → IsFixedName p c.function y
 in_range p c fits (ArgumentName i) h = h
 in_range p c fits (LocalName i) h = h
 in_range p c fits (ConstantName i) h =
-    subst (λ k. i < k) (has_types_length p.constant_types c.environment.constants fits.constants) h
-in_range p c fits (GlobalName i) h = subst (λ k. i < k) (globals_length p.global_types c.environment.globals fits.globals) h
+    subst (λ k. i < k) (has_types_length c.environment.parts p.constant_types c.environment.constants fits.constants) h
+in_range p c fits (GlobalName i) h = subst (λ k. i < k) (globals_length c.environment.parts p.global_types c.environment.globals fits.globals) h
 
 pub no_name : (p : Module) (c : Call) (n : Names) → EnvironmentFits p c.environment → (w : Bytes) → IsNoName p (naming c n) w → NoName c n w
 no_name p c n fits w f =
@@ -80,70 +80,75 @@ no_name p c n fits w f =
       given = λ k lt. f (GivenKey k) lt;
     }
 
-held_typed : (k : ValueType) (i : ℕ) (g : GlobalValue) → IsTrue (global_has_type k g) → TypedValue k (global_value i (Some g))
-held_typed PointerType i Stored h = (Pointer (Rooted (GlobalRoot i)), refl, refl)
-held_typed PointerType i (Held v) h = absurd (true≢false (sym h))
-held_typed BooleanType i Stored h = absurd (true≢false (sym h))
-held_typed BooleanType i (Held v) h = (v, refl, h)
-held_typed (IntegerType s) i Stored h = absurd (true≢false (sym h))
-held_typed (IntegerType s) i (Held v) h = (v, refl, h)
-held_typed (OtherType s) i Stored h = absurd (true≢false (sym h))
-held_typed (OtherType s) i (Held v) h = (v, refl, h)
+held_typed : (parts : PartTypes) (k : ValueType) (i : ℕ) (g : GlobalValue) → IsTrue (global_has_type parts k g) → TypedValue parts k (global_value i (Some g))
+held_typed parts (PointerType s) i (Stored q) h = (Pointer (Rooted (GlobalRoot q i)), refl, h)
+held_typed parts (PointerType s) i (Held v) h = absurd (true≢false (sym h))
+held_typed parts BooleanType i (Stored q) h = absurd (true≢false (sym h))
+held_typed parts BooleanType i (Held v) h = (v, refl, h)
+held_typed parts (IntegerType s) i (Stored q) h = absurd (true≢false (sym h))
+held_typed parts (IntegerType s) i (Held v) h = (v, refl, h)
+held_typed parts (OtherType s) i (Stored q) h = absurd (true≢false (sym h))
+held_typed parts (OtherType s) i (Held v) h = (v, refl, h)
+
+literal_typed : (parts : PartTypes) (v : Value) → IsLiteral v → IsTrue (has_type parts (literal_type v) v)
+literal_typed parts (Truth b) l = refl
+literal_typed parts (Whole s z) l = same_type_self (IntegerType s)
+literal_typed parts (Opaque s z) l = same_type_self (OtherType s)
+literal_typed parts (Pointer q) l = absurd l
 
 -- the values of trees over constants have their types
 module _ (p : Module) (env : Environment) (fits : EnvironmentFits p env) (m : Meaning) where
   mutual
-    pub constant_typed : (e : ConstantTree) → ConstantInRange p e → ConstantTyped p m e → TypedValue (constant_type p e) (constant_value env m e)
-    constant_typed (Fixed v) r t = (v, refl, own_type v)
-      where
-        own_type : (v : Value) → IsTrue (has_type (type_of v) v)
-        own_type v = same_type_self (type_of v)
-    constant_typed (NamedConstant i) r t = has_type_at p.constant_types env.constants fits.constants i r
+    pub constant_typed : (e : ConstantTree) → ConstantInRange p e → ConstantTyped env.parts p m e → TypedValue env.parts (constant_type p e) (constant_value env m e)
+    constant_typed (Fixed v) r t = (v, refl, literal_typed env.parts v r)
+    constant_typed (NamedConstant i) r t = has_type_at env.parts p.constant_types env.constants fits.constants i r
     constant_typed (Constructed w ty es) r t =
         let vs = constants_typed es r t.1 in
         (m (Spelled w) vs.0, ap (applied m (Spelled w)) vs.1, t.0 vs.0 vs.2)
 
-    pub constants_typed : (es : ConstantTrees) → ConstantsInRange p es → ConstantsTyped p m es → (vs : List Value) × (constant_values env m es ≡ Some vs) × IsTrue (has_types (constant_types_of p es) vs)
+    pub constants_typed : (es : ConstantTrees) → ConstantsInRange p es → ConstantsTyped env.parts p m es → (vs : List Value) × (constant_values env m es ≡ Some vs) × IsTrue (has_types env.parts (constant_types_of p es) vs)
     constants_typed no_constant r t = ([], refl, refl)
     constants_typed (constant e es) r t =
         let a = constant_typed e r.0 t.0 in
         let b = constants_typed es r.1 t.1 in
-        (a.0 ∷ b.0, ap (λ o. also o (constant_values env m es)) a.1 ∙ ap (also (Some a.0)) b.1, and_both (has_type (constant_type p e) a.0) (has_types (constant_types_of p es) b.0) a.2 b.2)
+        (a.0 ∷ b.0, ap (λ o. also o (constant_values env m es)) a.1 ∙ ap (also (Some a.0)) b.1, and_both (has_type env.parts (constant_type p e) a.0) (has_types env.parts (constant_types_of p es) b.0) a.2 b.2)
 
-retyped : (k k' : ValueType) (o : Option Value) → k ≡ k' → TypedValue k' o → TypedValue k o
-retyped k k' o e v = (v.0, v.1, ap (λ k. has_type k v.0) e ∙ v.2)
+retyped : (parts : PartTypes) (k k' : ValueType) (o : Option Value) → k ≡ k' → TypedValue parts k' o → TypedValue parts k o
+retyped parts k k' o e v = (v.0, v.1, ap (λ k. has_type parts k v.0) e ∙ v.2)
 
 module _ (p : Module) (c : Call) (n : Names) (d : Respond) (given : Given p c n d) (s : Handles) (names : Scope) (kept : Kept) (r : Related c n s names kept) where
   -- each handle in scope has a value of its type
-  typed_value_as : (k : ValueType) (e : Option Expression) → LeafFits p c.function k e → LeafTyped p c.meaning e → (o : Option Value) (st : Standing) → Stands c s names kept k e o st → IsTrue (usable_as c.function e st) → TypedValue k (used_as c e o)
+  typed_value_as : (k : ValueType) (e : Option Expression) → LeafFits p c.function k e → LeafTyped c.environment.parts p c.meaning e → (o : Option Value) (st : Standing) → Stands c s names kept k e o st → IsTrue (usable_as c.function e st) → TypedValue c.environment.parts k (used_as c e o)
   typed_value_as k e l m o (Named x) q u = q.0
   typed_value_as k (Some (Constant e)) l m o st q u =
-      retyped k (constant_type p e) (constant_value c.environment c.meaning e) l.1 (constant_typed p c.environment given.environment c.meaning e l.0 m)
+      retyped c.environment.parts k (constant_type p e) (constant_value c.environment c.meaning e) l.1 (constant_typed p c.environment given.environment c.meaning e l.0 m)
   typed_value_as k (Some (Argument i)) l m o st q u =
-      retyped k (type_at c.function.argument_types i) (slice_get c.arguments i) l (has_type_at c.function.argument_types c.arguments given.arguments i (ltb-true i (argument_count c.function) u))
+      retyped c.environment.parts k (type_at c.function.argument_types i) (slice_get c.arguments i) l (has_type_at c.environment.parts c.function.argument_types c.arguments given.arguments i (ltb-true i (argument_count c.function) u))
   typed_value_as k (Some (Local i)) l m o st q u =
-      retyped k PointerType (Some (Pointer (Rooted (LocalRoot c.frame i)))) l (Pointer (Rooted (LocalRoot c.frame i)), refl, refl)
-  typed_value_as k (Some (Global i)) l m o st q u = go (global_at p.global_types c.environment.globals given.environment.globals i l.0)
+      let pointer = local_pointer c.function i in
+      let place = Pointer (Rooted (LocalRoot pointer c.frame i)) in
+      retyped c.environment.parts k (PointerType pointer) (Some place) l (place, refl, same_type_self (PointerType pointer))
+  typed_value_as k (Some (Global i)) l m o st q u = go (global_at c.environment.parts p.global_types c.environment.globals given.environment.globals i l.0)
     where
-      go : GlobalThere (type_at p.global_types i) (slice_get c.environment.globals i) → TypedValue k (global_value i (slice_get c.environment.globals i))
+      go : GlobalThere c.environment.parts (type_at p.global_types i) (slice_get c.environment.globals i) → TypedValue c.environment.parts k (global_value i (slice_get c.environment.globals i))
       go (global_there g e h) =
-          retyped k (type_at p.global_types i) (global_value i (slice_get c.environment.globals i)) l.1 (subst (λ o. TypedValue (type_at p.global_types i) (global_value i o)) (sym e) (held_typed (type_at p.global_types i) i g h))
+          retyped c.environment.parts k (type_at p.global_types i) (global_value i (slice_get c.environment.globals i)) l.1 (subst (λ o. TypedValue c.environment.parts (type_at p.global_types i) (global_value i o)) (sym e) (held_typed c.environment.parts (type_at p.global_types i) i g h))
   typed_value_as k None l m o st q u = absurd (true≢false (sym u))
   typed_value_as k (Some _) l m o Inline q u = q.1
   typed_value_as k (Some _) l m o Everywhere q u = q.1
   typed_value_as k (Some _) l m o Absent q u = absurd (true≢false (sym u))
   typed_value_as k (Some _) l m o Barred q u = absurd (true≢false (sym u))
 
-  pub typed_value : (h : ℕ) → IsTrue (usable c.function s h) → TypedValue (handle_type c.function h) (used c kept h)
+  pub typed_value : (h : ℕ) → IsTrue (usable c.function s h) → TypedValue c.environment.parts (handle_type c.function h) (used c kept h)
   typed_value h u =
       typed_value_as (handle_type c.function h) (expression_of c.function h) (given.leaves h) (given.typed.constants h) (kept h) (s h) (r.standing h) u
 
-  pub values_here : (xs : List ℕ) → IsTrue (usable_all c.function s xs) → (vs : List Value) × (used_all c kept xs ≡ Some vs) × IsTrue (has_types (handle_types c.function xs) vs)
+  pub values_here : (xs : List ℕ) → IsTrue (usable_all c.function s xs) → (vs : List Value) × (used_all c kept xs ≡ Some vs) × IsTrue (has_types c.environment.parts (handle_types c.function xs) vs)
   values_here [] u = ([], refl, refl)
   values_here (x ∷ xs) u =
       let a = typed_value x (and_left (usable c.function s x) (usable_all c.function s xs) u) in
       let b = values_here xs (and_right (usable c.function s x) (usable_all c.function s xs) u) in
-      (a.0 ∷ b.0, ap (λ o. also o (used_all c kept xs)) a.1 ∙ ap (also (Some a.0)) b.1, and_both (has_type (handle_type c.function x) a.0) (has_types (handle_types c.function xs) b.0) a.2 b.2)
+      (a.0 ∷ b.0, ap (λ o. also o (used_all c kept xs)) a.1 ∙ ap (also (Some a.0)) b.1, and_both (has_type c.environment.parts (handle_type c.function x) a.0) (has_types c.environment.parts (handle_types c.function xs) b.0) a.2 b.2)
 
   -- no variable hides a word of the function
   pub free : (w : Bytes) → IsNoName p (naming c n) w → names w ≡ None
@@ -153,7 +158,7 @@ module _ (p : Module) (c : Call) (n : Names) (d : Respond) (given : Given p c n 
     constant_gives : (e : ConstantTree) → ConstantWords p (naming c n) e → ConstantInRange p e → (t : List Event) → evaluate (words c d) (constant_form n.outer e) names t ≡ denoted (constant_value c.environment c.meaning e) t
     constant_gives (Fixed v) w i t = refl
     constant_gives (NamedConstant j) w i t =
-        ap (λ z. named z t) (r.fixed (ConstantName j) (subst (λ k. j < k) (sym (has_types_length p.constant_types c.environment.constants given.environment.constants)) i)) ∙ named_denoted (slice_get c.environment.constants j) t
+        ap (λ z. named z t) (r.fixed (ConstantName j) (subst (λ k. j < k) (sym (has_types_length c.environment.parts p.constant_types c.environment.constants given.environment.constants)) i)) ∙ named_denoted (slice_get c.environment.constants j) t
     constant_gives (Constructed word ty es) w i t =
         ap (λ q. as_value (unhidden (names word) t (responded (words c d) word q))) (constants_give es w.1 i t) ∙ applied_reached p c n d given.responds word w.0 (names word) (free word w.0.1.1) (constant_values c.environment c.meaning es) t
 
@@ -191,7 +196,7 @@ module _ (p : Module) (c : Call) (n : Names) (d : Respond) (given : Given p c n 
       ∙ followed_reached (used c kept x) (joined (used_all c kept xs) us) t rest (request_forms_give operand xs es w i m.1)
       ∙ ap (λ o. reached_all o t) (joined_also (used c kept x) (used_all c kept xs) us)
 
-  pub request_values : (xs : List ℕ) (es : ConstantTrees) → ConstantsInRange p es → ConstantsTyped p c.meaning es → IsTrue (usable_all c.function s xs) → (vs : List Value) × (joined (used_all c kept xs) (constant_values c.environment c.meaning es) ≡ Some vs)
+  pub request_values : (xs : List ℕ) (es : ConstantTrees) → ConstantsInRange p es → ConstantsTyped c.environment.parts p c.meaning es → IsTrue (usable_all c.function s xs) → (vs : List Value) × (joined (used_all c kept xs) (constant_values c.environment c.meaning es) ≡ Some vs)
   request_values xs es i k u =
       let a = values_here xs u in
       let b = constants_typed p c.environment given.environment c.meaning es i k in
@@ -201,29 +206,29 @@ module _ (p : Module) (c : Call) (n : Names) (d : Respond) (given : Given p c n 
   argument_means i u t =
       ap (λ z. named z t) (r.fixed (ArgumentName i) (ltb-true i (argument_count c.function) u)) ∙ named_denoted (slice_get c.arguments i) t
 
-  local_means : (i : ℕ) → IsTrue (nat_lt i (local_count c.function)) → Means c d names (AsPlace (Name (n.local_ i))) (Some (Pointer (Rooted (LocalRoot c.frame i))))
+  local_means : (i : ℕ) → IsTrue (nat_lt i (local_count c.function)) → Means c d names (AsPlace (Name (n.local_ i))) (Some (Pointer (Rooted (LocalRoot (local_pointer c.function i) c.frame i))))
   local_means i u =
-      (Rooted (LocalRoot c.frame i), refl, λ t. ap (λ z. named z t) (r.fixed (LocalName i) (ltb-true i (local_count c.function) u)))
+      (Rooted (LocalRoot (local_pointer c.function i) c.frame i), refl, λ t. ap (λ z. named z t) (r.fixed (LocalName i) (ltb-true i (local_count c.function) u)))
 
-  global_as_means : (k : ValueType) (i : ℕ) (g : GlobalValue) → names (n.outer.global i) ≡ Some (global_denoted i g) → IsTrue (global_has_type k g) → Means c d names (global_form k (Name (n.outer.global i))) (global_value i (Some g))
-  global_as_means PointerType i Stored e h = (Rooted (GlobalRoot i), refl, λ t. ap (λ z. named z t) e)
-  global_as_means PointerType i (Held v) e h = absurd (true≢false (sym h))
-  global_as_means BooleanType i Stored e h = absurd (true≢false (sym h))
+  global_as_means : (k : ValueType) (i : ℕ) (g : GlobalValue) → names (n.outer.global i) ≡ Some (stored_denoted i g) → IsTrue (global_has_type c.environment.parts k g) → Means c d names (global_form k (Name (n.outer.global i))) (global_value i (Some g))
+  global_as_means (PointerType s) i (Stored q) e h = (Rooted (GlobalRoot q i), refl, λ t. ap (λ z. named z t) e)
+  global_as_means (PointerType s) i (Held v) e h = absurd (true≢false (sym h))
+  global_as_means BooleanType i (Stored q) e h = absurd (true≢false (sym h))
   global_as_means BooleanType i (Held v) e h = λ t. ap (λ z. named z t) e
-  global_as_means (IntegerType s) i Stored e h = absurd (true≢false (sym h))
+  global_as_means (IntegerType s) i (Stored q) e h = absurd (true≢false (sym h))
   global_as_means (IntegerType s) i (Held v) e h = λ t. ap (λ z. named z t) e
-  global_as_means (OtherType s) i Stored e h = absurd (true≢false (sym h))
+  global_as_means (OtherType s) i (Stored q) e h = absurd (true≢false (sym h))
   global_as_means (OtherType s) i (Held v) e h = λ t. ap (λ z. named z t) e
 
   global_means : (k : ValueType) (i : ℕ) → i < length p.global_types → k ≡ type_at p.global_types i → Means c d names (global_form k (Name (n.outer.global i))) (global_value i (slice_get c.environment.globals i))
-  global_means k i lt q = go (global_at p.global_types c.environment.globals given.environment.globals i lt)
+  global_means k i lt q = go (global_at c.environment.parts p.global_types c.environment.globals given.environment.globals i lt)
     where
       here : i < length c.environment.globals
-      here = subst (λ k. i < k) (sym (globals_length p.global_types c.environment.globals given.environment.globals)) lt
+      here = subst (λ k. i < k) (sym (globals_length c.environment.parts p.global_types c.environment.globals given.environment.globals)) lt
 
-      go : GlobalThere (type_at p.global_types i) (slice_get c.environment.globals i) → Means c d names (global_form k (Name (n.outer.global i))) (global_value i (slice_get c.environment.globals i))
+      go : GlobalThere c.environment.parts (type_at p.global_types i) (slice_get c.environment.globals i) → Means c d names (global_form k (Name (n.outer.global i))) (global_value i (slice_get c.environment.globals i))
       go (global_there g e h) =
-          subst (λ o. Means c d names (global_form k (Name (n.outer.global i))) (global_value i o)) (sym e) (global_as_means k i g (r.fixed (GlobalName i) here ∙ ap (global_as i) e) (ap (λ k. global_has_type k g) q ∙ h))
+          subst (λ o. Means c d names (global_form k (Name (n.outer.global i))) (global_value i o)) (sym e) (global_as_means k i g (r.fixed (GlobalName i) here ∙ ap (global_as i) e) (ap (λ k. global_has_type c.environment.parts k g) q ∙ h))
 
   module _ (operand : ℕ → Plain) where
     operator_means : (w : Bytes) (xs : List ℕ) → WordFits p (naming c n) (Some (Operator w xs)) → (k : ValueType) (o : Option Value) → o ≡ computed c kept (Some (Operator w xs)) → AllMean c d names kept operand xs → Means c d names (own_form (naming c n) operand k (Some (Operator w xs))) o
@@ -240,12 +245,12 @@ module _ (p : Module) (c : Call) (n : Names) (d : Respond) (given : Given p c n 
     at_value : (q : Plain) (o o' : Option Value) → o ≡ o' → Means c d names q o → Means c d names q o'
     at_value q o o' e m = subst (λ o. Means c d names q o) e m
 
-    base_typed : (b : ℕ) (x : Value) → IsTrue (usable c.function s b) → used c kept b ≡ Some x → IsTrue (has_type (handle_type c.function b) x)
+    base_typed : (b : ℕ) (x : Value) → IsTrue (usable c.function s b) → used c kept b ≡ Some x → IsTrue (has_type c.environment.parts (handle_type c.function b) x)
     base_typed b x u e =
         let z = typed_value b u in
-        subst (λ x. IsTrue (has_type (handle_type c.function b) x)) (some_same z.0 x (sym z.1 ∙ e)) z.2
+        subst (λ x. IsTrue (has_type c.environment.parts (handle_type c.function b) x)) (some_same z.0 x (sym z.1 ∙ e)) z.2
 
-    index_there : (b i : ℕ) (k : ValueType) (o : Option Value) (y : ValueType) → TypedValue y o → o ≡ computed c kept (Some (Access b i)) → IsTrue (usable c.function s b) → AllMean c d names kept operand (b ∷ i ∷ []) → Means c d names (own_form (naming c n) operand k (Some (Access b i))) o
+    index_there : (b i : ℕ) (k : ValueType) (o : Option Value) (y : ValueType) → TypedValue c.environment.parts y o → o ≡ computed c kept (Some (Access b i)) → IsTrue (usable c.function s b) → AllMean c d names kept operand (b ∷ i ∷ []) → Means c d names (own_form (naming c n) operand k (Some (Access b i))) o
     index_there b i k o y v e u m =
         go (two_there c.meaning (Some (Access b i)) (used c kept b) (used c kept i) v.0 (sym e ∙ v.1))
       where
@@ -253,14 +258,22 @@ module _ (p : Module) (c : Call) (n : Names) (d : Respond) (given : Given p c n 
         go (two_of x j eb ei ev) =
             at_value (own_form (naming c n) operand k (Some (Access b i))) (Some v.0) o (sym v.1) (access_means c d names (handle_type c.function b) (operand b) (operand i) x j v.0 (at_value (operand b) (used c kept b) (Some x) eb m.0) (at_value (operand i) (used c kept i) (Some j) ei m.1.0) (base_typed b x u eb) ev)
 
-    part_there : (x : Selector) (b : ℕ) (k : ValueType) (o : Option Value) (y : ValueType) → TypedValue y o → o ≡ computed c kept (Some (AccessIndex x b)) → IsTrue (usable c.function s b) → AllMean c d names kept operand (b ∷ []) → Means c d names (own_form (naming c n) operand k (Some (AccessIndex x b))) o
+    part_there : (x : Selector) (b : ℕ) (k : ValueType) (o : Option Value) (y : ValueType) → TypedValue c.environment.parts y o → o ≡ computed c kept (Some (AccessIndex x b)) → IsTrue (usable c.function s b) → AllMean c d names kept operand (b ∷ []) → Means c d names (own_form (naming c n) operand k (Some (AccessIndex x b))) o
     part_there x b k o y v e u m = go (one_there c.meaning (Some (AccessIndex x b)) (used c kept b) v.0 (sym e ∙ v.1))
       where
         go : OneOf c.meaning (Some (AccessIndex x b)) (used c kept b) v.0 → Means c d names (own_form (naming c n) operand k (Some (AccessIndex x b))) o
         go (one_of z eb ev) =
             at_value (own_form (naming c n) operand k (Some (AccessIndex x b))) (Some v.0) o (sym v.1) (part_means c d names (handle_type c.function b) x (operand b) z v.0 (at_value (operand b) (used c kept b) (Some z) eb m.0) (base_typed b z u eb) ev)
 
-    logical_there : (j : ShortCircuit) (a b : ℕ) (k : ValueType) (o : Option Value) (y : ValueType) → TypedValue y o → o ≡ computed c kept (Some (Logical j a b)) → AllMean c d names kept operand (a ∷ b ∷ []) → Means c d names (own_form (naming c n) operand k (Some (Logical j a b))) o
+    swizzle_there : (letters : Bytes) (b : ℕ) (k : ValueType) (o : Option Value) (y : ValueType) → LeafFits p c.function y (Some (Swizzle letters b)) → TypedValue c.environment.parts y o → o ≡ computed c kept (Some (Swizzle letters b)) → IsTrue (usable c.function s b) → AllMean c d names kept operand (b ∷ []) → Means c d names (own_form (naming c n) operand k (Some (Swizzle letters b))) o
+    swizzle_there letters b k o y l v e u m =
+        go (one_there c.meaning (Some (Swizzle letters b)) (used c kept b) v.0 (sym e ∙ v.1))
+      where
+        go : OneOf c.meaning (Some (Swizzle letters b)) (used c kept b) v.0 → Means c d names (own_form (naming c n) operand k (Some (Swizzle letters b))) o
+        go (one_of z eb ev) =
+            at_value (own_form (naming c n) operand k (Some (Swizzle letters b))) (Some v.0) o (sym v.1) (swizzle_means c d names (handle_type c.function b) letters (operand b) z v.0 (at_value (operand b) (used c kept b) (Some z) eb m.0) l (base_typed b z u eb) ev)
+
+    logical_there : (j : ShortCircuit) (a b : ℕ) (k : ValueType) (o : Option Value) (y : ValueType) → TypedValue c.environment.parts y o → o ≡ computed c kept (Some (Logical j a b)) → AllMean c d names kept operand (a ∷ b ∷ []) → Means c d names (own_form (naming c n) operand k (Some (Logical j a b))) o
     logical_there j a b k o y v e m =
         go (two_there c.meaning (Some (Logical j a b)) (used c kept a) (used c kept b) v.0 (sym e ∙ v.1))
       where
@@ -269,29 +282,32 @@ module _ (p : Module) (c : Call) (n : Names) (d : Respond) (given : Given p c n 
             at_value (own_form (naming c n) operand k (Some (Logical j a b))) _ o (ev ∙ sym v.1) (logical_means c d names j (operand a) (operand b) l z (at_value (operand a) (used c kept a) (Some l) ea m.0) (at_value (operand b) (used c kept b) (Some z) eb m.1.0))
 
     -- an operator over operands in scope
-    pub operator_there : (k y : ValueType) (e : Option Expression) → IsTrue (is_pure e) → WordFits p (naming c n) e → (o : Option Value) → TypedValue y o → o ≡ computed c kept e → IsTrue (usable_all c.function s (operands_of e)) → AllMean c d names kept operand (operands_of e) → Means c d names (own_form (naming c n) operand k e) o
-    operator_there k y (Some (Operator w xs)) i f o v e u m = operator_means w xs f k o e m
-    operator_there k y (Some (Access b x)) i f o v e u m =
+    pub operator_there : (k y : ValueType) (e : Option Expression) → IsTrue (is_pure e) → WordFits p (naming c n) e → LeafFits p c.function y e → (o : Option Value) → TypedValue c.environment.parts y o → o ≡ computed c kept e → IsTrue (usable_all c.function s (operands_of e)) → AllMean c d names kept operand (operands_of e) → Means c d names (own_form (naming c n) operand k e) o
+    operator_there k y (Some (Operator w xs)) i f l o v e u m = operator_means w xs f k o e m
+    operator_there k y (Some (Access b x)) i f l o v e u m =
         index_there b x k o y v e (and_left (usable c.function s b) (usable_all c.function s (x ∷ [])) u) m
-    operator_there k y (Some (AccessIndex x b)) i f o v e u m =
+    operator_there k y (Some (AccessIndex x b)) i f l o v e u m =
         part_there x b k o y v e (and_left (usable c.function s b) true u) m
-    operator_there k y (Some (Logical j a b)) i f o v e u m = logical_there j a b k o y v e m
-    operator_there k y (Some _) i f o v e u m = absurd (true≢false (sym i))
-    operator_there k y None i f o v e u m = absurd (true≢false (sym i))
+    operator_there k y (Some (Logical j a b)) i f l o v e u m = logical_there j a b k o y v e m
+    operator_there k y (Some (Swizzle w b)) i f l o v e u m =
+        swizzle_there w b k o y l v e (and_left (usable c.function s b) true u) m
+    operator_there k y (Some _) i f l o v e u m = absurd (true≢false (sym i))
+    operator_there k y None i f l o v e u m = absurd (true≢false (sym i))
 
     -- an expression that isn't named
-    inline_there : (k : ValueType) (e : Option Expression) → WordFits p (naming c n) e → LeafFits p c.function k e → (o : Option Value) → IsTrue (usable_as c.function e Inline) → IsTrue (usable_all c.function s (operands_of e)) → TypedValue k o → o ≡ computed c kept e → AllMean c d names kept operand (operands_of e) → Means c d names (own_form (naming c n) operand k e) (used_as c e o)
+    inline_there : (k : ValueType) (e : Option Expression) → WordFits p (naming c n) e → LeafFits p c.function k e → (o : Option Value) → IsTrue (usable_as c.function e Inline) → IsTrue (usable_all c.function s (operands_of e)) → TypedValue c.environment.parts k o → o ≡ computed c kept e → AllMean c d names kept operand (operands_of e) → Means c d names (own_form (naming c n) operand k e) (used_as c e o)
     inline_there k (Some (Constant e)) f l o u us v q m = λ t. constant_gives e f l.0 t
     inline_there k (Some (Argument i)) f l o u us v q m = argument_means i u
     inline_there k (Some (Local i)) f l o u us v q m = local_means i u
     inline_there k (Some (Global i)) f l o u us v q m = global_means k i l.0 l.1
-    inline_there k (Some (Load x)) f l o u us v q m = absurd (no_value k o v (q ∙ unwritten c.meaning (Some (Load x)) (λ vs. refl) (used_all c kept (x ∷ []))))
-    inline_there k (Some (Request a w xs es)) f l o u us v q m = absurd (no_value k o v (q ∙ unwritten c.meaning (Some (Request a w xs es)) (λ vs. refl) (used_all c kept xs)))
-    inline_there k (Some Result) f l o u us v q m = absurd (no_value k o v (q ∙ unwritten c.meaning (Some Result) (λ vs. refl) (used_all c kept [])))
-    inline_there k (Some (Operator w xs)) f l o u us v q m = operator_there k k (Some (Operator w xs)) refl f o v q us m
-    inline_there k (Some (Access b i)) f l o u us v q m = operator_there k k (Some (Access b i)) refl f o v q us m
-    inline_there k (Some (AccessIndex x b)) f l o u us v q m = operator_there k k (Some (AccessIndex x b)) refl f o v q us m
-    inline_there k (Some (Logical j a b)) f l o u us v q m = operator_there k k (Some (Logical j a b)) refl f o v q us m
+    inline_there k (Some (Load x)) f l o u us v q m = absurd (no_value c.environment.parts k o v (q ∙ unwritten c.meaning (Some (Load x)) (λ vs. refl) (used_all c kept (x ∷ []))))
+    inline_there k (Some (Request a w xs es)) f l o u us v q m = absurd (no_value c.environment.parts k o v (q ∙ unwritten c.meaning (Some (Request a w xs es)) (λ vs. refl) (used_all c kept xs)))
+    inline_there k (Some Result) f l o u us v q m = absurd (no_value c.environment.parts k o v (q ∙ unwritten c.meaning (Some Result) (λ vs. refl) (used_all c kept [])))
+    inline_there k (Some (Operator w xs)) f l o u us v q m = operator_there k k (Some (Operator w xs)) refl f l o v q us m
+    inline_there k (Some (Access b i)) f l o u us v q m = operator_there k k (Some (Access b i)) refl f l o v q us m
+    inline_there k (Some (AccessIndex x b)) f l o u us v q m = operator_there k k (Some (AccessIndex x b)) refl f l o v q us m
+    inline_there k (Some (Logical j a b)) f l o u us v q m = operator_there k k (Some (Logical j a b)) refl f l o v q us m
+    inline_there k (Some (Swizzle w b)) f l o u us v q m = operator_there k k (Some (Swizzle w b)) refl f l o v q us m
     inline_there k None f l o u us v q m = absurd (true≢false (sym u))
 
     -- a leaf, which is in scope everywhere

@@ -1,6 +1,6 @@
 -- What is asked of a module, of its names, of the environment and of the meaning.
 use Rattle.std.specs.Prelude.{◌≡◌, ◌≢◌, ℕ, ◌<◌, Bool, true, false, List, [], ◌∷◌, length, Option, Some, None, ◌&&◌, IsTrue}
-use Rattle.shader_runs.specs.Value.{Bytes, same_bytes, PartTypes, ValueType, PointerType, type_at, type_of, Value, has_type, has_types, Spelled}
+use Rattle.shader_runs.specs.Value.{Bytes, same_bytes, PartTypes, ValueType, BooleanType, IntegerType, PointerType, OtherType, type_at, Value, Truth, Whole, Pointer, Opaque, has_type, has_types, Spelled}
 use Rattle.shader_runs.specs.World.{Environment, GlobalValue, Stored, Held, Meaning}
 use Rattle.shader_runs.specs.Program.{ConstantTree, Fixed, NamedConstant, Constructed, ConstantTrees, no_constant, constant, Expression, Constant, Argument, Local, Global, Operator, Swizzle, Request, Result, Action, Asked, Called, Statement, Block, If, Switch, Loop, Return, Barrier, Act, Statements, end, then, Cases, no_case, case, Function, argument_count, local_count, local_pointer, function_numbered, expression_of, handle_type, operands_of, Module}
 use Rattle.shader_runs.specs.ProgramRun.{combined, barrier_words}
@@ -153,10 +153,22 @@ abbrev mutual
   CasesAreRegular p callees f (case l b falls cs) =
       FallsFrom falls b cs × AreRegular p callees f b × CasesAreRegular p callees f cs
 
+-- a literal's type: no literal is a pointer
+abbrev pub literal_type : Value → ValueType
+literal_type (Truth b) = BooleanType
+literal_type (Whole spelling z) = IntegerType spelling
+literal_type (Pointer place) = OtherType []
+literal_type (Opaque spelling payload) = OtherType spelling
+
+-- it is no pointer
+abbrev pub IsLiteral : Value → Type 0
+IsLiteral (Pointer place) = ⊥
+IsLiteral _ = Unit {0}
+
 -- the types of a function's leaves
 abbrev mutual
   pub constant_type : Module → ConstantTree → ValueType
-  constant_type p (Fixed v) = type_of p.parts v
+  constant_type p (Fixed v) = literal_type v
   constant_type p (NamedConstant i) = type_at p.constant_types i
   constant_type p (Constructed w ty es) = ty
 
@@ -165,9 +177,9 @@ abbrev mutual
   constant_types_of p (constant e es) = constant_type p e ∷ constant_types_of p es
 
 abbrev mutual
-  -- named constants lie in the module's list
+  -- named constants lie in the module's list, and literals are no pointers
   pub ConstantInRange : Module → ConstantTree → Type 0
-  ConstantInRange p (Fixed v) = Unit {0}
+  ConstantInRange p (Fixed v) = IsLiteral v
   ConstantInRange p (NamedConstant i) = i < length p.constant_types
   ConstantInRange p (Constructed w ty es) = ConstantsInRange p es
 
@@ -192,35 +204,38 @@ LeafFits p f k _ = Unit {0}
 
 abbrev mutual
   -- a type's value from parts has that type whenever its parts have theirs
-  pub ConstantTyped : Module → Meaning → ConstantTree → Type 0
-  ConstantTyped p m (Fixed v) = Unit {0}
-  ConstantTyped p m (NamedConstant i) = Unit {0}
-  ConstantTyped p m (Constructed w ty es) =
-      ((vs : List Value) → IsTrue (has_types p.parts (constant_types_of p es) vs) → IsTrue (has_type p.parts ty (m (Spelled w) vs))) × ConstantsTyped p m es
+  pub ConstantTyped : PartTypes → Module → Meaning → ConstantTree → Type 0
+  ConstantTyped parts p m (Fixed v) = Unit {0}
+  ConstantTyped parts p m (NamedConstant i) = Unit {0}
+  ConstantTyped parts p m (Constructed w ty es) =
+      ((vs : List Value) → IsTrue (has_types parts (constant_types_of p es) vs) → IsTrue (has_type parts ty (m (Spelled w) vs)))
+      × ConstantsTyped parts p m es
 
-  pub ConstantsTyped : Module → Meaning → ConstantTrees → Type 0
-  ConstantsTyped p m no_constant = Unit {0}
-  ConstantsTyped p m (constant e es) = ConstantTyped p m e × ConstantsTyped p m es
+  pub ConstantsTyped : PartTypes → Module → Meaning → ConstantTrees → Type 0
+  ConstantsTyped parts p m no_constant = Unit {0}
+  ConstantsTyped parts p m (constant e es) = ConstantTyped parts p m e × ConstantsTyped parts p m es
 
 -- the operators in a leaf
-abbrev pub LeafTyped : Module → Meaning → Option Expression → Type 0
-LeafTyped p m (Some (Constant e)) = ConstantTyped p m e
-LeafTyped p m (Some (Request a w xs es)) = ConstantsTyped p m es
-LeafTyped p m _ = Unit {0}
+abbrev pub LeafTyped : PartTypes → Module → Meaning → Option Expression → Type 0
+LeafTyped parts p m (Some (Constant e)) = ConstantTyped parts p m e
+LeafTyped parts p m (Some (Request a w xs es)) = ConstantsTyped parts p m es
+LeafTyped parts p m _ = Unit {0}
 
 -- each operator of a function gives a value of its handle's type whenever its operands have theirs
-pub record IsTypedIn (p : Module) (m : Meaning) (f : Function) : Type 0 where
-  pub constants : (h : ℕ) → LeafTyped p m (expression_of f h)
-  pub operators : (h : ℕ) → IsTrue (is_pure (expression_of f h)) → (vs : List Value) → IsTrue (has_types p.parts (handle_types f (operands_of (expression_of f h))) vs) → (v : Value) × (combined m (expression_of f h) vs ≡ Some v) × IsTrue (has_type p.parts (handle_type f h) v)
+pub record IsTypedIn (parts : PartTypes) (p : Module) (m : Meaning) (f : Function) : Type 0 where
+  pub constants : (h : ℕ) → LeafTyped parts p m (expression_of f h)
+  pub operators : (h : ℕ) → IsTrue (is_pure (expression_of f h)) →
+      (vs : List Value) → IsTrue (has_types parts (handle_types f (operands_of (expression_of f h))) vs) →
+      (v : Value) × (combined m (expression_of f h) vs ≡ Some v) × IsTrue (has_type parts (handle_type f h) v)
 
 -- the operators of each function
-abbrev pub AllTypedIn : Module → Meaning → List Function → Type 0
-AllTypedIn p m [] = Unit {0}
-AllTypedIn p m (f ∷ fs) = IsTypedIn p m f × AllTypedIn p m fs
+abbrev pub AllTypedIn : PartTypes → Module → Meaning → List Function → Type 0
+AllTypedIn parts p m [] = Unit {0}
+AllTypedIn parts p m (f ∷ fs) = IsTypedIn parts p m f × AllTypedIn parts p m fs
 
 -- a typed meaning of a module
 abbrev pub IsTyped : Module → Meaning → Type 0
-IsTyped p m = AllTypedIn p m p.functions
+IsTyped p m = AllTypedIn p.parts p m p.functions
 
 -- no two of a function's names are equal
 abbrev pub AreDistinct : Module → Naming → Type 0
@@ -260,8 +275,8 @@ globals_have_types parts (t ∷ ts) (g ∷ gs) = global_has_type parts t g && gl
 -- the constants, overrides and variables have their types, and types have the module's parts
 pub record EnvironmentFits (p : Module) (env : Environment) : Type 0 where
   pub parts : env.parts ≡ p.parts
-  pub constants : IsTrue (has_types p.parts p.constant_types env.constants)
-  pub globals : IsTrue (globals_have_types p.parts p.global_types env.globals)
+  pub constants : IsTrue (has_types env.parts p.constant_types env.constants)
+  pub globals : IsTrue (globals_have_types env.parts p.global_types env.globals)
 
 -- no two items of a module have one name
 pub record ModuleNamesAreDistinct (p : Module) (n : ModuleNames) : Type 0 where
