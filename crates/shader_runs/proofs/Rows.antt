@@ -5,7 +5,7 @@ use Rattle.shader_runs.specs.Program.{Function, expression_of, handle_type, oper
 use Rattle.shader_runs.specs.Scope.{given_by_all}
 use Rattle.shader_runs.specs.Premises.{AllBelow, WordFits, LeafFits, AreDistinct, FixedKey, NumberedKey, GivenKey, ArgumentName, LocalName, ConstantName, GlobalName}
 use Rattle.shader_runs.specs.Typing.{Signature, IsOneOf, IsSpelled, PartsFit, signatures_of}
-use Rattle.shader_runs.specs.Rows.{RowsHold, PremisesHold, store_function, store_naming, store_module, numbered_name}
+use Rattle.shader_runs.specs.Rows.{RowsHold, PremisesHold, no_parts as row_parts, store_function, store_naming, store_module, numbered_name}
 
 heads : (a b : ℕ) (xs ys : List ℕ) → a ∷ xs ≡ b ∷ ys → a ≡ b
 heads a b xs ys e = cc
@@ -86,7 +86,7 @@ no_operator x (suc (suc zero)) k = elim k [ ]
 no_operator x (suc (suc (suc zero))) k = elim k [ ]
 no_operator x (suc (suc (suc (suc h)))) k = elim k [ ]
 
-no_parts : (h : ℕ) → PartsFit store_function (handle_type store_function h) (expression_of store_function h)
+no_parts : (h : ℕ) → PartsFit row_parts store_function (handle_type store_function h) (expression_of store_function h)
 no_parts zero = tt
 no_parts (suc zero) = tt
 no_parts (suc (suc zero)) = tt
@@ -114,8 +114,8 @@ premises : PremisesHold
 premises =
     record {
       fits = record { functions = refl; distinct = record { functions = λ g k lg lk e. omega arith }; all = (record { outer = refl; earlier = refl; ordered = ordered; words = plain; leaves = leaves; regular = (tt, (tt, (refl, tt))); distinct = distinct; scope = refl }, tt) };
-      environment = record { constants = refl; globals = refl };
-      consistent = record { alike = λ x y s t w o. absurd (no_spelled x s); parts = λ place f e h. subst (λ f. PartsFit f (handle_type f h) (expression_of f h)) (only_function place f e) (no_parts h) };
+      environment = record { parts = refl; constants = refl; globals = refl };
+      consistent = record { alike = λ x y s t w o. absurd (no_spelled x s); parts = λ place f e h. subst (λ f. PartsFit row_parts f (handle_type f h) (expression_of f h)) (only_function place f e) (no_parts h) };
     }
 
 pub rows_hold : RowsHold

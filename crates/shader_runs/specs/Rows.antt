@@ -1,12 +1,12 @@
 -- Worked functions: each with its text, and what both runs of it do in one world. Then texts that other writers would give, which do something else.
 use Rattle.std.specs.Prelude.{◌≡◌, ℕ, ◌+◌, ◌*◌, pos, Bool, true, false, cond, List, [], ◌∷◌, ◌++◌, Option, Some, None, ◌&&◌, ◌||◌, nat_eq, get_or, IsTrue, codes}
-use Rattle.shader_runs.specs.Value.{Bytes, same_bytes, same_integer, MemberNamed, ElementAt, step_of, At, Rooted, GlobalRoot, LocalRoot, Part, Place, ValueType, BooleanType, IntegerType, PointerType, Value, Truth, Whole, Pointer, Spelled}
+use Rattle.shader_runs.specs.Value.{Bytes, PartTypes, same_bytes, same_integer, MemberNamed, ElementAt, step_of, At, Field, Rooted, GlobalRoot, LocalRoot, Part, Place, ValueType, BooleanType, IntegerType, PointerType, Value, Truth, Whole, Pointer, Spelled}
 use Rattle.shader_runs.specs.World.{Event, Entry, Ask, Read, Write, Discard, World, Meaning, Environment, Stored}
 use Rattle.shader_runs.specs.Outcome.{Reached, Gives, Halts, Stuck, OutOfTurns}
 use Rattle.shader_runs.specs.Program.{Fixed, NamedConstant, Module, Expression, Constant, Argument, Local, Global, Load, Operator, Access, AccessIndex, Called, Numbered, Default, Statements, Emit, Store, If, Switch, Loop, Continue, Return, Act, Barrier, end, then, no_case, case, Function}
 use Rattle.shader_runs.specs.ProgramRun.{run_call}
 use Rattle.shader_runs.specs.Text.{Tree, Name, LiteralOf, Apply, Deref, AddressOf, Index, PartOf, no_more, more, Let, Assign, IfElse, SwitchOn, LoopOf, ContinueLine, ReturnLine, Perform, Lines, last, before, no_group, group, Variable, TextFunction, TextModule}
-use Rattle.shader_runs.specs.TextRun.{module_scope, follow_call}
+use Rattle.shader_runs.specs.TextRun.{module_scope, word_use, follow_call}
 use Rattle.shader_runs.specs.Scope.{ModuleNames, Naming, fits_function}
 use Rattle.shader_runs.specs.Premises.{EnvironmentFits}
 use Rattle.shader_runs.specs.Typing.{IsConsistent}
@@ -16,6 +16,13 @@ use Rattle.shader_runs.specs.Form.{form_functions, form_module, functions_of}
 -- the type `i32`
 abbrev pub i32 : ValueType
 i32 = IntegerType (codes "i32")
+
+-- a pointer to a local of type `i32`, by its spelling and as a type
+abbrev pub local_i32 : Bytes
+local_i32 = codes "ptr<function, i32>"
+
+abbrev pub i32_pointer : ValueType
+i32_pointer = PointerType local_i32
 
 -- a number of type `i32`
 abbrev pub number : ℕ → Value
@@ -28,8 +35,8 @@ literal n = Constant (Fixed (number n))
 -- the one world of the rows: a read of a place gives what was last stored there, or 7
 abbrev pub same_place : Place → Place → Bool
 same_place (Part p (At i)) (Part q (At j)) = same_place p q && same_integer i j
-same_place (Rooted (GlobalRoot i)) (Rooted (GlobalRoot j)) = nat_eq i j
-same_place (Rooted (LocalRoot i j)) (Rooted (LocalRoot k l)) =
+same_place (Rooted (GlobalRoot a i)) (Rooted (GlobalRoot b j)) = nat_eq i j
+same_place (Rooted (LocalRoot a i j)) (Rooted (LocalRoot b k l)) =
     nat_eq i k && nat_eq j l
 same_place _ _ = false
 
@@ -62,9 +69,13 @@ row_meaning w vs = number 0
 abbrev pub row_asks : Bytes → Bool
 row_asks w = same_bytes w (codes "storageBarrier") || same_bytes w (codes "textureBarrier")
 
+-- no type has parts
+abbrev pub no_parts : PartTypes
+no_parts whole step = []
+
 -- no constant and no variable
 abbrev pub nothing : Environment
-nothing = record { constants = []; globals = [] }
+nothing = record { constants = []; globals = []; parts = no_parts }
 
 -- `_e` and a digit
 abbrev pub numbered_name : ℕ → Bytes
@@ -110,7 +121,7 @@ all_fit (f ∷ fs) = fits_function f && all_fit fs
 -- the run of this text, from a function by its name
 abbrev pub follow_text : Environment → TextModule → Bytes → List Value → Reached (Option Value)
 follow_text env text name vs =
-    follow_call (module_scope text env) row_world row_meaning row_asks 3 text.functions name vs []
+    follow_call (module_scope text env) row_world row_meaning (word_use text.functions row_asks) 3 text.functions name vs []
 
 -- the run of functions alone
 abbrev pub follow_row : List TextFunction → Bytes → List Value → Reached (Option Value)
@@ -125,11 +136,11 @@ pub record IsShown (fs : List Naming) (texts : List TextFunction) (g : ℕ) (nam
 
 -- a local without a first value
 abbrev pub local_a : Variable
-local_a = record { name = codes "a"; first_value = None }
+local_a = record { name = codes "a"; pointer = local_i32; first_value = None }
 
 -- the first local of the first call
 abbrev pub a_place : Place
-a_place = Rooted (LocalRoot 0 0)
+a_place = Rooted (LocalRoot local_i32 0 0)
 
 -- [store]: a read, a store over what was read, and what was read is returned
 abbrev pub store_function : Function
@@ -138,8 +149,9 @@ store_function =
       argument_types = [];
       result = Some i32;
       first_values = Some 0 ∷ [];
+      local_pointers = local_i32 ∷ [];
       expressions = literal 1 ∷ Local 0 ∷ Load 1 ∷ literal 2 ∷ [];
-      types = i32 ∷ PointerType ∷ i32 ∷ i32 ∷ [];
+      types = i32 ∷ i32_pointer ∷ i32 ∷ i32 ∷ [];
       counts = 0 ∷ 2 ∷ 1 ∷ 1 ∷ [];
       given_names = [];
       body = then (Emit 2 1) (then (Store 1 3) (then (Return (Some 2)) end));
@@ -151,7 +163,7 @@ text_of name xs ls lines = record { name = name; parameters = xs; variables = ls
 
 -- a local that starts with 1
 abbrev pub a_first : Variable
-a_first = record { name = codes "a"; first_value = Some (LiteralOf (number 1)) }
+a_first = record { name = codes "a"; pointer = local_i32; first_value = Some (LiteralOf (number 1)) }
 
 -- a bound read, a store, a return
 abbrev pub store_text : List TextFunction
@@ -175,7 +187,7 @@ UnusedRow =
 -- [late]: a sum of what was read, written behind the store
 abbrev pub LateRow : Type 0
 LateRow =
-    IsShown (with_names (codes "p" ∷ []) 0 [] (codes "a" ∷ []) [] (record store_function { expressions = literal 1 ∷ Local 0 ∷ Load 1 ∷ Operator (codes "+") (2 ∷ 0 ∷ []) ∷ literal 2 ∷ []; types = i32 ∷ PointerType ∷ i32 ∷ i32 ∷ i32 ∷ []; counts = 1 ∷ 2 ∷ 1 ∷ 1 ∷ 1 ∷ []; body = then (Emit 2 2) (then (Store 1 4) (then (Return (Some 3)) end)) }) ∷ []) (text_of (codes "p") [] (a_first ∷ []) (before (Let (numbered_name 2) (Name (codes "a"))) (before (Assign (Name (codes "a")) (LiteralOf (number 2))) (before (ReturnLine (Some (sum_of (named_by 2) (LiteralOf (number 1))))) last))) ∷ []) 0 (codes "p") [] (Gives (Some (number 8)) (Write a_place (number 2) ∷ Read a_place ∷ entered_with [] (Some (number 1) ∷ [])))
+    IsShown (with_names (codes "p" ∷ []) 0 [] (codes "a" ∷ []) [] (record store_function { expressions = literal 1 ∷ Local 0 ∷ Load 1 ∷ Operator (codes "+") (2 ∷ 0 ∷ []) ∷ literal 2 ∷ []; types = i32 ∷ i32_pointer ∷ i32 ∷ i32 ∷ i32 ∷ []; counts = 1 ∷ 2 ∷ 1 ∷ 1 ∷ 1 ∷ []; body = then (Emit 2 2) (then (Store 1 4) (then (Return (Some 3)) end)) }) ∷ []) (text_of (codes "p") [] (a_first ∷ []) (before (Let (numbered_name 2) (Name (codes "a"))) (before (Assign (Name (codes "a")) (LiteralOf (number 2))) (before (ReturnLine (Some (sum_of (named_by 2) (LiteralOf (number 1))))) last))) ∷ []) 0 (codes "p") [] (Gives (Some (number 8)) (Write a_place (number 2) ∷ Read a_place ∷ entered_with [] (Some (number 1) ∷ [])))
 
 -- a sum that is stored, and a read
 abbrev pub inline_function : Function
@@ -184,8 +196,9 @@ inline_function =
       argument_types = i32 ∷ [];
       result = Some i32;
       first_values = None ∷ [];
+      local_pointers = local_i32 ∷ [];
       expressions = Argument 0 ∷ Local 0 ∷ Operator (codes "+") (0 ∷ 0 ∷ []) ∷ Load 1 ∷ [];
-      types = i32 ∷ PointerType ∷ i32 ∷ i32 ∷ [];
+      types = i32 ∷ i32_pointer ∷ i32 ∷ i32 ∷ [];
       counts = 2 ∷ 2 ∷ 1 ∷ 1 ∷ [];
       given_names = [];
       body = then (Emit 2 1) (then (Store 1 2) (then (Emit 3 1) (then (Return (Some 3)) end)));
@@ -203,7 +216,7 @@ InlineRow =
 -- [twofold]: a sum that is used twice is bound
 abbrev pub TwofoldRow : Type 0
 TwofoldRow =
-    IsShown (with_names (codes "q" ∷ []) 0 (codes "x" ∷ []) (codes "a" ∷ []) [] (record inline_function { expressions = Argument 0 ∷ Local 0 ∷ Operator (codes "+") (0 ∷ 0 ∷ []) ∷ Load 1 ∷ Operator (codes "*") (2 ∷ 3 ∷ []) ∷ []; types = i32 ∷ PointerType ∷ i32 ∷ i32 ∷ i32 ∷ []; counts = 2 ∷ 2 ∷ 2 ∷ 1 ∷ 1 ∷ []; body = then (Emit 2 1) (then (Store 1 2) (then (Emit 3 2) (then (Return (Some 4)) end))) }) ∷ []) (text_of (codes "q") (codes "x" ∷ []) (local_a ∷ []) (before (Let (numbered_name 2) x_plus_x) (before (Assign (Name (codes "a")) (named_by 2)) (before (Let (numbered_name 3) (Name (codes "a"))) (before (ReturnLine (Some (product_of (named_by 2) (named_by 3)))) last)))) ∷ []) 0 (codes "q") (number 4 ∷ []) (Gives (Some (number 64)) (Read a_place ∷ Write a_place (number 8) ∷ entered_with (number 4 ∷ []) (None ∷ [])))
+    IsShown (with_names (codes "q" ∷ []) 0 (codes "x" ∷ []) (codes "a" ∷ []) [] (record inline_function { expressions = Argument 0 ∷ Local 0 ∷ Operator (codes "+") (0 ∷ 0 ∷ []) ∷ Load 1 ∷ Operator (codes "*") (2 ∷ 3 ∷ []) ∷ []; types = i32 ∷ i32_pointer ∷ i32 ∷ i32 ∷ i32 ∷ []; counts = 2 ∷ 2 ∷ 2 ∷ 1 ∷ 1 ∷ []; body = then (Emit 2 1) (then (Store 1 2) (then (Emit 3 2) (then (Return (Some 4)) end))) }) ∷ []) (text_of (codes "q") (codes "x" ∷ []) (local_a ∷ []) (before (Let (numbered_name 2) x_plus_x) (before (Assign (Name (codes "a")) (named_by 2)) (before (Let (numbered_name 3) (Name (codes "a"))) (before (ReturnLine (Some (product_of (named_by 2) (named_by 3)))) last)))) ∷ []) 0 (codes "q") (number 4 ∷ []) (Gives (Some (number 64)) (Read a_place ∷ Write a_place (number 8) ∷ entered_with (number 4 ∷ []) (None ∷ [])))
 
 -- the same sum in both branches
 abbrev pub sibling_function : Function
@@ -212,6 +225,7 @@ sibling_function =
       argument_types = BooleanType ∷ i32 ∷ [];
       result = Some i32;
       first_values = [];
+      local_pointers = [];
       expressions = Argument 0 ∷ Argument 1 ∷ Operator (codes "+") (1 ∷ 1 ∷ []) ∷ [];
       types = BooleanType ∷ i32 ∷ i32 ∷ [];
       counts = 1 ∷ 2 ∷ 2 ∷ [];
@@ -241,7 +255,7 @@ TwiceRow =
 -- [tail]: `continuing` uses a name of the body
 abbrev pub TailRow : Type 0
 TailRow =
-    IsShown (with_names (codes "lp" ∷ []) 0 (codes "x" ∷ []) (codes "a" ∷ []) [] (record { argument_types = i32 ∷ []; result = None; first_values = None ∷ []; expressions = Argument 0 ∷ Local 0 ∷ Operator (codes "+") (0 ∷ 0 ∷ []) ∷ Constant (Fixed (Truth true)) ∷ []; types = i32 ∷ PointerType ∷ i32 ∷ BooleanType ∷ []; counts = 2 ∷ 2 ∷ 2 ∷ 1 ∷ []; given_names = []; body = then (Loop (then (Emit 2 1) (then (Store 1 2) end)) (then (Store 1 2) end) (Some 3)) end }) ∷ []) (text_of (codes "lp") (codes "x" ∷ []) (local_a ∷ []) (before (LoopOf (before (Let (numbered_name 2) x_plus_x) (before (Assign (Name (codes "a")) (named_by 2)) last)) (before (Assign (Name (codes "a")) (named_by 2)) last) (Some (LiteralOf (Truth true)))) last) ∷ []) 0 (codes "lp") (number 4 ∷ []) (Gives None (Write a_place (number 8) ∷ Write a_place (number 8) ∷ entered_with (number 4 ∷ []) (None ∷ [])))
+    IsShown (with_names (codes "lp" ∷ []) 0 (codes "x" ∷ []) (codes "a" ∷ []) [] (record { argument_types = i32 ∷ []; result = None; first_values = None ∷ []; local_pointers = local_i32 ∷ []; expressions = Argument 0 ∷ Local 0 ∷ Operator (codes "+") (0 ∷ 0 ∷ []) ∷ Constant (Fixed (Truth true)) ∷ []; types = i32 ∷ i32_pointer ∷ i32 ∷ BooleanType ∷ []; counts = 2 ∷ 2 ∷ 2 ∷ 1 ∷ []; given_names = []; body = then (Loop (then (Emit 2 1) (then (Store 1 2) end)) (then (Store 1 2) end) (Some 3)) end }) ∷ []) (text_of (codes "lp") (codes "x" ∷ []) (local_a ∷ []) (before (LoopOf (before (Let (numbered_name 2) x_plus_x) (before (Assign (Name (codes "a")) (named_by 2)) last)) (before (Assign (Name (codes "a")) (named_by 2)) last) (Some (LiteralOf (Truth true)))) last) ∷ []) 0 (codes "lp") (number 4 ∷ []) (Gives None (Write a_place (number 8) ∷ Write a_place (number 8) ∷ entered_with (number 4 ∷ []) (None ∷ [])))
 
 -- a sum of constants in a loop
 abbrev pub folded_function : Function
@@ -250,8 +264,9 @@ folded_function =
       argument_types = BooleanType ∷ [];
       result = None;
       first_values = None ∷ [];
+      local_pointers = local_i32 ∷ [];
       expressions = Argument 0 ∷ Local 0 ∷ literal 1 ∷ Operator (codes "+") (2 ∷ 2 ∷ []) ∷ [];
-      types = BooleanType ∷ PointerType ∷ i32 ∷ i32 ∷ [];
+      types = BooleanType ∷ i32_pointer ∷ i32 ∷ i32 ∷ [];
       counts = 2 ∷ 2 ∷ 2 ∷ 2 ∷ [];
       given_names = [];
       body = then (Loop (then (If 0 (then Continue end) end) (then (Emit 3 1) (then (Store 1 3) end))) (then (Store 1 3) end) (Some 0)) end;
@@ -275,11 +290,12 @@ FoldedRow =
 abbrev pub increment : Function
 increment =
     record {
-      argument_types = PointerType ∷ [];
+      argument_types = i32_pointer ∷ [];
       result = None;
       first_values = [];
+      local_pointers = [];
       expressions = Argument 0 ∷ literal 1 ∷ Load 0 ∷ Operator (codes "+") (2 ∷ 1 ∷ []) ∷ [];
-      types = PointerType ∷ i32 ∷ i32 ∷ i32 ∷ [];
+      types = i32_pointer ∷ i32 ∷ i32 ∷ i32 ∷ [];
       counts = 2 ∷ 1 ∷ 1 ∷ 1 ∷ [];
       given_names = [];
       body = then (Emit 2 2) (then (Store 0 3) end);
@@ -292,8 +308,9 @@ run_function =
       argument_types = [];
       result = Some i32;
       first_values = None ∷ [];
+      local_pointers = local_i32 ∷ [];
       expressions = Local 0 ∷ Load 0 ∷ [];
-      types = PointerType ∷ i32 ∷ [];
+      types = i32_pointer ∷ i32 ∷ [];
       counts = 2 ∷ 1 ∷ [];
       given_names = [];
       body = then (Act (Called 0) (0 ∷ []) None) (then (Emit 1 1) (then (Return (Some 1)) end));
@@ -318,6 +335,7 @@ switch_function b =
       argument_types = i32 ∷ [];
       result = None;
       first_values = [];
+      local_pointers = [];
       expressions = Argument 0 ∷ [];
       types = i32 ∷ [];
       counts = 1 ∷ [];
@@ -342,6 +360,7 @@ loop_function =
       argument_types = BooleanType ∷ [];
       result = None;
       first_values = [];
+      local_pointers = [];
       expressions = Argument 0 ∷ [];
       types = BooleanType ∷ [];
       counts = 1 ∷ [];
@@ -362,7 +381,7 @@ LoopRow =
 -- a barrier with two of its bits set
 abbrev pub BarrierRow : Type 0
 BarrierRow =
-    IsShown (with_names (codes "b" ∷ []) 0 [] [] [] (record { argument_types = []; result = None; first_values = []; expressions = []; types = []; counts = []; given_names = []; body = then (Barrier (record { storage = true; work_group = false; sub_group = false; texture = true })) end }) ∷ []) (text_of (codes "b") [] [] (before (Perform (codes "storageBarrier") no_more) (before (Perform (codes "textureBarrier") no_more) last)) ∷ []) 0 (codes "b") [] (Gives None (Ask (codes "textureBarrier") [] ∷ Ask (codes "storageBarrier") [] ∷ entered_with [] []))
+    IsShown (with_names (codes "b" ∷ []) 0 [] [] [] (record { argument_types = []; result = None; first_values = []; local_pointers = []; expressions = []; types = []; counts = []; given_names = []; body = then (Barrier (record { storage = true; work_group = false; sub_group = false; texture = true })) end }) ∷ []) (text_of (codes "b") [] [] (before (Perform (codes "storageBarrier") no_more) (before (Perform (codes "textureBarrier") no_more) last)) ∷ []) 0 (codes "b") [] (Gives None (Ask (codes "textureBarrier") [] ∷ Ask (codes "storageBarrier") [] ∷ entered_with [] []))
 
 -- a call of `select` with these operands in front
 abbrev pub select_text : (reject accept : Bytes) → List TextFunction
@@ -372,7 +391,19 @@ select_text reject accept =
 -- the operand that is taken where the condition holds stands behind the other
 abbrev pub SelectRow : Type 0
 SelectRow =
-    IsShown (with_names (codes "sel" ∷ []) 0 (codes "c" ∷ codes "a" ∷ codes "b" ∷ []) [] [] (record { argument_types = BooleanType ∷ i32 ∷ i32 ∷ []; result = Some i32; first_values = []; expressions = Argument 0 ∷ Argument 1 ∷ Argument 2 ∷ Operator (codes "select") (2 ∷ 1 ∷ 0 ∷ []) ∷ []; types = BooleanType ∷ i32 ∷ i32 ∷ i32 ∷ []; counts = 1 ∷ 1 ∷ 1 ∷ 1 ∷ []; given_names = []; body = then (Emit 3 1) (then (Return (Some 3)) end) }) ∷ []) (select_text (codes "b") (codes "a")) 0 (codes "sel") (Truth true ∷ number 1 ∷ number 2 ∷ []) (Gives (Some (number 1)) (entered_with (Truth true ∷ number 1 ∷ number 2 ∷ []) []))
+    IsShown (with_names (codes "sel" ∷ []) 0 (codes "c" ∷ codes "a" ∷ codes "b" ∷ []) [] [] (record { argument_types = BooleanType ∷ i32 ∷ i32 ∷ []; result = Some i32; first_values = []; local_pointers = []; expressions = Argument 0 ∷ Argument 1 ∷ Argument 2 ∷ Operator (codes "select") (2 ∷ 1 ∷ 0 ∷ []) ∷ []; types = BooleanType ∷ i32 ∷ i32 ∷ i32 ∷ []; counts = 1 ∷ 1 ∷ 1 ∷ 1 ∷ []; given_names = []; body = then (Emit 3 1) (then (Return (Some 3)) end) }) ∷ []) (select_text (codes "b") (codes "a")) 0 (codes "sel") (Truth true ∷ number 1 ∷ number 2 ∷ []) (Gives (Some (number 1)) (entered_with (Truth true ∷ number 1 ∷ number 2 ∷ []) []))
+
+-- a variable of two components, and these: their pointers
+abbrev pub private_vector : Bytes
+private_vector = codes "ptr<private, vec2<i32>>"
+
+abbrev pub private_i32 : Bytes
+private_i32 = codes "ptr<private, i32>"
+
+-- the components of such a variable
+abbrev pub vector_parts : PartTypes
+vector_parts whole (At z) = cond (same_bytes whole private_vector) private_i32 []
+vector_parts whole (Field word) = []
 
 -- a module with a named constant and a variable: a store to `v.x` and a read of `v[i]`, which are one place where i is 0
 abbrev pub places_function : Function
@@ -381,8 +412,9 @@ places_function =
       argument_types = i32 ∷ [];
       result = Some i32;
       first_values = [];
+      local_pointers = [];
       expressions = Argument 0 ∷ Global 0 ∷ Constant (NamedConstant 0) ∷ AccessIndex (MemberNamed (codes "x")) 1 ∷ Access 1 0 ∷ Load 4 ∷ [];
-      types = i32 ∷ PointerType ∷ i32 ∷ PointerType ∷ PointerType ∷ i32 ∷ [];
+      types = i32 ∷ PointerType private_vector ∷ i32 ∷ PointerType private_i32 ∷ PointerType private_i32 ∷ i32 ∷ [];
       counts = 1 ∷ 2 ∷ 1 ∷ 1 ∷ 1 ∷ 1 ∷ [];
       given_names = [];
       body = then (Emit 3 1) (then (Store 3 2) (then (Emit 4 2) (then (Return (Some 5)) end)));
@@ -390,7 +422,8 @@ places_function =
 
 -- the constant is 5
 abbrev pub places_environment : Environment
-places_environment = record { constants = number 5 ∷ []; globals = Stored ∷ [] }
+places_environment =
+    record { constants = number 5 ∷ []; globals = Stored private_vector ∷ []; parts = vector_parts }
 
 -- its names
 abbrev pub places_naming : Naming
@@ -415,20 +448,25 @@ places_naming =
 -- the module of it
 abbrev pub places_module : Module
 places_module =
-    record { constant_types = i32 ∷ []; global_types = PointerType ∷ []; functions = places_function ∷ [] }
+    record {
+      constant_types = i32 ∷ [];
+      global_types = PointerType private_vector ∷ [];
+      parts = vector_parts;
+      functions = places_function ∷ [];
+    }
 
 -- its text
 abbrev pub places_text : TextModule
 places_text =
     record {
       constants = codes "N" ∷ [];
-      globals = codes "v" ∷ [];
+      globals = record { name = codes "v"; pointer = private_vector } ∷ [];
       functions = text_of (codes "h") (codes "i" ∷ []) [] (before (Assign (PartOf (MemberNamed (codes "x")) (Name (codes "v"))) (Name (codes "N"))) (before (Let (numbered_name 5) (Index (Name (codes "v")) (Name (codes "i")))) (before (ReturnLine (Some (named_by 5))) last))) ∷ [];
     }
 
 -- the first component of the variable
 abbrev pub x_place : Place
-x_place = Part (Rooted (GlobalRoot 0)) (At (pos 0))
+x_place = Part (Rooted (GlobalRoot private_vector 0)) (At (pos 0))
 
 -- what both runs give
 abbrev pub places_result : Reached (Option Value)
@@ -449,8 +487,9 @@ continue_function =
       argument_types = BooleanType ∷ i32 ∷ [];
       result = None;
       first_values = None ∷ [];
+      local_pointers = local_i32 ∷ [];
       expressions = Argument 0 ∷ Argument 1 ∷ Local 0 ∷ Operator (codes "+") (1 ∷ 1 ∷ []) ∷ [];
-      types = BooleanType ∷ i32 ∷ PointerType ∷ i32 ∷ [];
+      types = BooleanType ∷ i32 ∷ i32_pointer ∷ i32 ∷ [];
       counts = 2 ∷ 2 ∷ 1 ∷ 1 ∷ [];
       given_names = [];
       body = then (Loop (then (If 0 (then Continue end) end) (then (Emit 3 1) end)) (then (Store 2 3) end) (Some 0)) end;
@@ -489,7 +528,7 @@ pub record AreToldApart : Type 0 where
   pub name_of_sibling_copied : follow_row (sibling_text (let_and_return (numbered_name 2)) (before (Let (numbered_name 2) (named_by 2)) (before (ReturnLine (Some (named_by 2))) last))) (codes "k") (Truth false ∷ number 4 ∷ []) ≡ Halts Stuck (entered_with (Truth false ∷ number 4 ∷ []) [])
   pub continuing_uses_skipped_constant_name : follow_row (folded_text (named_by 3)) (codes "cf") (Truth true ∷ []) ≡ Halts Stuck (entered_with (Truth true ∷ []) (None ∷ []))
   pub loop_names_kept_after_loop : follow_row (text_of (codes "n") (codes "c" ∷ codes "x" ∷ []) [] (before (LoopOf (before (Let (numbered_name 3) x_plus_x) last) last (Some (Name (codes "c")))) (before (ReturnLine (Some (named_by 3))) last)) ∷ []) (codes "n") (Truth true ∷ number 4 ∷ []) ≡ Halts Stuck (entered_with (Truth true ∷ number 4 ∷ []) [])
-  pub function_hidden_by_local : follow_row (text_of (codes "run") [] (record { name = codes "inc"; first_value = None } ∷ []) (before (Perform (codes "inc") no_more) last) ∷ text_of (codes "inc") [] [] last ∷ []) (codes "run") [] ≡ Halts Stuck (Entry 1 [] (None ∷ []) ∷ [])
+  pub function_hidden_by_local : follow_row (text_of (codes "run") [] (record { name = codes "inc"; pointer = local_i32; first_value = None } ∷ []) (before (Perform (codes "inc") no_more) last) ∷ text_of (codes "inc") [] [] last ∷ []) (codes "run") [] ≡ Halts Stuck (Entry 1 [] (None ∷ []) ∷ [])
   pub pointer_argument_not_dereferenced : follow_row (text_of (codes "h") (codes "p" ∷ []) [] (before (ReturnLine (Some (Index (Name (codes "p")) (LiteralOf (number 0))))) last) ∷ []) (codes "h") (Pointer a_place ∷ []) ≡ Halts Stuck (entered_with (Pointer a_place ∷ []) [])
   pub select_accept_first : follow_row (select_text (codes "a") (codes "b")) (codes "sel") (Truth true ∷ number 1 ∷ number 2 ∷ []) ≡ Gives (Some (number 2)) (entered_with (Truth true ∷ number 1 ∷ number 2 ∷ []) [])
 
@@ -503,7 +542,7 @@ store_naming = with_names (codes "g" ∷ []) 0 [] (codes "a" ∷ []) [] store_fu
 
 -- its module
 abbrev pub store_module : Module
-store_module = record { constant_types = []; global_types = []; functions = store_function ∷ [] }
+store_module = record { constant_types = []; global_types = []; parts = no_parts; functions = store_function ∷ [] }
 
 -- all premises
 pub record PremisesHold : Type 0 where
