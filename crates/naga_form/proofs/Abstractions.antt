@@ -1,8 +1,8 @@
 -- What is written of a function is read as the function's shape says: the abstraction of its form is the form of its shape.
-use Rattle.std.proofs.Common.{[], ◌≡◌, ℕ, suc, Bool, true, false, ◌+◌, pos, negsuc, List, ◌∷◌, map, length, Option, Some, None, refl, sym, ap, ◌∙◌, add-one, zero, ◌-◌}
-use Rattle.std.specs.Prelude.{slice_get, ◌==◌, if◌then◌else◌, codes}
+use Rattle.std.proofs.Common.{[], ◌≡◌, ℕ, suc, Bool, true, false, ◌+◌, pos, negsuc, List, ◌∷◌, map, length, Option, Some, None, refl, sym, ap, ◌∙◌, add-one, add-zero, zero-add, zero, ◌-◌, ◌++◌, arith}
+use Rattle.std.specs.Prelude.{IsTrue, slice_get, unwrap_or, ◌==◌, if◌then◌else◌, codes}
 use Rattle.std.specs.Option.{option_map}
-use Rattle.std.proofs.lemmas.Bool.{eqb-true}
+use Rattle.std.proofs.lemmas.Bool.{eqb-true, ltb-true}
 use Rattle.std.proofs.lemmas.Option.{slice_get-map}
 use Rattle.naga_ir.specs.StatementTree.{BlockTree, no_statements, statement, simple, return, emit, store, StatementTree}
 use Rattle.naga_ir.specs.declared.expression.Expression as ir
@@ -13,10 +13,13 @@ use Rattle.naga_ir.specs.declared.module.FunctionArgument.{FunctionArgument}
 use Rattle.naga_ir.specs.declared.module.LocalVariable.{LocalVariable}
 use Rattle.naga_ir.specs.declared.types.Type_.{Type_}
 use Rattle.naga_info.specs.declared.info.ExpressionInfo.{ExpressionInfo}
-use Rattle.accepted_modules.specs.Types.{word_at}
+use Rattle.std.specs.List.{list_all}
+use Rattle.accepted_modules.specs.Accepted.{is_scalar_type, local_fits, function_fits}
+use Rattle.accepted_modules.specs.Types.{word_at, local_pointer}
+use Rattle.accepted_modules.proofs.Accepting.{list_all_at, scalar_types_word_at, function_fits_locals, local_fits_parts}
 use Rattle.name_keys.specs.Keys.{NameMap}
-use Rattle.wgsl_text.specs.Token.{SuffixI, SuffixLi}
-use Rattle.wgsl_text.specs.Tree.{LeastInteger, LeastLong, Suffixed, TypeSpecifier}
+use Rattle.wgsl_text.specs.Token.{GreaterThan, SuffixI, SuffixLi}
+use Rattle.wgsl_text.specs.Tree.{LeastInteger, LeastLong, Suffixed, TypeSpecifier, Named}
 use Rattle.shader_runs.specs.Value.{Whole, ValueType, ShortCircuitAnd, ShortCircuitOr}
 use Rattle.shader_runs.specs.Program.{handle_type, expression_of, binds, from}
 use Rattle.shader_runs.specs.Scope.{Naming, at_start, Standing, Named, Handles, bound_name, given_after, given_by, after_one, after}
@@ -25,19 +28,20 @@ use Rattle.shader_runs.specs.Form.{written_below, names_from, variables_from, fo
 use Rattle.naga_form.specs.Form.{parameters_form, function_form, PlainForm, ValueForm, ReferenceForm, as_value, as_reference, own_plain, own_if, standing_plain, plain_below, plain_form, value_form, let_form, then_if, lets_form, return_line, line_form, lines_form, locals_form, told_type}
 use Rattle.type_spelling.specs.Contexts.{names_of}
 use Rattle.naga_form.specs.Names.{function_name, argument_name}
-use Rattle.naga_form.specs.Types.{value_type}
+use Rattle.naga_form.specs.Types.{value_type, type_form, pointer_to_local}
 use Rattle.naga_form.specs.Literals.{literal_form, literal_value, value_read}
 use Rattle.naga_form.specs.Shapes.{expression_shape, statements_shape, function_shape, function_naming, statement_shape}
-use Rattle.naga_form.specs.Abstraction.{expression_read, statements_read, function_read, statement_read, variable_read}
+use Rattle.naga_form.specs.Abstraction.{expression_read, statements_read, function_read, statement_read, local_pointer_read, variable_read}
 use Rattle.naga_ir.specs.declared.expression.Expression.TheVariants as expression
 use Rattle.naga_operators.specs.declared.BinaryOperator.{BinaryOperator}
 use Rattle.naga_operators.specs.declared.BinaryOperator.TheVariants as operator
 use Rattle.wgsl_text.specs.Tree as tree
-use Rattle.wgsl_text.specs.Pieces.{binary_pieces}
+use Rattle.wgsl_text.specs.Pieces.{type_pieces, mark, binary_pieces}
 use Rattle.wgsl_text.specs.Text.{text}
 use Rattle.shader_runs.specs.Form as runs
 use Rattle.naga_form.specs.Operators.{operator_form}
-use Rattle.naga_form.proofs.Fits.{mapped_length}
+use Rattle.naga_form.proofs.Fits.{mapped_at, mapped_length}
+use Rattle.naga_form.proofs.WrittenTypes.{tree_of_word}
 
 integer_read : (n : ℕ) (b : Bool) → (n == 2147483647) ≡ b → value_read (if b then LeastInteger else Suffixed true (suc n) SuffixI) ≡ Whole (codes "i32") (negsuc n)
 integer_read n true e = ap (λ k. Whole (codes "i32") (negsuc k)) (sym (eqb-true n 2147483647 e))
@@ -154,16 +158,48 @@ module _ (names : NameMap) (types : List Type_) (g : ℕ) (f : ir_function.Funct
       line_reads told k st s (lines_form own told f.expressions (given_by own.function (statement_shape st) k) b (after own k (statement_shape st) s))
       ∙ ap (runs.form own k (statement_shape st) s) (lines_read told (given_by own.function (statement_shape st) k) b (after own k (statement_shape st) s))
 
-  locals_read : (l : ℕ) (vs : List LocalVariable) → map variable_read (locals_form own (names_of types names) f.expressions l vs) ≡ variables_from own l (map (λ v. v.init) vs)
-  locals_read l [] = refl
-  locals_read l (v ∷ vs) = λ i.
-      record { name = own.names.local_ l; first_value = value_if_reads (at_start own.function) v.init i }
-      ∷ (locals_read (l + 1) vs ∙ ap (λ m. variables_from own m (map (λ v. v.init) vs)) (add-one l)) i
+  -- the declared type of a local tells the spelling of a pointer to it
+  pointer_reads : (ty : ℕ) (w : List ℕ) → word_at types ty ≡ Some w → local_pointer_read (type_form (names_of types names) ty) ≡ local_pointer w
+  pointer_reads ty w word =
+      ap (λ t. local_pointer_read (unwrap_or t (Named []))) (tree_of_word (names_of types names) ty w word)
+      ∙ ap (λ z. codes "ptr<function, " ++ z) (closed w)
+    where
+      closed : (w : List ℕ) → text (type_pieces (Named w) ++ mark GreaterThan ∷ []) ≡ w ++ codes ">"
+      closed w = refl
 
-pub function_reads : (explicit : Bool) (names : NameMap) (types : List Type_) (g : ℕ) (f : ir_function.Function) (es : List ExpressionInfo) → function_read (function_form explicit names types g f es) ≡ form_function (function_naming names types g f es)
-function_reads explicit names types g f es = λ i. record {
-  name = function_name names g;
-  parameters = (names_counted names types g 0 f.arguments.items ∙ ap (names_from (argument_name names g) 0) (sym (mapped_length (λ a. value_type (word_at types a.ty)) f.arguments.items))) i;
-  variables = locals_read names types g f es 0 f.local_variables i;
-  lines = lines_read names types g f es (told_type explicit (names_of types names) es) 0 f.body (at_start (function_shape types f es)) i;
-}
+  -- each local has a type that is spelled
+  abbrev AreSpelled : Type 0
+  AreSpelled = (l : ℕ) (v : LocalVariable) → slice_get f.local_variables l ≡ Some v → (w : List ℕ) × (word_at types v.ty ≡ Some w)
+
+  locals_read : AreSpelled → (l : ℕ) (vs : List LocalVariable) → ((k : ℕ) → slice_get vs k ≡ slice_get f.local_variables (k + l)) → map variable_read (locals_form own (names_of types names) f.expressions l vs) ≡ variables_from own l (map (λ v. v.init) vs)
+  locals_read spelled l [] at = refl
+  locals_read spelled l (v ∷ vs) at =
+      let here : slice_get f.local_variables l ≡ Some v = ap (slice_get f.local_variables) (sym (zero-add l)) ∙ sym (at 0) in
+      let w = spelled l v here in
+      let pointer = pointer_reads v.ty w.0 w.1 ∙ ap pointer_to_local (sym w.1) ∙ sym (mapped_at (λ l. pointer_to_local (word_at types l.ty)) [] f.local_variables l v here) in
+      let rest = locals_read spelled (l + 1) vs later in
+      λ i.
+      record { name = own.names.local_ l; pointer = pointer i; first_value = value_if_reads (at_start own.function) v.init i }
+      ∷ (rest ∙ ap (λ m. variables_from own m (map (λ v. v.init) vs)) (add-one l)) i
+    where
+      later : (k : ℕ) → slice_get vs k ≡ slice_get f.local_variables (k + (l + 1))
+      later k =
+          let same : suc k + l ≡ k + (l + 1) = omega arith in
+          at (suc k) ∙ ap (slice_get f.local_variables) same
+
+-- the type of each local of a function that fits is spelled
+pub locals_spelled : (types : List Type_) (f : ir_function.Function) (es : List ExpressionInfo) → IsTrue (list_all is_scalar_type types) → function_fits types f es ≡ true → (l : ℕ) (v : LocalVariable) → slice_get f.local_variables l ≡ Some v → (w : List ℕ) × (word_at types v.ty ≡ Some w)
+locals_spelled types f es scalars fits l v at =
+    let fit = list_all_at (local_fits types es) f.local_variables l v (function_fits_locals types f es fits) at in
+    let parts = local_fits_parts types es v fit in
+    scalar_types_word_at types v.ty scalars (ltb-true v.ty (length types) parts.0)
+
+pub function_reads : (explicit : Bool) (names : NameMap) (types : List Type_) (g : ℕ) (f : ir_function.Function) (es : List ExpressionInfo) → IsTrue (list_all is_scalar_type types) → function_fits types f es ≡ true → function_read (function_form explicit names types g f es) ≡ form_function (function_naming names types g f es)
+function_reads explicit names types g f es scalars fits =
+    let locals = locals_read names types g f es (locals_spelled types f es scalars fits) 0 f.local_variables (λ k. ap (slice_get f.local_variables) (sym (add-zero k))) in
+    λ i. record {
+      name = function_name names g;
+      parameters = (names_counted names types g 0 f.arguments.items ∙ ap (names_from (argument_name names g) 0) (sym (mapped_length (λ a. value_type (word_at types a.ty)) f.arguments.items))) i;
+      variables = locals i;
+      lines = lines_read names types g f es (told_type explicit (names_of types names) es) 0 f.body (at_start (function_shape types f es)) i;
+    }

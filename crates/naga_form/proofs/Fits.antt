@@ -10,19 +10,19 @@ use Rattle.naga_enumerations.specs.declared.expression.Literal.TheVariants as li
 use Rattle.naga_ir.specs.declared.module.Function as ir_function
 use Rattle.naga_ir.specs.declared.module.LocalVariable.{LocalVariable}
 use Rattle.naga_info.specs.declared.info.ExpressionInfo.{ExpressionInfo}
-use Rattle.accepted_modules.specs.Types.{word_at, spelling_of, literal_word, spelling_at, operator_word}
+use Rattle.accepted_modules.specs.Types.{word_at, spelling_of, local_pointer, literal_word, spelling_at, operator_word}
 use Rattle.accepted_modules.specs.Accepted.{statement_fits, return_fits, block_fits, function_fits}
 use Rattle.item_names.specs.Reset.{Labelled, labelled_items, labels_of}
-use Rattle.shader_runs.specs.Value.{ValueType, type_at, type_of}
+use Rattle.shader_runs.specs.Value.{ValueType, BooleanType, PointerType, type_at}
 use Rattle.shader_runs.specs.Program as shapes
 use Rattle.shader_runs.specs.Program.{operands_of, handle_type, argument_count, expression_of, is_given, local_count, from}
 use Rattle.shader_runs.specs.Scope.{Naming, given_by_all, given_after, given_after_all, given_by, fits_function}
-use Rattle.shader_runs.specs.Premises.{AllBelow, WordFits, LeafFits, ReturnFits, AreRegular, AreDistinct, FunctionFits, FixedKey, NumberedKey, GivenKey, ArgumentName, LocalName, ConstantName, GlobalName, OperatesBy, StandsFree, IsNoName, IsRegular, IsName, NameKey, name_at}
+use Rattle.shader_runs.specs.Premises.{AllBelow, WordFits, IsLiteral, literal_type, LeafFits, ReturnFits, AreRegular, AreDistinct, FunctionFits, FixedKey, NumberedKey, GivenKey, ArgumentName, LocalName, ConstantName, GlobalName, OperatesBy, StandsFree, IsNoName, IsRegular, IsName, NameKey, name_at}
 use Rattle.naga_info.proofs.Options.{then_some}
 use Rattle.shader_runs.proofs.Update.{and_left, and_right}
 use Rattle.item_names.proofs.Counts.{element}
 use Rattle.naga_form.specs.Names.{argument_name, numbered_name, wgsl_names, module_names, name_in, function_name, local_name, numbered_text, NamesAreCounted}
-use Rattle.naga_form.specs.Types.{value_type}
+use Rattle.naga_form.specs.Types.{value_type, pointer_to_local}
 use Rattle.naga_form.specs.Literals.{literal_value}
 use Rattle.naga_form.specs.Shapes.{expression_shape, statements_shape, function_shape, outer_names, function_naming, binary_shape, statement_shape, given_from}
 use Rattle.naga_form.proofs.Named.{numbered_distinct, name_is, item_not_numbered, items_tell, function_item, argument_item, function_there, argument_there}
@@ -42,19 +42,32 @@ use Rattle.item_names.proofs.NamedItems.{Stands, local_stands}
 use Rattle.naga_form.specs.Operators.{operator_form}
 use Rattle.naga_form.specs.Abstraction.{is_request}
 
+-- what stands at an index of a list made from other things
+pub mapped_at : {X Y : Type 0} (t : X → Y) (d : Y) (xs : List X) (i : ℕ) (x : X) → slice_get xs i ≡ Some x → get_or (map t xs) i d ≡ t x
+mapped_at t d [] i x found = absurd (cc)
+mapped_at t d (y ∷ xs) zero x found = ap t (ap (λ o. unwrap_or o y) found)
+mapped_at t d (y ∷ xs) (suc i) x found = mapped_at t d xs i x found
+
 -- the type at an index of a list of types made from other things
 pub type_at_mapped : {X : Type 0} (t : X → ValueType) (xs : List X) (i : ℕ) (x : X) → slice_get xs i ≡ Some x → type_at (map t xs) i ≡ t x
-type_at_mapped t [] i x found = absurd (cc)
-type_at_mapped t (y ∷ xs) zero x found = ap t (ap (λ o. unwrap_or o y) found)
-type_at_mapped t (y ∷ xs) (suc i) x found = type_at_mapped t xs i x found
+type_at_mapped t xs i x found = mapped_at t BooleanType xs i x found
 
-pub literal_type : (v : ir_literal.Literal) (w : List ℕ) → literal_word v ≡ Some w → value_type (literal_word v) ≡ type_of (literal_value v)
-literal_type (literal.Bool b) w e = refl
-literal_type (literal.I32 z) w e = refl
-literal_type (literal.U32 n) w e = refl
-literal_type (literal.I64 z) w e = refl
-literal_type (literal.U64 n) w e = refl
-literal_type _ w e = absurd (cc)
+pub literal_typed : (v : ir_literal.Literal) (w : List ℕ) → literal_word v ≡ Some w → value_type (literal_word v) ≡ literal_type (literal_value v)
+literal_typed (literal.Bool b) w e = refl
+literal_typed (literal.I32 z) w e = refl
+literal_typed (literal.U32 n) w e = refl
+literal_typed (literal.I64 z) w e = refl
+literal_typed (literal.U64 n) w e = refl
+literal_typed _ w e = absurd (cc)
+
+-- no literal is a pointer
+literal_is : (v : ir_literal.Literal) → IsLiteral (literal_value v)
+literal_is (literal.Bool b) = tt
+literal_is (literal.I32 z) = tt
+literal_is (literal.U32 n) = tt
+literal_is (literal.I64 z) = tt
+literal_is (literal.U64 n) = tt
+literal_is _ = tt
 
 pub mapped_length : {X Y : Type 0} (f : X → Y) (xs : List X) → length (map f xs) ≡ length xs
 mapped_length f [] = refl
@@ -155,17 +168,22 @@ module _ (m : Module) (g : ℕ) (f : ir_function.Function) (found : slice_get m.
       both _ a b = (a, (b, tt))
   ordered_at h _ at = tt
 
+  -- the spelling of a pointer to a local
+  pointer_of : (v : ℕ) (l : LocalVariable) (w : List ℕ) → slice_get f.local_variables v ≡ Some l → word_at m.types l.ty ≡ Some w → shapes.local_pointer shape v ≡ local_pointer w
+  pointer_of v l w at word =
+      mapped_at (λ l. pointer_to_local (word_at m.types l.ty)) [] f.local_variables v l at ∙ ap pointer_to_local word
+
   leaf_at : (h : ℕ) (e : ir.Expression) → slice_get f.expressions h ≡ Some e → LeafFits p shape (handle_type shape h) (Some (expression_shape e))
   leaf_at h (expression.Literal v) at =
       let w = function_fits_word_at m.types f es h (expression.Literal v) fits at in
-      (tt, typed_as h w.0 w.1 ∙ (ap value_type (sym w.2) ∙ literal_type v w.0 w.2))
+      (literal_is v, typed_as h w.0 w.1 ∙ (ap value_type (sym w.2) ∙ literal_typed v w.0 w.2))
   leaf_at h (expression.FunctionArgument n) at =
       let w = function_fits_word_at m.types f es h (expression.FunctionArgument n) fits at in
       let a = then_some (λ a. word_at m.types a.ty) (slice_get f.arguments.items n) w.0 w.2 in
       typed_as h w.0 w.1 ∙ (ap value_type (sym a.2) ∙ sym (type_at_mapped (λ a. value_type (word_at m.types a.ty)) f.arguments.items n a.0 a.1))
   leaf_at h (expression.LocalVariable v) at =
       let l = local_word_at m.types f es h v fits at in
-      typed_as h _ l.4
+      typed_as h _ l.4 ∙ ap PointerType (sym (pointer_of v l.0 l.1 l.2 l.3))
   leaf_at h (expression.Binary op left right) at = nothing op
     where
       nothing : (op : BinaryOperator) → LeafFits p shape (handle_type shape h) (Some (binary_shape (operator_form op) left right))
@@ -181,14 +199,13 @@ module _ (m : Module) (g : ℕ) (f : ir_function.Function) (found : slice_get m.
   no_word item w s other e = true≢false (sym (word_of item s) ∙ (ap is_word e ∙ other))
 
   -- a sign is no name
-  stands_free : (c : ℕ) (rest : List ℕ) → nat_eq c 95 ≡ false → nat_eq c 32 ≡ false → is_word (c ∷ rest) ≡ false → StandsFree p own (c ∷ rest)
-  stands_free c rest one two other = (functions, no_name)
+  stands_free : length p.functions ≡ length m.functions → (c : ℕ) (rest : List ℕ) → nat_eq c 95 ≡ false → nat_eq c 32 ≡ false → is_word (c ∷ rest) ≡ false → StandsFree p own (c ∷ rest)
+  stands_free counted c rest one two other = (functions, no_name)
     where
-      functions : (k : ℕ) → k < g → function_name (module_names m) k ≢ c ∷ rest
-      functions k lt = let a = element m.functions k (within k lt) in no_word (function_item m k a.0) (c ∷ rest) (function_there m k a.0 a.1) other
-        where
-          within : (k : ℕ) → k < g → k < length m.functions
-          within k lt = let at = slice_get_within m.functions g f found in omega (arith, lt, at)
+      functions : (k : ℕ) → k < length p.functions → function_name (module_names m) k ≢ c ∷ rest
+      functions k lt =
+          let a = element m.functions k (subst (λ n. k < n) counted lt) in
+          no_word (function_item m k a.0) (c ∷ rest) (function_there m k a.0 a.1) other
 
       no_name : IsNoName p own (c ∷ rest)
       no_name (FixedKey (ArgumentName i)) is e =
@@ -202,18 +219,18 @@ module _ (m : Module) (g : ℕ) (f : ir_function.Function) (found : slice_get m.
       no_name (NumberedKey h) is e = sign_not_numbered h c rest one two e
       no_name (GivenKey k) is e = none_given k is
 
-  sign_operates : (c : ℕ) (rest : List ℕ) → is_request (c ∷ rest) ≡ false → nat_eq c 95 ≡ false → nat_eq c 32 ≡ false → is_word (c ∷ rest) ≡ false → OperatesBy p own (c ∷ rest)
-  sign_operates c rest asks one two other = (asks, stands_free c rest one two other)
+  sign_operates : length p.functions ≡ length m.functions → (c : ℕ) (rest : List ℕ) → is_request (c ∷ rest) ≡ false → nat_eq c 95 ≡ false → nat_eq c 32 ≡ false → is_word (c ∷ rest) ≡ false → OperatesBy p own (c ∷ rest)
+  sign_operates counted c rest asks one two other = (asks, stands_free counted c rest one two other)
 
-  words_at : (h : ℕ) (e : ir.Expression) → slice_get f.expressions h ≡ Some e → WordFits p own (Some (expression_shape e))
-  words_at h (expression.Binary op left right) at = let o = binary_at m.types f es h op left right fits at in by op o.word o.spelled
+  words_at : length p.functions ≡ length m.functions → (h : ℕ) (e : ir.Expression) → slice_get f.expressions h ≡ Some e → WordFits p own (Some (expression_shape e))
+  words_at counted h (expression.Binary op left right) at = let o = binary_at m.types f es h op left right fits at in by op o.word o.spelled
     where
       by : (op : BinaryOperator) (w : List ℕ) → operator_word op ≡ Some w → WordFits p own (Some (binary_shape (operator_form op) left right))
-      by operator.Add w e = sign_operates 43 [] no_request_plus refl refl refl
-      by operator.Subtract w e = sign_operates 45 [] no_request_minus refl refl refl
-      by operator.Multiply w e = sign_operates 42 [] no_request_star refl refl refl
+      by operator.Add w e = sign_operates counted 43 [] no_request_plus refl refl refl
+      by operator.Subtract w e = sign_operates counted 45 [] no_request_minus refl refl refl
+      by operator.Multiply w e = sign_operates counted 42 [] no_request_star refl refl refl
       by _ w e = absurd (cc)
-  words_at h _ at = tt
+  words_at counted h _ at = tt
 
   -- ---- statements
   return_at : (v : Option ℕ) → return_fits m.types es f.result v ≡ true → ReturnFits shape v
@@ -291,12 +308,12 @@ module _ (m : Module) (g : ℕ) (f : ir_function.Function) (found : slice_get m.
       apart x (FixedKey (GlobalName i)) la lb e = absurd (none_listed i p.global_types globals lb)
 
   -- a function whose handles are in scope where they are used meets what is asked of its shape
-  pub function_fits_shape : (callees : List shapes.Function) → length callees ≡ g → NamesAreCounted m → IsTrue (fits_function own) → FunctionFits p (outer_names (module_names m)) callees own
-  function_fits_shape callees earlier counted scope = record {
+  pub function_fits_shape : length p.functions ≡ length m.functions → (callees : List shapes.Function) → length callees ≡ g → NamesAreCounted m → IsTrue (fits_function own) → FunctionFits p (outer_names (module_names m)) callees own
+  function_fits_shape all_counted callees earlier counted scope = record {
     outer = refl;
     earlier = sym earlier;
     ordered = λ h. at_any h (λ o. AllBelow h (operands_of o)) tt (ordered_at h);
-    words = λ h. at_any h (λ o. WordFits p own o) tt (words_at h);
+    words = λ h. at_any h (λ o. WordFits p own o) tt (words_at all_counted h);
     leaves = λ h. at_any h (λ o. LeafFits p shape (handle_type shape h) o) tt (leaf_at h);
     regular = regular callees f.body (function_fits_block m.types f es fits);
     distinct = distinct counted;

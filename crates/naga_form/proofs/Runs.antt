@@ -9,7 +9,7 @@ use Rattle.indexmap.proofs.ReorderLemmas.{map-reverse}
 use Rattle.naga_ir.specs.declared.module.Function as ir_function
 use Rattle.naga_ir.specs.declared.module.Module.{Module}
 use Rattle.naga_ir.specs.declared.types.Type_.{Type_}
-use Rattle.accepted_modules.specs.Accepted.{is_accepted, function_fits, functions_fit}
+use Rattle.accepted_modules.specs.Accepted.{is_scalar_type, is_accepted, function_fits, functions_fit}
 use Rattle.naga_info.specs.declared.info.ExpressionInfo.{ExpressionInfo}
 use Rattle.naga_info.specs.declared.info.ModuleInfo.{ModuleInfo}
 use Rattle.accepted_modules.proofs.Accepting.{accepted_parts}
@@ -18,7 +18,7 @@ use Rattle.name_keys.specs.declared.key.NameKey.TheVariants as key
 use Rattle.shader_runs.specs.Program as shapes
 use Rattle.shader_runs.specs.Scope.{Naming, fits_function}
 use Rattle.shader_runs.specs.Text.{TextModule}
-use Rattle.shader_runs.specs.TextRun.{module_scope, follow_call}
+use Rattle.shader_runs.specs.TextRun.{module_scope, word_use, follow_call}
 use Rattle.shader_runs.specs.Form.{form_function, form_functions, form_module, functions_of}
 use Rattle.shader_runs.specs.Premises.{AllFit}
 use Rattle.shader_runs.specs.Correct.{ModuleFits}
@@ -55,11 +55,14 @@ shapes_counted types [] (es ∷ ess) fits = absurd (cc)
 shapes_counted types (f ∷ fs) [] fits = absurd (cc)
 shapes_counted types (f ∷ fs) (es ∷ ess) fits = ap suc (shapes_counted types fs ess (and_right (function_fits types f es) (functions_fit types fs ess) fits))
 
-functions_read : (explicit : Bool) (names : NameMap) (types : List Type_) (g : ℕ) (fs : List ir_function.Function) (ess : List (List ExpressionInfo)) → map function_read (functions_form explicit names types g fs ess) ≡ map form_function (namings_from names g (function_shapes types fs ess))
-functions_read explicit names types g [] [] = refl
-functions_read explicit names types g [] (es ∷ ess) = refl
-functions_read explicit names types g (f ∷ fs) [] = refl
-functions_read explicit names types g (f ∷ fs) (es ∷ ess) = λ i. function_reads explicit names types g f es i ∷ functions_read explicit names types (g + 1) fs ess i
+functions_read : (explicit : Bool) (names : NameMap) (types : List Type_) → IsTrue (list_all is_scalar_type types) → (g : ℕ) (fs : List ir_function.Function) (ess : List (List ExpressionInfo)) → IsTrue (functions_fit types fs ess) → map function_read (functions_form explicit names types g fs ess) ≡ map form_function (namings_from names g (function_shapes types fs ess))
+functions_read explicit names types scalars g [] [] fits = refl
+functions_read explicit names types scalars g [] (es ∷ ess) fits = refl
+functions_read explicit names types scalars g (f ∷ fs) [] fits = refl
+functions_read explicit names types scalars g (f ∷ fs) (es ∷ ess) fits =
+    let first = function_reads explicit names types g f es scalars (and_left (function_fits types f es) (functions_fit types fs ess) fits) in
+    let rest = functions_read explicit names types scalars (g + 1) fs ess (and_right (function_fits types f es) (functions_fit types fs ess) fits) in
+    λ i. first i ∷ rest i
 
 -- what holds of all of a list that is turned round onto another holds of all of both
 behind_all : {X : Type 0} (test : X → Bool) (xs behind : List X) → IsTrue (list_all test (reverse_aux xs behind)) → IsTrue (list_all test behind)
@@ -71,15 +74,22 @@ all_reversed test [] behind all = refl
 all_reversed test (x ∷ xs) behind all = and_from (test x) (list_all test xs) (and_left (test x) (list_all test behind) (behind_all test xs (x ∷ behind) all)) (all_reversed test xs (x ∷ behind) all)
 
 -- the square: what is written of the module is read as its program of shapes is written
-pub program_reads : (m : Module) (info : ModuleInfo) (explicit : Bool) → program_read (written_program m info explicit) ≡ form_module (program_shape m info) (outer_names (module_names m)) (namings (module_names m) m info)
-program_reads m info explicit =
+pub program_reads : (m : Module) (info : ModuleInfo) (explicit : Bool) → IsTrue (is_accepted m info) → program_read (written_program m info explicit) ≡ form_module (program_shape m info) (outer_names (module_names m)) (namings (module_names m) m info)
+program_reads m info explicit accepted =
+    let parts = accepted_parts m info accepted in
     let listed = namings_from (module_names m) 0 (function_shapes m.types m.functions info.functions.items) in
-    let each = functions_read explicit (module_names m) m.types 0 m.functions info.functions.items in
+    let each = functions_read explicit (module_names m) m.types parts.1 0 m.functions info.functions.items parts.5 in
     λ i. record {
       constants = [];
       globals = [];
       functions = (ap reverse (append-nil (map function_read (functions_form explicit (module_names m) m.types 0 m.functions info.functions.items)) ∙ each) ∙ sym (form_functions-map (reverse listed) ∙ map-reverse form_function listed)) i;
     }
+
+pub module_counted : (m : Module) (info : ModuleInfo) → IsTrue (is_accepted m info) → length (program_shape m info).functions ≡ length m.functions
+module_counted m info accepted =
+    let parts = accepted_parts m info accepted in
+    length-reverse (function_shapes m.types m.functions info.functions.items)
+    ∙ shapes_counted m.types m.functions info.functions.items parts.5
 
 module _ (m : Module) (info : ModuleInfo) (accepted : IsTrue (is_accepted m info)) (unnamed : IsTrue (nothing_named m)) (scope : IsTrue (scope_holds m info)) (counted : NamesAreCounted m) where
   abbrev p : shapes.Module
@@ -97,7 +107,7 @@ module _ (m : Module) (info : ModuleInfo) (accepted : IsTrue (is_accepted m info
       let own = function_naming (module_names m) m.types g f es in
       let unnamed_here = and_left (length (keys f.named_expressions) == 0) (list_all (λ f. length (keys f.named_expressions) == 0) fs) named_none in
       let scoped_here = and_left (fits_function own) (list_all fits_function (namings_from (module_names m) (g + 1) (function_shapes m.types fs ess))) scoped in
-      let this = function_fits_shape m g f found es fit unnamed_here p refl refl (functions_of behind) (length-functions_of behind ∙ at) counted scoped_here in
+      let this = function_fits_shape m g f found es fit unnamed_here p refl refl (module_counted m info accepted) (functions_of behind) (length-functions_of behind ∙ at) counted scoped_here in
       all_fit (g + 1) fs ess (and_right (function_fits m.types f es) (functions_fit m.types fs ess) fits) (further m.functions g f fs there) (and_right (length (keys f.named_expressions) == 0) (list_all (λ f. length (keys f.named_expressions) == 0) fs) named_none) (and_right (fits_function own) (list_all fits_function (namings_from (module_names m) (g + 1) (function_shapes m.types fs ess))) scoped) (own ∷ behind) (ap suc at ∙ sym (add-one g)) (this, so_far)
 
   fits : ModuleFits p (outer_names (module_names m)) (namings (module_names m) m info)
@@ -121,7 +131,7 @@ module _ (m : Module) (info : ModuleInfo) (accepted : IsTrue (is_accepted m info
 
   runs : (explicit : Bool) → RunsAs m info (written_program m info explicit)
   runs explicit environment fit meaning typed g f found arguments typed_arguments world turns past keeps =
-      ap (λ (text : TextModule). follow_call (module_scope text environment) world meaning is_request turns text.functions (function_name (module_names m) g) arguments past) (program_reads m info explicit)
+      ap (λ (text : TextModule). follow_call (module_scope text environment) world meaning (word_use text.functions is_request) turns text.functions (function_name (module_names m) g) arguments past) (program_reads m info explicit accepted)
       ∙ runs_alike p (outer_names (module_names m)) (namings (module_names m) m info) fits environment fit meaning typed g f found arguments typed_arguments world turns past keeps
 
 pub runs_as : (m : Module) (info : ModuleInfo) (explicit : Bool) → IsTrue (is_accepted m info) → IsTrue (nothing_named m) → IsTrue (scope_holds m info) → NamesAreCounted m → RunsAs m info (written_program m info explicit)

@@ -3,13 +3,14 @@ use Rattle.std.specs.Prelude.{pos, Bool, ◌||◌, List, [], ◌∷◌, ◌++◌
 use Rattle.std.specs.Option.{option_map}
 use Rattle.wgsl_text.specs.Words.{stands_in}
 use Rattle.wgsl_text.specs.Tree as tree
-use Rattle.wgsl_text.specs.Tree.{Constant, Name as NameExpression, Binary, Unary, Call, Member, IndexAt, AddressOf as Address, Dereference, NoArguments, Argument, NumberArgument, ZeroArgument, BinaryOperator, LogicalAnd, LogicalOr, UnaryOperator, TypeSpecifier, DefaultLabel, SignedLabel, UnsignedLabel, LastLabel, MoreLabels, TypedLet, CallStatement, ReturnValue, Discard, If, Loop, LoopBreakIf, Switch, NoStatements, Then, NoCases, Case}
+use Rattle.type_spelling.specs.Trees.{pointer_tree}
+use Rattle.wgsl_text.specs.Tree.{NoSpace, SpaceAlone, SpaceAndAccess, Constant, Name as NameExpression, Binary, Unary, Call, Member, IndexAt, AddressOf as Address, Dereference, NoArguments, Argument, NumberArgument, ZeroArgument, BinaryOperator, LogicalAnd, LogicalOr, UnaryOperator, TypeSpecifier, DefaultLabel, SignedLabel, UnsignedLabel, LastLabel, MoreLabels, TypedLet, CallStatement, ReturnValue, Discard, If, Loop, LoopBreakIf, Switch, NoStatements, Then, NoCases, Case}
 use Rattle.wgsl_text.specs.Pieces.{binary_pieces, unary_mark}
 use Rattle.wgsl_text.specs.Text.{text, mark_text}
 use Rattle.wgsl_text.specs.Reading.{type_layout}
 use Rattle.shader_runs.specs.Value.{Bytes, MemberNamed, ElementAt, Opaque, ShortCircuitAnd, ShortCircuitOr}
 use Rattle.shader_runs.specs.Program.{Label, Numbered, Default}
-use Rattle.shader_runs.specs.Text.{Tree, Name, LiteralOf, Apply, Deref, AddressOf, Index, PartOf, LogicalOf as Logical, Trees, no_more, more, Line, Let, Assign, Braces, IfElse, SwitchOn, LoopOf, BreakLine, ContinueLine, ReturnLine, DiscardLine, Perform, Lines, last, before, Groups, no_group, group, Variable, TextFunction, TextModule}
+use Rattle.shader_runs.specs.Text.{Tree, Name, LiteralOf, Apply, Deref, AddressOf, Index, PartOf, LogicalOf as Logical, Trees, no_more, more, Line, Let, Assign, Braces, IfElse, SwitchOn, LoopOf, BreakLine, ContinueLine, ReturnLine, DiscardLine, Perform, Lines, last, before, Groups, no_group, group, Variable, ModuleVariable, TextFunction, TextModule}
 use Rattle.naga_form.specs.Literals.{value_read, signed}
 
 -- `&&` and `||` decide by their left side alone where they can; any other operator is a word with two operands
@@ -78,8 +79,21 @@ abbrev mutual
   cases_read NoCases = no_group
   cases_read (Case labels body rest) = group (labels_read labels) (statements_read body) (cases_read rest)
 
+-- the spelling of a pointer to a local of the declared type, and to a module-level variable by its space; what has no space is held, and no pointer
+abbrev pub local_pointer_read : TypeSpecifier → Bytes
+local_pointer_read type = type_layout (pointer_tree (codes "function") None type)
+
+abbrev pub global_pointer_read : tree.Space → TypeSpecifier → Bytes
+global_pointer_read NoSpace type = []
+global_pointer_read (SpaceAlone space) type = type_layout (pointer_tree space None type)
+global_pointer_read (SpaceAndAccess space access) type = type_layout (pointer_tree space (Some access) type)
+
 abbrev pub variable_read : tree.Local → Variable
-variable_read l = record { name = l.name; first_value = option_map expression_read l.value }
+variable_read l =
+    record { name = l.name; pointer = local_pointer_read l.type; first_value = option_map expression_read l.value }
+
+abbrev pub module_variable_read : tree.Global → ModuleVariable
+module_variable_read g = record { name = g.name; pointer = global_pointer_read g.space g.type }
 
 abbrev pub function_read : tree.Function → TextFunction
 function_read f =
@@ -90,7 +104,7 @@ abbrev pub program_read : tree.Program → TextModule
 program_read p =
     record {
       constants = map (λ c. c.name) p.constants ++ map (λ o. o.name) p.overrides;
-      globals = map (λ g. g.name) p.globals;
+      globals = map module_variable_read p.globals;
       functions = reverse (map function_read p.functions ++ map (λ e. function_read e.function) p.entry_points);
     }
 

@@ -7,7 +7,7 @@ use Rattle.shader_runs.specs.Value.{Value, has_types}
 use Rattle.shader_runs.specs.World.{World, Meaning, Event, Environment}
 use Rattle.shader_runs.specs.Program as shapes
 use Rattle.shader_runs.specs.ProgramRun.{run_call}
-use Rattle.shader_runs.specs.TextRun.{module_scope, follow_call}
+use Rattle.shader_runs.specs.TextRun.{module_scope, word_use, follow_call}
 use Rattle.shader_runs.specs.Premises.{IsTyped, EnvironmentFits}
 use Rattle.shader_runs.specs.Correct.{KeepsTypes}
 use Rattle.naga_form.specs.Names.{module_names, function_name}
@@ -29,8 +29,8 @@ RunsAs m info program =
     (environment : Environment) → EnvironmentFits shape environment →
     (meaning : Meaning) → IsTyped shape meaning →
     (g : ℕ) (f : shapes.Function) → shapes.function_numbered shape.functions g ≡ Some f →
-    (arguments : List Value) → IsTrue (has_types f.argument_types arguments) →
+    (arguments : List Value) → IsTrue (has_types shape.parts f.argument_types arguments) →
     (world : World) (turns : ℕ) (past : List Event) →
     KeepsTypes (run_call environment world meaning turns shape.functions g arguments past) →
-    follow_call (module_scope text environment) world meaning is_request turns text.functions (function_name (module_names m) g) arguments past
+    follow_call (module_scope text environment) world meaning (word_use text.functions is_request) turns text.functions (function_name (module_names m) g) arguments past
     ≡ run_call environment world meaning turns shape.functions g arguments past

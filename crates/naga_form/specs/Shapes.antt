@@ -14,7 +14,7 @@ use Rattle.naga_info.specs.declared.info.ExpressionInfo.{ExpressionInfo}
 use Rattle.naga_info.specs.declared.info.ModuleInfo.{ModuleInfo}
 use Rattle.accepted_modules.specs.Types.{word_at, spelling_of}
 use Rattle.name_keys.specs.Keys.{NameMap}
-use Rattle.shader_runs.specs.Value.{ShortCircuitAnd, ShortCircuitOr}
+use Rattle.shader_runs.specs.Value.{PartTypes, ShortCircuitAnd, ShortCircuitOr}
 use Rattle.shader_runs.specs.Program.{Fixed, Expression, Constant, Argument, Local, Load, Operator, Logical, Result, Statement, Emit, Store, Return, Block, Statements, end, then, Function, Module, operands_of}
 use Rattle.shader_runs.specs.Premises.{AllBelow}
 use Rattle.shader_runs.specs.Scope.{ModuleNames, Names, Naming}
@@ -23,7 +23,7 @@ use Rattle.wgsl_text.specs.Text.{text}
 use Rattle.wgsl_text.specs.Tree.{BinaryOperator, LogicalAnd, LogicalOr}
 use Rattle.naga_form.specs.Names.{function_name, argument_name, local_name, numbered_name}
 use Rattle.naga_form.specs.Operators.{operator_form}
-use Rattle.naga_form.specs.Types.{value_type}
+use Rattle.naga_form.specs.Types.{value_type, pointer_to_local}
 use Rattle.naga_form.specs.Literals.{literal_value}
 use Rattle.naga_form.specs.Abstraction.{is_request}
 
@@ -65,6 +65,7 @@ function_shape types f es =
       argument_types = map (λ a. value_type (word_at types a.ty)) f.arguments.items;
       result = option_map (λ r. value_type (word_at types r.ty)) f.result;
       first_values = map (λ l. l.init) f.local_variables;
+      local_pointers = map (λ l. pointer_to_local (word_at types l.ty)) f.local_variables;
       expressions = map expression_shape f.expressions;
       types = map (λ e. value_type (spelling_of types e.ty)) es;
       counts = map (λ e. e.ref_count) es;
@@ -77,10 +78,14 @@ abbrev pub function_shapes : List Type_ → List ir_function.Function → List (
 function_shapes types (f ∷ fs) (es ∷ ess) = function_shape types f es ∷ function_shapes types fs ess
 function_shapes types _ _ = []
 
+-- how pointers to parts are spelled: so far no type has parts
+abbrev pub no_parts : PartTypes
+no_parts whole step = []
+
 -- the program of shapes; its functions stand in it with the last one first
 abbrev pub program_shape : ir_module.Module → ModuleInfo → Module
 program_shape m info =
-    record { constant_types = []; global_types = []; functions = reverse (function_shapes m.types m.functions info.functions.items) }
+    record { constant_types = []; global_types = []; parts = no_parts; functions = reverse (function_shapes m.types m.functions info.functions.items) }
 
 -- the names of the module's items; it has no constants, overrides and variables so far
 abbrev pub outer_names : NameMap → ModuleNames

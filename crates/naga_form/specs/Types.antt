@@ -7,6 +7,7 @@ use Rattle.naga_ir.specs.declared.module.Module.{Module}
 use Rattle.type_spelling.specs.Contexts.{names_of}
 use Rattle.type_spelling.specs.Trees.{Names as TypeNames, type_tree}
 use Rattle.naga_form.specs.Names.{module_names}
+use Rattle.accepted_modules.specs.Types.{local_pointer}
 use Rattle.wgsl_text.specs.Words.{stands_in}
 use Rattle.wgsl_text.specs.Tree.{TypeSpecifier, Named}
 use Rattle.shader_runs.specs.Value.{ValueType, BooleanType, IntegerType, PointerType, OtherType}
@@ -27,7 +28,12 @@ abbrev pub type_spelled : List ℕ → ValueType
 type_spelled w =
     if bytes_eq w (codes "bool") then BooleanType else (
     if stands_in integer_words w then IntegerType w else (
-    if starts_with nat_eq w (codes "ptr<") then PointerType else OtherType w))
+    if starts_with nat_eq w (codes "ptr<") then PointerType w else OtherType w))
+
+-- the spelling of a pointer to a local whose type has this word
+abbrev pub pointer_to_local : Option (List ℕ) → List ℕ
+pointer_to_local (Some w) = local_pointer w
+pointer_to_local None = []
 
 -- what has no spelling is a type of its own
 abbrev pub value_type : Option (List ℕ) → ValueType

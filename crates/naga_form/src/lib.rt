@@ -14,7 +14,9 @@ ghost use Rattle.naga_form.specs.Bindings.{BindsAs};
 ghost use Rattle.naga_form.specs.Form.{function_form, written_program};
 ghost use Rattle.naga_form.specs.Premises.{nothing_named, scope_holds, handles_are_counted};
 ghost use Rattle.naga_form.specs.Shapes.{function_naming, program_shape, outer_names, namings};
-ghost use Rattle.accepted_modules.specs.Accepted.{is_accepted};
+ghost use Rattle.std.specs.Prelude.{true};
+ghost use Rattle.std.specs.List.{list_all};
+ghost use Rattle.accepted_modules.specs.Accepted.{is_accepted, is_scalar_type, function_fits};
 ghost use Rattle.accepted_modules.specs.Part.{is_written_so_far};
 ghost use Rattle.naga_info.specs.declared.info.ModuleInfo.{ModuleInfo};
 ghost use Rattle.naga_form.specs.Names.{NamesAreCounted, module_names};
@@ -41,14 +43,14 @@ pub fn binds_as_counted()
     ensures { (m : Module) (info : ModuleInfo) (explicit : Bool) → IsTrue (is_accepted m info) → IsTrue (nothing_named m) → BindsAs m info (written_program m info explicit) }
 {}
 
-/// What is written of a function is read as its shape is written, whatever is known of it.
+/// What is written of a function that fits is read as its shape is written.
 pub fn functions_are_read()
-    ensures { (explicit : Bool) (names : NameMap) (types : List Type_) (g : ℕ) (f : Function) (es : List ExpressionInfo) → function_read (function_form explicit names types g f es) ≡ form_function (function_naming names types g f es) }
+    ensures { (explicit : Bool) (names : NameMap) (types : List Type_) (g : ℕ) (f : Function) (es : List ExpressionInfo) → IsTrue (list_all is_scalar_type types) → function_fits types f es ≡ true → function_read (function_form explicit names types g f es) ≡ form_function (function_naming names types g f es) }
 {}
 
-/// What the program does is what the program of shapes says that is written for the module.
+/// What the program of an accepted module does is what the program of shapes says that is written for the module.
 pub fn is_read_as_its_shapes()
-    ensures { (m : Module) (info : ModuleInfo) (explicit : Bool) → program_read (written_program m info explicit) ≡ form_module (program_shape m info) (outer_names (module_names m)) (namings (module_names m) m info) }
+    ensures { (m : Module) (info : ModuleInfo) (explicit : Bool) → IsTrue (is_accepted m info) → program_read (written_program m info explicit) ≡ form_module (program_shape m info) (outer_names (module_names m)) (namings (module_names m) m info) }
 {}
 
 /// It does what the module does, where the module's handles are in scope where they are used.
