@@ -2,3 +2,4 @@ pub mod Shaped
 pub mod Constants
 pub mod Emitting
 pub mod Holding
+pub mod FirstValues

@@ -1,7 +1,8 @@
 -- Where the expressions of a function stand at a point of its text, as the code keeps it.
-use Rattle.std.specs.Prelude.{ℕ, Bool, true, false, List, Option, slice_get, get_or, ◌||◌}
+use Rattle.std.specs.Prelude.{ℕ, Bool, true, false, List, Option, Some, None, nat_lt, slice_get, get_or, ◌||◌}
 use Rattle.std.specs.Option.{option_map}
 use Rattle.naga_ir.specs.declared.expression.Expression as ir
+use Rattle.naga_ir.specs.declared.expression.Expression.TheVariants.{LocalVariable}
 use Rattle.shader_runs.specs.Program as shapes
 use Rattle.shader_runs.specs.Scope as runs
 use Rattle.naga_form.specs.Names.{numbered_name}
@@ -33,6 +34,16 @@ is_everywhere _ = false
 -- a literal, or what the table says is in scope everywhere
 abbrev pub is_constant_by : List Standing → List ir.Expression → ℕ → Bool
 is_constant_by table es h = runs.is_constant_leaf (shape_at es h) || is_everywhere (get_or table h Absent)
+
+-- an expression is no local, or one before this local
+abbrev pub names_earlier : ℕ → Option ir.Expression → Bool
+names_earlier local (Some (LocalVariable other)) = nat_lt other local
+names_earlier local _ = true
+
+-- the expression with this handle, if there is one, is so
+abbrev pub is_earlier : List ir.Expression → ℕ → Option ℕ → Bool
+is_earlier es local None = true
+is_earlier es local (Some h) = names_earlier local (slice_get es h)
 
 -- the cell of an expression at the start of a function
 abbrev pub first_standing : (is_constant_tree : Bool) → Standing

@@ -10,12 +10,13 @@ ghost use Rattle.naga_ir.specs.StatementViews.{tree_of};
 ghost use Rattle.naga_ir.specs.declared.types.Type_.{Type_};
 ghost use Rattle.name_keys.specs.Keys.{NameMap};
 ghost use Rattle.shader_runs.specs.Program.{from};
-ghost use Rattle.shader_runs.specs.Scope.{after, after_emit, at_start, first_values_fit, fits, fits_function, may_emit_all, usable_if};
-ghost use Rattle.naga_scope.specs.Standings.{handles_of};
+ghost use Rattle.shader_runs.specs.Scope.{after, after_emit, at_start, before_local, first_values_fit, fits, fits_function, may_emit_all, usable_if};
+ghost use Rattle.naga_scope.specs.Standings.{handles_of, is_earlier};
 
+use crate::binding::expression_at;
 use crate::points::Scope;
 use naga_info::{FunctionInfo, ModuleInfo};
-use naga_ir::{Expression, Function, Handle, Module, Place, Range, Statement};
+use naga_ir::{Expression, Function, Handle, LocalVariable, Module, Place, Range, Statement};
 use std::alloc::{AllocError, Global};
 
 /// Whether the expression, if there is one, may be written at this point.
@@ -28,12 +29,41 @@ fn is_usable_if(scope: &Scope, function: &Function, handle: Option<Handle<Expres
     }
 }
 
-/// Whether the first value of each local is in scope at the start of the function.
-fn first_values_hold(scope: &Scope, function: &Function) -> bool
-    ensures { (types : List Type_) (es : List ExpressionInfo) → let shape = function_shape types function.now es in handles_of scope.now ≡ at_start shape → result ≡ first_values_fit shape shape.first_values }
+/// Whether the expression, if it is a local, is one before this local.
+fn is_earlier(
+    function: &Function,
+    handle: Option<Handle<Expression>>,
+    local: Handle<LocalVariable>,
+) -> bool
+    ensures { result ≡ is_earlier function.now.expressions local handle }
 {
-    for (_, local) in function.local_variables.iter() {
-        if !is_usable_if(scope, function, local.init) {
+    match handle {
+        Some(handle) => match expression_at(function, handle) {
+            Some(Expression::LocalVariable(other)) => other.index() < local.index(),
+            _ => true,
+        },
+        None => true,
+    }
+}
+
+/// Whether the first value of this local is in scope where it stands, behind the locals before it.
+fn first_value_holds(
+    scope: &Scope,
+    function: &Function,
+    handle: Handle<LocalVariable>,
+    local: &LocalVariable,
+) -> bool
+    ensures { (types : List Type_) (es : List ExpressionInfo) → result ≡ usable_if (before_local (function_shape types function.now es) handle) (handles_of scope.now) local.now.init }
+{
+    is_usable_if(scope, function, local.init) && is_earlier(function, local.init, handle)
+}
+
+/// Whether the first value of each local is in scope where it stands, at the start of the function.
+fn first_values_hold(scope: &Scope, function: &Function) -> bool
+    ensures { (types : List Type_) (es : List ExpressionInfo) → let shape = function_shape types function.now es in handles_of scope.now ≡ at_start shape → result ≡ first_values_fit shape 0 shape.first_values }
+{
+    for (handle, local) in function.local_variables.iter() {
+        if !first_value_holds(scope, function, handle, local) {
             return false;
         }
     }

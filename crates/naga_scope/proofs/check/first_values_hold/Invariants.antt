@@ -1,11 +1,12 @@
-use Rattle.std.proofs.Common.{◌≡◌, List, map}
+use Rattle.std.proofs.Common.{◌≡◌, List}
 use Rattle.naga_ir.specs.declared.types.Type_.{Type_}
 use Rattle.naga_info.specs.declared.info.ExpressionInfo.{ExpressionInfo}
 use Rattle.shader_runs.specs.Scope.{at_start, first_values_fit}
 use Rattle.naga_form.specs.Shapes.{function_shape}
 use Rattle.naga_scope.specs.Standings.{handles_of}
+use Rattle.naga_scope.proofs.FirstValues.{all_fit}
 use Rattle.naga_scope.proofs.check.first_values_hold.Given as goal
 
-abbrev pub invariant-loop-local : goal.invariant-loop-local
-invariant-loop-local l = (types : List Type_) (es : List ExpressionInfo) → handles_of l.scope ≡ at_start (function_shape types l.function es) →
-    first_values_fit (function_shape types l.function es) (map (λ p. p.1.init) l.local-iterator) ≡ first_values_fit (function_shape types l.function es) (function_shape types l.function es).first_values
+abbrev pub invariant-loop-handle : goal.invariant-loop-handle
+invariant-loop-handle l = (types : List Type_) (es : List ExpressionInfo) → handles_of l.scope ≡ at_start (function_shape types l.function es) →
+    all_fit (function_shape types l.function es) l.handle-iterator ≡ first_values_fit (function_shape types l.function es) 0 (function_shape types l.function es).first_values
