@@ -6,9 +6,9 @@ use Rattle.std.proofs.lemmas.Option.{slice_get_within}
 use Rattle.shader_runs.specs.Value.{Bytes}
 use Rattle.shader_runs.specs.World.{update}
 use Rattle.shader_runs.specs.Program.{Expression, Constant, Argument, Local, Global, Load, Request, Result, Statement, Emit, Store, Block, If, Switch, Loop, Return, Act, Statements, end, then, Cases, no_case, case, Function, argument_count, local_count, expression_of, operands_of, is_counted, is_asked, binds_as, binds, from, holds_continue}
-use Rattle.shader_runs.specs.Scope.{Standing, Absent, Barred, Everywhere, Inline, Named, Handles, Naming, bound_name, is_present, is_new, usable_as, usable, usable_all, usable_if, is_pure, all_constant, is_constant_leaf, constant_test, is_constant_below, start_standing, at_start, unbound, emitted, after_one, given_after, given_by, given_by_all, after_emit, after, forgotten, forgotten_one, forgotten_if, after_all, is_emittable, may_emit, may_emit_all, may_give, fits, fits_all, fits_cases, first_values_fit, fits_function}
+use Rattle.shader_runs.specs.Scope.{Standing, Absent, Barred, Everywhere, Inline, Named, Handles, Naming, bound_name, is_present, is_new, usable_as, usable, usable_all, usable_if, is_pure, all_constant, is_constant_leaf, constant_test, is_constant_below, start_standing, at_start, unbound, emitted, after_one, given_after, given_by, given_by_all, after_emit, after, forgotten, forgotten_one, forgotten_if, after_all, is_emittable, may_emit, may_emit_all, may_give, fits, fits_all, fits_cases, first_values_fit}
 use Rattle.shader_runs.specs.Premises.{AllBelow}
-use Rattle.shader_runs.specs.ScopeRules.{Given, Emitted, AsResult, handle_of, IsAmong, IsConstantTree, one_constant, over_constants, AreConstantTrees, no_tree, and_tree, can_be_given, InScope, constant_tree, argument, local, global, bound, written_out, result, still, EachInScope, no_handle, and_handle, InScopeIf, is_unwritten, with_one, with_emitted, with_statement, with_statements, unskipped, Point, entry_point, behind_one, behind, behind_turn, WasGiven, in_sight, as_a_tree, MayEmit, MayEmitEach, MayResult, StatementHolds, StatementsHold, CasesHold, FirstValuesHold, ScopeHolds, ScopeCheckIsTheRules}
+use Rattle.shader_runs.specs.ScopeRules.{Given, Emitted, AsResult, handle_of, IsAmong, IsConstantTree, one_constant, over_constants, AreConstantTrees, no_tree, and_tree, can_be_given, InScope, constant_tree, argument, local, global, bound, written_out, result, still, EachInScope, no_handle, and_handle, InScopeIf, is_unwritten, with_one, with_emitted, with_statement, with_statements, unskipped, Point, entry_point, behind_one, behind, behind_turn, WasGiven, in_sight, as_a_tree, MayEmit, MayEmitEach, MayResult, StatementHolds, StatementsHold, CasesHold, FirstValuesHold, ScopeCheckIsTheRules}
 use Rattle.shader_runs.proofs.Update.{and_left, and_right, and_both, update_cases}
 use Rattle.shader_runs.proofs.Relation.{present_forgotten}
 use Rattle.shader_runs.proofs.Start.{or_cases}
