@@ -158,19 +158,19 @@ related_agree c n s names kept kept' a r =
       words = r.words;
     }
 
-present_forgotten : (st now : Standing) → IsTrue (is_present st) → IsTrue (is_present (forgotten_one st now))
-present_forgotten Absent now p = p
-present_forgotten Barred now p = p
-present_forgotten Inline now p = p
-present_forgotten (Named x) now p = p
-present_forgotten Everywhere now p = go (is_new now)
+pub present_forgotten : (st now : Standing) → is_present (forgotten_one st now) ≡ is_present st
+present_forgotten Absent now = refl
+present_forgotten Barred now = refl
+present_forgotten Inline now = refl
+present_forgotten (Named x) now = refl
+present_forgotten Everywhere now = go (is_new now)
   where
-    go : (b : Bool) → IsTrue (is_present (cond b Everywhere Inline))
+    go : (b : Bool) → is_present (cond b Everywhere Inline) ≡ true
     go true = refl
     go false = refl
 
 pub extends_forgotten : (s now : Handles) → Extends s (forgotten s now)
-extends_forgotten s now h p = present_forgotten (s h) (now h) p
+extends_forgotten s now h p = present_forgotten (s h) (now h) ∙ p
 
 stands_forgotten : (c : Call) (s : Handles) (names : Scope) (kept : Kept) (y : ValueType) (e : Option Expression) (o : Option Value) (st now : Standing) → Stands c s names kept y e o st → Stands c s names kept y e o (forgotten_one st now)
 stands_forgotten c s names kept y e o Absent now d = d

@@ -26,7 +26,7 @@ pure_value env m (Some _) o p = refl
 pure_value env m None o p = refl
 
 -- one of two tests holds
-or_cases : {A : Type 0} (a b : Bool) → IsTrue (a || b) → (IsTrue a → A) → (IsTrue b → A) → A
+pub or_cases : {A : Type 0} (a b : Bool) → IsTrue (a || b) → (IsTrue a → A) → (IsTrue b → A) → A
 or_cases true b h f g = f refl
 or_cases false b h f g = g h
 

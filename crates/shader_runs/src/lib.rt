@@ -4,6 +4,7 @@
 ghost use Rattle.shader_runs.specs.Correct.{RunsAlike, HasTypedMeaning, HasTypedWorld};
 ghost use Rattle.shader_runs.specs.Points.{PointsAgree};
 ghost use Rattle.shader_runs.specs.Rows.{RowsHold};
+ghost use Rattle.shader_runs.specs.ScopeRules.{ScopeCheckIsTheRules};
 
 /// A module's functions and entry points and their texts make the same events and end alike.
 pub fn runs_alike()
@@ -14,6 +15,11 @@ pub fn runs_alike()
 /// written without a name still gives them.
 pub fn points_agree()
     ensures { PointsAgree }
+{}
+
+/// The check of scope holds of a function exactly where the rules of scope do.
+pub fn scope_check_is_the_rules()
+    ensures { ScopeCheckIsTheRules }
 {}
 
 /// What the first law asks of the meaning can be met.

@@ -1,0 +1,674 @@
+-- The check of scope decides the rules of scope: at each point the standings of handles say what the rules do.
+use Rattle.std.proofs.Common.{◌≡◌, ◌⊎◌, inl, inr, ⊎_elim, ℕ, zero, suc, ◌<◌, ◌≤◌, Bool, true, false, cond, not, List, [], ◌∷◌, length, Option, Some, None, ◌&&◌, ◌||◌, refl, sym, ap, ◌∙◌, subst, true≢false, arith, ltb-true}
+use Rattle.std.specs.Prelude.{IsTrue, ◌↔◌}
+use Rattle.std.proofs.lemmas.Bool.{or_right, lt-ltb, true_from_ne_false}
+use Rattle.std.proofs.lemmas.Option.{slice_get_within}
+use Rattle.shader_runs.specs.Value.{Bytes}
+use Rattle.shader_runs.specs.World.{update}
+use Rattle.shader_runs.specs.Program.{Expression, Constant, Argument, Local, Global, Load, Request, Result, Statement, Emit, Store, Block, If, Switch, Loop, Return, Act, Statements, end, then, Cases, no_case, case, Function, argument_count, local_count, expression_of, operands_of, is_counted, is_asked, binds_as, binds, from, holds_continue}
+use Rattle.shader_runs.specs.Scope.{Standing, Absent, Barred, Everywhere, Inline, Named, Handles, Naming, bound_name, is_present, is_new, usable_as, usable, usable_all, usable_if, is_pure, all_constant, is_constant_leaf, constant_test, is_constant_below, start_standing, at_start, unbound, emitted, after_one, given_after, given_by, given_by_all, after_emit, after, forgotten, forgotten_one, forgotten_if, after_all, is_emittable, may_emit, may_emit_all, may_give, fits, fits_all, fits_cases, first_values_fit}
+use Rattle.shader_runs.specs.Premises.{AllBelow}
+use Rattle.shader_runs.specs.ScopeRules.{Given, Emitted, AsResult, handle_of, IsAmong, IsConstantTree, one_constant, over_constants, AreConstantTrees, no_tree, and_tree, can_be_given, InScope, constant_tree, argument, local, global, bound, written_out, result, still, EachInScope, no_handle, and_handle, InScopeIf, is_unwritten, with_one, with_emitted, with_statement, with_statements, unskipped, Point, entry_point, behind_one, behind, behind_turn, WasGiven, in_sight, as_a_tree, MayEmit, MayEmitEach, MayResult, StatementHolds, StatementsHold, CasesHold, FirstValuesHold, ScopeCheckIsTheRules}
+use Rattle.shader_runs.proofs.Update.{and_left, and_right, and_both, update_cases}
+use Rattle.shader_runs.proofs.Relation.{present_forgotten}
+use Rattle.shader_runs.proofs.Start.{or_cases}
+
+false_is_not_true : {A : Type 0} (b : Bool) → b ≡ false → IsTrue b → A
+false_is_not_true b e h = absurd (true≢false (sym h ∙ e))
+
+-- a test of two, the second of which is looked at where the first holds
+both : {P Q : Type 0} (a b : Bool) → (IsTrue a ↔ P) → (IsTrue a → (IsTrue b ↔ Q)) → (IsTrue (a && b) ↔ (P × Q))
+both a b x y = (
+  λ h. (x.0 (and_left a b h), (y (and_left a b h)).0 (and_right a b h)),
+  λ h. and_both a b (x.1 h.0) ((y (x.1 h.0)).1 h.1),
+)
+
+-- and of three
+three : {P Q R : Type 0} (a b c : Bool) → (IsTrue a ↔ P) → (IsTrue a → (IsTrue b ↔ Q)) →
+    (IsTrue a → IsTrue b → (IsTrue c ↔ R)) → (IsTrue (a && (b && c)) ↔ (P × Q × R))
+three a b c x y z =
+    let all = both a (b && c) x (λ i. both b c (y i) (z i)) in
+    (λ h. let parts = all.0 h in (parts.0, parts.1.0, parts.1.1), λ h. all.1 (h.0, (h.1, h.2)))
+
+-- one that is asked only where another holds
+wanted : {P : Type 0} (a b : Bool) → (IsTrue b ↔ P) → (IsTrue (not a || b) ↔ (IsTrue a → P))
+wanted true b x = (λ h e. x.0 h, λ h. x.1 (h refl))
+wanted false b x = (λ h e. absurd (true≢false (sym e)), λ h. refl)
+
+-- the operands of a handle
+abbrev operands_at : Function → ℕ → List ℕ
+operands_at f h = operands_of (expression_of f h)
+
+-- what brings a handle into scope
+abbrev Brings : Function → List Given → Given → ℕ → Type 0
+Brings f v (Emitted h) k = (h ≡ k) × (IsTrue (binds f k) ⊎ EachInScope f v (operands_at f k))
+Brings f v (AsResult h) k = (h ≡ k) × IsTrue (can_be_given (expression_of f k))
+
+brought : (f : Function) (g : Given) (v : List Given) (k : ℕ) →
+    InScope f (g ∷ v) k → InScope f v k ⊎ Brings f v g k
+brought f g v k (constant_tree t) = inl (constant_tree t)
+brought f g v k (argument i q l) = inl (argument i q l)
+brought f g v k (local i q l) = inl (local i q l)
+brought f g v k (global i q) = inl (global i q)
+brought f g v k (bound b) = inr (refl, inl b)
+brought f g v k (written_out b p os) = inr (refl, inr os)
+brought f g v k (result m) = inr (refl, m)
+brought f g v k (still g0 d) = inl d
+
+brings_itself : (f : Function) (g : Given) (v : List Given) (k : ℕ) → Brings f v g k → handle_of g ≡ k
+brings_itself f (Emitted h) v k b = b.0
+brings_itself f (AsResult h) v k b = b.0
+
+-- another handle was in scope before
+older : (f : Function) (g : Given) (v : List Given) (k : ℕ) →
+    (handle_of g ≡ k → ⊥) → InScope f (g ∷ v) k → InScope f v k
+older f g v k n d = ⊎_elim (λ d. d) (λ b. absurd (n (brings_itself f g v k b))) (brought f g v k d)
+
+-- kinds of expressions
+pure_emittable : (e : Option Expression) → IsTrue (is_pure e) → IsTrue (is_emittable e)
+pure_emittable (Some (Load p)) h = refl
+pure_emittable (Some (Request a w xs es)) h = refl
+pure_emittable (Some _) h = h
+pure_emittable None h = h
+
+emittable_given : (e : Option Expression) → IsTrue (is_emittable e) → IsTrue (can_be_given e)
+emittable_given (Some Result) h = refl
+emittable_given (Some _) h = h
+emittable_given None h = h
+
+-- what statements give is usable by its standing, and the others are without regard to it
+usable_by : (f : Function) (e : Option Expression) (st : Standing) →
+    usable_as f e st ≡ cond (can_be_given e) (is_present st) (usable_as f e Absent)
+usable_by f (Some (Constant c)) st = refl
+usable_by f (Some (Argument i)) st = refl
+usable_by f (Some (Local i)) st = refl
+usable_by f (Some (Global i)) st = refl
+usable_by f (Some _) st = refl
+usable_by f None st = refl
+
+usable_given : (f : Function) (e : Option Expression) (st : Standing) →
+    IsTrue (can_be_given e) → usable_as f e st ≡ is_present st
+usable_given f e st h = usable_by f e st ∙ ap (λ b. cond b (is_present st) (usable_as f e Absent)) h
+
+usable_alone : (f : Function) (e : Option Expression) (st : Standing) →
+    can_be_given e ≡ false → usable_as f e st ≡ usable_as f e Absent
+usable_alone f e st h = usable_by f e st ∙ ap (λ b. cond b (is_present st) (usable_as f e Absent)) h
+
+usable_alike : (f : Function) (e : Option Expression) (st st' : Standing) →
+    is_present st ≡ is_present st' → usable_as f e st ≡ usable_as f e st'
+usable_alike f e st st' q =
+    usable_by f e st ∙ ap (λ p. cond (can_be_given e) p (usable_as f e Absent)) q ∙ sym (usable_by f e st')
+
+usable_pure : (f : Function) (e : Option Expression) (st : Standing) →
+    IsTrue (is_pure e) → usable_as f e st ≡ is_present st
+usable_pure f e st h = usable_given f e st (emittable_given e (pure_emittable e h))
+
+-- what an Emit gives is bound or an operator
+not_alone : (b : Bool) → not b ≡ not (b || false)
+not_alone true = refl
+not_alone false = refl
+
+not_either : (b : Bool) → false ≡ not (b || true)
+not_either true = refl
+not_either false = refl
+
+unwritten_kind : (f : Function) (h : ℕ) (e : Option Expression) →
+    IsTrue (is_emittable e) → is_unwritten f h e ≡ not (binds_as f h e || is_pure e)
+unwritten_kind f h (Some (Load p)) m = not_alone (is_counted f 1 h)
+unwritten_kind f h (Some (Request a w xs es)) m = not_alone (is_asked f h a)
+unwritten_kind f h (Some (Constant c)) m = absurd (true≢false (sym m))
+unwritten_kind f h (Some (Argument i)) m = absurd (true≢false (sym m))
+unwritten_kind f h (Some (Local i)) m = absurd (true≢false (sym m))
+unwritten_kind f h (Some (Global i)) m = absurd (true≢false (sym m))
+unwritten_kind f h (Some Result) m = absurd (true≢false (sym m))
+unwritten_kind f h None m = absurd (true≢false (sym m))
+unwritten_kind f h e m = not_either (binds_as f h e)
+
+-- the test of constant trees finds them alone
+tree_leaf : (f : Function) (h : ℕ) (e : Option Expression) →
+    expression_of f h ≡ e → IsTrue (is_constant_leaf e) → IsConstantTree f h
+tree_leaf f h (Some (Constant c)) q i = one_constant c q
+tree_leaf f h (Some _) q i = absurd (true≢false (sym i))
+tree_leaf f h None q i = absurd (true≢false (sym i))
+
+trees_tested : (f : Function) (test : ℕ → Bool) → ((x : ℕ) → IsTrue (test x) → IsConstantTree f x) →
+    (xs : List ℕ) → IsTrue (all_constant test xs) → AreConstantTrees f xs
+trees_tested f test each [] t = no_tree
+trees_tested f test each (x ∷ xs) t =
+    let rest = all_constant test xs in
+    and_tree (each x (and_left (test x) rest t)) (trees_tested f test each xs (and_right (test x) rest t))
+
+tree_tested : (f : Function) (n h : ℕ) → IsTrue (is_constant_below f n h) → IsConstantTree f h
+tree_tested f zero h t = absurd (true≢false (sym t))
+tree_tested f (suc n) h t =
+    let e = expression_of f h in
+    let parts = all_constant (is_constant_below f n) (operands_of e) in
+    let each = trees_tested f (is_constant_below f n) (λ x. tree_tested f n x) (operands_of e) in
+    or_cases (is_constant_leaf e) (is_pure e && parts) t (tree_leaf f h e refl)
+    (λ u. over_constants (and_left (is_pure e) parts u) (each (and_right (is_pure e) parts u)))
+
+-- and, where operands stand before their expressions, all of them
+mutual
+  test_tree : (f : Function) → ((h : ℕ) → AllBelow h (operands_at f h)) → (n h : ℕ) → h < n →
+      IsConstantTree f h → IsTrue (is_constant_below f n h)
+  test_tree f ordered zero h l t = absurd (omega arith)
+  test_tree f ordered (suc n) h l (one_constant c q) =
+      let test = is_constant_below f n in
+      subst (λ e. IsTrue (constant_test test e)) (sym q) refl
+  test_tree f ordered (suc n) h l (over_constants p ts) =
+      let e = expression_of f h in
+      let parts = all_constant (is_constant_below f n) (operands_of e) in
+      let rest = test_trees f ordered n h (operands_of e) (omega arith) (ordered h) ts in
+      or_right (is_constant_leaf e) (is_pure e && parts) (and_both (is_pure e) parts p rest)
+
+  test_trees : (f : Function) → ((h : ℕ) → AllBelow h (operands_at f h)) → (n h : ℕ) (xs : List ℕ) → h ≤ n →
+      AllBelow h xs → AreConstantTrees f xs → IsTrue (all_constant (is_constant_below f n) xs)
+  test_trees f ordered n h [] l b no_tree = refl
+  test_trees f ordered n h (x ∷ xs) l b (and_tree t ts) =
+      let here = test_tree f ordered n x (omega (arith, b.0)) t in
+      let rest = test_trees f ordered n h xs l b.1 ts in
+      and_both (is_constant_below f n x) (all_constant (is_constant_below f n) xs) here rest
+
+-- an operator that is a constant tree
+abbrev IsCompound : Function → ℕ → Type 0
+IsCompound f h = IsTrue (is_pure (expression_of f h)) × IsConstantTree f h
+
+parts_of_tree : (f : Function) (h : ℕ) →
+    IsTrue (is_pure (expression_of f h)) → IsConstantTree f h → AreConstantTrees f (operands_at f h)
+parts_of_tree f h p (one_constant c q) = false_is_not_true (is_pure (expression_of f h)) (ap is_pure q) p
+parts_of_tree f h p (over_constants q ts) = ts
+
+each_tree_in_scope : (f : Function) (v : List Given) (xs : List ℕ) → AreConstantTrees f xs → EachInScope f v xs
+each_tree_in_scope f v [] no_tree = no_handle
+each_tree_in_scope f v (x ∷ xs) (and_tree t ts) = and_handle (constant_tree t) (each_tree_in_scope f v xs ts)
+
+-- the standings of handles say what the rules do at a point
+record Tracks (f : Function) (at : Point) (s : Handles) : Type 0 where
+  pub used : (h : ℕ) → (IsTrue (usable f s h) ↔ InScope f at.visible h)
+  pub given : (h : ℕ) → ((is_new (s h) ≡ false) ↔ WasGiven f at h)
+  pub trees : (h : ℕ) → s h ≡ Everywhere → IsCompound f h
+  pub passed : (h : ℕ) → IsAmong h at.visible → IsAmong h at.passed
+
+each_parts : (f : Function) (v : List Given) (x : ℕ) (xs : List ℕ) →
+    EachInScope f v (x ∷ xs) → InScope f v x × EachInScope f v xs
+each_parts f v x xs (and_handle d ds) = (d, ds)
+
+each_used : (f : Function) (at : Point) (s : Handles) → Tracks f at s →
+    (xs : List ℕ) → (IsTrue (usable_all f s xs) ↔ EachInScope f at.visible xs)
+each_used f at s t [] = (λ u. no_handle, λ d. refl)
+each_used f at s t (x ∷ xs) =
+    let parts = both (usable f s x) (usable_all f s xs) (t.used x) (λ u. each_used f at s t xs) in
+    (λ u. and_handle (parts.0 u).0 (parts.0 u).1, λ d. parts.1 (each_parts f at.visible x xs d))
+
+if_used : (f : Function) (at : Point) (s : Handles) → Tracks f at s →
+    (o : Option ℕ) → (IsTrue (usable_if f s o) ↔ InScopeIf f at.visible o)
+if_used f at s t None = (λ u. tt, λ d. refl)
+if_used f at s t (Some h) = t.used h
+
+-- one more handle is given
+abbrev with_given : Given → Point → Point
+with_given g at = record { visible = g ∷ at.visible; passed = g ∷ at.passed }
+
+given_more : (f : Function) (g : Given) (at : Point) (h : ℕ) → WasGiven f at h → WasGiven f (with_given g at) h
+given_more f g at h (in_sight a) = in_sight (inr a)
+given_more f g at h (as_a_tree p t a) = as_a_tree p t (inr a)
+
+given_less : (f : Function) (g : Given) (at : Point) (h : ℕ) →
+    (handle_of g ≡ h → ⊥) → WasGiven f (with_given g at) h → WasGiven f at h
+given_less f g at h n (in_sight a) = in_sight (⊎_elim (λ e. absurd (n e)) (λ a. a) a)
+given_less f g at h n (as_a_tree p t a) = as_a_tree p t (⊎_elim (λ e. absurd (n e)) (λ a. a) a)
+
+not_everywhere : (st : Standing) → is_new st ≡ false → st ≡ Everywhere → ⊥
+not_everywhere st n e = true≢false (sym (ap is_new e) ∙ n)
+
+-- this standing of a handle says what the rules do
+abbrev UsedAs : Function → List Given → ℕ → Standing → Type 0
+UsedAs f v h st = IsTrue (usable_as f (expression_of f h) st) ↔ InScope f v h
+
+-- one handle more is given, and has this standing
+module _ (f : Function) (g : Given) (st : Standing) (at : Point) (s : Handles)
+    (t : Tracks f at s) (here : UsedAs f (g ∷ at.visible) (handle_of g) st) (new : is_new st ≡ false) where
+  abbrev GivenAs : ℕ → Standing → Type 0
+  GivenAs k z = (is_new z ≡ false) ↔ WasGiven f (with_given g at) k
+
+  used_later : (k : ℕ) → UsedAs f (g ∷ at.visible) k (update s (handle_of g) st k)
+  used_later k =
+      update_cases (UsedAs f (g ∷ at.visible) k) s (handle_of g) st k
+      (λ e. subst (λ k. UsedAs f (g ∷ at.visible) k st) (sym e) here)
+      (λ n. (λ u. still g ((t.used k).0 u), λ d. (t.used k).1 (older f g at.visible k (λ e. n (sym e)) d)))
+
+  given_later : (k : ℕ) → GivenAs k (update s (handle_of g) st k)
+  given_later k =
+      update_cases (GivenAs k) s (handle_of g) st k (λ e. (λ i. in_sight (inl (sym e)), λ a. new))
+      (λ n. (
+        λ i. given_more f g at k ((t.given k).0 i),
+        λ a. (t.given k).1 (given_less f g at k (λ e. n (sym e)) a),
+      ))
+
+  trees_later : (k : ℕ) → update s (handle_of g) st k ≡ Everywhere → IsCompound f k
+  trees_later k =
+      update_cases (λ z. z ≡ Everywhere → IsCompound f k) s (handle_of g) st k
+      (λ e z. absurd (not_everywhere st new z)) (λ n. t.trees k)
+
+  tracks_given : Tracks f (with_given g at) (update s (handle_of g) st)
+  tracks_given =
+      record {
+        used = used_later;
+        given = given_later;
+        trees = trees_later;
+        passed = λ k a. ⊎_elim (λ e. inl e) (λ a. inr (t.passed k a)) a;
+      }
+
+-- an emitted operator that no name binds
+module _ (f : Function) (at : Point) (s : Handles) (h : ℕ) (t : Tracks f at s)
+    (p : IsTrue (is_pure (expression_of f h))) (b : binds f h ≡ false) where
+  each_operand : IsTrue (usable_all f s (operands_at f h)) ↔ EachInScope f at.visible (operands_at f h)
+  each_operand = each_used f at s t (operands_at f h)
+
+  stays : IsTrue (is_present (s h)) → InScope f (Emitted h ∷ at.visible) h
+  stays i = still (Emitted h) ((t.used h).0 (usable_pure f (expression_of f h) (s h) p ∙ i))
+
+  -- where an operand is out of scope it is present only if it was before
+  was_present : usable_all f s (operands_at f h) ≡ false →
+      InScope f (Emitted h ∷ at.visible) h → IsTrue (is_present (s h))
+  was_present u d =
+      ⊎_elim (λ d. sym (usable_pure f (expression_of f h) (s h) p) ∙ (t.used h).1 d)
+      (λ g. ⊎_elim (false_is_not_true (binds f h) b) (λ os. barred u (each_operand.1 os)) g.1)
+      (brought f (Emitted h) at.visible h d)
+    where
+      barred : usable_all f s (operands_at f h) ≡ false →
+          IsTrue (usable_all f s (operands_at f h)) → IsTrue (is_present (s h))
+      barred u i = false_is_not_true (usable_all f s (operands_at f h)) u i
+
+  inline_used : (u : Bool) → usable_all f s (operands_at f h) ≡ u →
+      (IsTrue (is_present (unbound u (s h))) ↔ InScope f (Emitted h ∷ at.visible) h)
+  inline_used true u = (λ i. written_out b p (each_operand.0 u), λ d. refl)
+  inline_used false u = go (s h) refl
+    where
+      go : (st : Standing) → s h ≡ st →
+          (IsTrue (is_present (unbound false st)) ↔ InScope f (Emitted h ∷ at.visible) h)
+      go Absent q = (λ i. absurd (true≢false (sym i)), λ d. ap is_present (sym q) ∙ was_present u d)
+      go Barred q = (λ i. absurd (true≢false (sym i)), λ d. ap is_present (sym q) ∙ was_present u d)
+      go Everywhere q = (λ i. stays (ap is_present q), λ d. refl)
+      go Inline q = (λ i. stays (ap is_present q), λ d. refl)
+      go (Named x) q = (λ i. stays (ap is_present q), λ d. refl)
+
+  inline_given : (u : Bool) → usable_all f s (operands_at f h) ≡ u → is_new (unbound u (s h)) ≡ false
+  inline_given true u = refl
+  inline_given false u = go (s h) refl
+    where
+      go : (st : Standing) → s h ≡ st → is_new (unbound false st) ≡ false
+      go Absent q = refl
+      go Barred q = refl
+      go Everywhere q =
+          let tree = t.trees h q in
+          let parts = each_tree_in_scope f at.visible (operands_at f h) (parts_of_tree f h tree.0 tree.1) in
+          false_is_not_true (usable_all f s (operands_at f h)) u (each_operand.1 parts)
+      go Inline q = refl
+      go (Named x) q = refl
+
+-- an emitted handle
+module _ (f : Function) (h : ℕ) (at : Point) (s : Handles) (t : Tracks f at s)
+    (m : IsTrue (is_emittable (expression_of f h))) (x : Bytes) where
+  abbrev Usable : Bool
+  Usable = usable_all f s (operands_at f h)
+
+  -- behind an Emit that gives nothing, or the handle
+  abbrev WithOne : Bool → Point
+  WithOne c =
+      record { visible = cond c at.visible (Emitted h ∷ at.visible); passed = cond c at.passed (Emitted h ∷ at.passed) }
+
+  tracks_kind : (b o : Bool) → binds f h ≡ b → is_pure (expression_of f h) ≡ o →
+      Tracks f (WithOne (not (b || o))) (emitted b o Usable x s h)
+  tracks_kind true o b p =
+      let present = usable_given f (expression_of f h) (Named x) (emittable_given (expression_of f h) m) in
+      tracks_given f (Emitted h) (Named x) at s t (λ i. bound b, λ d. present) refl
+  tracks_kind false true b p =
+      let same = usable_pure f (expression_of f h) (unbound Usable (s h)) p in
+      let here = inline_used f at s h t p b Usable refl in
+      let new = inline_given f at s h t p b Usable refl in
+      tracks_given f (Emitted h) (unbound Usable (s h)) at s t (λ i. here.0 (sym same ∙ i), λ d. same ∙ here.1 d) new
+  tracks_kind false false b p = t
+
+  tracks_emitted : Tracks f (behind_one f h at) (emitted (binds f h) (is_pure (expression_of f h)) Usable x s h)
+  tracks_emitted =
+      subst (λ c. Tracks f (WithOne c) (emitted (binds f h) (is_pure (expression_of f h)) Usable x s h))
+      (sym (unwritten_kind f h (expression_of f h) m))
+      (tracks_kind (binds f h) (is_pure (expression_of f h)) refl refl)
+
+-- a result
+result_used : (f : Function) (h : ℕ) (at : Point) (s : Handles) → Tracks f at s →
+    (x : Bytes) (b : Bool) → can_be_given (expression_of f h) ≡ b →
+    UsedAs f (AsResult h ∷ at.visible) h (Named x)
+result_used f h at s t x true m = (λ i. result m, λ d. usable_given f (expression_of f h) (Named x) m)
+result_used f h at s t x false m =
+    let e = expression_of f h in
+    let same = usable_alone f e (Named x) m ∙ sym (usable_alone f e (s h) m) in
+    let before = brought f (AsResult h) at.visible h in (
+      λ i. still (AsResult h) ((t.used h).0 (sym same ∙ i)),
+      λ d. same ∙ ⊎_elim (λ d. (t.used h).1 d) (λ g. false_is_not_true (can_be_given e) m g.1) (before d),
+    )
+
+tracks_result : (f : Function) (h : ℕ) (at : Point) (s : Handles) → Tracks f at s →
+    (x : Bytes) → Tracks f (with_given (AsResult h) at) (update s h (Named x))
+tracks_result f h at s t x =
+    let here = result_used f h at s t x (can_be_given (expression_of f h)) refl in
+    tracks_given f (AsResult h) (Named x) at s t here refl
+
+-- what may be given
+new_rule : (f : Function) (at : Point) (s : Handles) (h : ℕ) → Tracks f at s →
+    (IsTrue (is_new (s h)) ↔ (¬ WasGiven f at h))
+new_rule f at s h t = (
+  λ i g. false_is_not_true (is_new (s h)) ((t.given h).1 g) i,
+  λ n. true_from_ne_false (is_new (s h)) (λ e. n ((t.given h).0 e)),
+)
+
+may_emit_rule : (f : Function) (at : Point) (s : Handles) (h : ℕ) → Tracks f at s →
+    (IsTrue (may_emit f h s) ↔ MayEmit f at h)
+may_emit_rule f at s h t =
+    let e = expression_of f h in
+    let operands = usable_all f s (operands_of e) in
+    let asked = wanted (binds f h) operands (each_used f at s t (operands_of e)) in
+    let all = three (is_new (s h)) (is_emittable e) (not (binds f h) || operands)
+    (new_rule f at s h t) (λ i. (λ k. k, λ k. k)) (λ i j. asked) in (
+      λ i. record { kind = (all.0 i).1; new = (all.0 i).0; operands = (all.0 i).2 },
+      λ d. all.1 (d.new, d.kind, d.operands),
+    )
+
+emits_rule : (f : Naming) (k : ℕ) (at : Point) (s : Handles) (hs : List ℕ) → Tracks f.function at s →
+    (IsTrue (may_emit_all f k hs s) ↔ MayEmitEach f.function at hs)
+emits_rule f k at s [] t = (λ i. tt, λ d. refl)
+emits_rule f k at s (h ∷ hs) t =
+    let k1 = given_after f.function h k in
+    let s1 = after_one f k h s in
+    let here = may_emit_rule f.function at s h t in
+    both (may_emit f.function h s) (may_emit_all f k1 hs s1) here
+    (λ i. let t1 = tracks_emitted f.function h at s t (here.0 i).kind (bound_name f k h) in
+    emits_rule f k1 (behind_one f.function h at) s1 hs t1)
+
+result_rule : (f : Function) (at : Point) (s : Handles) (r : Option ℕ) → Tracks f at s →
+    (IsTrue (may_give r s) ↔ MayResult f at r)
+result_rule f at s None t = (λ i. tt, λ d. refl)
+result_rule f at s (Some h) t = new_rule f at s h t
+
+-- behind an Emit
+abbrev behind_each : Function → List ℕ → Point → Point
+behind_each f hs at = record { visible = with_emitted f hs at.visible; passed = with_emitted f hs at.passed }
+
+tracks_emit : (f : Naming) (k : ℕ) (hs : List ℕ) (at : Point) (s : Handles) → Tracks f.function at s →
+    IsTrue (may_emit_all f k hs s) →
+    Tracks f.function (behind_each f.function hs at) (after_emit f k hs s)
+tracks_emit f k [] at s t i = t
+tracks_emit f k (h ∷ hs) at s t i =
+    let k1 = given_after f.function h k in
+    let s1 = after_one f k h s in
+    let first = may_emit f.function h s in
+    let rest = may_emit_all f k1 hs s1 in
+    let kind = ((may_emit_rule f.function at s h t).0 (and_left first rest i)).kind in
+    let t1 = tracks_emitted f.function h at s t kind (bound_name f k h) in
+    tracks_emit f k1 hs (behind_one f.function h at) s1 t1 (and_right first rest i)
+
+-- behind a statement
+tracks_after : (f : Naming) (k : ℕ) (st : Statement) (at : Point) (s : Handles) → Tracks f.function at s →
+    IsTrue (fits f k st s) → Tracks f.function (behind f.function st at) (after f k st s)
+tracks_after f k (Emit first count) at s t i = tracks_emit f k (from first count) at s t i
+tracks_after f k (Act a xs (Some h)) at s t i = tracks_result f.function h at s t (f.names.numbered h)
+tracks_after f k (Act a xs None) at s t i = t
+tracks_after f k _ at s t i = t
+
+-- what was given stays given
+among_emitted : (f : Function) (hs : List ℕ) (v : List Given) (k : ℕ) → IsAmong k v → IsAmong k (with_emitted f hs v)
+among_emitted f [] v k a = a
+among_emitted f (h ∷ hs) v k a = among_emitted f hs (with_one f h v) k (one (is_unwritten f h (expression_of f h)))
+  where
+    one : (c : Bool) → IsAmong k (cond c v (Emitted h ∷ v))
+    one true = a
+    one false = inr a
+
+among_statement : (f : Function) (st : Statement) (v : List Given) (k : ℕ) →
+    IsAmong k v → IsAmong k (with_statement f st v)
+among_statement f (Emit first count) v k a = among_emitted f (from first count) v k a
+among_statement f (Act b xs (Some h)) v k a = inr a
+among_statement f (Act b xs None) v k a = a
+among_statement f _ v k a = a
+
+among_statements : (f : Function) (ss : Statements) (v : List Given) (k : ℕ) →
+    IsAmong k v → IsAmong k (with_statements f ss v)
+among_statements f end v k a = a
+among_statements f (then st ss) v k a =
+    among_statements f ss (with_statement f st v) k (among_statement f st v k a)
+
+everywhere_forgotten : (st now : Standing) → forgotten_one st now ≡ Everywhere → st ≡ Everywhere
+everywhere_forgotten Everywhere now e = refl
+everywhere_forgotten Absent now e = e
+everywhere_forgotten Barred now e = e
+everywhere_forgotten Inline now e = e
+everywhere_forgotten (Named x) now e = e
+
+new_forgotten : (now : Standing) → is_new (forgotten_one Everywhere now) ≡ is_new now
+new_forgotten now = go (is_new now)
+  where
+    go : (b : Bool) → is_new (cond b Everywhere Inline) ≡ b
+    go true = refl
+    go false = refl
+
+-- what is given from here to a later point of the list is forgotten, but that constant trees were given
+module _ (f : Function) (at later : Point) (s now : Handles) (t : Tracks f at s) (t1 : Tracks f later now)
+    (more : (h : ℕ) → IsAmong h at.passed → IsAmong h later.passed) where
+  abbrev Skipped : Point
+  Skipped = record { visible = at.visible; passed = later.passed }
+
+  given_longer : (h : ℕ) → WasGiven f at h → WasGiven f Skipped h
+  given_longer h (in_sight a) = in_sight a
+  given_longer h (as_a_tree p c a) = as_a_tree p c (more h a)
+
+  -- a constant tree that wasn't given before
+  tree_given : (h : ℕ) → s h ≡ Everywhere → ((is_new (now h) ≡ false) ↔ WasGiven f Skipped h)
+  tree_given h q = (λ i. onwards ((t1.given h).0 i), λ g. (t1.given h).1 (back g))
+    where
+      onwards : WasGiven f later h → WasGiven f Skipped h
+      onwards (in_sight a) = as_a_tree (t.trees h q).0 (t.trees h q).1 (t1.passed h a)
+      onwards (as_a_tree p c a) = as_a_tree p c a
+
+      back : WasGiven f Skipped h → WasGiven f later h
+      back (in_sight a) = absurd (not_everywhere (s h) ((t.given h).1 (in_sight a)) q)
+      back (as_a_tree p c a) = as_a_tree p c a
+
+  -- one that was, or what is no constant tree
+  present_tree : (h : ℕ) → IsTrue (is_pure (expression_of f h)) → IsConstantTree f h → IsTrue (is_present (s h))
+  present_tree h p c = sym (usable_pure f (expression_of f h) (s h) p) ∙ (t.used h).1 (constant_tree c)
+
+  abbrev GivenSkipped : ℕ → Standing → Type 0
+  GivenSkipped h st = (is_new st ≡ false) ↔ WasGiven f Skipped h
+
+  other_given : (h : ℕ) → (IsTrue (is_present (s h)) → is_new (s h) ≡ false) → GivenSkipped h (s h)
+  other_given h old = (λ i. given_longer h ((t.given h).0 i), back)
+    where
+      back : WasGiven f Skipped h → is_new (s h) ≡ false
+      back (in_sight a) = (t.given h).1 (in_sight a)
+      back (as_a_tree p c a) = old (present_tree h p c)
+
+  given_forgotten : (h : ℕ) (st : Standing) → s h ≡ st → GivenSkipped h (forgotten_one st (now h))
+  given_forgotten h Everywhere q =
+      let r = tree_given h q in
+      let same = new_forgotten (now h) in
+      (λ i. r.0 (sym same ∙ i), λ g. same ∙ r.1 g)
+  given_forgotten h Absent q =
+      subst (GivenSkipped h) q (other_given h (λ p. absurd (true≢false (sym p ∙ ap is_present q))))
+  given_forgotten h Barred q = subst (GivenSkipped h) q (other_given h (λ p. ap is_new q))
+  given_forgotten h Inline q = subst (GivenSkipped h) q (other_given h (λ p. ap is_new q))
+  given_forgotten h (Named x) q = subst (GivenSkipped h) q (other_given h (λ p. ap is_new q))
+
+  used_forgotten : (h : ℕ) → (IsTrue (usable f (forgotten s now) h) ↔ InScope f at.visible h)
+  used_forgotten h =
+      let st = forgotten_one (s h) (now h) in
+      let same = usable_alike f (expression_of f h) st (s h) (present_forgotten (s h) (now h)) in
+      (λ u. (t.used h).0 (sym same ∙ u), λ d. same ∙ (t.used h).1 d)
+
+  tracks_forgotten : Tracks f Skipped (forgotten s now)
+  tracks_forgotten =
+      record {
+        used = used_forgotten;
+        given = λ h. given_forgotten h (s h) refl;
+        trees = λ h e. t.trees h (everywhere_forgotten (s h) (now h) e);
+        passed = λ h a. more h (t.passed h a);
+      }
+
+-- a list whose first statement may hold a `continue`
+abbrev behind_first : Function → Bool → Statement → Statements → Point → Point
+behind_first f b st ss at =
+    record {
+      visible = with_statements f (cond b end (then st (unskipped ss))) at.visible;
+      passed = with_statements f (then st ss) at.passed;
+    }
+
+turn_first : (f : Function) (st : Statement) (ss : Statements) (at : Point) (s now : Handles) → Tracks f at s →
+    Tracks f (behind_turn f ss (behind f st at)) now → (b : Bool) →
+    Tracks f (behind_first f b st ss at) (forgotten_if b s now)
+turn_first f st ss at s now t t1 true =
+    let more = among_statements f (then st ss) at.passed in
+    tracks_forgotten f at (behind_turn f ss (behind f st at)) s now t t1 more
+turn_first f st ss at s now t t1 false = t1
+
+-- where a loop's body, or its `continuing`, leads
+tracks_turn : (f : Naming) (k : ℕ) (ss : Statements) (at : Point) (s : Handles) → Tracks f.function at s →
+    IsTrue (fits_all f k ss s) → Tracks f.function (behind_turn f.function ss at) (after_all f k ss s)
+tracks_turn f k end at s t i = t
+tracks_turn f k (then st ss) at s t i =
+    let k1 = given_by f.function st k in
+    let s1 = after f k st s in
+    let one = fits f k st s in
+    let others = fits_all f k1 ss s1 in
+    let t1 = tracks_after f k st at s t (and_left one others i) in
+    let rest = tracks_turn f k1 ss (behind f.function st at) s1 t1 (and_right one others i) in
+    turn_first f.function st ss at s (after_all f k1 ss s1) t rest (holds_continue st)
+
+-- the statements of a function
+mutual
+  statement_rule : (f : Naming) (k : ℕ) (st : Statement) (at : Point) (s : Handles) → Tracks f.function at s →
+      (IsTrue (fits f k st s) ↔ StatementHolds f.function at st)
+  statement_rule f k (Emit first count) at s t = emits_rule f k at s (from first count) t
+  statement_rule f k (Store p v) at s t =
+      both (usable f.function s p) (usable f.function s v) (t.used p) (λ i. t.used v)
+  statement_rule f k (Block b) at s t = statements_rule f k b at s t
+  statement_rule f k (If c a b) at s t =
+      let k1 = given_by_all f.function a k in
+      three (usable f.function s c) (fits_all f k a s) (fits_all f k1 b s) (t.used c)
+      (λ i. statements_rule f k a at s t) (λ i j. statements_rule f k1 b at s t)
+  statement_rule f k (Switch h cases) at s t =
+      both (usable f.function s h) (fits_cases f k cases s) (t.used h) (λ i. cases_rule f k cases at s t)
+  statement_rule f k (Loop b d e) at s t =
+      let s1 = after_all f k b s in
+      let k1 = given_by_all f.function b k in
+      let s2 = after_all f k1 d s1 in
+      let continuing = behind_turn f.function b at in
+      let break_if = behind_turn f.function d continuing in
+      three (fits_all f k b s) (fits_all f k1 d s1) (usable_if f.function s2 e)
+      (statements_rule f k b at s t)
+      (λ i. statements_rule f k1 d continuing s1 (tracks_turn f k b at s t i))
+      (λ i j. if_used f.function break_if s2 (tracks_turn f k1 d continuing s1 (tracks_turn f k b at s t i) j) e)
+  statement_rule f k (Return v) at s t = if_used f.function at s t v
+  statement_rule f k (Act a xs r) at s t =
+      both (usable_all f.function s xs) (may_give r s) (each_used f.function at s t xs)
+      (λ i. result_rule f.function at s r t)
+  statement_rule f k _ at s t = (λ i. tt, λ d. refl)
+
+  statements_rule : (f : Naming) (k : ℕ) (ss : Statements) (at : Point) (s : Handles) → Tracks f.function at s →
+      (IsTrue (fits_all f k ss s) ↔ StatementsHold f.function at ss)
+  statements_rule f k end at s t = (λ i. tt, λ d. refl)
+  statements_rule f k (then st ss) at s t =
+      let k1 = given_by f.function st k in
+      let s1 = after f k st s in
+      both (fits f k st s) (fits_all f k1 ss s1) (statement_rule f k st at s t)
+      (λ i. statements_rule f k1 ss (behind f.function st at) s1 (tracks_after f k st at s t i))
+
+  cases_rule : (f : Naming) (k : ℕ) (cs : Cases) (at : Point) (s : Handles) → Tracks f.function at s →
+      (IsTrue (fits_cases f k cs s) ↔ CasesHold f.function at cs)
+  cases_rule f k no_case at s t = (λ i. tt, λ d. refl)
+  cases_rule f k (case l b falls cs) at s t =
+      let k1 = given_by_all f.function b k in
+      both (fits_all f k b s) (fits_cases f k1 cs s) (statements_rule f k b at s t)
+      (λ i. cases_rule f k1 cs at s t)
+
+-- the start
+module _ (f : Function) (ordered : (h : ℕ) → AllBelow h (operands_at f h)) where
+  -- an operator that the test takes for a constant tree
+  abbrev Tested : ℕ → Bool
+  Tested h = is_pure (expression_of f h) && is_constant_below f (length f.expressions) h
+
+  tested_trees : (h : ℕ) → IsTrue (Tested h) → IsCompound f h
+  tested_trees h i =
+      let p = is_pure (expression_of f h) in
+      let c = is_constant_below f (length f.expressions) h in
+      (and_left p c i, tree_tested f (length f.expressions) h (and_right p c i))
+
+  start_everywhere : (b : Bool) → start_standing b ≡ Everywhere → IsTrue b
+  start_everywhere true e = refl
+  start_everywhere false e = absurd (absent e)
+    where
+      absent : Absent ≡ Everywhere → ⊥
+      absent e = cc
+
+  start_present : (b : Bool) → IsTrue (is_present (start_standing b)) → IsTrue b
+  start_present true i = refl
+  start_present false i = i
+
+  start_new : (b : Bool) → is_new (start_standing b) ≡ true
+  start_new true = refl
+  start_new false = refl
+
+  pure_within : (h : ℕ) → IsTrue (is_pure (expression_of f h)) → h < length f.expressions
+  pure_within h = go (expression_of f h) refl
+    where
+      go : (e : Option Expression) → expression_of f h ≡ e → IsTrue (is_pure e) → h < length f.expressions
+      go None q p = absurd (true≢false (sym p))
+      go (Some x) q p = slice_get_within f.expressions h x q
+
+  used_at_start : (h : ℕ) (e : Option Expression) → expression_of f h ≡ e →
+      IsTrue (usable_as f e (at_start f h)) → InScope f [] h
+  used_at_start h (Some (Constant c)) q u = constant_tree (one_constant c q)
+  used_at_start h (Some (Argument i)) q u = argument i q (ltb-true i (argument_count f) u)
+  used_at_start h (Some (Local i)) q u = local i q (ltb-true i (local_count f) u)
+  used_at_start h (Some (Global i)) q u = global i q
+  used_at_start h None q u = absurd (true≢false (sym u))
+  used_at_start h (Some _) q u = constant_tree (tested_trees h (start_present (Tested h) u)).1
+
+  in_scope_at_start : (h : ℕ) → InScope f [] h → IsTrue (usable f (at_start f) h)
+  in_scope_at_start h (constant_tree (one_constant c q)) = ap (λ e. usable_as f e (at_start f h)) q
+  in_scope_at_start h (constant_tree (over_constants p ts)) =
+      let e = expression_of f h in
+      let c = is_constant_below f (length f.expressions) h in
+      let here = test_tree f ordered (length f.expressions) h (pure_within h p) (over_constants p ts) in
+      usable_pure f e (at_start f h) p ∙ ap (λ b. is_present (start_standing b)) (and_both (is_pure e) c p here)
+  in_scope_at_start h (argument i q l) = ap (λ e. usable_as f e (at_start f h)) q ∙ lt-ltb i (argument_count f) l
+  in_scope_at_start h (local i q l) = ap (λ e. usable_as f e (at_start f h)) q ∙ lt-ltb i (local_count f) l
+  in_scope_at_start h (global i q) = ap (λ e. usable_as f e (at_start f h)) q
+
+  nothing_given : (h : ℕ) → ¬ WasGiven f entry_point h
+  nothing_given h (in_sight a) = a
+  nothing_given h (as_a_tree p t a) = a
+
+  tracks_start : Tracks f entry_point (at_start f)
+  tracks_start =
+      record {
+        used = λ h. (used_at_start h (expression_of f h) refl, in_scope_at_start h);
+        given = λ h. (λ i. absurd (true≢false (sym (start_new (Tested h)) ∙ i)), λ g. absurd (nothing_given h g));
+        trees = λ h e. tested_trees h (start_everywhere (Tested h) e);
+        passed = λ h a. a;
+      }
+
+first_values_rule : (f : Function) → Tracks f entry_point (at_start f) → (os : List (Option ℕ)) →
+    (IsTrue (first_values_fit f os) ↔ FirstValuesHold f os)
+first_values_rule f t [] = (λ i. tt, λ d. refl)
+first_values_rule f t (o ∷ os) =
+    both (usable_if f (at_start f) o) (first_values_fit f os) (if_used f entry_point (at_start f) t o)
+    (λ i. first_values_rule f t os)
+
+pub scope_check_is_the_rules : ScopeCheckIsTheRules
+scope_check_is_the_rules f ordered =
+    let start = at_start f.function in
+    let t = tracks_start f.function ordered in
+    let os = f.function.first_values in
+    let all = both (first_values_fit f.function os) (fits_all f 0 f.function.body start)
+    (first_values_rule f.function t os) (λ i. statements_rule f 0 f.function.body entry_point start t) in
+    (λ i. record { first_values = (all.0 i).0; body = (all.0 i).1 }, λ d. all.1 (d.first_values, d.body))

@@ -1,0 +1,198 @@
+-- The rules of scope: at which points of a function a handle may be used, and which handles a statement may give.
+-- They speak of a function alone, not of names or of how the rules are checked.
+use Rattle.std.specs.Prelude.{◌≡◌, ℕ, ◌<◌, Bool, true, false, cond, not, List, [], ◌∷◌, Option, Some, None, ◌⊎◌, ◌↔◌, IsTrue, IsFalse}
+use Rattle.shader_runs.specs.Program.{ConstantTree, Expression, Constant, Argument, Local, Global, Load, Request, Result, Statement, Emit, Store, Block, If, Switch, Loop, Return, Act, Statements, end, then, Cases, no_case, case, Function, argument_count, local_count, expression_of, operands_of, is_counted, is_asked, binds, from, holds_continue}
+use Rattle.shader_runs.specs.Scope.{Naming, is_pure, is_emittable, fits_function}
+use Rattle.shader_runs.specs.Premises.{AllBelow}
+
+-- a handle that a statement gave, by an Emit or as its result
+pub data Given : Type 0 where
+  Emitted : (handle : ℕ) → Given
+  AsResult : (handle : ℕ) → Given
+
+-- the handle that was given
+abbrev pub handle_of : Given → ℕ
+handle_of (Emitted h) = h
+handle_of (AsResult h) = h
+
+-- the handle is one of those that were given
+abbrev pub IsAmong : ℕ → List Given → Type 0
+IsAmong h [] = ⊥
+IsAmong h (g ∷ gs) = (handle_of g ≡ h) ⊎ IsAmong h gs
+
+mutual
+  -- a constant tree: a constant, or a pure operator over constant trees alone
+  pub data IsConstantTree (f : Function) : ℕ → Type 0 where
+    one_constant : {h : ℕ} (e : ConstantTree) →
+        expression_of f h ≡ Some (Constant e) → IsConstantTree f h
+    over_constants : {h : ℕ} → IsTrue (is_pure (expression_of f h)) →
+        AreConstantTrees f (operands_of (expression_of f h)) → IsConstantTree f h
+
+  pub data AreConstantTrees (f : Function) : List ℕ → Type 0 where
+    no_tree : AreConstantTrees f []
+    and_tree : {h : ℕ} {hs : List ℕ} →
+        IsConstantTree f h → AreConstantTrees f hs → AreConstantTrees f (h ∷ hs)
+
+-- what statements give: an Emit operators and reads, and others their `Result`. The rest is there by itself
+abbrev pub can_be_given : Option Expression → Bool
+can_be_given (Some Result) = true
+can_be_given e = is_emittable e
+
+mutual
+  -- the handle is in scope, so that it may be used, where these were given, the latest first
+  pub data InScope (f : Function) : List Given → ℕ → Type 0 where
+    -- everywhere: constant trees, and each argument, local and global
+    constant_tree : {given : List Given} {h : ℕ} → IsConstantTree f h → InScope f given h
+    argument : {given : List Given} {h : ℕ} (i : ℕ) →
+        expression_of f h ≡ Some (Argument i) → i < argument_count f → InScope f given h
+    local : {given : List Given} {h : ℕ} (i : ℕ) →
+        expression_of f h ≡ Some (Local i) → i < local_count f → InScope f given h
+    global : {given : List Given} {h : ℕ} (i : ℕ) →
+        expression_of f h ≡ Some (Global i) → InScope f given h
+    -- behind its Emit, if a `let` binds it
+    bound : {given : List Given} {h : ℕ} → IsTrue (binds f h) → InScope f (Emitted h ∷ given) h
+    -- behind its Emit, if it is an operator that no `let` binds and its operands were in scope there:
+    -- it is written out where it is used
+    written_out : {given : List Given} {h : ℕ} →
+        IsFalse (binds f h) → IsTrue (is_pure (expression_of f h)) →
+        EachInScope f given (operands_of (expression_of f h)) → InScope f (Emitted h ∷ given) h
+    -- behind the statement whose result it is
+    result : {given : List Given} {h : ℕ} →
+        IsTrue (can_be_given (expression_of f h)) → InScope f (AsResult h ∷ given) h
+    -- and it stays in scope as more is given
+    still : {given : List Given} {h : ℕ} (g : Given) → InScope f given h → InScope f (g ∷ given) h
+
+  pub data EachInScope (f : Function) : List Given → List ℕ → Type 0 where
+    no_handle : {given : List Given} → EachInScope f given []
+    and_handle : {given : List Given} {h : ℕ} {hs : List ℕ} →
+        InScope f given h → EachInScope f given hs → EachInScope f given (h ∷ hs)
+
+-- the handle is in scope, if one is wanted
+abbrev pub InScopeIf : Function → List Given → Option ℕ → Type 0
+InScopeIf f given None = Unit {0}
+InScopeIf f given (Some h) = InScope f given h
+
+-- the reads that are never in scope: they count nowhere and have no name, so they are not written.
+-- Their Emit is allowed, and gives nothing
+abbrev pub is_unwritten : Function → ℕ → Option Expression → Bool
+is_unwritten f h (Some (Load p)) = not (is_counted f 1 h)
+is_unwritten f h (Some (Request a w xs es)) = not (is_asked f h a)
+is_unwritten f h _ = false
+
+-- what was given, one emitted handle later
+abbrev pub with_one : Function → ℕ → List Given → List Given
+with_one f h given = cond (is_unwritten f h (expression_of f h)) given (Emitted h ∷ given)
+
+-- all of an Emit's handles later
+abbrev pub with_emitted : Function → List ℕ → List Given → List Given
+with_emitted f [] given = given
+with_emitted f (h ∷ hs) given = with_emitted f hs (with_one f h given)
+
+-- a statement later. What is given in a block inside it is given to the end of that block only
+abbrev pub with_statement : Function → Statement → List Given → List Given
+with_statement f (Emit first count) given = with_emitted f (from first count) given
+with_statement f (Act a xs (Some h)) given = AsResult h ∷ given
+with_statement f _ given = given
+
+-- a list of statements later
+abbrev pub with_statements : Function → Statements → List Given → List Given
+with_statements f end given = given
+with_statements f (then st ss) given = with_statements f ss (with_statement f st given)
+
+-- the statements of a list before its first that holds a `continue` of this loop: no `continue` skips them
+abbrev pub unskipped : Statements → Statements
+unskipped end = end
+unskipped (then st ss) = cond (holds_continue st) end (then st (unskipped ss))
+
+-- a point of a function: what was given before it in its block and the enclosing ones, the latest first.
+-- visible: with what a loop's body gave before a `continue` can skip it, if the point is in `continuing`.
+-- passed: with all that the body's own list gave, since the body encloses its `continuing`
+pub record Point : Type 0 where
+  pub visible : List Given
+  pub passed : List Given
+
+-- where a function starts
+abbrev pub entry_point : Point
+entry_point = record { visible = []; passed = [] }
+
+-- behind an emitted handle
+abbrev pub behind_one : Function → ℕ → Point → Point
+behind_one f h at = record { visible = with_one f h at.visible; passed = with_one f h at.passed }
+
+-- behind a statement
+abbrev pub behind : Function → Statement → Point → Point
+behind f st at =
+    record { visible = with_statement f st at.visible; passed = with_statement f st at.passed }
+
+-- where `continuing` stands behind a loop's body, and `break if` behind both
+abbrev pub behind_turn : Function → Statements → Point → Point
+behind_turn f ss at =
+    record {
+      visible = with_statements f (unskipped ss) at.visible;
+      passed = with_statements f ss at.passed;
+    }
+
+-- the handle can't be given at this point: it was given before in this block or an enclosing one.
+-- For a constant tree that isn't a constant by itself all counts that was passed
+pub data WasGiven (f : Function) (at : Point) (h : ℕ) : Type 0 where
+  in_sight : IsAmong h at.visible → WasGiven f at h
+  as_a_tree : IsTrue (is_pure (expression_of f h)) → IsConstantTree f h →
+      IsAmong h at.passed → WasGiven f at h
+
+-- an Emit may give the handle: it is an operator or a read, it was not given before, and if a `let` binds it
+-- its operands are in scope
+pub record MayEmit (f : Function) (at : Point) (h : ℕ) : Type 0 where
+  pub kind : IsTrue (is_emittable (expression_of f h))
+  pub new : ¬ WasGiven f at h
+  pub operands : IsTrue (binds f h) → EachInScope f at.visible (operands_of (expression_of f h))
+
+-- an Emit may give these handles, one after the other
+abbrev pub MayEmitEach : Function → Point → List ℕ → Type 0
+MayEmitEach f at [] = Unit {0}
+MayEmitEach f at (h ∷ hs) = MayEmit f at h × MayEmitEach f (behind_one f h at) hs
+
+-- a statement may give its result, if it has one: it was not given before
+abbrev pub MayResult : Function → Point → Option ℕ → Type 0
+MayResult f at None = Unit {0}
+MayResult f at (Some h) = ¬ WasGiven f at h
+
+-- each operand is in scope where it is used, and each Emit and each result may be given where it stands
+abbrev mutual
+  pub StatementHolds : Function → Point → Statement → Type 0
+  StatementHolds f at (Emit first count) = MayEmitEach f at (from first count)
+  StatementHolds f at (Store p v) = InScope f at.visible p × InScope f at.visible v
+  StatementHolds f at (Block b) = StatementsHold f at b
+  StatementHolds f at (If c a b) =
+      InScope f at.visible c × StatementsHold f at a × StatementsHold f at b
+  StatementHolds f at (Switch h cases) = InScope f at.visible h × CasesHold f at cases
+  StatementHolds f at (Loop b d e) =
+      let continuing = behind_turn f b at in
+      let break_if = behind_turn f d continuing in
+      StatementsHold f at b × StatementsHold f continuing d × InScopeIf f break_if.visible e
+  StatementHolds f at (Return v) = InScopeIf f at.visible v
+  StatementHolds f at (Act a xs r) = EachInScope f at.visible xs × MayResult f at r
+  StatementHolds f at _ = Unit {0}
+
+  pub StatementsHold : Function → Point → Statements → Type 0
+  StatementsHold f at end = Unit {0}
+  StatementsHold f at (then st ss) = StatementHolds f at st × StatementsHold f (behind f st at) ss
+
+  pub CasesHold : Function → Point → Cases → Type 0
+  CasesHold f at no_case = Unit {0}
+  CasesHold f at (case l b falls cs) = StatementsHold f at b × CasesHold f at cs
+
+-- the first values of locals are used where the function starts
+abbrev pub FirstValuesHold : Function → List (Option ℕ) → Type 0
+FirstValuesHold f [] = Unit {0}
+FirstValuesHold f (o ∷ os) = InScopeIf f entry_point.visible o × FirstValuesHold f os
+
+-- the rules of scope hold in the whole function
+pub record ScopeHolds (f : Function) : Type 0 where
+  pub first_values : FirstValuesHold f f.first_values
+  pub body : StatementsHold f entry_point f.body
+
+-- where operands stand before their expressions, the check of scope holds of a function exactly if these rules do
+abbrev pub ScopeCheckIsTheRules : Type 0
+ScopeCheckIsTheRules =
+    (f : Naming) → ((h : ℕ) → AllBelow h (operands_of (expression_of f.function h))) →
+    (IsTrue (fits_function f) ↔ ScopeHolds f.function)
