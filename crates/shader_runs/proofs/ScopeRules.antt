@@ -6,7 +6,7 @@ use Rattle.std.proofs.lemmas.Option.{slice_get_within}
 use Rattle.shader_runs.specs.Value.{Bytes}
 use Rattle.shader_runs.specs.World.{update}
 use Rattle.shader_runs.specs.Program.{Expression, Constant, Argument, Local, Global, Load, Request, Result, Statement, Emit, Store, Block, If, Switch, Loop, Return, Act, Statements, end, then, Cases, no_case, case, Function, argument_count, local_count, expression_of, operands_of, is_counted, is_asked, binds_as, binds, from, holds_continue}
-use Rattle.shader_runs.specs.Scope.{Standing, Absent, Barred, Everywhere, Inline, Named, Handles, Naming, bound_name, is_present, is_new, usable_as, usable, usable_all, usable_if, is_pure, all_constant, is_constant_leaf, constant_test, is_constant_below, start_standing, at_start, unbound, emitted, after_one, given_after, given_by, given_by_all, after_emit, after, forgotten, forgotten_one, forgotten_if, after_all, is_emittable, may_emit, may_emit_all, may_give, fits, fits_all, fits_cases, first_values_fit}
+use Rattle.shader_runs.specs.Scope.{Standing, Absent, Barred, Everywhere, Inline, Named, Handles, Naming, before_local, bound_name, is_present, is_new, usable_as, usable, usable_all, usable_if, is_pure, all_constant, is_constant_leaf, constant_test, is_constant_below, start_standing, at_start, unbound, emitted, after_one, given_after, given_by, given_by_all, after_emit, after, forgotten, forgotten_one, forgotten_if, after_all, is_emittable, may_emit, may_emit_all, may_give, fits, fits_all, fits_cases, first_values_fit}
 use Rattle.shader_runs.specs.Premises.{AllBelow}
 use Rattle.shader_runs.specs.ScopeRules.{Given, Emitted, AsResult, handle_of, IsAmong, IsConstantTree, one_constant, over_constants, AreConstantTrees, no_tree, and_tree, can_be_given, InScope, constant_tree, argument, local, global, bound, written_out, result, still, EachInScope, no_handle, and_handle, InScopeIf, is_unwritten, with_one, with_emitted, with_statement, with_statements, unskipped, Point, entry_point, behind_one, behind, behind_turn, WasGiven, in_sight, as_a_tree, MayEmit, MayEmitEach, MayResult, StatementHolds, StatementsHold, CasesHold, FirstValuesHold, ScopeCheckIsTheRules}
 use Rattle.shader_runs.proofs.Update.{and_left, and_right, and_both, update_cases}
@@ -657,18 +657,20 @@ module _ (f : Function) (ordered : (h : ℕ) → AllBelow h (operands_at f h)) w
         passed = λ h a. a;
       }
 
-first_values_rule : (f : Function) → Tracks f entry_point (at_start f) → (os : List (Option ℕ)) →
-    (IsTrue (first_values_fit f os) ↔ FirstValuesHold f os)
-first_values_rule f t [] = (λ i. tt, λ d. refl)
-first_values_rule f t (o ∷ os) =
-    both (usable_if f (at_start f) o) (first_values_fit f os) (if_used f entry_point (at_start f) t o)
-    (λ i. first_values_rule f t os)
+first_values_rule : (f : Function) → ((h : ℕ) → AllBelow h (operands_of (expression_of f h))) →
+    (i : ℕ) (os : List (Option ℕ)) → (IsTrue (first_values_fit f i os) ↔ FirstValuesHold f i os)
+first_values_rule f ordered i [] = (λ t. tt, λ d. refl)
+first_values_rule f ordered i (o ∷ os) =
+    let here = before_local f i in
+    both (usable_if here (at_start f) o) (first_values_fit f (suc i) os)
+    (if_used here entry_point (at_start f) (tracks_start here ordered) o)
+    (λ t. first_values_rule f ordered (suc i) os)
 
 pub scope_check_is_the_rules : ScopeCheckIsTheRules
 scope_check_is_the_rules f ordered =
     let start = at_start f.function in
     let t = tracks_start f.function ordered in
     let os = f.function.first_values in
-    let all = both (first_values_fit f.function os) (fits_all f 0 f.function.body start)
-    (first_values_rule f.function t os) (λ i. statements_rule f 0 f.function.body entry_point start t) in
+    let all = both (first_values_fit f.function 0 os) (fits_all f 0 f.function.body start)
+    (first_values_rule f.function ordered 0 os) (λ i. statements_rule f 0 f.function.body entry_point start t) in
     (λ i. record { first_values = (all.0 i).0; body = (all.0 i).1 }, λ d. all.1 (d.first_values, d.body))

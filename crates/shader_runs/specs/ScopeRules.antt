@@ -1,8 +1,8 @@
 -- The rules of scope: at which points of a function a handle may be used, and which handles a statement may give.
 -- They speak of a function alone, not of names or of how the rules are checked.
-use Rattle.std.specs.Prelude.{◌≡◌, ℕ, ◌<◌, Bool, true, false, cond, not, List, [], ◌∷◌, Option, Some, None, ◌⊎◌, ◌↔◌, IsTrue, IsFalse}
+use Rattle.std.specs.Prelude.{◌≡◌, ℕ, suc, ◌<◌, Bool, true, false, cond, not, List, [], ◌∷◌, Option, Some, None, ◌⊎◌, ◌↔◌, IsTrue, IsFalse}
 use Rattle.shader_runs.specs.Program.{ConstantTree, Expression, Constant, Argument, Local, Global, Load, Request, Result, Statement, Emit, Store, Block, If, Switch, Loop, Return, Act, Statements, end, then, Cases, no_case, case, Function, argument_count, local_count, expression_of, operands_of, is_counted, is_asked, binds, from, holds_continue}
-use Rattle.shader_runs.specs.Scope.{Naming, is_pure, is_emittable, fits_function}
+use Rattle.shader_runs.specs.Scope.{Naming, is_pure, is_emittable, before_local, fits_function}
 use Rattle.shader_runs.specs.Premises.{AllBelow}
 
 -- a handle that a statement gave, by an Emit or as its result
@@ -181,14 +181,15 @@ abbrev mutual
   CasesHold f at no_case = Unit {0}
   CasesHold f at (case l b falls cs) = StatementsHold f at b × CasesHold f at cs
 
--- the first values of locals are used where the function starts
-abbrev pub FirstValuesHold : Function → List (Option ℕ) → Type 0
-FirstValuesHold f [] = Unit {0}
-FirstValuesHold f (o ∷ os) = InScopeIf f entry_point.visible o × FirstValuesHold f os
+-- the first values of locals, from the i-th on, are used where the function starts: each may name earlier locals only
+abbrev pub FirstValuesHold : Function → ℕ → List (Option ℕ) → Type 0
+FirstValuesHold f i [] = Unit {0}
+FirstValuesHold f i (o ∷ os) =
+    InScopeIf (before_local f i) entry_point.visible o × FirstValuesHold f (suc i) os
 
 -- the rules of scope hold in the whole function
 pub record ScopeHolds (f : Function) : Type 0 where
-  pub first_values : FirstValuesHold f f.first_values
+  pub first_values : FirstValuesHold f 0 f.first_values
   pub body : StatementsHold f entry_point f.body
 
 -- where operands stand before their expressions, the check of scope holds of a function exactly if these rules do
