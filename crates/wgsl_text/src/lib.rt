@@ -9,10 +9,12 @@ ghost use Rattle.wgsl_text.specs.LargeExamples.{LargePrograms};
 ghost use Rattle.wgsl_text.specs.Reading.{ReadsType, ReadsExpression, Reads, HasOneReading, type_layout, expression_layout, layout};
 ghost use Rattle.wgsl_text.specs.Refused.{Refused};
 ghost use Rattle.wgsl_text.specs.Rows.{TypeRows, OperatorRows, AccessRows, LineRows};
+ghost use Rattle.wgsl_text.specs.Spelled.{Spelled};
 ghost use Rattle.wgsl_text.specs.Spelling.{Spells, Begins};
 ghost use Rattle.wgsl_text.specs.Text.{text, tokens};
 ghost use Rattle.wgsl_text.specs.Token.{Piece, Token};
 ghost use Rattle.wgsl_text.specs.Tree.{TypeSpecifier, Expression, Program};
+ghost use Rattle.wgsl_text.specs.ValueWords.{ValueWords};
 
 /// The tokens of a text are those of its front, and then those of what stands behind it. The front is a blank, or
 /// the longest that spells a token, or a byte that begins none.
@@ -48,6 +50,17 @@ pub fn types_are_callees()
 /// The text of appended pieces is the appended texts.
 pub fn text_of_appended()
     ensures { (first second : List Piece) → text (first ++ second) ≡ text first ++ text second }
+{}
+
+/// The tables that the grammar shares with values of the IR have the words that `wgsl_words` gives these values, and
+/// no others.
+pub fn words_of_values()
+    ensures { ValueWords }
+{}
+
+/// The words, keywords, signs, suffixes and attributes of the grammar, spelled out.
+pub fn words_are_spelled()
+    ensures { Spelled }
 {}
 
 /// The texts of worked programs, byte for byte.
