@@ -20,10 +20,12 @@ use Rattle.naga_enumerations.specs.declared.types.Scalar.{Scalar}
 use Rattle.naga_enumerations.specs.declared.types.ScalarKind.{ScalarKind}
 use Rattle.naga_enumerations.specs.declared.types.ScalarKind.TheVariants as kind
 use Rattle.naga_flags.specs.declared.flags.StorageAccess.{StorageAccess}
-use Rattle.wgsl_words.specs.Words.{scalar_word, scalar_word_of, interpolation_word, sampling_word, role_word, format_word, builtin_word, space_word, image_access_word, has, atomic_bit, load_bit, store_bit}
+use Rattle.naga_operators.specs.declared.MathFunction.{MathFunction}
+use Rattle.naga_operators.specs.declared.MathFunction.TheVariants as math
+use Rattle.wgsl_words.specs.Words.{scalar_word, scalar_word_of, interpolation_word, sampling_word, role_word, format_word, builtin_word, space_word, image_access_word, math_word, has, atomic_bit, load_bit, store_bit}
 use Rattle.wgsl_text.specs.Tables.{scalar_words, sampled_words, address_space_words, access_words, format_words, role_words, builtin_value_words, interpolation_words, sampling_words}
 use Rattle.wgsl_text.specs.ValueWords.{AreTheWordsOf, ValueWords}
-use Rattle.wgsl_text.specs.Words.{stands_in}
+use Rattle.wgsl_text.specs.Words.{stands_in, is_builtin}
 use Rattle.wgsl_text.proofs.WordLemmas.{either}
 
 -- a word, where there is one, stands in the table
@@ -109,6 +111,15 @@ access_stands false true true = refl
 access_stands false true false = refl
 access_stands false false z = refl
 
+abbrev builtin_if_there : Option (List ℕ) → Bool
+builtin_if_there None = true
+builtin_if_there (Some w) = is_builtin w
+
+function_is_builtin : (f : MathFunction) → builtin_if_there (math_word f) ≡ true
+unfolding is_builtin
+function_is_builtin math.Abs = refl
+function_is_builtin _ = refl
+
 -- what may be done with a storage image, as bits
 bits : ℕ → StorageAccess
 bits n = record { 0 = n }
@@ -145,4 +156,5 @@ value_words = record {
       space.IncomingRayPayload ∷ space.RayPayload ∷ []) refl;
   accesses = are_the_words (λ a. Some (image_access_word a)) access_words
       (λ a. access_stands (has atomic_bit a) (has load_bit a) (has store_bit a)) (bits 1 ∷ bits 0 ∷ bits 3 ∷ bits 4 ∷ []) refl;
+  functions = λ f w is. ap builtin_if_there (sym is) ∙ function_is_builtin f;
 }

@@ -1,10 +1,10 @@
 -- A tree for each row of the grammar, and beside it its text.
 use Rattle.std.specs.Prelude.{◌≡◌, ℕ, true, false, List, [], ◌∷◌, ◌++◌, codes, None, Some}
 use Rattle.wgsl_text.specs.Token.{SuffixI, SuffixLi, SuffixLu}
-use Rattle.wgsl_text.specs.Tree.{Truth, Suffixed, SignedShort, UnsignedShort, LeastInteger, LeastLong, Add, Subtract, Multiply, Divide, Modulo, Equal, NotEqual, Less, LessEqual, Greater, GreaterEqual, And, ExclusiveOr, InclusiveOr, LogicalAnd, LogicalOr, ShiftLeft, ShiftRight, Negate, LogicalNot, BitwiseNot, TypeSpecifier, Expression, Constant, Binary, Unary, Call, Index, IndexAt, AddressOf, Dereference, NoArguments, Argument, NumberArgument, ZeroArgument, DefaultLabel, SignedLabel, UnsignedLabel, LastLabel, MoreLabels, Assign, CallStatement, Return, ReturnValue, Discard, Break, If, Loop, Switch, Block, NoStatements, NoCases, Case, Invariant, PerPrimitive, Coherent, Volatile, Vertex, Fragment, Task, RayGeneration, AnyHit, ClosestHit, Miss, Location, BlendSource, Id, Group, Binding, Size, Align, Builtin, Interpolate, Mesh, Payload, IncomingPayload, Plain, Numbered, WorkgroupSize, NoResult, ResultOf, NoSpace, Program, no_declarations}
+use Rattle.wgsl_text.specs.Tree.{Truth, Suffixed, SignedShort, UnsignedShort, LeastInteger, LeastLong, Add, Subtract, Multiply, Divide, Modulo, Equal, NotEqual, Less, LessEqual, Greater, GreaterEqual, And, ExclusiveOr, InclusiveOr, LogicalAnd, LogicalOr, ShiftLeft, ShiftRight, Negate, LogicalNot, BitwiseNot, TypeSpecifier, Expression, Constant, Binary, Unary, Call, Index, IndexAt, AddressOf, Dereference, NoArguments, Argument, NumberArgument, ZeroArgument, DefaultLabel, SignedLabel, UnsignedLabel, LastLabel, MoreLabels, Assign, CallStatement, Return, ReturnValue, Discard, Break, If, Loop, Switch, Block, NoStatements, NoCases, Case, Invariant, PerPrimitive, Coherent, Volatile, Vertex, Fragment, Task, RayGeneration, AnyHit, ClosestHit, Miss, Location, BlendSource, Id, Group, Binding, Size, Align, Builtin, Interpolate, Mesh, Payload, IncomingPayload, Plain, Numbered, WorkgroupSize, NoResult, ResultOf, NoSpace, Program, no_declarations, operands}
 use Rattle.wgsl_text.specs.Grammar.{IsType, IsExpression}
 use Rattle.wgsl_text.specs.Reading.{type_layout, expression_layout}
-use Rattle.wgsl_text.specs.Examples.{named, template, sized, member_of, bound, typed, bound_parameter, worded, interpolated, member, struct, constant, override, space, global, entry_point, name, integer, unsigned, operands, call, statements, parameter, local, function, of_functions, IsText}
+use Rattle.wgsl_text.specs.Examples.{named, template, sized, member_of, bound, typed, bound_parameter, worded, interpolated, member, struct, constant, override, space, global, entry_point, name, integer, unsigned, call, statements, parameter, local, function, of_functions, IsText}
 
 -- The tree is a type, and these bytes are its layout.
 pub record IsTypeText (t : TypeSpecifier) (bytes : List ℕ) : Type 0 where

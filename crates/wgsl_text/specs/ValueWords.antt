@@ -1,8 +1,9 @@
 -- The words that the grammar shares with the values of the IR.
 use Rattle.std.specs.Prelude.{◌≡◌, ℕ, List, Option, Some, IsTrue}
-use Rattle.wgsl_words.specs.Words.{scalar_word, scalar_word_of, interpolation_word, sampling_word, role_word, format_word, builtin_word, space_word, image_access_word}
+use Rattle.naga_operators.specs.declared.MathFunction.{MathFunction}
+use Rattle.wgsl_words.specs.Words.{scalar_word, scalar_word_of, interpolation_word, sampling_word, role_word, format_word, builtin_word, space_word, image_access_word, math_word}
 use Rattle.wgsl_text.specs.Tables.{scalar_words, sampled_words, address_space_words, access_words, format_words, role_words, builtin_value_words, interpolation_words, sampling_words}
-use Rattle.wgsl_text.specs.Words.{stands_in}
+use Rattle.wgsl_text.specs.Words.{stands_in, is_builtin}
 
 -- Each value's word stands in the table, and each word of the table is that of a value.
 pub record AreTheWordsOf {A : Type 0} (word : A → Option (List ℕ)) (words : List (List ℕ)) : Type 0 where
@@ -21,3 +22,5 @@ pub record ValueWords : Type 0 where
   pub samplings : AreTheWordsOf (λ sampling. Some (sampling_word sampling)) sampling_words
   pub spaces : AreTheWordsOf space_word address_space_words
   pub accesses : AreTheWordsOf (λ access. Some (image_access_word access)) access_words
+  -- the functions of mathematics are among the built-in words
+  pub functions : (function : MathFunction) (w : List ℕ) → math_word function ≡ Some w → IsTrue (is_builtin w)

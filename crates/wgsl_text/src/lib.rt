@@ -1,20 +1,22 @@
 //! What WGSL text is: its tokens, its trees, and the layout of a tree. The public functions are laws.
 #![tactic(auto)]
 
-ghost use Rattle.std.specs.Prelude.{◌≡◌, ℕ, List, [], ◌∷◌, ◌++◌};
+ghost use Rattle.std.specs.Prelude.{◌≡◌, ◌<◌, ℕ, List, [], ◌∷◌, ◌++◌, IsTrue};
 ghost use Rattle.wgsl_text.specs.Examples.{WorkedPrograms};
 ghost use Rattle.wgsl_text.specs.Grammar.{IsType, IsCallee, IsExpression};
-ghost use Rattle.wgsl_text.specs.GrammarOfLines.{IsProgram};
+ghost use Rattle.wgsl_text.specs.GrammarOfLines.{Each, IsStatement, IsFunction, IsProgram};
 ghost use Rattle.wgsl_text.specs.LargeExamples.{LargePrograms};
-ghost use Rattle.wgsl_text.specs.Reading.{ReadsType, ReadsExpression, Reads, HasOneReading, type_layout, expression_layout, layout};
+ghost use Rattle.wgsl_text.specs.Reading.{ReadsType, ReadsExpression, ReadsStatement, ReadsFunction, Reads, HasOneReading, type_layout, expression_layout, statement_layout, function_layout, layout};
 ghost use Rattle.wgsl_text.specs.Refused.{Refused};
 ghost use Rattle.wgsl_text.specs.Rows.{TypeRows, OperatorRows, AccessRows, LineRows};
 ghost use Rattle.wgsl_text.specs.Spelled.{Spelled};
 ghost use Rattle.wgsl_text.specs.Spelling.{Spells, Begins};
+ghost use Rattle.wgsl_text.specs.Tables.{gather_words, level_words};
 ghost use Rattle.wgsl_text.specs.Text.{text, tokens};
 ghost use Rattle.wgsl_text.specs.Token.{Piece, Token};
-ghost use Rattle.wgsl_text.specs.Tree.{TypeSpecifier, Expression, Program};
+ghost use Rattle.wgsl_text.specs.Tree.{TypeSpecifier, Named, NumberArgument, Expression, Call, CallStatement, Statement, Function, Program, operands, operands_with_level};
 ghost use Rattle.wgsl_text.specs.ValueWords.{ValueWords};
+ghost use Rattle.wgsl_text.specs.Words.{stands_in, is_builtin};
 
 /// The tokens of a text are those of its front, and then those of what stands behind it. The front is a blank, or
 /// the longest that spells a token, or a byte that begins none.
@@ -36,6 +38,19 @@ pub fn one_reading_of_an_expression()
     ensures unique { (ts : List Token) (a b : Expression) → ReadsExpression ts a → ReadsExpression ts b → a ≡ b }
 {}
 
+/// The text of a statement, at any level, is read as that statement and no other, and no tokens are read as two
+/// statements.
+pub fn one_reading_of_a_statement()
+    ensures layout { (s : Statement) → IsStatement s → (level : ℕ) → HasOneReading ReadsStatement (statement_layout s level) s }
+    ensures unique { (ts : List Token) (a b : Statement) → ReadsStatement ts a → ReadsStatement ts b → a ≡ b }
+{}
+
+/// The text of a function is read as that function and no other, and no tokens are read as two functions.
+pub fn one_reading_of_a_function()
+    ensures layout { (f : Function) → IsFunction f → HasOneReading ReadsFunction (function_layout f) f }
+    ensures unique { (ts : List Token) (a b : Function) → ReadsFunction ts a → ReadsFunction ts b → a ≡ b }
+{}
+
 /// The text of a program is read as that program and no other, and no tokens are read as two programs.
 pub fn one_reading_of_a_program()
     ensures layout { (program : Program) → IsProgram program → HasOneReading Reads (layout program) program }
@@ -45,6 +60,21 @@ pub fn one_reading_of_a_program()
 /// What is a type may be called: a type's value is made by a call of it.
 pub fn types_are_callees()
     ensures { (t : TypeSpecifier) → IsType t → IsCallee t }
+{}
+
+/// What may be called, a word that is not reserved or a type, makes of expressions as its operands an expression, and
+/// a statement; and each built-in word is a word that is not reserved.
+pub fn called_words_are_expressions()
+    ensures expression { (t : TypeSpecifier) (es : List Expression) → IsCallee t → Each IsExpression es → IsExpression (Call t (operands es)) }
+    ensures statement { (t : TypeSpecifier) (es : List Expression) → IsCallee t → Each IsExpression es → IsStatement (CallStatement t (operands es)) }
+    ensures words { (w : List ℕ) → IsTrue (is_builtin w) → IsCallee (Named w) }
+{}
+
+/// A gather with the number of a component before its operands is an expression, and so is a sampling with the level
+/// `0.0` behind some of its operands.
+pub fn image_calls_are_expressions()
+    ensures gather { (w : List ℕ) (n : ℕ) (e : Expression) (es : List Expression) → IsTrue (stands_in gather_words w) → n < 4 → Each IsExpression (e ∷ es) → IsExpression (Call (Named w) (NumberArgument n (operands (e ∷ es)))) }
+    ensures level { (w : List ℕ) (e : Expression) (es more : List Expression) → IsTrue (stands_in level_words w) → Each IsExpression (e ∷ es) → Each IsExpression more → IsExpression (Call (Named w) (operands_with_level (e ∷ es) more)) }
 {}
 
 /// The text of appended pieces is the appended texts.
