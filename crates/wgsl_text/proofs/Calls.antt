@@ -1,6 +1,5 @@
 -- Calls with expressions as operands are expressions, and statements.
-use Rattle.std.proofs.Common.{◌≡◌, ℕ, ◌<◌, ◌^◌, Bool, true, ◌&&◌, ◌||◌, List, [], ◌∷◌, nat_lt, refl, ap, ◌∙◌, arith}
-use Rattle.std.specs.Prelude.{IsTrue}
+use Rattle.std.proofs.Common.{◌≡◌, ℕ, ◌<◌, true, ◌&&◌, ◌||◌, List, [], ◌∷◌, nat_lt, refl, ap, arith}
 use Rattle.std.proofs.lemmas.Bool.{and_from, or_right, lt-ltb}
 use Rattle.wgsl_text.specs.Grammar.{IsPlainNumber, IsCallee, IsExpression, IsArguments, are_expressions, have_a_zero, may_take}
 use Rattle.wgsl_text.specs.GrammarOfLines.{Each, IsStatement}

@@ -3,7 +3,7 @@ use Rattle.std.proofs.Common.{◌≡◌, ℕ, List, [], ◌∷◌, refl, sym, ap
 use Rattle.std.proofs.lemmas.List.{append-nil}
 use Rattle.wgsl_text.specs.Token.{Token, Piece, TokenPiece, Blank, LineEnd, Indent}
 use Rattle.wgsl_text.specs.Words.{is_builtin}
-use Rattle.wgsl_text.specs.Tree.{TypeSpecifier, Expression, Statement, Statements, NoStatements, Then, Function, Program, no_declarations}
+use Rattle.wgsl_text.specs.Tree.{TypeSpecifier, Expression, Statement, NoStatements, Then, Function, Program, no_declarations}
 use Rattle.wgsl_text.specs.Pieces.{type_pieces, expression_pieces}
 use Rattle.wgsl_text.specs.Lines.{statement_pieces}
 use Rattle.wgsl_text.specs.Declarations.{function_pieces, program_pieces}
