@@ -1,7 +1,8 @@
 -- What is spelled is a type of the grammar.
-use Rattle.std.proofs.Common.{◌≡◌, ℕ, zero, suc, Bool, true, false, not, ◌&&◌, ◌||◌, List, [], ◌∷◌, ◌++◌, Option, Some, None, refl, sym, ap, subst, ◌∙◌, codes, slice_get}
+use Rattle.std.proofs.Common.{◌≡◌, ℕ, zero, suc, Bool, true, false, not, ◌&&◌, List, Option, Some, None, refl, ap, subst, ◌∙◌, codes, slice_get}
 use Rattle.std.specs.Prelude.{if◌then◌else◌}
 use Rattle.std.specs.Str.{bytes_eq}
+use Rattle.std.specs.Int.NonZero.{non_zero_u32_get}
 use Rattle.std.specs.Option.{option_map}
 use Rattle.std.proofs.lemmas.Slice.Eq.{bytes_eq-Decides}
 use Rattle.std.proofs.lemmas.Bool.{and_from}
@@ -27,30 +28,19 @@ use Rattle.naga_ir.specs.declared.types.Type_.{Type_}
 use Rattle.naga_ir.specs.declared.types.TypeInner.{TypeInner}
 use Rattle.naga_ir.specs.declared.types.TypeInner.TheVariants as inner
 use Rattle.wgsl_text.specs.Grammar.{IsType, is_type, plain_type_words, TakesScalar, TakesSampled, TakesElements, TakesFormat, TakesRole, rule_among, type_templates}
-use Rattle.wgsl_text.specs.Tables.{scalar_words, depth_image_words, access_words, format_words, address_space_words, role_words, sampler_words, ray_words}
+use Rattle.wgsl_text.specs.Tables.{scalar_words, access_words, format_words, address_space_words, role_words}
 use Rattle.wgsl_text.specs.Tree.{TypeSpecifier, Named}
-use Rattle.wgsl_text.specs.Words.{IsWord, IsIdentifier, is_reserved, is_builtin, stands_in}
+use Rattle.wgsl_text.specs.Words.{IsWord, is_reserved, is_builtin, stands_in}
 use Rattle.wgsl_words.specs.Words.{scalar_word, scalar_word_of, space_word, space_access_word, image_access_word, role_word, format_word, has, atomic_bit, store_bit}
 use Rattle.wgsl_text.proofs.ValueWords.{value_words}
-use Rattle.wgsl_text.proofs.WordLemmas.{all_words, is_free, table_word, address_spaces_free, accesses_free}
+use Rattle.wgsl_text.proofs.TypeWords.{scalars_free, formats_free, plain_is, scalar_word_is, name_is, of_scalar_word_is, dynamic_is, sized_is, pointer_to_is}
+use Rattle.wgsl_text.proofs.WordLemmas.{table_word, address_spaces_free, accesses_free}
 use Rattle.type_spelling.specs.Readable.{LengthIsWithin, InnerIsWithin, ResolutionIsWithin, AreNamed}
 use Rattle.spelling_parts.specs.Words.{vector_word, matrix_word, cooperative_word, image_word, sampler_word}
 use Rattle.type_spelling.specs.Spelling.{is_struct}
 use Rattle.type_spelling.specs.Trees.{Names, of_one, of_two, scalar_tree, value_tree, pointer_tree, pointer_tree_in, value_pointer_tree_in, array_tree, image_tree, ray_tree, inner_tree_by, found_tree_by, tree_within, type_tree, resolution_tree}
 
 -- ---- words
-
-scalars_are_free : all_words is_free scalar_words ≡ true
-unfolding is_reserved
-scalars_are_free = refl
-
-formats_are_free : all_words is_free format_words ≡ true
-unfolding is_reserved
-formats_are_free = refl
-
-plain_are_free : all_words is_free plain_type_words ≡ true
-unfolding is_reserved
-plain_are_free = refl
 
 role_is : (r : CooperativeRole) → IsWord (role_word r)
 unfolding is_reserved
@@ -63,9 +53,6 @@ unfolding is_reserved
 vertex_return_is = record { text = refl; free = refl }
 
 -- ---- templates
-one_is : (word w : List ℕ) → rule_among type_templates word ≡ TakesScalar → stands_in scalar_words w ≡ true → IsType (of_one word (Named w))
-one_is word w rule scalar = record { part = (rw rule scalar, (table_word scalar_words w scalars_are_free scalar, tt)); whole = refl }
-
 vector_rule : (v : VectorSize) → rule_among type_templates (vector_word v) ≡ TakesScalar
 vector_rule Bi = refl
 vector_rule Tri = refl
@@ -88,41 +75,18 @@ cooperative_rule Eight Sixteen = refl
 cooperative_rule Sixteen Eight = refl
 cooperative_rule Sixteen Sixteen = refl
 
-in_front : (ws vs : List (List ℕ)) (w : List ℕ) → stands_in ws w ≡ true → stands_in (ws ++ vs) w ≡ true
-in_front [] vs w e = absurd (cc)
-in_front (v ∷ ws) vs w e = by (bytes_eq v w) refl (in_front ws vs w)
-  where
-    by : (b : Bool) → bytes_eq v w ≡ b → (stands_in ws w ≡ true → stands_in (ws ++ vs) w ≡ true) → (bytes_eq v w || stands_in (ws ++ vs) w) ≡ true
-    by true same more = ap (λ b. b || stands_in (ws ++ vs) w) same
-    by false same more = ap (λ b. b || stands_in (ws ++ vs) w) same ∙ more (sym (ap (λ b. b || stands_in ws w) same) ∙ e)
-
--- a word of the types of one word
-plain_is : (w : List ℕ) → stands_in plain_type_words w ≡ true → IsType (Named w)
-plain_is w plain = record { part = table_word plain_type_words w plain_are_free plain; whole = ap (λ b. b || not (is_builtin w)) plain }
-
-scalar_is_plain : (w : List ℕ) → stands_in scalar_words w ≡ true → stands_in plain_type_words w ≡ true
-scalar_is_plain w scalar = in_front scalar_words (sampler_words ++ (ray_words ++ depth_image_words)) w scalar
-
--- an identifier, as a struct's name
-name_is : (w : List ℕ) → IsIdentifier w → IsType (Named w)
-name_is w is = record { part = is.word; whole = by (stands_in plain_type_words w) (is_builtin w) is.own }
-  where
-    by : (a b : Bool) → b ≡ false → (a || not b) ≡ true
-    by true b e = refl
-    by false b e = ap not e
-
 -- ---- types that name no others
 scalar_tree_is : (s : Scalar) (t : TypeSpecifier) → scalar_tree s ≡ Some t → IsType t
 scalar_tree_is s t e =
     let w = map_some Named (scalar_word s) t e in
-    subst IsType w.2 (plain_is w.0 (scalar_is_plain w.0 (value_words.scalars.each s w.0 w.1)))
+    subst IsType w.2 (scalar_word_is w.0 (value_words.scalars.each s w.0 w.1))
 
 -- a word with a scalar
 of_scalar_is : (word : List ℕ) → rule_among type_templates word ≡ TakesScalar → (s : Scalar) (t : TypeSpecifier) → option_map (of_one word) (scalar_tree s) ≡ Some t → IsType t
 of_scalar_is word rule s t e =
     let x = map_some (of_one word) (scalar_tree s) t e in
     let w = map_some Named (scalar_word s) x.0 x.1 in
-    subst IsType (ap (of_one word) w.2 ∙ x.2) (one_is word w.0 rule (value_words.scalars.each s w.0 w.1))
+    subst IsType (ap (of_one word) w.2 ∙ x.2) (of_scalar_word_is word w.0 rule (value_words.scalars.each s w.0 w.1))
 
 value_tree_is : (v : Option VectorSize) (s : Scalar) (t : TypeSpecifier) → value_tree v s ≡ Some t → IsType t
 value_tree_is None s t e = scalar_tree_is s t e
@@ -134,7 +98,7 @@ cooperative_is c r l s t e =
     let w = map_some Named (scalar_word s) x.0 x.1 in
     let scalar = value_words.scalars.each s w.0 w.1 in
     subst IsType (ap (λ x. of_two (cooperative_word c r) x (Named (role_word l))) w.2 ∙ x.2)
-    (record { part = (rw (cooperative_rule c r) (and_from (stands_in scalar_words w.0) (stands_in role_words (role_word l)) scalar (value_words.roles.each l (role_word l) refl)), (table_word scalar_words w.0 scalars_are_free scalar, (role_is l, tt))); whole = refl })
+    (record { part = (rw (cooperative_rule c r) (and_from (stands_in scalar_words w.0) (stands_in role_words (role_word l)) scalar (value_words.roles.each l (role_word l) refl)), (table_word scalar_words w.0 scalars_free scalar, (role_is l, tt))); whole = refl })
 
 access_is : (x y : Bool) (m : List ℕ) → (if x then Some (codes "atomic") else (if y then Some (codes "read_write") else None)) ≡ Some m → stands_in access_words m ≡ true
 access_is true y m e = let same : codes "atomic" ≡ m = cc in rw (← same) refl
@@ -147,9 +111,7 @@ storage_is (space.Storage access) w m e f = (let same : codes "storage" ≡ w = 
 storage_is _ w m e f = absurd (cc)
 
 pointer_is : (a : AddressSpace) (w : List ℕ) → space_word a ≡ Some w → (o : Option (List ℕ)) → space_access_word a ≡ o → (x : TypeSpecifier) → IsType x → IsType (pointer_tree w o x)
-pointer_is a w at None access x is =
-    let known = value_words.spaces.each a w at in
-    record { part = (and_from (stands_in address_space_words w) (is_type x) known is.whole, (table_word address_space_words w address_spaces_free known, (is.part, tt))); whole = refl }
+pointer_is a w at None access x is = pointer_to_is w x (value_words.spaces.each a w at) is
 pointer_is a w at (Some m) access x is =
     let known = storage_is a w m at access in
     record {
@@ -225,7 +187,7 @@ image_tree_is dim arrayed (class.Sampled k multi) t e =
     let x = map_some (of_one word) (option_map Named (scalar_word_of k 4)) t e in
     let w = map_some Named (scalar_word_of k 4) x.0 x.1 in
     subst IsType (ap (of_one word) w.2 ∙ x.2)
-    (record { part = (rw (sampled_rule multi dim arrayed) (value_words.sampled.each k w.0 w.1), (table_word scalar_words w.0 scalars_are_free (value_words.scalars.each (record { kind = k; width = 4 }) w.0 w.1), tt)); whole = refl })
+    (record { part = (rw (sampled_rule multi dim arrayed) (value_words.sampled.each k w.0 w.1), (table_word scalar_words w.0 scalars_free (value_words.scalars.each (record { kind = k; width = 4 }) w.0 w.1), tt)); whole = refl })
 image_tree_is dim arrayed (class.Depth multi) t e =
     subst IsType (same_some (Named (image_word (codes "texture_depth_") multi dim arrayed)) t e) (plain_is (image_word (codes "texture_depth_") multi dim arrayed) (depth_is_plain multi dim arrayed))
 image_tree_is dim arrayed class.External t e = subst IsType (same_some (Named (codes "texture_external")) t e) (plain_is (codes "texture_external") refl)
@@ -236,7 +198,7 @@ image_tree_is dim arrayed (class.Storage f a) t e =
     (record {
       part = (
         rw (storage_rule dim arrayed) (and_from (stands_in format_words (format_word f)) (stands_in access_words (image_access_word a)) format access),
-        (table_word format_words (format_word f) formats_are_free format, (table_word access_words (image_access_word a) accesses_free access, tt)),
+        (table_word format_words (format_word f) formats_free format, (table_word access_words (image_access_word a) accesses_free access, tt)),
       );
       whole = refl;
     })
@@ -256,11 +218,11 @@ query_is false = plain_is (codes "ray_query") refl
 -- ---- types that name others
 module _ (n : Names) (count : ℕ) (named : AreNamed n count) where
   array_is : (word : List ℕ) → rule_among type_templates word ≡ TakesElements → (l : ArraySize) → LengthIsWithin count l → (x : TypeSpecifier) → IsType x → IsType (array_tree n word l x)
-  array_is word rule (size.Constant number) within x is = record { part = (rw rule is.whole, (is.part, (within, tt))); whole = refl }
+  array_is word rule (size.Constant number) within x is = sized_is word x (non_zero_u32_get number) rule is within
   array_is word rule (size.Pending o) within x is =
       let name = named.overrides o within in
       record { part = (rw rule (and_from (is_type x) (not (is_builtin (n.override_name o))) is.whole (ap not name.own)), (is.part, (name.word, tt))); whole = refl }
-  array_is word rule size.Dynamic within x is = record { part = (rw rule is.whole, (is.part, tt)); whole = refl }
+  array_is word rule size.Dynamic within x is = dynamic_is word x rule is
 
   array_tree_is : (word : List ℕ) → rule_among type_templates word ≡ TakesElements → (l : ArraySize) → LengthIsWithin count l → (o : Option TypeSpecifier) → ((x : TypeSpecifier) → o ≡ Some x → IsType x) → (t : TypeSpecifier) → option_map (array_tree n word l) o ≡ Some t → IsType t
   array_tree_is word rule l within o all t e =

@@ -1,9 +1,9 @@
 //! What WGSL text is: its tokens, its trees, and the layout of a tree. The public functions are laws.
 #![tactic(auto)]
 
-ghost use Rattle.std.specs.Prelude.{◌≡◌, ◌<◌, ℕ, List, [], ◌∷◌, ◌++◌, IsTrue};
+ghost use Rattle.std.specs.Prelude.{◌≡◌, ◌<◌, ℕ, List, [], ◌∷◌, ◌++◌, codes, IsTrue};
 ghost use Rattle.wgsl_text.specs.Examples.{WorkedPrograms};
-ghost use Rattle.wgsl_text.specs.Grammar.{IsType, IsCallee, IsExpression};
+ghost use Rattle.wgsl_text.specs.Grammar.{IsPlainNumber, IsType, IsCallee, IsExpression, TakesScalar, TakesElements, rule_among, type_templates, plain_type_words};
 ghost use Rattle.wgsl_text.specs.GrammarOfLines.{Each, IsStatement, IsFunction, IsProgram};
 ghost use Rattle.wgsl_text.specs.LargeExamples.{LargePrograms};
 ghost use Rattle.wgsl_text.specs.Reading.{ReadsType, ReadsExpression, ReadsStatement, ReadsFunction, Reads, HasOneReading, type_layout, expression_layout, statement_layout, function_layout, layout};
@@ -11,12 +11,12 @@ ghost use Rattle.wgsl_text.specs.Refused.{Refused};
 ghost use Rattle.wgsl_text.specs.Rows.{TypeRows, OperatorRows, AccessRows, LineRows};
 ghost use Rattle.wgsl_text.specs.Spelled.{Spelled};
 ghost use Rattle.wgsl_text.specs.Spelling.{Spells, Begins};
-ghost use Rattle.wgsl_text.specs.Tables.{gather_words, level_words};
+ghost use Rattle.wgsl_text.specs.Tables.{scalar_words, address_space_words, gather_words, level_words};
 ghost use Rattle.wgsl_text.specs.Text.{text, tokens};
 ghost use Rattle.wgsl_text.specs.Token.{Piece, Token};
-ghost use Rattle.wgsl_text.specs.Tree.{TypeSpecifier, Named, NumberArgument, Expression, Call, CallStatement, Statement, Function, Program, operands, operands_with_level};
+ghost use Rattle.wgsl_text.specs.Tree.{TypeSpecifier, Named, Template, NoParts, TypePart, SizePart, NumberArgument, Expression, Call, CallStatement, Statement, Function, Program, operands, operands_with_level};
 ghost use Rattle.wgsl_text.specs.ValueWords.{ValueWords};
-ghost use Rattle.wgsl_text.specs.Words.{stands_in, is_builtin};
+ghost use Rattle.wgsl_text.specs.Words.{IsIdentifier, stands_in, is_builtin};
 
 /// The tokens of a text are those of its front, and then those of what stands behind it. The front is a blank, or
 /// the longest that spells a token, or a byte that begins none.
@@ -60,6 +60,17 @@ pub fn one_reading_of_a_program()
 /// What is a type may be called: a type's value is made by a call of it.
 pub fn types_are_callees()
     ensures { (t : TypeSpecifier) → IsType t → IsCallee t }
+{}
+
+/// A word of the types of one word is a type, and so are an identifier, a word with the scalar that it takes, an array
+/// of a type and a pointer to one.
+pub fn words_are_types()
+    ensures plain { (w : List ℕ) → IsTrue (stands_in plain_type_words w) → IsType (Named w) }
+    ensures identifiers { (w : List ℕ) → IsIdentifier w → IsType (Named w) }
+    ensures scalars { (w s : List ℕ) → rule_among type_templates w ≡ TakesScalar → IsTrue (stands_in scalar_words s) → IsType (Template w (TypePart (Named s) NoParts)) }
+    ensures dynamic { (w : List ℕ) (t : TypeSpecifier) → rule_among type_templates w ≡ TakesElements → IsType t → IsType (Template w (TypePart t NoParts)) }
+    ensures sized { (w : List ℕ) (t : TypeSpecifier) (n : ℕ) → rule_among type_templates w ≡ TakesElements → IsType t → IsPlainNumber n → IsType (Template w (TypePart t (SizePart n NoParts))) }
+    ensures pointers { (a : List ℕ) (t : TypeSpecifier) → IsTrue (stands_in address_space_words a) → IsType t → IsType (Template (codes "ptr") (TypePart (Named a) (TypePart t NoParts))) }
 {}
 
 /// What may be called, a word that is not reserved or a type, makes of expressions as its operands an expression, and
