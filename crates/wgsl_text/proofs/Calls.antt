@@ -1,6 +1,7 @@
 -- Calls with expressions as operands are expressions, and statements.
 use Rattle.std.proofs.Common.{◌≡◌, ℕ, ◌<◌, true, ◌&&◌, ◌||◌, List, [], ◌∷◌, nat_lt, refl, ap, arith}
 use Rattle.std.proofs.lemmas.Bool.{and_from, or_right, lt-ltb}
+use Rattle.wgsl_text.specs.Building.{CalledWordsAreExpressions}
 use Rattle.wgsl_text.specs.Grammar.{IsPlainNumber, IsCallee, IsExpression, IsArguments, are_expressions, have_a_zero, may_take}
 use Rattle.wgsl_text.specs.GrammarOfLines.{Each, IsStatement}
 use Rattle.wgsl_text.specs.Keywords.{builtin_words}
@@ -22,10 +23,10 @@ takes (Named w) [] = refl
 takes (Named w) (e ∷ es) = ap (λ b. b || (stands_in level_words w && have_a_zero (operands es))) (operands_alone es)
 takes (Template w parts) es = operands_alone es
 
-pub call_is : (t : TypeSpecifier) (es : List Expression) → IsCallee t → Each IsExpression es → IsExpression (Call t (operands es))
+call_is : (t : TypeSpecifier) (es : List Expression) → IsCallee t → Each IsExpression es → IsExpression (Call t (operands es))
 call_is t es callee all = (callee, operands_are es all, takes t es)
 
-pub call_statement_is : (t : TypeSpecifier) (es : List Expression) → IsCallee t → Each IsExpression es → IsStatement (CallStatement t (operands es))
+call_statement_is : (t : TypeSpecifier) (es : List Expression) → IsCallee t → Each IsExpression es → IsStatement (CallStatement t (operands es))
 call_statement_is t es callee all = (callee, operands_are es all, takes t es)
 
 -- built-in words
@@ -34,7 +35,7 @@ builtins_free : all_words is_free builtin_words ≡ true
 unfolding is_reserved builtin_words
 builtins_free = refl
 
-pub builtin_is_word : (w : List ℕ) → is_builtin w ≡ true → IsWord w
+builtin_is_word : (w : List ℕ) → is_builtin w ≡ true → IsWord w
 unfolding is_builtin
 builtin_is_word w is = table_word builtin_words w builtins_free is
 
@@ -48,7 +49,7 @@ levels_free : all_words is_free level_words ≡ true
 unfolding is_reserved
 levels_free = refl
 
-pub gather_is : (w : List ℕ) (n : ℕ) (e : Expression) (es : List Expression) → stands_in gather_words w ≡ true → n < 4 → Each IsExpression (e ∷ es) → IsExpression (Call (Named w) (NumberArgument n (operands (e ∷ es))))
+gather_is : (w : List ℕ) (n : ℕ) (e : Expression) (es : List Expression) → stands_in gather_words w ≡ true → n < 4 → Each IsExpression (e ∷ es) → IsExpression (Call (Named w) (NumberArgument n (operands (e ∷ es))))
 gather_is w n e es gathers low all =
     let plain : IsPlainNumber n = omega (arith, low) in (
       table_word gather_words w gathers_free gathers,
@@ -64,9 +65,12 @@ has_level : (first more : List Expression) → have_a_zero (operands_with_level 
 has_level [] more = operands_alone more
 has_level (e ∷ first) more = has_level first more
 
-pub level_is : (w : List ℕ) (e : Expression) (es more : List Expression) → stands_in level_words w ≡ true → Each IsExpression (e ∷ es) → Each IsExpression more → IsExpression (Call (Named w) (operands_with_level (e ∷ es) more))
+level_is : (w : List ℕ) (e : Expression) (es more : List Expression) → stands_in level_words w ≡ true → Each IsExpression (e ∷ es) → Each IsExpression more → IsExpression (Call (Named w) (operands_with_level (e ∷ es) more))
 level_is w e es more levels all last = (
   table_word level_words w levels_free levels,
   with_level_are (e ∷ es) more all last,
   or_right (are_expressions (operands_with_level es more)) (stands_in level_words w && have_a_zero (operands_with_level es more)) (and_from (stands_in level_words w) (have_a_zero (operands_with_level es more)) levels (has_level es more)),
 )
+
+pub called_words : CalledWordsAreExpressions
+called_words = record { builtin = builtin_is_word; expression = call_is; statement = call_statement_is; gather = gather_is; level = level_is }

@@ -130,7 +130,7 @@ refused = record {
   cut = no_program _ refl;
   break_if_first = no_program _ refl;
   two_sizes = found_program _ (of_member (Numbered Size 16 ∷ Numbered Size 16 ∷ [])) refl (λ r. false≢true r.form.structs.0.members.0.binding);
-  two_alignments = found_program _ (of_member (Numbered Align 16 ∷ Numbered Align 16 ∷ [])) refl (λ r. false≢true r.form.structs.0.members.0.binding);
+  two_alignments = found_program _ (of_member (Numbered Align 8 ∷ Numbered Align 8 ∷ [])) refl (λ r. false≢true r.form.structs.0.members.0.binding);
   size_behind_alignment = found_program _ (of_member (Numbered Align 16 ∷ Numbered Size 16 ∷ [])) refl (λ r. false≢true r.form.structs.0.members.0.binding);
   size_behind_binding = found_program _ (of_member (Numbered Location 0 ∷ Numbered Size 16 ∷ [])) refl (λ r. false≢true r.form.structs.0.members.0.binding);
   unknown_enable = found_program _ (record no_declarations { enables = codes "f61" ∷ [] }) refl (λ r. false≢true r.form.enables.0);

@@ -2,6 +2,7 @@
 use Rattle.std.proofs.Common.{◌≡◌, ℕ, Bool, true, false, not, ◌||◌, List, [], ◌∷◌, ◌++◌, refl, sym, ap, ◌∙◌, codes}
 use Rattle.std.specs.Str.{bytes_eq}
 use Rattle.std.proofs.lemmas.Bool.{and_from}
+use Rattle.wgsl_text.specs.Building.{WordsAreTypes}
 use Rattle.wgsl_text.specs.Grammar.{IsPlainNumber, IsType, is_type, plain_type_words, TakesScalar, TakesElements, rule_among, type_templates}
 use Rattle.wgsl_text.specs.Tables.{scalar_words, depth_image_words, format_words, address_space_words, sampler_words, ray_words}
 use Rattle.wgsl_text.specs.Tree.{TypeSpecifier, Named, Template, NoParts, TypePart, SizePart}
@@ -57,3 +58,6 @@ sized_is word t n rule is number = record { part = (rw rule is.whole, (is.part, 
 pub pointer_to_is : (a : List ℕ) (t : TypeSpecifier) → stands_in address_space_words a ≡ true → IsType t → IsType (Template (codes "ptr") (TypePart (Named a) (TypePart t NoParts)))
 pointer_to_is a t known is =
     record { part = (and_from (stands_in address_space_words a) (is_type t) known is.whole, (table_word address_space_words a address_spaces_free known, (is.part, tt))); whole = refl }
+
+pub words_are_types : WordsAreTypes
+words_are_types = record { plain = plain_is; struct_name = name_is; of_scalar = of_scalar_word_is; dynamic = dynamic_is; sized = sized_is; pointer = pointer_to_is }

@@ -42,11 +42,13 @@ pub record Refused : Type 0 where
   pub break_if_first : IsNoProgram (
       codes "fn f(c: bool) {\n    loop {\n        continuing {\n            break if c;\n            g();\n" ++
       codes "        }\n    }\n}\n\n")
-  -- a member with two sizes, with two alignments, with its size behind them and with its binding before them
+  -- a member with two sizes, with two alignments, and with its size behind its alignment or binding
   pub two_sizes : IsNoProgram (codes "struct S {\n    @size(16) @size(16) a: f32,\n}\n\n")
-  pub two_alignments : IsNoProgram (codes "struct S {\n    @align(16) @align(16) a: f32,\n}\n\n")
-  pub size_behind_alignment : IsNoProgram (codes "struct S {\n    @align(16) @size(16) a: f32,\n}\n\n")
-  pub size_behind_binding : IsNoProgram (codes "struct S {\n    @location(0) @size(16) a: f32,\n}\n\n")
+  pub two_alignments : IsNoProgram (codes "struct S {\n    @align(8) @align(8) a: f32,\n}\n\n")
+  pub size_behind_alignment : IsNoProgram (
+      codes "struct S {\n    @align(16) @size(16) a: f32,\n}\n\n")
+  pub size_behind_binding : IsNoProgram (
+      codes "struct S {\n    @location(0) @size(16) a: f32,\n}\n\n")
   pub unknown_enable : IsNoProgram (codes "enable f61;\n\n")
   pub unknown_builtin_value : IsNoProgram (codes "fn f(@builtin(colour) x: i32) {\n}\n\n")
   pub stage_without_size : IsNoProgram (codes "@compute \nfn main() {\n}\n")

@@ -6,7 +6,8 @@ use Rattle.wgsl_text.specs.Tables.{scalar_words, sampled_words, address_space_wo
 use Rattle.wgsl_text.specs.Words.{stands_in, is_builtin}
 
 -- Each value's word stands in the table, and each word of the table is that of a value.
-pub record AreTheWordsOf {A : Type 0} (word : A → Option (List ℕ)) (words : List (List ℕ)) : Type 0 where
+pub record AreTheWordsOf {A : Type 0} (word : A → Option (List ℕ)) (words : List (List ℕ)) :
+    Type 0 where
   pub each : (value : A) (w : List ℕ) → word value ≡ Some w → IsTrue (stands_in words w)
   pub others : (w : List ℕ) → IsTrue (stands_in words w) → (value : A) × (word value ≡ Some w)
 
@@ -18,9 +19,10 @@ pub record ValueWords : Type 0 where
   pub formats : AreTheWordsOf (λ format. Some (format_word format)) format_words
   pub roles : AreTheWordsOf (λ role. Some (role_word role)) role_words
   pub builtin_values : AreTheWordsOf builtin_word builtin_value_words
-  pub interpolations : AreTheWordsOf (λ interpolation. Some (interpolation_word interpolation)) interpolation_words
+  pub interpolations : AreTheWordsOf (λ i. Some (interpolation_word i)) interpolation_words
   pub samplings : AreTheWordsOf (λ sampling. Some (sampling_word sampling)) sampling_words
   pub spaces : AreTheWordsOf space_word address_space_words
   pub accesses : AreTheWordsOf (λ access. Some (image_access_word access)) access_words
   -- the functions of mathematics are among the built-in words
-  pub functions : (function : MathFunction) (w : List ℕ) → math_word function ≡ Some w → IsTrue (is_builtin w)
+  pub functions : (function : MathFunction) (w : List ℕ) → math_word function ≡ Some w →
+      IsTrue (is_builtin w)

@@ -1,22 +1,21 @@
 //! What WGSL text is: its tokens, its trees, and the layout of a tree. The public functions are laws.
 #![tactic(auto)]
 
-ghost use Rattle.std.specs.Prelude.{◌≡◌, ◌<◌, ℕ, List, [], ◌∷◌, ◌++◌, codes, IsTrue};
+ghost use Rattle.std.specs.Prelude.{◌≡◌, ℕ, List, [], ◌∷◌, ◌++◌};
+ghost use Rattle.wgsl_text.specs.Building.{WordsAreTypes, CalledWordsAreExpressions};
 ghost use Rattle.wgsl_text.specs.Examples.{WorkedPrograms};
-ghost use Rattle.wgsl_text.specs.Grammar.{IsPlainNumber, IsType, IsCallee, IsExpression, TakesScalar, TakesElements, rule_among, type_templates, plain_type_words};
-ghost use Rattle.wgsl_text.specs.GrammarOfLines.{Each, IsStatement, IsFunction, IsProgram};
+ghost use Rattle.wgsl_text.specs.Grammar.{IsType, IsCallee, IsExpression};
+ghost use Rattle.wgsl_text.specs.GrammarOfLines.{IsStatement, IsFunction, IsProgram};
 ghost use Rattle.wgsl_text.specs.LargeExamples.{LargePrograms};
 ghost use Rattle.wgsl_text.specs.Reading.{ReadsType, ReadsExpression, ReadsStatement, ReadsFunction, Reads, HasOneReading, type_layout, expression_layout, statement_layout, function_layout, layout};
 ghost use Rattle.wgsl_text.specs.Refused.{Refused};
 ghost use Rattle.wgsl_text.specs.Rows.{TypeRows, OperatorRows, AccessRows, LineRows};
 ghost use Rattle.wgsl_text.specs.Spelled.{Spelled};
 ghost use Rattle.wgsl_text.specs.Spelling.{Spells, Begins};
-ghost use Rattle.wgsl_text.specs.Tables.{scalar_words, address_space_words, gather_words, level_words};
 ghost use Rattle.wgsl_text.specs.Text.{text, tokens};
 ghost use Rattle.wgsl_text.specs.Token.{Piece, Token};
-ghost use Rattle.wgsl_text.specs.Tree.{TypeSpecifier, Named, Template, NoParts, TypePart, SizePart, NumberArgument, Expression, Call, CallStatement, Statement, Function, Program, operands, operands_with_level};
+ghost use Rattle.wgsl_text.specs.Tree.{TypeSpecifier, Expression, Statement, Function, Program};
 ghost use Rattle.wgsl_text.specs.ValueWords.{ValueWords};
-ghost use Rattle.wgsl_text.specs.Words.{IsIdentifier, stands_in, is_builtin};
 
 /// The tokens of a text are those of its front, and then those of what stands behind it. The front is a blank, or
 /// the longest that spells a token, or a byte that begins none.
@@ -41,7 +40,8 @@ pub fn one_reading_of_an_expression()
 /// The text of a statement, at any level, is read as that statement and no other, and no tokens are read as two
 /// statements.
 pub fn one_reading_of_a_statement()
-    ensures layout { (s : Statement) → IsStatement s → (level : ℕ) → HasOneReading ReadsStatement (statement_layout s level) s }
+    ensures layout { (s : Statement) → IsStatement s → (level : ℕ) →
+        HasOneReading ReadsStatement (statement_layout s level) s }
     ensures unique { (ts : List Token) (a b : Statement) → ReadsStatement ts a → ReadsStatement ts b → a ≡ b }
 {}
 
@@ -62,30 +62,15 @@ pub fn types_are_callees()
     ensures { (t : TypeSpecifier) → IsType t → IsCallee t }
 {}
 
-/// A word of the types of one word is a type, and so are an identifier, a word with the scalar that it takes, an array
-/// of a type and a pointer to one.
+/// Words are types, and words with the parts that they take are.
 pub fn words_are_types()
-    ensures plain { (w : List ℕ) → IsTrue (stands_in plain_type_words w) → IsType (Named w) }
-    ensures identifiers { (w : List ℕ) → IsIdentifier w → IsType (Named w) }
-    ensures scalars { (w s : List ℕ) → rule_among type_templates w ≡ TakesScalar → IsTrue (stands_in scalar_words s) → IsType (Template w (TypePart (Named s) NoParts)) }
-    ensures dynamic { (w : List ℕ) (t : TypeSpecifier) → rule_among type_templates w ≡ TakesElements → IsType t → IsType (Template w (TypePart t NoParts)) }
-    ensures sized { (w : List ℕ) (t : TypeSpecifier) (n : ℕ) → rule_among type_templates w ≡ TakesElements → IsType t → IsPlainNumber n → IsType (Template w (TypePart t (SizePart n NoParts))) }
-    ensures pointers { (a : List ℕ) (t : TypeSpecifier) → IsTrue (stands_in address_space_words a) → IsType t → IsType (Template (codes "ptr") (TypePart (Named a) (TypePart t NoParts))) }
+    ensures { WordsAreTypes }
 {}
 
-/// What may be called, a word that is not reserved or a type, makes of expressions as its operands an expression, and
-/// a statement; and each built-in word is a word that is not reserved.
+/// A call of what may be called, a word that is not reserved or a type, is an expression where its operands are, and a
+/// statement; each built-in word may be called.
 pub fn called_words_are_expressions()
-    ensures expression { (t : TypeSpecifier) (es : List Expression) → IsCallee t → Each IsExpression es → IsExpression (Call t (operands es)) }
-    ensures statement { (t : TypeSpecifier) (es : List Expression) → IsCallee t → Each IsExpression es → IsStatement (CallStatement t (operands es)) }
-    ensures words { (w : List ℕ) → IsTrue (is_builtin w) → IsCallee (Named w) }
-{}
-
-/// A gather with the number of a component before its operands is an expression, and so is a sampling with the level
-/// `0.0` behind some of its operands.
-pub fn image_calls_are_expressions()
-    ensures gather { (w : List ℕ) (n : ℕ) (e : Expression) (es : List Expression) → IsTrue (stands_in gather_words w) → n < 4 → Each IsExpression (e ∷ es) → IsExpression (Call (Named w) (NumberArgument n (operands (e ∷ es)))) }
-    ensures level { (w : List ℕ) (e : Expression) (es more : List Expression) → IsTrue (stands_in level_words w) → Each IsExpression (e ∷ es) → Each IsExpression more → IsExpression (Call (Named w) (operands_with_level (e ∷ es) more)) }
+    ensures { CalledWordsAreExpressions }
 {}
 
 /// The text of appended pieces is the appended texts.
