@@ -26,8 +26,11 @@ use Rattle.name_keys.specs.Keys.{NameMap}
 use Rattle.type_spelling.specs.Contexts.{names_of}
 use Rattle.type_spelling.specs.Trees.{Names as TypeNames, of_two, inner_tree, named_tree_by, pointer_tree_in, found_tree_by, tree_within, type_tree, resolution_tree}
 use Rattle.wgsl_text.specs.Grammar.{IsType}
+use Rattle.wgsl_text.specs.Tables.{scalar_words}
 use Rattle.wgsl_text.specs.Tree.{TypeSpecifier, Named}
-use Rattle.wgsl_text.specs.Words.{is_reserved}
+use Rattle.wgsl_text.specs.Words.{stands_in}
+use Rattle.wgsl_text.proofs.TypeWords.{scalar_word_is, pointer_to_is}
+use Rattle.wgsl_text.proofs.ValueWords.{value_words}
 use Rattle.naga_form.specs.Form.{told_type}
 use Rattle.naga_form.specs.Types.{type_form}
 use Rattle.naga_form.proofs.Facts.{expression_at}
@@ -41,54 +44,8 @@ record IsTypeWord (w : List ℕ) : Type 0 where
   pub itself : IsType (Named w)
   pub pointer : IsType (pointer_to w)
 
-bool_is : IsTypeWord (codes "bool")
-unfolding is_reserved
-bool_is = record {
-  itself = record { part = record { text = refl; free = refl }; whole = refl };
-  pointer = record { part = (refl, (record { text = refl; free = refl }, (record { text = refl; free = refl }, tt))); whole = refl };
-}
-
-i32_is : IsTypeWord (codes "i32")
-unfolding is_reserved
-i32_is = record {
-  itself = record { part = record { text = refl; free = refl }; whole = refl };
-  pointer = record { part = (refl, (record { text = refl; free = refl }, (record { text = refl; free = refl }, tt))); whole = refl };
-}
-
-i64_is : IsTypeWord (codes "i64")
-unfolding is_reserved
-i64_is = record {
-  itself = record { part = record { text = refl; free = refl }; whole = refl };
-  pointer = record { part = (refl, (record { text = refl; free = refl }, (record { text = refl; free = refl }, tt))); whole = refl };
-}
-
-u32_is : IsTypeWord (codes "u32")
-unfolding is_reserved
-u32_is = record {
-  itself = record { part = record { text = refl; free = refl }; whole = refl };
-  pointer = record { part = (refl, (record { text = refl; free = refl }, (record { text = refl; free = refl }, tt))); whole = refl };
-}
-
-u64_is : IsTypeWord (codes "u64")
-unfolding is_reserved
-u64_is = record {
-  itself = record { part = record { text = refl; free = refl }; whole = refl };
-  pointer = record { part = (refl, (record { text = refl; free = refl }, (record { text = refl; free = refl }, tt))); whole = refl };
-}
-
-by_one : (a : Bool) (y w : List ℕ) → IsTypeWord y → (if a then Some y else None) ≡ Some w → IsTypeWord w
-by_one true y w p e = subst IsTypeWord (same_some y w e) p
-by_one false y w p e = absurd (cc)
-
-by_two : (a b : Bool) (x y w : List ℕ) → IsTypeWord x → IsTypeWord y → (if a then Some x else (if b then Some y else None)) ≡ Some w → IsTypeWord w
-by_two true b x y w p q e = subst IsTypeWord (same_some x w e) p
-by_two false b x y w p q e = by_one b y w q e
-
-is_type_word : (k : ScalarKind) (n : ℕ) (w : List ℕ) → word_of_width k n ≡ Some w → IsTypeWord w
-is_type_word kind.Bool n w e = by_one (n == 1) (codes "bool") w bool_is e
-is_type_word kind.Sint n w e = by_two (n == 4) (n == 8) (codes "i32") (codes "i64") w i32_is i64_is e
-is_type_word kind.Uint n w e = by_two (n == 4) (n == 8) (codes "u32") (codes "u64") w u32_is u64_is e
-is_type_word _ n w e = absurd (cc)
+type_word : (w : List ℕ) → stands_in scalar_words w ≡ true → IsTypeWord w
+type_word w scalar = let is = scalar_word_is w scalar in record { itself = is; pointer = pointer_to_is (codes "function") (Named w) refl is }
 
 -- A width of two bytes is spelled, and not written so far.
 not_two : (k : ScalarKind) (n : ℕ) (w : List ℕ) → word_of_width k n ≡ Some w → (n == 2) ≡ false
@@ -110,6 +67,9 @@ word_in_table kind.Bool n w e = e
 word_in_table kind.Sint n w e = ap (λ b. if b then Some (codes "i16") else word_of_width kind.Sint n) (not_two kind.Sint n w e) ∙ e
 word_in_table kind.Uint n w e = ap (λ b. if b then Some (codes "u16") else word_of_width kind.Uint n) (not_two kind.Uint n w e) ∙ e
 word_in_table _ n w e = absurd (cc)
+
+is_type_word : (k : ScalarKind) (n : ℕ) (w : List ℕ) → word_of_width k n ≡ Some w → IsTypeWord w
+is_type_word k n w e = type_word w (value_words.scalars.each (record { kind = k; width = n }) w (word_in_table k n w e))
 
 -- a type that has a word is written as its word
 word_of_named : (t : TypeNames) (f : ℕ → Option TypeSpecifier) (ty : ℕ) (i : TypeInner) (w : List ℕ) → word_of_type i ≡ Some w → named_tree_by t f ty i ≡ Some (Named w)

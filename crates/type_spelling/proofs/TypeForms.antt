@@ -1,7 +1,8 @@
 -- What is spelled is a type of the grammar.
-use Rattle.std.proofs.Common.{◌≡◌, ℕ, zero, suc, Bool, true, false, not, ◌&&◌, ◌||◌, List, [], ◌∷◌, ◌++◌, Option, Some, None, refl, sym, ap, subst, ◌∙◌, codes, slice_get, ◌==◌}
+use Rattle.std.proofs.Common.{◌≡◌, ℕ, zero, suc, Bool, true, false, not, ◌&&◌, List, Option, Some, None, refl, ap, subst, ◌∙◌, codes, slice_get}
 use Rattle.std.specs.Prelude.{if◌then◌else◌}
 use Rattle.std.specs.Str.{bytes_eq}
+use Rattle.std.specs.Int.NonZero.{non_zero_u32_get}
 use Rattle.std.specs.Option.{option_map}
 use Rattle.std.proofs.lemmas.Slice.Eq.{bytes_eq-Decides}
 use Rattle.std.proofs.lemmas.Bool.{and_from}
@@ -9,8 +10,6 @@ use Rattle.naga_enumerations.specs.declared.image.ImageClass.{ImageClass}
 use Rattle.naga_enumerations.specs.declared.image.ImageClass.TheVariants as class
 use Rattle.naga_enumerations.specs.declared.image.ImageDimension.{ImageDimension}
 use Rattle.naga_enumerations.specs.declared.image.ImageDimension.TheVariants.{D1, D2, D3, Cube}
-use Rattle.naga_enumerations.specs.declared.image.StorageFormat.{StorageFormat}
-use Rattle.naga_enumerations.specs.declared.image.StorageFormat.TheVariants as format
 use Rattle.naga_enumerations.specs.declared.types.AddressSpace.{AddressSpace}
 use Rattle.naga_enumerations.specs.declared.types.AddressSpace.TheVariants as space
 use Rattle.naga_enumerations.specs.declared.types.CooperativeRole.{CooperativeRole}
@@ -18,8 +17,6 @@ use Rattle.naga_enumerations.specs.declared.types.CooperativeRole.TheVariants.{A
 use Rattle.naga_enumerations.specs.declared.types.CooperativeSize.{CooperativeSize}
 use Rattle.naga_enumerations.specs.declared.types.CooperativeSize.TheVariants.{Eight, Sixteen}
 use Rattle.naga_enumerations.specs.declared.types.Scalar.{Scalar}
-use Rattle.naga_enumerations.specs.declared.types.ScalarKind.{ScalarKind}
-use Rattle.naga_enumerations.specs.declared.types.ScalarKind.TheVariants as kind
 use Rattle.naga_enumerations.specs.declared.types.VectorSize.{VectorSize}
 use Rattle.naga_enumerations.specs.declared.types.VectorSize.TheVariants.{Bi, Tri, Quad}
 use Rattle.naga_info.proofs.Options.{map_some, same_some}
@@ -31,29 +28,19 @@ use Rattle.naga_ir.specs.declared.types.Type_.{Type_}
 use Rattle.naga_ir.specs.declared.types.TypeInner.{TypeInner}
 use Rattle.naga_ir.specs.declared.types.TypeInner.TheVariants as inner
 use Rattle.wgsl_text.specs.Grammar.{IsType, is_type, plain_type_words, TakesScalar, TakesSampled, TakesElements, TakesFormat, TakesRole, rule_among, type_templates}
-use Rattle.wgsl_text.specs.Tables.{scalar_words, sampled_words, depth_image_words, access_words, format_words, address_space_words, role_words, sampler_words, ray_words}
+use Rattle.wgsl_text.specs.Tables.{scalar_words, access_words, format_words, address_space_words, role_words}
 use Rattle.wgsl_text.specs.Tree.{TypeSpecifier, Named}
-use Rattle.wgsl_text.specs.Words.{IsWord, IsIdentifier, is_reserved, is_builtin, stands_in}
-use Rattle.wgsl_words.specs.Words.{scalar_word, scalar_word_of, space_word, space_access_word, image_access_word, role_word, format_word, has, atomic_bit, load_bit, store_bit}
-use Rattle.wgsl_text.proofs.WordLemmas.{all_words, is_free, table_word, address_spaces_free, accesses_free}
+use Rattle.wgsl_text.specs.Words.{IsWord, is_reserved, is_builtin, stands_in}
+use Rattle.wgsl_words.specs.Words.{scalar_word, scalar_word_of, space_word, space_access_word, image_access_word, role_word, format_word, has, atomic_bit, store_bit}
+use Rattle.wgsl_text.proofs.ValueWords.{value_words}
+use Rattle.wgsl_text.proofs.TypeWords.{scalars_free, formats_free, plain_is, scalar_word_is, name_is, of_scalar_word_is, dynamic_is, sized_is, pointer_to_is}
+use Rattle.wgsl_text.proofs.WordLemmas.{table_word, address_spaces_free, accesses_free}
 use Rattle.type_spelling.specs.Readable.{LengthIsWithin, InnerIsWithin, ResolutionIsWithin, AreNamed}
 use Rattle.spelling_parts.specs.Words.{vector_word, matrix_word, cooperative_word, image_word, sampler_word}
 use Rattle.type_spelling.specs.Spelling.{is_struct}
 use Rattle.type_spelling.specs.Trees.{Names, of_one, of_two, scalar_tree, value_tree, pointer_tree, pointer_tree_in, value_pointer_tree_in, array_tree, image_tree, ray_tree, inner_tree_by, found_tree_by, tree_within, type_tree, resolution_tree}
 
 -- ---- words
-
-scalars_are_free : all_words is_free scalar_words ≡ true
-unfolding is_reserved
-scalars_are_free = refl
-
-formats_are_free : all_words is_free format_words ≡ true
-unfolding is_reserved
-formats_are_free = refl
-
-plain_are_free : all_words is_free plain_type_words ≡ true
-unfolding is_reserved
-plain_are_free = refl
 
 role_is : (r : CooperativeRole) → IsWord (role_word r)
 unfolding is_reserved
@@ -65,85 +52,7 @@ vertex_return_is : IsWord (codes "vertex_return")
 unfolding is_reserved
 vertex_return_is = record { text = refl; free = refl }
 
--- ---- tables
-by_widths : (a b c : Bool) (x y z w : List ℕ) → stands_in scalar_words x ≡ true → stands_in scalar_words y ≡ true → stands_in scalar_words z ≡ true → (if a then Some x else (if b then Some y else (if c then Some z else None))) ≡ Some w → stands_in scalar_words w ≡ true
-by_widths true b c x y z w p q r e = let same : x ≡ w = cc in rw (← same) p
-by_widths false true c x y z w p q r e = let same : y ≡ w = cc in rw (← same) q
-by_widths false false true x y z w p q r e = let same : z ≡ w = cc in rw (← same) r
-by_widths false false false x y z w p q r e = absurd (cc)
-
-width_is_scalar : (k : ScalarKind) (n : ℕ) (w : List ℕ) → scalar_word_of k n ≡ Some w → stands_in scalar_words w ≡ true
-width_is_scalar kind.Bool n w e = by_widths (n == 1) false false (codes "bool") (codes "bool") (codes "bool") w refl refl refl e
-width_is_scalar kind.Sint n w e = by_widths (n == 2) (n == 4) (n == 8) (codes "i16") (codes "i32") (codes "i64") w refl refl refl e
-width_is_scalar kind.Uint n w e = by_widths (n == 2) (n == 4) (n == 8) (codes "u16") (codes "u32") (codes "u64") w refl refl refl e
-width_is_scalar kind.Float n w e = by_widths (n == 2) (n == 4) (n == 8) (codes "f16") (codes "f32") (codes "f64") w refl refl refl e
-width_is_scalar kind.AbstractInt n w e = absurd (cc)
-width_is_scalar kind.AbstractFloat n w e = absurd (cc)
-
-scalar_is_scalar : (s : Scalar) (w : List ℕ) → scalar_word s ≡ Some w → stands_in scalar_words w ≡ true
-scalar_is_scalar s w e = width_is_scalar s.kind s.width w e
-
-sampled_is_sampled : (k : ScalarKind) (w : List ℕ) → scalar_word_of k 4 ≡ Some w → stands_in sampled_words w ≡ true
-sampled_is_sampled kind.Bool w e = absurd (cc)
-sampled_is_sampled kind.Sint w e = let same : codes "i32" ≡ w = cc in rw (← same) refl
-sampled_is_sampled kind.Uint w e = let same : codes "u32" ≡ w = cc in rw (← same) refl
-sampled_is_sampled kind.Float w e = let same : codes "f32" ≡ w = cc in rw (← same) refl
-sampled_is_sampled kind.AbstractInt w e = absurd (cc)
-sampled_is_sampled kind.AbstractFloat w e = absurd (cc)
-
-format_is_format : (f : StorageFormat) → stands_in format_words (format_word f) ≡ true
-format_is_format format.R8Unorm = refl
-format_is_format format.R8Snorm = refl
-format_is_format format.R8Uint = refl
-format_is_format format.R8Sint = refl
-format_is_format format.Rg8Unorm = refl
-format_is_format format.Rg8Snorm = refl
-format_is_format format.Rg8Uint = refl
-format_is_format format.Rg8Sint = refl
-format_is_format format.Rgba8Unorm = refl
-format_is_format format.Rgba8Snorm = refl
-format_is_format format.Rgba8Uint = refl
-format_is_format format.Rgba8Sint = refl
-format_is_format format.R16Unorm = refl
-format_is_format format.R16Snorm = refl
-format_is_format format.R16Uint = refl
-format_is_format format.R16Sint = refl
-format_is_format format.R16Float = refl
-format_is_format format.Rg16Unorm = refl
-format_is_format format.Rg16Snorm = refl
-format_is_format format.Rg16Uint = refl
-format_is_format format.Rg16Sint = refl
-format_is_format format.Rg16Float = refl
-format_is_format format.Rgba16Unorm = refl
-format_is_format format.Rgba16Snorm = refl
-format_is_format format.Rgba16Uint = refl
-format_is_format format.Rgba16Sint = refl
-format_is_format format.Rgba16Float = refl
-format_is_format format.R32Uint = refl
-format_is_format format.R32Sint = refl
-format_is_format format.R32Float = refl
-format_is_format format.Rg32Uint = refl
-format_is_format format.Rg32Sint = refl
-format_is_format format.Rg32Float = refl
-format_is_format format.Rgba32Uint = refl
-format_is_format format.Rgba32Sint = refl
-format_is_format format.Rgba32Float = refl
-format_is_format format.Bgra8Unorm = refl
-format_is_format format.Rgb10a2Uint = refl
-format_is_format format.Rgb10a2Unorm = refl
-format_is_format format.Rg11b10Ufloat = refl
-format_is_format format.R64Uint = refl
-
-image_access_is : (x y z : Bool) → stands_in access_words (if x then codes "atomic" else (if y then (if z then codes "read_write" else codes "read") else codes "write")) ≡ true
-image_access_is true y z = refl
-image_access_is false true true = refl
-image_access_is false true false = refl
-image_access_is false false z = refl
-
 -- ---- templates
-one_is : (word w : List ℕ) → rule_among type_templates word ≡ TakesScalar → stands_in scalar_words w ≡ true → IsType (of_one word (Named w))
-one_is word w rule scalar = record { part = (rw rule scalar, (table_word scalar_words w scalars_are_free scalar, tt)); whole = refl }
-
 vector_rule : (v : VectorSize) → rule_among type_templates (vector_word v) ≡ TakesScalar
 vector_rule Bi = refl
 vector_rule Tri = refl
@@ -166,46 +75,18 @@ cooperative_rule Eight Sixteen = refl
 cooperative_rule Sixteen Eight = refl
 cooperative_rule Sixteen Sixteen = refl
 
-role_fits : (r : CooperativeRole) → stands_in role_words (role_word r) ≡ true
-role_fits A = refl
-role_fits B = refl
-role_fits C = refl
-
-in_front : (ws vs : List (List ℕ)) (w : List ℕ) → stands_in ws w ≡ true → stands_in (ws ++ vs) w ≡ true
-in_front [] vs w e = absurd (cc)
-in_front (v ∷ ws) vs w e = by (bytes_eq v w) refl (in_front ws vs w)
-  where
-    by : (b : Bool) → bytes_eq v w ≡ b → (stands_in ws w ≡ true → stands_in (ws ++ vs) w ≡ true) → (bytes_eq v w || stands_in (ws ++ vs) w) ≡ true
-    by true same more = ap (λ b. b || stands_in (ws ++ vs) w) same
-    by false same more = ap (λ b. b || stands_in (ws ++ vs) w) same ∙ more (sym (ap (λ b. b || stands_in ws w) same) ∙ e)
-
--- a word of the types of one word
-plain_is : (w : List ℕ) → stands_in plain_type_words w ≡ true → IsType (Named w)
-plain_is w plain = record { part = table_word plain_type_words w plain_are_free plain; whole = ap (λ b. b || not (is_builtin w)) plain }
-
-scalar_is_plain : (w : List ℕ) → stands_in scalar_words w ≡ true → stands_in plain_type_words w ≡ true
-scalar_is_plain w scalar = in_front scalar_words (sampler_words ++ (ray_words ++ depth_image_words)) w scalar
-
--- an identifier, as a struct's name
-name_is : (w : List ℕ) → IsIdentifier w → IsType (Named w)
-name_is w is = record { part = is.word; whole = by (stands_in plain_type_words w) (is_builtin w) is.own }
-  where
-    by : (a b : Bool) → b ≡ false → (a || not b) ≡ true
-    by true b e = refl
-    by false b e = ap not e
-
 -- ---- types that name no others
 scalar_tree_is : (s : Scalar) (t : TypeSpecifier) → scalar_tree s ≡ Some t → IsType t
 scalar_tree_is s t e =
     let w = map_some Named (scalar_word s) t e in
-    subst IsType w.2 (plain_is w.0 (scalar_is_plain w.0 (scalar_is_scalar s w.0 w.1)))
+    subst IsType w.2 (scalar_word_is w.0 (value_words.scalars.each s w.0 w.1))
 
 -- a word with a scalar
 of_scalar_is : (word : List ℕ) → rule_among type_templates word ≡ TakesScalar → (s : Scalar) (t : TypeSpecifier) → option_map (of_one word) (scalar_tree s) ≡ Some t → IsType t
 of_scalar_is word rule s t e =
     let x = map_some (of_one word) (scalar_tree s) t e in
     let w = map_some Named (scalar_word s) x.0 x.1 in
-    subst IsType (ap (of_one word) w.2 ∙ x.2) (one_is word w.0 rule (scalar_is_scalar s w.0 w.1))
+    subst IsType (ap (of_one word) w.2 ∙ x.2) (of_scalar_word_is word w.0 rule (value_words.scalars.each s w.0 w.1))
 
 value_tree_is : (v : Option VectorSize) (s : Scalar) (t : TypeSpecifier) → value_tree v s ≡ Some t → IsType t
 value_tree_is None s t e = scalar_tree_is s t e
@@ -215,22 +96,9 @@ cooperative_is : (c r : CooperativeSize) (l : CooperativeRole) (s : Scalar) (t :
 cooperative_is c r l s t e =
     let x = map_some (λ x. of_two (cooperative_word c r) x (Named (role_word l))) (scalar_tree s) t e in
     let w = map_some Named (scalar_word s) x.0 x.1 in
-    let scalar = scalar_is_scalar s w.0 w.1 in
+    let scalar = value_words.scalars.each s w.0 w.1 in
     subst IsType (ap (λ x. of_two (cooperative_word c r) x (Named (role_word l))) w.2 ∙ x.2)
-    (record { part = (rw (cooperative_rule c r) (and_from (stands_in scalar_words w.0) (stands_in role_words (role_word l)) scalar (role_fits l)), (table_word scalar_words w.0 scalars_are_free scalar, (role_is l, tt))); whole = refl })
-
--- a pointer, in a space that has a word
-space_is : (a : AddressSpace) (w : List ℕ) → space_word a ≡ Some w → stands_in address_space_words w ≡ true
-space_is space.Function w e = let same : codes "function" ≡ w = cc in rw (← same) refl
-space_is space.Private w e = let same : codes "private" ≡ w = cc in rw (← same) refl
-space_is space.WorkGroup w e = let same : codes "workgroup" ≡ w = cc in rw (← same) refl
-space_is space.Uniform w e = let same : codes "uniform" ≡ w = cc in rw (← same) refl
-space_is (space.Storage access) w e = let same : codes "storage" ≡ w = cc in rw (← same) refl
-space_is space.Handle w e = absurd (cc)
-space_is space.Immediate w e = let same : codes "immediate" ≡ w = cc in rw (← same) refl
-space_is space.TaskPayload w e = let same : codes "task_payload" ≡ w = cc in rw (← same) refl
-space_is space.RayPayload w e = let same : codes "ray_payload" ≡ w = cc in rw (← same) refl
-space_is space.IncomingRayPayload w e = let same : codes "incoming_ray_payload" ≡ w = cc in rw (← same) refl
+    (record { part = (rw (cooperative_rule c r) (and_from (stands_in scalar_words w.0) (stands_in role_words (role_word l)) scalar (value_words.roles.each l (role_word l) refl)), (table_word scalar_words w.0 scalars_free scalar, (role_is l, tt))); whole = refl })
 
 access_is : (x y : Bool) (m : List ℕ) → (if x then Some (codes "atomic") else (if y then Some (codes "read_write") else None)) ≡ Some m → stands_in access_words m ≡ true
 access_is true y m e = let same : codes "atomic" ≡ m = cc in rw (← same) refl
@@ -243,15 +111,13 @@ storage_is (space.Storage access) w m e f = (let same : codes "storage" ≡ w = 
 storage_is _ w m e f = absurd (cc)
 
 pointer_is : (a : AddressSpace) (w : List ℕ) → space_word a ≡ Some w → (o : Option (List ℕ)) → space_access_word a ≡ o → (x : TypeSpecifier) → IsType x → IsType (pointer_tree w o x)
-pointer_is a w at None access x is =
-    let known = space_is a w at in
-    record { part = (and_from (stands_in address_space_words w) (is_type x) known is.whole, (table_word address_space_words w address_spaces_free known, (is.part, tt))); whole = refl }
+pointer_is a w at None access x is = pointer_to_is w x (value_words.spaces.each a w at) is
 pointer_is a w at (Some m) access x is =
     let known = storage_is a w m at access in
     record {
       part = (
         and_from (bytes_eq (codes "storage") w) (is_type x && stands_in access_words m) ((bytes_eq-Decides (codes "storage") w).1 known.0) (and_from (is_type x) (stands_in access_words m) is.whole known.1),
-        (table_word address_space_words w address_spaces_free (space_is a w at), (is.part, (table_word access_words m accesses_free known.1, tt))),
+        (table_word address_space_words w address_spaces_free (value_words.spaces.each a w at), (is.part, (table_word access_words m accesses_free known.1, tt))),
       );
       whole = refl;
     }
@@ -321,17 +187,18 @@ image_tree_is dim arrayed (class.Sampled k multi) t e =
     let x = map_some (of_one word) (option_map Named (scalar_word_of k 4)) t e in
     let w = map_some Named (scalar_word_of k 4) x.0 x.1 in
     subst IsType (ap (of_one word) w.2 ∙ x.2)
-    (record { part = (rw (sampled_rule multi dim arrayed) (sampled_is_sampled k w.0 w.1), (table_word scalar_words w.0 scalars_are_free (width_is_scalar k 4 w.0 w.1), tt)); whole = refl })
+    (record { part = (rw (sampled_rule multi dim arrayed) (value_words.sampled.each k w.0 w.1), (table_word scalar_words w.0 scalars_free (value_words.scalars.each (record { kind = k; width = 4 }) w.0 w.1), tt)); whole = refl })
 image_tree_is dim arrayed (class.Depth multi) t e =
     subst IsType (same_some (Named (image_word (codes "texture_depth_") multi dim arrayed)) t e) (plain_is (image_word (codes "texture_depth_") multi dim arrayed) (depth_is_plain multi dim arrayed))
 image_tree_is dim arrayed class.External t e = subst IsType (same_some (Named (codes "texture_external")) t e) (plain_is (codes "texture_external") refl)
 image_tree_is dim arrayed (class.Storage f a) t e =
-    let access = image_access_is (has atomic_bit a) (has load_bit a) (has store_bit a) in
+    let format = value_words.formats.each f (format_word f) refl in
+    let access = value_words.accesses.each a (image_access_word a) refl in
     subst IsType (same_some (of_two (image_word (codes "texture_storage_") false dim arrayed) (Named (format_word f)) (Named (image_access_word a))) t e)
     (record {
       part = (
-        rw (storage_rule dim arrayed) (and_from (stands_in format_words (format_word f)) (stands_in access_words (image_access_word a)) (format_is_format f) access),
-        (table_word format_words (format_word f) formats_are_free (format_is_format f), (table_word access_words (image_access_word a) accesses_free access, tt)),
+        rw (storage_rule dim arrayed) (and_from (stands_in format_words (format_word f)) (stands_in access_words (image_access_word a)) format access),
+        (table_word format_words (format_word f) formats_free format, (table_word access_words (image_access_word a) accesses_free access, tt)),
       );
       whole = refl;
     })
@@ -351,11 +218,11 @@ query_is false = plain_is (codes "ray_query") refl
 -- ---- types that name others
 module _ (n : Names) (count : ℕ) (named : AreNamed n count) where
   array_is : (word : List ℕ) → rule_among type_templates word ≡ TakesElements → (l : ArraySize) → LengthIsWithin count l → (x : TypeSpecifier) → IsType x → IsType (array_tree n word l x)
-  array_is word rule (size.Constant number) within x is = record { part = (rw rule is.whole, (is.part, (within, tt))); whole = refl }
+  array_is word rule (size.Constant number) within x is = sized_is word x (non_zero_u32_get number) rule is within
   array_is word rule (size.Pending o) within x is =
       let name = named.overrides o within in
       record { part = (rw rule (and_from (is_type x) (not (is_builtin (n.override_name o))) is.whole (ap not name.own)), (is.part, (name.word, tt))); whole = refl }
-  array_is word rule size.Dynamic within x is = record { part = (rw rule is.whole, (is.part, tt)); whole = refl }
+  array_is word rule size.Dynamic within x is = dynamic_is word x rule is
 
   array_tree_is : (word : List ℕ) → rule_among type_templates word ≡ TakesElements → (l : ArraySize) → LengthIsWithin count l → (o : Option TypeSpecifier) → ((x : TypeSpecifier) → o ≡ Some x → IsType x) → (t : TypeSpecifier) → option_map (array_tree n word l) o ≡ Some t → IsType t
   array_tree_is word rule l within o all t e =

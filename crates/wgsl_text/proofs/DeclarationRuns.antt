@@ -133,7 +133,7 @@ group_end_runs : {A : Type 0} (list : List A) (s : State) → Runs (group_end li
 group_end_runs [] s = end
 group_end_runs (x ∷ more) s = end
 
-function_runs : (f : Function) → IsFunction f → (attributes : List Attribute) (p : Program) → Runs (function_pieces f) (Want (InProgram attributes p)) (Want (InProgram [] (function_added (turned attributes []) f p)))
+pub function_runs : (f : Function) → IsFunction f → (attributes : List Attribute) (p : Program) → Runs (function_pieces f) (Want (InProgram attributes p)) (Want (InProgram [] (function_added (turned attributes []) f p)))
 function_runs f is attributes p =
     tok $ gap $ tok $ tok $ parameters_run f.parameters is.parameters f.name _ then result_runs f.result is.result f.name f.parameters _ (line (
     locals_run f.locals is.locals f.name f.parameters f.result [] _ then (group_end_runs f.locals _ then (statements_run f.body is.body 1 NoStatements _ then closes f.body (line (

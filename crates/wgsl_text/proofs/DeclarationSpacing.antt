@@ -139,7 +139,7 @@ group_end_closed : {A : Type 0} (list : List A) → Closed (group_end list)
 group_end_closed [] = none
 group_end_closed (x ∷ more) = line none
 
-function_closed : (f : Function) → IsFunction f → Closed (function_pieces f)
+pub function_closed : (f : Function) → IsFunction f → Closed (function_pieces f)
 function_closed f is =
     sign (λ _. refl) $ gap $ free is.name.word (λ _. refl) $ sign (λ _. refl) $ parameters_closed f.parameters is.parameters then result_closed f.result is.result (sign (λ _. refl) (line (
     locals_closed f.locals is.locals then (group_end_closed f.locals then (statements_closed f.body is.body 1 then sign (λ _. refl) (line none))))))

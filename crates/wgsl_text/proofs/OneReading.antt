@@ -1,21 +1,24 @@
 -- The text of a tree has one reading.
-use Rattle.std.proofs.Common.{◌≡◌, List, [], ◌∷◌, refl, sym, ap, subst, ◌∙◌}
+use Rattle.std.proofs.Common.{◌≡◌, ℕ, List, [], ◌∷◌, refl, sym, ap, subst, ◌∙◌}
 use Rattle.std.proofs.lemmas.List.{append-nil}
 use Rattle.wgsl_text.specs.Token.{Token, Piece, TokenPiece, Blank, LineEnd, Indent}
 use Rattle.wgsl_text.specs.Words.{is_builtin}
-use Rattle.wgsl_text.specs.Tree.{TypeSpecifier, Expression, Program, no_declarations}
+use Rattle.wgsl_text.specs.Tree.{TypeSpecifier, Expression, Statement, NoStatements, Then, Function, Program, no_declarations}
 use Rattle.wgsl_text.specs.Pieces.{type_pieces, expression_pieces}
-use Rattle.wgsl_text.specs.Declarations.{program_pieces}
+use Rattle.wgsl_text.specs.Lines.{statement_pieces}
+use Rattle.wgsl_text.specs.Declarations.{function_pieces, program_pieces}
 use Rattle.wgsl_text.specs.Grammar.{IsType, IsExpression}
-use Rattle.wgsl_text.specs.GrammarOfLines.{IsProgram}
+use Rattle.wgsl_text.specs.GrammarOfLines.{IsStatement, IsFunction, IsProgram}
 use Rattle.wgsl_text.specs.Text.{text, tokens_in, tokens}
-use Rattle.wgsl_text.specs.Reading.{ReadsType, ReadsExpression, Reads, type_layout, expression_layout, layout, HasOneReading}
-use Rattle.wgsl_text.proofs.Machine.{State, Want, WantType, Got, GotType, Bottom, InProgram, step, run}
+use Rattle.wgsl_text.specs.Reading.{ReadsType, ReadsExpression, ReadsStatement, ReadsFunction, Reads, type_layout, expression_layout, statement_layout, function_layout, layout, HasOneReading}
+use Rattle.wgsl_text.proofs.Machine.{State, Want, WantType, Got, GotType, Bottom, InStatements, InProgram, step, run}
 use Rattle.wgsl_text.proofs.Runs.{Runs, type_runs, expression_runs}
-use Rattle.wgsl_text.proofs.DeclarationRuns.{newest_first, newest_twice, program_runs}
+use Rattle.wgsl_text.proofs.StatementRuns.{statement_runs}
+use Rattle.wgsl_text.proofs.DeclarationRuns.{newest_first, newest_twice, function_runs, program_runs}
 use Rattle.wgsl_text.proofs.Scans.{Apart, pieces_scan}
 use Rattle.wgsl_text.proofs.Spacing.{Spaced, type_spaced, expression_spaced}
-use Rattle.wgsl_text.proofs.DeclarationSpacing.{program_closed}
+use Rattle.wgsl_text.proofs.StatementSpacing.{Closed, statement_closed}
+use Rattle.wgsl_text.proofs.DeclarationSpacing.{function_closed, program_closed}
 
 abbrev pub read : List Token → State → State
 read [] s = s
@@ -38,6 +41,16 @@ type_read t r = reads_to r.tokens (type_runs t r.form.part Bottom)
 pub expression_read : {ts : List Token} (e : Expression) → ReadsExpression ts e → read ts (Want Bottom) ≡ Got e Bottom
 expression_read e r = reads_to r.tokens (expression_runs e r.form Bottom)
 
+statement_read : {ts : List Token} (st : Statement) → ReadsStatement ts st → read ts (Want (InStatements NoStatements Bottom)) ≡ Want (InStatements (Then st NoStatements) Bottom)
+statement_read st r = reads_to r.tokens (statement_runs st r.form r.level NoStatements Bottom)
+
+-- a program of one function
+abbrev only_function : Function → Program
+only_function f = record no_declarations { functions = f ∷ [] }
+
+function_read : {ts : List Token} (f : Function) → ReadsFunction ts f → read ts (Want (InProgram [] no_declarations)) ≡ Want (InProgram [] (only_function f))
+function_read f r = reads_to r.tokens (function_runs f r.form [] no_declarations)
+
 pub program_read : {ts : List Token} (p : Program) → Reads ts p → read ts (Want (InProgram [] no_declarations)) ≡ Want (InProgram [] (newest_first p))
 program_read p r = reads_to r.tokens (program_runs p r.form)
 
@@ -46,6 +59,9 @@ same_type a b s e f = cc
 
 pub same_expression : (a b : Expression) (s : State) → s ≡ Got a Bottom → s ≡ Got b Bottom → a ≡ b
 same_expression a b s e f = cc
+
+same_statement : (a b : Statement) (s : State) → s ≡ Want (InStatements (Then a NoStatements) Bottom) → s ≡ Want (InStatements (Then b NoStatements) Bottom) → a ≡ b
+same_statement a b s e f = cc
 
 pub same_program : (a b : Program) (s : State) → s ≡ Want (InProgram [] a) → s ≡ Want (InProgram [] b) → a ≡ b
 same_program a b s e f = cc
@@ -57,6 +73,18 @@ type_unique ts a b ra rb = same_type a b _ (type_read a ra) (type_read b rb)
 pub expression_unique : (ts : List Token) (a b : Expression) → ReadsExpression ts a → ReadsExpression ts b → a ≡ b
 expression_unique ts a b ra rb = same_expression a b _ (expression_read a ra) (expression_read b rb)
 
+pub statement_unique : (ts : List Token) (a b : Statement) → ReadsStatement ts a → ReadsStatement ts b → a ≡ b
+statement_unique ts a b ra rb = same_statement a b _ (statement_read a ra) (statement_read b rb)
+
+-- the first function, or another where there is none
+abbrev first_or : Function → List Function → Function
+first_or f [] = f
+first_or f (g ∷ more) = g
+
+pub function_unique : (ts : List Token) (a b : Function) → ReadsFunction ts a → ReadsFunction ts b → a ≡ b
+function_unique ts a b ra rb =
+    ap (λ p. first_or a p.functions) (same_program (only_function a) (only_function b) _ (function_read a ra) (function_read b rb))
+
 pub program_unique : (ts : List Token) (a b : Program) → Reads ts a → Reads ts b → a ≡ b
 program_unique ts a b ra rb =
     let e = same_program _ _ _ (program_read a ra) (program_read b rb) in sym (newest_twice a) ∙ (ap newest_first e ∙ newest_twice b)
@@ -64,6 +92,9 @@ program_unique ts a b ra rb =
 -- the tokens of pieces that stand apart
 spaced_tokens : (ps : List Piece) → Spaced ps → tokens (text ps) ≡ tokens_in ps
 spaced_tokens ps a = pieces_scan ps (subst Apart (append-nil ps) (a.by [] tt refl))
+
+closed_tokens : (ps : List Piece) → Closed ps → tokens (text ps) ≡ tokens_in ps
+closed_tokens ps a = pieces_scan ps (subst Apart (append-nil ps) (a.by [] tt))
 
 pub type_has_one_reading : (t : TypeSpecifier) → IsType t → HasOneReading ReadsType (type_layout t) t
 type_has_one_reading t is =
@@ -75,8 +106,17 @@ expression_has_one_reading e is =
     let r : ReadsExpression (tokens (expression_layout e)) e = record { form = is; tokens = spaced_tokens (expression_pieces e) (expression_spaced e is) } in
     record { read = r; only = λ other o. expression_unique _ other e o r }
 
+pub statement_has_one_reading : (st : Statement) → IsStatement st → (level : ℕ) → HasOneReading ReadsStatement (statement_layout st level) st
+statement_has_one_reading st is level =
+    let r : ReadsStatement (tokens (statement_layout st level)) st = record { form = is; level = level; tokens = closed_tokens (statement_pieces st level) (statement_closed st is level) } in
+    record { read = r; only = λ other o. statement_unique _ other st o r }
+
+pub function_has_one_reading : (f : Function) → IsFunction f → HasOneReading ReadsFunction (function_layout f) f
+function_has_one_reading f is =
+    let r : ReadsFunction (tokens (function_layout f)) f = record { form = is; tokens = closed_tokens (function_pieces f) (function_closed f is) } in
+    record { read = r; only = λ other o. function_unique _ other f o r }
+
 pub program_has_one_reading : (p : Program) → IsProgram p → HasOneReading Reads (layout p) p
 program_has_one_reading p is =
-    let apart : Apart (program_pieces p) = subst Apart (append-nil (program_pieces p)) ((program_closed p is).by [] tt) in
-    let r : Reads (tokens (layout p)) p = record { form = is; tokens = pieces_scan (program_pieces p) apart } in
+    let r : Reads (tokens (layout p)) p = record { form = is; tokens = closed_tokens (program_pieces p) (program_closed p is) } in
     record { read = r; only = λ other o. program_unique _ other p o r }

@@ -4,9 +4,9 @@ use Rattle.std.specs.Prelude.{codes, ◌==◌, ◌<◌, ◌^◌}
 use Rattle.std.proofs.lemmas.Bool.{false≢true}
 use Rattle.wgsl_text.specs.Token.{Token, SuffixI, SuffixU}
 use Rattle.wgsl_text.specs.Words.{is_reserved, is_builtin}
-use Rattle.wgsl_text.specs.Tree.{TypeSpecifier, Expression, Program, Named, Template, TypePart, NoParts, Name, Call, Argument, NoArguments, NumberArgument, Member, Unary, Negate, Constant, Suffixed}
-use Rattle.wgsl_text.specs.Tree.{no_declarations, NoResult, Plain, Compute, Worded, Builtin}
-use Rattle.wgsl_text.specs.Examples.{named, parameter, function, of_functions}
+use Rattle.wgsl_text.specs.Tree.{TypeSpecifier, Expression, Program, Named, Template, TypePart, NoParts, Name, Call, Argument, NoArguments, NumberArgument, ZeroArgument, Member, Unary, Negate, Constant, Suffixed}
+use Rattle.wgsl_text.specs.Tree.{no_declarations, NoResult, Plain, Compute, Worded, Builtin, Attribute, Numbered, Location, Size, Align}
+use Rattle.wgsl_text.specs.Examples.{named, name, call, parameter, function, of_functions, member, struct}
 use Rattle.wgsl_text.specs.Reading.{ReadsType, ReadsExpression, Reads}
 use Rattle.wgsl_text.specs.Refused.{Refused, IsNoExpression}
 use Rattle.wgsl_text.proofs.Machine.{State, Want, WantType, Got, GotType, Bottom, InProgram}
@@ -59,6 +59,24 @@ plain_argument : IsNoExpression (codes "f(x, 1)")
 unfolding is_reserved is_builtin
 plain_argument = found_expression _ (Call (Named (codes "f")) (Argument (Name (codes "x")) (NumberArgument 1 NoArguments))) refl (λ r. false≢true r.form.2)
 
+level_elsewhere : IsNoExpression (codes "textureSampleBias(t, s, p, 0.0)")
+unfolding is_reserved is_builtin
+level_elsewhere =
+    found_expression _ (call "textureSampleBias" (Argument (name "t") (Argument (name "s") (Argument (name "p") (ZeroArgument NoArguments))))) refl
+    (λ r. false≢true r.form.2)
+
+level_first : IsNoExpression (codes "textureSampleLevel(0.0, t, s, p)")
+unfolding is_reserved is_builtin
+level_first =
+    found_expression _ (call "textureSampleLevel" (ZeroArgument (Argument (name "t") (Argument (name "s") (Argument (name "p") NoArguments))))) refl
+    (λ r. false≢true r.form.2)
+
+two_levels : IsNoExpression (codes "textureSampleLevel(t, s, 0.0, 0.0)")
+unfolding is_reserved is_builtin
+two_levels =
+    found_expression _ (call "textureSampleLevel" (Argument (name "t") (Argument (name "s") (ZeroArgument (ZeroArgument NoArguments))))) refl
+    (λ r. false≢true r.form.2)
+
 open_binary : IsNoExpression (codes "a + b")
 unfolding is_reserved is_builtin
 open_binary = no_expression _ refl
@@ -74,6 +92,10 @@ reserved_called = found_expression _ (Call (Named (codes "while")) (Argument (Na
 builtin_name : IsNoExpression (codes "f32")
 unfolding is_reserved is_builtin
 builtin_name = found_expression _ (Name (codes "f32")) refl (λ r. false≢true (sym r.form.own))
+
+-- a struct of one member with these attributes
+abbrev of_member : List Attribute → Program
+of_member attributes = record no_declarations { structs = struct "S" (member attributes "a" (named "f32") ∷ []) ∷ [] }
 
 abbrev reserved_parameter_tree : Program
 reserved_parameter_tree = of_functions (function "f" (parameter "self" (named "i32") ∷ []) NoResult [] [] ∷ [])
@@ -92,6 +114,9 @@ refused = record {
   member_of_unary = member_of_unary;
   plain_number = plain_number;
   plain_argument = plain_argument;
+  level_elsewhere = level_elsewhere;
+  level_first = level_first;
+  two_levels = two_levels;
   open_binary = open_binary;
   keyword_called = keyword_called;
   reserved_called = reserved_called;
@@ -104,6 +129,11 @@ refused = record {
   reserved_parameter = found_program _ reserved_parameter_tree refl (λ r. false≢true (sym r.form.functions.0.parameters.0.name.word.free));
   cut = no_program _ refl;
   break_if_first = no_program _ refl;
+  two_sizes = found_program _ (of_member (Numbered Size 16 ∷ Numbered Size 16 ∷ [])) refl (λ r. false≢true r.form.structs.0.members.0.binding);
+  two_alignments = found_program _ (of_member (Numbered Align 8 ∷ Numbered Align 8 ∷ [])) refl (λ r. false≢true r.form.structs.0.members.0.binding);
+  size_behind_alignment = found_program _ (of_member (Numbered Align 16 ∷ Numbered Size 16 ∷ [])) refl (λ r. false≢true r.form.structs.0.members.0.binding);
+  size_behind_binding = found_program _ (of_member (Numbered Location 0 ∷ Numbered Size 16 ∷ [])) refl (λ r. false≢true r.form.structs.0.members.0.binding);
+  unknown_enable = found_program _ (record no_declarations { enables = codes "f61" ∷ [] }) refl (λ r. false≢true r.form.enables.0);
   unknown_builtin_value = found_program _ unknown_builtin_value_tree refl (λ r. false≢true r.form.functions.0.parameters.0.attributes.0);
   stage_without_size = found_program _ stage_without_size_tree refl (λ r. false≢true r.form.entry_points.0.stage);
 }

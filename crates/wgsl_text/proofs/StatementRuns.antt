@@ -57,7 +57,7 @@ continues : (body : Statements) {s : Stack} {qs : List Piece} {s' : State} → R
 continues body {s} b = tok $ as_state (ap (λ v. WantBrace (InContinuing v s)) (unwind_rewind body NoStatements)) b
 
 mutual
-  statement_runs : (st : Statement) → IsStatement st → (n : ℕ) (done : Statements) (s : Stack) → Runs (statement_pieces st n) (Want (InStatements done s)) (Want (InStatements (Then st done) s))
+  pub statement_runs : (st : Statement) → IsStatement st → (n : ℕ) (done : Statements) (s : Stack) → Runs (statement_pieces st n) (Want (InStatements done s)) (Want (InStatements (Then st done) s))
   statement_runs (Let w e) is n done s = indent $ tok $ gap $ tok $ gap $ tok $ gap $ expression_runs e is.1 _ then end
   statement_runs (TypedLet w t e) is n done s =
       indent $ tok $ gap $ tok $ tok $ gap $ type_runs t is.1.part _ then gap $ tok $ gap $ expression_runs e is.2 _ then end

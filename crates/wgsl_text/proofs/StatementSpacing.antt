@@ -76,7 +76,7 @@ case_closed (LastLabel (UnsignedLabel n)) is = sign (λ _. refl) $ gap $ labels_
 case_closed (MoreLabels l more) is = sign (λ _. refl) $ gap $ labels_closed (MoreLabels l more) is
 
 mutual
-  statement_closed : (st : Statement) → IsStatement st → (n : ℕ) → Closed (statement_pieces st n)
+  pub statement_closed : (st : Statement) → IsStatement st → (n : ℕ) → Closed (statement_pieces st n)
   statement_closed (Let w e) is n =
       indent $ sign (λ _. refl) $ gap $ free is.0.word (λ _. refl) $ gap $ sign (λ _. refl) $ gap $ part (expression_spaced e is.1) (λ _. refl) stop
   statement_closed (TypedLet w t e) is n =

@@ -5,9 +5,9 @@ use Rattle.std.specs.Str.{bytes_eq}
 use Rattle.std.proofs.lemmas.Bool.{false≢true, and_parts, not-true}
 use Rattle.std.proofs.lemmas.Slice.Eq.{bytes_eq-Decides}
 use Rattle.wgsl_text.specs.Words.{is_word_text, stands_in, is_reserved, is_builtin, IsWord}
-use Rattle.wgsl_text.specs.Tables.{address_space_words, access_words, builtin_value_words, interpolation_words, sampling_words, enable_words}
+use Rattle.wgsl_text.specs.Tables.{address_space_words, access_words, builtin_value_words, interpolation_words, sampling_words, enable_words, type_taking_words}
 use Rattle.wgsl_text.specs.Tree.{TypeSpecifier, Named, Template, TypeParts, NoParts}
-use Rattle.wgsl_text.specs.Grammar.{PartsRule, TakesNone, TakesScalar, TakesSampled, TakesElements, TakesPointee, TakesFormat, TakesVertexReturn, TakesRole, TakesType, rule_among, type_templates, type_taking_words, call_templates, fits, IsType, IsCallee}
+use Rattle.wgsl_text.specs.Grammar.{PartsRule, TakesNone, TakesScalar, TakesSampled, TakesElements, TakesPointee, TakesFormat, TakesVertexReturn, TakesRole, TakesType, rule_among, type_templates, call_templates, fits, IsType, IsCallee}
 
 pub either : (a b : Bool) → (a || b) ≡ true → (a ≡ true) ⊎ (b ≡ true)
 either true b e = inl refl

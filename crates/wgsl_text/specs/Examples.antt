@@ -2,7 +2,7 @@
 use Prim.Native.String.{String}
 use Rattle.std.specs.Prelude.{◌≡◌, ℕ, true, false, List, [], ◌∷◌, ◌++◌, codes, Option, None, Some}
 use Rattle.wgsl_text.specs.Token.{SuffixI, SuffixU, SuffixLi}
-use Rattle.wgsl_text.specs.Tree.{Truth, Suffixed, Add, Multiply, Negate, TypeSpecifier, Named, Template, TypeParts, NoParts, TypePart, SizePart, Expression, Constant, Name, Binary, Unary, Call, Member, IndexAt, AddressOf, Dereference, Arguments, NoArguments, Argument, ZeroArgument, DefaultLabel, SignedLabel, LastLabel, MoreLabels, Let, TypedLet, Assign, CallStatement, ReturnValue, Continue, If, LoopBreakIf, Switch, Statement, Statements, NoStatements, Then, NoCases, Case, Vertex, Fragment, Compute, Location, Id, Group, Binding, Size, Builtin, Interpolate, Plain, Numbered, Worded, Interpolated, WorkgroupSize, Attribute, WordedAttribute, Parameter, Result, NoResult, ResultOf, Local, Function, EntryPoint, StructMember, Struct, NamedConstant, Override, Space, Global, SpaceAlone, SpaceAndAccess, Program, no_declarations}
+use Rattle.wgsl_text.specs.Tree.{Truth, Suffixed, Add, Multiply, Negate, TypeSpecifier, Named, Template, TypeParts, NoParts, TypePart, SizePart, Expression, Constant, Name, Binary, Unary, Call, Member, IndexAt, AddressOf, Dereference, Arguments, NoArguments, Argument, ZeroArgument, DefaultLabel, SignedLabel, LastLabel, MoreLabels, Let, TypedLet, Assign, CallStatement, ReturnValue, Continue, If, LoopBreakIf, Switch, Statement, Statements, NoStatements, Then, NoCases, Case, Vertex, Fragment, Compute, Location, Id, Group, Binding, Size, Builtin, Interpolate, Plain, Numbered, Worded, Interpolated, WorkgroupSize, Attribute, WordedAttribute, Parameter, Result, NoResult, ResultOf, Local, Function, EntryPoint, StructMember, Struct, NamedConstant, Override, Space, Global, SpaceAlone, SpaceAndAccess, Program, no_declarations, operands}
 use Rattle.wgsl_text.specs.GrammarOfLines.{IsProgram}
 use Rattle.wgsl_text.specs.Reading.{layout}
 
@@ -33,10 +33,6 @@ integer n = Constant (Suffixed false n SuffixI)
 
 abbrev pub unsigned : ℕ → Expression
 unsigned n = Constant (Suffixed false n SuffixU)
-
-abbrev pub operands : List Expression → Arguments
-operands [] = NoArguments
-operands (e ∷ more) = Argument e (operands more)
 
 abbrev pub call : String → Arguments → Expression
 call w arguments = Call (Named (codes w)) arguments

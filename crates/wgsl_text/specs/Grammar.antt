@@ -3,7 +3,7 @@ use Rattle.std.specs.Prelude.{ℕ, ◌<◌, ◌≤◌, ◌^◌, Bool, true, fals
 use Rattle.std.specs.Str.{bytes_eq}
 use Rattle.wgsl_text.specs.Token.{Suffix, SuffixI, SuffixU, SuffixLi, SuffixLu}
 use Rattle.wgsl_text.specs.Words.{stands_in, is_builtin, IsWord, IsIdentifier}
-use Rattle.wgsl_text.specs.Tables.{scalar_words, sampled_words, vector_words, matrix_words, sampled_image_words, depth_image_words, storage_image_words, cooperative_matrix_words, sampler_words, ray_words, address_space_words, access_words, format_words, role_words}
+use Rattle.wgsl_text.specs.Tables.{scalar_words, sampled_words, vector_words, matrix_words, sampled_image_words, depth_image_words, storage_image_words, cooperative_matrix_words, sampler_words, ray_words, address_space_words, access_words, format_words, role_words, atomic_words, array_words, pointer_words, type_taking_words, gather_words, level_words}
 use Rattle.wgsl_text.specs.Tree.{Literal, Truth, Suffixed, SignedShort, UnsignedShort, LeastInteger, LeastLong, TypeSpecifier, Named, Template, TypeParts, NoParts, TypePart, SizePart, Expression, Constant, Name, Binary, Unary, Call, Member, Index, IndexAt, AddressOf, Dereference, Arguments, NoArguments, Argument, NumberArgument, ZeroArgument}
 
 -- a size, an index, or a number of an attribute
@@ -51,13 +51,9 @@ rule_among (row ∷ rows) w = if stands_in row.0 w then row.1 else rule_among ro
 -- the words of types with parts
 abbrev pub type_templates : List (List (List ℕ) × PartsRule)
 type_templates =
-    (vector_words, TakesScalar) ∷ (matrix_words, TakesScalar) ∷ (codes "atomic" ∷ [], TakesScalar) ∷
-    (sampled_image_words, TakesSampled) ∷ (codes "array" ∷ codes "binding_array" ∷ [], TakesElements) ∷ (codes "ptr" ∷ [], TakesPointee) ∷
-    (storage_image_words, TakesFormat) ∷ (ray_words, TakesVertexReturn) ∷ (cooperative_matrix_words, TakesRole) ∷ []
-
--- built-in functions that take a type
-abbrev pub type_taking_words : List (List ℕ)
-type_taking_words = codes "bitcast" ∷ codes "coopLoad" ∷ codes "coopLoadT" ∷ []
+    (vector_words, TakesScalar) ∷ (matrix_words, TakesScalar) ∷ (atomic_words, TakesScalar) ∷ (sampled_image_words, TakesSampled) ∷
+    (array_words, TakesElements) ∷ (pointer_words, TakesPointee) ∷ (storage_image_words, TakesFormat) ∷ (ray_words, TakesVertexReturn) ∷
+    (cooperative_matrix_words, TakesRole) ∷ []
 
 -- the words of calls with parts: these, and types
 abbrev pub call_templates : List (List (List ℕ) × PartsRule)
@@ -100,23 +96,27 @@ abbrev pub IsCallee : TypeSpecifier → Type 0
 IsCallee (Named w) = IsWord w
 IsCallee (Template w parts) = IsTrue (fits (rule_among call_templates w) parts) × IsParts parts
 
--- no plain number; and no `0.0` either
-abbrev pub has_no_number : Arguments → Bool
-has_no_number NoArguments = true
-has_no_number (Argument e more) = has_no_number more
-has_no_number (NumberArgument n more) = false
-has_no_number (ZeroArgument more) = has_no_number more
-
 abbrev pub are_expressions : Arguments → Bool
 are_expressions NoArguments = true
 are_expressions (Argument e more) = are_expressions more
 are_expressions (NumberArgument n more) = false
 are_expressions (ZeroArgument more) = false
 
+-- expressions, and among them one `0.0`
+abbrev pub have_a_zero : Arguments → Bool
+have_a_zero (Argument e more) = have_a_zero more
+have_a_zero (ZeroArgument more) = are_expressions more
+have_a_zero _ = false
+
+-- the same, and an expression is the first
+abbrev pub have_a_level : Arguments → Bool
+have_a_level (Argument e more) = have_a_zero more
+have_a_level _ = false
+
 -- A plain number is the component of a gather, and `0.0` the level of a sampling, and nothing else.
 abbrev pub may_take : TypeSpecifier → Arguments → Bool
-may_take (Named w) (NumberArgument n more) = stands_in (codes "textureGather" ∷ codes "textureGatherCompare" ∷ []) w && (nat_lt n 4 && are_expressions more)
-may_take (Named w) arguments = are_expressions arguments || (bytes_eq (codes "textureSampleLevel") w && has_no_number arguments)
+may_take (Named w) (NumberArgument n more) = stands_in gather_words w && (nat_lt n 4 && are_expressions more)
+may_take (Named w) arguments = are_expressions arguments || (stands_in level_words w && have_a_level arguments)
 may_take (Template w parts) arguments = are_expressions arguments
 
 abbrev pub IsSome : Arguments → Type 0

@@ -89,11 +89,14 @@ is_io_binding (Worded Builtin w ∷ Plain Invariant ∷ []) = bytes_eq (codes "p
 is_io_binding (Numbered Location n ∷ more) = behind_location more
 is_io_binding _ = false
 
--- sizes and alignments before the binding
+-- what may stand on a member: a size, an alignment and a binding, each if it is there, in this order
+abbrev pub behind_size : List Attribute → Bool
+behind_size (Numbered Align n ∷ more) = is_io_binding more
+behind_size more = is_io_binding more
+
 abbrev pub is_member_binding : List Attribute → Bool
-is_member_binding (Numbered Size n ∷ more) = is_member_binding more
-is_member_binding (Numbered Align n ∷ more) = is_member_binding more
-is_member_binding more = is_io_binding more
+is_member_binding (Numbered Size n ∷ more) = behind_size more
+is_member_binding more = behind_size more
 
 abbrev pub is_id : List Attribute → Bool
 is_id [] = true

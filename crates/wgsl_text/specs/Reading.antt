@@ -1,11 +1,12 @@
 -- What it is for a text to have one reading.
 use Rattle.std.specs.Prelude.{◌≡◌, ℕ, List}
 use Rattle.wgsl_text.specs.Token.{Token}
-use Rattle.wgsl_text.specs.Tree.{TypeSpecifier, Expression, Program}
+use Rattle.wgsl_text.specs.Tree.{TypeSpecifier, Expression, Statement, Function, Program}
 use Rattle.wgsl_text.specs.Pieces.{type_pieces, expression_pieces}
-use Rattle.wgsl_text.specs.Declarations.{program_pieces}
+use Rattle.wgsl_text.specs.Lines.{statement_pieces}
+use Rattle.wgsl_text.specs.Declarations.{function_pieces, program_pieces}
 use Rattle.wgsl_text.specs.Grammar.{IsType, IsExpression}
-use Rattle.wgsl_text.specs.GrammarOfLines.{IsProgram}
+use Rattle.wgsl_text.specs.GrammarOfLines.{IsStatement, IsFunction, IsProgram}
 use Rattle.wgsl_text.specs.Text.{text, tokens_in, tokens}
 
 -- the grammar: these are the tokens of this type
@@ -18,17 +19,34 @@ pub record ReadsExpression (ts : List Token) (e : Expression) : Type 0 where
   pub form : IsExpression e
   pub tokens : ts ≡ tokens_in (expression_pieces e)
 
+-- the same of a statement, which may stand at any level
+pub record ReadsStatement (ts : List Token) (s : Statement) : Type 0 where
+  pub form : IsStatement s
+  pub level : ℕ
+  pub tokens : ts ≡ tokens_in (statement_pieces s level)
+
+-- the same of a function
+pub record ReadsFunction (ts : List Token) (f : Function) : Type 0 where
+  pub form : IsFunction f
+  pub tokens : ts ≡ tokens_in (function_pieces f)
+
 -- the same of a program
 pub record Reads (ts : List Token) (program : Program) : Type 0 where
   pub form : IsProgram program
   pub tokens : ts ≡ tokens_in (program_pieces program)
 
--- the texts of a type, an expression and a program, with their blanks and line ends
+-- the texts of trees, with their blanks and line ends
 abbrev pub type_layout : TypeSpecifier → List ℕ
 type_layout t = text (type_pieces t)
 
 abbrev pub expression_layout : Expression → List ℕ
 expression_layout e = text (expression_pieces e)
+
+abbrev pub statement_layout : Statement → ℕ → List ℕ
+statement_layout s level = text (statement_pieces s level)
+
+abbrev pub function_layout : Function → List ℕ
+function_layout f = text (function_pieces f)
 
 abbrev pub layout : Program → List ℕ
 layout program = text (program_pieces program)

@@ -19,6 +19,10 @@ pub record Refused : Type 0 where
   -- a number without a suffix
   pub plain_number : IsNoExpression (codes "1")
   pub plain_argument : IsNoExpression (codes "f(x, 1)")
+  -- the level of another function, before every other operand, and twice
+  pub level_elsewhere : IsNoExpression (codes "textureSampleBias(t, s, p, 0.0)")
+  pub level_first : IsNoExpression (codes "textureSampleLevel(0.0, t, s, p)")
+  pub two_levels : IsNoExpression (codes "textureSampleLevel(t, s, 0.0, 0.0)")
   -- a binary expression without parentheses
   pub open_binary : IsNoExpression (codes "a + b")
   -- a reserved word as a name: a keyword of the grammar, and another
@@ -38,5 +42,13 @@ pub record Refused : Type 0 where
   pub break_if_first : IsNoProgram (
       codes "fn f(c: bool) {\n    loop {\n        continuing {\n            break if c;\n            g();\n" ++
       codes "        }\n    }\n}\n\n")
+  -- a member with two sizes, with two alignments, and with its size behind its alignment or binding
+  pub two_sizes : IsNoProgram (codes "struct S {\n    @size(16) @size(16) a: f32,\n}\n\n")
+  pub two_alignments : IsNoProgram (codes "struct S {\n    @align(8) @align(8) a: f32,\n}\n\n")
+  pub size_behind_alignment : IsNoProgram (
+      codes "struct S {\n    @align(16) @size(16) a: f32,\n}\n\n")
+  pub size_behind_binding : IsNoProgram (
+      codes "struct S {\n    @location(0) @size(16) a: f32,\n}\n\n")
+  pub unknown_enable : IsNoProgram (codes "enable f61;\n\n")
   pub unknown_builtin_value : IsNoProgram (codes "fn f(@builtin(colour) x: i32) {\n}\n\n")
   pub stage_without_size : IsNoProgram (codes "@compute \nfn main() {\n}\n")

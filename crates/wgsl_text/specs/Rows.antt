@@ -1,10 +1,10 @@
 -- A tree for each row of the grammar, and beside it its text.
 use Rattle.std.specs.Prelude.{◌≡◌, ℕ, true, false, List, [], ◌∷◌, ◌++◌, codes, None, Some}
 use Rattle.wgsl_text.specs.Token.{SuffixI, SuffixLi, SuffixLu}
-use Rattle.wgsl_text.specs.Tree.{Truth, Suffixed, SignedShort, UnsignedShort, LeastInteger, LeastLong, Add, Subtract, Multiply, Divide, Modulo, Equal, NotEqual, Less, LessEqual, Greater, GreaterEqual, And, ExclusiveOr, InclusiveOr, LogicalAnd, LogicalOr, ShiftLeft, ShiftRight, Negate, LogicalNot, BitwiseNot, TypeSpecifier, Expression, Constant, Binary, Unary, Call, Index, IndexAt, AddressOf, Dereference, NoArguments, Argument, NumberArgument, ZeroArgument, DefaultLabel, SignedLabel, UnsignedLabel, LastLabel, MoreLabels, Assign, CallStatement, Return, ReturnValue, Discard, Break, If, Loop, Switch, Block, NoStatements, NoCases, Case, Invariant, PerPrimitive, Coherent, Volatile, Vertex, Fragment, Task, RayGeneration, AnyHit, ClosestHit, Miss, Location, BlendSource, Id, Group, Binding, Size, Align, Builtin, Interpolate, Mesh, Payload, IncomingPayload, Plain, Numbered, WorkgroupSize, NoResult, ResultOf, NoSpace, Program, no_declarations}
+use Rattle.wgsl_text.specs.Tree.{Truth, Suffixed, SignedShort, UnsignedShort, LeastInteger, LeastLong, Add, Subtract, Multiply, Divide, Modulo, Equal, NotEqual, Less, LessEqual, Greater, GreaterEqual, And, ExclusiveOr, InclusiveOr, LogicalAnd, LogicalOr, ShiftLeft, ShiftRight, Negate, LogicalNot, BitwiseNot, TypeSpecifier, Expression, Constant, Binary, Unary, Call, Index, IndexAt, AddressOf, Dereference, NoArguments, Argument, NumberArgument, ZeroArgument, DefaultLabel, SignedLabel, UnsignedLabel, LastLabel, MoreLabels, Assign, CallStatement, Return, ReturnValue, Discard, Break, If, Loop, Switch, Block, NoStatements, NoCases, Case, Invariant, PerPrimitive, Coherent, Volatile, Vertex, Fragment, Task, RayGeneration, AnyHit, ClosestHit, Miss, Location, BlendSource, Id, Group, Binding, Size, Align, Builtin, Interpolate, Mesh, Payload, IncomingPayload, Plain, Numbered, WorkgroupSize, NoResult, ResultOf, NoSpace, Program, no_declarations, operands}
 use Rattle.wgsl_text.specs.Grammar.{IsType, IsExpression}
 use Rattle.wgsl_text.specs.Reading.{type_layout, expression_layout}
-use Rattle.wgsl_text.specs.Examples.{named, template, sized, member_of, bound, typed, bound_parameter, worded, interpolated, member, struct, constant, override, space, global, entry_point, name, integer, unsigned, operands, call, statements, parameter, local, function, of_functions, IsText}
+use Rattle.wgsl_text.specs.Examples.{named, template, sized, member_of, bound, typed, bound_parameter, worded, interpolated, member, struct, constant, override, space, global, entry_point, name, integer, unsigned, call, statements, parameter, local, function, of_functions, IsText}
 
 -- The tree is a type, and these bytes are its layout.
 pub record IsTypeText (t : TypeSpecifier) (bytes : List ℕ) : Type 0 where
@@ -205,7 +205,7 @@ every_declaration = record no_declarations {
       member (worded Builtin "position" ∷ Plain Invariant ∷ []) "pos" (template "vec4" (named "f32" ∷ [])) ∷
       member (Numbered Location 1 ∷ interpolated "perspective" "centroid" ∷ []) "a" (named "f32") ∷
       member (Numbered Location 0 ∷ Numbered BlendSource 1 ∷ Plain PerPrimitive ∷ []) "b" (named "f32") ∷
-      member (Numbered Align 16 ∷ Numbered Size 32 ∷ []) "c" (named "f32") ∷ []) ∷ [];
+      member (Numbered Size 32 ∷ Numbered Align 16 ∷ []) "c" (named "f32") ∷ []) ∷ [];
   constants =
       constant "N" (named "i32") (integer 7) ∷
       constant "M" (template "vec2" (named "f32" ∷ [])) (Call (template "vec2" (named "f32" ∷ [])) NoArguments) ∷ [];
@@ -266,7 +266,7 @@ pub record LineRows : Type 0 where
   pub every_declaration : IsText every_declaration (
       codes "enable f16;\nenable dual_source_blending;\n\nstruct Input {\n    @builtin(position) @invariant pos: vec4<f32>,\n" ++ (
       codes "    @location(1) @interpolate(perspective, centroid) a: f32,\n" ++ (
-      codes "    @location(0) @blend_src(1) @per_primitive b: f32,\n    @align(16) @size(32) c: f32,\n}\n\nconst N: i32 = 7i;\n" ++ (
+      codes "    @location(0) @blend_src(1) @per_primitive b: f32,\n    @size(32) @align(16) c: f32,\n}\n\nconst N: i32 = 7i;\n" ++ (
       codes "const M: vec2<f32> = vec2<f32>();\n\n@id(3) override gain: f32 = 1i;\noverride plain: bool;\n\n" ++ (
       codes "@group(0) @binding(0) \nvar image: texture_storage_2d<rgba8unorm,write>;\n@group(0) @binding(1) \n" ++ (
       codes "@coherent @volatile var<storage> buf: array<u32>;\n@coherent var<uniform> block: Input;\n" ++ (

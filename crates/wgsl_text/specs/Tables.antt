@@ -22,6 +22,21 @@ matrix_words =
     codes "mat2x2" ∷ codes "mat2x3" ∷ codes "mat2x4" ∷ codes "mat3x2" ∷ codes "mat3x3" ∷ codes "mat3x4" ∷ codes "mat4x2" ∷ codes "mat4x3" ∷
     codes "mat4x4" ∷ []
 
+-- atomic types (WGSL, "Atomic Types")
+abbrev pub atomic_words : List (List ℕ)
+atomic_words =
+    codes "atomic" ∷ []
+
+-- arrays (WGSL, "Array Types"), with those of bindings of an extension
+abbrev pub array_words : List (List ℕ)
+array_words =
+    codes "array" ∷ codes "binding_array" ∷ []
+
+-- pointers (WGSL, "Reference and Pointer Types")
+abbrev pub pointer_words : List (List ℕ)
+pointer_words =
+    codes "ptr" ∷ []
+
 -- sampled and multisampled images (WGSL, "Sampled Texture Types")
 abbrev pub sampled_image_words : List (List ℕ)
 sampled_image_words =
@@ -114,3 +129,18 @@ abbrev pub enable_words : List (List ℕ)
 enable_words =
     codes "f16" ∷ codes "wgpu_int16" ∷ codes "dual_source_blending" ∷ codes "clip_distances" ∷ codes "wgpu_mesh_shader" ∷ codes "wgpu_binding_array" ∷
     codes "draw_index" ∷ codes "primitive_index" ∷ codes "wgpu_cooperative_matrix" ∷ codes "wgpu_ray_tracing_pipeline" ∷ codes "wgpu_per_vertex" ∷ []
+
+-- built-in functions that take a type
+abbrev pub type_taking_words : List (List ℕ)
+type_taking_words =
+    codes "bitcast" ∷ codes "coopLoad" ∷ codes "coopLoadT" ∷ []
+
+-- built-in functions whose first operand may be the number of a component
+abbrev pub gather_words : List (List ℕ)
+gather_words =
+    codes "textureGather" ∷ codes "textureGatherCompare" ∷ []
+
+-- built-in functions that may take the level `0.0`
+abbrev pub level_words : List (List ℕ)
+level_words =
+    codes "textureSampleLevel" ∷ []

@@ -1,5 +1,5 @@
 -- The trees that a text is read as. A word is the list of its bytes.
-use Rattle.std.specs.Prelude.{ℕ, Bool, List, [], Option}
+use Rattle.std.specs.Prelude.{ℕ, Bool, List, [], ◌∷◌, Option}
 use Rattle.wgsl_text.specs.Token.{Suffix}
 
 pub data BinaryOperator : Type 0 where
@@ -54,6 +54,16 @@ mutual
     NumberArgument : ℕ → Arguments → Arguments
     -- the level `0.0`
     ZeroArgument : Arguments → Arguments
+
+-- expressions as the operands of a call
+abbrev pub operands : List Expression → Arguments
+operands [] = NoArguments
+operands (e ∷ more) = Argument e (operands more)
+
+-- the same, with the level `0.0` between the first and the last of them
+abbrev pub operands_with_level : List Expression → List Expression → Arguments
+operands_with_level [] more = ZeroArgument (operands more)
+operands_with_level (e ∷ first) more = Argument e (operands_with_level first more)
 
 pub data Label : Type 0 where
   DefaultLabel : Label

@@ -2,17 +2,20 @@
 #![tactic(auto)]
 
 ghost use Rattle.std.specs.Prelude.{◌≡◌, ℕ, List, [], ◌∷◌, ◌++◌};
+ghost use Rattle.wgsl_text.specs.Building.{WordsAreTypes, CalledWordsAreExpressions};
 ghost use Rattle.wgsl_text.specs.Examples.{WorkedPrograms};
 ghost use Rattle.wgsl_text.specs.Grammar.{IsType, IsCallee, IsExpression};
-ghost use Rattle.wgsl_text.specs.GrammarOfLines.{IsProgram};
+ghost use Rattle.wgsl_text.specs.GrammarOfLines.{IsStatement, IsFunction, IsProgram};
 ghost use Rattle.wgsl_text.specs.LargeExamples.{LargePrograms};
-ghost use Rattle.wgsl_text.specs.Reading.{ReadsType, ReadsExpression, Reads, HasOneReading, type_layout, expression_layout, layout};
+ghost use Rattle.wgsl_text.specs.Reading.{ReadsType, ReadsExpression, ReadsStatement, ReadsFunction, Reads, HasOneReading, type_layout, expression_layout, statement_layout, function_layout, layout};
 ghost use Rattle.wgsl_text.specs.Refused.{Refused};
 ghost use Rattle.wgsl_text.specs.Rows.{TypeRows, OperatorRows, AccessRows, LineRows};
+ghost use Rattle.wgsl_text.specs.Spelled.{Spelled};
 ghost use Rattle.wgsl_text.specs.Spelling.{Spells, Begins};
 ghost use Rattle.wgsl_text.specs.Text.{text, tokens};
 ghost use Rattle.wgsl_text.specs.Token.{Piece, Token};
-ghost use Rattle.wgsl_text.specs.Tree.{TypeSpecifier, Expression, Program};
+ghost use Rattle.wgsl_text.specs.Tree.{TypeSpecifier, Expression, Statement, Function, Program};
+ghost use Rattle.wgsl_text.specs.ValueWords.{ValueWords};
 
 /// The tokens of a text are those of its front, and then those of what stands behind it. The front is a blank, or
 /// the longest that spells a token, or a byte that begins none.
@@ -34,6 +37,20 @@ pub fn one_reading_of_an_expression()
     ensures unique { (ts : List Token) (a b : Expression) → ReadsExpression ts a → ReadsExpression ts b → a ≡ b }
 {}
 
+/// The text of a statement, at any level, is read as that statement and no other, and no tokens are read as two
+/// statements.
+pub fn one_reading_of_a_statement()
+    ensures layout { (s : Statement) → IsStatement s → (level : ℕ) →
+        HasOneReading ReadsStatement (statement_layout s level) s }
+    ensures unique { (ts : List Token) (a b : Statement) → ReadsStatement ts a → ReadsStatement ts b → a ≡ b }
+{}
+
+/// The text of a function is read as that function and no other, and no tokens are read as two functions.
+pub fn one_reading_of_a_function()
+    ensures layout { (f : Function) → IsFunction f → HasOneReading ReadsFunction (function_layout f) f }
+    ensures unique { (ts : List Token) (a b : Function) → ReadsFunction ts a → ReadsFunction ts b → a ≡ b }
+{}
+
 /// The text of a program is read as that program and no other, and no tokens are read as two programs.
 pub fn one_reading_of_a_program()
     ensures layout { (program : Program) → IsProgram program → HasOneReading Reads (layout program) program }
@@ -45,9 +62,31 @@ pub fn types_are_callees()
     ensures { (t : TypeSpecifier) → IsType t → IsCallee t }
 {}
 
+/// Words are types, and words with the parts that they take are.
+pub fn words_are_types()
+    ensures { WordsAreTypes }
+{}
+
+/// A call of what may be called, a word that is not reserved or a type, is an expression where its operands are, and a
+/// statement; each built-in word may be called.
+pub fn called_words_are_expressions()
+    ensures { CalledWordsAreExpressions }
+{}
+
 /// The text of appended pieces is the appended texts.
 pub fn text_of_appended()
     ensures { (first second : List Piece) → text (first ++ second) ≡ text first ++ text second }
+{}
+
+/// The tables that the grammar shares with values of the IR have the words that `wgsl_words` gives these values, and
+/// no others.
+pub fn words_of_values()
+    ensures { ValueWords }
+{}
+
+/// The words, keywords, signs, suffixes and attributes of the grammar, spelled out.
+pub fn words_are_spelled()
+    ensures { Spelled }
 {}
 
 /// The texts of worked programs, byte for byte.

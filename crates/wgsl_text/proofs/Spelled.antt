@@ -1,0 +1,36 @@
+-- The words of the grammar are spelled so.
+use Rattle.std.proofs.Common.{refl}
+use Rattle.std.specs.Fmt.{digits}
+use Rattle.wgsl_text.specs.Words.{is_reserved}
+use Rattle.wgsl_text.specs.Spelled.{SpelledTypes, SpelledCalls, SpelledMarks, SpelledAttributes, Spelled}
+
+types : SpelledTypes
+unfolding is_reserved
+types = record {
+  vectors = refl;
+  matrices = refl;
+  atomics = refl;
+  arrays = refl;
+  pointers = refl;
+  sampled_images = refl;
+  depth_images = refl;
+  storage_images = refl;
+  samplers = refl;
+  rays = refl;
+  cooperative_matrices = refl;
+}
+
+calls : SpelledCalls
+unfolding is_reserved
+calls = record { enables = refl; type_taking = refl; gathers = refl; levels = refl }
+
+marks : SpelledMarks
+unfolding is_reserved
+marks = record { keywords_in_order = refl; brackets = refl; separators = refl; operators = refl; double_operators = refl; suffixes = refl }
+
+attributes : SpelledAttributes
+unfolding digits
+attributes = record { plain = refl; numbered = refl; worded = refl; interpolated = refl; workgroup_size = refl }
+
+pub spelled : Spelled
+spelled = record { types = types; calls = calls; marks = marks; attributes = attributes }

@@ -1,0 +1,5 @@
+use Rattle.wgsl_text.proofs.TypeWords.{words_are_types}
+use Rattle.wgsl_text.proofs.words_are_types.Goals as goal
+
+pub returns : goal.returns
+returns c = words_are_types

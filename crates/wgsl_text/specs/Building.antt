@@ -1,0 +1,40 @@
+-- What is built of words, types and expressions is of the grammar.
+use Rattle.std.specs.Prelude.{◌≡◌, ℕ, ◌<◌, List, ◌∷◌, codes, IsTrue}
+use Rattle.wgsl_text.specs.Grammar.{IsPlainNumber, IsType, IsCallee, IsExpression, TakesScalar, TakesElements, rule_among, type_templates, plain_type_words}
+use Rattle.wgsl_text.specs.GrammarOfLines.{Each, IsStatement}
+use Rattle.wgsl_text.specs.Tables.{scalar_words, address_space_words, gather_words, level_words}
+use Rattle.wgsl_text.specs.Tree.{TypeSpecifier, Named, Template, NoParts, TypePart, SizePart, NumberArgument, Expression, Call, CallStatement, operands, operands_with_level}
+use Rattle.wgsl_text.specs.Words.{IsIdentifier, stands_in, is_builtin}
+
+-- types of a word alone, and of a word with parts
+pub record WordsAreTypes : Type 0 where
+  pub plain : (w : List ℕ) → IsTrue (stands_in plain_type_words w) → IsType (Named w)
+  pub struct_name : (w : List ℕ) → IsIdentifier w → IsType (Named w)
+  -- a vector, a matrix or an atomic
+  pub of_scalar : (w s : List ℕ) → rule_among type_templates w ≡ TakesScalar →
+      IsTrue (stands_in scalar_words s) → IsType (Template w (TypePart (Named s) NoParts))
+  -- an array of as many elements as are bound, and of n
+  pub dynamic : (w : List ℕ) (t : TypeSpecifier) → rule_among type_templates w ≡ TakesElements →
+      IsType t → IsType (Template w (TypePart t NoParts))
+  pub sized : (w : List ℕ) (t : TypeSpecifier) (n : ℕ) →
+      rule_among type_templates w ≡ TakesElements → IsType t → IsPlainNumber n →
+      IsType (Template w (TypePart t (SizePart n NoParts)))
+  pub pointer : (space : List ℕ) (t : TypeSpecifier) →
+      IsTrue (stands_in address_space_words space) → IsType t →
+      IsType (Template (codes "ptr") (TypePart (Named space) (TypePart t NoParts)))
+
+-- calls of what may be called, a word that is not reserved or a type, with expressions as operands
+pub record CalledWordsAreExpressions : Type 0 where
+  pub builtin : (w : List ℕ) → IsTrue (is_builtin w) → IsCallee (Named w)
+  pub expression : (t : TypeSpecifier) (es : List Expression) → IsCallee t →
+      Each IsExpression es → IsExpression (Call t (operands es))
+  pub statement : (t : TypeSpecifier) (es : List Expression) → IsCallee t →
+      Each IsExpression es → IsStatement (CallStatement t (operands es))
+  -- a gather, with the number of its component first
+  pub gather : (w : List ℕ) (n : ℕ) (e : Expression) (es : List Expression) →
+      IsTrue (stands_in gather_words w) → n < 4 → Each IsExpression (e ∷ es) →
+      IsExpression (Call (Named w) (NumberArgument n (operands (e ∷ es))))
+  -- a sampling at level `0.0`, which stands behind some of its operands
+  pub level : (w : List ℕ) (e : Expression) (es more : List Expression) →
+      IsTrue (stands_in level_words w) → Each IsExpression (e ∷ es) → Each IsExpression more →
+      IsExpression (Call (Named w) (operands_with_level (e ∷ es) more))
