@@ -17,6 +17,7 @@ use Rattle.shader_runs.proofs.Update.{and_left, and_right, same_bytes_equal, sam
 use Rattle.shader_runs.proofs.Relation.{Returns, global_as, IsHere, NoName, fixed_denoted, Related}
 use Rattle.shader_runs.proofs.Evaluation.{words, Respond, Responds}
 use Rattle.shader_runs.proofs.Written.{Given, globals_length, value_here}
+use Rattle.shader_runs.proofs.Checked.{FitsAll}
 use Rattle.shader_runs.proofs.Statements.{Same, same_all}
 use Rattle.shader_runs.proofs.Fresh.{all_fresh, start_sources}
 use Rattle.shader_runs.proofs.Start.{start_stands}
@@ -217,7 +218,7 @@ module _ (p : Module) (n : ModuleNames) (env : Environment) (environment : Envir
           words = start_words;
         }
 
-    starts : length vs ≡ argument_count f.function → Related (call_of fs f vs t) f.names (at_start f.function) (first_names n f vs t) (constants_kept f.function env m)
+    pub starts : length vs ≡ argument_count f.function → Related (call_of fs f vs t) f.names (at_start f.function) (first_names n f vs t) (constants_kept f.function env m)
     starts e =
         subst (λ n'. Related (call_of fs f vs t) f.names (at_start f.function) (first_names n' f vs t) (constants_kept f.function env m)) fit.outer (starts_own e)
 
@@ -247,14 +248,18 @@ module _ (p : Module) (n : ModuleNames) (env : Environment) (environment : Envir
         ap (λ q. first_followed q rest) (value_here p (call_of fs f vs t) f.names (responses fs) (given k) (at_start f.function) names kept (starts e) h here t1)
         ∙ followed_firsts (used (call_of fs f vs t) kept h) (first_used_all (call_of fs f vs t) kept os) t1 rest (firsts_reached k e os (suc j) (and_right (usable_if f.function (at_start f.function) (Some h)) (first_values_fit f.function os) u))
 
-    -- both runs of the body
-    pub list_alike : length vs ≡ argument_count f.function → IsTrue (has_types f.function.argument_types vs) → (t1 : List Event) → Same (call_of fs f vs t) f.names (at_start f.function) (constants_kept f.function env m) (after_all f 0 f.function.body (at_start f.function)) (any_continue f.function.body) (run_all (call_of fs f vs t) bound f.function.body (constants_kept f.function env m) t1) (follow_all (words (call_of fs f vs t) (responses fs)) bound (form_all f 0 f.function.body (at_start f.function)) (first_names n f vs t) t1)
-    list_alike e k t1 =
+    -- the body and what is related at its start
+    pub body_fits : IsTrue (has_types f.function.argument_types vs) → FitsAll p (call_of fs f vs t) f.names 0 f.function.body (at_start f.function)
+    body_fits k =
         let c = call_of fs f vs t in
         let firsts_fit = first_values_fit f.function f.function.first_values in
         let body_fits = fits_all f 0 f.function.body (at_start f.function) in
-        let checked = all_fresh p c f.names environment fit.distinct f.function.body 0 (at_start f.function) (omega arith) (start_sources p c f.names environment fit.distinct) fit.regular (and_right firsts_fit body_fits fit.scope) in
-        same_all p c f.names (responses fs) (given k) bound f.function.body 0 (at_start f.function) (first_names n f vs t) (constants_kept f.function env m) t1 (starts e) checked
+        all_fresh p c f.names environment fit.distinct f.function.body 0 (at_start f.function) (omega arith) (start_sources p c f.names environment fit.distinct) fit.regular (and_right firsts_fit body_fits fit.scope)
+
+    -- both runs of the body
+    list_alike : length vs ≡ argument_count f.function → IsTrue (has_types f.function.argument_types vs) → (t1 : List Event) → Same (call_of fs f vs t) f.names (at_start f.function) (constants_kept f.function env m) (after_all f 0 f.function.body (at_start f.function)) (any_continue f.function.body) (run_all (call_of fs f vs t) bound f.function.body (constants_kept f.function env m) t1) (follow_all (words (call_of fs f vs t) (responses fs)) bound (form_all f 0 f.function.body (at_start f.function)) (first_names n f vs t) t1)
+    list_alike e k t1 =
+        same_all p (call_of fs f vs t) f.names (responses fs) (given k) bound f.function.body 0 (at_start f.function) (first_names n f vs t) (constants_kept f.function env m) t1 (starts e) (body_fits k)
 
     body_alike : (place place' : ℕ) → place' ≡ place → length vs ≡ argument_count f.function → IsTrue (has_types f.function.argument_types vs) → Answers (Returns f.function) (run_body (call_of fs f vs t) bound place vs t) (follow_body (words (call_of fs f vs t) (responses fs)) bound place' (form_function f) vs (first_names n f vs t) t)
     body_alike place place' pe e k =
