@@ -6,12 +6,12 @@ use Rattle.shader_runs.specs.World.{Event, Ask}
 use Rattle.shader_runs.specs.Outcome.{Stop, Outcome, Done, Continued, Broke, Returned, Stopped, Reached, Gives, Halts, Next, and_then, and_continue, after_switch, chosen, with_integer, closed, closed_if}
 use Rattle.shader_runs.specs.Program.{expression_of, handle_type, Label, Numbered, Statement, Emit, Store, Block, If, Switch, Loop, Break, Continue, Return, Kill, Barrier, Act, Statements, end, then, Cases, no_case, case, Module, binds, from, holds_continue, any_continue}
 use Rattle.shader_runs.specs.ProgramRun.{Call, Kept, used, with_used, emit, emit_as, barrier_words, ask_each, same_label, label_if, run, run_all}
-use Rattle.shader_runs.specs.Text.{Tree, Line, Let, Braces, IfElse, SwitchOn, Lines, last, before, Groups}
+use Rattle.shader_runs.specs.Text.{Tree, Line, Let, Braces, IfElse, SwitchOn, LoopOf, Lines, last, before, Groups}
 use Rattle.shader_runs.specs.TextRun.{Scope, performed, unhidden, value_of, with_value, has_continue, among, group_has, follow, follow_all, follow_groups}
 use Rattle.shader_runs.specs.Scope.{usable, Handles, Names, bound_name, after_one, given_after, given_after_all, after_emit, given_by, given_by_all, after, after_all, forgotten_if}
 use Rattle.shader_runs.specs.Form.{written, value_at, value_if, value_form, own_form, let_if, lets, perform_each, form, form_all, form_cases}
 use Rattle.shader_runs.specs.Premises.{EachAsks, FallsFrom}
-use Rattle.shader_runs.specs.Passes.{Region, Point, here, behind, inside, after_turns, body_at, statements_in, module_turn, FallsTo, this_case, next_case, ComesToCase, own_case, other_case, Comes, into_block, into_accept, into_reject, into_case, into_turn, into_continuing, into_break_if, Passes, is_here, goes_behind, goes_inside, emits, lines_at, text_turn, GoesToGroup, own_group, other_group, into_braces, into_then, into_else, into_group, into_text_turn, into_text_continuing, into_text_break_if, TextPasses, is_here_in_text, goes_behind_line, goes_inside_line, let_count, line_count, behind_lines, group_of, region_in_text, point_in_text}
+use Rattle.shader_runs.specs.Passes.{Region, Point, here, behind, inside, after_turns, InTurn, to_body, to_continuing, to_break_if, body_at, statements_in, module_turn, FallsTo, this_case, next_case, ComesToCase, own_case, other_case, Comes, into_block, into_accept, into_reject, into_case, into_loop, Passes, is_here, goes_behind, goes_inside, emits, lines_at, lines_in, text_turn, GoesToGroup, own_group, other_group, into_braces, into_then, into_else, into_group, into_loop_line, TextPasses, is_here_in_text, goes_behind_line, goes_inside_line, let_count, line_count, behind_lines, group_of, region_in_text, point_in_text}
 use Rattle.shader_runs.specs.Points.{given_before, given_in, handles_in, handles_at}
 use Rattle.shader_runs.proofs.Alike.{Alike, done, continued, broke, returned_alike, stopped, mistyped, reached, weaker, continue_alike}
 use Rattle.shader_runs.proofs.Relation.{Related, Agree, agree_refl, related_agree}
@@ -126,7 +126,7 @@ module _ (p : Module) (c : Call) (n : Names) (d : Respond) (given : Given p c n 
       let whole = and_then (follow (words c d) bound x names t) (λ s t. Done s t) in
       let there : closed_if false names whole ≡ Done w.0 t1 = subst (λ b. closed_if b names whole ≡ Done w.0 t1) none w.1 in
       let own = sym (then_done (follow (words c d) bound x names t)) ∙ there in
-      (w.0, w.2, λ tail q names2 t2 h. goes_behind_line names w.0 names2 own h)
+      (w.0, w.2, λ tail q names2 t2 h. goes_behind_line own h)
 
   -- a line that leaves the names as they were, with or without a `continue` in it
   abbrev Closes : Line → Scope → List Event → Type 0
@@ -154,7 +154,7 @@ module _ (p : Module) (c : Call) (n : Names) (d : Respond) (given : Given p c n 
   closing_line : (x : Line) (s : Handles) (names : Scope) (kept kept1 : Kept) (t t1 : List Event) → Closes x names t → Related c n s names kept → (names1 : Scope) × (follow_all (words c d) bound (before x last) names t ≡ Done names1 t1) × Agree s kept kept1 → (names1 : Scope) × Related c n s names1 kept1 × ((tail : Lines) → Leads (before x tail) (λ q. behind q) names t tail names1 t1)
   closing_line x s names kept kept1 t t1 z r w =
       let own : follow (words c d) bound x names t ≡ Done w.0 t1 = sym z.0 ∙ w.1 in
-      (w.0, subst (λ l. Related c n s l kept1) (sym (z.1 w.0 t1 own)) (related_agree c n s names kept kept1 w.2 r), λ tail q names2 t2 h. goes_behind_line names w.0 names2 own h)
+      (w.0, subst (λ l. Related c n s l kept1) (sym (z.1 w.0 t1 own)) (related_agree c n s names kept kept1 w.2 r), λ tail q names2 t2 h. goes_behind_line own h)
 
   -- a line for each handle that is bound
   emits_one : (k h : ℕ) (s : Handles) (names : Scope) (kept kept1 : Kept) (t t1 : List Event) → Related c n s names kept → MayEmitAll c n k (h ∷ []) s → emit c (h ∷ []) kept t ≡ Done kept1 t1 → (names1 : Scope) × Related c n (after_one (naming c n) k h s) names1 kept1 × ((tail : Lines) → Leads (lets (naming c n) k (h ∷ []) s tail) (behind_lines (let_count c.function (h ∷ []))) names t tail names1 t1)
@@ -171,7 +171,7 @@ module _ (p : Module) (c : Call) (n : Names) (d : Respond) (given : Given p c n 
       own = value_form (own_form (naming c n) (written (naming c n) s) (handle_type c.function h) (expression_of c.function h))
 
       go : (b : Bool) (tail : Lines) (names1 : Scope) → follow_all (words c d) bound (let_if b x own last) names t ≡ Done names1 t1 → Leads (let_if b x own tail) (behind_lines (cond b 1 0)) names t tail names1 t1
-      go true tail names1 e q names2 t2 h = goes_behind_line names names1 names2 (sym (then_done (follow (words c d) bound (Let x own) names t)) ∙ e) h
+      go true tail names1 e q names2 t2 h = goes_behind_line (sym (then_done (follow (words c d) bound (Let x own) names t)) ∙ e) h
       go false tail names1 e q names2 t2 h =
           subst (λ l. Text tail q l t names2 t2) (sym (same_state names names1 t t1 e)) (subst (λ e. Text tail q names1 e names2 t2) (sym (same_events names names1 t t1 e)) h)
 
@@ -193,7 +193,7 @@ module _ (p : Module) (c : Call) (n : Names) (d : Respond) (given : Given p c n 
   asks_all (w ∷ ws) s names kept kept1 t t1 r m e =
       let rest = asks_all ws s names kept kept1 (Ask w [] ∷ t) t1 r m.1 e in
       let asked = ap (λ o. unhidden o t (d w [] t)) (free p c n d given s names kept r w m.0.1.1) ∙ request_responds p c n d given.responds w m.0 [] t in
-      (rest.0, λ tail q names2 t2 h. goes_behind_line names names names2 (ap (λ q. performed names q) asked) (rest.1 tail q names2 t2 h))
+      (rest.0, λ tail q names2 t2 h. goes_behind_line (ap (λ q. performed names q) asked) (rest.1 tail q names2 t2 h))
 
   -- the text's run gets behind each statement that the module's run gets behind
   goes_on : (st : Statement) (k : ℕ) (s : Handles) (names : Scope) (kept kept1 : Kept) (t t1 : List Event) → Related c n s names kept → Fits p c n k st s → run c bound st kept t ≡ Done kept1 t1 → Behind k st s names t kept1 t1
@@ -247,9 +247,9 @@ module _ (p : Module) (c : Call) (n : Names) (d : Respond) (given : Given p c n 
   from_none ls q names names1 t t1 h = go h refl
     where
       go : {ls1 : Lines} {q : Point} {names names1 : Scope} {t t1 : List Event} → Text ls1 q names t names1 t1 → ls1 ≡ last → Text ls q names t names1 t1
-      go (is_here_in_text names) e = is_here_in_text names
-      go (goes_behind_line {x = x} {ls = rest} names names1 names2 a b) e = absurd (some_line x rest e)
-      go (goes_inside_line {x = x} {ls = rest} names names1 names2 a b) e = absurd (some_line x rest e)
+      go is_here_in_text e = is_here_in_text
+      go (goes_behind_line {x = x} {ls = rest} a b) e = absurd (some_line x rest e)
+      go (goes_inside_line {x = x} {ls = rest} a b) e = absurd (some_line x rest e)
 
   -- the value of a handle in scope, by the text
   value_there : (s : Handles) (names : Scope) (kept : Kept) (t : List Event) (h : ℕ) (v : Value) → Related c n s names kept → IsTrue (usable c.function s h) → used c kept h ≡ Some v → value_of (words c d) (value_at (naming c n) s h) names t ≡ Gives v t
@@ -293,84 +293,100 @@ module _ (p : Module) (c : Call) (n : Names) (d : Respond) (given : Given p c n 
   nothing_done (then st ss) cs kept kept1 t t1 m e = absurd m
 
   falls_to : {cs : Cases} {i : ℕ} {kept kept1 : Kept} {t t1 : List Event} → FallsTo c bound cs i kept t kept1 t1 → (k : ℕ) (labels : List Label) (s : Handles) (x : Label) → Awaited x labels cs → FitsCases p c n k cs s → Found k labels cs s x i × (kept1 ≡ kept) × (t1 ≡ t)
-  falls_to (this_case {l = l} {b = b} {falls = falls} {cs = cs} kept) k labels s x e m =
+  falls_to (this_case {l = l} {b = b} {falls = falls} {cs = cs}) k labels s x e m =
       (found_here l b falls cs k labels s x e m, refl, refl)
-  falls_to (next_case {l = l} {b = b} {cs = cs} kept kept1 kept2 {t = t} {t1 = t1} q rest) k labels s x e m =
+  falls_to (next_case {l = l} {b = b} {cs = cs} {kept = kept} {kept1 = kept1} {t = t} {t1 = t1} q rest) k labels s x e m =
       let first = nothing_done b cs kept kept1 t t1 m.0 q in
       let w = falls_to rest (given_by_all c.function b k) (labels ++ l ∷ []) s x (awaited_more x (labels ++ l ∷ []) b cs m.0 e) m.2 in
       (w.0, w.1 ∙ first.0, w.2 ∙ first.1)
 
   comes_to : {x : Label} {cs : Cases} {i : ℕ} {kept kept1 : Kept} {t t1 : List Event} → ComesToCase c bound x cs i kept t kept1 t1 → (k : ℕ) (labels : List Label) (s : Handles) → among x labels ≡ false → FitsCases p c n k cs s → Found k labels cs s x i × (kept1 ≡ kept) × (t1 ≡ t)
-  comes_to {x} (own_case {l = l} kept kept1 q rest) k labels s e m =
+  comes_to {x} (own_case {l = l} q rest) k labels s e m =
       falls_to rest k labels s x (among_append x labels l ∙ or_right (among x labels) (same_label x l) q) m
-  comes_to {x} (other_case {l = l} {b = b} {falls = false} kept kept1 q rest) k labels s e m =
+  comes_to {x} (other_case {l = l} {b = b} {falls = false} q rest) k labels s e m =
       let w = comes_to rest (given_by_all c.function b k) [] s refl m.2 in
       ((other_group (among_append x labels l ∙ ap (λ a. a || same_label x l) e ∙ q) w.0.0, w.0.1, w.0.2), w.1, w.2)
-  comes_to {x} (other_case {l = l} {b = b} {falls = true} kept kept1 q rest) k labels s e m =
+  comes_to {x} (other_case {l = l} {b = b} {falls = true} q rest) k labels s e m =
       comes_to rest (given_by_all c.function b k) (labels ++ l ∷ []) s (among_append x labels l ∙ ap (λ a. a || same_label x l) e ∙ q) m.2
 
   -- the same state and events, of the text's run
   same_from : (ls : Lines) (q : Point) (names names2 : Scope) (t t1 t2 : List Event) → t1 ≡ t → Text ls q names t1 names2 t2 → Text ls q names t names2 t2
   same_from ls q names names2 t t1 t2 e h = subst (λ t. Text ls q names t names2 t2) e h
 
-  -- turns that are done
+  -- a loop
   module _ (b b2 : Statements) (e : Option ℕ) (k : ℕ) (s : Handles) (m : Fits p c n k (Loop b b2 e) s) where
-    abbrev Turn : Next Scope
-    Turn =
-        let k1 = given_by_all c.function b k in
-        let s1 = after_all (naming c n) k b s in
-        text_turn (words c d) bound (form_all (naming c n) k b s) (form_all (naming c n) k1 b2 s1) (value_if (naming c n) (after_all (naming c n) k1 b2 s1) e)
+    -- behind the body
+    abbrev K1 : ℕ
+    K1 = given_by_all c.function b k
 
+    abbrev S1 : Handles
+    S1 = after_all (naming c n) k b s
+
+    -- behind `continuing`
+    abbrev S2 : Handles
+    S2 = after_all (naming c n) K1 b2 S1
+
+    abbrev Body_lines : Lines
+    Body_lines = form_all (naming c n) k b s
+
+    abbrev Continuing_lines : Lines
+    Continuing_lines = form_all (naming c n) K1 b2 S1
+
+    abbrev Turn : Next Scope
+    Turn = text_turn (words c d) bound Body_lines Continuing_lines (value_if (naming c n) S2 e)
+
+    -- turns that are done
     turns_go : (j : ℕ) (names : Scope) (kept kept1 : Kept) (t t1 : List Event) → Related c n s names kept → after_turns (module_turn c bound b b2 e) j kept t ≡ Done kept1 t1 → (names1 : Scope) × (after_turns Turn j names t ≡ Done names1 t1) × Related c n s names1 kept1
     turns_go zero names kept kept1 t t1 r q =
         (names, ap (λ e. Done names e) (same_events kept kept1 t t1 q), subst (λ k. Related c n s names k) (same_state kept kept1 t t1 q) r)
     turns_go (suc j) names kept kept1 t t1 r q =
-        let k1 = given_by_all c.function b k in
-        let s1 = after_all (naming c n) k b s in
         let parts = then_parts (module_turn c bound b b2 e kept t) (after_turns (module_turn c bound b b2 e) j) kept1 t1 q in
-        let keep = turns_keep p c n d given bound s s1 (after_all (naming c n) k1 b2 s1) (any_continue b) (any_continue b2) (run_all c bound b) (run_all c bound b2) (follow_all (words c d) bound (form_all (naming c n) k b s)) (follow_all (words c d) bound (form_all (naming c n) k1 b2 s1)) e (extends_all c n k b s) m.2 (λ kept names t r. same_all p c n d given bound b k s names kept t r m.0) (λ kept names t r. same_all p c n d given bound b2 k1 s1 names kept t r m.1) kept in
+        let keep = turns_keep p c n d given bound s S1 S2 (any_continue b) (any_continue b2) (run_all c bound b) (run_all c bound b2) (follow_all (words c d) bound Body_lines) (follow_all (words c d) bound Continuing_lines) e (extends_all c n k b s) m.2 (λ kept names t r. same_all p c n d given bound b k s names kept t r m.0) (λ kept names t r. same_all p c n d given bound b2 K1 S1 names kept t r m.1) kept in
         let one = both_done (keep kept names t (r, agree_refl s kept)) parts.0 parts.1 parts.2 in
         let rest = turns_go j one.0 parts.0 kept1 parts.1 t1 one.2.0 parts.3 in
         (rest.0, one_more_turn Turn j names one.0 t parts.1 (Done rest.0 t1) one.1 rest.1, rest.2)
 
     -- the end of the body, or a `continue`
-    body_goes : (names : Scope) (kept kept1 : Kept) (t t1 : List Event) → Related c n s names kept → and_continue (run_all c bound b kept t) (λ s t. Done s t) ≡ Done kept1 t1 → (names1 : Scope) × (and_continue (follow_all (words c d) bound (form_all (naming c n) k b s) names t) (λ s t. Done s t) ≡ Done names1 t1) × Related c n (after_all (naming c n) k b s) names1 kept1
+    body_goes : (names : Scope) (kept kept1 : Kept) (t t1 : List Event) → Related c n s names kept → and_continue (run_all c bound b kept t) (λ s t. Done s t) ≡ Done kept1 t1 → (names1 : Scope) × (and_continue (follow_all (words c d) bound Body_lines names t) (λ s t. Done s t) ≡ Done names1 t1) × Related c n S1 names1 kept1
     body_goes names kept kept1 t t1 r q =
-        let s1 = after_all (naming c n) k b s in
         let same = same_all p c n d given bound b k s names kept t r m.0 in
-        let both = weaker {P' = λ k l. Related c n s1 l k} {Q' = λ k l. Related c n s1 l k} (λ k l a. a.0) (λ k l a. a.0) (λ k l a. a) same in
-        both_done (continue_alike {P' = λ k l. Related c n s1 l k} {Q' = λ k l. Unit {0}} (λ k l t a. done a) both) kept1 t1 q
+        let both = weaker {P' = λ k l. Related c n S1 l k} {Q' = λ k l. Related c n S1 l k} (λ k l a. a.0) (λ k l a. a.0) (λ k l a. a) same in
+        both_done (continue_alike {P' = λ k l. Related c n S1 l k} {Q' = λ k l. Unit {0}} (λ k l t a. done a) both) kept1 t1 q
 
     -- the end of `continuing`
-    continuing_goes : (names : Scope) (kept kept1 : Kept) (t t1 : List Event) → Related c n (after_all (naming c n) k b s) names kept → run_all c bound b2 kept t ≡ Done kept1 t1 → (names1 : Scope) × (follow_all (words c d) bound (form_all (naming c n) (given_by_all c.function b k) b2 (after_all (naming c n) k b s)) names t ≡ Done names1 t1) × Related c n (after_all (naming c n) (given_by_all c.function b k) b2 (after_all (naming c n) k b s)) names1 kept1
+    continuing_goes : (names : Scope) (kept kept1 : Kept) (t t1 : List Event) → Related c n S1 names kept → run_all c bound b2 kept t ≡ Done kept1 t1 → (names1 : Scope) × (follow_all (words c d) bound Continuing_lines names t ≡ Done names1 t1) × Related c n S2 names1 kept1
     continuing_goes names kept kept1 t t1 r q =
-        let w = both_done (same_all p c n d given bound b2 (given_by_all c.function b k) (after_all (naming c n) k b s) names kept t r m.1) kept1 t1 q in
+        let w = both_done (same_all p c n d given bound b2 K1 S1 names kept t r m.1) kept1 t1 q in
         (w.0, w.1, w.2.0)
+
+    in_turn : {g : Region} {kept kept1 : Kept} {t t1 : List Event} → InTurn bound (run_all c bound b) (run_all c bound b2) (module_turn c bound b b2 e) g kept t kept1 t1 → (names : Scope) → Related c n s names kept → (names1 : Scope) × InTurn bound (follow_all (words c d) bound Body_lines) (follow_all (words c d) bound Continuing_lines) Turn g names t names1 t1 × Related c n (handles_in (naming c n) k (Loop b b2 e) g s) names1 kept1 × FitsAll p c n (given_in c.function (Loop b b2 e) g k) (statements_in (Loop b b2 e) g) (handles_in (naming c n) k (Loop b b2 e) g s) × (Written_in k (Loop b b2 e) g s ≡ lines_in (LoopOf Body_lines Continuing_lines (value_if (naming c n) S2 e)) g)
+    in_turn {kept} {kept1} {t} {t1} (to_body {j = j} lt q) names r =
+        let w = turns_go j names kept kept1 t t1 r q in
+        (w.0, to_body lt w.1, w.2, m.0, refl)
+    in_turn (to_continuing {s1 = kept1} {s2 = kept2} {t1 = t1} {t2 = t2} turn q) names r =
+        let w = in_turn turn names r in
+        let w1 = body_goes w.0 kept1 kept2 t1 t2 w.2 q in
+        (w1.0, to_continuing w.1 w1.1, w1.2, m.1, refl)
+    in_turn (to_break_if {s1 = kept1} {s2 = kept2} {t1 = t1} {t2 = t2} turn q) names r =
+        let w = in_turn turn names r in
+        let w1 = continuing_goes w.0 kept1 kept2 t1 t2 w.2 q in
+        (w1.0, to_break_if w.1 w1.1, w1.2, tt, refl)
 
   -- the text's run comes to each region that the module's run comes to
   enters : {st : Statement} {g : Region} {kept kept1 : Kept} {t t1 : List Event} → Comes c bound st g kept t kept1 t1 → (k : ℕ) (s : Handles) (names : Scope) → Related c n s names kept → Fits p c n k st s → Enters k st g s names t kept1 t1
-  enters (into_block kept) k s names r m =
-      (names, r, m, λ tail q names2 t2 h. goes_inside_line names names names2 (into_braces names) h)
-  enters (into_accept {h = x} kept {t = t} e) k s names r m =
-      (names, r, m.1, λ tail q names2 t2 h. goes_inside_line names names names2 (into_then names (value_there s names kept t x (Truth true) r m.0 e)) h)
-  enters (into_reject {h = x} kept {t = t} e) k s names r m =
-      (names, r, m.2, λ tail q names2 t2 h. goes_inside_line names names names2 (into_else names (value_there s names kept t x (Truth false) r m.0 e)) h)
-  enters (into_case {h = x} {i = i} {cases = cs} {spelling = spelling} {z = z} kept kept1 {t = t} {t1 = t1} e to) k s names r m =
+  enters into_block k s names r m =
+      (names, r, m, λ tail q names2 t2 h. goes_inside_line into_braces h)
+  enters (into_accept {h = x} {kept = kept} {t = t} e) k s names r m =
+      (names, r, m.1, λ tail q names2 t2 h. goes_inside_line (into_then (value_there s names kept t x (Truth true) r m.0 e)) h)
+  enters (into_reject {h = x} {kept = kept} {t = t} e) k s names r m =
+      (names, r, m.2, λ tail q names2 t2 h. goes_inside_line (into_else (value_there s names kept t x (Truth false) r m.0 e)) h)
+  enters (into_case {h = x} {i = i} {cases = cs} {spelling = spelling} {z = z} {kept = kept} {kept1 = kept1} {t = t} {t1 = t1} e to) k s names r m =
       let w = comes_to to k [] s refl m.1 in
       let goes = subst (λ b. GoesToGroup (label_if b z) (form_cases (naming c n) k [] cs s) (group_of cs i)) (sym (has_all_cases p c n k cs s m.1 (Numbered z))) w.0.0 in
-      (names, subst (λ k. Related c n s names k) (sym w.1) r, w.0.1, λ tail q names2 t2 h. goes_inside_line names names names2 (into_group names (value_there s names kept t x (Whole spelling z) r m.0 e) goes) (same_from (lines_at (form_cases (naming c n) k [] cs s) (group_of cs i)) q names names2 t t1 t2 w.2 (w.0.2 q names names2 t1 t2 h)))
-  enters (into_turn {b = b} {d = b2} {e = e} {j = j} kept kept1 {t = t} {t1 = t1} lt q) k s names r m =
-      let w = turns_go b b2 e k s m j names kept kept1 t t1 r q in
-      (w.0, w.2, m.0, λ tail q names2 t2 h. goes_inside_line names w.0 names2 (into_text_turn names w.0 lt w.1) h)
-  enters (into_continuing {b = b} {d = b2} {e = e} {j = j} kept kept1 kept2 {t = t} {t1 = t1} {t2 = t2} lt q q1) k s names r m =
-      let w = turns_go b b2 e k s m j names kept kept1 t t1 r q in
-      let w1 = body_goes b b2 e k s m w.0 kept1 kept2 t1 t2 w.2 q1 in
-      (w1.0, w1.2, m.1, λ tail q names2 t2 h. goes_inside_line names w1.0 names2 (into_text_continuing names w.0 w1.0 lt w.1 w1.1) h)
-  enters (into_break_if {b = b} {d = b2} {e = e} {j = j} kept kept1 kept2 kept3 {t = t} {t1 = t1} {t2 = t2} {t3 = t3} lt q q1 q2) k s names r m =
-      let w = turns_go b b2 e k s m j names kept kept1 t t1 r q in
-      let w1 = body_goes b b2 e k s m w.0 kept1 kept2 t1 t2 w.2 q1 in
-      let w2 = continuing_goes b b2 e k s m w1.0 kept2 kept3 t2 t3 w1.2 q2 in
-      (w2.0, w2.2, tt, λ tail q names2 t2 h. goes_inside_line names w2.0 names2 (into_text_break_if names w.0 w1.0 w2.0 lt w.1 w1.1 w2.1) h)
+      (names, subst (λ k. Related c n s names k) (sym w.1) r, w.0.1, λ tail q names2 t2 h. goes_inside_line (into_group (value_there s names kept t x (Whole spelling z) r m.0 e) goes) (same_from (lines_at (form_cases (naming c n) k [] cs s) (group_of cs i)) q names names2 t t1 t2 w.2 (w.0.2 q names names2 t1 t2 h)))
+  enters {t1 = t1} (into_loop {b = b} {d = b2} {e = e} {g = g} turn) k s names r m =
+      let w = in_turn b b2 e k s m turn names r in
+      (w.0, w.2, w.3, λ tail q names2 t2 h. goes_inside_line (into_loop_line w.1) (subst (λ ls. Text ls q w.0 t1 names2 t2) w.4 h))
 
   -- some first handles of an Emit
   emits_some : (i count first k : ℕ) (s : Handles) (names : Scope) (kept kept1 : Kept) (t t1 : List Event) (tail : Lines) → i ≤ count → Related c n s names kept → MayEmitAll c n k (from first count) s → emit c (from first i) kept t ≡ Done kept1 t1 → (names1 : Scope) × Text (lets (naming c n) k (from first count) s tail) (behind_lines (let_count c.function (from first i)) here) names t names1 t1 × Related c n (after_emit (naming c n) k (from first i) s) names1 kept1
@@ -380,7 +396,7 @@ module _ (p : Module) (c : Call) (n : Names) (d : Respond) (given : Given p c n 
       let f = naming c n in
       let rest = lets f (given_after_all c.function (from first i) k) split.0 (after_emit f k (from first i) s) tail in
       let lines = ap (λ hs. lets f k hs s tail) split.1 ∙ lets_append (from first i) split.0 k s tail in
-      (w.0, subst (λ ls. Text ls (behind_lines (let_count c.function (from first i)) here) names t w.0 t1) (sym lines) (w.2 rest here w.0 t1 (is_here_in_text w.0)), w.1)
+      (w.0, subst (λ ls. Text ls (behind_lines (let_count c.function (from first i)) here) names t w.0 t1) (sym lines) (w.2 rest here w.0 t1 is_here_in_text), w.1)
     where
       from_split : (i count first : ℕ) → i ≤ count → (ys : List ℕ) × (from first count ≡ from first i ++ ys)
       from_split zero count first le = (from first count, refl)
@@ -400,18 +416,18 @@ module _ (p : Module) (c : Call) (n : Names) (d : Respond) (given : Given p c n 
           ap (let_if (binds c.function x) (bound_name (naming c n) k x) (value_form (own_form (naming c n) (written (naming c n) s) (handle_type c.function x) (expression_of c.function x)))) (lets_append xs ys (given_after c.function x k) (after_one (naming c n) k x s) tail)
 
   pub passes : {ss : Statements} {q : Point} {kept kept1 : Kept} {t t1 : List Event} → Passes c bound ss q kept t kept1 t1 → (k : ℕ) (s : Handles) (names : Scope) → Related c n s names kept → FitsAll p c n k ss s → (names1 : Scope) × Text (form_all (naming c n) k ss s) (point_in_text c.function ss q) names t names1 t1 × Related c n (handles_at (naming c n) k ss q s) names1 kept1
-  passes (is_here kept) k s names r m = (names, is_here_in_text names, r)
-  passes (goes_behind {st = st} {ss = ss} {q = q} kept kept1 kept2 {t = t} {t1 = t1} {t2 = t2} e rest) k s names r m =
+  passes is_here k s names r m = (names, is_here_in_text, r)
+  passes (goes_behind {st = st} {ss = ss} {q = q} {kept = kept} {kept1 = kept1} {t = t} {t1 = t1} {t2 = t2} e rest) k s names r m =
       let k1 = given_by c.function st k in
       let s1 = after (naming c n) k st s in
       let w = goes_on st k s names kept kept1 t t1 r m.0 e in
       let w1 = passes rest k1 s1 w.0 w.1 m.1 in
       (w1.0, w.2 (form_all (naming c n) k1 ss s1) (point_in_text c.function ss q) w1.0 t2 w1.1, w1.2)
-  passes (goes_inside {st = st} {ss = ss} {g = g} {q = q} kept kept1 kept2 {t = t} {t1 = t1} {t2 = t2} to rest) k s names r m =
+  passes (goes_inside {st = st} {ss = ss} {g = g} {q = q} {t2 = t2} to rest) k s names r m =
       let tail = form_all (naming c n) (given_by c.function st k) ss (after (naming c n) k st s) in
       let w = enters to k s names r m.0 in
       let w1 = passes rest (given_in c.function st g k) (handles_in (naming c n) k st g s) w.0 w.1 w.2 in
       (w1.0, w.3 tail (point_in_text c.function (statements_in st g) q) w1.0 t2 w1.1, w1.2)
-  passes (emits {first = first} {count = count} {i = i} {ss = ss} kept kept1 {t = t} {t1 = t1} le e) k s names r m =
+  passes (emits {first = first} {count = count} {i = i} {ss = ss} {kept = kept} {kept1 = kept1} {t = t} {t1 = t1} le e) k s names r m =
       let st = Emit first count in
       emits_some i count first k s names kept kept1 t t1 (form_all (naming c n) (given_by c.function st k) ss (after (naming c n) k st s)) le r m.0 e

@@ -32,6 +32,22 @@ abbrev pub after_turns : {S : Type 0} → Next S → ℕ → Next S
 after_turns once zero s t = Done s t
 after_turns once (suc j) s t = and_then (once s t) (after_turns once j)
 
+-- a loop of at most n turns comes to a region of its turn j, from this state and these events with those
+pub data InTurn {S : Type 0} (n : ℕ) (body continuing once : Next S) : Region → S → List Event → S → List Event → Type 0 where
+  -- behind the turns before it
+  to_body : {j : ℕ} {s s1 : S} {t t1 : List Event} →
+      j < n → after_turns once j s t ≡ Done s1 t1 →
+      InTurn n body continuing once (LoopBody j) s t s1 t1
+  -- behind the end of the body, or a `continue` in it
+  to_continuing : {j : ℕ} {s s1 s2 : S} {t t1 t2 : List Event} →
+      InTurn n body continuing once (LoopBody j) s t s1 t1 →
+      and_continue (body s1 t1) Done ≡ Done s2 t2 →
+      InTurn n body continuing once (Continuing j) s t s2 t2
+  -- behind the end of `continuing`
+  to_break_if : {j : ℕ} {s s1 s2 : S} {t t1 t2 : List Event} →
+      InTurn n body continuing once (Continuing j) s t s1 t1 → continuing s1 t1 ≡ Done s2 t2 →
+      InTurn n body continuing once (BreakIf j) s t s2 t2
+
 -- the body of the case with this index
 abbrev pub body_at : Cases → ℕ → Statements
 body_at no_case i = end
@@ -54,56 +70,46 @@ module_turn c n b d e = turn (run_all c n b) (run_all c n d) (leave c e)
 
 -- from the beginning of a case the run comes to the case with this index, through cases that fall through
 pub data FallsTo (c : Call) (n : ℕ) : Cases → ℕ → Kept → List Event → Kept → List Event → Type 0 where
-  this_case : {l : Label} {b : Statements} {falls : Bool} {cs : Cases} (kept : Kept) {t : List Event} →
+  this_case : {l : Label} {b : Statements} {falls : Bool} {cs : Cases} {kept : Kept} {t : List Event} →
       FallsTo c n (case l b falls cs) 0 kept t kept t
-  next_case : {l : Label} {b : Statements} {cs : Cases} {i : ℕ} (kept kept1 kept2 : Kept) {t t1 t2 : List Event} →
+  next_case : {l : Label} {b : Statements} {cs : Cases} {i : ℕ} {kept kept1 kept2 : Kept} {t t1 t2 : List Event} →
       run_all c n b kept t ≡ Done kept1 t1 → FallsTo c n cs i kept1 t1 kept2 t2 →
       FallsTo c n (case l b true cs) (suc i) kept t kept2 t2
 
 -- for this label the run comes to the case with this index
 pub data ComesToCase (c : Call) (n : ℕ) (x : Label) : Cases → ℕ → Kept → List Event → Kept → List Event → Type 0 where
-  own_case : {l : Label} {b : Statements} {falls : Bool} {cs : Cases} {i : ℕ} (kept kept1 : Kept) {t t1 : List Event} →
+  own_case : {l : Label} {b : Statements} {falls : Bool} {cs : Cases} {i : ℕ} {kept kept1 : Kept} {t t1 : List Event} →
       IsTrue (same_label x l) → FallsTo c n (case l b falls cs) i kept t kept1 t1 →
       ComesToCase c n x (case l b falls cs) i kept t kept1 t1
-  other_case : {l : Label} {b : Statements} {falls : Bool} {cs : Cases} {i : ℕ} (kept kept1 : Kept) {t t1 : List Event} →
+  other_case : {l : Label} {b : Statements} {falls : Bool} {cs : Cases} {i : ℕ} {kept kept1 : Kept} {t t1 : List Event} →
       same_label x l ≡ false → ComesToCase c n x cs i kept t kept1 t1 →
       ComesToCase c n x (case l b falls cs) (suc i) kept t kept1 t1
 
 -- the run of a statement comes to the beginning of a region: from these kept values and events with those
 pub data Comes (c : Call) (n : ℕ) : Statement → Region → Kept → List Event → Kept → List Event → Type 0 where
-  into_block : {b : Statements} (kept : Kept) {t : List Event} → Comes c n (Block b) Inner kept t kept t
-  into_accept : {h : ℕ} {a b : Statements} (kept : Kept) {t : List Event} →
+  into_block : {b : Statements} {kept : Kept} {t : List Event} → Comes c n (Block b) Inner kept t kept t
+  into_accept : {h : ℕ} {a b : Statements} {kept : Kept} {t : List Event} →
       used c kept h ≡ Some (Truth true) → Comes c n (If h a b) Accept kept t kept t
-  into_reject : {h : ℕ} {a b : Statements} (kept : Kept) {t : List Event} →
+  into_reject : {h : ℕ} {a b : Statements} {kept : Kept} {t : List Event} →
       used c kept h ≡ Some (Truth false) → Comes c n (If h a b) Reject kept t kept t
-  into_case : {h i : ℕ} {cases : Cases} {spelling : Bytes} {z : ℤ} (kept kept1 : Kept) {t t1 : List Event} →
+  into_case : {h i : ℕ} {cases : Cases} {spelling : Bytes} {z : ℤ} {kept kept1 : Kept} {t t1 : List Event} →
       used c kept h ≡ Some (Whole spelling z) →
       ComesToCase c n (label_if (has_label (Numbered z) cases) z) cases i kept t kept1 t1 →
       Comes c n (Switch h cases) (CaseBody i) kept t kept1 t1
-  into_turn : {b d : Statements} {e : Option ℕ} {j : ℕ} (kept kept1 : Kept) {t t1 : List Event} →
-      j < n → after_turns (module_turn c n b d e) j kept t ≡ Done kept1 t1 →
-      Comes c n (Loop b d e) (LoopBody j) kept t kept1 t1
-  -- behind the body's end or a `continue`
-  into_continuing : {b d : Statements} {e : Option ℕ} {j : ℕ} (kept kept1 kept2 : Kept) {t t1 t2 : List Event} →
-      j < n → after_turns (module_turn c n b d e) j kept t ≡ Done kept1 t1 →
-      and_continue (run_all c n b kept1 t1) Done ≡ Done kept2 t2 →
-      Comes c n (Loop b d e) (Continuing j) kept t kept2 t2
-  -- behind the end of `continuing`
-  into_break_if : {b d : Statements} {e : Option ℕ} {j : ℕ} (kept kept1 kept2 kept3 : Kept) {t t1 t2 t3 : List Event} →
-      j < n → after_turns (module_turn c n b d e) j kept t ≡ Done kept1 t1 →
-      and_continue (run_all c n b kept1 t1) Done ≡ Done kept2 t2 → run_all c n d kept2 t2 ≡ Done kept3 t3 →
-      Comes c n (Loop b d e) (BreakIf j) kept t kept3 t3
+  into_loop : {b d : Statements} {e : Option ℕ} {g : Region} {kept kept1 : Kept} {t t1 : List Event} →
+      InTurn n (run_all c n b) (run_all c n d) (module_turn c n b d e) g kept t kept1 t1 →
+      Comes c n (Loop b d e) g kept t kept1 t1
 
 -- the run of a list, from these kept values and events, passes a point with those
 pub data Passes (c : Call) (n : ℕ) : Statements → Point → Kept → List Event → Kept → List Event → Type 0 where
-  is_here : {ss : Statements} (kept : Kept) {t : List Event} → Passes c n ss here kept t kept t
-  goes_behind : {st : Statement} {ss : Statements} {q : Point} (kept kept1 kept2 : Kept) {t t1 t2 : List Event} →
+  is_here : {ss : Statements} {kept : Kept} {t : List Event} → Passes c n ss here kept t kept t
+  goes_behind : {st : Statement} {ss : Statements} {q : Point} {kept kept1 kept2 : Kept} {t t1 t2 : List Event} →
       run c n st kept t ≡ Done kept1 t1 → Passes c n ss q kept1 t1 kept2 t2 →
       Passes c n (then st ss) (behind q) kept t kept2 t2
-  goes_inside : {st : Statement} {ss : Statements} {g : Region} {q : Point} (kept kept1 kept2 : Kept) {t t1 t2 : List Event} →
+  goes_inside : {st : Statement} {ss : Statements} {g : Region} {q : Point} {kept kept1 kept2 : Kept} {t t1 t2 : List Event} →
       Comes c n st g kept t kept1 t1 → Passes c n (statements_in st g) q kept1 t1 kept2 t2 →
       Passes c n (then st ss) (inside g q) kept t kept2 t2
-  emits : {first count i : ℕ} {ss : Statements} (kept kept1 : Kept) {t t1 : List Event} →
+  emits : {first count i : ℕ} {ss : Statements} {kept kept1 : Kept} {t t1 : List Event} →
       i ≤ count → emit c (from first i) kept t ≡ Done kept1 t1 →
       Passes c n (then (Emit first count) ss) (emitting i) kept t kept1 t1
 
@@ -135,34 +141,26 @@ pub data GoesToGroup (x : Label) : Groups → ℕ → Type 0 where
 
 -- the run of a line comes to the beginning of a region
 pub data TextComes (l : Words) (n : ℕ) : Line → Region → Scope → List Event → Scope → List Event → Type 0 where
-  into_braces : {b : Lines} (names : Scope) {t : List Event} → TextComes l n (Braces b) Inner names t names t
-  into_then : {e : Tree} {a b : Lines} (names : Scope) {t t1 : List Event} →
+  into_braces : {b : Lines} {names : Scope} {t : List Event} → TextComes l n (Braces b) Inner names t names t
+  into_then : {e : Tree} {a b : Lines} {names : Scope} {t t1 : List Event} →
       value_of l e names t ≡ Gives (Truth true) t1 → TextComes l n (IfElse e a b) Accept names t names t1
-  into_else : {e : Tree} {a b : Lines} (names : Scope) {t t1 : List Event} →
+  into_else : {e : Tree} {a b : Lines} {names : Scope} {t t1 : List Event} →
       value_of l e names t ≡ Gives (Truth false) t1 → TextComes l n (IfElse e a b) Reject names t names t1
-  into_group : {e : Tree} {i : ℕ} {gs : Groups} {spelling : Bytes} {z : ℤ} (names : Scope) {t t1 : List Event} →
+  into_group : {e : Tree} {i : ℕ} {gs : Groups} {spelling : Bytes} {z : ℤ} {names : Scope} {t t1 : List Event} →
       value_of l e names t ≡ Gives (Whole spelling z) t1 →
       GoesToGroup (label_if (group_has (Numbered z) gs) z) gs i →
       TextComes l n (SwitchOn e gs) (CaseBody i) names t names t1
-  into_text_turn : {b d : Lines} {e : Option Tree} {j : ℕ} (names names1 : Scope) {t t1 : List Event} →
-      j < n → after_turns (text_turn l n b d e) j names t ≡ Done names1 t1 →
-      TextComes l n (LoopOf b d e) (LoopBody j) names t names1 t1
-  into_text_continuing : {b d : Lines} {e : Option Tree} {j : ℕ} (names names1 names2 : Scope) {t t1 t2 : List Event} →
-      j < n → after_turns (text_turn l n b d e) j names t ≡ Done names1 t1 →
-      and_continue (follow_all l n b names1 t1) Done ≡ Done names2 t2 →
-      TextComes l n (LoopOf b d e) (Continuing j) names t names2 t2
-  into_text_break_if : {b d : Lines} {e : Option Tree} {j : ℕ} (names names1 names2 names3 : Scope) {t t1 t2 t3 : List Event} →
-      j < n → after_turns (text_turn l n b d e) j names t ≡ Done names1 t1 →
-      and_continue (follow_all l n b names1 t1) Done ≡ Done names2 t2 → follow_all l n d names2 t2 ≡ Done names3 t3 →
-      TextComes l n (LoopOf b d e) (BreakIf j) names t names3 t3
+  into_loop_line : {b d : Lines} {e : Option Tree} {g : Region} {names names1 : Scope} {t t1 : List Event} →
+      InTurn n (follow_all l n b) (follow_all l n d) (text_turn l n b d e) g names t names1 t1 →
+      TextComes l n (LoopOf b d e) g names t names1 t1
 
 -- the run of lines, from these names and events, passes a point with those
 pub data TextPasses (l : Words) (n : ℕ) : Lines → Point → Scope → List Event → Scope → List Event → Type 0 where
-  is_here_in_text : {ls : Lines} (names : Scope) {t : List Event} → TextPasses l n ls here names t names t
-  goes_behind_line : {x : Line} {ls : Lines} {q : Point} (names names1 names2 : Scope) {t t1 t2 : List Event} →
+  is_here_in_text : {ls : Lines} {names : Scope} {t : List Event} → TextPasses l n ls here names t names t
+  goes_behind_line : {x : Line} {ls : Lines} {q : Point} {names names1 names2 : Scope} {t t1 t2 : List Event} →
       follow l n x names t ≡ Done names1 t1 → TextPasses l n ls q names1 t1 names2 t2 →
       TextPasses l n (before x ls) (behind q) names t names2 t2
-  goes_inside_line : {x : Line} {ls : Lines} {g : Region} {q : Point} (names names1 names2 : Scope) {t t1 t2 : List Event} →
+  goes_inside_line : {x : Line} {ls : Lines} {g : Region} {q : Point} {names names1 names2 : Scope} {t t1 t2 : List Event} →
       TextComes l n x g names t names1 t1 → TextPasses l n (lines_in x g) q names1 t1 names2 t2 →
       TextPasses l n (before x ls) (inside g q) names t names2 t2
 
