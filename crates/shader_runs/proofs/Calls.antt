@@ -20,6 +20,7 @@ use Rattle.shader_runs.proofs.Update.{and_left, and_right, same_bytes_equal, sam
 use Rattle.shader_runs.proofs.Relation.{Returns, global_as, IsHere, NoName, fixed_denoted, Related}
 use Rattle.shader_runs.proofs.Evaluation.{words, Respond, Responds}
 use Rattle.shader_runs.proofs.Written.{Given, globals_length, value_here}
+use Rattle.shader_runs.proofs.Checked.{FitsAll}
 use Rattle.shader_runs.proofs.Statements.{Same, same_all}
 use Rattle.shader_runs.proofs.Fresh.{all_fresh, start_sources}
 use Rattle.shader_runs.proofs.Start.{start_stands}
@@ -348,7 +349,7 @@ module _ (p : Module) (n : ModuleNames) (uses : Bytes → WordUse) (uses_fit : U
           words = start_words;
         }
 
-    starts : length vs ≡ argument_count f.function → Related (call_of fs f vs t) f.names (at_start f.function) (first_names n f vs t) (constants_kept f.function env m)
+    pub starts : length vs ≡ argument_count f.function → Related (call_of fs f vs t) f.names (at_start f.function) (first_names n f vs t) (constants_kept f.function env m)
     starts e =
         subst (λ n'. Related (call_of fs f vs t) f.names (at_start f.function) (first_names n' f vs t) (constants_kept f.function env m)) fit.outer (starts_own e)
 
@@ -420,14 +421,18 @@ module _ (p : Module) (n : ModuleNames) (uses : Bytes → WordUse) (uses_fit : U
             let same : suc k + i ≡ k + suc i = omega arith in
             at (suc k) ∙ ap (slice_get all) same
 
-    -- both runs of the body
-    pub list_alike : length vs ≡ argument_count f.function → IsTrue (has_types env.parts f.function.argument_types vs) → (t1 : List Event) → Same (call_of fs f vs t) f.names (at_start f.function) (constants_kept f.function env m) (after_all f 0 f.function.body (at_start f.function)) (any_continue f.function.body) (run_all (call_of fs f vs t) bound f.function.body (constants_kept f.function env m) t1) (follow_all (words (call_of fs f vs t) (responses fs)) bound (form_all f 0 f.function.body (at_start f.function)) (first_names n f vs t) t1)
-    list_alike e k t1 =
+    -- the body and what is related at its start
+    pub body_fits : FitsAll p (call_of fs f vs t) f.names 0 f.function.body (at_start f.function)
+    body_fits =
         let c = call_of fs f vs t in
         let firsts_fit = first_values_fit f.function 0 f.function.first_values in
         let body_fits = fits_all f 0 f.function.body (at_start f.function) in
-        let checked = all_fresh p c f.names environment fit.distinct f.function.body 0 (at_start f.function) (omega arith) (start_sources p c f.names environment fit.distinct) fit.regular (and_right firsts_fit body_fits fit.scope) in
-        same_all p c f.names (responses fs) (given fs within fits earlier f start typed vs t k) bound f.function.body 0 (at_start f.function) (first_names n f vs t) (constants_kept f.function env m) t1 (starts fs within fits earlier f start typed vs t e) checked
+        all_fresh p c f.names environment fit.distinct f.function.body 0 (at_start f.function) (omega arith) (start_sources p c f.names environment fit.distinct) fit.regular (and_right firsts_fit body_fits fit.scope)
+
+    -- both runs of the body
+    list_alike : length vs ≡ argument_count f.function → IsTrue (has_types env.parts f.function.argument_types vs) → (t1 : List Event) → Same (call_of fs f vs t) f.names (at_start f.function) (constants_kept f.function env m) (after_all f 0 f.function.body (at_start f.function)) (any_continue f.function.body) (run_all (call_of fs f vs t) bound f.function.body (constants_kept f.function env m) t1) (follow_all (words (call_of fs f vs t) (responses fs)) bound (form_all f 0 f.function.body (at_start f.function)) (first_names n f vs t) t1)
+    list_alike e k t1 =
+        same_all p (call_of fs f vs t) f.names (responses fs) (given fs within fits earlier f start typed vs t k) bound f.function.body 0 (at_start f.function) (first_names n f vs t) (constants_kept f.function env m) t1 (starts fs within fits earlier f start typed vs t e) body_fits
 
     body_alike : (place place' : ℕ) → place' ≡ place → length vs ≡ argument_count f.function → IsTrue (has_types env.parts f.function.argument_types vs) → Answers (Returns env.parts f.function) (run_body (call_of fs f vs t) bound place vs t) (follow_body (words (call_of fs f vs t) (responses fs)) bound place' (form_function f) vs (parameter_names n f vs) t)
     body_alike place place' pe e k =

@@ -40,11 +40,11 @@ row c n s names kept r true held2 s2 o o' f g line next =
 row c n s names kept r false held2 s2 o o' f g line next =
     then_alike {P = λ k l. Related c n s l k × Agree s kept k} (λ k l t p. next k l t p.0 p.1) (weaker (λ k l p. p) (λ k l q. absurd (true≢false (sym q.1))) (λ k l b. b) line)
 
-or_left : (a b : Bool) → IsTrue a → IsTrue (a || b)
+pub or_left : (a b : Bool) → IsTrue a → IsTrue (a || b)
 or_left true b e = refl
 or_left false b e = absurd (true≢false (sym e))
 
-or_right : (a b : Bool) → IsTrue b → IsTrue (a || b)
+pub or_right : (a b : Bool) → IsTrue b → IsTrue (a || b)
 or_right true b e = refl
 or_right false b e = e
 
@@ -72,26 +72,26 @@ module _ (p : Module) (c : Call) (n : Names) (d : Respond) (given : Given p c n 
   if_line s sa sb names kept t h ha hb a b a' b' r u same_a same_b =
       used_alike _ _ (used c kept h) t (value_of (words c d) (value_at (naming c n) s h) names t) (value_here p c n d given s names kept r h u t) (λ v. closed_alike names (λ k l p. (related_agree c n s names kept k p r, p)) (λ k l q. q) (λ k l b. b) (chosen_alike {P = λ k l. Agree s kept k} {Q = λ k l. Agree s kept k × IsTrue (ha || hb)} {B = λ k l. Agree s kept k} v t (weaker (λ k l p. p.1) (λ k l q. (q.1, or_left ha hb q.2)) (λ k l b. b) same_a) (weaker (λ k l p. p.1) (λ k l q. (q.1, or_right ha hb q.2)) (λ k l b. b) same_b)))
 
-  -- a loop: each turn starts in the loop's own scope
-  loop_line : (s s1 s2 : Handles) (hb hd : Bool) (body continuing : Next Kept) (body' continuing' : Next Scope) (e : Option ℕ) → Extends s s1 → IsTrue (usable_if c.function s2 e) → ((kept : Kept) (names : Scope) (t : List Event) → Related c n s names kept → Same c n s kept s1 hb (body kept t) (body' names t)) → ((kept : Kept) (names : Scope) (t : List Event) → Related c n s1 names kept → Same c n s1 kept s2 hd (continuing kept t) (continuing' names t)) → (names : Scope) (kept : Kept) (t : List Event) → Related c n s names kept → SameLine c n s kept false (turns bound (turn body continuing (leave c e)) kept t) (turns bound (λ names1 t1. closed names1 (turn body' continuing' (break_line (words c d) (value_if (naming c n) s2 e)) names1 t1)) names t)
-  loop_line s s1 s2 hb hd body continuing body' continuing' e x u same_b same_d names kept t r =
-      let start : Related c n s names kept × Agree s kept kept = (r, agree_refl s kept) in
-      turns_alike {I = λ k l. Related c n s l k × Agree s kept k} {P = λ k l. Related c n s l k × Agree s kept k} once bound kept names t start
-    where
-      tail_alike : (k1 k2 : Kept) (l2 : Scope) (t2 : List Event) → Related c n s1 l2 k2 → Agree s k1 k2 → Alike (Returns c.environment.parts c.function) (λ k l. Agree s k1 k) (λ k l. Agree s k1 k) (λ k l. Agree s k1 k) (and_then (within (continuing k2 t2)) (leave c e)) (and_then (within (continuing' l2 t2)) (break_line (words c d) (value_if (naming c n) s2 e)))
-      tail_alike k1 k2 l2 t2 r2 a =
-          then_alike {P = λ k l. Related c n s2 l k × Agree s1 k2 k} (λ k l t p. leave_alike s s2 k1 e u k l t p.0 (agree_trans s s1 k1 k2 k x a p.1)) (within_alike (same_d k2 l2 t2 r2))
+  -- a loop, of which each turn starts in the loop's own scope
+  module _ (s s1 s2 : Handles) (hb hd : Bool) (body continuing : Next Kept) (body' continuing' : Next Scope) (e : Option ℕ) (x : Extends s s1) (u : IsTrue (usable_if c.function s2 e)) (same_b : (kept : Kept) (names : Scope) (t : List Event) → Related c n s names kept → Same c n s kept s1 hb (body kept t) (body' names t)) (same_d : (kept : Kept) (names : Scope) (t : List Event) → Related c n s1 names kept → Same c n s1 kept s2 hd (continuing kept t) (continuing' names t)) where
+    tail_alike : (k1 k2 : Kept) (l2 : Scope) (t2 : List Event) → Related c n s1 l2 k2 → Agree s k1 k2 → Alike (Returns c.environment.parts c.function) (λ k l. Agree s k1 k) (λ k l. Agree s k1 k) (λ k l. Agree s k1 k) (and_then (within (continuing k2 t2)) (leave c e)) (and_then (within (continuing' l2 t2)) (break_line (words c d) (value_if (naming c n) s2 e)))
+    tail_alike k1 k2 l2 t2 r2 a =
+        then_alike {P = λ k l. Related c n s2 l k × Agree s1 k2 k} (λ k l t p. leave_alike s s2 k1 e u k l t p.0 (agree_trans s s1 k1 k2 k x a p.1)) (within_alike (same_d k2 l2 t2 r2))
 
-      turn_alike : (k1 : Kept) (l1 : Scope) (t1 : List Event) → Related c n s l1 k1 → Alike (Returns c.environment.parts c.function) (λ k l. Agree s k1 k) (λ k l. Agree s k1 k) (λ k l. Agree s k1 k) (turn body continuing (leave c e) k1 t1) (turn body' continuing' (break_line (words c d) (value_if (naming c n) s2 e)) l1 t1)
-      turn_alike k1 l1 t1 r1 =
-          continue_alike {P = λ k l. Related c n s1 l k × Agree s k1 k} (λ k l t p. tail_alike k1 k l t p.0 p.1) (weaker (λ k l p. p) (λ k l q. (q.0, q.1)) (λ k l b. b) (same_b k1 l1 t1 r1))
+    turn_alike : (k1 : Kept) (l1 : Scope) (t1 : List Event) → Related c n s l1 k1 → Alike (Returns c.environment.parts c.function) (λ k l. Agree s k1 k) (λ k l. Agree s k1 k) (λ k l. Agree s k1 k) (turn body continuing (leave c e) k1 t1) (turn body' continuing' (break_line (words c d) (value_if (naming c n) s2 e)) l1 t1)
+    turn_alike k1 l1 t1 r1 =
+        continue_alike {P = λ k l. Related c n s1 l k × Agree s k1 k} (λ k l t p. tail_alike k1 k l t p.0 p.1) (weaker (λ k l p. p) (λ k l q. (q.0, q.1)) (λ k l b. b) (same_b k1 l1 t1 r1))
 
-      once : Steps (Returns c.environment.parts c.function) (λ k l. Related c n s l k × Agree s kept k) (λ k l. Related c n s l k × Agree s kept k) (λ k l. Related c n s l k × Agree s kept k) (λ k l. Related c n s l k × Agree s kept k) (turn body continuing (leave c e)) (λ names1 t1. closed names1 (turn body' continuing' (break_line (words c d) (value_if (naming c n) s2 e)) names1 t1))
-      once k1 l1 t1 i =
-          closed_alike l1 (λ k l a. kept_on k a) (λ k l a. kept_on k a) (λ k l a. kept_on k a) (turn_alike k1 l1 t1 i.0)
-        where
-          kept_on : (k : Kept) → Agree s k1 k → Related c n s l1 k × Agree s kept k
-          kept_on k a = (related_agree c n s l1 k1 k a i.0, agree_trans s s kept k1 k (extends_refl s) i.1 a)
+    pub turns_keep : (kept : Kept) → Steps (Returns c.environment.parts c.function) (λ k l. Related c n s l k × Agree s kept k) (λ k l. Related c n s l k × Agree s kept k) (λ k l. Related c n s l k × Agree s kept k) (λ k l. Related c n s l k × Agree s kept k) (turn body continuing (leave c e)) (λ names1 t1. closed names1 (turn body' continuing' (break_line (words c d) (value_if (naming c n) s2 e)) names1 t1))
+    turns_keep kept k1 l1 t1 i =
+        closed_alike l1 (λ k l a. kept_on k a) (λ k l a. kept_on k a) (λ k l a. kept_on k a) (turn_alike k1 l1 t1 i.0)
+      where
+        kept_on : (k : Kept) → Agree s k1 k → Related c n s l1 k × Agree s kept k
+        kept_on k a = (related_agree c n s l1 k1 k a i.0, agree_trans s s kept k1 k (extends_refl s) i.1 a)
+
+    loop_line : (names : Scope) (kept : Kept) (t : List Event) → Related c n s names kept → SameLine c n s kept false (turns bound (turn body continuing (leave c e)) kept t) (turns bound (λ names1 t1. closed names1 (turn body' continuing' (break_line (words c d) (value_if (naming c n) s2 e)) names1 t1)) names t)
+    loop_line names kept t r =
+        turns_alike {I = λ k l. Related c n s l k × Agree s kept k} {P = λ k l. Related c n s l k × Agree s kept k} (turns_keep kept) bound kept names t (r, agree_refl s kept)
 
 result_combined : (c : Call) (e : Option Expression) → IsResult e → (vs : List Value) → combined c.meaning e vs ≡ None
 result_combined c (Some Result) i vs = refl

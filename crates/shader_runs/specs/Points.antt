@@ -1,15 +1,16 @@
--- The two facts that hold where both runs of a function have come to the end of a list of statements.
-use Rattle.std.specs.Prelude.{◌≡◌, ℕ, List, ◌∷◌, Some, IsTrue}
+-- The two facts that hold at each point that a run of a function passes.
+use Rattle.std.specs.Prelude.{◌≡◌, ℕ, zero, suc, List, ◌∷◌, ◌++◌, Some, IsTrue}
 use Rattle.shader_runs.specs.Value.{Bytes, Value, has_types}
 use Rattle.shader_runs.specs.World.{Event, entries, World, Meaning, Environment}
-use Rattle.shader_runs.specs.Outcome.{Done, Gives}
-use Rattle.shader_runs.specs.Program.{Module}
-use Rattle.shader_runs.specs.ProgramRun.{Call, Kept, used, constants_kept, run_all, run_call}
-use Rattle.shader_runs.specs.TextRun.{IsValue, Scope, Words, value_of, with_parameters, with_variables, word_use, module_scope, follow_all, follow_call}
-use Rattle.shader_runs.specs.Scope.{Named, Handles, ModuleNames, Naming, usable, after_all, at_start}
+use Rattle.shader_runs.specs.Outcome.{Gives}
+use Rattle.shader_runs.specs.Program.{Statement, Emit, If, Switch, Loop, Statements, end, then, Cases, no_case, case, Function, from, Module}
+use Rattle.shader_runs.specs.ProgramRun.{Call, Kept, used, constants_kept, run_call}
+use Rattle.shader_runs.specs.TextRun.{IsValue, Scope, Words, value_of, with_parameters, with_variables, word_use, module_scope, follow_call}
+use Rattle.shader_runs.specs.Scope.{Named, Handles, ModuleNames, Naming, usable, given_by, given_by_all, after, after_emit, after_all, at_start}
 use Rattle.shader_runs.specs.Form.{value_at, form_all, form_function, form_functions, form_module, functions_of}
 use Rattle.shader_runs.specs.Premises.{IsTyped, EnvironmentFits}
 use Rattle.shader_runs.specs.Correct.{ModuleFits}
+use Rattle.shader_runs.specs.Passes.{Region, Reject, CaseBody, Continuing, BreakIf, Point, here, behind, inside, emitting, statements_in, Passes, TextPasses, point_in_text}
 
 -- a name in scope has the value that the module uses for its handle; and what is written for any handle in scope
 -- makes no event and gives, evaluated now, the value that the module uses
@@ -45,18 +46,52 @@ abbrev pub names_of : Module → ModuleNames → Environment → Naming → List
 names_of p n env f fs vs t =
     with_variables (form_function f).variables (entries t) 0 (with_parameters (form_function f).parameters vs (module_scope (form_module p n fs) env))
 
--- where the module's run has come to the end of a body, the text's run has come to the end of its lines, after the same events, and the two facts hold.
--- A point behind any beginning of a body is the end of the body that is cut there
+-- how many names were given in front of the case with this index
+abbrev pub given_before : Function → Cases → ℕ → ℕ → ℕ
+given_before f no_case i k = k
+given_before f (case l b falls cs) zero k = k
+given_before f (case l b falls cs) (suc i) k = given_before f cs i (given_by_all f b k)
+
+-- how many names were given in front of a region
+abbrev pub given_in : Function → Statement → Region → ℕ → ℕ
+given_in f (If h a b) Reject k = given_by_all f a k
+given_in f (Switch h cases) (CaseBody i) k = given_before f cases i k
+given_in f (Loop b d e) (Continuing j) k = given_by_all f b k
+given_in f _ _ k = k
+
+-- the handles in scope in front of a region
+abbrev pub handles_in : Naming → ℕ → Statement → Region → Handles → Handles
+handles_in f k (Loop b d e) (Continuing j) s = after_all f k b s
+handles_in f k (Loop b d e) (BreakIf j) s = after_all f (given_by_all f.function b k) d (after_all f k b s)
+handles_in f k _ _ s = s
+
+-- the handles in scope at a point of a list
+abbrev pub handles_at : Naming → ℕ → Statements → Point → Handles → Handles
+handles_at f k ss here s = s
+handles_at f k end q s = s
+handles_at f k (then st ss) (behind q) s = handles_at f (given_by f.function st k) ss q (after f k st s)
+handles_at f k (then st ss) (inside g q) s =
+    handles_at f (given_in f.function st g k) (statements_in st g) q (handles_in f k st g s)
+handles_at f k (then (Emit first count) ss) (emitting i) s = after_emit f k (from first i) s
+handles_at f k (then _ ss) (emitting i) s = s
+
+-- of each function of a module, behind those before it, called with arguments of its types at any history: where the module's
+-- run of its body passes a point, the text's run of its lines passes the point of the text there, after the same events and in the
+-- same turns of its loops, and the two facts hold. The first point is the start; a point in a callee is one of the callee's own call
 abbrev pub PointsAgree : Type 0
 PointsAgree =
-    (p : Module) (n : ModuleNames) (f : Naming) (fs : List Naming) →
-    ModuleFits p n (f ∷ fs) →
+    (p : Module) (n : ModuleNames) (later : List Naming) (f : Naming) (fs : List Naming) →
+    ModuleFits p n (later ++ (f ∷ fs)) →
     (env : Environment) → EnvironmentFits p env →
     (m : Meaning) → IsTyped p m →
     (vs : List Value) → IsTrue (has_types p.parts f.function.argument_types vs) →
-    (w : World) (turns : ℕ) (before_entry t : List Event) (kept : Kept) (t1 : List Event) →
+    (w : World) (turns : ℕ) (before_entry t : List Event) (q : Point) (kept : Kept) (t1 : List Event) →
     let c = call_of env w m turns f fs vs before_entry in
-    let l = words_of p n (f ∷ fs) env w m turns fs in
+    let l = words_of p n (later ++ (f ∷ fs)) env w m turns fs in
+    let body = f.function.body in
     let start = at_start f.function in
-    run_all c turns f.function.body (constants_kept f.function env m) t ≡ Done kept t1 →
-    (names : Scope) × (follow_all l turns (form_all f 0 f.function.body start) (names_of p n env f fs vs before_entry) t ≡ Done names t1) × FactsHold c l f (after_all f 0 f.function.body start) kept names
+    let in_text = point_in_text f.function body q in
+    Passes c turns body q (constants_kept f.function env m) t kept t1 →
+    (names : Scope)
+    × TextPasses l turns (form_all f 0 body start) in_text (names_of p n env f fs vs before_entry) t names t1
+    × FactsHold c l f (handles_at f 0 body q start) kept names
