@@ -220,7 +220,7 @@ module _ (p : Module) (c : Call) (n : Names) (d : Respond) (given : Given p c n 
     emit_one_as None y i l e k m next = absurd (true≢false (sym k))
 
 -- the scope only grows
-unbound_present : (u : Bool) (st : Standing) → IsTrue (is_present st) → IsTrue (is_present (unbound u st))
+pub unbound_present : (u : Bool) (st : Standing) → IsTrue (is_present st) → IsTrue (is_present (unbound u st))
 unbound_present true st p = refl
 unbound_present false Absent p = absurd (true≢false (sym p))
 unbound_present false Barred p = p

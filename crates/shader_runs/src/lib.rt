@@ -3,6 +3,7 @@
 
 ghost use Rattle.shader_runs.specs.Correct.{RunsAlike, HasTypedMeaning, HasTypedWorld};
 ghost use Rattle.shader_runs.specs.Points.{PointsAgree};
+ghost use Rattle.shader_runs.specs.Progress.{RunsAreNotStuck};
 ghost use Rattle.shader_runs.specs.Rows.{RowsHold};
 
 /// A module's functions and entry points and their texts make the same events and end alike.
@@ -14,6 +15,12 @@ pub fn runs_alike()
 /// written without a name still gives them.
 pub fn points_agree()
     ensures { PointsAgree }
+{}
+
+/// In a module whose conditions, selectors, pointers and jumps are well-formed too, no call is stuck: it returns, or ends by a
+/// discard, out of turns, for want of a callee's result or at an answer of a wrong type.
+pub fn runs_are_not_stuck()
+    ensures { RunsAreNotStuck }
 {}
 
 /// What the first law asks of the meaning can be met.
