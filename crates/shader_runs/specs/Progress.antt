@@ -37,8 +37,9 @@ BreakIfFits f None = Unit {0}
 BreakIfFits f (Some h) = IsBoolean (handle_type f h)
 
 abbrev mutual
-  -- a condition is a truth value, a selector an integer, and a store goes to a pointer. `break` stands in a loop's body or in a case,
-  -- `continue` in a loop's body, and neither leaves a `continuing`: breaks and continues tell which of them may stand here
+  -- a condition is a truth value, a selector is an integer, and a store goes to a pointer. `break` stands
+  -- in a loop's body or in a case, `continue` in a loop's body, and neither leaves a `continuing`:
+  -- breaks and continues tell which of them may stand here
   pub IsWellFormed : Function → (breaks continues : Bool) → Statement → Type 0
   IsWellFormed f breaks continues (Store p v) = IsPointer (handle_type f p)
   IsWellFormed f breaks continues (Block b) = AreWellFormed f breaks continues b
@@ -73,12 +74,14 @@ abbrev pub NotStuck : Stop → Type 0
 NotStuck Stuck = ⊥
 NotStuck _ = Unit {0}
 
--- a call returns, or it ends by a discard, out of turns, for want of a callee's result or at an answer of a wrong type
+-- a call returns, or it ends by a discard, out of turns, for want of a callee's result or at an answer
+-- of a wrong type
 abbrev pub IsNotStuck : Reached (Option Value) → Type 0
 IsNotStuck (Gives v t) = Unit {0}
 IsNotStuck (Halts x t) = NotStuck x
 
--- where scope and types hold, no call is stuck: in no world the module's run, and in no world that keeps the types the text's
+-- in a module whose scope holds, and which is well-formed, no call with arguments of the right types is
+-- stuck: in no world the module's run, and in no world that keeps the types the text's
 abbrev pub RunsAreNotStuck : Type 0
 RunsAreNotStuck =
     (p : Module) (n : ModuleNames) (fs : List Naming) →
