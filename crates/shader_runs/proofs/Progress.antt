@@ -2,7 +2,7 @@
 use Rattle.std.proofs.Common.{◌≡◌, ℕ, zero, suc, Bool, true, false, cond, nat_eq, List, [], ◌∷◌, length, Option, Some, None, ◌||◌, refl, sym, ap, ◌∙◌, subst, true≢false, arith, eqb-true, eq-eqb}
 use Rattle.std.specs.Prelude.{IsTrue, ℤ}
 use Rattle.shader_runs.specs.Value.{Bytes, Place, ValueType, BooleanType, IntegerType, PointerType, OtherType, has_type, has_types, Value, Truth, Whole, Pointer, Opaque}
-use Rattle.shader_runs.specs.World.{Event, Entry, Ask, Read, entries, World, Meaning, Environment, update}
+use Rattle.shader_runs.specs.World.{Event, Entry, Ask, Read, World, Meaning, Environment, update}
 use Rattle.shader_runs.specs.Outcome.{Stop, Outcome, Done, Continued, Broke, Returned, Stopped, Reached, Gives, Halts, answer, Next, and_then, and_continue, within, and_again, turn, turns, after_switch, chosen, with_integer}
 use Rattle.shader_runs.specs.Program.{Asking, ConstantTrees, Expression, Load, Operator, Access, AccessIndex, Logical, Request, Action, Asked, Called, Label, Numbered, Statement, Emit, Store, Block, If, Switch, Loop, Break, Continue, Return, Kill, Barrier, Act, Statements, end, then, Cases, no_case, case, Function, argument_count, function_numbered, expression_of, handle_type, operands_of, is_counted, is_asked, binds_as, from, holds_continue, any_continue, some_case_continues, Module}
 use Rattle.shader_runs.specs.ProgramRun.{Call, Kept, constant_values, used, used_all, joined, computed, if_typed, with_used, loaded, asked, if_counted, emit_as, emit, with_pointer, leave, returned, acted, with_result, with_all, barrier_words, ask_each, same_label, has_label, label_if, run, run_all, run_cases, run_on, constants_kept, wrapped, with_first, first_used_all, entered, run_body, called, run_call}
@@ -16,7 +16,7 @@ use Rattle.shader_runs.proofs.Update.{and_left, and_right, update_cases, has_typ
 use Rattle.shader_runs.proofs.Relation.{TypedValue, ResultTyped, Returns, Stands, Extends, extends_trans, extends_forgotten, usable_all_more}
 use Rattle.shader_runs.proofs.Evaluation.{naming, some_same}
 use Rattle.shader_runs.proofs.Written.{used_typed, UsesTyped, all_typed, operator_typed, request_there}
-use Rattle.shader_runs.proofs.Checked.{MayBind, MayEmit, MayEmitAll, MayGive, Fits, FitsAll, FitsCases}
+use Rattle.shader_runs.proofs.Checked.{MayBind, MayEmitAll, Fits, FitsAll, FitsCases}
 use Rattle.shader_runs.proofs.Emission.{extends_update, unbound_present}
 use Rattle.shader_runs.proofs.Scopes.{extends_after, extends_all}
 use Rattle.shader_runs.proofs.Statements.{ReturnsOf, ActionReturns, called_typed, or_left, or_right}
