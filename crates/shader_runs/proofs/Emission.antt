@@ -15,7 +15,7 @@ use Rattle.shader_runs.proofs.Alike.{Alike, stopped, typed_alike, reached, place
 use Rattle.shader_runs.proofs.Update.{and_left, update_cases, bind_same, bind_other}
 use Rattle.shader_runs.proofs.Relation.{TypedValue, as_denoted, IsHere, NoName, Stands, Related, Extends, Agree, extends_refl, agree_refl, extends_trans, agree_trans, computed_agree, usable_all_more, KeepsName, keeps_all, stands_on, related_agree}
 use Rattle.shader_runs.proofs.Evaluation.{naming, words, Respond, value_form_gives, request_responds, reached_all}
-use Rattle.shader_runs.proofs.Written.{Given, free, request_forms_give, request_values, no_value, unwritten, typed_value, values_here, operator_there, place_here, all_here}
+use Rattle.shader_runs.proofs.Written.{Given, free, request_forms_give, request_values, no_value, unwritten, typed_value, operator_typed, operator_there, place_here, all_here}
 use Rattle.shader_runs.proofs.Checked.{IsFresh, MayBind, MayEmitAll}
 
 pub extends_update : (s : Handles) (h : ℕ) (st : Standing) → (IsTrue (is_present (s h)) → IsTrue (is_present st)) → Extends s (update s h st)
@@ -169,11 +169,7 @@ module _ (p : Module) (c : Call) (n : Names) (d : Respond) (given : Given p c n 
     pure_used None q o = absurd (true≢false (sym q))
 
     value_there_own : IsTrue (is_pure (expression_of c.function h)) → IsTrue (usable_all c.function s (operands_of (expression_of c.function h))) → TypedValue c.environment.parts (handle_type c.function h) (computed c kept (expression_of c.function h))
-    value_there_own q u =
-        let e = expression_of c.function h in
-        let vs = values_here p c n d given s names kept r (operands_of e) u in
-        let v = given.typed.operators h q vs.0 vs.2 in
-        (v.0, ap (gathered c.meaning e) vs.1 ∙ v.1, v.2)
+    value_there_own q u = operator_typed p c s kept (typed_value p c n d given s names kept r) given.typed h q u
 
     value_there : (e : Option Expression) → expression_of c.function h ≡ e → IsTrue (is_pure e) → IsTrue (usable_all c.function s (operands_of e)) → TypedValue c.environment.parts (handle_type c.function h) (computed c kept e)
     value_there e q =
@@ -223,7 +219,7 @@ module _ (p : Module) (c : Call) (n : Names) (d : Respond) (given : Given p c n 
     emit_one_as None y i l e k m next = absurd (true≢false (sym k))
 
 -- the scope only grows
-unbound_present : (u : Bool) (st : Standing) → IsTrue (is_present st) → IsTrue (is_present (unbound u st))
+pub unbound_present : (u : Bool) (st : Standing) → IsTrue (is_present st) → IsTrue (is_present (unbound u st))
 unbound_present true st p = refl
 unbound_present false Absent p = absurd (true≢false (sym p))
 unbound_present false Barred p = p

@@ -6,6 +6,7 @@ use Rattle.shader_runs.specs.Scope.{given_by_all}
 use Rattle.shader_runs.specs.Premises.{AllBelow, WordFits, LeafFits, AreDistinct, FixedKey, NumberedKey, GivenKey, ArgumentName, LocalName, ConstantName, GlobalName}
 use Rattle.shader_runs.specs.Typing.{Signature, IsOneOf, IsSpelled, PartsFit, signatures_of}
 use Rattle.shader_runs.specs.Rows.{RowsHold, PremisesHold, no_parts as row_parts, store_function, store_naming, store_module, numbered_name}
+use Rattle.shader_runs.specs.Progress.{LoadFits}
 
 heads : (a b : ℕ) (xs ys : List ℕ) → a ∷ xs ≡ b ∷ ys → a ≡ b
 heads a b xs ys e = cc
@@ -79,6 +80,13 @@ leaves (suc (suc zero)) = tt
 leaves (suc (suc (suc zero))) = (tt, refl)
 leaves (suc (suc (suc (suc h)))) = tt
 
+loads : (h : ℕ) → LoadFits store_function (expression_of store_function h)
+loads zero = tt
+loads (suc zero) = tt
+loads (suc (suc zero)) = tt
+loads (suc (suc (suc zero))) = tt
+loads (suc (suc (suc (suc h)))) = tt
+
 no_operator : (x : Signature) (h : ℕ) → IsOneOf x (signatures_of store_module store_function (handle_type store_function h) (expression_of store_function h)) → ⊥
 no_operator x zero k = elim k [ ]
 no_operator x (suc zero) k = elim k [ ]
@@ -116,6 +124,7 @@ premises =
       fits = record { functions = refl; distinct = record { functions = λ g k lg lk e. omega arith }; all = (record { outer = refl; earlier = refl; ordered = ordered; words = plain; leaves = leaves; regular = (tt, (tt, (refl, tt))); distinct = distinct; scope = refl }, tt) };
       environment = record { parts = refl; constants = refl; globals = refl };
       consistent = record { alike = λ x y s t w o. absurd (no_spelled x s); parts = λ place f e h. subst (λ f. PartsFit row_parts f (handle_type f h) (expression_of f h)) (only_function place f e) (no_parts h) };
+      well_formed = (record { loads = loads; body = (tt, (tt, (tt, tt))) }, tt);
     }
 
 pub rows_hold : RowsHold
@@ -132,6 +141,7 @@ rows_hold =
       tail = record { fits = refl; text = refl; module_run = refl; text_run = refl };
       folded = record { fits = refl; text = refl; module_run = refl; text_run = refl };
       call = record { fits = refl; text = refl; module_run = refl; text_run = refl };
+      unreturned = record { fits = refl; text = refl; module_run = refl; text_run = refl };
       switch = record { fits = refl; text = refl; module_run = refl; text_run = refl };
       joined = record { fits = refl; text = refl; module_run = refl; text_run = refl };
       loop = (record { fits = refl; text = refl; module_run = refl; text_run = refl }, record { fits = refl; text = refl; module_run = refl; text_run = refl });
@@ -139,6 +149,7 @@ rows_hold =
       select = record { fits = refl; text = refl; module_run = refl; text_run = refl };
       places = record { fits = refl; text = refl; module_run = refl; text_run = refl };
       refused = record { continue_ = refl; after_loop = refl; emitted_again = refl };
+      stuck = record { break_outside = refl; continue_outside = refl; break_in_continuing = refl; continue_in_continuing = refl; number_as_condition = refl; number_as_break_if = refl; number_as_pointer = refl };
       told_apart = record { load_inlined_past_store = refl; every_emit_bound = refl; name_used_in_sibling_block = refl; name_of_sibling_copied = refl; continuing_uses_skipped_constant_name = refl; loop_names_kept_after_loop = refl; function_hidden_by_local = refl; pointer_argument_not_dereferenced = refl; select_accept_first = refl };
       same_step = refl;
     }

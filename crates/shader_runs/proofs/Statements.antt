@@ -1,7 +1,7 @@
 -- LogicalOf runs of each statement, in step.
 use Rattle.std.proofs.Common.{◌≡◌, ℕ, Bool, true, false, cond, List, [], ◌∷◌, ◌++◌, Option, Some, None, ◌||◌, refl, sym, ap, ap₂, ◌∙◌, subst, true≢false}
 use Rattle.std.specs.Prelude.{IsTrue, ℤ}
-use Rattle.shader_runs.specs.Value.{Bytes, has_type, has_types, Value}
+use Rattle.shader_runs.specs.Value.{Bytes, PartTypes, has_type, has_types, Value}
 use Rattle.shader_runs.specs.World.{Event, Ask, update, bind}
 use Rattle.shader_runs.specs.Outcome.{Outcome, Next, Done, Continued, Returned, Reached, Gives, Halts, and_then, within, turn, turns, after_switch, chosen, with_integer, closed, closed_if}
 use Rattle.shader_runs.specs.Program.{Expression, Result, Action, Asked, Called, Label, Numbered, Statement, Emit, Store, Block, If, Switch, Loop, Break, Continue, Return, Kill, Barrier, Act, Statements, end, then, Cases, no_case, case, from, holds_continue, any_continue, some_case_continues, expression_of, handle_type, BarrierBits, Function, function_numbered, Module}
@@ -93,6 +93,20 @@ module _ (p : Module) (c : Call) (n : Names) (d : Respond) (given : Given p c n 
     loop_line names kept t r =
         turns_alike {I = λ k l. Related c n s l k × Agree s kept k} {P = λ k l. Related c n s l k × Agree s kept k} (turns_keep kept) bound kept names t (r, agree_refl s kept)
 
+-- what an action gives
+abbrev pub ReturnsOf : PartTypes → Option Function → Option Value → Type 0
+ReturnsOf parts None o = Unit {0}
+ReturnsOf parts (Some callee) o = Returns parts callee o
+
+abbrev pub ActionReturns : Call → Action → Option Value → Type 0
+ActionReturns c (Asked w) o = Unit {0}
+ActionReturns c (Called g) o = ReturnsOf c.environment.parts (function_numbered c.callees g) o
+
+-- what a callee gives has its handle's type
+pub called_typed : (parts : PartTypes) (f : Function) (o : Option Function) (xs : List ℕ) (h : ℕ) (v : Value) → CallFits f o xs (Some h) → ReturnsOf parts o (Some v) → IsTrue (has_type parts (handle_type f h) v)
+called_typed parts f None xs h v w q = absurd w
+called_typed parts f (Some callee) xs h v w q = subst (λ k. ResultTyped parts (Some v) k) w.1 q
+
 result_combined : (c : Call) (e : Option Expression) → IsResult e → (vs : List Value) → combined c.meaning e vs ≡ None
 result_combined c (Some Result) i vs = refl
 result_combined c (Some _) i vs = absurd i
@@ -172,24 +186,15 @@ module _ (p : Module) (c : Call) (n : Names) (d : Respond) (given : Given p c n 
   barrier_row k bits s names kept t held2 s2 f tail r m next =
       asks_alike s s2 names kept r held2 f tail (barrier_words bits) m (λ t1. next kept names t1 r (agree_refl s kept)) t
 
-  -- what an action gives
-  abbrev ReturnsOf : Option Function → Option Value → Type 0
-  ReturnsOf None o = Unit {0}
-  ReturnsOf (Some callee) o = Returns c.environment.parts callee o
-
-  abbrev ActionReturns : Action → Option Value → Type 0
-  ActionReturns (Asked w) o = Unit {0}
-  ActionReturns (Called g) o = ReturnsOf (function_numbered c.callees g) o
-
   as_answer : (q q' : Reached (Option Value)) → q' ≡ q → HoldsOf (λ o. Unit {0}) q → Answers (λ o. Unit {0}) q q'
   as_answer q q' e h = subst (λ x. Answers (λ o. Unit {0}) q x) (sym e) (same_answer h)
 
   -- an action's word does the same in the text
-  action_responds : (a : Action) (xs : List ℕ) (result : Option ℕ) → ActionFits p c.callees (naming c n) a xs result → (vs : List Value) → IsTrue (has_types c.environment.parts (handle_types c.function xs) vs) → (t : List Event) → Answers (ActionReturns a) (acted c a vs t) (d (word_of n a) vs t)
+  action_responds : (a : Action) (xs : List ℕ) (result : Option ℕ) → ActionFits p c.callees (naming c n) a xs result → (vs : List Value) → IsTrue (has_types c.environment.parts (handle_types c.function xs) vs) → (t : List Event) → Answers (ActionReturns c a) (acted c a vs t) (d (word_of n a) vs t)
   action_responds (Asked w) xs result m vs h t = as_answer (acted c (Asked w) vs t) (d w vs t) (request_responds p c n d given.responds w m vs t) tt
   action_responds (Called g) xs result m vs h t = go (function_numbered c.callees g) refl m.2
     where
-      go : (o : Option Function) → function_numbered c.callees g ≡ o → CallFits c.function o xs result → Answers (ReturnsOf o) (c.calls g vs t) (d (n.outer.function g) vs t)
+      go : (o : Option Function) → function_numbered c.callees g ≡ o → CallFits c.function o xs result → Answers (ReturnsOf c.environment.parts o) (c.calls g vs t) (d (n.outer.function g) vs t)
       go None e w = absurd w
       go (Some callee) e w = given.responds.calls g callee e vs (subst (λ ts. IsTrue (has_types c.environment.parts ts vs)) w.0 h) t
 
@@ -197,16 +202,16 @@ module _ (p : Module) (c : Call) (n : Names) (d : Respond) (given : Given p c n 
   not_hidden (Asked w) xs result m = m.1.1
   not_hidden (Called g) xs result m = m.1
 
-  responded_written : (s : Handles) (names : Scope) (kept : Kept) → Related c n s names kept → (a : Action) (xs : List ℕ) (result : Option ℕ) → ActionFits p c.callees (naming c n) a xs result → IsTrue (usable_all c.function s xs) → (vs : List Value) → used_all c kept xs ≡ Some vs → IsTrue (has_types c.environment.parts (handle_types c.function xs) vs) → (t : List Event) → Answers (ActionReturns a) (acted c a vs t) (word_reached (words c d) (word_of n a) names t (evaluate_all (words c d) (value_forms (written (naming c n) s) xs) names t))
+  responded_written : (s : Handles) (names : Scope) (kept : Kept) → Related c n s names kept → (a : Action) (xs : List ℕ) (result : Option ℕ) → ActionFits p c.callees (naming c n) a xs result → IsTrue (usable_all c.function s xs) → (vs : List Value) → used_all c kept xs ≡ Some vs → IsTrue (has_types c.environment.parts (handle_types c.function xs) vs) → (t : List Event) → Answers (ActionReturns c a) (acted c a vs t) (word_reached (words c d) (word_of n a) names t (evaluate_all (words c d) (value_forms (written (naming c n) s) xs) names t))
   responded_written s names kept r a xs result m u vs e h t =
       let there = value_forms_give c d names kept (written (naming c n) s) xs (all_here p c n d given s names kept r xs u) t ∙ ap (λ os. reached_all os t) e in
-      subst (λ q. Answers (ActionReturns a) (acted c a vs t) (word_reached (words c d) (word_of n a) names t q)) (sym there) (subst (λ o. Answers (ActionReturns a) (acted c a vs t) (unhidden o t (d (word_of n a) vs t))) (sym (free p c n d given s names kept r (word_of n a) (not_hidden a xs result m))) (action_responds a xs result m vs h t))
+      subst (λ q. Answers (ActionReturns c a) (acted c a vs t) (word_reached (words c d) (word_of n a) names t q)) (sym there) (subst (λ o. Answers (ActionReturns c a) (acted c a vs t) (unhidden o t (d (word_of n a) vs t))) (sym (free p c n d given s names kept r (word_of n a) (not_hidden a xs result m))) (action_responds a xs result m vs h t))
 
   performed_same : (s : Handles) (names : Scope) (kept : Kept) (a : Action) (q : Reached (Option Value)) → Related c n s names kept → SameLine c n s kept false (with_result c.environment.parts c.function a None kept q) (performed names q)
   performed_same s names kept a (Gives v t) r = done (r, agree_refl s kept)
   performed_same s names kept a (Halts x t) r = stopped
 
-  performed_alike : (s : Handles) (names : Scope) (kept : Kept) (a : Action) (q q' : Reached (Option Value)) → Answers (ActionReturns a) q q' → Related c n s names kept → SameLine c n s kept false (with_result c.environment.parts c.function a None kept q) (performed names q')
+  performed_alike : (s : Handles) (names : Scope) (kept : Kept) (a : Action) (q q' : Reached (Option Value)) → Answers (ActionReturns c a) q q' → Related c n s names kept → SameLine c n s kept false (with_result c.environment.parts c.function a None kept q) (performed names q')
   performed_alike s names kept a q q' (same_answer h) r = performed_same s names kept a q r
   performed_alike s names kept a q q' mistyped_answer r = mistyped
 
@@ -224,11 +229,6 @@ module _ (p : Module) (c : Call) (n : Names) (d : Respond) (given : Given p c n 
   ResultNext s kept s2 held2 h f g =
       (kept1 : Kept) (names1 : Scope) (t1 : List Event) → Related c n (update s h (Named (n.numbered h))) names1 kept1 → Agree s kept kept1 → Same c n s kept s2 held2 (f kept1 t1) (g names1 t1)
 
-  -- what a callee gives has its handle's type
-  called_typed : (o : Option Function) (xs : List ℕ) (h : ℕ) (v : Value) → CallFits c.function o xs (Some h) → ReturnsOf o (Some v) → IsTrue (has_type c.environment.parts (handle_type c.function h) v)
-  called_typed None xs h v w q = absurd w
-  called_typed (Some callee) xs h v w q = subst (λ k. ResultTyped c.environment.parts (Some v) k) w.1 q
-
   -- a result that is kept
   result_kept : (s s2 : Handles) (names : Scope) (kept : Kept) (held2 : Bool) (h : ℕ) (f : Next Kept) (g : Next Scope) → Related c n s names kept → MayResult c n h s → ResultNext s kept s2 held2 h f g → (v : Value) (t : List Event) → IsTrue (has_type c.environment.parts (handle_type c.function h) v) → Same c n s kept s2 held2 (f (update kept h (Some v)) t) (g (bind names (n.numbered h) (Some (IsValue v))) t)
   result_kept s s2 names kept held2 h f g r m next v t y =
@@ -237,15 +237,15 @@ module _ (p : Module) (c : Call) (n : Names) (d : Respond) (given : Given p c n 
       not_there : IsTrue (is_present (s h)) → ⊥
       not_there = new_event c s names kept (handle_type c.function h) (expression_of c.function h) (kept h) (result_combined c (expression_of c.function h) m.kind) (s h) m.new (r.standing h)
 
-  result_same : (s s2 : Handles) (names : Scope) (kept : Kept) (held2 : Bool) (a : Action) (xs : List ℕ) (h : ℕ) (f : Next Kept) (g : Next Scope) → Related c n s names kept → ActionFits p c.callees (naming c n) a xs (Some h) → MayResult c n h s → ResultNext s kept s2 held2 h f g → (q : Reached (Option Value)) → HoldsOf (ActionReturns a) q → Same c n s kept s2 held2 (and_then (with_result c.environment.parts c.function a (Some h) kept q) f) (bound_to names (n.numbered h) g q)
+  result_same : (s s2 : Handles) (names : Scope) (kept : Kept) (held2 : Bool) (a : Action) (xs : List ℕ) (h : ℕ) (f : Next Kept) (g : Next Scope) → Related c n s names kept → ActionFits p c.callees (naming c n) a xs (Some h) → MayResult c n h s → ResultNext s kept s2 held2 h f g → (q : Reached (Option Value)) → HoldsOf (ActionReturns c a) q → Same c n s kept s2 held2 (and_then (with_result c.environment.parts c.function a (Some h) kept q) f) (bound_to names (n.numbered h) g q)
   result_same s s2 names kept held2 a xs h f g r w m next (Gives None t) q = stopped
   result_same s s2 names kept held2 (Asked word) xs h f g r w m next (Gives (Some v) t) q =
       typed_alike (has_type c.environment.parts (handle_type c.function h) v) t (Done (update kept h (Some v)) t) f (λ y. result_kept s s2 names kept held2 h f g r m next v t y)
   result_same s s2 names kept held2 (Called callee) xs h f g r w m next (Gives (Some v) t) q =
-      result_kept s s2 names kept held2 h f g r m next v t (called_typed (function_numbered c.callees callee) xs h v w.2 q)
+      result_kept s s2 names kept held2 h f g r m next v t (called_typed c.environment.parts c.function (function_numbered c.callees callee) xs h v w.2 q)
   result_same s s2 names kept held2 a xs h f g r w m next (Halts x t) q = stopped
 
-  result_alike : (s s2 : Handles) (names : Scope) (kept : Kept) (held2 : Bool) (a : Action) (xs : List ℕ) (h : ℕ) (f : Next Kept) (g : Next Scope) → Related c n s names kept → ActionFits p c.callees (naming c n) a xs (Some h) → MayResult c n h s → ResultNext s kept s2 held2 h f g → (q q' : Reached (Option Value)) → Answers (ActionReturns a) q q' → Same c n s kept s2 held2 (and_then (with_result c.environment.parts c.function a (Some h) kept q) f) (bound_to names (n.numbered h) g q')
+  result_alike : (s s2 : Handles) (names : Scope) (kept : Kept) (held2 : Bool) (a : Action) (xs : List ℕ) (h : ℕ) (f : Next Kept) (g : Next Scope) → Related c n s names kept → ActionFits p c.callees (naming c n) a xs (Some h) → MayResult c n h s → ResultNext s kept s2 held2 h f g → (q q' : Reached (Option Value)) → Answers (ActionReturns c a) q q' → Same c n s kept s2 held2 (and_then (with_result c.environment.parts c.function a (Some h) kept q) f) (bound_to names (n.numbered h) g q')
   result_alike s s2 names kept held2 a xs h f g r w m next q q' (same_answer y) = result_same s s2 names kept held2 a xs h f g r w m next q y
   result_alike s s2 names kept held2 a xs h f g r w m next q q' mistyped_answer = mistyped
 

@@ -3,7 +3,7 @@ use Rattle.std.proofs.Common.{◌≡◌, ℕ, zero, suc, ◌<◌, ◌≤◌, ℤ
 use Rattle.std.specs.Prelude.{IsTrue}
 use Rattle.shader_runs.specs.Value.{Bytes, PartTypes, Place, ValueType, BooleanType, has_type, Value, Truth, Whole, Pointer, Opaque}
 use Rattle.shader_runs.specs.World.{Event, Entry, Ask, Read, Write, Discard, entries, World, Meaning, Environment, update}
-use Rattle.shader_runs.specs.Outcome.{Stop, Stuck, OutOfTurns, Discarded, Mistyped, Outcome, Done, Continued, Broke, Returned, Stopped, Reached, Gives, Halts, answer, Next, and_then, and_continue, within, turn, and_again, turns, after_switch, chosen, with_integer}
+use Rattle.shader_runs.specs.Outcome.{Stop, Stuck, OutOfTurns, Discarded, Mistyped, Outcome, Done, Continued, Broke, Returned, Stopped, Reached, Gives, Halts, answer, Next, and_then, and_continue, within, turn, and_again, turns, after_switch, chosen, with_integer, Unreturned}
 use Rattle.shader_runs.specs.Program.{ConstantTrees, Expression, Constant, Argument, Local, Global, Load, Operator, Access, AccessIndex, Logical, Swizzle, Request, Action, Asked, Called, Label, Numbered, Statement, Emit, Store, Block, If, Switch, Loop, Break, Continue, Return, Kill, Barrier, Act, Statements, end, then, Cases, no_case, case, Function, argument_count, expression_of, handle_type, operands_of, is_counted, is_asked, from}
 use Rattle.shader_runs.specs.ProgramRun.{Call, Kept, constant_values, used, used_as, also, used_all, gathered, computed, joined, if_typed, keep_typed, with_used, loaded, asked, if_counted, emit_as, emit, with_pointer, leave, returned, acted, with_result, with_all, barrier_words, ask_each, same_label, has_label, label_if, run, run_all, run_cases, run_on, constants_kept, with_first, wrapped, first_used, first_used_all, entered, run_body, called, run_call}
 use Rattle.shader_runs.specs.Correct.{KeepsTypes}
@@ -320,7 +320,7 @@ module _ (f : Function) (cs : List Function) (env : Environment) (m : Meaning) (
       go : (r : Option ℕ) (q : Reached (Option Value)) → FineReached q → Makes (reached_events q) (λ b. with_result env.parts f (Called g) r kept q)
       go None (Gives v e) k = ends (Done kept e) tt
       go None (Halts x e) k = ends (Stopped x e) k
-      go (Some h) (Gives None e) k = ends (Stopped Stuck e) tt
+      go (Some h) (Gives None e) k = ends (Stopped Unreturned e) tt
       go (Some h) (Gives (Some v) e) k = ends (Done (update kept h (Some v)) e) tt
       go (Some h) (Halts x e) k = ends (Stopped x e) k
 
@@ -439,6 +439,7 @@ call_built env m turns fs g vs =
     keeps : (q : Reached (Option Value)) → FineReached q → KeepsTypes q
     keeps (Gives v t) k = tt
     keeps (Halts Stuck t) k = tt
+    keeps (Halts Unreturned t) k = tt
     keeps (Halts OutOfTurns t) k = tt
     keeps (Halts Discarded t) k = tt
     keeps (Halts Mistyped t) k = k

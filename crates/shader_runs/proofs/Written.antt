@@ -7,8 +7,8 @@ use Rattle.shader_runs.specs.World.{Event, GlobalValue, Stored, Held, Environmen
 use Rattle.shader_runs.specs.Program.{ConstantTree, Fixed, NamedConstant, Constructed, ConstantTrees, no_constant, constant, Expression, Constant, Argument, Local, Global, Load, Operator, Access, AccessIndex, Logical, Swizzle, Request, Result, argument_count, local_count, local_pointer, expression_of, handle_type, operands_of, Module}
 use Rattle.shader_runs.specs.ProgramRun.{Call, Kept, constant_value, constant_values, global_value, used_as, used, also, used_all, joined, applied, combined, gathered, computed}
 use Rattle.shader_runs.specs.Text.{Name}
-use Rattle.shader_runs.specs.TextRun.{Scope, named, valued, responded, unhidden, followed_by, as_value, evaluate, evaluate_all, value_of}
-use Rattle.shader_runs.specs.Scope.{Standing, Absent, Barred, Everywhere, Inline, Named, Handles, Names, usable, usable_as, usable_all, is_pure}
+use Rattle.shader_runs.specs.TextRun.{Scope, named, valued, responded, unhidden, followed_by, as_value, evaluate, evaluate_all, value_of, global_denoted}
+use Rattle.shader_runs.specs.Scope.{Standing, Absent, Barred, Everywhere, Inline, Named, Handles, Names, usable, usable_as, usable_all, is_pure, is_present}
 use Rattle.shader_runs.specs.Form.{Plain, AsValue, AsPlace, value_form, place_form, value_forms_then, constant_form, constant_forms, global_form, own_form, standing_form, written_below, written}
 use Rattle.shader_runs.specs.Premises.{FixedName, FixedKey, NumberedKey, GivenKey, IsFixedName, IsNoName, ConstantWords, ConstantsWords, WordFits, AllBelow, IsLiteral, literal_type, constant_type, constant_types_of, ConstantInRange, ConstantsInRange, LeafFits, ConstantTyped, ConstantsTyped, LeafTyped, handle_types, IsTypedIn, ConstantName, ArgumentName, LocalName, GlobalName, global_has_type, globals_have_types, EnvironmentFits}
 use Rattle.shader_runs.proofs.Alike.{reached, placed}
@@ -116,39 +116,69 @@ module _ (p : Module) (env : Environment) (fits : EnvironmentFits p env) (m : Me
 retyped : (parts : PartTypes) (k k' : ValueType) (o : Option Value) → k ≡ k' → TypedValue parts k' o → TypedValue parts k o
 retyped parts k k' o e v = (v.0, v.1, ap (λ k. has_type parts k v.0) e ∙ v.2)
 
-module _ (p : Module) (c : Call) (n : Names) (d : Respond) (given : Given p c n d) (s : Handles) (names : Scope) (kept : Kept) (r : Related c n s names kept) where
-  -- each handle in scope has a value of its type
-  typed_value_as : (k : ValueType) (e : Option Expression) → LeafFits p c.function k e → LeafTyped c.environment.parts p c.meaning e → (o : Option Value) (st : Standing) → Stands c s names kept k e o st → IsTrue (usable_as c.function e st) → TypedValue c.environment.parts k (used_as c e o)
-  typed_value_as k e l m o (Named x) q u = q.0
-  typed_value_as k (Some (Constant e)) l m o st q u =
-      retyped c.environment.parts k (constant_type p e) (constant_value c.environment c.meaning e) l.1 (constant_typed p c.environment given.environment c.meaning e l.0 m)
-  typed_value_as k (Some (Argument i)) l m o st q u =
-      retyped c.environment.parts k (type_at c.function.argument_types i) (slice_get c.arguments i) l (has_type_at c.environment.parts c.function.argument_types c.arguments given.arguments i (ltb-true i (argument_count c.function) u))
-  typed_value_as k (Some (Local i)) l m o st q u =
+-- a handle in scope has a value of its type, if what is kept for it has it
+module _ (p : Module) (c : Call) (arguments : IsTrue (has_types c.environment.parts c.function.argument_types c.arguments)) (environment : EnvironmentFits p c.environment) where
+  pub used_typed : (k : ValueType) (e : Option Expression) → LeafFits p c.function k e → LeafTyped c.environment.parts p c.meaning e → (o : Option Value) (st : Standing) → (IsTrue (is_present st) → TypedValue c.environment.parts k o) → IsTrue (usable_as c.function e st) → TypedValue c.environment.parts k (used_as c e o)
+  used_typed k (Some (Constant e)) l m o st v u =
+      retyped c.environment.parts k (constant_type p e) (constant_value c.environment c.meaning e) l.1 (constant_typed p c.environment environment c.meaning e l.0 m)
+  used_typed k (Some (Argument i)) l m o st v u =
+      retyped c.environment.parts k (type_at c.function.argument_types i) (slice_get c.arguments i) l (has_type_at c.environment.parts c.function.argument_types c.arguments arguments i (ltb-true i (argument_count c.function) u))
+  used_typed k (Some (Local i)) l m o st v u =
       let pointer = local_pointer c.function i in
       let place = Pointer (Rooted (LocalRoot pointer c.frame i)) in
       retyped c.environment.parts k (PointerType pointer) (Some place) l (place, refl, same_type_self (PointerType pointer))
-  typed_value_as k (Some (Global i)) l m o st q u = go (global_at c.environment.parts p.global_types c.environment.globals given.environment.globals i l.0)
+  used_typed k (Some (Global i)) l m o st v u = go (global_at c.environment.parts p.global_types c.environment.globals environment.globals i l.0)
     where
       go : GlobalThere c.environment.parts (type_at p.global_types i) (slice_get c.environment.globals i) → TypedValue c.environment.parts k (global_value i (slice_get c.environment.globals i))
       go (global_there g e h) =
           retyped c.environment.parts k (type_at p.global_types i) (global_value i (slice_get c.environment.globals i)) l.1 (subst (λ o. TypedValue c.environment.parts (type_at p.global_types i) (global_value i o)) (sym e) (held_typed c.environment.parts (type_at p.global_types i) i g h))
-  typed_value_as k None l m o st q u = absurd (true≢false (sym u))
-  typed_value_as k (Some _) l m o Inline q u = q.1
-  typed_value_as k (Some _) l m o Everywhere q u = q.1
-  typed_value_as k (Some _) l m o Absent q u = absurd (true≢false (sym u))
-  typed_value_as k (Some _) l m o Barred q u = absurd (true≢false (sym u))
+  used_typed k None l m o st v u = absurd (true≢false (sym u))
+  used_typed k (Some _) l m o st v u = v u
+
+-- each handle in scope has a value of its type
+abbrev pub UsesTyped : Call → Handles → Kept → Type 0
+UsesTyped c s kept = (h : ℕ) → IsTrue (usable c.function s h) → TypedValue c.environment.parts (handle_type c.function h) (used c kept h)
+
+module _ (p : Module) (c : Call) (s : Handles) (kept : Kept) (each : UsesTyped c s kept) where
+  pub all_typed : (xs : List ℕ) → IsTrue (usable_all c.function s xs) → (vs : List Value) × (used_all c kept xs ≡ Some vs) × IsTrue (has_types c.environment.parts (handle_types c.function xs) vs)
+  all_typed [] u = ([], refl, refl)
+  all_typed (x ∷ xs) u =
+      let a = each x (and_left (usable c.function s x) (usable_all c.function s xs) u) in
+      let b = all_typed xs (and_right (usable c.function s x) (usable_all c.function s xs) u) in
+      (a.0 ∷ b.0, ap (λ o. also o (used_all c kept xs)) a.1 ∙ ap (also (Some a.0)) b.1, and_both (has_type c.environment.parts (handle_type c.function x) a.0) (has_types c.environment.parts (handle_types c.function xs) b.0) a.2 b.2)
+
+  -- an operator over operands in scope
+  pub operator_typed : IsTypedIn c.environment.parts p c.meaning c.function → (h : ℕ) → IsTrue (is_pure (expression_of c.function h)) → IsTrue (usable_all c.function s (operands_of (expression_of c.function h))) → TypedValue c.environment.parts (handle_type c.function h) (computed c kept (expression_of c.function h))
+  operator_typed typed h q u =
+      let e = expression_of c.function h in
+      let vs = all_typed (operands_of e) u in
+      let v = typed.operators h q vs.0 vs.2 in
+      (v.0, ap (gathered c.meaning e) vs.1 ∙ v.1, v.2)
+
+  -- a request's operands, and the constants behind them
+  pub request_there : EnvironmentFits p c.environment → (xs : List ℕ) (es : ConstantTrees) → ConstantsInRange p es → ConstantsTyped c.environment.parts p c.meaning es → IsTrue (usable_all c.function s xs) → (vs : List Value) × (joined (used_all c kept xs) (constant_values c.environment c.meaning es) ≡ Some vs)
+  request_there environment xs es i k u =
+      let a = all_typed xs u in
+      let b = constants_typed p c.environment environment c.meaning es i k in
+      (a.0 ++ b.0, ap (λ o. joined o (constant_values c.environment c.meaning es)) a.1 ∙ ap (joined (Some a.0)) b.1)
+
+module _ (p : Module) (c : Call) (n : Names) (d : Respond) (given : Given p c n d) (s : Handles) (names : Scope) (kept : Kept) (r : Related c n s names kept) where
+  typed_value_as : (k : ValueType) (e : Option Expression) → LeafFits p c.function k e → LeafTyped c.environment.parts p c.meaning e → (o : Option Value) (st : Standing) → Stands c s names kept k e o st → IsTrue (usable_as c.function e st) → TypedValue c.environment.parts k (used_as c e o)
+  typed_value_as k e l m o (Named x) q u = q.0
+  typed_value_as k e l m o Inline q u = used_typed p c given.arguments given.environment k e l m o Inline (λ i. q.1) u
+  typed_value_as k e l m o Everywhere q u =
+      used_typed p c given.arguments given.environment k e l m o Everywhere (λ i. q.1) u
+  typed_value_as k e l m o Absent q u =
+      used_typed p c given.arguments given.environment k e l m o Absent (λ i. absurd (true≢false (sym i))) u
+  typed_value_as k e l m o Barred q u =
+      used_typed p c given.arguments given.environment k e l m o Barred (λ i. absurd (true≢false (sym i))) u
 
   pub typed_value : (h : ℕ) → IsTrue (usable c.function s h) → TypedValue c.environment.parts (handle_type c.function h) (used c kept h)
   typed_value h u =
       typed_value_as (handle_type c.function h) (expression_of c.function h) (given.leaves h) (given.typed.constants h) (kept h) (s h) (r.standing h) u
 
   pub values_here : (xs : List ℕ) → IsTrue (usable_all c.function s xs) → (vs : List Value) × (used_all c kept xs ≡ Some vs) × IsTrue (has_types c.environment.parts (handle_types c.function xs) vs)
-  values_here [] u = ([], refl, refl)
-  values_here (x ∷ xs) u =
-      let a = typed_value x (and_left (usable c.function s x) (usable_all c.function s xs) u) in
-      let b = values_here xs (and_right (usable c.function s x) (usable_all c.function s xs) u) in
-      (a.0 ∷ b.0, ap (λ o. also o (used_all c kept xs)) a.1 ∙ ap (also (Some a.0)) b.1, and_both (has_type c.environment.parts (handle_type c.function x) a.0) (has_types c.environment.parts (handle_types c.function xs) b.0) a.2 b.2)
+  values_here xs u = all_typed p c s kept typed_value xs u
 
   -- no variable hides a word of the function
   pub free : (w : Bytes) → IsNoName p (naming c n) w → names w ≡ None
@@ -197,10 +227,7 @@ module _ (p : Module) (c : Call) (n : Names) (d : Respond) (given : Given p c n 
       ∙ ap (λ o. reached_all o t) (joined_also (used c kept x) (used_all c kept xs) us)
 
   pub request_values : (xs : List ℕ) (es : ConstantTrees) → ConstantsInRange p es → ConstantsTyped c.environment.parts p c.meaning es → IsTrue (usable_all c.function s xs) → (vs : List Value) × (joined (used_all c kept xs) (constant_values c.environment c.meaning es) ≡ Some vs)
-  request_values xs es i k u =
-      let a = values_here xs u in
-      let b = constants_typed p c.environment given.environment c.meaning es i k in
-      (a.0 ++ b.0, ap (λ o. joined o (constant_values c.environment c.meaning es)) a.1 ∙ ap (joined (Some a.0)) b.1)
+  request_values xs es i k u = request_there p c s kept typed_value given.environment xs es i k u
 
   argument_means : (i : ℕ) → IsTrue (nat_lt i (argument_count c.function)) → Means c d names (AsValue (Name (n.argument i))) (slice_get c.arguments i)
   argument_means i u t =

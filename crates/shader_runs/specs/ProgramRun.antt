@@ -2,7 +2,7 @@
 use Rattle.std.specs.Prelude.{ℕ, zero, suc, ℤ, Bool, true, false, cond, nat_eq, List, [], ◌∷◌, ◌++◌, length, Option, Some, None, ◌||◌, slice_get, codes}
 use Rattle.shader_runs.specs.Value.{Bytes, same_integer, PartTypes, Place, Part, Rooted, GlobalRoot, LocalRoot, At, step_of, ValueType, has_type, Selector, MemberNamed, Value, Truth, Whole, Pointer, Opaque, Word, Spelled, PartWord, IndexWord, ShortCircuit, short_circuit_word, is_decided}
 use Rattle.shader_runs.specs.World.{Event, Entry, Ask, Read, Write, Discard, entries, World, Meaning, GlobalValue, Stored, Held, Environment, update}
-use Rattle.shader_runs.specs.Outcome.{Stuck, Discarded, Mistyped, Outcome, Done, Continued, Broke, Returned, Stopped, Reached, Gives, Halts, answer, Next, and_then, turn, turns, after_switch, chosen, with_integer}
+use Rattle.shader_runs.specs.Outcome.{Stuck, Discarded, Mistyped, Outcome, Done, Continued, Broke, Returned, Stopped, Reached, Gives, Halts, answer, Next, and_then, turn, turns, after_switch, chosen, with_integer, Unreturned}
 use Rattle.shader_runs.specs.Program.{ConstantTree, Fixed, NamedConstant, Constructed, ConstantTrees, no_constant, constant, Expression, Constant, Argument, Local, Global, Load, Operator, Access, AccessIndex, Logical, Swizzle, Request, Action, Asked, Called, BarrierBits, Label, Numbered, Default, Statement, Emit, Store, Block, If, Switch, Loop, Break, Continue, Return, Kill, Barrier, Act, Statements, end, then, Cases, no_case, case, Function, argument_count, local_pointer, expression_of, handle_type, operands_of, is_counted, is_asked, from}
 
 -- one call of a function: callees are the functions before it and calls what they do, frame is the number of entries before it
@@ -211,7 +211,7 @@ acted c (Called g) vs t = c.calls g vs t
 abbrev pub with_result : PartTypes → Function → Action → Option ℕ → Kept → Reached (Option Value) → Outcome Kept
 with_result parts f a None kept (Gives v t) = Done kept t
 with_result parts f a None kept (Halts x t) = Stopped x t
-with_result parts f a (Some h) kept (Gives None t) = Stopped Stuck t
+with_result parts f a (Some h) kept (Gives None t) = Stopped Unreturned t
 with_result parts f (Asked w) (Some h) kept (Gives (Some v) t) = keep_typed parts (handle_type f h) h v kept t
 with_result parts f (Called g) (Some h) kept (Gives (Some v) t) = Done (update kept h (Some v)) t
 with_result parts f a (Some h) kept (Halts x t) = Stopped x t

@@ -2,8 +2,8 @@
 use Rattle.std.specs.Prelude.{◌≡◌, ℕ, ◌+◌, ◌*◌, pos, Bool, true, false, cond, List, [], ◌∷◌, ◌++◌, Option, Some, None, ◌&&◌, ◌||◌, nat_eq, get_or, IsTrue, codes}
 use Rattle.shader_runs.specs.Value.{Bytes, PartTypes, same_bytes, same_integer, MemberNamed, ElementAt, step_of, At, Field, Rooted, GlobalRoot, LocalRoot, Part, Place, ValueType, BooleanType, IntegerType, PointerType, Value, Truth, Whole, Pointer, Spelled}
 use Rattle.shader_runs.specs.World.{Event, Entry, Ask, Read, Write, Discard, World, Meaning, Environment, Stored}
-use Rattle.shader_runs.specs.Outcome.{Reached, Gives, Halts, Stuck, OutOfTurns}
-use Rattle.shader_runs.specs.Program.{Fixed, NamedConstant, Module, Expression, Constant, Argument, Local, Global, Load, Operator, Access, AccessIndex, Called, Numbered, Default, Statements, Emit, Store, If, Switch, Loop, Continue, Return, Act, Barrier, end, then, no_case, case, Function}
+use Rattle.shader_runs.specs.Outcome.{Reached, Gives, Halts, Stuck, Unreturned, OutOfTurns}
+use Rattle.shader_runs.specs.Program.{Fixed, NamedConstant, Module, Expression, Constant, Argument, Local, Global, Load, Operator, Access, AccessIndex, Result, Called, Numbered, Default, Statements, Emit, Store, If, Switch, Loop, Break, Continue, Return, Act, Barrier, end, then, no_case, case, Function}
 use Rattle.shader_runs.specs.ProgramRun.{run_call}
 use Rattle.shader_runs.specs.Text.{Tree, Name, LiteralOf, Apply, Deref, AddressOf, Index, PartOf, no_more, more, Let, Assign, IfElse, SwitchOn, LoopOf, ContinueLine, ReturnLine, Perform, Lines, last, before, no_group, group, Variable, TextFunction, TextModule}
 use Rattle.shader_runs.specs.TextRun.{module_scope, word_use, follow_call}
@@ -11,6 +11,7 @@ use Rattle.shader_runs.specs.Scope.{ModuleNames, Naming, fits_function}
 use Rattle.shader_runs.specs.Premises.{EnvironmentFits}
 use Rattle.shader_runs.specs.Typing.{IsConsistent}
 use Rattle.shader_runs.specs.Correct.{ModuleFits}
+use Rattle.shader_runs.specs.Progress.{AllWellFormed}
 use Rattle.shader_runs.specs.Form.{form_functions, form_module, functions_of}
 
 -- the type `i32`
@@ -328,6 +329,47 @@ CallRow =
     let functions = codes "inc" ∷ codes "run" ∷ [] in
     IsShown (with_names functions 1 [] (codes "a" ∷ []) [] run_function ∷ with_names functions 0 (codes "p" ∷ []) [] [] increment ∷ []) (call_texts (Deref (Name (codes "p")))) 1 (codes "run") [] (Gives (Some (number 8)) (Read a_place ∷ Write a_place (number 8) ∷ Read a_place ∷ Entry 0 (Pointer a_place ∷ []) [] ∷ Entry 1 [] (None ∷ []) ∷ []))
 
+-- a function with this body, over the handle of a number
+abbrev pub body_of : Expression → Option ValueType → Statements → Function
+body_of e result body =
+    record {
+      argument_types = [];
+      result = result;
+      first_values = [];
+      local_pointers = [];
+      expressions = e ∷ [];
+      types = i32 ∷ [];
+      counts = 1 ∷ [];
+      given_names = [];
+      body = body;
+    }
+
+-- [unreturned]: a callee ends without the result that its caller wants
+abbrev pub UnreturnedRow : Type 0
+UnreturnedRow =
+    let functions = codes "idle" ∷ codes "run" ∷ [] in
+    let idle = body_of (literal 1) (Some i32) end in
+    let caller = body_of Result (Some i32) (then (Act (Called 0) [] (Some 0)) (then (Return (Some 0)) end)) in
+    let called = before (Let (numbered_name 0) (Apply (codes "idle") no_more)) (before (ReturnLine (Some (named_by 0))) last) in
+    let texts = text_of (codes "run") [] [] called ∷ text_of (codes "idle") [] [] last ∷ [] in
+    let namings = with_names functions 1 [] [] [] caller ∷ with_names functions 0 [] [] [] idle ∷ [] in
+    IsShown namings texts 1 (codes "run") [] (Halts Unreturned (Entry 0 [] [] ∷ Entry 1 [] [] ∷ []))
+
+-- the run of this body is stuck where it starts
+abbrev pub IsStuck : Statements → Type 0
+IsStuck body =
+    run_call nothing row_world row_meaning 3 (body_of (literal 1) None body ∷ []) 0 [] [] ≡ Halts Stuck (entered_with [] [])
+
+-- bodies that aren't well-formed
+pub record AreStuck : Type 0 where
+  pub break_outside : IsStuck (then Break end)
+  pub continue_outside : IsStuck (then Continue end)
+  pub break_in_continuing : IsStuck (then (Loop end (then Break end) None) end)
+  pub continue_in_continuing : IsStuck (then (Loop end (then Continue end) None) end)
+  pub number_as_condition : IsStuck (then (If 0 end end) end)
+  pub number_as_break_if : IsStuck (then (Loop end end (Some 0)) end)
+  pub number_as_pointer : IsStuck (then (Store 0 0) end)
+
 -- cases 1 and 2 fall through to a default with this body
 abbrev pub switch_function : Statements → Function
 switch_function b =
@@ -549,6 +591,7 @@ pub record PremisesHold : Type 0 where
   pub fits : ModuleFits store_module store_naming.names.outer (store_naming ∷ [])
   pub environment : EnvironmentFits store_module nothing
   pub consistent : IsConsistent store_module
+  pub well_formed : AllWellFormed store_module.functions
 
 -- all rows
 pub record RowsHold : Type 0 where
@@ -563,6 +606,7 @@ pub record RowsHold : Type 0 where
   pub tail : TailRow
   pub folded : FoldedRow
   pub call : CallRow
+  pub unreturned : UnreturnedRow
   pub switch : SwitchRow
   pub joined : JoinedRow
   pub loop : LoopRow
@@ -570,5 +614,6 @@ pub record RowsHold : Type 0 where
   pub select : SelectRow
   pub places : PlacesRow
   pub refused : AreRefused
+  pub stuck : AreStuck
   pub told_apart : AreToldApart
   pub same_step : SameStep

@@ -2,7 +2,7 @@
 use Rattle.std.specs.Prelude.{ℕ, suc, Bool, true, false, cond, nat_eq, List, [], ◌∷◌, length, Option, Some, None, ◌||◌}
 use Rattle.shader_runs.specs.Value.{Bytes, same_bytes, Place, Rooted, GlobalRoot, LocalRoot, Part, At, Selector, step_of, Value, Truth, Whole, Pointer, Opaque, Spelled, PartWord, IndexWord, ShortCircuit}
 use Rattle.shader_runs.specs.World.{Event, Entry, Ask, Read, Write, Discard, entries, World, Meaning, GlobalValue, Stored, Held, Environment, bind}
-use Rattle.shader_runs.specs.Outcome.{Stuck, Discarded, Outcome, Done, Continued, Broke, Returned, Stopped, Reached, Gives, Halts, answer, Next, and_then, turn, turns, after_switch, chosen, with_integer, closed, closed_if}
+use Rattle.shader_runs.specs.Outcome.{Stuck, Unreturned, Discarded, Outcome, Done, Continued, Broke, Returned, Stopped, Reached, Gives, Halts, answer, Next, and_then, turn, turns, after_switch, chosen, with_integer, closed, closed_if}
 use Rattle.shader_runs.specs.Program.{Label, Numbered}
 use Rattle.shader_runs.specs.ProgramRun.{called, decides, undecided, same_label, label_if}
 use Rattle.shader_runs.specs.Text.{Tree, Name, LiteralOf, Apply, Deref, AddressOf, Index, PartOf, LogicalOf, Trees, no_more, more, Line, Let, Assign, Braces, IfElse, SwitchOn, LoopOf, BreakLine, ContinueLine, ReturnLine, DiscardLine, Perform, Lines, last, before, Groups, no_group, group, Variable, ModuleVariable, TextFunction, TextModule}
@@ -57,10 +57,10 @@ unhidden (Some d) t q = Halts Stuck t
 abbrev pub word_reached : Words → Bytes → Scope → List Event → Reached (List Value) → Reached (Option Value)
 word_reached l word names t vs = unhidden (names word) t (responded l word vs)
 
--- a value is wanted
+-- a value is wanted: operators and requests give one, and so does a function that returns one
 abbrev pub as_value : Reached (Option Value) → Reached Denoted
 as_value (Halts x t) = Halts x t
-as_value (Gives None t) = Halts Stuck t
+as_value (Gives None t) = Halts Unreturned t
 as_value (Gives (Some v) t) = Gives (IsValue v) t
 
 -- `*` makes a reference of a pointer

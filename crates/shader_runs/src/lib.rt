@@ -1,8 +1,9 @@
-// The run of a module, the run of the text that is written for it, and why they agree.
+//! The run of a module, the run of the text that is written for it, and why they agree.
 #![tactic(auto)]
 
 ghost use Rattle.shader_runs.specs.Correct.{RunsAlike, HasTypedMeaning, HasTypedWorld};
 ghost use Rattle.shader_runs.specs.Points.{PointsAgree};
+ghost use Rattle.shader_runs.specs.Progress.{RunsAreNotStuck};
 ghost use Rattle.shader_runs.specs.Rows.{RowsHold};
 ghost use Rattle.shader_runs.specs.ScopeRules.{ScopeCheckIsTheRules};
 
@@ -11,10 +12,16 @@ pub fn runs_alike()
     ensures { RunsAlike }
 {}
 
-/// At the end of any beginning of a body, names in scope have the values that the module uses, and what is
+/// At each point that a run passes, names in scope have the values that the module uses, and what is
 /// written without a name still gives them.
 pub fn points_agree()
     ensures { PointsAgree }
+{}
+
+/// In a module whose conditions, selectors, pointers and jumps are well-formed too, no call is stuck: it returns, or ends by a
+/// discard, out of turns, for want of a callee's result or at an answer of a wrong type.
+pub fn runs_are_not_stuck()
+    ensures { RunsAreNotStuck }
 {}
 
 /// The check of scope holds of a function exactly where the rules of scope do.

@@ -1,0 +1,98 @@
+-- The law of progress: a call isn't stuck, neither in the module nor in its text.
+use Rattle.std.specs.Prelude.{◌≡◌, ℕ, Bool, true, false, List, [], ◌∷◌, Option, Some, None, IsTrue}
+use Rattle.shader_runs.specs.Value.{ValueType, BooleanType, IntegerType, PointerType, Value, has_types}
+use Rattle.shader_runs.specs.World.{World, Meaning, Event, Environment}
+use Rattle.shader_runs.specs.Outcome.{Stop, Stuck, Reached, Gives, Halts}
+use Rattle.shader_runs.specs.Program.{Expression, Load, Statement, Store, Block, If, Switch, Loop, Break, Continue, Statements, end, then, Cases, no_case, case, Function, function_numbered, expression_of, handle_type, Module}
+use Rattle.shader_runs.specs.ProgramRun.{run_call}
+use Rattle.shader_runs.specs.TextRun.{module_scope, word_use, follow_call}
+use Rattle.shader_runs.specs.Scope.{ModuleNames, Naming}
+use Rattle.shader_runs.specs.Form.{form_module}
+use Rattle.shader_runs.specs.Premises.{IsTyped, EnvironmentFits}
+use Rattle.shader_runs.specs.Correct.{KeepsTypes, ModuleFits}
+
+-- the type of a pointer
+abbrev pub IsPointer : ValueType → Type 0
+IsPointer (PointerType spelling) = Unit {0}
+IsPointer _ = ⊥
+
+-- the type of an integer
+abbrev pub IsInteger : ValueType → Type 0
+IsInteger (IntegerType spelling) = Unit {0}
+IsInteger _ = ⊥
+
+-- the type of a truth value
+abbrev pub IsBoolean : ValueType → Type 0
+IsBoolean BooleanType = Unit {0}
+IsBoolean _ = ⊥
+
+-- a load is from a pointer
+abbrev pub LoadFits : Function → Option Expression → Type 0
+LoadFits f (Some (Load p)) = IsPointer (handle_type f p)
+LoadFits f _ = Unit {0}
+
+-- a `break if` has a truth value
+abbrev pub BreakIfFits : Function → Option ℕ → Type 0
+BreakIfFits f None = Unit {0}
+BreakIfFits f (Some h) = IsBoolean (handle_type f h)
+
+abbrev mutual
+  -- a condition is a truth value, a selector is an integer, and a store goes to a pointer. `break` stands
+  -- in a loop's body or in a case, `continue` in a loop's body, and neither leaves a `continuing`:
+  -- breaks and continues tell which of them may stand here
+  pub IsWellFormed : Function → (breaks continues : Bool) → Statement → Type 0
+  IsWellFormed f breaks continues (Store p v) = IsPointer (handle_type f p)
+  IsWellFormed f breaks continues (Block b) = AreWellFormed f breaks continues b
+  IsWellFormed f breaks continues (If c a b) =
+      IsBoolean (handle_type f c) × AreWellFormed f breaks continues a × AreWellFormed f breaks continues b
+  IsWellFormed f breaks continues (Switch h cases) = IsInteger (handle_type f h) × CasesAreWellFormed f continues cases
+  IsWellFormed f breaks continues (Loop b d e) = AreWellFormed f true true b × AreWellFormed f false false d × BreakIfFits f e
+  IsWellFormed f breaks continues Break = IsTrue breaks
+  IsWellFormed f breaks continues Continue = IsTrue continues
+  IsWellFormed f breaks continues _ = Unit {0}
+
+  pub AreWellFormed : Function → (breaks continues : Bool) → Statements → Type 0
+  AreWellFormed f breaks continues end = Unit {0}
+  AreWellFormed f breaks continues (then s ss) = IsWellFormed f breaks continues s × AreWellFormed f breaks continues ss
+
+  pub CasesAreWellFormed : Function → (continues : Bool) → Cases → Type 0
+  CasesAreWellFormed f continues no_case = Unit {0}
+  CasesAreWellFormed f continues (case l b falls cs) = AreWellFormed f true continues b × CasesAreWellFormed f continues cs
+
+-- a function, whose body has no loop around it
+pub record FunctionIsWellFormed (f : Function) : Type 0 where
+  pub loads : (h : ℕ) → LoadFits f (expression_of f h)
+  pub body : AreWellFormed f false false f.body
+
+-- each function
+abbrev pub AllWellFormed : List Function → Type 0
+AllWellFormed [] = Unit {0}
+AllWellFormed (f ∷ fs) = FunctionIsWellFormed f × AllWellFormed fs
+
+-- a reason to end, other than that a wanted value is missing
+abbrev pub NotStuck : Stop → Type 0
+NotStuck Stuck = ⊥
+NotStuck _ = Unit {0}
+
+-- a call returns, or it ends by a discard, out of turns, for want of a callee's result or at an answer
+-- of a wrong type
+abbrev pub IsNotStuck : Reached (Option Value) → Type 0
+IsNotStuck (Gives v t) = Unit {0}
+IsNotStuck (Halts x t) = NotStuck x
+
+-- in a module whose scope holds, and which is well-formed, no call with arguments of the right types is
+-- stuck: in no world the module's run, and in no world that keeps the types the text's
+abbrev pub RunsAreNotStuck : Type 0
+RunsAreNotStuck =
+    (p : Module) (n : ModuleNames) (fs : List Naming) →
+    ModuleFits p n fs →
+    AllWellFormed p.functions →
+    (env : Environment) → EnvironmentFits p env →
+    (m : Meaning) → IsTyped p m →
+    (g : ℕ) (f : Function) → function_numbered p.functions g ≡ Some f →
+    (vs : List Value) → IsTrue (has_types p.parts f.argument_types vs) →
+    (w : World) (turns : ℕ) (t : List Event) →
+    let module_run = run_call env w m turns p.functions g vs t in
+    let text = form_module p n fs in
+    let text_run = follow_call (module_scope text env) w m (word_use text.functions n.is_request) turns text.functions (n.function g) vs t in
+    IsNotStuck module_run × (KeepsTypes module_run → IsNotStuck text_run)
