@@ -125,6 +125,7 @@ premises =
       environment = record { parts = refl; constants = refl; globals = refl };
       consistent = record { alike = λ x y s t w o. absurd (no_spelled x s); parts = λ place f e h. subst (λ f. PartsFit row_parts f (handle_type f h) (expression_of f h)) (only_function place f e) (no_parts h) };
       well_formed = (record { loads = loads; body = (tt, (tt, (tt, tt))) }, tt);
+      results = ((refl, refl), tt);
     }
 
 pub rows_hold : RowsHold
@@ -150,6 +151,7 @@ rows_hold =
       places = record { fits = refl; text = refl; module_run = refl; text_run = refl };
       refused = record { continue_ = refl; after_loop = refl; emitted_again = refl };
       stuck = record { break_outside = refl; continue_outside = refl; break_in_continuing = refl; continue_in_continuing = refl; number_as_condition = refl; number_as_break_if = refl; number_as_pointer = refl };
+      ends = record { both_return = refl; one_returns = refl; loop_without_break = refl; loop_with_break = refl; loop_with_break_if = refl; with_default = refl; without_default = refl };
       told_apart = record { load_inlined_past_store = refl; every_emit_bound = refl; name_used_in_sibling_block = refl; name_of_sibling_copied = refl; continuing_uses_skipped_constant_name = refl; loop_names_kept_after_loop = refl; function_hidden_by_local = refl; pointer_argument_not_dereferenced = refl; select_accept_first = refl };
       same_step = refl;
     }

@@ -45,19 +45,23 @@ abbrev mutual
   IsWellFormed f breaks continues (Block b) = AreWellFormed f breaks continues b
   IsWellFormed f breaks continues (If c a b) =
       IsBoolean (handle_type f c) × AreWellFormed f breaks continues a × AreWellFormed f breaks continues b
-  IsWellFormed f breaks continues (Switch h cases) = IsInteger (handle_type f h) × CasesAreWellFormed f continues cases
-  IsWellFormed f breaks continues (Loop b d e) = AreWellFormed f true true b × AreWellFormed f false false d × BreakIfFits f e
+  IsWellFormed f breaks continues (Switch h cases) =
+      IsInteger (handle_type f h) × CasesAreWellFormed f continues cases
+  IsWellFormed f breaks continues (Loop b d e) =
+      AreWellFormed f true true b × AreWellFormed f false false d × BreakIfFits f e
   IsWellFormed f breaks continues Break = IsTrue breaks
   IsWellFormed f breaks continues Continue = IsTrue continues
   IsWellFormed f breaks continues _ = Unit {0}
 
   pub AreWellFormed : Function → (breaks continues : Bool) → Statements → Type 0
   AreWellFormed f breaks continues end = Unit {0}
-  AreWellFormed f breaks continues (then s ss) = IsWellFormed f breaks continues s × AreWellFormed f breaks continues ss
+  AreWellFormed f breaks continues (then s ss) =
+      IsWellFormed f breaks continues s × AreWellFormed f breaks continues ss
 
   pub CasesAreWellFormed : Function → (continues : Bool) → Cases → Type 0
   CasesAreWellFormed f continues no_case = Unit {0}
-  CasesAreWellFormed f continues (case l b falls cs) = AreWellFormed f true continues b × CasesAreWellFormed f continues cs
+  CasesAreWellFormed f continues (case l b falls cs) =
+      AreWellFormed f true continues b × CasesAreWellFormed f continues cs
 
 -- a function, whose body has no loop around it
 pub record FunctionIsWellFormed (f : Function) : Type 0 where

@@ -12,6 +12,7 @@ use Rattle.shader_runs.specs.Premises.{EnvironmentFits}
 use Rattle.shader_runs.specs.Typing.{IsConsistent}
 use Rattle.shader_runs.specs.Correct.{ModuleFits}
 use Rattle.shader_runs.specs.Progress.{AllWellFormed}
+use Rattle.shader_runs.specs.Results.{may_end_all, AllGiveResults}
 use Rattle.shader_runs.specs.Form.{form_functions, form_module, functions_of}
 
 -- the type `i32`
@@ -370,6 +371,20 @@ pub record AreStuck : Type 0 where
   pub number_as_break_if : IsStuck (then (Loop end end (Some 0)) end)
   pub number_as_pointer : IsStuck (then (Store 0 0) end)
 
+-- a body that returns
+abbrev pub returning : Statements
+returning = then (Return (Some 0)) end
+
+-- where a run may come to the end of a body
+pub record EndsAreTold : Type 0 where
+  pub both_return : may_end_all (then (If 0 returning returning) end) ≡ false
+  pub one_returns : may_end_all (then (If 0 returning end) end) ≡ true
+  pub loop_without_break : may_end_all (then (Loop end end None) end) ≡ false
+  pub loop_with_break : may_end_all (then (Loop (then (If 0 (then Break end) end) end) end None) end) ≡ true
+  pub loop_with_break_if : may_end_all (then (Loop end end (Some 0)) end) ≡ true
+  pub with_default : may_end_all (then (Switch 0 (case (Numbered (pos 1)) end true (case Default returning false no_case))) end) ≡ false
+  pub without_default : may_end_all (then (Switch 0 (case (Numbered (pos 1)) returning false no_case)) end) ≡ true
+
 -- cases 1 and 2 fall through to a default with this body
 abbrev pub switch_function : Statements → Function
 switch_function b =
@@ -592,6 +607,7 @@ pub record PremisesHold : Type 0 where
   pub environment : EnvironmentFits store_module nothing
   pub consistent : IsConsistent store_module
   pub well_formed : AllWellFormed store_module.functions
+  pub results : AllGiveResults store_module.functions
 
 -- all rows
 pub record RowsHold : Type 0 where
@@ -615,5 +631,6 @@ pub record RowsHold : Type 0 where
   pub places : PlacesRow
   pub refused : AreRefused
   pub stuck : AreStuck
+  pub ends : EndsAreTold
   pub told_apart : AreToldApart
   pub same_step : SameStep

@@ -4,6 +4,7 @@
 ghost use Rattle.shader_runs.specs.Correct.{RunsAlike, HasTypedMeaning, HasTypedWorld};
 ghost use Rattle.shader_runs.specs.Points.{PointsAgree};
 ghost use Rattle.shader_runs.specs.Progress.{RunsAreNotStuck};
+ghost use Rattle.shader_runs.specs.Results.{ResultsAreReturned};
 ghost use Rattle.shader_runs.specs.Rows.{RowsHold};
 ghost use Rattle.shader_runs.specs.ScopeRules.{ScopeCheckIsTheRules};
 
@@ -22,6 +23,11 @@ pub fn points_agree()
 /// discard, out of turns, for want of a callee's result or at an answer of a wrong type.
 pub fn runs_are_not_stuck()
     ensures { RunsAreNotStuck }
+{}
+
+/// Where each function with a result returns a value on all paths, no call misses a result.
+pub fn results_are_returned()
+    ensures { ResultsAreReturned }
 {}
 
 /// The check of scope holds of a function exactly where the rules of scope do.

@@ -1,0 +1,97 @@
+-- The law of results: where functions return what they promise, no call misses a result.
+use Rattle.std.specs.Prelude.{◌≡◌, ℕ, Bool, true, false, not, is_some, List, [], ◌∷◌, Option, Some, None, ◌&&◌, ◌||◌, IsTrue}
+use Rattle.shader_runs.specs.Value.{ValueType, Value}
+use Rattle.shader_runs.specs.World.{World, Meaning, Event, Environment}
+use Rattle.shader_runs.specs.Outcome.{Stop, Unreturned, Reached, Gives, Halts}
+use Rattle.shader_runs.specs.Program.{Default, Statement, Block, If, Switch, Loop, Break, Continue, Return, Kill, Statements, end, then, Cases, no_case, case, Function, function_numbered, Module}
+use Rattle.shader_runs.specs.ProgramRun.{has_label, run_call}
+use Rattle.shader_runs.specs.Scope.{ModuleNames, Naming}
+use Rattle.shader_runs.specs.Correct.{ModuleFits}
+
+abbrev mutual
+  -- a `break` of the loop or the switch around the statement
+  pub holds_break : Statement → Bool
+  holds_break (Block b) = any_break b
+  holds_break (If c a b) = any_break a || any_break b
+  holds_break Break = true
+  holds_break _ = false
+
+  pub any_break : Statements → Bool
+  any_break end = false
+  any_break (then s ss) = holds_break s || any_break ss
+
+abbrev mutual
+  -- a run may come to what stands behind the statement
+  pub may_end : Statement → Bool
+  may_end (Block b) = may_end_all b
+  may_end (If c a b) = may_end_all a || may_end_all b
+  may_end (Switch h cases) = not (has_label Default cases) || some_case_ends cases
+  may_end (Loop b d e) = any_break b || is_some e
+  may_end Break = false
+  may_end Continue = false
+  may_end (Return v) = false
+  may_end Kill = false
+  may_end _ = true
+
+  pub may_end_all : Statements → Bool
+  may_end_all end = true
+  may_end_all (then s ss) = may_end s && may_end_all ss
+
+  -- a case that falls through ends as the next one does
+  pub some_case_ends : Cases → Bool
+  some_case_ends no_case = false
+  some_case_ends (case l b falls cs) = any_break b || ((not falls && may_end_all b) || some_case_ends cs)
+
+abbrev mutual
+  -- each `return` has a value
+  pub has_values : Statement → Bool
+  has_values (Block b) = all_have_values b
+  has_values (If c a b) = all_have_values a && all_have_values b
+  has_values (Switch h cases) = cases_have_values cases
+  has_values (Loop b d e) = all_have_values b && all_have_values d
+  has_values (Return None) = false
+  has_values _ = true
+
+  pub all_have_values : Statements → Bool
+  all_have_values end = true
+  all_have_values (then s ss) = has_values s && all_have_values ss
+
+  pub cases_have_values : Cases → Bool
+  cases_have_values no_case = true
+  cases_have_values (case l b falls cs) = all_have_values b && cases_have_values cs
+
+-- a body with a result returns a value, and no run of it comes to its end
+abbrev pub GivesResult : Option ValueType → Statements → Type 0
+GivesResult None body = Unit {0}
+GivesResult (Some k) body = IsTrue (all_have_values body) × (may_end_all body ≡ false)
+
+-- each function
+abbrev pub AllGiveResults : List Function → Type 0
+AllGiveResults [] = Unit {0}
+AllGiveResults (f ∷ fs) = GivesResult f.result f.body × AllGiveResults fs
+
+-- what is returned is there, where there is a result
+abbrev pub IsGiven : Option ValueType → Option Value → Type 0
+IsGiven (Some k) None = ⊥
+IsGiven _ _ = Unit {0}
+
+-- a reason to end, other than that a wanted result wasn't returned
+abbrev pub NotUnreturned : Stop → Type 0
+NotUnreturned Unreturned = ⊥
+NotUnreturned _ = Unit {0}
+
+-- a call gives its function's result, and inside it no result is missing
+abbrev pub IsComplete : Option ValueType → Reached (Option Value) → Type 0
+IsComplete k (Gives v t) = IsGiven k v
+IsComplete k (Halts x t) = NotUnreturned x
+
+-- where each function with a result returns a value on all paths, no call misses a result
+abbrev pub ResultsAreReturned : Type 0
+ResultsAreReturned =
+    (p : Module) (n : ModuleNames) (fs : List Naming) →
+    ModuleFits p n fs →
+    AllGiveResults p.functions →
+    (env : Environment) (m : Meaning) (g : ℕ) (f : Function) →
+    function_numbered p.functions g ≡ Some f →
+    (vs : List Value) (w : World) (turns : ℕ) (t : List Event) →
+    IsComplete f.result (run_call env w m turns p.functions g vs t)
