@@ -1,5 +1,5 @@
 -- With more turns a process ends as with fewer, or the one with fewer ran out of turns before.
-use Rattle.std.proofs.Common.{ℕ, zero, suc, ◌+◌, ◌≤◌, Bool, true, false, List, ◌∷◌, length, refl, sym, subst, arith}
+use Rattle.std.proofs.Common.{◌≡◌, ℕ, zero, suc, ◌+◌, ◌≤◌, ◌⊎◌, inl, inr, Bool, true, false, List, ◌∷◌, length, refl, sym, subst, arith}
 use Rattle.shader_runs.specs.Value.{has_type}
 use Rattle.shader_runs.specs.World.{Event, entries}
 use Rattle.shader_runs.specs.Outcome.{OutOfTurns, Reached, Gives, Halts}
@@ -14,6 +14,14 @@ Grows t q = length t + mistakes q ≤ events_made q
 pub data Cut : Reached Pause → Reached Pause → Type 0 where
   same_end : {q : Reached Pause} → Cut q q
   cut_off : {e : List Event} {q : Reached Pause} → length e + mistakes q ≤ events_made q → Cut (Halts OutOfTurns e) q
+
+pub cut_cases : (q q' : Reached Pause) → Cut q q' → (q ≡ q') ⊎ ((e : List Event) × (q ≡ Halts OutOfTurns e) × (length e + mistakes q' ≤ events_made q'))
+cut_cases q q' same_end = inl refl
+cut_cases q q' (cut_off {e = e} l) = inr (e, refl, l)
+
+pub cut_fine : (q q' : Reached Pause) → Cut q q' → mistakes q' ≡ 0 → mistakes q ≡ 0
+cut_fine q q' same_end h = h
+cut_fine q q' (cut_off l) h = refl
 
 made_grows : (t : List Event) (R : Types → Reached Pause) → Makes t R → (a : Types) → Grows t (R a)
 made_grows t R make a =

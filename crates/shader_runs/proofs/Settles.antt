@@ -427,3 +427,8 @@ module _ (k : ℕ) where
       let names = with_parameters f.parameters vs (with_variables f.variables (entries t) 0 outer) in
       let callee = call_settles outer w m is_request n less fs in
       cond_settles (same_bytes word f.name) _ _ _ _ (called_settles (nat_eq (length vs) (length f.parameters)) t _ _ (body_settles w m (follow_call outer w m is_request k fs) (follow_call outer w m is_request n fs) callee n less (length fs) f vs names t)) (callee word vs t)
+
+  -- as many events with more turns, or k events
+  pub settled_events : {t : List Event} {q q' : Reached (Option Value)} → SettlesReached t q q' → (length (reached_events q) ≡ length (reached_events q')) ⊎ (k + length t ≤ length (reached_events q))
+  settled_events (same l) = inl refl
+  settled_events (out_of_turns h) = inr h
