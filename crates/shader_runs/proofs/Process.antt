@@ -24,7 +24,8 @@ pub data Pause : Type 0 where
   BrokeWith : Kept → Pause
   ReturnedWith : Option Value → Pause
 
--- wants: an answer of this type to this request; looks: at the number of entries so far
+-- gives a pause, is stuck or discards; tells an event; wants an answer of a type to a request; looks at the number of entries so far;
+-- goes on from how another process ends; or repeats one from the state that the turn before left
 pub data Process : Type 0 where
   gives : Pause → Process
   stuck : Process
