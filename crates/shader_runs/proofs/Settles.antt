@@ -43,10 +43,12 @@ pub data Settles {X : Type 0} (m : Ends X) (k : ℕ) (t : List Event) : X → X 
   same : {q : X} → Later t (m.events q) → Settles m k t q q
   out_of_turns : {e : List Event} {q : X} → k + length t ≤ length e → Settles m k t (m.out e) q
 
+-- from an earlier history
 widen : {X : Type 0} {m : Ends X} {k : ℕ} {t e : List Event} {q q' : X} → Later t e → Settles m k e q q' → Settles m k t q q'
 widen l (same h) = same (still_later l h)
 widen l (out_of_turns h) = out_of_turns (omega (arith, later_length l, h))
 
+-- what goes on from how a run ends
 onward : {X Y : Type 0} {m : Ends X} {l : Ends Y} {k : ℕ} {t : List Event} {q q' : X} (F F' : X → Y) → ((e : List Event) → F (m.out e) ≡ l.out e) → ((x : X) → Settles l k (m.events x) (F x) (F' x)) → Settles m k t q q' → Settles l k t (F q) (F' q')
 onward F F' o next (same {q = q} h) = widen h (next q)
 onward {l = l} {k = k} {t = t} F F' o next (out_of_turns {e = e} {q = q} h) =
