@@ -44,8 +44,19 @@ RunsAlike =
 abbrev pub HasTypedMeaning : Type 0
 HasTypedMeaning = (p : Module) → IsConsistent p → (m : Meaning) × IsTyped p m
 
--- nor is its premise on the world: for each bound on loop turns a world exists that keeps the types from every start
+-- with each bound on loop turns, from each function and entry point with arguments of its types,
+-- each answer of this world that the run asks for has its type
+abbrev pub AlwaysKeepsTypes : Module → Environment → Meaning → World → Type 0
+AlwaysKeepsTypes p env m w =
+    (turns : ℕ) (g : ℕ) (f : Function) → function_numbered p.functions g ≡ Some f →
+    (vs : List Value) → IsTrue (has_types p.parts f.argument_types vs) →
+    KeepsTypes (run_call env w m turns p.functions g vs [])
+
+-- nor is its premise on the world: one world keeps the types in all these runs
 abbrev pub HasTypedWorld : Type 0
 HasTypedWorld =
-    (p : Module) (env : Environment) (m : Meaning) (turns : ℕ) →
-    (w : World) × ((g : ℕ) (vs : List Value) → KeepsTypes (run_call env w m turns p.functions g vs []))
+    (p : Module) (n : ModuleNames) (fs : List Naming) →
+    ModuleFits p n fs →
+    (env : Environment) → EnvironmentFits p env →
+    (m : Meaning) → IsTyped p m →
+    (w : World) × AlwaysKeepsTypes p env m w

@@ -40,7 +40,7 @@ pub fn has_typed_meaning()
     ensures { HasTypedMeaning }
 {}
 
-/// What it asks of the world can be met: with each bound on loop turns by one world for all starts.
+/// What it asks of the world can be met: by one world for all bounds on loop turns and all starts.
 pub fn has_typed_world()
     ensures { HasTypedWorld }
 {}

@@ -1,0 +1,292 @@
+-- The module's run is its process, performed.
+use Rattle.std.proofs.Common.{◌≡◌, ℕ, zero, suc, ℤ, Bool, true, false, cond, nat_eq, List, [], ◌∷◌, length, Option, Some, None, refl, ap, ap₂, ◌∙◌}
+use Rattle.shader_runs.specs.Value.{Bytes, PartTypes, Place, ValueType, has_type, Value, Truth, Whole, Pointer, Opaque}
+use Rattle.shader_runs.specs.World.{Event, Entry, Ask, Read, Write, entries, World, Meaning, Environment, update}
+use Rattle.shader_runs.specs.Outcome.{Outcome, Done, Continued, Broke, Returned, Stopped, Reached, Gives, Halts, answer, Next, and_then, and_continue, within, turn, and_again, turns, after_switch, chosen, with_integer}
+use Rattle.shader_runs.specs.Program.{Expression, Constant, Argument, Local, Global, Load, Operator, Access, AccessIndex, Logical, Swizzle, Request, Action, Asked, Called, Label, Numbered, Statement, Emit, Store, Block, If, Switch, Loop, Break, Continue, Return, Kill, Barrier, Act, Statements, end, then, Cases, no_case, case, Function, argument_count, expression_of, handle_type, operands_of, is_counted, is_asked, from}
+use Rattle.shader_runs.specs.ProgramRun.{Call, Kept, constant_values, used, used_as, also, used_all, gathered, computed, joined, if_typed, keep_typed, with_used, loaded, asked, if_counted, emit_as, emit, with_pointer, leave, returned, acted, with_result, with_all, barrier_words, ask_each, same_label, has_label, label_if, run, run_all, run_cases, run_on, constants_kept, with_first, wrapped, first_used, first_used_all, entered, run_body, called, run_call}
+use Rattle.shader_runs.proofs.Process.{Pause, DoneWith, ContinuedWith, BrokeWith, ReturnedWith, Process, gives, stuck, tells, looks, sequence, answered, resumed, again, rounds, perform, then_on, continue_on, inside, behind_switch, on_value, on_pointer, on_all, on_truth, on_integer, if_true, keeping, load_process, ask_process, asks_process, given_back, result_process, answers_call, entry_process, emit_one, emit_process, act_process, leave_process, return_process, statement_process, list_process, cases_process, on_process, body_process, call_in, call_alone, call_process}
+
+-- what a performed process is as an outcome, and as what a call gives
+abbrev outcome : Reached Pause → Outcome Kept
+outcome (Gives (DoneWith s) t) = Done s t
+outcome (Gives (ContinuedWith s) t) = Continued s t
+outcome (Gives (BrokeWith s) t) = Broke s t
+outcome (Gives (ReturnedWith v) t) = Returned v t
+outcome (Halts x t) = Stopped x t
+
+abbrev pub call_outcome : Reached Pause → Reached (Option Value)
+call_outcome (Gives x t) = Gives (given_back x) t
+call_outcome (Halts x t) = Halts x t
+
+module _ (w : World) (n : ℕ) where
+  abbrev IsPerformed : (List Event → Outcome Kept) → Process → Type 0
+  IsPerformed f p = (t : List Event) → f t ≡ outcome (perform w n p t)
+
+  abbrev NextPerformed : Next Kept → (Kept → Process) → Type 0
+  NextPerformed f next = (s : Kept) → IsPerformed (f s) (next s)
+
+  then_performed : (o : Outcome Kept) (p : Process) (t : List Event) (f : Next Kept) (next : Kept → Process) → o ≡ outcome (perform w n p t) → NextPerformed f next → and_then o f ≡ outcome (perform w n (sequence p (then_on next)) t)
+  then_performed o p t f next e h = ap (λ o. and_then o f) e ∙ go (perform w n p t)
+    where
+      go : (q : Reached Pause) → and_then (outcome q) f ≡ outcome (resumed q (λ x e. perform w n (then_on next x) e))
+      go (Gives (DoneWith s) e) = h s e
+      go (Gives (ContinuedWith s) e) = refl
+      go (Gives (BrokeWith s) e) = refl
+      go (Gives (ReturnedWith v) e) = refl
+      go (Halts x e) = refl
+
+  continue_performed : (o : Outcome Kept) (p : Process) (t : List Event) (f : Next Kept) (next : Kept → Process) → o ≡ outcome (perform w n p t) → NextPerformed f next → and_continue o f ≡ outcome (perform w n (sequence p (continue_on next)) t)
+  continue_performed o p t f next e h = ap (λ o. and_continue o f) e ∙ go (perform w n p t)
+    where
+      go : (q : Reached Pause) → and_continue (outcome q) f ≡ outcome (resumed q (λ x e. perform w n (continue_on next x) e))
+      go (Gives (DoneWith s) e) = h s e
+      go (Gives (ContinuedWith s) e) = h s e
+      go (Gives (BrokeWith s) e) = refl
+      go (Gives (ReturnedWith v) e) = refl
+      go (Halts x e) = refl
+
+  within_performed : (o : Outcome Kept) (p : Process) (t : List Event) → o ≡ outcome (perform w n p t) → within o ≡ outcome (perform w n (sequence p inside) t)
+  within_performed o p t e = ap within e ∙ go (perform w n p t)
+    where
+      go : (q : Reached Pause) → within (outcome q) ≡ outcome (resumed q (λ x e. perform w n (inside x) e))
+      go (Gives (DoneWith s) e) = refl
+      go (Gives (ContinuedWith s) e) = refl
+      go (Gives (BrokeWith s) e) = refl
+      go (Gives (ReturnedWith v) e) = refl
+      go (Halts x e) = refl
+
+  switch_performed : (o : Outcome Kept) (p : Process) (t : List Event) → o ≡ outcome (perform w n p t) → after_switch o ≡ outcome (perform w n (sequence p behind_switch) t)
+  switch_performed o p t e = ap after_switch e ∙ go (perform w n p t)
+    where
+      go : (q : Reached Pause) → after_switch (outcome q) ≡ outcome (resumed q (λ x e. perform w n (behind_switch x) e))
+      go (Gives (DoneWith s) e) = refl
+      go (Gives (ContinuedWith s) e) = refl
+      go (Gives (BrokeWith s) e) = refl
+      go (Gives (ReturnedWith v) e) = refl
+      go (Halts x e) = refl
+
+  turns_performed : (once : Next Kept) (next : Kept → Process) → NextPerformed once next → (j : ℕ) (s : Kept) (t : List Event) → turns j once s t ≡ outcome (rounds j (λ s e. perform w n (next s) e) s t)
+  turns_performed once next h zero s t = refl
+  turns_performed once next h (suc j) s t =
+      ap (λ o. and_again o (turns j once)) (h s t) ∙ go (perform w n (next s) t) (turns_performed once next h j)
+    where
+      go : (q : Reached Pause) → ((s : Kept) (t : List Event) → turns j once s t ≡ outcome (rounds j (λ s e. perform w n (next s) e) s t)) → and_again (outcome q) (turns j once) ≡ outcome (resumed q (again (rounds j (λ s e. perform w n (next s) e))))
+      go (Gives (DoneWith s) e) rest = rest s e
+      go (Gives (ContinuedWith s) e) rest = refl
+      go (Gives (BrokeWith s) e) rest = refl
+      go (Gives (ReturnedWith v) e) rest = refl
+      go (Halts x e) rest = refl
+
+  chosen_performed : (v : Value) (t : List Event) (a b : Outcome Kept) (p q : Process) → a ≡ outcome (perform w n p t) → b ≡ outcome (perform w n q t) → chosen v t a b ≡ outcome (perform w n (on_truth v p q) t)
+  chosen_performed (Truth true) t a b p q h k = h
+  chosen_performed (Truth false) t a b p q h k = k
+  chosen_performed (Whole s z) t a b p q h k = refl
+  chosen_performed (Pointer y) t a b p q h k = refl
+  chosen_performed (Opaque s z) t a b p q h k = refl
+
+  integer_performed : (v : Value) (t : List Event) (go : ℤ → Outcome Kept) (p : ℤ → Process) → ((z : ℤ) → go z ≡ outcome (perform w n (p z) t)) → with_integer v t go ≡ outcome (perform w n (on_integer v p) t)
+  integer_performed (Whole s z) t go p h = h z
+  integer_performed (Truth b) t go p h = refl
+  integer_performed (Pointer y) t go p h = refl
+  integer_performed (Opaque s z) t go p h = refl
+
+  used_performed : (o o' : Option Value) (t : List Event) (go : Value → Outcome Kept) (p : Value → Process) → o ≡ o' → ((v : Value) → go v ≡ outcome (perform w n (p v) t)) → with_used o t go ≡ outcome (perform w n (on_value o' p) t)
+  used_performed o o' t go p e h = ap (λ o. with_used o t go) e ∙ at o'
+    where
+      at : (o : Option Value) → with_used o t go ≡ outcome (perform w n (on_value o p) t)
+      at None = refl
+      at (Some v) = h v
+
+  pointer_performed : (o o' : Option Value) (t : List Event) (go : Place → Outcome Kept) (p : Place → Process) → o ≡ o' → ((y : Place) → go y ≡ outcome (perform w n (p y) t)) → with_pointer o t go ≡ outcome (perform w n (on_pointer o' p) t)
+  pointer_performed o o' t go p e h = ap (λ o. with_pointer o t go) e ∙ at o'
+    where
+      at : (o : Option Value) → with_pointer o t go ≡ outcome (perform w n (on_pointer o p) t)
+      at None = refl
+      at (Some (Pointer y)) = h y
+      at (Some (Truth b)) = refl
+      at (Some (Whole s z)) = refl
+      at (Some (Opaque s z)) = refl
+
+  all_performed : (o o' : Option (List Value)) (t : List Event) (go : List Value → Outcome Kept) (p : List Value → Process) → o ≡ o' → ((vs : List Value) → go vs ≡ outcome (perform w n (p vs) t)) → with_all o t go ≡ outcome (perform w n (on_all o' p) t)
+  all_performed o o' t go p e h = ap (λ o. with_all o t go) e ∙ at o'
+    where
+      at : (o : Option (List Value)) → with_all o t go ≡ outcome (perform w n (on_all o p) t)
+      at None = refl
+      at (Some vs) = h vs
+
+  if_performed : (b : Bool) (t : List Event) (o o' : Outcome Kept) (p q : Process) → o ≡ outcome (perform w n p t) → o' ≡ outcome (perform w n q t) → cond b o o' ≡ outcome (perform w n (if_true b p q) t)
+  if_performed true t o o' p q h k = h
+  if_performed false t o o' p q h k = k
+
+  keeping_performed : (parts : PartTypes) (k : ValueType) (h : ℕ) (r : Event) (kept : Kept) (t : List Event) → keep_typed parts k h (w t r) kept (r ∷ t) ≡ outcome (perform w n (keeping parts k h r kept) t)
+  keeping_performed parts k h r kept t = go (has_type parts k (w t r))
+    where
+      go : (b : Bool) → if_typed b (r ∷ t) (Done (update kept h (Some (w t r))) (r ∷ t)) ≡ outcome (answered b (r ∷ t) (Gives (DoneWith (update kept h (Some (w t r)))) (r ∷ t)))
+      go true = refl
+      go false = refl
+
+  load_performed : (parts : PartTypes) (k : ValueType) (h : ℕ) (kept : Kept) (t : List Event) (o : Option Value) → loaded parts k w h o kept t ≡ outcome (perform w n (load_process parts k h kept o) t)
+  load_performed parts k h kept t None = refl
+  load_performed parts k h kept t (Some (Pointer p)) = keeping_performed parts k h (Read p) kept t
+  load_performed parts k h kept t (Some (Truth b)) = refl
+  load_performed parts k h kept t (Some (Whole s z)) = refl
+  load_performed parts k h kept t (Some (Opaque s z)) = refl
+
+  ask_performed : (parts : PartTypes) (k : ValueType) (h : ℕ) (word : Bytes) (kept : Kept) (t : List Event) (o : Option (List Value)) → asked parts k w h word o kept t ≡ outcome (perform w n (ask_process parts k h word kept o) t)
+  ask_performed parts k h word kept t None = refl
+  ask_performed parts k h word kept t (Some vs) = keeping_performed parts k h (Ask word vs) kept t
+
+  counted_performed : (b : Bool) (f : Next Kept) (kept : Kept) (t : List Event) (p : Process) → f kept t ≡ outcome (perform w n p t) → if_counted b f kept t ≡ outcome (perform w n (if_true b p (gives (DoneWith kept))) t)
+  counted_performed true f kept t p h = h
+  counted_performed false f kept t p h = refl
+
+  asks_performed : (words : List Bytes) (kept : Kept) (t : List Event) → ask_each words kept t ≡ outcome (perform w n (asks_process words kept) t)
+  asks_performed [] kept t = refl
+  asks_performed (word ∷ words) kept t = asks_performed words kept (Ask word [] ∷ t)
+
+  module _ (f : Function) (fs : List Function) (env : Environment) (m : Meaning) (vs : List Value) (frame : ℕ) (calls : ℕ → List Value → List Event → Reached (Option Value)) (callees : ℕ → List Value → Process) (calls_performed : (g : ℕ) (us : List Value) (t : List Event) → calls g us t ≡ call_outcome (perform w n (callees g us) t)) where
+    abbrev c : Call
+    c = call_in f fs env m vs frame w calls
+
+    abbrev alone : Call
+    alone = call_alone f fs env m vs frame
+
+    used_as_alone : (e : Option Expression) (o : Option Value) → used_as c e o ≡ used_as alone e o
+    used_as_alone (Some (Constant e)) o = refl
+    used_as_alone (Some (Argument i)) o = refl
+    used_as_alone (Some (Local i)) o = refl
+    used_as_alone (Some (Global i)) o = refl
+    used_as_alone (Some _) o = refl
+    used_as_alone None o = refl
+
+    used_alone : (kept : Kept) (h : ℕ) → used c kept h ≡ used alone kept h
+    used_alone kept h = used_as_alone (expression_of f h) (kept h)
+
+    used_all_alone : (kept : Kept) (xs : List ℕ) → used_all c kept xs ≡ used_all alone kept xs
+    used_all_alone kept [] = refl
+    used_all_alone kept (x ∷ xs) = ap₂ also (used_alone kept x) (used_all_alone kept xs)
+
+    computed_performed : (h : ℕ) (e : Option Expression) (kept : Kept) (t : List Event) → Done (update kept h (computed c kept e)) t ≡ Done (update kept h (computed alone kept e)) t
+    computed_performed h e kept t =
+        ap (λ o. Done (update kept h (gathered m e o)) t) (used_all_alone kept (operands_of e))
+
+    one_performed : (h : ℕ) (e : Option Expression) (kept : Kept) (t : List Event) → emit_as c h e kept t ≡ outcome (perform w n (emit_one alone callees h e kept) t)
+    one_performed h (Some (Load p)) kept t =
+        counted_performed (is_counted f 1 h) (loaded env.parts (handle_type f h) w h (used c kept p)) kept t (load_process env.parts (handle_type f h) h kept (used alone kept p)) (ap (λ o. loaded env.parts (handle_type f h) w h o kept t) (used_alone kept p) ∙ load_performed env.parts (handle_type f h) h kept t (used alone kept p))
+    one_performed h (Some (Request a word xs es)) kept t =
+        counted_performed (is_asked f h a) (asked env.parts (handle_type f h) w h word (joined (used_all c kept xs) (constant_values env m es))) kept t (ask_process env.parts (handle_type f h) h word kept (joined (used_all alone kept xs) (constant_values env m es))) (ap (λ o. asked env.parts (handle_type f h) w h word (joined o (constant_values env m es)) kept t) (used_all_alone kept xs) ∙ ask_performed env.parts (handle_type f h) h word kept t (joined (used_all alone kept xs) (constant_values env m es)))
+    one_performed h (Some (Operator word xs)) kept t = computed_performed h (Some (Operator word xs)) kept t
+    one_performed h (Some (Access x y)) kept t = computed_performed h (Some (Access x y)) kept t
+    one_performed h (Some (AccessIndex x y)) kept t = computed_performed h (Some (AccessIndex x y)) kept t
+    one_performed h (Some (Logical j x y)) kept t = computed_performed h (Some (Logical j x y)) kept t
+    one_performed h (Some (Swizzle x y)) kept t = computed_performed h (Some (Swizzle x y)) kept t
+    one_performed h (Some _) kept t = refl
+    one_performed h None kept t = refl
+
+    emit_performed : (hs : List ℕ) → NextPerformed (emit c hs) (emit_process alone callees hs)
+    emit_performed [] kept t = refl
+    emit_performed (h ∷ hs) kept t =
+        then_performed (emit_as c h (expression_of f h) kept t) (emit_one alone callees h (expression_of f h) kept) t (emit c hs) (emit_process alone callees hs) (one_performed h (expression_of f h) kept t) (emit_performed hs)
+
+    act_performed : (a : Action) (r : Option ℕ) (kept : Kept) (us : List Value) (t : List Event) → with_result env.parts f a r kept (acted c a us t) ≡ outcome (perform w n (act_process alone callees a r kept us) t)
+    act_performed (Asked word) None kept us t = refl
+    act_performed (Asked word) (Some h) kept us t = keeping_performed env.parts (handle_type f h) h (Ask word us) kept t
+    act_performed (Called g) r kept us t =
+        ap (with_result env.parts f (Called g) r kept) (calls_performed g us t) ∙ go r (perform w n (callees g us) t)
+      where
+        given : (r : Option ℕ) (v : Option Value) (e : List Event) → with_result env.parts f (Called g) r kept (Gives v e) ≡ outcome (perform w n (result_process r kept v) e)
+        given None v e = refl
+        given (Some h) None e = refl
+        given (Some h) (Some v) e = refl
+
+        halted : (r : Option ℕ) (x : _) (e : List Event) → with_result env.parts f (Called g) r kept (Halts x e) ≡ Stopped x e
+        halted None x e = refl
+        halted (Some h) x e = refl
+
+        go : (r : Option ℕ) (q : Reached Pause) → with_result env.parts f (Called g) r kept (call_outcome q) ≡ outcome (resumed q (λ x e. perform w n (result_process r kept (given_back x)) e))
+        go r (Gives x e) = given r (given_back x) e
+        go r (Halts x e) = halted r x e
+
+    leave_performed : (o : Option ℕ) → NextPerformed (leave c o) (leave_process alone callees o)
+    leave_performed None kept t = refl
+    leave_performed (Some h) kept t =
+        used_performed (used c kept h) (used alone kept h) t (λ v. chosen v t (Broke kept t) (Done kept t)) (λ v. on_truth v (gives (BrokeWith kept)) (gives (DoneWith kept))) (used_alone kept h) (λ v. chosen_performed v t (Broke kept t) (Done kept t) (gives (BrokeWith kept)) (gives (DoneWith kept)) refl refl)
+
+    return_performed : (o : Option ℕ) → NextPerformed (returned c o) (return_process alone callees o)
+    return_performed None kept t = refl
+    return_performed (Some h) kept t =
+        used_performed (used c kept h) (used alone kept h) t (λ v. Returned (Some v) t) (λ v. gives (ReturnedWith (Some v))) (used_alone kept h) (λ v. refl)
+
+    mutual
+      statement_performed : (st : Statement) → NextPerformed (run c n st) (statement_process alone callees st)
+      statement_performed (Emit first count) kept t = emit_performed (from first count) kept t
+      statement_performed (Store p v) kept t =
+          pointer_performed (used c kept p) (used alone kept p) t (λ place. with_used (used c kept v) t (λ value. Done kept (Write place value ∷ t))) (λ place. on_value (used alone kept v) (λ value. tells (Write place value) (gives (DoneWith kept)))) (used_alone kept p) (λ place. used_performed (used c kept v) (used alone kept v) t (λ value. Done kept (Write place value ∷ t)) (λ value. tells (Write place value) (gives (DoneWith kept))) (used_alone kept v) (λ value. refl))
+      statement_performed (Block b) kept t = list_performed b kept t
+      statement_performed (If h a b) kept t =
+          used_performed (used c kept h) (used alone kept h) t (λ v. chosen v t (run_all c n a kept t) (run_all c n b kept t)) (λ v. on_truth v (list_process alone callees a kept) (list_process alone callees b kept)) (used_alone kept h) (λ v. chosen_performed v t (run_all c n a kept t) (run_all c n b kept t) (list_process alone callees a kept) (list_process alone callees b kept) (list_performed a kept t) (list_performed b kept t))
+      statement_performed (Switch h ks) kept t =
+          used_performed (used c kept h) (used alone kept h) t (λ v. with_integer v t (λ z. after_switch (run_cases c n ks (label_if (has_label (Numbered z) ks) z) kept t))) (λ v. on_integer v (λ z. sequence (cases_process alone callees ks (label_if (has_label (Numbered z) ks) z) kept) behind_switch)) (used_alone kept h) (λ v. integer_performed v t (λ z. after_switch (run_cases c n ks (label_if (has_label (Numbered z) ks) z) kept t)) (λ z. sequence (cases_process alone callees ks (label_if (has_label (Numbered z) ks) z) kept) behind_switch) (λ z. switch_performed (run_cases c n ks (label_if (has_label (Numbered z) ks) z) kept t) (cases_process alone callees ks (label_if (has_label (Numbered z) ks) z) kept) t (cases_performed ks (label_if (has_label (Numbered z) ks) z) kept t)))
+      statement_performed (Loop b d o) kept t =
+          turns_performed (turn (run_all c n b) (run_all c n d) (leave c o)) (λ s. sequence (list_process alone callees b s) (continue_on (λ s1. sequence (sequence (list_process alone callees d s1) inside) (then_on (leave_process alone callees o))))) (λ s e. continue_performed (run_all c n b s e) (list_process alone callees b s) e (λ s1 t1. and_then (within (run_all c n d s1 t1)) (leave c o)) (λ s1. sequence (sequence (list_process alone callees d s1) inside) (then_on (leave_process alone callees o))) (list_performed b s e) (λ s1 t1. then_performed (within (run_all c n d s1 t1)) (sequence (list_process alone callees d s1) inside) t1 (leave c o) (leave_process alone callees o) (within_performed (run_all c n d s1 t1) (list_process alone callees d s1) t1 (list_performed d s1 t1)) (leave_performed o))) n kept t
+      statement_performed Break kept t = refl
+      statement_performed Continue kept t = refl
+      statement_performed (Return o) kept t = return_performed o kept t
+      statement_performed Kill kept t = refl
+      statement_performed (Barrier bits) kept t = asks_performed (barrier_words bits) kept t
+      statement_performed (Act a xs r) kept t =
+          all_performed (used_all c kept xs) (used_all alone kept xs) t (λ us. with_result env.parts f a r kept (acted c a us t)) (act_process alone callees a r kept) (used_all_alone kept xs) (λ us. act_performed a r kept us t)
+
+      list_performed : (ss : Statements) → NextPerformed (run_all c n ss) (list_process alone callees ss)
+      list_performed end kept t = refl
+      list_performed (then st ss) kept t =
+          then_performed (run c n st kept t) (statement_process alone callees st kept) t (run_all c n ss) (list_process alone callees ss) (statement_performed st kept t) (list_performed ss)
+
+      cases_performed : (ks : Cases) (x : Label) → NextPerformed (run_cases c n ks x) (cases_process alone callees ks x)
+      cases_performed no_case x kept t = refl
+      cases_performed (case l b falls ks) x kept t =
+          if_performed (same_label x l) t (and_then (run_all c n b kept t) (λ s e. cond falls (run_on c n ks s e) (Done s e))) (run_cases c n ks x kept t) (sequence (list_process alone callees b kept) (then_on (λ s. if_true falls (on_process alone callees ks s) (gives (DoneWith s))))) (cases_process alone callees ks x kept) (then_performed (run_all c n b kept t) (list_process alone callees b kept) t (λ s e. cond falls (run_on c n ks s e) (Done s e)) (λ s. if_true falls (on_process alone callees ks s) (gives (DoneWith s))) (list_performed b kept t) (λ s e. if_performed falls e (run_on c n ks s e) (Done s e) (on_process alone callees ks s) (gives (DoneWith s)) (on_performed ks s e) refl)) (cases_performed ks x kept t)
+
+      on_performed : (ks : Cases) → NextPerformed (run_on c n ks) (on_process alone callees ks)
+      on_performed no_case kept t = refl
+      on_performed (case l b falls ks) kept t =
+          then_performed (run_all c n b kept t) (list_process alone callees b kept) t (λ s e. cond falls (run_on c n ks s e) (Done s e)) (λ s. if_true falls (on_process alone callees ks s) (gives (DoneWith s))) (list_performed b kept t) (λ s e. if_performed falls e (run_on c n ks s e) (Done s e) (on_process alone callees ks s) (gives (DoneWith s)) (on_performed ks s e) refl)
+
+    first_alone : (kept : Kept) (o : Option ℕ) → first_used c kept o ≡ first_used alone kept o
+    first_alone kept None = refl
+    first_alone kept (Some h) = ap wrapped (used_alone kept h)
+
+    firsts_alone : (kept : Kept) (os : List (Option ℕ)) → first_used_all c kept os ≡ first_used_all alone kept os
+    firsts_alone kept [] = refl
+    firsts_alone kept (o ∷ os) = ap₂ with_first (first_alone kept o) (firsts_alone kept os)
+
+    body_performed : (g : ℕ) (t : List Event) → run_body c n g vs t ≡ call_outcome (perform w n (body_process alone callees g vs) t)
+    body_performed g t =
+        ap (λ o. entered g vs o t (λ t1. answer (run_all c n f.body (constants_kept f env m) t1))) (firsts_alone (constants_kept f env m) f.first_values) ∙ go (first_used_all alone (constants_kept f env m) f.first_values)
+      where
+        answers : (q : Reached Pause) → answer (outcome q) ≡ call_outcome (resumed q (λ x e. perform w n (answers_call x) e))
+        answers (Gives (DoneWith s) e) = refl
+        answers (Gives (ContinuedWith s) e) = refl
+        answers (Gives (BrokeWith s) e) = refl
+        answers (Gives (ReturnedWith v) e) = refl
+        answers (Halts x e) = refl
+
+        go : (o : Option (List (Option Value))) → entered g vs o t (λ t1. answer (run_all c n f.body (constants_kept f env m) t1)) ≡ call_outcome (perform w n (entry_process g vs o (sequence (list_process alone callees f.body (constants_kept f env m)) answers_call)) t)
+        go None = refl
+        go (Some firsts) =
+            ap answer (list_performed f.body (constants_kept f env m) (Entry g vs firsts ∷ t)) ∙ answers (perform w n (list_process alone callees f.body (constants_kept f env m)) (Entry g vs firsts ∷ t))
+
+  picked_performed : (b : Bool) (t : List Event) (q q' : Reached (Option Value)) (p p' : Process) → q ≡ call_outcome (perform w n p t) → q' ≡ call_outcome (perform w n p' t) → cond b q q' ≡ call_outcome (perform w n (if_true b p p') t)
+  picked_performed true t q q' p p' h k = h
+  picked_performed false t q q' p p' h k = k
+
+  called_performed : (b : Bool) (t : List Event) (q : Reached (Option Value)) (p : Process) → q ≡ call_outcome (perform w n p t) → called b q t ≡ call_outcome (perform w n (if_true b p stuck) t)
+  called_performed true t q p h = h
+  called_performed false t q p h = refl
+
+-- a call of the module in any world with any bound
+pub call_performed : (env : Environment) (w : World) (m : Meaning) (n : ℕ) (fs : List Function) (g : ℕ) (vs : List Value) (t : List Event) → run_call env w m n fs g vs t ≡ call_outcome (perform w n (call_process env m fs g vs) t)
+call_performed env w m n [] g vs t = refl
+call_performed env w m n (f ∷ fs) g vs t =
+    picked_performed w n (nat_eq g (length fs)) t _ (run_call env w m n fs g vs t) (looks (λ frame. if_true (nat_eq (length vs) (argument_count f)) (body_process (call_alone f fs env m vs frame) (call_process env m fs) (length fs) vs) stuck)) (call_process env m fs g vs) (called_performed w n (nat_eq (length vs) (argument_count f)) t _ (body_process (call_alone f fs env m vs (entries t)) (call_process env m fs) (length fs) vs) (body_performed w n f fs env m vs (entries t) (run_call env w m n fs) (call_process env m fs) (call_performed env w m n fs) (length fs) t)) (call_performed env w m n fs g vs t)
