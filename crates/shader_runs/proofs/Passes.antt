@@ -22,10 +22,10 @@ use Rattle.shader_runs.proofs.Statements.{or_left, or_right, turns_keep, same_on
 use Rattle.shader_runs.proofs.Scopes.{IsFollowed, falls_followed, among_append, has_all_cases, extends_all}
 use Rattle.shader_runs.proofs.Checked.{Fits, FitsAll, FitsCases, MayEmitAll}
 
-same_state : {S : Type 0} (s k : S) (e t : List Event) → Done s e ≡ Done k t → s ≡ k
+pub same_state : {S : Type 0} (s k : S) (e t : List Event) → Done s e ≡ Done k t → s ≡ k
 same_state s k e t q = cc
 
-same_events : {S : Type 0} (s k : S) (e t : List Event) → Done s e ≡ Done k t → e ≡ t
+pub same_events : {S : Type 0} (s k : S) (e t : List Event) → Done s e ≡ Done k t → e ≡ t
 same_events s k e t q = cc
 
 not_continued : {S : Type 0} (s k : S) (e t : List Event) → Continued s e ≡ Done k t → ⊥
@@ -58,14 +58,14 @@ then_done (Returned v t) = refl
 then_done (Stopped x t) = refl
 
 -- what is done in two steps
-then_parts : {S : Type 0} (o : Outcome S) (g : Next S) (s : S) (t : List Event) → and_then o g ≡ Done s t → (s1 : S) × (t1 : List Event) × (o ≡ Done s1 t1) × (g s1 t1 ≡ Done s t)
+pub then_parts : {S : Type 0} (o : Outcome S) (g : Next S) (s : S) (t : List Event) → and_then o g ≡ Done s t → (s1 : S) × (t1 : List Event) × (o ≡ Done s1 t1) × (g s1 t1 ≡ Done s t)
 then_parts (Done s1 t1) g s t q = (s1, t1, refl, q)
 then_parts (Continued s1 t1) g s t q = absurd (not_continued s1 s t1 t q)
 then_parts (Broke s1 t1) g s t q = absurd (not_broke s1 s t1 t q)
 then_parts (Returned v t1) g s t q = absurd (not_returned v s t1 t q)
 then_parts (Stopped x t1) g s t q = absurd (not_stopped x s t1 t q)
 
-one_more_turn : {S : Type 0} (once : Next S) (j : ℕ) (s s1 : S) (t t1 : List Event) (o : Outcome S) → once s t ≡ Done s1 t1 → after_turns once j s1 t1 ≡ o → after_turns once (suc j) s t ≡ o
+pub one_more_turn : {S : Type 0} (once : Next S) (j : ℕ) (s s1 : S) (t t1 : List Event) (o : Outcome S) → once s t ≡ Done s1 t1 → after_turns once j s1 t1 ≡ o → after_turns once (suc j) s t ≡ o
 one_more_turn once j s s1 t t1 o e rest = ap (λ o. and_then o (after_turns once j)) e ∙ rest
 
 one_more_line : (b : Bool) (m : ℕ) (q : Point) → behind_lines (cond b 1 0) (behind_lines m q) ≡ behind_lines (cond b (suc m) m) q
