@@ -56,8 +56,8 @@ pub record EndsAt (c : Call) (n : ℕ) (ss : Statements) (kept : Kept) (t : List
   pub simple : IsTrue (is_simple statement)
   pub ends : run c n statement kept_there events_there ≡ o
 
--- a list that is done passes the point behind it, and one that ends early passes the point in front of
--- the statement where it does
+-- a list that is done passes the point behind it, and one that ends early passes the point in front
+-- of the statement where it does
 abbrev pub EndsArePassed : Type 0
 EndsArePassed =
     (c : Call) (n : ℕ) (ss : Statements) (kept : Kept) (t : List Event) →

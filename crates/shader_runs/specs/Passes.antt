@@ -9,8 +9,8 @@ use Rattle.shader_runs.specs.Text.{Tree, Line, Braces, IfElse, SwitchOn, LoopOf,
 use Rattle.shader_runs.specs.TextRun.{Scope, Words, value_of, break_line, among, group_has, follow, follow_all}
 
 -- where more statements or lines stand inside one: a block, the branches, the cases of a switch or
--- the groups of its text, and in each turn of a loop, the first one 0, its body, its `continuing` and
--- the place in front of its `break if`
+-- the groups of its text, and in each turn of a loop, the first one 0, its body, its `continuing`
+-- and the place in front of its `break if`
 pub data Region : Type 0 where
   Inner : Region
   Accept : Region

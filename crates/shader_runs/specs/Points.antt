@@ -12,14 +12,20 @@ use Rattle.shader_runs.specs.Premises.{IsTyped, EnvironmentFits}
 use Rattle.shader_runs.specs.Correct.{ModuleFits}
 use Rattle.shader_runs.specs.Passes.{Region, Reject, CaseBody, Continuing, BreakIf, Point, here, behind, inside, emitting, statements_in, Passes, TextPasses, point_in_text}
 
--- a name in scope has the value that the module uses for its handle; and what is written for any handle in scope
--- makes no event and gives, evaluated now, the value that the module uses
-pub record FactsHold (c : Call) (l : Words) (f : Naming) (s : Handles) (kept : Kept) (names : Scope) : Type 0 where
-  pub named : (h : ℕ) (x : Bytes) → s h ≡ Named x → (v : Value) × (used c kept h ≡ Some v) × (names x ≡ Some (IsValue v))
-  pub written : (h : ℕ) → IsTrue (usable c.function s h) → (v : Value) × (used c kept h ≡ Some v) × ((t : List Event) → value_of l (value_at f s h) names t ≡ Gives v t)
+-- a name in scope has the value that the module uses for its handle; and what is written for any
+-- handle in scope makes no event and gives, evaluated now, the value that the module uses
+pub record FactsHold (c : Call) (l : Words) (f : Naming) (s : Handles) (kept : Kept)
+    (names : Scope) : Type 0 where
+  pub named : (h : ℕ) (x : Bytes) → s h ≡ Named x →
+      (v : Value) × (used c kept h ≡ Some v) × (names x ≡ Some (IsValue v))
+  pub written : (h : ℕ) → IsTrue (usable c.function s h) →
+      (v : Value)
+      × (used c kept h ≡ Some v)
+      × ((t : List Event) → value_of l (value_at f s h) names t ≡ Gives v t)
 
 -- a call of f, which stands behind these functions
-abbrev pub call_of : Environment → World → Meaning → (turns : ℕ) → Naming → List Naming → List Value → List Event → Call
+abbrev pub call_of :
+    Environment → World → Meaning → ℕ → Naming → List Naming → List Value → List Event → Call
 call_of env w m turns f fs vs t =
     record {
       function = f.function;
@@ -33,18 +39,23 @@ call_of env w m turns f fs vs t =
     }
 
 -- what words do in its text
-abbrev pub words_of : Module → ModuleNames → Environment → World → Meaning → (turns : ℕ) → List Naming → Words
+abbrev pub words_of :
+    Module → ModuleNames → Environment → World → Meaning → ℕ → List Naming → Words
 words_of p n env w m turns fs =
+    let outer = module_scope (form_module p n fs) env in
     record {
       world = w;
       meaning = m;
-      respond = follow_call (module_scope (form_module p n fs) env) w m n.is_request turns (form_functions fs);
+      respond = follow_call outer w m n.is_request turns (form_functions fs);
     }
 
 -- the names that its text starts with
-abbrev pub names_of : Module → ModuleNames → Environment → Naming → List Naming → List Value → List Event → Scope
+abbrev pub names_of :
+    Module → ModuleNames → Environment → Naming → List Naming → List Value → List Event → Scope
 names_of p n env f fs vs t =
-    with_parameters (form_function f).parameters vs (with_variables (form_function f).variables (entries t) 0 (module_scope (form_module p n fs) env))
+    let outer = module_scope (form_module p n fs) env in
+    let text = form_function f in
+    with_parameters text.parameters vs (with_variables text.variables (entries t) 0 outer)
 
 -- how many names were given in front of the case with this index
 abbrev pub given_before : Function → Cases → ℕ → ℕ → ℕ
@@ -62,22 +73,25 @@ given_in f _ _ k = k
 -- the handles in scope in front of a region
 abbrev pub handles_in : Naming → ℕ → Statement → Region → Handles → Handles
 handles_in f k (Loop b d e) (Continuing j) s = after_all f k b s
-handles_in f k (Loop b d e) (BreakIf j) s = after_all f (given_by_all f.function b k) d (after_all f k b s)
+handles_in f k (Loop b d e) (BreakIf j) s =
+    after_all f (given_by_all f.function b k) d (after_all f k b s)
 handles_in f k _ _ s = s
 
 -- the handles in scope at a point of a list
 abbrev pub handles_at : Naming → ℕ → Statements → Point → Handles → Handles
 handles_at f k ss here s = s
 handles_at f k end q s = s
-handles_at f k (then st ss) (behind q) s = handles_at f (given_by f.function st k) ss q (after f k st s)
+handles_at f k (then st ss) (behind q) s =
+    handles_at f (given_by f.function st k) ss q (after f k st s)
 handles_at f k (then st ss) (inside g q) s =
     handles_at f (given_in f.function st g k) (statements_in st g) q (handles_in f k st g s)
 handles_at f k (then (Emit first count) ss) (emitting i) s = after_emit f k (from first i) s
 handles_at f k (then _ ss) (emitting i) s = s
 
--- of each function of a module, behind those before it, called with arguments of its types at any history: where the module's
--- run of its body passes a point, the text's run of its lines passes the point of the text there, after the same events and in the
--- same turns of its loops, and the two facts hold. The first point is the start; a point in a callee is one of the callee's own call
+-- of each function of a module, behind those before it, called with arguments of its types at any
+-- history: where the module's run of its body passes a point, the text's run of its lines passes that
+-- point of the text, in the same turns and after the same events, and the two facts hold. The first
+-- point is the start; the points in a callee are those of the callee's own call
 abbrev pub PointsAgree : Type 0
 PointsAgree =
     (p : Module) (n : ModuleNames) (later : List Naming) (f : Naming) (fs : List Naming) →
@@ -85,13 +99,15 @@ PointsAgree =
     (env : Environment) → EnvironmentFits p env →
     (m : Meaning) → IsTyped p m →
     (vs : List Value) → IsTrue (has_types f.function.argument_types vs) →
-    (w : World) (turns : ℕ) (before_entry t : List Event) (q : Point) (kept : Kept) (t1 : List Event) →
+    (w : World) (turns : ℕ) (before_entry t : List Event) →
     let c = call_of env w m turns f fs vs before_entry in
     let l = words_of p n env w m turns fs in
+    let first_names = names_of p n env f fs vs before_entry in
     let body = f.function.body in
     let start = at_start f.function in
+    (q : Point) (kept : Kept) (t1 : List Event) →
     let in_text = point_in_text f.function body q in
     Passes c turns body q (constants_kept f.function env m) t kept t1 →
     (names : Scope)
-    × TextPasses l turns (form_all f 0 body start) in_text (names_of p n env f fs vs before_entry) t names t1
+    × TextPasses l turns (form_all f 0 body start) in_text first_names t names t1
     × FactsHold c l f (handles_at f 0 body q start) kept names
