@@ -1,19 +1,10 @@
 -- No end of a module's run is missed by the points that it passes.
-use Rattle.std.specs.Prelude.{◌≡◌, ℕ, Bool, true, false, ◌+◌, ◌-◌, List, IsTrue}
+use Rattle.std.specs.Prelude.{◌≡◌, ℕ, Bool, true, false, List, IsTrue}
 use Rattle.shader_runs.specs.World.{Event}
 use Rattle.shader_runs.specs.Outcome.{Stop, Stuck, OutOfTurns, Discarded, Mistyped, Outcome, Done, Continued, Broke, Returned, Stopped}
-use Rattle.shader_runs.specs.Program.{Statement, Emit, Block, If, Switch, Loop, Statements, end, then}
+use Rattle.shader_runs.specs.Program.{Statement, Block, If, Switch, Loop, Statements, end, then}
 use Rattle.shader_runs.specs.ProgramRun.{Call, Kept, run, run_all}
-use Rattle.shader_runs.specs.Passes.{Point, here, behind, inside, emitting, statements_in, Passes}
-
--- what stands behind a point of a list
-abbrev pub statements_at : Statements → Point → Statements
-statements_at ss here = ss
-statements_at end q = end
-statements_at (then st ss) (behind q) = statements_at ss q
-statements_at (then st ss) (inside g q) = statements_at (statements_in st g) q
-statements_at (then (Emit first count) ss) (emitting i) = then (Emit (first + i) (count - i)) ss
-statements_at (then _ ss) (emitting i) = ss
+use Rattle.shader_runs.specs.Passes.{Point, here, behind, statements_at, Passes}
 
 -- the point behind the last statement
 abbrev pub end_of : Statements → Point

@@ -1,16 +1,16 @@
 -- The two facts that hold at each point that a run of a function passes.
-use Rattle.std.specs.Prelude.{◌≡◌, ℕ, zero, suc, List, ◌∷◌, ◌++◌, Some, IsTrue}
+use Rattle.std.specs.Prelude.{◌≡◌, ℕ, zero, suc, false, List, ◌∷◌, ◌++◌, Some, IsTrue}
 use Rattle.shader_runs.specs.Value.{Bytes, Value, has_types}
 use Rattle.shader_runs.specs.World.{Event, entries, World, Meaning, Environment}
 use Rattle.shader_runs.specs.Outcome.{Gives}
 use Rattle.shader_runs.specs.Program.{Statement, Emit, If, Switch, Loop, Statements, end, then, Cases, no_case, case, Function, from, Module}
 use Rattle.shader_runs.specs.ProgramRun.{Call, Kept, used, constants_kept, run_call}
 use Rattle.shader_runs.specs.TextRun.{IsValue, Scope, Words, value_of, with_parameters, with_variables, module_scope, follow_call}
-use Rattle.shader_runs.specs.Scope.{Named, Handles, ModuleNames, Naming, usable, given_by, given_by_all, after, after_emit, after_all, at_start}
+use Rattle.shader_runs.specs.Scope.{Named, Handles, ModuleNames, Naming, usable, given_after_all, given_by, given_by_all, after, after_emit, after_all, at_start}
 use Rattle.shader_runs.specs.Form.{value_at, form_all, form_function, form_functions, form_module, functions_of}
 use Rattle.shader_runs.specs.Premises.{IsTyped, EnvironmentFits}
 use Rattle.shader_runs.specs.Correct.{ModuleFits}
-use Rattle.shader_runs.specs.Passes.{Region, Reject, CaseBody, Continuing, BreakIf, Point, here, behind, inside, emitting, statements_in, Passes, TextPasses, point_in_text}
+use Rattle.shader_runs.specs.Passes.{Region, Reject, CaseBody, Continuing, BreakIf, Point, here, behind, inside, emitting, statements_in, statements_at, lines_behind, Passes, TextPasses, point_in_text, falls_at}
 
 -- a name in scope has the value that the module uses for its handle; and what is written for any
 -- handle in scope makes no event and gives, evaluated now, the value that the module uses
@@ -88,10 +88,30 @@ handles_at f k (then st ss) (inside g q) s =
 handles_at f k (then (Emit first count) ss) (emitting i) s = after_emit f k (from first i) s
 handles_at f k (then _ ss) (emitting i) s = s
 
+-- how many names were given in front of a point of a list
+abbrev pub given_at : Function → ℕ → Statements → Point → ℕ
+given_at f k ss here = k
+given_at f k end q = k
+given_at f k (then st ss) (behind q) = given_at f (given_by f st k) ss q
+given_at f k (then st ss) (inside g q) = given_at f (given_in f st g k) (statements_in st g) q
+given_at f k (then (Emit first count) ss) (emitting i) = given_after_all f (from first i) k
+given_at f k (then _ ss) (emitting i) = k
+
+-- the lines behind the point of the text are those that are written, with these handles in scope, for
+-- the statements behind the point of the list. A case that falls through is empty, and has the lines
+-- of the next one
+abbrev pub LinesAreTheForm : Naming → Statements → Point → Type 0
+LinesAreTheForm f body q =
+    let start = at_start f.function in
+    falls_at body q ≡ false →
+    lines_behind (form_all f 0 body start) (point_in_text f.function body q)
+    ≡ form_all f (given_at f.function 0 body q) (statements_at body q) (handles_at f 0 body q start)
+
 -- of each function of a module, behind those before it, called with arguments of its types at any
--- history: where the module's run of its body passes a point, the text's run of its lines passes that
--- point of the text, in the same turns and after the same events, and the two facts hold. The first
--- point is the start; the points in a callee are those of the callee's own call
+-- history: where the module's run of its body passes a point, the text's run of its lines passes the
+-- point there, in the same turns and after the same events; what stands behind it is written as the
+-- form says, and the two facts hold. The first point is the start; the points in a callee are those of
+-- the callee's own call
 abbrev pub PointsAgree : Type 0
 PointsAgree =
     (p : Module) (n : ModuleNames) (later : List Naming) (f : Naming) (fs : List Naming) →
@@ -110,4 +130,5 @@ PointsAgree =
     Passes c turns body q (constants_kept f.function env m) t kept t1 →
     (names : Scope)
     × TextPasses l turns (form_all f 0 body start) in_text first_names t names t1
+    × LinesAreTheForm f body q
     × FactsHold c l f (handles_at f 0 body q start) kept names
