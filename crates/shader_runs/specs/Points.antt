@@ -97,9 +97,9 @@ given_at f k (then st ss) (inside g q) = given_at f (given_in f st g k) (stateme
 given_at f k (then (Emit first count) ss) (emitting i) = given_after_all f (from first i) k
 given_at f k (then _ ss) (emitting i) = k
 
--- the lines behind the point of the text are those that are written, with these handles in scope, for
--- the statements behind the point of the list. A case that falls through is empty, and has the lines
--- of the next one
+-- the lines behind the point of the text are those that are written, with these handles in scope,
+-- for the statements behind the point of the list. A case that falls through is empty, and has the
+-- lines of the next one
 abbrev pub LinesAreTheForm : Naming → Statements → Point → Type 0
 LinesAreTheForm f body q =
     let start = at_start f.function in
@@ -110,8 +110,8 @@ LinesAreTheForm f body q =
 -- of each function of a module, behind those before it, called with arguments of its types at any
 -- history: where the module's run of its body passes a point, the text's run of its lines passes the
 -- point there, in the same turns and after the same events; what stands behind it is written as the
--- form says, and the two facts hold. The first point is the start; the points in a callee are those of
--- the callee's own call
+-- form says, and the two facts hold. The first point is the start. The points in a callee are those
+-- of the callee's own call
 abbrev pub PointsAgree : Type 0
 PointsAgree =
     (p : Module) (n : ModuleNames) (later : List Naming) (f : Naming) (fs : List Naming) →
