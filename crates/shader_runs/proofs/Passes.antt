@@ -1,5 +1,5 @@
 -- Where the module's run passes a point, the text's run passes the point of the text there.
-use Rattle.std.proofs.Common.{◌≡◌, ℕ, zero, suc, ◌≤◌, Bool, true, false, cond, List, [], ◌∷◌, ◌++◌, length, Option, Some, None, ◌||◌, refl, sym, ap, ◌∙◌, subst, arith, true≢false}
+use Rattle.std.proofs.Common.{◌≡◌, ℕ, zero, suc, ◌+◌, ◌-◌, ◌≤◌, Bool, true, false, cond, List, [], ◌∷◌, ◌++◌, length, Option, Some, None, ◌||◌, refl, sym, ap, ◌∙◌, subst, true≢false}
 use Rattle.std.specs.Prelude.{IsTrue}
 use Rattle.shader_runs.specs.Value.{Bytes, Value, Truth, Whole}
 use Rattle.shader_runs.specs.World.{Event, Ask}
@@ -20,12 +20,13 @@ use Rattle.shader_runs.proofs.Written.{Given, free, value_here}
 use Rattle.shader_runs.proofs.Emission.{emit_alike}
 use Rattle.shader_runs.proofs.Statements.{or_left, or_right, turns_keep, same_one, same_all}
 use Rattle.shader_runs.proofs.Scopes.{IsFollowed, falls_followed, among_append, has_all_cases, extends_all}
+use Rattle.shader_runs.proofs.Places.{from_split}
 use Rattle.shader_runs.proofs.Checked.{Fits, FitsAll, FitsCases, MayEmitAll}
 
-same_state : {S : Type 0} (s k : S) (e t : List Event) → Done s e ≡ Done k t → s ≡ k
+pub same_state : {S : Type 0} (s k : S) (e t : List Event) → Done s e ≡ Done k t → s ≡ k
 same_state s k e t q = cc
 
-same_events : {S : Type 0} (s k : S) (e t : List Event) → Done s e ≡ Done k t → e ≡ t
+pub same_events : {S : Type 0} (s k : S) (e t : List Event) → Done s e ≡ Done k t → e ≡ t
 same_events s k e t q = cc
 
 not_continued : {S : Type 0} (s k : S) (e t : List Event) → Continued s e ≡ Done k t → ⊥
@@ -58,14 +59,14 @@ then_done (Returned v t) = refl
 then_done (Stopped x t) = refl
 
 -- what is done in two steps
-then_parts : {S : Type 0} (o : Outcome S) (g : Next S) (s : S) (t : List Event) → and_then o g ≡ Done s t → (s1 : S) × (t1 : List Event) × (o ≡ Done s1 t1) × (g s1 t1 ≡ Done s t)
+pub then_parts : {S : Type 0} (o : Outcome S) (g : Next S) (s : S) (t : List Event) → and_then o g ≡ Done s t → (s1 : S) × (t1 : List Event) × (o ≡ Done s1 t1) × (g s1 t1 ≡ Done s t)
 then_parts (Done s1 t1) g s t q = (s1, t1, refl, q)
 then_parts (Continued s1 t1) g s t q = absurd (not_continued s1 s t1 t q)
 then_parts (Broke s1 t1) g s t q = absurd (not_broke s1 s t1 t q)
 then_parts (Returned v t1) g s t q = absurd (not_returned v s t1 t q)
 then_parts (Stopped x t1) g s t q = absurd (not_stopped x s t1 t q)
 
-one_more_turn : {S : Type 0} (once : Next S) (j : ℕ) (s s1 : S) (t t1 : List Event) (o : Outcome S) → once s t ≡ Done s1 t1 → after_turns once j s1 t1 ≡ o → after_turns once (suc j) s t ≡ o
+pub one_more_turn : {S : Type 0} (once : Next S) (j : ℕ) (s s1 : S) (t t1 : List Event) (o : Outcome S) → once s t ≡ Done s1 t1 → after_turns once j s1 t1 ≡ o → after_turns once (suc j) s t ≡ o
 one_more_turn once j s s1 t t1 o e rest = ap (λ o. and_then o (after_turns once j)) e ∙ rest
 
 one_more_line : (b : Bool) (m : ℕ) (q : Point) → behind_lines (cond b 1 0) (behind_lines m q) ≡ behind_lines (cond b (suc m) m) q
@@ -391,20 +392,14 @@ module _ (p : Module) (c : Call) (n : Names) (d : Respond) (given : Given p c n 
   -- some first handles of an Emit
   emits_some : (i count first k : ℕ) (s : Handles) (names : Scope) (kept kept1 : Kept) (t t1 : List Event) (tail : Lines) → i ≤ count → Related c n s names kept → MayEmitAll c n k (from first count) s → emit c (from first i) kept t ≡ Done kept1 t1 → (names1 : Scope) × Text (lets (naming c n) k (from first count) s tail) (behind_lines (let_count c.function (from first i)) here) names t names1 t1 × Related c n (after_emit (naming c n) k (from first i) s) names1 kept1
   emits_some i count first k s names kept kept1 t t1 tail le r m e =
+      let hs = from (first + i) (count - i) in
       let split = from_split i count first le in
-      let w = emits_all k (from first i) s names kept kept1 t t1 r (may_emit_some (from first i) split.0 k s (subst (λ hs. MayEmitAll c n k hs s) split.1 m)) e in
+      let w = emits_all k (from first i) s names kept kept1 t t1 r (may_emit_some (from first i) hs k s (subst (λ hs. MayEmitAll c n k hs s) split m)) e in
       let f = naming c n in
-      let rest = lets f (given_after_all c.function (from first i) k) split.0 (after_emit f k (from first i) s) tail in
-      let lines = ap (λ hs. lets f k hs s tail) split.1 ∙ lets_append (from first i) split.0 k s tail in
+      let rest = lets f (given_after_all c.function (from first i) k) hs (after_emit f k (from first i) s) tail in
+      let lines = ap (λ hs. lets f k hs s tail) split ∙ lets_append (from first i) hs k s tail in
       (w.0, subst (λ ls. Text ls (behind_lines (let_count c.function (from first i)) here) names t w.0 t1) (sym lines) (w.2 rest here w.0 t1 is_here_in_text), w.1)
     where
-      from_split : (i count first : ℕ) → i ≤ count → (ys : List ℕ) × (from first count ≡ from first i ++ ys)
-      from_split zero count first le = (from first count, refl)
-      from_split (suc i) zero first le = absurd (omega arith)
-      from_split (suc i) (suc count) first le =
-          let w = from_split i count (suc first) (omega arith) in
-          (w.0, ap (λ hs. first ∷ hs) w.1)
-
       may_emit_some : (xs ys : List ℕ) (k : ℕ) (s : Handles) → MayEmitAll c n k (xs ++ ys) s → MayEmitAll c n k xs s
       may_emit_some [] ys k s m = tt
       may_emit_some (x ∷ xs) ys k s m =

@@ -16,6 +16,7 @@ use Rattle.shader_runs.proofs.Relation.{as_denoted, Stands, Related}
 use Rattle.shader_runs.proofs.Evaluation.{naming, words, Respond}
 use Rattle.shader_runs.proofs.Written.{Given, typed_value, value_here}
 use Rattle.shader_runs.proofs.Calls.{length-functions_of, starting, given, starts, body_fits, calls_alike, uses_fit, module_within}
+use Rattle.shader_runs.proofs.Places.{lines_there}
 use Rattle.shader_runs.proofs.Passes.{passes}
 
 facts_hold : (p : Module) (c : Call) (n : Names) (d : Respond) → Given p c n d → (s : Handles) (names : Scope) (kept : Kept) → Related c n s names kept → FactsHold c (words c d) (naming c n) s kept names
@@ -57,7 +58,7 @@ points_agree p n later f fs fits env environment m typed vs h w turns before_ent
     let start = starts p n uses known env environment w m turns fs within fit.1 earlier f first all.0 vs before_entry (has_types_length env.parts f.function.argument_types vs has) in
     let body = body_fits p n uses known env environment w m turns fs within fit.1 earlier f fit.0 all.0 vs before_entry in
     let there = passes p c f.names d given turns passed 0 (at_start f.function) _ start body in
-    (there.0, there.1, facts_hold p c f.names d given (handles_at f 0 f.function.body q (at_start f.function)) there.0 kept there.2)
+    (there.0, there.1, (λ e. lines_there f c turns passed 0 (at_start f.function) e), facts_hold p c f.names d given (handles_at f 0 f.function.body q (at_start f.function)) there.0 kept there.2)
   where
     count : length (later ++ (f ∷ fs)) ≡ length p.functions
     count = sym (length-functions_of (later ++ (f ∷ fs))) ∙ ap length fits.functions

@@ -1,5 +1,5 @@
 -- The points that a run comes by: those of a module's run, and those of its text's run.
-use Rattle.std.specs.Prelude.{◌≡◌, ℕ, zero, suc, ℤ, Bool, true, false, cond, ◌<◌, ◌≤◌, List, [], ◌∷◌, length, Option, Some, IsTrue}
+use Rattle.std.specs.Prelude.{◌≡◌, ℕ, zero, suc, ℤ, Bool, true, false, cond, ◌||◌, ◌+◌, ◌-◌, ◌<◌, ◌≤◌, List, [], ◌∷◌, length, Option, Some, IsTrue}
 use Rattle.shader_runs.specs.Value.{Bytes, Truth, Whole}
 use Rattle.shader_runs.specs.World.{Event}
 use Rattle.shader_runs.specs.Outcome.{Done, Gives, Next, and_then, and_continue, turn, closed}
@@ -9,8 +9,8 @@ use Rattle.shader_runs.specs.Text.{Tree, Line, Braces, IfElse, SwitchOn, LoopOf,
 use Rattle.shader_runs.specs.TextRun.{Scope, Words, value_of, break_line, among, group_has, follow, follow_all}
 
 -- where more statements or lines stand inside one: a block, the branches, the cases of a switch or
--- the groups of its text, and in each turn of a loop, the first one 0, its body, its `continuing` and
--- the place in front of its `break if`
+-- the groups of its text, and in each turn of a loop, the first one 0, its body, its `continuing`
+-- and the place in front of its `break if`
 pub data Region : Type 0 where
   Inner : Region
   Accept : Region
@@ -66,6 +66,15 @@ statements_in (Switch h cases) (CaseBody i) = body_at cases i
 statements_in (Loop b d e) (LoopBody j) = b
 statements_in (Loop b d e) (Continuing j) = d
 statements_in _ _ = end
+
+-- the statements behind a point of a list
+abbrev pub statements_at : Statements → Point → Statements
+statements_at ss here = ss
+statements_at end q = end
+statements_at (then st ss) (behind q) = statements_at ss q
+statements_at (then st ss) (inside g q) = statements_at (statements_in st g) q
+statements_at (then (Emit first count) ss) (emitting i) = then (Emit (first + i) (count - i)) ss
+statements_at (then _ ss) (emitting i) = ss
 
 -- one turn of a module's loop
 abbrev pub module_turn : Call → ℕ → (body continuing : Statements) → Option ℕ → Next Kept
@@ -152,6 +161,14 @@ lines_in (SwitchOn e groups) (CaseBody i) = lines_at groups i
 lines_in (LoopOf b d e) (LoopBody j) = b
 lines_in (LoopOf b d e) (Continuing j) = d
 lines_in _ _ = last
+
+-- the lines behind a point of a list
+abbrev pub lines_behind : Lines → Point → Lines
+lines_behind ls here = ls
+lines_behind last q = last
+lines_behind (before x ls) (behind q) = lines_behind ls q
+lines_behind (before x ls) (inside g q) = lines_behind (lines_in x g) q
+lines_behind (before x ls) (emitting i) = ls
 
 -- one turn of a text's loop, which leaves the names that it began with
 abbrev pub text_turn : Words → ℕ → (body continuing : Lines) → Option Tree → Next Scope
@@ -242,3 +259,22 @@ point_in_text f (then st ss) (inside g q) =
 point_in_text f (then (Emit first count) ss) (emitting i) =
     behind_lines (let_count f (from first i)) here
 point_in_text f (then _ ss) (emitting i) = here
+
+-- the case with this index falls through
+abbrev pub case_falls : Cases → ℕ → Bool
+case_falls no_case i = false
+case_falls (case l b falls cs) zero = falls
+case_falls (case l b falls cs) (suc i) = case_falls cs i
+
+-- the region is a case that falls through
+abbrev pub region_falls : Statement → Region → Bool
+region_falls (Switch h cases) (CaseBody i) = case_falls cases i
+region_falls _ _ = false
+
+-- the point is in a case that falls through
+abbrev pub falls_at : Statements → Point → Bool
+falls_at ss here = false
+falls_at end q = false
+falls_at (then st ss) (behind q) = falls_at ss q
+falls_at (then st ss) (inside g q) = region_falls st g || falls_at (statements_in st g) q
+falls_at (then st ss) (emitting i) = false

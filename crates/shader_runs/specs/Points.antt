@@ -1,25 +1,31 @@
 -- The two facts that hold at each point that a run of a function passes.
-use Rattle.std.specs.Prelude.{◌≡◌, ℕ, zero, suc, List, ◌∷◌, ◌++◌, Some, IsTrue}
+use Rattle.std.specs.Prelude.{◌≡◌, ℕ, zero, suc, false, List, ◌∷◌, ◌++◌, Some, IsTrue}
 use Rattle.shader_runs.specs.Value.{Bytes, Value, has_types}
 use Rattle.shader_runs.specs.World.{Event, entries, World, Meaning, Environment}
 use Rattle.shader_runs.specs.Outcome.{Gives}
 use Rattle.shader_runs.specs.Program.{Statement, Emit, If, Switch, Loop, Statements, end, then, Cases, no_case, case, Function, from, Module}
 use Rattle.shader_runs.specs.ProgramRun.{Call, Kept, used, constants_kept, run_call}
 use Rattle.shader_runs.specs.TextRun.{IsValue, Scope, Words, value_of, with_parameters, with_variables, word_use, module_scope, follow_call}
-use Rattle.shader_runs.specs.Scope.{Named, Handles, ModuleNames, Naming, usable, given_by, given_by_all, after, after_emit, after_all, at_start}
+use Rattle.shader_runs.specs.Scope.{Named, Handles, ModuleNames, Naming, usable, given_by, given_by_all, after, after_emit, after_all, at_start, given_after_all}
 use Rattle.shader_runs.specs.Form.{value_at, form_all, form_function, form_functions, form_module, functions_of}
 use Rattle.shader_runs.specs.Premises.{IsTyped, EnvironmentFits}
 use Rattle.shader_runs.specs.Correct.{ModuleFits}
-use Rattle.shader_runs.specs.Passes.{Region, Reject, CaseBody, Continuing, BreakIf, Point, here, behind, inside, emitting, statements_in, Passes, TextPasses, point_in_text}
+use Rattle.shader_runs.specs.Passes.{Region, Reject, CaseBody, Continuing, BreakIf, Point, here, behind, inside, emitting, statements_in, statements_at, lines_behind, Passes, TextPasses, point_in_text, falls_at}
 
--- a name in scope has the value that the module uses for its handle; and what is written for any handle in scope
--- makes no event and gives, evaluated now, the value that the module uses
-pub record FactsHold (c : Call) (l : Words) (f : Naming) (s : Handles) (kept : Kept) (names : Scope) : Type 0 where
-  pub named : (h : ℕ) (x : Bytes) → s h ≡ Named x → (v : Value) × (used c kept h ≡ Some v) × (names x ≡ Some (IsValue v))
-  pub written : (h : ℕ) → IsTrue (usable c.function s h) → (v : Value) × (used c kept h ≡ Some v) × ((t : List Event) → value_of l (value_at f s h) names t ≡ Gives v t)
+-- a name in scope has the value that the module uses for its handle; and what is written for any
+-- handle in scope makes no event and gives, evaluated now, the value that the module uses
+pub record FactsHold (c : Call) (l : Words) (f : Naming) (s : Handles) (kept : Kept)
+    (names : Scope) : Type 0 where
+  pub named : (h : ℕ) (x : Bytes) → s h ≡ Named x →
+      (v : Value) × (used c kept h ≡ Some v) × (names x ≡ Some (IsValue v))
+  pub written : (h : ℕ) → IsTrue (usable c.function s h) →
+      (v : Value)
+      × (used c kept h ≡ Some v)
+      × ((t : List Event) → value_of l (value_at f s h) names t ≡ Gives v t)
 
 -- a call of f, which stands behind these functions
-abbrev pub call_of : Environment → World → Meaning → (turns : ℕ) → Naming → List Naming → List Value → List Event → Call
+abbrev pub call_of :
+    Environment → World → Meaning → ℕ → Naming → List Naming → List Value → List Event → Call
 call_of env w m turns f fs vs t =
     record {
       function = f.function;
@@ -33,18 +39,24 @@ call_of env w m turns f fs vs t =
     }
 
 -- what words do in its text, where these are all functions of the module
-abbrev pub words_of : Module → ModuleNames → (all : List Naming) → Environment → World → Meaning → (turns : ℕ) → List Naming → Words
+abbrev pub words_of :
+    Module → ModuleNames → List Naming → Environment → World → Meaning → ℕ → List Naming → Words
 words_of p n all env w m turns fs =
+    let outer = module_scope (form_module p n fs) env in
+    let uses = word_use (form_functions all) n.is_request in
     record {
       world = w;
       meaning = m;
-      respond = follow_call (module_scope (form_module p n fs) env) w m (word_use (form_functions all) n.is_request) turns (form_functions fs);
+      respond = follow_call outer w m uses turns (form_functions fs);
     }
 
 -- the names that its text starts with
-abbrev pub names_of : Module → ModuleNames → Environment → Naming → List Naming → List Value → List Event → Scope
+abbrev pub names_of :
+    Module → ModuleNames → Environment → Naming → List Naming → List Value → List Event → Scope
 names_of p n env f fs vs t =
-    with_variables (form_function f).variables (entries t) 0 (with_parameters (form_function f).parameters vs (module_scope (form_module p n fs) env))
+    let outer = module_scope (form_module p n fs) env in
+    let text = form_function f in
+    with_variables text.variables (entries t) 0 (with_parameters text.parameters vs outer)
 
 -- how many names were given in front of the case with this index
 abbrev pub given_before : Function → Cases → ℕ → ℕ → ℕ
@@ -62,22 +74,45 @@ given_in f _ _ k = k
 -- the handles in scope in front of a region
 abbrev pub handles_in : Naming → ℕ → Statement → Region → Handles → Handles
 handles_in f k (Loop b d e) (Continuing j) s = after_all f k b s
-handles_in f k (Loop b d e) (BreakIf j) s = after_all f (given_by_all f.function b k) d (after_all f k b s)
+handles_in f k (Loop b d e) (BreakIf j) s =
+    after_all f (given_by_all f.function b k) d (after_all f k b s)
 handles_in f k _ _ s = s
 
 -- the handles in scope at a point of a list
 abbrev pub handles_at : Naming → ℕ → Statements → Point → Handles → Handles
 handles_at f k ss here s = s
 handles_at f k end q s = s
-handles_at f k (then st ss) (behind q) s = handles_at f (given_by f.function st k) ss q (after f k st s)
+handles_at f k (then st ss) (behind q) s =
+    handles_at f (given_by f.function st k) ss q (after f k st s)
 handles_at f k (then st ss) (inside g q) s =
     handles_at f (given_in f.function st g k) (statements_in st g) q (handles_in f k st g s)
 handles_at f k (then (Emit first count) ss) (emitting i) s = after_emit f k (from first i) s
 handles_at f k (then _ ss) (emitting i) s = s
 
--- of each function of a module, behind those before it, called with arguments of its types at any history: where the module's
--- run of its body passes a point, the text's run of its lines passes the point of the text there, after the same events and in the
--- same turns of its loops, and the two facts hold. The first point is the start; a point in a callee is one of the callee's own call
+-- how many names were given in front of a point of a list
+abbrev pub given_at : Function → ℕ → Statements → Point → ℕ
+given_at f k ss here = k
+given_at f k end q = k
+given_at f k (then st ss) (behind q) = given_at f (given_by f st k) ss q
+given_at f k (then st ss) (inside g q) = given_at f (given_in f st g k) (statements_in st g) q
+given_at f k (then (Emit first count) ss) (emitting i) = given_after_all f (from first i) k
+given_at f k (then _ ss) (emitting i) = k
+
+-- the lines behind the point of the text are those that are written, with these handles in scope,
+-- for the statements behind the point of the list. A case that falls through is empty, and has the
+-- lines of the next one
+abbrev pub LinesAreTheForm : Naming → Statements → Point → Type 0
+LinesAreTheForm f body q =
+    let start = at_start f.function in
+    falls_at body q ≡ false →
+    lines_behind (form_all f 0 body start) (point_in_text f.function body q)
+    ≡ form_all f (given_at f.function 0 body q) (statements_at body q) (handles_at f 0 body q start)
+
+-- of each function of a module, behind those before it, called with arguments of its types at any
+-- history: where the module's run of its body passes a point, the text's run of its lines passes the
+-- point there, in the same turns and after the same events; what stands behind it is written as the
+-- form says, and the two facts hold. The first point is the start. The points in a callee are those
+-- of the callee's own call
 abbrev pub PointsAgree : Type 0
 PointsAgree =
     (p : Module) (n : ModuleNames) (later : List Naming) (f : Naming) (fs : List Naming) →
@@ -85,13 +120,16 @@ PointsAgree =
     (env : Environment) → EnvironmentFits p env →
     (m : Meaning) → IsTyped p m →
     (vs : List Value) → IsTrue (has_types p.parts f.function.argument_types vs) →
-    (w : World) (turns : ℕ) (before_entry t : List Event) (q : Point) (kept : Kept) (t1 : List Event) →
+    (w : World) (turns : ℕ) (before_entry t : List Event) →
     let c = call_of env w m turns f fs vs before_entry in
     let l = words_of p n (later ++ (f ∷ fs)) env w m turns fs in
+    let first_names = names_of p n env f fs vs before_entry in
     let body = f.function.body in
     let start = at_start f.function in
+    (q : Point) (kept : Kept) (t1 : List Event) →
     let in_text = point_in_text f.function body q in
     Passes c turns body q (constants_kept f.function env m) t kept t1 →
     (names : Scope)
-    × TextPasses l turns (form_all f 0 body start) in_text (names_of p n env f fs vs before_entry) t names t1
+    × TextPasses l turns (form_all f 0 body start) in_text first_names t names t1
+    × LinesAreTheForm f body q
     × FactsHold c l f (handles_at f 0 body q start) kept names

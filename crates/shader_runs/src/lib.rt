@@ -2,6 +2,7 @@
 #![tactic(auto)]
 
 ghost use Rattle.shader_runs.specs.Correct.{RunsAlike, HasTypedMeaning, HasTypedWorld};
+ghost use Rattle.shader_runs.specs.Ends.{EndsArePassed};
 ghost use Rattle.shader_runs.specs.Points.{PointsAgree};
 ghost use Rattle.shader_runs.specs.Progress.{RunsAreNotStuck};
 ghost use Rattle.shader_runs.specs.Results.{ResultsAreReturned};
@@ -13,8 +14,8 @@ pub fn runs_alike()
     ensures { RunsAlike }
 {}
 
-/// At each point that a run passes, names in scope have the values that the module uses, and what is
-/// written without a name still gives them.
+/// At each point that a run passes, inside branches, cases, blocks and each turn of a loop too, names in scope
+/// have the values that the module uses, and what is written without a name still gives them.
 pub fn points_agree()
     ensures { PointsAgree }
 {}
@@ -33,6 +34,12 @@ pub fn results_are_returned()
 /// The check of scope holds of a function exactly where the rules of scope do.
 pub fn scope_check_is_the_rules()
     ensures { ScopeCheckIsTheRules }
+{}
+
+/// No end is missed by these points: a list that is done passes its end, and a return, discard, break or continue
+/// has its point in front of it.
+pub fn ends_are_passed()
+    ensures { EndsArePassed }
 {}
 
 /// What the first law asks of the meaning can be met.
