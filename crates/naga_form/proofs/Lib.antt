@@ -1,3 +1,5 @@
+pub mod TypeIdentities
+pub mod LiteralValues
 pub mod Interfaces
 pub mod Facts
 pub mod Runs

@@ -1,5 +1,5 @@
 -- The program that is written for a module does what the module does.
-use Rattle.std.proofs.Common.{[], ◌≡◌, ℕ, suc, ◌+◌, ◌<◌, Bool, List, ◌∷◌, map, length, Some, refl, sym, ap, subst, ◌∙◌, arith, add-one, append-nil}
+use Rattle.std.proofs.Common.{[], ◌≡◌, ℕ, suc, ◌+◌, ◌<◌, Bool, true, List, ◌∷◌, map, length, Option, Some, None, refl, sym, ap, subst, ◌∙◌, arith, add-one, append-nil}
 use Rattle.std.specs.Prelude.{IsTrue, slice_get, reverse, ◌==◌}
 use Rattle.std.specs.List.{list_all}
 use mathlib.Core.List.{reverse_aux}
@@ -12,7 +12,13 @@ use Rattle.naga_ir.specs.declared.types.Type_.{Type_}
 use Rattle.accepted_modules.specs.Accepted.{is_accepted, function_fits, functions_fit}
 use Rattle.naga_info.specs.declared.info.ExpressionInfo.{ExpressionInfo}
 use Rattle.naga_info.specs.declared.info.ModuleInfo.{ModuleInfo}
-use Rattle.accepted_modules.proofs.Accepting.{accepted_parts}
+use Rattle.std.specs.Option.{option_map_or, is_some}
+use Rattle.naga_enumerations.specs.declared.expression.Literal.{Literal}
+use Rattle.naga_ir.specs.declared.expression.Expression as ir
+use Rattle.naga_ir.specs.declared.expression.Expression.TheVariants as expression
+use Rattle.accepted_modules.specs.Types.{literal_word}
+use Rattle.accepted_modules.proofs.Accepting.{accepted_parts, function_fits_word_at}
+use Rattle.naga_form.specs.Literals.{LiteralsAreWritten, literal_is_written}
 use Rattle.name_keys.specs.Keys.{NameMap}
 use Rattle.name_keys.specs.declared.key.NameKey.TheVariants as key
 use Rattle.shader_runs.specs.Program as shapes
@@ -55,11 +61,26 @@ shapes_counted types [] (es ∷ ess) fits = absurd (cc)
 shapes_counted types (f ∷ fs) [] fits = absurd (cc)
 shapes_counted types (f ∷ fs) (es ∷ ess) fits = ap suc (shapes_counted types fs ess (and_right (function_fits types f es) (functions_fit types fs ess) fits))
 
-functions_read : (explicit : Bool) (names : NameMap) (types : List Type_) (g : ℕ) (fs : List ir_function.Function) (ess : List (List ExpressionInfo)) → map function_read (functions_form explicit names types g fs ess) ≡ map form_function (namings_from names g (function_shapes types fs ess))
-functions_read explicit names types g [] [] = refl
-functions_read explicit names types g [] (es ∷ ess) = refl
-functions_read explicit names types g (f ∷ fs) [] = refl
-functions_read explicit names types g (f ∷ fs) (es ∷ ess) = λ i. function_reads explicit names types g f es i ∷ functions_read explicit names types (g + 1) fs ess i
+-- the literals of an accepted function are written
+fitting_literals : (types : List Type_) (f : ir_function.Function) (es : List ExpressionInfo) → function_fits types f es ≡ true → LiteralsAreWritten f.expressions
+fitting_literals types f es fits h = by (slice_get f.expressions h) refl
+  where
+    found : (v : Literal) (w : List ℕ) → literal_word v ≡ Some w → is_some (literal_word v) ≡ true
+    found v w e = ap is_some e
+
+    by : (o : Option ir.Expression) → slice_get f.expressions h ≡ o → option_map_or literal_is_written o true ≡ true
+    by (Some (expression.Literal v)) at = let w = function_fits_word_at types f es h (expression.Literal v) fits at in found v w.0 w.2
+    by (Some _) at = refl
+    by None at = refl
+
+functions_read : (explicit : Bool) (names : NameMap) (types : List Type_) (g : ℕ) (fs : List ir_function.Function) (ess : List (List ExpressionInfo)) → IsTrue (functions_fit types fs ess) → map function_read (functions_form explicit names types g fs ess) ≡ map form_function (namings_from names g (function_shapes types fs ess))
+functions_read explicit names types g [] [] fits = refl
+functions_read explicit names types g [] (es ∷ ess) fits = refl
+functions_read explicit names types g (f ∷ fs) [] fits = refl
+functions_read explicit names types g (f ∷ fs) (es ∷ ess) fits =
+    let here = fitting_literals types f es (and_left (function_fits types f es) (functions_fit types fs ess) fits) in
+    let rest = and_right (function_fits types f es) (functions_fit types fs ess) fits in
+    λ i. function_reads explicit names types g f es here i ∷ functions_read explicit names types (g + 1) fs ess rest i
 
 -- what holds of all of a list that is turned round onto another holds of all of both
 behind_all : {X : Type 0} (test : X → Bool) (xs behind : List X) → IsTrue (list_all test (reverse_aux xs behind)) → IsTrue (list_all test behind)
@@ -71,10 +92,10 @@ all_reversed test [] behind all = refl
 all_reversed test (x ∷ xs) behind all = and_from (test x) (list_all test xs) (and_left (test x) (list_all test behind) (behind_all test xs (x ∷ behind) all)) (all_reversed test xs (x ∷ behind) all)
 
 -- the square: what is written of the module is read as its program of shapes is written
-pub program_reads : (m : Module) (info : ModuleInfo) (explicit : Bool) → program_read (written_program m info explicit) ≡ form_module (program_shape m info) (outer_names (module_names m)) (namings (module_names m) m info)
-program_reads m info explicit =
+pub program_reads : (m : Module) (info : ModuleInfo) (explicit : Bool) → IsTrue (is_accepted m info) → program_read (written_program m info explicit) ≡ form_module (program_shape m info) (outer_names (module_names m)) (namings (module_names m) m info)
+program_reads m info explicit accepted =
     let listed = namings_from (module_names m) 0 (function_shapes m.types m.functions info.functions.items) in
-    let each = functions_read explicit (module_names m) m.types 0 m.functions info.functions.items in
+    let each = functions_read explicit (module_names m) m.types 0 m.functions info.functions.items (accepted_parts m info accepted).5 in
     λ i. record {
       constants = [];
       globals = [];
@@ -121,7 +142,7 @@ module _ (m : Module) (info : ModuleInfo) (accepted : IsTrue (is_accepted m info
 
   runs : (explicit : Bool) → RunsAs m info (written_program m info explicit)
   runs explicit environment fit meaning typed g f found arguments typed_arguments world turns past keeps =
-      ap (λ (text : TextModule). follow_call (module_scope text environment) world meaning is_request turns text.functions (function_name (module_names m) g) arguments past) (program_reads m info explicit)
+      ap (λ (text : TextModule). follow_call (module_scope text environment) world meaning is_request turns text.functions (function_name (module_names m) g) arguments past) (program_reads m info explicit accepted)
       ∙ runs_alike p (outer_names (module_names m)) (namings (module_names m) m info) fits environment fit meaning typed g f found arguments typed_arguments world turns past keeps
 
 pub runs_as : (m : Module) (info : ModuleInfo) (explicit : Bool) → IsTrue (is_accepted m info) → IsTrue (nothing_named m) → IsTrue (scope_holds m info) → NamesAreCounted m → RunsAs m info (written_program m info explicit)

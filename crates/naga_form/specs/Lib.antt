@@ -1,4 +1,5 @@
 pub mod Names
+pub mod TypeIdentity
 pub mod Types
 pub mod Literals
 pub mod Operators

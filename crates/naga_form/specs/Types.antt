@@ -1,11 +1,17 @@
--- Types as they are written, and as values have them. A value's type is the type's spelling.
+-- Types as they are written, and as values have them. A value's type is the type's spelling, and where it has
+-- none so far, what the type is told by.
 use Rattle.std.specs.Prelude.{ℕ, List, [], ◌∷◌, Option, Some, None, if◌then◌else◌, codes, unwrap_or}
 use Rattle.std.specs.List.{starts_with}
 use Rattle.std.specs.Bool.{nat_eq}
 use Rattle.std.specs.Str.{bytes_eq}
 use Rattle.naga_ir.specs.declared.module.Module.{Module}
+use Rattle.naga_ir.specs.declared.types.Type_.{Type_}
+use Rattle.naga_info.specs.declared.info.TypeResolution.{TypeResolution}
+use Rattle.naga_info.specs.declared.info.TypeResolution.TheVariants.{Handle}
+use Rattle.accepted_modules.specs.Types.{spelling_of}
 use Rattle.type_spelling.specs.Contexts.{names_of}
 use Rattle.type_spelling.specs.Trees.{Names as TypeNames, type_tree}
+use Rattle.naga_form.specs.TypeIdentity.{Identity, identity, unspelled}
 use Rattle.naga_form.specs.Names.{module_names}
 use Rattle.wgsl_text.specs.Words.{stands_in}
 use Rattle.wgsl_text.specs.Tree.{TypeSpecifier, Named}
@@ -29,7 +35,15 @@ type_spelled w =
     if stands_in integer_words w then IntegerType w else (
     if starts_with nat_eq w (codes "ptr<") then PointerType else OtherType w))
 
--- what has no spelling is a type of its own
-abbrev pub value_type : Option (List ℕ) → ValueType
-value_type (Some w) = type_spelled w
-value_type None = OtherType []
+-- what has no spelling is told by a word that no text has
+abbrev pub type_told : Option (List ℕ) → Identity → ValueType
+type_told (Some w) i = type_spelled w
+type_told None i = OtherType (unspelled i)
+
+-- the type of the values of an expression
+abbrev pub value_type : List Type_ → TypeResolution → ValueType
+value_type types r = type_told (spelling_of types r) (identity types r)
+
+-- the type of the values of a declaration, by its handle
+abbrev pub declared_type : List Type_ → ℕ → ValueType
+declared_type types ty = value_type types (Handle ty)

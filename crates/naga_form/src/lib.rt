@@ -1,7 +1,7 @@
 //! What is written for a module, and why it does what the module does. The public functions are laws.
 #![tactic(auto)]
 
-ghost use Rattle.std.specs.Prelude.{◌≡◌, ℕ, List, IsTrue, Bool, length};
+ghost use Rattle.std.specs.Prelude.{◌≡◌, ℕ, List, Some, None, IsTrue, Bool, length};
 ghost use Rattle.naga_ir.specs.declared.module.Function.{Function};
 ghost use Rattle.naga_ir.specs.declared.module.Module.{Module};
 ghost use Rattle.naga_ir.specs.declared.types.Type_.{Type_};
@@ -10,6 +10,12 @@ ghost use Rattle.name_keys.specs.Keys.{NameMap};
 ghost use Rattle.shader_runs.specs.Form.{form_function, form_module};
 ghost use Rattle.naga_form.specs.Abstraction.{function_read, program_read};
 ghost use Rattle.naga_form.specs.Resolution.{ResolvesAs};
+ghost use Rattle.naga_form.specs.Literals.{LiteralsAreWritten, literal_value};
+ghost use Rattle.naga_enumerations.specs.declared.expression.Literal.{Literal};
+ghost use Rattle.naga_form.specs.Types.{value_type};
+ghost use Rattle.naga_form.specs.TypeIdentity.{identity};
+ghost use Rattle.accepted_modules.specs.Types.{spelling_of};
+ghost use Rattle.naga_info.specs.declared.info.TypeResolution.{TypeResolution};
 ghost use Rattle.naga_form.specs.Bindings.{BindsAs};
 ghost use Rattle.naga_form.specs.Form.{function_form, written_program};
 ghost use Rattle.naga_form.specs.Premises.{nothing_named, scope_holds, handles_are_counted};
@@ -41,17 +47,29 @@ pub fn binds_as_counted()
     ensures { (m : Module) (info : ModuleInfo) (explicit : Bool) → IsTrue (is_accepted m info) → IsTrue (nothing_named m) → BindsAs m info (written_program m info explicit) }
 {}
 
-/// What is written of a function is read as its shape is written, whatever is known of it.
+/// What is written of a function whose literals are all written so far is read as its shape is written, whatever is known of it.
 pub fn functions_are_read()
-    ensures { (explicit : Bool) (names : NameMap) (types : List Type_) (g : ℕ) (f : Function) (es : List ExpressionInfo) → function_read (function_form explicit names types g f es) ≡ form_function (function_naming names types g f es) }
+    ensures { (explicit : Bool) (names : NameMap) (types : List Type_) (g : ℕ) (f : Function) (es : List ExpressionInfo) → LiteralsAreWritten f.expressions → function_read (function_form explicit names types g f es) ≡ form_function (function_naming names types g f es) }
 {}
 
-/// What the program does is what the program of shapes says that is written for the module.
+/// What the program does is what the program of shapes says that is written for the accepted module.
 pub fn is_read_as_its_shapes()
-    ensures { (m : Module) (info : ModuleInfo) (explicit : Bool) → program_read (written_program m info explicit) ≡ form_module (program_shape m info) (outer_names (module_names m)) (namings (module_names m) m info) }
+    ensures { (m : Module) (info : ModuleInfo) (explicit : Bool) → IsTrue (is_accepted m info) → program_read (written_program m info explicit) ≡ form_module (program_shape m info) (outer_names (module_names m)) (namings (module_names m) m info) }
 {}
 
 /// It does what the module does, where the module's handles are in scope where they are used.
 pub fn runs_as_the_module()
     ensures { (m : Module) (info : ModuleInfo) (explicit : Bool) → IsTrue (is_accepted m info) → IsTrue (nothing_named m) → IsTrue (scope_holds m info) → NamesAreCounted m → RunsAs m info (written_program m info explicit) }
+{}
+
+/// Two types that no text spells so far have values of one type only where they are told by the same, a struct by its handle and
+/// any other type by what it is, and never of a type that is spelled.
+pub fn tells_types_apart()
+    ensures unspelled { (types : List Type_) (a b : TypeResolution) → spelling_of types a ≡ None → spelling_of types b ≡ None → value_type types a ≡ value_type types b → identity types a ≡ identity types b }
+    ensures spelled { (types : List Type_) (a b : TypeResolution) (word : List ℕ) → spelling_of types a ≡ Some word → spelling_of types b ≡ None → value_type types a ≡ value_type types b → ⊥ }
+{}
+
+/// Different literals have different values.
+pub fn tells_literals_apart()
+    ensures { (a b : Literal) → literal_value a ≡ literal_value b → a ≡ b }
 {}
