@@ -22,10 +22,10 @@ use Rattle.shader_runs.specs.Program.{handle_type, expression_of, binds, from}
 use Rattle.shader_runs.specs.Scope.{Naming, at_start, Standing, Named, Handles, bound_name, given_after, given_by, after_one, after}
 use Rattle.shader_runs.specs.Text.{LiteralOf, before, ReturnLine, Apply, LogicalOf, more, no_more, Let, Assign}
 use Rattle.shader_runs.specs.Form.{written_below, names_from, variables_from, form_function, Plain, AsValue, AsPlace, let_if}
-use Rattle.naga_form.specs.Form.{parameters_form, function_form, PlainForm, ValueForm, ReferenceForm, as_value, as_reference, own_plain, own_if, standing_plain, plain_below, plain_form, value_form, let_form, then_if, lets_form, return_line, line_form, lines_form, locals_form, told_type}
+use Rattle.naga_form.specs.Form.{parameters_form, function_form, PlainForm, ValueForm, ReferenceForm, as_value, as_reference, own_plain, own_if, standing_plain, plain_below, plain_form, value_form, let_form, then_if, lets_form, return_line, line_form, lines_form, locals_form}
 use Rattle.type_spelling.specs.Contexts.{names_of}
 use Rattle.naga_form.specs.Names.{function_name, argument_name}
-use Rattle.naga_form.specs.Types.{declared_type}
+use Rattle.naga_form.specs.Types.{told_type, declared_type}
 use Rattle.naga_form.specs.Literals.{literal_is_written, LiteralsAreWritten, literal_form, literal_value, value_read}
 use Rattle.naga_form.specs.Shapes.{expression_shape, statements_shape, function_shape, function_naming, statement_shape}
 use Rattle.naga_form.specs.Abstraction.{expression_read, statements_read, function_read, statement_read, variable_read}

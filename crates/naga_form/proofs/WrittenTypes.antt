@@ -28,7 +28,7 @@ use Rattle.type_spelling.specs.Trees.{Names as TypeNames, of_two, inner_tree, na
 use Rattle.wgsl_text.specs.Grammar.{IsType}
 use Rattle.wgsl_text.specs.Tree.{TypeSpecifier, Named}
 use Rattle.wgsl_text.specs.Words.{is_reserved}
-use Rattle.naga_form.specs.Form.{told_type}
+use Rattle.naga_form.specs.Types.{told_type}
 use Rattle.naga_form.specs.Types.{type_form}
 use Rattle.naga_form.proofs.Facts.{expression_at}
 

@@ -42,9 +42,10 @@ pub fn resolves_as_meant()
     ensures { (m : Module) (info : ModuleInfo) (explicit : Bool) → IsTrue (is_accepted m info) → IsTrue (is_written_so_far m) → NamesAreCounted m → ResolvesAs m info (written_program m info explicit) }
 {}
 
-/// Its `let`s are those of the emitted handles that are bound, each under its handle's name.
+/// Its `let`s are those of the emitted handles that are bound, each under its handle's name, and each tells its handle's type
+/// where types are to be told.
 pub fn binds_as_counted()
-    ensures { (m : Module) (info : ModuleInfo) (explicit : Bool) → IsTrue (is_accepted m info) → IsTrue (nothing_named m) → BindsAs m info (written_program m info explicit) }
+    ensures { (m : Module) (info : ModuleInfo) (explicit : Bool) → IsTrue (is_accepted m info) → IsTrue (nothing_named m) → BindsAs m info explicit (written_program m info explicit) }
 {}
 
 /// What is written of a function whose literals are all written so far is read as its shape is written, whatever is known of it.
