@@ -1,3 +1,5 @@
+pub mod TypedWords
+pub mod OperatorWords
 pub mod TypeIdentities
 pub mod LiteralValues
 pub mod Interfaces

@@ -53,8 +53,8 @@ abbrev pub module_bindings :
 module_bindings explicit t (f ∷ fs) (es ∷ ess) = function_bindings explicit t f es ∷ module_bindings explicit t fs ess
 module_bindings explicit t _ _ = []
 
--- The `let`s of each function are those of its emitted handles that are bound, each under its handle's name. Each tells its
--- handle's type where types are to be told, and else none does.
+-- The `let`s of each function are those of its emitted handles that are bound, each under its handle's name. Each tells
+-- its handle's type where types are to be told, and else none does.
 abbrev pub BindsAs : Module → ModuleInfo → (explicit : Bool) → Program → Type 0
 BindsAs m info explicit program =
     map (λ (f : Function). bindings_of f.body) program.functions

@@ -16,8 +16,8 @@ pub record Passed : Type 0 where
   pub attributes : List Attribute
   pub type : TypeSpecifier
 
--- A function by its name, the types of its arguments and that of its result. The types of its locals, in their order, are
--- told too, since no run looks at the type that a local is declared with.
+-- A function by its name, the types of its arguments and that of its result. The types of its locals, in their order,
+-- are told too, since no run looks at the type that a local is declared with.
 pub record FunctionInterface : Type 0 where
   pub name : List ℕ
   pub arguments : List Passed

@@ -3,6 +3,7 @@ pub mod TypeIdentity
 pub mod Types
 pub mod Literals
 pub mod Operators
+pub mod OperatorTable
 pub mod Form
 pub mod Premises
 pub mod Shapes

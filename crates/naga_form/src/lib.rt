@@ -16,6 +16,7 @@ ghost use Rattle.naga_form.specs.Types.{value_type};
 ghost use Rattle.naga_form.specs.TypeIdentity.{identity};
 ghost use Rattle.accepted_modules.specs.Types.{spelling_of};
 ghost use Rattle.naga_info.specs.declared.info.TypeResolution.{TypeResolution};
+ghost use Rattle.naga_form.specs.OperatorTable.{Operator, TypeIsSound, is_told, one_word, operand_count, operator_word};
 ghost use Rattle.naga_form.specs.Bindings.{BindsAs};
 ghost use Rattle.naga_form.specs.Form.{function_form, written_program};
 ghost use Rattle.naga_form.specs.Premises.{nothing_named, scope_holds, handles_are_counted};
@@ -73,4 +74,12 @@ pub fn tells_types_apart()
 /// Different literals have different values.
 pub fn tells_literals_apart()
     ensures { (a b : Literal) → literal_value a ≡ literal_value b → a ≡ b }
+{}
+
+/// Operators share a word only where `one_word` sends them to one, and these do share it. But for samplings, gathers, loads of
+/// texels and conversions, the number of operands tells those apart that share a word.
+pub fn tells_operators_apart()
+    ensures words { (a b : Operator) (word : List ℕ) → TypeIsSound a → TypeIsSound b → operator_word a ≡ Some word → operator_word b ≡ Some word → one_word a ≡ one_word b }
+    ensures kept { (a : Operator) → operator_word (one_word a) ≡ operator_word a }
+    ensures counts { (a b : Operator) → IsTrue (is_told a) → IsTrue (is_told b) → one_word a ≡ one_word b → operand_count a ≡ operand_count b → a ≡ b }
 {}
