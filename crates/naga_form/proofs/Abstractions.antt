@@ -1,8 +1,8 @@
 -- What is written of a function is read as the function's shape says: the abstraction of its form is the form of its shape.
 use Rattle.std.proofs.Common.{[], ◌≡◌, ℕ, suc, Bool, true, false, ◌+◌, pos, negsuc, List, ◌∷◌, map, length, Option, Some, None, refl, sym, ap, ◌∙◌, add-one, add-zero, zero-add, zero, ◌-◌, ◌++◌, arith}
 use Rattle.std.specs.Prelude.{IsTrue, slice_get, unwrap_or, ◌==◌, if◌then◌else◌, codes}
-use Rattle.std.specs.Option.{option_map}
-use Rattle.std.proofs.lemmas.Bool.{eqb-true, ltb-true}
+use Rattle.std.specs.Option.{option_map, option_map_or, is_some}
+use Rattle.std.proofs.lemmas.Bool.{eqb-true, ltb-true, false≢true}
 use Rattle.std.proofs.lemmas.Option.{slice_get-map}
 use Rattle.naga_ir.specs.StatementTree.{BlockTree, no_statements, statement, simple, return, emit, store, StatementTree}
 use Rattle.naga_ir.specs.declared.expression.Expression as ir
@@ -15,7 +15,7 @@ use Rattle.naga_ir.specs.declared.types.Type_.{Type_}
 use Rattle.naga_info.specs.declared.info.ExpressionInfo.{ExpressionInfo}
 use Rattle.std.specs.List.{list_all}
 use Rattle.accepted_modules.specs.Accepted.{is_scalar_type, local_fits, function_fits}
-use Rattle.accepted_modules.specs.Types.{word_at, local_pointer}
+use Rattle.accepted_modules.specs.Types.{word_at, local_pointer, literal_word}
 use Rattle.accepted_modules.proofs.Accepting.{list_all_at, scalar_types_word_at, function_fits_locals, local_fits_parts}
 use Rattle.name_keys.specs.Keys.{NameMap}
 use Rattle.wgsl_text.specs.Token.{GreaterThan, SuffixI, SuffixLi}
@@ -25,11 +25,11 @@ use Rattle.shader_runs.specs.Program.{handle_type, expression_of, binds, from}
 use Rattle.shader_runs.specs.Scope.{Naming, at_start, Standing, Named, Handles, bound_name, given_after, given_by, after_one, after}
 use Rattle.shader_runs.specs.Text.{LiteralOf, before, ReturnLine, Apply, LogicalOf, more, no_more, Let, Assign}
 use Rattle.shader_runs.specs.Form.{written_below, names_from, variables_from, form_function, Plain, AsValue, AsPlace, let_if}
-use Rattle.naga_form.specs.Form.{parameters_form, function_form, PlainForm, ValueForm, ReferenceForm, as_value, as_reference, own_plain, own_if, standing_plain, plain_below, plain_form, value_form, let_form, then_if, lets_form, return_line, line_form, lines_form, locals_form, told_type}
+use Rattle.naga_form.specs.Form.{parameters_form, function_form, PlainForm, ValueForm, ReferenceForm, as_value, as_reference, own_plain, own_if, standing_plain, plain_below, plain_form, value_form, let_form, then_if, lets_form, return_line, line_form, lines_form, locals_form}
 use Rattle.type_spelling.specs.Contexts.{names_of}
 use Rattle.naga_form.specs.Names.{function_name, argument_name}
-use Rattle.naga_form.specs.Types.{value_type, type_form, pointer_to_local}
-use Rattle.naga_form.specs.Literals.{literal_form, literal_value, value_read}
+use Rattle.naga_form.specs.Types.{type_form, pointer_to_local, told_type, declared_type, LocalsAreSpelled}
+use Rattle.naga_form.specs.Literals.{literal_form, literal_value, value_read, literal_is_written, LiteralsAreWritten}
 use Rattle.naga_form.specs.Shapes.{expression_shape, statements_shape, function_shape, function_naming, statement_shape}
 use Rattle.naga_form.specs.Abstraction.{expression_read, statements_read, function_read, statement_read, local_pointer_read, variable_read}
 use Rattle.naga_ir.specs.declared.expression.Expression.TheVariants as expression
@@ -52,12 +52,15 @@ long_read n true e = ap (λ k. Whole (codes "i64") (negsuc k)) (sym (eqb-true n 
 long_read n false e = refl
 
 -- a literal that is written is read with its value
-pub literal_read : (v : ir_literal.Literal) → value_read (literal_form v) ≡ literal_value v
-literal_read (literal.I32 (negsuc n)) = integer_read n (n == 2147483647) refl
-literal_read (literal.I64 (negsuc n)) = long_read n (n == 9223372036854775807) refl
-literal_read (literal.I32 (pos n)) = refl
-literal_read (literal.I64 (pos n)) = refl
-literal_read _ = refl
+pub literal_read : (v : ir_literal.Literal) → is_some (literal_word v) ≡ true → value_read (literal_form v) ≡ literal_value v
+literal_read (literal.I32 (negsuc n)) w = integer_read n (n == 2147483647) refl
+literal_read (literal.I64 (negsuc n)) w = long_read n (n == 9223372036854775807) refl
+literal_read (literal.I32 (pos n)) w = refl
+literal_read (literal.I64 (pos n)) w = refl
+literal_read (literal.Bool b) w = refl
+literal_read (literal.U32 n) w = refl
+literal_read (literal.U64 n) w = refl
+literal_read _ w = absurd (false≢true w)
 
 pub names_counted : (names : NameMap) (types : List Type_) (g n : ℕ) (args : List FunctionArgument) → map (λ p. p.name) (parameters_form names types g n args) ≡ names_from (argument_name names g) n (length args)
 names_counted names types g n [] = refl
@@ -77,10 +80,10 @@ place_is (ValueForm e) = refl
 place_is (ReferenceForm e) = refl
 
 module _ (n : Naming) where
-  own_reads : (operand : ℕ → PlainForm) (like : ℕ → Plain) → ((x : ℕ) → plain_read (operand x) ≡ like x) → (k : ValueType) (e : ir.Expression) → plain_read (own_plain n operand e) ≡ runs.own_form n like k (Some (expression_shape e))
-  own_reads operand like same k (expression.Literal value) = ap (λ v. AsValue (LiteralOf v)) (literal_read value)
-  own_reads operand like same k (expression.Load pointer) = ap AsValue (place_is (operand pointer) ∙ ap runs.place_form (same pointer))
-  own_reads operand like same k (expression.Binary op left right) = binary_reads op
+  own_reads : (operand : ℕ → PlainForm) (like : ℕ → Plain) → ((x : ℕ) → plain_read (operand x) ≡ like x) → (k : ValueType) (e : ir.Expression) → literal_is_written e ≡ true → plain_read (own_plain n operand e) ≡ runs.own_form n like k (Some (expression_shape e))
+  own_reads operand like same k (expression.Literal value) w = ap (λ v. AsValue (LiteralOf v)) (literal_read value w)
+  own_reads operand like same k (expression.Load pointer) w = ap AsValue (place_is (operand pointer) ∙ ap runs.place_form (same pointer))
+  own_reads operand like same k (expression.Binary op left right) w = binary_reads op
     where
       left_is : expression_read (as_value (operand left)) ≡ runs.value_form (like left)
       left_is = value_is (operand left) ∙ ap runs.value_form (same left)
@@ -92,17 +95,17 @@ module _ (n : Naming) where
       binary_reads operator.LogicalAnd = λ i. AsValue (LogicalOf ShortCircuitAnd (left_is i) (right_is i))
       binary_reads operator.LogicalOr = λ i. AsValue (LogicalOf ShortCircuitOr (left_is i) (right_is i))
       binary_reads op = λ i. AsValue (Apply (text (binary_pieces (operator_form op))) (more (left_is i) (more (right_is i) no_more)))
-  own_reads operand like same k _ = refl
+  own_reads operand like same k _ w = refl
 
-  own_if_reads : (operand : ℕ → PlainForm) (like : ℕ → Plain) → ((x : ℕ) → plain_read (operand x) ≡ like x) → (k : ValueType) (e : Option ir.Expression) → plain_read (own_if n operand e) ≡ runs.own_form n like k (option_map expression_shape e)
-  own_if_reads operand like same k (Some e) = own_reads operand like same k e
-  own_if_reads operand like same k None = refl
+  own_if_reads : (operand : ℕ → PlainForm) (like : ℕ → Plain) → ((x : ℕ) → plain_read (operand x) ≡ like x) → (k : ValueType) (e : Option ir.Expression) → option_map_or literal_is_written e true ≡ true → plain_read (own_if n operand e) ≡ runs.own_form n like k (option_map expression_shape e)
+  own_if_reads operand like same k (Some e) w = own_reads operand like same k e w
+  own_if_reads operand like same k None w = refl
 
   standing_reads : (s : Standing) (p : PlainForm) (q : Plain) → plain_read p ≡ q → plain_read (standing_plain s p) ≡ runs.standing_form s q
   standing_reads (Named x) p q e = refl
   standing_reads _ p q e = e
 
-module _ (names : NameMap) (types : List Type_) (g : ℕ) (f : ir_function.Function) (es : List ExpressionInfo) where
+module _ (names : NameMap) (types : List Type_) (g : ℕ) (f : ir_function.Function) (es : List ExpressionInfo) (literals : LiteralsAreWritten f.expressions) where
   abbrev own : Naming
   own = function_naming names types g f es
 
@@ -110,7 +113,7 @@ module _ (names : NameMap) (types : List Type_) (g : ℕ) (f : ir_function.Funct
   below_reads s zero h = refl
   below_reads s (suc k) h =
       standing_reads own (s h) (own_if own (plain_below own f.expressions s k) (slice_get f.expressions h)) (runs.own_form own (written_below own s k) (handle_type own.function h) (expression_of own.function h))
-      (own_if_reads own (plain_below own f.expressions s k) (written_below own s k) (below_reads s k) (handle_type own.function h) (slice_get f.expressions h)
+      (own_if_reads own (plain_below own f.expressions s k) (written_below own s k) (below_reads s k) (handle_type own.function h) (slice_get f.expressions h) (literals h)
       ∙ ap (runs.own_form own (written_below own s k) (handle_type own.function h)) (sym (slice_get-map expression_shape f.expressions h)))
 
   plain_reads : (s : Handles) (h : ℕ) → plain_read (plain_form own f.expressions s h) ≡ runs.written own s h
@@ -138,7 +141,7 @@ module _ (names : NameMap) (types : List Type_) (g : ℕ) (f : ir_function.Funct
       let behind = lets_form own told f.expressions (given_after own.function h k) hs (after_one own k h s) rest in
       then_if_reads (binds own.function h) (told h) (bound_name own k h) (as_value e) behind
       ∙ λ i. let_if (binds own.function h) (bound_name own k h)
-      ((value_is e ∙ ap runs.value_form (own_if_reads own (plain_form own f.expressions s) (runs.written own s) (plain_reads s) (handle_type own.function h) (slice_get f.expressions h)
+      ((value_is e ∙ ap runs.value_form (own_if_reads own (plain_form own f.expressions s) (runs.written own s) (plain_reads s) (handle_type own.function h) (slice_get f.expressions h) (literals h)
       ∙ ap (runs.own_form own (runs.written own s) (handle_type own.function h)) (sym (slice_get-map expression_shape f.expressions h)))) i)
       (lets_read told (given_after own.function h k) hs (after_one own k h s) rest i)
 
@@ -167,11 +170,7 @@ module _ (names : NameMap) (types : List Type_) (g : ℕ) (f : ir_function.Funct
       closed : (w : List ℕ) → text (type_pieces (Named w) ++ mark GreaterThan ∷ []) ≡ w ++ codes ">"
       closed w = refl
 
-  -- each local has a type that is spelled
-  abbrev AreSpelled : Type 0
-  AreSpelled = (l : ℕ) (v : LocalVariable) → slice_get f.local_variables l ≡ Some v → (w : List ℕ) × (word_at types v.ty ≡ Some w)
-
-  locals_read : AreSpelled → (l : ℕ) (vs : List LocalVariable) → ((k : ℕ) → slice_get vs k ≡ slice_get f.local_variables (k + l)) → map variable_read (locals_form own (names_of types names) f.expressions l vs) ≡ variables_from own l (map (λ v. v.init) vs)
+  locals_read : LocalsAreSpelled types f.local_variables → (l : ℕ) (vs : List LocalVariable) → ((k : ℕ) → slice_get vs k ≡ slice_get f.local_variables (k + l)) → map variable_read (locals_form own (names_of types names) f.expressions l vs) ≡ variables_from own l (map (λ v. v.init) vs)
   locals_read spelled l [] at = refl
   locals_read spelled l (v ∷ vs) at =
       let here : slice_get f.local_variables l ≡ Some v = ap (slice_get f.local_variables) (sym (zero-add l)) ∙ sym (at 0) in
@@ -188,18 +187,18 @@ module _ (names : NameMap) (types : List Type_) (g : ℕ) (f : ir_function.Funct
           at (suc k) ∙ ap (slice_get f.local_variables) same
 
 -- the type of each local of a function that fits is spelled
-pub locals_spelled : (types : List Type_) (f : ir_function.Function) (es : List ExpressionInfo) → IsTrue (list_all is_scalar_type types) → function_fits types f es ≡ true → (l : ℕ) (v : LocalVariable) → slice_get f.local_variables l ≡ Some v → (w : List ℕ) × (word_at types v.ty ≡ Some w)
+pub locals_spelled : (types : List Type_) (f : ir_function.Function) (es : List ExpressionInfo) → IsTrue (list_all is_scalar_type types) → function_fits types f es ≡ true → LocalsAreSpelled types f.local_variables
 locals_spelled types f es scalars fits l v at =
     let fit = list_all_at (local_fits types es) f.local_variables l v (function_fits_locals types f es fits) at in
     let parts = local_fits_parts types es v fit in
     scalar_types_word_at types v.ty scalars (ltb-true v.ty (length types) parts.0)
 
-pub function_reads : (explicit : Bool) (names : NameMap) (types : List Type_) (g : ℕ) (f : ir_function.Function) (es : List ExpressionInfo) → IsTrue (list_all is_scalar_type types) → function_fits types f es ≡ true → function_read (function_form explicit names types g f es) ≡ form_function (function_naming names types g f es)
-function_reads explicit names types g f es scalars fits =
-    let locals = locals_read names types g f es (locals_spelled types f es scalars fits) 0 f.local_variables (λ k. ap (slice_get f.local_variables) (sym (add-zero k))) in
+pub function_reads : (explicit : Bool) (names : NameMap) (types : List Type_) (g : ℕ) (f : ir_function.Function) (es : List ExpressionInfo) → LiteralsAreWritten f.expressions → LocalsAreSpelled types f.local_variables → function_read (function_form explicit names types g f es) ≡ form_function (function_naming names types g f es)
+function_reads explicit names types g f es literals spelled =
+    let locals = locals_read names types g f es literals spelled 0 f.local_variables (λ k. ap (slice_get f.local_variables) (sym (add-zero k))) in
     λ i. record {
       name = function_name names g;
-      parameters = (names_counted names types g 0 f.arguments.items ∙ ap (names_from (argument_name names g) 0) (sym (mapped_length (λ a. value_type (word_at types a.ty)) f.arguments.items))) i;
+      parameters = (names_counted names types g 0 f.arguments.items ∙ ap (names_from (argument_name names g) 0) (sym (mapped_length (λ a. declared_type types a.ty) f.arguments.items))) i;
       variables = locals i;
-      lines = lines_read names types g f es (told_type explicit (names_of types names) es) 0 f.body (at_start (function_shape types f es)) i;
+      lines = lines_read names types g f es literals (told_type explicit (names_of types names) es) 0 f.body (at_start (function_shape types f es)) i;
     }

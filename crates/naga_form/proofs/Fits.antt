@@ -22,7 +22,10 @@ use Rattle.naga_info.proofs.Options.{then_some}
 use Rattle.shader_runs.proofs.Update.{and_left, and_right}
 use Rattle.item_names.proofs.Counts.{element}
 use Rattle.naga_form.specs.Names.{argument_name, numbered_name, wgsl_names, module_names, name_in, function_name, local_name, numbered_text, NamesAreCounted}
-use Rattle.naga_form.specs.Types.{value_type, pointer_to_local}
+use Rattle.naga_form.specs.Types.{value_type, pointer_to_local, declared_type, type_spelled, type_told}
+use Rattle.naga_info.specs.declared.info.TypeResolution.TheVariants.{Handle}
+use Rattle.naga_form.specs.TypeIdentity.{Nothing, identity}
+use Rattle.naga_form.proofs.TypeIdentities.{declared_spelling}
 use Rattle.naga_form.specs.Literals.{literal_value}
 use Rattle.naga_form.specs.Shapes.{expression_shape, statements_shape, function_shape, outer_names, function_naming, binary_shape, statement_shape, given_from}
 use Rattle.naga_form.proofs.Named.{numbered_distinct, name_is, item_not_numbered, items_tell, function_item, argument_item, function_there, argument_there}
@@ -52,7 +55,7 @@ mapped_at t d (y ∷ xs) (suc i) x found = mapped_at t d xs i x found
 pub type_at_mapped : {X : Type 0} (t : X → ValueType) (xs : List X) (i : ℕ) (x : X) → slice_get xs i ≡ Some x → type_at (map t xs) i ≡ t x
 type_at_mapped t xs i x found = mapped_at t BooleanType xs i x found
 
-pub literal_typed : (v : ir_literal.Literal) (w : List ℕ) → literal_word v ≡ Some w → value_type (literal_word v) ≡ literal_type (literal_value v)
+pub literal_typed : (v : ir_literal.Literal) (w : List ℕ) → literal_word v ≡ Some w → type_told (literal_word v) Nothing ≡ literal_type (literal_value v)
 literal_typed (literal.Bool b) w e = refl
 literal_typed (literal.I32 z) w e = refl
 literal_typed (literal.U32 n) w e = refl
@@ -146,10 +149,14 @@ module _ (m : Module) (g : ℕ) (f : ir_function.Function) (found : slice_get m.
   none_given k lt = let none : k < 0 = subst (λ n. k < n) (given_lines f.body 0) lt in omega (arith, none)
 
   -- the type of a handle that is spelled
-  typed_as : (h : ℕ) (w : List ℕ) → spelling_at m.types es h ≡ Some w → handle_type shape h ≡ value_type (Some w)
+  typed_as : (h : ℕ) (w : List ℕ) → spelling_at m.types es h ≡ Some w → handle_type shape h ≡ type_spelled w
   typed_as h w spelled =
       let k = then_some (λ e. spelling_of m.types e.ty) (slice_get es h) w spelled in
-      type_at_mapped (λ e. value_type (spelling_of m.types e.ty)) es h k.0 k.1 ∙ ap value_type k.2
+      type_at_mapped (λ e. value_type m.types e.ty) es h k.0 k.1 ∙ ap (λ o. type_told o (identity m.types k.0.ty)) k.2
+
+  -- the type of a declaration that has a word
+  declared_as : (ty : ℕ) (w : List ℕ) → word_at m.types ty ≡ Some w → declared_type m.types ty ≡ type_spelled w
+  declared_as ty w e = ap (λ o. type_told o (identity m.types (Handle ty))) (declared_spelling m.types ty w e)
 
   -- what holds of no shape and of each expression's holds of the shape of any handle
   at_any : (h : ℕ) (P : Option shapes.Expression → Type 0) → P None → ((e : ir.Expression) → slice_get f.expressions h ≡ Some e → P (Some (expression_shape e))) → P (expression_of shape h)
@@ -176,11 +183,11 @@ module _ (m : Module) (g : ℕ) (f : ir_function.Function) (found : slice_get m.
   leaf_at : (h : ℕ) (e : ir.Expression) → slice_get f.expressions h ≡ Some e → LeafFits p shape (handle_type shape h) (Some (expression_shape e))
   leaf_at h (expression.Literal v) at =
       let w = function_fits_word_at m.types f es h (expression.Literal v) fits at in
-      (literal_is v, typed_as h w.0 w.1 ∙ (ap value_type (sym w.2) ∙ literal_typed v w.0 w.2))
+      (literal_is v, typed_as h w.0 w.1 ∙ (ap (λ o. type_told o Nothing) (sym w.2) ∙ literal_typed v w.0 w.2))
   leaf_at h (expression.FunctionArgument n) at =
       let w = function_fits_word_at m.types f es h (expression.FunctionArgument n) fits at in
       let a = then_some (λ a. word_at m.types a.ty) (slice_get f.arguments.items n) w.0 w.2 in
-      typed_as h w.0 w.1 ∙ (ap value_type (sym a.2) ∙ sym (type_at_mapped (λ a. value_type (word_at m.types a.ty)) f.arguments.items n a.0 a.1))
+      typed_as h w.0 w.1 ∙ (sym (declared_as a.0.ty w.0 a.2) ∙ sym (type_at_mapped (λ a. declared_type m.types a.ty) f.arguments.items n a.0 a.1))
   leaf_at h (expression.LocalVariable v) at =
       let l = local_word_at m.types f es h v fits at in
       typed_as h _ l.4 ∙ ap PointerType (sym (pointer_of v l.0 l.1 l.2 l.3))
@@ -209,7 +216,7 @@ module _ (m : Module) (g : ℕ) (f : ir_function.Function) (found : slice_get m.
 
       no_name : IsNoName p own (c ∷ rest)
       no_name (FixedKey (ArgumentName i)) is e =
-          let a = element f.arguments.items i (subst (λ n. i < n) (mapped_length (λ a. value_type (word_at m.types a.ty)) f.arguments.items) is) in
+          let a = element f.arguments.items i (subst (λ n. i < n) (mapped_length (λ a. declared_type m.types a.ty) f.arguments.items) is) in
           no_word (argument_item m g i a.0) (c ∷ rest) (argument_there m g f i a.0 found a.1) other e
       no_name (FixedKey (LocalName i)) is e =
           let a = element f.local_variables i (subst (λ n. i < n) (mapped_length (λ l. l.init) f.local_variables) is) in
@@ -237,7 +244,7 @@ module _ (m : Module) (g : ℕ) (f : ir_function.Function) (found : slice_get m.
   return_at None fit = tt
   return_at (Some h) fit =
       let r = returned_at m.types f es h (function_fits_expressions m.types f es fits) f.result refl fit in
-      ap (option_map (λ a. value_type (word_at m.types a.ty))) r.answers ∙ ap (λ w. Some (value_type w)) r.wanted ∙ ap Some (sym (typed_as h r.word r.typed))
+      ap (option_map (λ a. declared_type m.types a.ty)) r.answers ∙ ap Some (declared_as _ r.word r.wanted) ∙ ap Some (sym (typed_as h r.word r.typed))
 
   regular_at : (callees : List shapes.Function) (st : StatementTree) → statement_fits m.types es f.result st ≡ true → IsRegular p callees own (statement_shape st)
   regular_at callees (simple (emit first last)) fit = tt
@@ -257,7 +264,7 @@ module _ (m : Module) (g : ℕ) (f : ir_function.Function) (found : slice_get m.
   distinct counted a b is_a is_b e = apart a b is_a is_b e
     where
       argument_in : (i : ℕ) → i < argument_count shape → i < length f.arguments.items
-      argument_in i lt = subst (λ n. i < n) (mapped_length (λ a. value_type (word_at m.types a.ty)) f.arguments.items) lt
+      argument_in i lt = subst (λ n. i < n) (mapped_length (λ a. declared_type m.types a.ty) f.arguments.items) lt
 
       local_in : (i : ℕ) → i < local_count shape → i < length f.local_variables
       local_in i lt = subst (λ n. i < n) (mapped_length (λ l. l.init) f.local_variables) lt

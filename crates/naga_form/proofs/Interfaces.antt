@@ -10,8 +10,13 @@ use Rattle.naga_info.specs.declared.info.ModuleInfo.{ModuleInfo}
 use Rattle.name_keys.specs.Keys.{NameMap}
 use Rattle.type_spelling.specs.Contexts.{names_of}
 use Rattle.type_spelling.specs.Trees.{Names as TypeNames}
+use Rattle.naga_ir.specs.declared.expression.Expression as ir
+use Rattle.naga_ir.specs.declared.module.LocalVariable.{LocalVariable}
+use Rattle.shader_runs.specs.Scope.{Naming}
+use Rattle.naga_form.specs.Types.{type_form}
+use Rattle.naga_form.specs.Shapes.{function_naming}
 use Rattle.naga_form.specs.Names.{module_names}
-use Rattle.naga_form.specs.Form.{parameters_form, result_form, function_form, functions_form, written_program}
+use Rattle.naga_form.specs.Form.{locals_form, parameters_form, result_form, function_form, functions_form, written_program}
 use Rattle.naga_form.specs.Interface.{parameter_read, result_read, function_interface_read, passed, result_passed, function_interface, function_interfaces}
 use Rattle.naga_form.specs.Faithful.{HasInterfaceOf}
 
@@ -23,11 +28,16 @@ results_passed : (t : TypeNames) (r : Option FunctionResult) → result_read (re
 results_passed t None = refl
 results_passed t (Some r) = refl
 
+locals_declared : (n : Naming) (t : TypeNames) (es : List ir.Expression) (l : ℕ) (vs : List LocalVariable) → map (λ v. v.type) (locals_form n t es l vs) ≡ map (λ v. type_form t v.ty) vs
+locals_declared n t es l [] = refl
+locals_declared n t es l (v ∷ more) = ap (λ ts. type_form t v.ty ∷ ts) (locals_declared n t es (l + 1) more)
+
 function_interface_form : (explicit : Bool) (names : NameMap) (types : List Type_) (g : ℕ) (f : ir_function.Function) (es : List ExpressionInfo) → function_interface_read (function_form explicit names types g f es) ≡ function_interface names types g f
 function_interface_form explicit names types g f es = λ i. record {
   name = (function_interface names types g f).name;
   arguments = parameters_passed names types g 0 f.arguments.items i;
   result = results_passed (names_of types names) f.result i;
+  locals = locals_declared (function_naming names types g f es) (names_of types names) f.expressions 0 f.local_variables i;
 }
 
 function_interfaces_form : (explicit : Bool) (names : NameMap) (types : List Type_) (g : ℕ) (fs : List ir_function.Function) (ess : List (List ExpressionInfo)) → length fs ≡ length ess → map function_interface_read (functions_form explicit names types g fs ess) ≡ function_interfaces names types g fs

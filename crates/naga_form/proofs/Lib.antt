@@ -1,3 +1,7 @@
+pub mod TypedWords
+pub mod OperatorWords
+pub mod TypeIdentities
+pub mod LiteralValues
 pub mod Interfaces
 pub mod Facts
 pub mod Runs

@@ -25,10 +25,10 @@ use Rattle.wgsl_text.specs.GrammarOfLines.{IsStatement, IsStatements, IsParamete
 use Rattle.naga_info.proofs.Options.{then_some}
 use Rattle.shader_runs.proofs.Update.{and_left, and_right}
 use Rattle.item_names.proofs.Counts.{element}
-use Rattle.naga_form.specs.Form.{parameters_form, result_form, function_form, functions_form, told_type, PlainForm, ValueForm, ReferenceForm, as_value, as_reference, own_plain, own_if, standing_plain, plain_below, plain_form, value_form, let_form, then_if, lets_form, return_line, line_form, lines_form, locals_form, written_program}
+use Rattle.naga_form.specs.Form.{parameters_form, result_form, function_form, functions_form, PlainForm, ValueForm, ReferenceForm, as_value, as_reference, own_plain, own_if, standing_plain, plain_below, plain_form, value_form, let_form, then_if, lets_form, return_line, line_form, lines_form, locals_form, written_program}
 use Rattle.naga_form.specs.Premises.{nothing_named, handles_are_counted}
 use Rattle.naga_form.specs.Names.{module_names, wgsl_names, numbered_text, numbered_name}
-use Rattle.naga_form.specs.Types.{type_names}
+use Rattle.naga_form.specs.Types.{type_names, told_type}
 use Rattle.naga_form.proofs.Resolutions.{nothing_outside}
 use Rattle.naga_form.proofs.WrittenTypes.{is_type_at, told_is, known_spelled}
 use Rattle.naga_form.specs.Literals.{literal_form}

@@ -33,10 +33,11 @@ use Rattle.wgsl_text.specs.Tree as tree
 use Rattle.naga_info.proofs.Options.{then_some}
 use Rattle.shader_runs.proofs.Update.{and_left, and_right}
 use Rattle.naga_form.proofs.Facts.{further, from_start}
+use Rattle.naga_form.specs.Types.{told_type, declared_type}
 use Rattle.naga_form.specs.Names.{NamesAreCounted, module_names, argument_name, local_name, numbered_name}
 use Rattle.naga_form.specs.Types.{value_type, type_names}
 use Rattle.naga_form.specs.Shapes.{no_parts, statement_shape, function_naming}
-use Rattle.naga_form.specs.Form.{PlainForm, ValueForm, ReferenceForm, as_value, as_reference, own_plain, own_if, standing_plain, plain_below, plain_form, value_form, let_form, then_if, lets_form, line_form, lines_form, locals_form, parameters_form, function_form, functions_form, written_program, told_type}
+use Rattle.naga_form.specs.Form.{PlainForm, ValueForm, ReferenceForm, as_value, as_reference, own_plain, own_if, standing_plain, plain_below, plain_form, value_form, let_form, then_if, lets_form, line_form, lines_form, locals_form, parameters_form, function_form, functions_form, written_program}
 use Rattle.naga_form.specs.Resolution.{Target, ArgumentTarget, LocalTarget, LetTarget, Scope, lookup, parameters_scope, functions_scope, expression_targets, statements_targets, locals_targets, function_targets, let_number, standing_meant, own_meant, own_meant_if, meant_below, value_meant, bound_after, bound_after_all, bound_behind, lets_meant, line_meant, lines_meant, first_values_meant, function_meant, functions_meant, ResolvesAs}
 use Rattle.naga_form.proofs.Fits.{mapped_length, not_given, distinct}
 
@@ -78,7 +79,7 @@ module _ (m : Module) (g : ℕ) (f : ir_function.Function) (found : slice_get m.
   other_names a b is_a is_b other e = other (distinct m g f found es fits unnamed nothing_outside refl refl counted a b is_a is_b e)
 
   argument_in : (i : ℕ) → i < length f.arguments.items → IsName nothing_outside own.function (FixedKey (ArgumentName i))
-  argument_in i lt = subst (λ n. i < n) (sym (mapped_length (λ a. value_type (word_at m.types a.ty)) f.arguments.items)) lt
+  argument_in i lt = subst (λ n. i < n) (sym (mapped_length (λ a. declared_type m.types a.ty) f.arguments.items)) lt
 
   local_in : (i : ℕ) → i < length f.local_variables → IsName nothing_outside own.function (FixedKey (LocalName i))
   local_in i lt = subst (λ n. i < n) (sym (mapped_length (λ l. l.init) f.local_variables)) lt

@@ -1,5 +1,5 @@
 -- The program that is written for a module does what the module does.
-use Rattle.std.proofs.Common.{[], ◌≡◌, ℕ, suc, ◌+◌, ◌<◌, Bool, List, ◌∷◌, map, length, Some, refl, sym, ap, subst, ◌∙◌, arith, add-one, append-nil}
+use Rattle.std.proofs.Common.{[], ◌≡◌, ℕ, suc, ◌+◌, ◌<◌, Bool, true, List, ◌∷◌, map, length, Option, Some, None, refl, sym, ap, subst, ◌∙◌, arith, add-one, append-nil}
 use Rattle.std.specs.Prelude.{IsTrue, slice_get, reverse, ◌==◌}
 use Rattle.std.specs.List.{list_all}
 use mathlib.Core.List.{reverse_aux}
@@ -12,7 +12,13 @@ use Rattle.naga_ir.specs.declared.types.Type_.{Type_}
 use Rattle.accepted_modules.specs.Accepted.{is_scalar_type, is_accepted, function_fits, functions_fit}
 use Rattle.naga_info.specs.declared.info.ExpressionInfo.{ExpressionInfo}
 use Rattle.naga_info.specs.declared.info.ModuleInfo.{ModuleInfo}
-use Rattle.accepted_modules.proofs.Accepting.{accepted_parts}
+use Rattle.std.specs.Option.{option_map_or, is_some}
+use Rattle.naga_enumerations.specs.declared.expression.Literal.{Literal}
+use Rattle.naga_ir.specs.declared.expression.Expression as ir
+use Rattle.naga_ir.specs.declared.expression.Expression.TheVariants as expression
+use Rattle.accepted_modules.specs.Types.{literal_word}
+use Rattle.accepted_modules.proofs.Accepting.{accepted_parts, function_fits_word_at}
+use Rattle.naga_form.specs.Literals.{LiteralsAreWritten, literal_is_written}
 use Rattle.name_keys.specs.Keys.{NameMap}
 use Rattle.name_keys.specs.declared.key.NameKey.TheVariants as key
 use Rattle.shader_runs.specs.Program as shapes
@@ -32,7 +38,7 @@ use Rattle.naga_form.specs.Shapes.{function_shapes, program_shape, namings_from,
 use Rattle.naga_form.specs.Abstraction.{function_read, program_read, is_request}
 use Rattle.naga_form.specs.Faithful.{RunsAs}
 use Rattle.naga_form.proofs.Facts.{further, from_start}
-use Rattle.naga_form.proofs.Abstractions.{function_reads}
+use Rattle.naga_form.proofs.Abstractions.{locals_spelled, function_reads}
 use Rattle.naga_form.proofs.Fits.{function_fits_shape}
 use Rattle.naga_form.proofs.Named.{items_tell, function_item, function_there}
 use Rattle.indexmap.specs.IndexMap.{keys}
@@ -55,14 +61,28 @@ shapes_counted types [] (es ∷ ess) fits = absurd (cc)
 shapes_counted types (f ∷ fs) [] fits = absurd (cc)
 shapes_counted types (f ∷ fs) (es ∷ ess) fits = ap suc (shapes_counted types fs ess (and_right (function_fits types f es) (functions_fit types fs ess) fits))
 
+-- the literals of an accepted function are written
+fitting_literals : (types : List Type_) (f : ir_function.Function) (es : List ExpressionInfo) → function_fits types f es ≡ true → LiteralsAreWritten f.expressions
+fitting_literals types f es fits h = by (slice_get f.expressions h) refl
+  where
+    found : (v : Literal) (w : List ℕ) → literal_word v ≡ Some w → is_some (literal_word v) ≡ true
+    found v w e = ap is_some e
+
+    by : (o : Option ir.Expression) → slice_get f.expressions h ≡ o → option_map_or literal_is_written o true ≡ true
+    by (Some (expression.Literal v)) at = let w = function_fits_word_at types f es h (expression.Literal v) fits at in found v w.0 w.2
+    by (Some _) at = refl
+    by None at = refl
+
 functions_read : (explicit : Bool) (names : NameMap) (types : List Type_) → IsTrue (list_all is_scalar_type types) → (g : ℕ) (fs : List ir_function.Function) (ess : List (List ExpressionInfo)) → IsTrue (functions_fit types fs ess) → map function_read (functions_form explicit names types g fs ess) ≡ map form_function (namings_from names g (function_shapes types fs ess))
 functions_read explicit names types scalars g [] [] fits = refl
 functions_read explicit names types scalars g [] (es ∷ ess) fits = refl
 functions_read explicit names types scalars g (f ∷ fs) [] fits = refl
 functions_read explicit names types scalars g (f ∷ fs) (es ∷ ess) fits =
-    let first = function_reads explicit names types g f es scalars (and_left (function_fits types f es) (functions_fit types fs ess) fits) in
-    let rest = functions_read explicit names types scalars (g + 1) fs ess (and_right (function_fits types f es) (functions_fit types fs ess) fits) in
-    λ i. first i ∷ rest i
+    let fit = and_left (function_fits types f es) (functions_fit types fs ess) fits in
+    let here = fitting_literals types f es fit in
+    let spelled = locals_spelled types f es scalars fit in
+    let rest = and_right (function_fits types f es) (functions_fit types fs ess) fits in
+    λ i. function_reads explicit names types g f es here spelled i ∷ functions_read explicit names types scalars (g + 1) fs ess rest i
 
 -- what holds of all of a list that is turned round onto another holds of all of both
 behind_all : {X : Type 0} (test : X → Bool) (xs behind : List X) → IsTrue (list_all test (reverse_aux xs behind)) → IsTrue (list_all test behind)

@@ -31,7 +31,7 @@ use Rattle.wgsl_text.specs.Tree.{TypeSpecifier, Named}
 use Rattle.wgsl_text.specs.Words.{stands_in}
 use Rattle.wgsl_text.proofs.TypeWords.{scalar_word_is, pointer_to_is}
 use Rattle.wgsl_text.proofs.ValueWords.{value_words}
-use Rattle.naga_form.specs.Form.{told_type}
+use Rattle.naga_form.specs.Types.{told_type}
 use Rattle.naga_form.specs.Types.{type_form}
 use Rattle.naga_form.proofs.Facts.{expression_at}
 

@@ -1,7 +1,7 @@
 -- The syntax tree that is written for a module under its names, of those modules that are written so far, with a `let` for each emitted
 -- handle that is bound. Which handles are bound, and where their names are in scope, is what the runs say of a function's shape.
 use Rattle.std.specs.Prelude.{[], ℕ, ◌+◌, false, List, ◌∷◌, Option, Some, None, slice_get, zero, suc, ◌-◌, Bool, true, length}
-use Rattle.std.specs.Option.{option_map_or, option_map, option_and_then}
+use Rattle.std.specs.Option.{option_map_or, option_map}
 use Rattle.naga_ir.specs.StatementTree.{return, simple, BlockTree, no_statements, statement, emit, store, StatementTree}
 use Rattle.naga_ir.specs.declared.expression.Expression as ir
 use Rattle.naga_ir.specs.declared.expression.Expression.TheVariants as expression
@@ -14,8 +14,8 @@ use Rattle.name_keys.specs.Keys.{NameMap}
 use Rattle.wgsl_text.specs.Tree.{Truth, Expression, Constant, Name, Statement, Return, ReturnValue, Statements, NoStatements, Then, Parameter, Result, NoResult, ResultOf, Function, Program, no_declarations, TypeSpecifier, Binary, AddressOf, Dereference, Let, TypedLet, Assign, Block, Local}
 use Rattle.naga_form.specs.Names.{function_name, argument_name, module_names}
 use Rattle.type_spelling.specs.Contexts.{names_of}
-use Rattle.type_spelling.specs.Trees.{Names as TypeNames, resolution_tree}
-use Rattle.naga_form.specs.Types.{type_form}
+use Rattle.type_spelling.specs.Trees.{Names as TypeNames}
+use Rattle.naga_form.specs.Types.{type_form, told_type}
 use Rattle.naga_form.specs.Literals.{literal_form}
 use Rattle.naga_ir.specs.declared.module.LocalVariable.{LocalVariable}
 use Rattle.naga_info.specs.declared.info.ExpressionInfo.{ExpressionInfo}
@@ -109,11 +109,6 @@ abbrev pub locals_form : Naming → TypeNames → List ir.Expression → ℕ →
 locals_form n t es l [] = []
 locals_form n t es l (v ∷ more) =
     record { name = n.names.local_ l; type = type_form t v.ty; value = option_map (value_form n es (at_start n.function)) v.init } ∷ locals_form n t es (l + 1) more
-
--- the type that the `let` of a handle tells, if it is to tell one
-abbrev pub told_type : (explicit : Bool) → TypeNames → List ExpressionInfo → ℕ → Option TypeSpecifier
-told_type true t es h = option_and_then (λ e. resolution_tree t e.ty) (slice_get es h)
-told_type false t es h = None
 
 abbrev pub parameter_form : NameMap → List Type_ → ℕ → ℕ → FunctionArgument → Parameter
 parameter_form names types g number a = record { attributes = []; name = argument_name names g number; type = type_form (names_of types names) a.ty }

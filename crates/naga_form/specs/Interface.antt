@@ -16,11 +16,13 @@ pub record Passed : Type 0 where
   pub attributes : List Attribute
   pub type : TypeSpecifier
 
--- a function by its name, the types of its arguments and that of its result
+-- A function by its name, the types of its arguments and that of its result. The types of its locals, in their order,
+-- are told too, since no run looks at the type that a local is declared with.
 pub record FunctionInterface : Type 0 where
   pub name : List ℕ
   pub arguments : List Passed
   pub result : Option Passed
+  pub locals : List TypeSpecifier
 
 -- So far a module has nothing but functions in its interface, and what else a text declares is told as it stands.
 pub record Interface : Type 0 where
@@ -42,7 +44,12 @@ result_read (ResultOf attributes type) = Some (record { attributes = attributes;
 -- the interface of a function of a text
 abbrev pub function_interface_read : Function → FunctionInterface
 function_interface_read f =
-    record { name = f.name; arguments = map parameter_read f.parameters; result = result_read f.result }
+    record {
+      name = f.name;
+      arguments = map parameter_read f.parameters;
+      result = result_read f.result;
+      locals = map (λ l. l.type) f.locals;
+    }
 
 -- the interface of a text
 abbrev pub interface_read : Program → Interface
@@ -68,13 +75,18 @@ result_passed t (Some r) = Some (passed t r.ty)
 abbrev pub function_interface : NameMap → List Type_ → ℕ → ir_function.Function → FunctionInterface
 function_interface names types g f =
     let t : TypeNames = names_of types names in
-    record { name = function_name names g; arguments = map (λ a. passed t a.ty) f.arguments.items; result = result_passed t f.result }
+    record {
+      name = function_name names g;
+      arguments = map (λ a. passed t a.ty) f.arguments.items;
+      result = result_passed t f.result;
+      locals = map (λ l. type_form t l.ty) f.local_variables;
+    }
 
 abbrev pub function_interfaces : NameMap → List Type_ → ℕ → List ir_function.Function → List FunctionInterface
 function_interfaces names types g [] = []
 function_interfaces names types g (f ∷ more) = function_interface names types g f ∷ function_interfaces names types (g + 1) more
 
--- the interface of a module: its functions under their names, with the types of their arguments and results
+-- the interface of a module: its functions under their names, with the types of their arguments, results and locals
 abbrev pub module_interface : NameMap → ir_module.Module → Interface
 module_interface names m =
     record {

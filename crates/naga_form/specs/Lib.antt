@@ -1,7 +1,9 @@
 pub mod Names
+pub mod TypeIdentity
 pub mod Types
 pub mod Literals
 pub mod Operators
+pub mod OperatorTable
 pub mod Form
 pub mod Premises
 pub mod Shapes

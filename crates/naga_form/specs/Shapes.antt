@@ -12,7 +12,7 @@ use Rattle.naga_ir.specs.declared.module.Module as ir_module
 use Rattle.naga_ir.specs.declared.types.Type_.{Type_}
 use Rattle.naga_info.specs.declared.info.ExpressionInfo.{ExpressionInfo}
 use Rattle.naga_info.specs.declared.info.ModuleInfo.{ModuleInfo}
-use Rattle.accepted_modules.specs.Types.{word_at, spelling_of}
+use Rattle.accepted_modules.specs.Types.{word_at}
 use Rattle.name_keys.specs.Keys.{NameMap}
 use Rattle.shader_runs.specs.Value.{PartTypes, ShortCircuitAnd, ShortCircuitOr}
 use Rattle.shader_runs.specs.Program.{Fixed, Expression, Constant, Argument, Local, Load, Operator, Logical, Result, Statement, Emit, Store, Return, Block, Statements, end, then, Function, Module, operands_of}
@@ -23,7 +23,7 @@ use Rattle.wgsl_text.specs.Text.{text}
 use Rattle.wgsl_text.specs.Tree.{BinaryOperator, LogicalAnd, LogicalOr}
 use Rattle.naga_form.specs.Names.{function_name, argument_name, local_name, numbered_name}
 use Rattle.naga_form.specs.Operators.{operator_form}
-use Rattle.naga_form.specs.Types.{value_type, pointer_to_local}
+use Rattle.naga_form.specs.Types.{value_type, pointer_to_local, declared_type}
 use Rattle.naga_form.specs.Literals.{literal_value}
 use Rattle.naga_form.specs.Abstraction.{is_request}
 
@@ -62,12 +62,12 @@ given_from named h (e ∷ es) = list_any (nat_eq h) named ∷ given_from named (
 abbrev pub function_shape : List Type_ → ir_function.Function → List ExpressionInfo → Function
 function_shape types f es =
     record {
-      argument_types = map (λ a. value_type (word_at types a.ty)) f.arguments.items;
-      result = option_map (λ r. value_type (word_at types r.ty)) f.result;
+      argument_types = map (λ a. declared_type types a.ty) f.arguments.items;
+      result = option_map (λ r. declared_type types r.ty) f.result;
       first_values = map (λ l. l.init) f.local_variables;
       local_pointers = map (λ l. pointer_to_local (word_at types l.ty)) f.local_variables;
       expressions = map expression_shape f.expressions;
-      types = map (λ e. value_type (spelling_of types e.ty)) es;
+      types = map (λ e. value_type types e.ty) es;
       counts = map (λ e. e.ref_count) es;
       given_names = given_from (keys f.named_expressions) 0 f.expressions;
       body = statements_shape f.body;

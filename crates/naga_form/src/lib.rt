@@ -1,7 +1,7 @@
 //! What is written for a module, and why it does what the module does. The public functions are laws.
 #![tactic(auto)]
 
-ghost use Rattle.std.specs.Prelude.{◌≡◌, ℕ, List, IsTrue, Bool, length};
+ghost use Rattle.std.specs.Prelude.{◌≡◌, ℕ, List, Some, None, IsTrue, Bool, length};
 ghost use Rattle.naga_ir.specs.declared.module.Function.{Function};
 ghost use Rattle.naga_ir.specs.declared.module.Module.{Module};
 ghost use Rattle.naga_ir.specs.declared.types.Type_.{Type_};
@@ -10,13 +10,18 @@ ghost use Rattle.name_keys.specs.Keys.{NameMap};
 ghost use Rattle.shader_runs.specs.Form.{form_function, form_module};
 ghost use Rattle.naga_form.specs.Abstraction.{function_read, program_read};
 ghost use Rattle.naga_form.specs.Resolution.{ResolvesAs};
+ghost use Rattle.naga_form.specs.Literals.{LiteralsAreWritten, literal_value};
+ghost use Rattle.naga_enumerations.specs.declared.expression.Literal.{Literal};
+ghost use Rattle.naga_form.specs.Types.{value_type, LocalsAreSpelled};
+ghost use Rattle.naga_form.specs.TypeIdentity.{identity};
+ghost use Rattle.accepted_modules.specs.Types.{spelling_of};
+ghost use Rattle.naga_info.specs.declared.info.TypeResolution.{TypeResolution};
+ghost use Rattle.naga_form.specs.OperatorTable.{Operator, TypeIsSound, is_told, one_word, operand_count, operator_word};
 ghost use Rattle.naga_form.specs.Bindings.{BindsAs};
 ghost use Rattle.naga_form.specs.Form.{function_form, written_program};
 ghost use Rattle.naga_form.specs.Premises.{nothing_named, scope_holds, handles_are_counted};
 ghost use Rattle.naga_form.specs.Shapes.{function_naming, program_shape, outer_names, namings};
-ghost use Rattle.std.specs.Prelude.{true};
-ghost use Rattle.std.specs.List.{list_all};
-ghost use Rattle.accepted_modules.specs.Accepted.{is_accepted, is_scalar_type, function_fits};
+ghost use Rattle.accepted_modules.specs.Accepted.{is_accepted};
 ghost use Rattle.accepted_modules.specs.Part.{is_written_so_far};
 ghost use Rattle.naga_info.specs.declared.info.ModuleInfo.{ModuleInfo};
 ghost use Rattle.naga_form.specs.Names.{NamesAreCounted, module_names};
@@ -38,17 +43,19 @@ pub fn resolves_as_meant()
     ensures { (m : Module) (info : ModuleInfo) (explicit : Bool) → IsTrue (is_accepted m info) → IsTrue (is_written_so_far m) → NamesAreCounted m → ResolvesAs m info (written_program m info explicit) }
 {}
 
-/// Its `let`s are those of the emitted handles that are bound, each under its handle's name.
+/// Its `let`s are those of the emitted handles that are bound, each under its handle's name, and each tells its handle's type
+/// where types are to be told.
 pub fn binds_as_counted()
-    ensures { (m : Module) (info : ModuleInfo) (explicit : Bool) → IsTrue (is_accepted m info) → IsTrue (nothing_named m) → BindsAs m info (written_program m info explicit) }
+    ensures { (m : Module) (info : ModuleInfo) (explicit : Bool) → IsTrue (is_accepted m info) → IsTrue (nothing_named m) → BindsAs m info explicit (written_program m info explicit) }
 {}
 
-/// What is written of a function that fits is read as its shape is written.
+/// What is written of a function whose literals are all written so far, and the types of whose locals are all spelled, is read as
+/// its shape is written, whatever is known of it.
 pub fn functions_are_read()
-    ensures { (explicit : Bool) (names : NameMap) (types : List Type_) (g : ℕ) (f : Function) (es : List ExpressionInfo) → IsTrue (list_all is_scalar_type types) → function_fits types f es ≡ true → function_read (function_form explicit names types g f es) ≡ form_function (function_naming names types g f es) }
+    ensures { (explicit : Bool) (names : NameMap) (types : List Type_) (g : ℕ) (f : Function) (es : List ExpressionInfo) → LiteralsAreWritten f.expressions → LocalsAreSpelled types f.local_variables → function_read (function_form explicit names types g f es) ≡ form_function (function_naming names types g f es) }
 {}
 
-/// What the program of an accepted module does is what the program of shapes says that is written for the module.
+/// What the program does is what the program of shapes says that is written for the accepted module.
 pub fn is_read_as_its_shapes()
     ensures { (m : Module) (info : ModuleInfo) (explicit : Bool) → IsTrue (is_accepted m info) → program_read (written_program m info explicit) ≡ form_module (program_shape m info) (outer_names (module_names m)) (namings (module_names m) m info) }
 {}
@@ -56,4 +63,24 @@ pub fn is_read_as_its_shapes()
 /// It does what the module does, where the module's handles are in scope where they are used.
 pub fn runs_as_the_module()
     ensures { (m : Module) (info : ModuleInfo) (explicit : Bool) → IsTrue (is_accepted m info) → IsTrue (nothing_named m) → IsTrue (scope_holds m info) → NamesAreCounted m → RunsAs m info (written_program m info explicit) }
+{}
+
+/// Two types that no text spells so far have values of one type only where they are told by the same, a struct by its handle and
+/// any other type by what it is, and never of a type that is spelled.
+pub fn tells_types_apart()
+    ensures unspelled { (types : List Type_) (a b : TypeResolution) → spelling_of types a ≡ None → spelling_of types b ≡ None → value_type types a ≡ value_type types b → identity types a ≡ identity types b }
+    ensures spelled { (types : List Type_) (a b : TypeResolution) (word : List ℕ) → spelling_of types a ≡ Some word → spelling_of types b ≡ None → value_type types a ≡ value_type types b → ⊥ }
+{}
+
+/// Different literals have different values.
+pub fn tells_literals_apart()
+    ensures { (a b : Literal) → literal_value a ≡ literal_value b → a ≡ b }
+{}
+
+/// Operators share a word only where `one_word` sends them to one, and these do share it. But for samplings, gathers, loads of
+/// texels and conversions, the number of operands tells those apart that share a word.
+pub fn tells_operators_apart()
+    ensures words { (a b : Operator) (word : List ℕ) → TypeIsSound a → TypeIsSound b → operator_word a ≡ Some word → operator_word b ≡ Some word → one_word a ≡ one_word b }
+    ensures kept { (a : Operator) → operator_word (one_word a) ≡ operator_word a }
+    ensures counts { (a b : Operator) → IsTrue (is_told a) → IsTrue (is_told b) → one_word a ≡ one_word b → operand_count a ≡ operand_count b → a ≡ b }
 {}

@@ -22,8 +22,7 @@ use Rattle.shader_runs.specs.Scope.{bound_name, given_after, given_by}
 use Rattle.naga_form.specs.Names.{module_names, name_in, numbered_name}
 use Rattle.naga_form.specs.Shapes.{statement_shape, OperandsStandBefore}
 use Rattle.naga_form.proofs.Fits.{not_given, given_line, ordered_at}
-use Rattle.naga_form.specs.Form.{told_type}
-use Rattle.naga_form.specs.Types.{type_names}
+use Rattle.naga_form.specs.Types.{told_type, type_names}
 use Rattle.naga_form.proofs.WrittenTypes.{known_spelled, resolution_has_form}
 use Rattle.type_spelling.specs.Trees.{resolution_tree}
 use Rattle.wgsl_text.specs.Reading.{type_layout}

@@ -1,8 +1,8 @@
 //! Blocks and statements.
 
 ghost use Rattle.std.specs.Prelude.{◌≡◌, ◌<◌, ◌++◌, ◌-◌, ◌≤◌, IsTrue, OnOk, length};
-ghost use Rattle.naga_form.specs.Types.{type_names};
-ghost use Rattle.naga_form.specs.Form.{let_form, lets_form, lines_form, line_form, return_line, as_reference, as_value, own_if, plain_form, value_form, told_type};
+ghost use Rattle.naga_form.specs.Types.{told_type, type_names};
+ghost use Rattle.naga_form.specs.Form.{let_form, lets_form, lines_form, line_form, return_line, as_reference, as_value, own_if, plain_form, value_form};
 ghost use Rattle.naga_form.specs.Names.{numbered_name};
 ghost use Rattle.accepted_modules.specs.Accepted.{block_fits, is_below, statement_fits};
 ghost use Rattle.accepted_modules.specs.Part.{block_is_written};

@@ -2,8 +2,7 @@
 
 ghost use Rattle.std.specs.Prelude.{◌≡◌, ◌<◌, IsTrue, length};
 ghost use Rattle.std.specs.Option.{is_some};
-ghost use Rattle.naga_form.specs.Form.{told_type};
-ghost use Rattle.naga_form.specs.Types.{type_names};
+ghost use Rattle.naga_form.specs.Types.{told_type, type_names};
 ghost use Rattle.accepted_modules.specs.Types.{spelling_of};
 ghost use Rattle.name_keys.specs.Keys.{names_in};
 ghost use Rattle.wgsl_pieces.specs.Appends.{Appends};

@@ -102,7 +102,7 @@ module _ (m : Module) (info : ModuleInfo) (flags : WriterFlags) (accepted : IsTr
   pub record Concludes (r : Result Unit Error) (held now : List ℕ) (before after : ℕ) : Type 0 where
     pub is_faithful : FaithfulWriting m info r held now before after
     pub resolved : OnOk r (EachReading held now (ResolvesAs m info))
-    pub binds : OnOk r (EachReading held now (BindsAs m info))
+    pub binds : OnOk r (EachReading held now (BindsAs m info (tells_types flags)))
     pub text_ok : OnOk r (now ≡ held ++ written_text m info flags)
     pub text_err : OnErr r (IsBehind held (written_text m info flags) now)
 
@@ -110,5 +110,5 @@ module _ (m : Module) (info : ModuleInfo) (flags : WriterFlags) (accepted : IsTr
   concludes r held now before after a = by r (appends_as r held before (lines_of m info flags (enumerate_from 0 m.functions)) (written_text m info flags) now after (written_lines m info flags accepted) a)
     where
       by : (r : Result Unit Error) → Appends r held before (written_text m info flags) now after → Concludes r held now before after
-      by (Ok _) w = record { is_faithful = faithful held now before after w.appended; resolved = each held now w.appended (ResolvesAs m info) (resolves m info (tells_types flags) accepted written has.counted); binds = each held now w.appended (BindsAs m info) (binds_as m info (tells_types flags) accepted (unnamed m written)); text_ok = w.appended; text_err = tt }
+      by (Ok _) w = record { is_faithful = faithful held now before after w.appended; resolved = each held now w.appended (ResolvesAs m info) (resolves m info (tells_types flags) accepted written has.counted); binds = each held now w.appended (BindsAs m info (tells_types flags)) (binds_as m info (tells_types flags) accepted (unnamed m written)); text_ok = w.appended; text_err = tt }
       by (Err e) s = record { is_faithful = refused m info e held now before after (for_want m info e before after s.reason); resolved = tt; binds = tt; text_ok = tt; text_err = s.behind }

@@ -11,7 +11,7 @@ ghost use Rattle.naga_form.specs.Names.{HasNamesOf, wgsl_names};
 ghost use Rattle.naga_form.specs.Resolution.{ResolvesAs};
 ghost use Rattle.naga_form.specs.Bindings.{BindsAs};
 ghost use Rattle.wgsl_pieces.specs.Appends.{Appends};
-ghost use Rattle.naga_wgsl_fns.specs.Texts.{text_of_function};
+ghost use Rattle.naga_wgsl_fns.specs.Texts.{tells_types, text_of_function};
 ghost use Rattle.naga_wgsl_out.specs.Headline.{EachReading, FaithfulWriting, answer_of, text_of};
 ghost use Rattle.naga_wgsl_out.specs.Refusals.{HasAllNames, IsErrorOfNames, IsNamesRefusal, TellsOfModule};
 ghost use Rattle.naga_wgsl_out.specs.Writing.{Writing, lines_of, written_text};
@@ -73,7 +73,7 @@ impl<W: TextSink> Writer<W> {
     /// The text depends on the module, on what is known of it and on the flags alone, whatever was written
     /// or refused before. Where the call gives up for want of memory or because the sink failed, a
     /// beginning of its text stands behind what the sink held; any other refusal leaves the sink as it
-    /// was. The next call starts afresh.
+    /// was, with its text and its count of failures. The next call starts afresh.
     ///
     /// An expression that is used where it is out of scope, and an `Emit` that is not allowed where it
     /// stands, are refused as `Custom`, `operand out of scope`. So far a module is refused as
@@ -89,12 +89,13 @@ impl<W: TextSink> Writer<W> {
         ensures faithful { FaithfulWriting «module».now info.now result (W.text self.old.sink) (W.text self.new.sink) (W.failures self.old.sink) (W.failures self.new.sink) }
         // Each identifier of the text stands for the item that it was written for.
         ensures resolution { OnOk result (EachReading (W.text self.old.sink) (W.text self.new.sink) (ResolvesAs «module».now info.now)) }
-        // Its `let`s are those of the emitted expressions that are to be bound.
-        ensures bindings { OnOk result (EachReading (W.text self.old.sink) (W.text self.new.sink) (BindsAs «module».now info.now)) }
+        // Its `let`s are those of the emitted expressions that are to be bound, and tell the types of these if the flags ask for it.
+        ensures bindings { OnOk result (EachReading (W.text self.old.sink) (W.text self.new.sink) (BindsAs «module».now info.now (tells_types self.old.flags))) }
         ensures text_ok { OnOk result (W.text self.new.sink ≡ W.text self.old.sink ++ written_text «module».now info.now self.old.flags) }
         ensures text_err { OnErr result (IsBehind (W.text self.old.sink) (written_text «module».now info.now self.old.flags) (W.text self.new.sink)) }
         ensures failures_ok { OnOk result (W.failures self.new.sink ≡ W.failures self.old.sink) }
         ensures untouched { IfErr result (λ e. TellsOfModule e → W.text self.new.sink ≡ W.text self.old.sink) }
+        ensures unfailed { IfErr result (λ e. TellsOfModule e → W.failures self.new.sink ≡ W.failures self.old.sink) }
         ensures flags { self.new.flags ≡ self.old.flags }
     {
         if !is_written_so_far(module) {
@@ -219,7 +220,7 @@ pub fn write_string(
     requires accepted { IsTrue (is_accepted «module».now info.now) }
     ensures faithful { FaithfulWriting «module».now info.now (answer_of result) [] (text_of result) 0 0 }
     ensures resolution { OnOk (answer_of result) (EachReading [] (text_of result) (ResolvesAs «module».now info.now)) }
-    ensures bindings { OnOk (answer_of result) (EachReading [] (text_of result) (BindsAs «module».now info.now)) }
+    ensures bindings { OnOk (answer_of result) (EachReading [] (text_of result) (BindsAs «module».now info.now (tells_types flags))) }
     ensures text { IfOk result (λ text. string_bytes text ≡ written_text «module».now info.now flags) }
 {
     let mut writer = Writer::new(alloc, String::new(alloc), flags);

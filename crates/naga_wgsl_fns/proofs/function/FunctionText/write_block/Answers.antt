@@ -1,6 +1,6 @@
 use Rattle.std.proofs.Common.{◌≤◌, ◌+◌, ◌-◌, List, IsTrue, drop, length, refl, sym, ap, subst, ◌∙◌}
 use Rattle.std.proofs.lemmas.List.{drop_all}
-use Rattle.naga_form.specs.Form.{told_type}
+use Rattle.naga_form.specs.Types.{told_type, type_names}
 use Rattle.accepted_modules.specs.Accepted.{block_fits}
 use Rattle.naga_ir.specs.StatementTree.{BlockTree, simple, emit, store, return}
 use Rattle.naga_ir.specs.StatementViews.{tree_of, block_of}
@@ -10,7 +10,6 @@ use Rattle.naga_scope.specs.Standings.{handles_of}
 use Rattle.naga_scope.specs.declared.points.Standing.{Standing}
 use Rattle.shader_runs.specs.Program.{from}
 use Rattle.shader_runs.specs.Scope.{after_emit}
-use Rattle.naga_form.specs.Types.{type_names}
 use Rattle.naga_wgsl_fns.specs.Texts.{naming_of, tells_types}
 use Rattle.wgsl_pieces.proofs.Appending.{IsAlong, along_start, along_more, along_stopped, along_done, appends_stopped}
 use Rattle.naga_wgsl_fns.proofs.Blocks.{lines_left, emit_lines, store_lines, return_lines, statement_at, fits_parts, no_other_statement}

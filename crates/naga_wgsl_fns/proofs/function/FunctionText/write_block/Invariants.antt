@@ -1,9 +1,8 @@
 use Rattle.std.proofs.Common.{◌≡◌, drop, length, IsTrue}
-use Rattle.naga_form.specs.Form.{told_type}
+use Rattle.naga_form.specs.Types.{told_type, type_names}
 use Rattle.accepted_modules.specs.Accepted.{block_fits}
 use Rattle.naga_ir.specs.StatementViews.{block_of}
 use Rattle.naga_scope.specs.Standings.{handles_of}
-use Rattle.naga_form.specs.Types.{type_names}
 use Rattle.naga_wgsl_fns.specs.Texts.{naming_of, tells_types}
 use Rattle.wgsl_pieces.proofs.Appending.{IsAlong}
 use Rattle.naga_wgsl_fns.proofs.Blocks.{lines_left}

@@ -1,11 +1,11 @@
 use Rattle.std.proofs.Common.{ap}
-use Rattle.naga_form.specs.Form.{lines_form, told_type}
+use Rattle.naga_form.specs.Form.{lines_form}
 use Rattle.naga_form.specs.Names.{module_names}
 use Rattle.name_keys.specs.Keys.{names_in}
 use Rattle.shader_runs.specs.Scope.{Handles}
 use Rattle.wgsl_text.specs.Lines.{statements_pieces}
 use Rattle.wgsl_text.specs.Text.{text}
-use Rattle.naga_form.specs.Types.{type_names}
+use Rattle.naga_form.specs.Types.{told_type, type_names}
 use Rattle.naga_wgsl_fns.specs.Texts.{naming_of, tells_types}
 use Rattle.wgsl_pieces.proofs.Appending.{appends_as, appends_stopped, appends_then, stopped_as, stopped_first, stopped_for_memory, stopped_then, wrote_as}
 use Rattle.naga_wgsl_fns.proofs.Rows.{function_row}

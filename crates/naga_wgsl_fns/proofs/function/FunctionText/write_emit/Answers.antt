@@ -1,10 +1,9 @@
 use Rattle.std.proofs.Common.{◌≡◌, ℕ, List, ◌≤◌, refl, sym, ap, ◌∙◌}
-use Rattle.naga_form.specs.Form.{told_type}
+use Rattle.naga_form.specs.Types.{told_type, type_names}
 use Rattle.naga_form.specs.Names.{module_names}
 use Rattle.name_keys.specs.Keys.{names_in}
 use Rattle.naga_scope.specs.Standings.{handles_of}
 use Rattle.shader_runs.specs.Scope.{after_emit, after_one}
-use Rattle.naga_form.specs.Types.{type_names}
 use Rattle.naga_scope.proofs.Emitting.{range_none}
 use Rattle.naga_wgsl_fns.specs.Texts.{naming_of, tells_types}
 use Rattle.wgsl_pieces.proofs.Appending.{along_start, along_more, along_stopped, along_done, appends_stopped}

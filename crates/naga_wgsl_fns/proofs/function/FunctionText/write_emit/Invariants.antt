@@ -1,9 +1,8 @@
 use Rattle.std.proofs.Common.{◌≡◌, ◌-◌, length}
-use Rattle.naga_form.specs.Form.{told_type}
+use Rattle.naga_form.specs.Types.{told_type, type_names}
 use Rattle.naga_scope.specs.Standings.{handles_of}
 use Rattle.shader_runs.specs.Program.{from}
 use Rattle.shader_runs.specs.Scope.{after_emit}
-use Rattle.naga_form.specs.Types.{type_names}
 use Rattle.naga_wgsl_fns.specs.Texts.{naming_of, tells_types}
 use Rattle.wgsl_pieces.proofs.Appending.{IsAlong}
 use Rattle.naga_wgsl_fns.proofs.Blocks.{lets_left}

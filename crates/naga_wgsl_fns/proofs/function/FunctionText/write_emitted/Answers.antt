@@ -1,10 +1,9 @@
 use Rattle.std.proofs.Common.{Bool, [], sym, ap, ◌∙◌}
 use Rattle.std.specs.Prelude.{cond}
-use Rattle.naga_form.specs.Form.{told_type}
+use Rattle.naga_form.specs.Types.{told_type, type_names}
 use Rattle.naga_scope.specs.Standings.{handles_of}
 use Rattle.wgsl_text.specs.Lines.{statement_pieces}
 use Rattle.wgsl_text.specs.Text.{text}
-use Rattle.naga_form.specs.Types.{type_names}
 use Rattle.naga_wgsl_fns.specs.Texts.{let_line, naming_of, tells_types}
 use Rattle.wgsl_pieces.proofs.Appending.{appends_as, wrote_as, wrote_nothing}
 use Rattle.naga_wgsl_fns.proofs.function.FunctionText.write_emitted.Goals as goal

@@ -1,12 +1,12 @@
 use Rattle.std.proofs.Common.{ℕ, List, ap, ◌∙◌}
 use Rattle.std.specs.Prelude.{slice_get}
-use Rattle.naga_form.specs.Form.{as_value, let_form, own_if, plain_form, told_type}
+use Rattle.naga_form.specs.Form.{as_value, let_form, own_if, plain_form}
 use Rattle.naga_form.specs.Names.{numbered_name}
 use Rattle.name_keys.specs.Keys.{names_in}
 use Rattle.naga_scope.specs.Standings.{handles_of}
 use Rattle.wgsl_text.specs.Lines.{statement_pieces}
 use Rattle.wgsl_text.specs.Text.{text}
-use Rattle.naga_form.specs.Types.{type_names}
+use Rattle.naga_form.specs.Types.{told_type, type_names}
 use Rattle.naga_wgsl_fns.specs.Texts.{naming_of, tells_types}
 use Rattle.wgsl_pieces.proofs.Appending.{appends_as, appends_stopped, appends_then, stopped_first, stopped_then}
 use Rattle.naga_wgsl_fns.proofs.Wanted.{bound_is}

@@ -5,6 +5,7 @@ use Rattle.spelling_parts.specs.Sink.{IsBehind}
 use Rattle.naga_wgsl_out.specs.Headline.{EachReading, FaithfulWriting}
 use Rattle.naga_form.specs.Resolution.{ResolvesAs}
 use Rattle.naga_form.specs.Bindings.{BindsAs}
+use Rattle.naga_wgsl_fns.specs.Texts.{tells_types}
 use Rattle.naga_wgsl_out.specs.Writing.{written_text}
 use Rattle.naga_wgsl_out.proofs.Faithful.{concludes, unnamed}
 use Rattle.naga_wgsl_out.proofs.writer.Writer.write.Goals as goal
@@ -31,7 +32,7 @@ returns-clause-bindings g c =
     let is : is_written_so_far m ≡ true = sym c.is_written_so_far.ensures ∙ c.if-not-is_written_so_far.false in
     let holds = sym c.in_ok-scope_holds.ensures.scope ∙ c.if-not-branch.false in
     let end = concludes m c.args.info.now c.self.inside.flags c.requires.accepted is holds c.in_ok-scope_holds.ensures.counted _ c.in_ok-names.ensures.ok c.write_functions.result _ (g.W.TextSink.text c.write_functions.new.out) _ (g.W.TextSink.failures c.write_functions.new.out) c.write_functions.ensures in
-    subst (λ w. OnOk c.write_functions.result (EachReading (g.W.TextSink.text w.sink) (g.W.TextSink.text c.write_functions.new.out) (BindsAs m c.args.info.now))) c.self.view_is end.binds
+    subst (λ w. OnOk c.write_functions.result (EachReading (g.W.TextSink.text w.sink) (g.W.TextSink.text c.write_functions.new.out) (BindsAs m c.args.info.now (tells_types w.flags)))) c.self.view_is end.binds
 
 pub returns-clause-text_ok : goal.returns-clause-text_ok
 returns-clause-text_ok g c =

@@ -1,0 +1,287 @@
+-- Each word of the table of operators stands for one of them, but for those that share it.
+use Rattle.std.proofs.Common.{[], ◌≡◌, ℕ, Bool, true, false, List, ◌∷◌, Option, Some, None, refl, sym, ap, ◌∙◌, ◌==◌, map}
+use Rattle.std.specs.Prelude.{if◌then◌else◌}
+use Rattle.std.specs.Str.{bytes_eq}
+use Rattle.std.proofs.lemmas.Bool.{false≢true}
+use Rattle.naga_info.proofs.Options.{same_some}
+use Rattle.std.specs.Option.{option_map, option_map_or, option_and_then, option_or}
+use Rattle.naga_enumerations.specs.declared.expression.SwizzleComponent.{SwizzleComponent}
+use Rattle.naga_enumerations.specs.declared.expression.SwizzleComponent.TheVariants as component
+use Rattle.naga_enumerations.specs.declared.types.VectorSize.{VectorSize}
+use Rattle.naga_enumerations.specs.declared.types.VectorSize.TheVariants as vector
+use Rattle.naga_operators.specs.declared.BinaryOperator.{BinaryOperator}
+use Rattle.naga_operators.specs.declared.BinaryOperator.TheVariants as binary
+use Rattle.naga_operators.specs.declared.UnaryOperator.{UnaryOperator}
+use Rattle.naga_operators.specs.declared.UnaryOperator.TheVariants as unary
+use Rattle.naga_operators.specs.declared.MathFunction.{MathFunction}
+use Rattle.naga_operators.specs.declared.MathFunction.TheVariants as math
+use Rattle.naga_operators.specs.declared.RelationalFunction.{RelationalFunction}
+use Rattle.naga_operators.specs.declared.RelationalFunction.TheVariants as relational
+use Rattle.naga_operators.specs.declared.DerivativeAxis.{DerivativeAxis}
+use Rattle.naga_operators.specs.declared.DerivativeAxis.TheVariants as axis
+use Rattle.naga_operators.specs.declared.DerivativeControl.{DerivativeControl}
+use Rattle.naga_operators.specs.declared.DerivativeControl.TheVariants as control
+use Rattle.naga_operators.specs.declared.SubgroupOperation.{SubgroupOperation}
+use Rattle.naga_operators.specs.declared.SubgroupOperation.TheVariants as subgroup
+use Rattle.naga_operators.specs.declared.CollectiveOperation.{CollectiveOperation}
+use Rattle.naga_operators.specs.declared.CollectiveOperation.TheVariants as collective
+use Rattle.naga_operators.specs.declared.Direction.TheVariants as direction
+use Rattle.naga_form.specs.OperatorTable.{Operator, BinarySign, UnarySign, Choice, Mathematical, Relation, Derivative, ArrayLength, Sample, Gather, Texel, TexelStore, TexelChange, ImageSize, CountOf, AtomicLoad, AtomicStore, AtomicChange, UniformLoad, Ballot, Collective, FromSubgroup, Barrier, CooperativeLoad, CooperativeStore, CooperativeMultiplyAdd, TraceRay, Construct, Splat, Convert, Reinterpret, Level, Automatic, Zero, ZeroClamped, Exact, Biased, Graded, OnlyTexel, ImageCount, Levels, Layers, Samples, Change, AddTo, SubtractFrom, AndWith, OrWith, XorWith, MinimumOf, MaximumOf, Exchange, CompareExchange, Source, First, Indexed, Shuffled, ShuffledDown, ShuffledUp, ShuffledXor, QuadIndexed, QuadSwapped, Kept, StorageKept, WorkgroupKept, SubgroupKept, TextureKept, operator_word, operand_count, one_word, is_told, is_untyped}
+
+-- the operators of different words that take no type
+abbrev pub mathematical : List Operator
+mathematical = map Mathematical (
+    math.Abs ∷ math.Min ∷ math.Max ∷ math.Clamp ∷ math.Saturate ∷ math.Cos ∷ math.Sin ∷ math.Tan ∷ math.Acos ∷
+    math.Asin ∷ math.Atan ∷ math.Cosh ∷ math.Sinh ∷ math.Tanh ∷ math.Acosh ∷ math.Asinh ∷ math.Atanh ∷
+    math.Atan2 ∷ math.Radians ∷ math.Degrees ∷ math.Ceil ∷ math.Floor ∷ math.Round ∷ math.Fract ∷ math.Trunc ∷
+    math.Modf ∷ math.Frexp ∷ math.Ldexp ∷ math.Exp ∷ math.Exp2 ∷ math.Log ∷ math.Log2 ∷ math.Pow ∷ math.Dot ∷
+    math.Dot4I8Packed ∷ math.Dot4U8Packed ∷ math.Cross ∷ math.Distance ∷ math.Length ∷ math.Normalize ∷
+    math.FaceForward ∷ math.Reflect ∷ math.Refract ∷ math.Sign ∷ math.Fma ∷ math.Mix ∷ math.Step ∷
+    math.SmoothStep ∷ math.Sqrt ∷ math.InverseSqrt ∷ math.Transpose ∷ math.Determinant ∷ math.QuantizeToF16 ∷
+    math.CountTrailingZeros ∷ math.CountLeadingZeros ∷ math.CountOneBits ∷ math.ReverseBits ∷
+    math.ExtractBits ∷ math.InsertBits ∷ math.FirstTrailingBit ∷ math.FirstLeadingBit ∷ math.Pack4x8snorm ∷
+    math.Pack4x8unorm ∷ math.Pack2x16snorm ∷ math.Pack2x16unorm ∷ math.Unpack4x8snorm ∷ math.Unpack4x8unorm ∷
+    math.Unpack2x16snorm ∷ math.Unpack2x16unorm ∷ math.Pack2x16float ∷ math.Unpack2x16float ∷ math.Pack4xI8 ∷
+    math.Pack4xU8 ∷ math.Unpack4xI8 ∷ math.Unpack4xU8 ∷ math.Pack4xI8Clamp ∷ math.Pack4xU8Clamp ∷
+    [])
+
+abbrev pub others : List Operator
+others =
+    BinarySign binary.Add ∷ BinarySign binary.Subtract ∷ BinarySign binary.Multiply ∷
+    BinarySign binary.Divide ∷ BinarySign binary.Modulo ∷ BinarySign binary.Equal ∷
+    BinarySign binary.NotEqual ∷ BinarySign binary.Less ∷ BinarySign binary.LessEqual ∷
+    BinarySign binary.Greater ∷ BinarySign binary.GreaterEqual ∷ BinarySign binary.And ∷
+    BinarySign binary.ExclusiveOr ∷ BinarySign binary.InclusiveOr ∷ BinarySign binary.LogicalAnd ∷
+    BinarySign binary.LogicalOr ∷ BinarySign binary.ShiftLeft ∷ BinarySign binary.ShiftRight ∷
+    UnarySign unary.LogicalNot ∷ UnarySign unary.BitwiseNot ∷ Choice ∷ Relation relational.All ∷
+    Relation relational.Any ∷ Derivative axis.X control.Coarse ∷ Derivative axis.X control.Fine ∷
+    Derivative axis.X control.None ∷ Derivative axis.Y control.Coarse ∷ Derivative axis.Y control.Fine ∷
+    Derivative axis.Y control.None ∷ Derivative axis.Width control.Coarse ∷
+    Derivative axis.Width control.Fine ∷ Derivative axis.Width control.None ∷ ArrayLength ∷
+    Sample Automatic false false false ∷ Sample Automatic true false false ∷
+    Sample ZeroClamped false false false ∷ Sample Exact false false false ∷ Sample Exact true false false ∷
+    Sample Biased false false false ∷ Sample Biased true false false ∷ Sample Graded false false false ∷
+    Sample Graded true false false ∷ Gather None false false false false ∷ Gather None true false false false ∷
+    Gather (Some component.X) false false false false ∷ Gather (Some component.X) true false false false ∷
+    Gather (Some component.Y) false false false false ∷ Gather (Some component.Y) true false false false ∷
+    Gather (Some component.Z) false false false false ∷ Gather (Some component.Z) true false false false ∷
+    Gather (Some component.W) false false false false ∷ Gather (Some component.W) true false false false ∷
+    Texel false OnlyTexel ∷ TexelStore false ∷ TexelChange AddTo false ∷ TexelChange SubtractFrom false ∷
+    TexelChange AndWith false ∷ TexelChange OrWith false ∷ TexelChange XorWith false ∷
+    TexelChange MinimumOf false ∷ TexelChange MaximumOf false ∷ TexelChange Exchange false ∷ ImageSize false ∷
+    CountOf Levels ∷ CountOf Layers ∷ CountOf Samples ∷ AtomicLoad ∷ AtomicStore ∷ AtomicChange AddTo ∷
+    AtomicChange SubtractFrom ∷ AtomicChange AndWith ∷ AtomicChange OrWith ∷ AtomicChange XorWith ∷
+    AtomicChange MinimumOf ∷ AtomicChange MaximumOf ∷ AtomicChange Exchange ∷ AtomicChange CompareExchange ∷
+    UniformLoad ∷ Ballot false ∷ Collective subgroup.All collective.Reduce ∷
+    Collective subgroup.Any collective.Reduce ∷ Collective subgroup.Add collective.Reduce ∷
+    Collective subgroup.Mul collective.Reduce ∷ Collective subgroup.Min collective.Reduce ∷
+    Collective subgroup.Max collective.Reduce ∷ Collective subgroup.And collective.Reduce ∷
+    Collective subgroup.Or collective.Reduce ∷ Collective subgroup.Xor collective.Reduce ∷
+    Collective subgroup.Add collective.InclusiveScan ∷ Collective subgroup.Mul collective.InclusiveScan ∷
+    Collective subgroup.Add collective.ExclusiveScan ∷ Collective subgroup.Mul collective.ExclusiveScan ∷
+    FromSubgroup First ∷ FromSubgroup Indexed ∷ FromSubgroup Shuffled ∷ FromSubgroup ShuffledDown ∷
+    FromSubgroup ShuffledUp ∷ FromSubgroup ShuffledXor ∷ FromSubgroup QuadIndexed ∷
+    FromSubgroup (QuadSwapped direction.X) ∷ FromSubgroup (QuadSwapped direction.Y) ∷
+    FromSubgroup (QuadSwapped direction.Diagonal) ∷ Barrier StorageKept ∷ Barrier WorkgroupKept ∷
+    Barrier SubgroupKept ∷ Barrier TextureKept ∷ CooperativeStore false ∷ CooperativeStore true ∷
+    CooperativeMultiplyAdd ∷ TraceRay ∷ Splat vector.Bi ∷ Splat vector.Tri ∷ Splat vector.Quad ∷
+    []
+
+abbrev pub has_word : List ℕ → Option (List ℕ) → Bool
+has_word w o = option_map_or (bytes_eq w) o false
+
+-- the first operator with this word
+abbrev pub first_with : List ℕ → List Operator → Option Operator
+first_with w [] = None
+first_with w (o ∷ os) = if has_word w (operator_word o) then Some o else first_with w os
+
+-- the operator of a word, if there is one: those of mathematics stand last
+abbrev pub operator_of : List ℕ → Option Operator
+operator_of w = option_or (first_with w others) (first_with w mathematical)
+
+-- its word tells the operator that stands for it
+abbrev IsToldBy : Operator → Type 0
+IsToldBy o = option_and_then operator_of (operator_word o) ≡ option_map (λ w. one_word o) (operator_word o)
+
+binary_told : (op : BinaryOperator) → IsToldBy (BinarySign op)
+binary_told binary.Add = refl
+binary_told _ = refl
+
+math_told : (f : MathFunction) → IsToldBy (Mathematical f)
+math_told math.Abs = refl
+math_told _ = refl
+
+unary_told : (op : UnaryOperator) → IsToldBy (UnarySign op)
+unary_told unary.Negate = refl
+unary_told _ = refl
+
+relation_told : (f : RelationalFunction) → IsToldBy (Relation f)
+relation_told relational.All = refl
+relation_told _ = refl
+
+derivative_told : (a : DerivativeAxis) (c : DerivativeControl) → IsToldBy (Derivative a c)
+derivative_told axis.X control.Coarse = refl
+derivative_told axis.X _ = refl
+derivative_told axis.Y control.Coarse = refl
+derivative_told axis.Y _ = refl
+derivative_told axis.Width control.Coarse = refl
+derivative_told axis.Width _ = refl
+
+-- with an array index or an offset or without
+sample_told : (l : Level) (compares arrayed offset : Bool) → IsToldBy (Sample l compares arrayed offset)
+sample_told Automatic true arrayed offset = refl
+sample_told Automatic false arrayed offset = refl
+sample_told Zero true arrayed offset = refl
+sample_told Zero false arrayed offset = refl
+sample_told ZeroClamped true arrayed offset = refl
+sample_told ZeroClamped false arrayed offset = refl
+sample_told Exact true arrayed offset = refl
+sample_told Exact false arrayed offset = refl
+sample_told Biased true arrayed offset = refl
+sample_told Biased false arrayed offset = refl
+sample_told Graded true arrayed offset = refl
+sample_told Graded false arrayed offset = refl
+
+gather_told : (c : Option SwizzleComponent) (compares at_zero arrayed offset : Bool) → IsToldBy (Gather c compares at_zero arrayed offset)
+gather_told None true at_zero arrayed offset = refl
+gather_told None false at_zero arrayed offset = refl
+gather_told (Some component.X) true at_zero arrayed offset = refl
+gather_told (Some component.X) false at_zero arrayed offset = refl
+gather_told (Some component.Y) true at_zero arrayed offset = refl
+gather_told (Some component.Y) false at_zero arrayed offset = refl
+gather_told (Some component.Z) true at_zero arrayed offset = refl
+gather_told (Some component.Z) false at_zero arrayed offset = refl
+gather_told (Some component.W) true at_zero arrayed offset = refl
+gather_told (Some component.W) false at_zero arrayed offset = refl
+
+texel_change_told : (c : Change) (arrayed : Bool) → IsToldBy (TexelChange c arrayed)
+texel_change_told AddTo arrayed = refl
+texel_change_told _ arrayed = refl
+
+count_told : (c : ImageCount) → IsToldBy (CountOf c)
+count_told Levels = refl
+count_told _ = refl
+
+change_told : (c : Change) → IsToldBy (AtomicChange c)
+change_told AddTo = refl
+change_told _ = refl
+
+collective_told : (o : SubgroupOperation) (c : CollectiveOperation) → IsToldBy (Collective o c)
+collective_told subgroup.All collective.Reduce = refl
+collective_told subgroup.All _ = refl
+collective_told subgroup.Any collective.Reduce = refl
+collective_told subgroup.Any _ = refl
+collective_told subgroup.Add collective.Reduce = refl
+collective_told subgroup.Add _ = refl
+collective_told subgroup.Mul collective.Reduce = refl
+collective_told subgroup.Mul _ = refl
+collective_told subgroup.Min collective.Reduce = refl
+collective_told subgroup.Min _ = refl
+collective_told subgroup.Max collective.Reduce = refl
+collective_told subgroup.Max _ = refl
+collective_told subgroup.And collective.Reduce = refl
+collective_told subgroup.And _ = refl
+collective_told subgroup.Or collective.Reduce = refl
+collective_told subgroup.Or _ = refl
+collective_told subgroup.Xor collective.Reduce = refl
+collective_told subgroup.Xor _ = refl
+
+source_told : (s : Source) → IsToldBy (FromSubgroup s)
+source_told (QuadSwapped direction.X) = refl
+source_told (QuadSwapped _) = refl
+source_told _ = refl
+
+barrier_told : (k : Kept) → IsToldBy (Barrier k)
+barrier_told StorageKept = refl
+barrier_told _ = refl
+
+splat_told : (n : VectorSize) → IsToldBy (Splat n)
+splat_told vector.Bi = refl
+splat_told _ = refl
+
+told : (o : Operator) → is_untyped o ≡ true → IsToldBy o
+told (BinarySign op) u = binary_told op
+told (UnarySign op) u = unary_told op
+told Choice u = refl
+told (Mathematical f) u = math_told f
+told (Relation f) u = relation_told f
+told (Derivative a c) u = derivative_told a c
+told ArrayLength u = refl
+told (Sample l compares arrayed offset) u = sample_told l compares arrayed offset
+told (Gather c compares at_zero arrayed offset) u = gather_told c compares at_zero arrayed offset
+told (Texel arrayed t) u = refl
+told (TexelStore arrayed) u = refl
+told (TexelChange c arrayed) u = texel_change_told c arrayed
+told (ImageSize of_level) u = refl
+told (CountOf c) u = count_told c
+told AtomicLoad u = refl
+told AtomicStore u = refl
+told (AtomicChange c) u = change_told c
+told UniformLoad u = refl
+told (Ballot predicate) u = refl
+told (Collective o c) u = collective_told o c
+told (FromSubgroup s) u = source_told s
+told (Barrier k) u = barrier_told k
+told (CooperativeLoad row_major t) u = absurd (false≢true u)
+told (CooperativeStore true) u = refl
+told (CooperativeStore false) u = refl
+told CooperativeMultiplyAdd u = refl
+told TraceRay u = refl
+told (Construct t n) u = absurd (false≢true u)
+told (Splat n) u = splat_told n
+told (Convert t) u = absurd (false≢true u)
+told (Reinterpret t) u = absurd (false≢true u)
+
+pub word_tells : (o : Operator) (w : List ℕ) → is_untyped o ≡ true → operator_word o ≡ Some w → operator_of w ≡ Some (one_word o)
+word_tells o w u e =
+    sym (ap (option_and_then operator_of) e) ∙ (told o u ∙ ap (option_map (λ w. one_word o)) e)
+
+-- two that take no type, and have one word, have one operator that stands for them
+pub untyped_share : (a b : Operator) (w : List ℕ) → is_untyped a ≡ true → is_untyped b ≡ true → operator_word a ≡ Some w → operator_word b ≡ Some w → one_word a ≡ one_word b
+untyped_share a b w ua ub ea eb = same_some (one_word a) (one_word b) (sym (word_tells a w ua ea) ∙ word_tells b w ub eb)
+
+-- ---- with the number of operands
+-- the operator with this word's and this number of operands
+abbrev by_count : Operator → ℕ → Operator
+by_count (BinarySign op) n = if n == 1 then UnarySign unary.Negate else BinarySign op
+by_count (TexelStore arrayed) n = TexelStore (n == 4)
+by_count (TexelChange c arrayed) n = TexelChange c (n == 4)
+by_count (ImageSize of_level) n = ImageSize (n == 2)
+by_count (Ballot predicate) n = Ballot (n == 1)
+by_count (Construct t components) n = Construct t n
+by_count o n = o
+
+told_by_count : (o : Operator) → is_told o ≡ true → by_count (one_word o) (operand_count o) ≡ o
+told_by_count (UnarySign unary.Negate) t = refl
+told_by_count (UnarySign _) t = refl
+told_by_count (Sample l compares arrayed offset) t = absurd (false≢true t)
+told_by_count (Gather c compares at_zero arrayed offset) t = absurd (false≢true t)
+told_by_count (Texel arrayed of_) t = absurd (false≢true t)
+told_by_count (Convert u) t = absurd (false≢true t)
+told_by_count (TexelStore true) t = refl
+told_by_count (TexelStore false) t = refl
+told_by_count (TexelChange c true) t = refl
+told_by_count (TexelChange c false) t = refl
+told_by_count (ImageSize true) t = refl
+told_by_count (ImageSize false) t = refl
+told_by_count (Ballot true) t = refl
+told_by_count (Ballot false) t = refl
+told_by_count _ t = refl
+
+pub counted_apart : (a b : Operator) → is_told a ≡ true → is_told b ≡ true → one_word a ≡ one_word b → operand_count a ≡ operand_count b → a ≡ b
+counted_apart a b ta tb e n =
+    sym (told_by_count a ta) ∙ ((λ i. by_count (e i) (n i)) ∙ told_by_count b tb)
+
+-- what stands for an operator has its word
+pub keeps_word : (o : Operator) → operator_word (one_word o) ≡ operator_word o
+keeps_word (UnarySign unary.Negate) = refl
+keeps_word (UnarySign _) = refl
+keeps_word (Sample Automatic compares arrayed offset) = refl
+keeps_word (Sample Zero true arrayed offset) = refl
+keeps_word (Sample Zero false arrayed offset) = refl
+keeps_word (Sample _ compares arrayed offset) = refl
+keeps_word (CooperativeLoad true t) = refl
+keeps_word (CooperativeLoad false t) = refl
+keeps_word (CooperativeStore true) = refl
+keeps_word (CooperativeStore false) = refl
+keeps_word _ = refl

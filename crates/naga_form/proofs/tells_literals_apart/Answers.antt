@@ -1,0 +1,5 @@
+use Rattle.naga_form.proofs.LiteralValues.{values_apart}
+use Rattle.naga_form.proofs.tells_literals_apart.Goals as goal
+
+pub returns : goal.returns
+returns c = values_apart

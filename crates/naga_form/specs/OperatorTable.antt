@@ -1,0 +1,376 @@
+-- The operators and operations of a module with their words: one table for all of them. An operator here is what an
+-- expression or a statement asks for, apart from its operands; which of those are there that may be left out belongs to it.
+-- What is new is a constructor, and a line of each function below.
+use Rattle.std.specs.Prelude.{ℕ, ◌+◌, Bool, true, false, List, ◌++◌, Option, Some, None, codes, ⊤, if◌then◌else◌}
+use Rattle.naga_enumerations.specs.declared.expression.SwizzleComponent.{SwizzleComponent}
+use Rattle.naga_enumerations.specs.declared.expression.SwizzleComponent.TheVariants as component
+use Rattle.naga_enumerations.specs.declared.types.VectorSize.{VectorSize}
+use Rattle.naga_operators.specs.declared.BinaryOperator.{BinaryOperator}
+use Rattle.naga_operators.specs.declared.BinaryOperator.TheVariants as binary
+use Rattle.naga_operators.specs.declared.UnaryOperator.{UnaryOperator}
+use Rattle.naga_operators.specs.declared.UnaryOperator.TheVariants as unary
+use Rattle.naga_operators.specs.declared.MathFunction.{MathFunction}
+use Rattle.naga_operators.specs.declared.MathFunction.TheVariants as math
+use Rattle.naga_operators.specs.declared.RelationalFunction.{RelationalFunction}
+use Rattle.naga_operators.specs.declared.RelationalFunction.TheVariants as relational
+use Rattle.naga_operators.specs.declared.DerivativeAxis.{DerivativeAxis}
+use Rattle.naga_operators.specs.declared.DerivativeAxis.TheVariants as axis
+use Rattle.naga_operators.specs.declared.DerivativeControl.{DerivativeControl}
+use Rattle.naga_operators.specs.declared.DerivativeControl.TheVariants as control
+use Rattle.naga_operators.specs.declared.SubgroupOperation.{SubgroupOperation}
+use Rattle.naga_operators.specs.declared.SubgroupOperation.TheVariants as subgroup
+use Rattle.naga_operators.specs.declared.CollectiveOperation.{CollectiveOperation}
+use Rattle.naga_operators.specs.declared.CollectiveOperation.TheVariants as collective
+use Rattle.naga_operators.specs.declared.Direction.{Direction}
+use Rattle.naga_operators.specs.declared.Direction.TheVariants as direction
+use Rattle.wgsl_words.specs.Words.{math_word}
+use Rattle.spelling_parts.specs.Words.{vector_word}
+use Rattle.wgsl_text.specs.Grammar.{IsType}
+use Rattle.wgsl_text.specs.Pieces.{binary_pieces, unary_mark}
+use Rattle.wgsl_text.specs.Reading.{type_layout}
+use Rattle.wgsl_text.specs.Text.{text, mark_text}
+use Rattle.wgsl_text.specs.Tree.{TypeSpecifier, Negate, LogicalNot, BitwiseNot}
+use Rattle.naga_form.specs.Operators.{operator_form}
+
+-- at which level an image is sampled: that of the derivatives; zero; zero with the coordinate kept off the edges; a given
+-- one; that of the derivatives and a bias; that of given derivatives
+pub data Level : Type 0 where
+  Automatic Zero ZeroClamped Exact Biased Graded : Level
+
+-- whether a texel is taken of an image without samples or levels, of a sample or of a level
+pub data TexelOf : Type 0 where
+  OnlyTexel SampleTexel LevelTexel : TexelOf
+
+-- what an image is asked for
+pub data ImageCount : Type 0 where
+  Levels Layers Samples : ImageCount
+
+-- how a value in memory is changed in one step
+pub data Change : Type 0 where
+  AddTo SubtractFrom AndWith OrWith XorWith MinimumOf MaximumOf Exchange CompareExchange : Change
+
+-- from which invocation of the subgroup a value comes
+pub data Source : Type 0 where
+  First Indexed Shuffled ShuffledDown ShuffledUp ShuffledXor QuadIndexed : Source
+  QuadSwapped : Direction → Source
+
+-- what a barrier keeps apart
+pub data Kept : Type 0 where
+  StorageKept WorkgroupKept SubgroupKept TextureKept : Kept
+
+pub data Operator : Type 0 where
+  BinarySign : BinaryOperator → Operator
+  UnarySign : UnaryOperator → Operator
+  Choice : Operator
+  Mathematical : MathFunction → Operator
+  Relation : RelationalFunction → Operator
+  Derivative : DerivativeAxis → DerivativeControl → Operator
+  ArrayLength : Operator
+  Sample : Level → (compares arrayed offset : Bool) → Operator
+  -- a depth image has no components
+  Gather : Option SwizzleComponent → (compares at_zero arrayed offset : Bool) → Operator
+  Texel : (arrayed : Bool) → TexelOf → Operator
+  TexelStore : (arrayed : Bool) → Operator
+  TexelChange : Change → (arrayed : Bool) → Operator
+  ImageSize : (of_level : Bool) → Operator
+  CountOf : ImageCount → Operator
+  AtomicLoad AtomicStore : Operator
+  AtomicChange : Change → Operator
+  UniformLoad : Operator
+  Ballot : (predicate : Bool) → Operator
+  Collective : SubgroupOperation → CollectiveOperation → Operator
+  FromSubgroup : Source → Operator
+  Barrier : Kept → Operator
+  CooperativeLoad : (row_major : Bool) → TypeSpecifier → Operator
+  CooperativeStore : (row_major : Bool) → Operator
+  CooperativeMultiplyAdd : Operator
+  TraceRay : Operator
+  -- a value of this type from so many components; none make its zero value
+  Construct : TypeSpecifier → (components : ℕ) → Operator
+  Splat : VectorSize → Operator
+  -- to another scalar type, or a matrix
+  Convert : TypeSpecifier → Operator
+  -- the bits as a value of another type
+  Reinterpret : TypeSpecifier → Operator
+
+-- ---- words
+abbrev pub if_word : Bool → List ℕ → List ℕ
+if_word b word = if b then word else codes ""
+
+abbrev pub unary_word : UnaryOperator → List ℕ
+unary_word unary.Negate = mark_text (unary_mark Negate)
+unary_word unary.LogicalNot = mark_text (unary_mark LogicalNot)
+unary_word unary.BitwiseNot = mark_text (unary_mark BitwiseNot)
+
+abbrev pub relational_word : RelationalFunction → Option (List ℕ)
+relational_word relational.All = Some (codes "all")
+relational_word relational.Any = Some (codes "any")
+relational_word _ = None
+
+abbrev pub axis_word : DerivativeAxis → List ℕ
+axis_word axis.X = codes "dpdx"
+axis_word axis.Y = codes "dpdy"
+axis_word axis.Width = codes "fwidth"
+
+abbrev pub control_word : DerivativeControl → List ℕ
+control_word control.Coarse = codes "Coarse"
+control_word control.Fine = codes "Fine"
+control_word control.None = codes ""
+
+abbrev pub level_word : Level → List ℕ
+level_word Automatic = codes ""
+level_word Zero = codes "Level"
+level_word ZeroClamped = codes "BaseClampToEdge"
+level_word Exact = codes "Level"
+level_word Biased = codes "Bias"
+level_word Graded = codes "Grad"
+
+-- nothing compares where the coordinate is kept off the edges
+abbrev pub sample_word : Level → (compares : Bool) → Option (List ℕ)
+sample_word ZeroClamped true = None
+sample_word level compares = Some (codes "textureSample" ++ (if_word compares (codes "Compare") ++ level_word level))
+
+-- a component's number is written as an operand, and belongs to the word
+abbrev pub component_word : Option SwizzleComponent → List ℕ
+component_word None = codes ""
+component_word (Some component.X) = codes " 0"
+component_word (Some component.Y) = codes " 1"
+component_word (Some component.Z) = codes " 2"
+component_word (Some component.W) = codes " 3"
+
+abbrev pub image_count_word : ImageCount → List ℕ
+image_count_word Levels = codes "textureNumLevels"
+image_count_word Layers = codes "textureNumLayers"
+image_count_word Samples = codes "textureNumSamples"
+
+abbrev pub change_word : Change → List ℕ
+change_word AddTo = codes "Add"
+change_word SubtractFrom = codes "Sub"
+change_word AndWith = codes "And"
+change_word OrWith = codes "Or"
+change_word XorWith = codes "Xor"
+change_word MinimumOf = codes "Min"
+change_word MaximumOf = codes "Max"
+change_word Exchange = codes "Exchange"
+change_word CompareExchange = codes "CompareExchangeWeak"
+
+-- a texel is not compared
+abbrev pub texel_change_word : Change → Option (List ℕ)
+texel_change_word CompareExchange = None
+texel_change_word change = Some (codes "textureAtomic" ++ change_word change)
+
+abbrev pub subgroup_word : SubgroupOperation → List ℕ
+subgroup_word subgroup.All = codes "All"
+subgroup_word subgroup.Any = codes "Any"
+subgroup_word subgroup.Add = codes "Add"
+subgroup_word subgroup.Mul = codes "Mul"
+subgroup_word subgroup.Min = codes "Min"
+subgroup_word subgroup.Max = codes "Max"
+subgroup_word subgroup.And = codes "And"
+subgroup_word subgroup.Or = codes "Or"
+subgroup_word subgroup.Xor = codes "Xor"
+
+-- sums and products alone are told of the invocations before, with their own value or without
+abbrev pub scan_word : SubgroupOperation → List ℕ → Option (List ℕ)
+scan_word subgroup.Add word = Some (word ++ codes "Add")
+scan_word subgroup.Mul word = Some (word ++ codes "Mul")
+scan_word _ word = None
+
+abbrev pub collective_word : SubgroupOperation → CollectiveOperation → Option (List ℕ)
+collective_word op collective.Reduce = Some (codes "subgroup" ++ subgroup_word op)
+collective_word op collective.InclusiveScan = scan_word op (codes "subgroupInclusive")
+collective_word op collective.ExclusiveScan = scan_word op (codes "subgroupExclusive")
+
+abbrev pub source_word : Source → List ℕ
+source_word First = codes "subgroupBroadcastFirst"
+source_word Indexed = codes "subgroupBroadcast"
+source_word Shuffled = codes "subgroupShuffle"
+source_word ShuffledDown = codes "subgroupShuffleDown"
+source_word ShuffledUp = codes "subgroupShuffleUp"
+source_word ShuffledXor = codes "subgroupShuffleXor"
+source_word QuadIndexed = codes "quadBroadcast"
+source_word (QuadSwapped direction.X) = codes "quadSwapX"
+source_word (QuadSwapped direction.Y) = codes "quadSwapY"
+source_word (QuadSwapped direction.Diagonal) = codes "quadSwapDiagonal"
+
+abbrev pub barrier_word : Kept → List ℕ
+barrier_word StorageKept = codes "storageBarrier"
+barrier_word WorkgroupKept = codes "workgroupBarrier"
+barrier_word SubgroupKept = codes "subgroupBarrier"
+barrier_word TextureKept = codes "textureBarrier"
+
+-- a built-in function that takes a type
+abbrev pub with_type : List ℕ → TypeSpecifier → List ℕ
+with_type word t = word ++ (codes "<" ++ (type_layout t ++ codes ">"))
+
+-- the word of an operator, and none where WGSL has none
+abbrev pub operator_word : Operator → Option (List ℕ)
+operator_word (BinarySign op) = Some (text (binary_pieces (operator_form op)))
+operator_word (UnarySign op) = Some (unary_word op)
+operator_word Choice = Some (codes "select")
+operator_word (Mathematical fun) = math_word fun
+operator_word (Relation fun) = relational_word fun
+operator_word (Derivative axis control) = Some (axis_word axis ++ control_word control)
+operator_word ArrayLength = Some (codes "arrayLength")
+operator_word (Sample level compares arrayed offset) = sample_word level compares
+operator_word (Gather component compares at_zero arrayed offset) =
+    Some (codes "textureGather" ++ (if_word compares (codes "Compare") ++ component_word component))
+operator_word (Texel arrayed of_) = Some (codes "textureLoad")
+operator_word (TexelStore arrayed) = Some (codes "textureStore")
+operator_word (TexelChange change arrayed) = texel_change_word change
+operator_word (ImageSize of_level) = Some (codes "textureDimensions")
+operator_word (CountOf what) = Some (image_count_word what)
+operator_word AtomicLoad = Some (codes "atomicLoad")
+operator_word AtomicStore = Some (codes "atomicStore")
+operator_word (AtomicChange change) = Some (codes "atomic" ++ change_word change)
+operator_word UniformLoad = Some (codes "workgroupUniformLoad")
+operator_word (Ballot predicate) = Some (codes "subgroupBallot")
+operator_word (Collective op collective) = collective_word op collective
+operator_word (FromSubgroup source) = Some (source_word source)
+operator_word (Barrier kept) = Some (barrier_word kept)
+operator_word (CooperativeLoad false t) = Some (with_type (codes "coopLoad") t)
+operator_word (CooperativeLoad true t) = Some (with_type (codes "coopLoadT") t)
+operator_word (CooperativeStore false) = Some (codes "coopStore")
+operator_word (CooperativeStore true) = Some (codes "coopStoreT")
+operator_word CooperativeMultiplyAdd = Some (codes "coopMultiplyAdd")
+operator_word TraceRay = Some (codes "traceRay")
+operator_word (Construct t components) = Some (type_layout t)
+operator_word (Splat size) = Some (vector_word size)
+operator_word (Convert t) = Some (type_layout t)
+operator_word (Reinterpret t) = Some (with_type (codes "bitcast") t)
+
+-- ---- numbers of operands
+abbrev pub if_there : Bool → ℕ
+if_there b = if b then 1 else 0
+
+abbrev pub math_count : MathFunction → ℕ
+math_count math.Min = 2
+math_count math.Max = 2
+math_count math.Clamp = 3
+math_count math.Atan2 = 2
+math_count math.Ldexp = 2
+math_count math.Pow = 2
+math_count math.Dot = 2
+math_count math.Dot4I8Packed = 2
+math_count math.Dot4U8Packed = 2
+math_count math.Outer = 2
+math_count math.Cross = 2
+math_count math.Distance = 2
+math_count math.FaceForward = 3
+math_count math.Reflect = 2
+math_count math.Refract = 3
+math_count math.Fma = 3
+math_count math.Mix = 3
+math_count math.Step = 2
+math_count math.SmoothStep = 3
+math_count math.ExtractBits = 3
+math_count math.InsertBits = 4
+math_count _ = 1
+
+-- Level zero is written as the number `0.0`, but not where it is compared.
+abbrev pub level_count : Level → (compares : Bool) → ℕ
+level_count Automatic compares = 0
+level_count Zero compares = if compares then 0 else 1
+level_count ZeroClamped compares = 0
+level_count Exact compares = 1
+level_count Biased compares = 1
+level_count Graded compares = 2
+
+abbrev pub texel_count : TexelOf → ℕ
+texel_count OnlyTexel = 0
+texel_count _ = 1
+
+abbrev pub source_count : Source → ℕ
+source_count First = 1
+source_count (QuadSwapped direction) = 1
+source_count _ = 2
+
+-- how many operands are written
+abbrev pub operand_count : Operator → ℕ
+operand_count (BinarySign op) = 2
+operand_count (UnarySign op) = 1
+operand_count Choice = 3
+operand_count (Mathematical fun) = math_count fun
+operand_count (Relation fun) = 1
+operand_count (Derivative axis control) = 1
+operand_count ArrayLength = 1
+operand_count (Sample level compares arrayed offset) =
+    3 + (if_there compares + (level_count level compares + (if_there arrayed + if_there offset)))
+operand_count (Gather component compares at_zero arrayed offset) =
+    3 + (if_there compares + (if_there arrayed + if_there offset))
+operand_count (Texel arrayed of_) = 2 + (if_there arrayed + texel_count of_)
+operand_count (TexelStore arrayed) = 3 + if_there arrayed
+operand_count (TexelChange change arrayed) = 3 + if_there arrayed
+operand_count (ImageSize of_level) = 1 + if_there of_level
+operand_count (CountOf what) = 1
+operand_count AtomicLoad = 1
+operand_count AtomicStore = 2
+operand_count (AtomicChange CompareExchange) = 3
+operand_count (AtomicChange change) = 2
+operand_count UniformLoad = 1
+operand_count (Ballot predicate) = if_there predicate
+operand_count (Collective op collective) = 1
+operand_count (FromSubgroup source) = source_count source
+operand_count (Barrier kept) = 0
+operand_count (CooperativeLoad row_major t) = 2
+operand_count (CooperativeStore row_major) = 3
+operand_count CooperativeMultiplyAdd = 3
+operand_count TraceRay = 3
+operand_count (Construct t components) = components
+operand_count (Splat size) = 1
+operand_count (Convert t) = 1
+operand_count (Reinterpret t) = 1
+
+-- ---- what shares a word
+-- level zero is a given level, the number zero
+abbrev pub given_level : Level → Level
+given_level Zero = Exact
+given_level level = level
+
+-- The operator that stands for all that have its word. So these share words, and no others do:
+abbrev pub one_word : Operator → Operator
+-- a negation and a difference, which have one operand and two;
+one_word (UnarySign unary.Negate) = BinarySign binary.Subtract
+-- samplings of images with layers and without, with an offset and without, and at level zero and a given one: the types of
+-- the image and of the operands tell them apart, and level zero is an operand;
+one_word (Sample level compares arrayed offset) = Sample (given_level level) compares false false
+-- gathers of images with layers and without, and with an offset and without, which the types tell apart; and gathers at
+-- level zero and at that of the derivatives, which are one operation, since a gather is always at level zero;
+one_word (Gather component compares at_zero arrayed offset) = Gather component compares false false false
+-- loads of texels, of images of other types;
+one_word (Texel arrayed of_) = Texel false OnlyTexel
+-- stores and changes of texels of images with layers and without, which have one operand more;
+one_word (TexelStore arrayed) = TexelStore false
+one_word (TexelChange change arrayed) = TexelChange change false
+-- the size of an image, and of a level of it, and a ballot with a predicate and without: these have one operand more;
+one_word (ImageSize of_level) = ImageSize false
+one_word (Ballot predicate) = Ballot false
+-- constructors of one type, which their number of operands tells apart; and a conversion, which is one operation with
+-- the constructor of one operand.
+one_word (Construct t components) = Construct t 1
+one_word (Convert t) = Construct t 1
+one_word operator = operator
+
+-- what is told from all others by its word and its number of operands
+abbrev pub is_told : Operator → Bool
+is_told (Sample level compares arrayed offset) = false
+is_told (Gather component compares at_zero arrayed offset) = false
+is_told (Texel arrayed of_) = false
+is_told (Convert t) = false
+is_told _ = true
+
+-- the operator takes no type
+abbrev pub is_untyped : Operator → Bool
+is_untyped (CooperativeLoad row_major t) = false
+is_untyped (Construct t components) = false
+is_untyped (Convert t) = false
+is_untyped (Reinterpret t) = false
+is_untyped _ = true
+
+-- the type that it takes, if it takes one, is one of the grammar
+abbrev pub TypeIsSound : Operator → Type 0
+TypeIsSound (CooperativeLoad row_major t) = IsType t
+TypeIsSound (Construct t components) = IsType t
+TypeIsSound (Convert t) = IsType t
+TypeIsSound (Reinterpret t) = IsType t
+TypeIsSound _ = ⊤

@@ -1,0 +1,138 @@
+-- What tells types apart that no text spells so far: a struct is told by its handle, any other type by what it is.
+use Rattle.std.specs.Prelude.{ℕ, Bool, true, false, List, [], ◌∷◌, Option, Some, None, if◌then◌else◌, slice_get}
+use Rattle.std.specs.Option.{option_map}
+use Rattle.std.specs.Int.NonZero.{non_zero_u32_get}
+use Rattle.naga_enumerations.specs.declared.image.ImageClass.{ImageClass}
+use Rattle.naga_enumerations.specs.declared.image.ImageClass.TheVariants as class
+use Rattle.naga_enumerations.specs.declared.image.ImageDimension.{ImageDimension}
+use Rattle.naga_enumerations.specs.declared.image.ImageDimension.TheVariants as dimension
+use Rattle.naga_enumerations.specs.declared.types.AddressSpace.{AddressSpace}
+use Rattle.naga_enumerations.specs.declared.types.AddressSpace.TheVariants as space
+use Rattle.naga_enumerations.specs.declared.types.CooperativeRole.{CooperativeRole}
+use Rattle.naga_enumerations.specs.declared.types.CooperativeRole.TheVariants as role
+use Rattle.naga_enumerations.specs.declared.types.CooperativeSize.{CooperativeSize}
+use Rattle.naga_enumerations.specs.declared.types.CooperativeSize.TheVariants as cooperative
+use Rattle.naga_enumerations.specs.declared.types.ScalarKind.{ScalarKind}
+use Rattle.naga_enumerations.specs.declared.types.ScalarKind.TheVariants as kind
+use Rattle.naga_enumerations.specs.declared.types.VectorSize.{VectorSize}
+use Rattle.naga_enumerations.specs.declared.types.VectorSize.TheVariants as vector
+use Rattle.naga_info.specs.declared.info.TypeResolution.{TypeResolution}
+use Rattle.naga_info.specs.declared.info.TypeResolution.TheVariants.{Handle, Value}
+use Rattle.naga_ir.specs.declared.types.ArraySize.{ArraySize}
+use Rattle.naga_ir.specs.declared.types.ArraySize.TheVariants as size
+use Rattle.naga_ir.specs.declared.types.Type_.{Type_}
+use Rattle.naga_ir.specs.declared.types.TypeInner.{TypeInner}
+use Rattle.naga_ir.specs.declared.types.TypeInner.TheVariants as inner
+use Rattle.type_spelling.specs.Spelling.{is_struct}
+use Rattle.wgsl_words.specs.Words.{format_word}
+
+-- What a type is told by. A handle out of range and a struct without a handle, which stand in no module, are told by
+-- nothing.
+pub data Identity : Type 0 where
+  Nothing : Identity
+  StructAt : (handle : ℕ) → Identity
+  Itself : TypeInner → Identity
+
+abbrev pub identity_at : ℕ → Option TypeInner → Identity
+identity_at h None = Nothing
+identity_at h (Some it) = if is_struct it then StructAt h else Itself it
+
+abbrev pub identity : List Type_ → TypeResolution → Identity
+identity types (Handle h) = identity_at h (option_map (λ t. t.inner) (slice_get types h))
+identity types (Value it) = if is_struct it then Nothing else Itself it
+
+-- ---- Numbers for what a type is made of: different ones for different things.
+abbrev pub truth_number : Bool → ℕ
+truth_number false = 0
+truth_number true = 1
+
+abbrev pub kind_number : ScalarKind → ℕ
+kind_number kind.Sint = 0
+kind_number kind.Uint = 1
+kind_number kind.Float = 2
+kind_number kind.Bool = 3
+kind_number kind.AbstractInt = 4
+kind_number kind.AbstractFloat = 5
+
+abbrev pub vector_number : VectorSize → ℕ
+vector_number vector.Bi = 2
+vector_number vector.Tri = 3
+vector_number vector.Quad = 4
+
+-- one component stands by itself
+abbrev pub components_number : Option VectorSize → ℕ
+components_number None = 1
+components_number (Some size) = vector_number size
+
+abbrev pub cooperative_number : CooperativeSize → ℕ
+cooperative_number cooperative.Eight = 8
+cooperative_number cooperative.Sixteen = 16
+
+abbrev pub role_number : CooperativeRole → ℕ
+role_number role.A = 0
+role_number role.B = 1
+role_number role.C = 2
+
+abbrev pub space_number : AddressSpace → ℕ
+space_number space.Function = 0
+space_number space.Private = 1
+space_number space.WorkGroup = 2
+space_number space.Uniform = 3
+space_number (space.Storage access) = 4
+space_number space.Handle = 5
+space_number space.Immediate = 6
+space_number space.TaskPayload = 7
+space_number space.RayPayload = 8
+space_number space.IncomingRayPayload = 9
+
+-- what may be done with the memory of the space, as bits
+abbrev pub space_bits : AddressSpace → ℕ
+space_bits (space.Storage access) = access.0
+space_bits _ = 0
+
+abbrev pub dimension_number : ImageDimension → ℕ
+dimension_number dimension.D1 = 1
+dimension_number dimension.D2 = 2
+dimension_number dimension.D3 = 3
+dimension_number dimension.Cube = 4
+
+abbrev pub length_code : ArraySize → List ℕ
+length_code (size.Constant number) = 0 ∷ non_zero_u32_get number ∷ []
+length_code (size.Pending override_handle) = 1 ∷ override_handle ∷ []
+length_code size.Dynamic = 2 ∷ 0 ∷ []
+
+abbrev pub class_code : ImageClass → List ℕ
+class_code (class.Sampled kind multi) = 0 ∷ kind_number kind ∷ truth_number multi ∷ []
+class_code (class.Depth multi) = 1 ∷ 0 ∷ truth_number multi ∷ []
+class_code (class.Storage format access) = 2 ∷ access.0 ∷ 0 ∷ format_word format
+class_code class.External = 3 ∷ 0 ∷ 0 ∷ []
+
+-- A list of numbers for each type by itself, from which it can be told: its kind, then what it is made of. A struct
+-- has a handle.
+abbrev pub inner_code : TypeInner → List ℕ
+inner_code (inner.Scalar s) = 0 ∷ kind_number s.kind ∷ s.width ∷ []
+inner_code (inner.Vector n s) = 1 ∷ kind_number s.kind ∷ s.width ∷ vector_number n ∷ []
+inner_code (inner.Matrix columns rows s) =
+    2 ∷ kind_number s.kind ∷ s.width ∷ vector_number columns ∷ vector_number rows ∷ []
+inner_code (inner.CooperativeMatrix columns rows s role) =
+    3 ∷ kind_number s.kind ∷ s.width ∷ cooperative_number columns ∷ cooperative_number rows ∷ role_number role ∷ []
+inner_code (inner.Atomic s) = 4 ∷ kind_number s.kind ∷ s.width ∷ []
+inner_code (inner.Pointer base space) = 5 ∷ base ∷ space_number space ∷ space_bits space ∷ []
+inner_code (inner.ValuePointer n s space) =
+    6 ∷ kind_number s.kind ∷ s.width ∷ components_number n ∷ space_number space ∷ space_bits space ∷ []
+inner_code (inner.Array base n stride) = 7 ∷ base ∷ stride ∷ length_code n
+inner_code (inner.BindingArray base n) = 8 ∷ base ∷ length_code n
+inner_code (inner.Image dim arrayed class) = 9 ∷ dimension_number dim ∷ truth_number arrayed ∷ class_code class
+inner_code (inner.Sampler comparison) = 10 ∷ truth_number comparison ∷ []
+inner_code (inner.AccelerationStructure vertex_return) = 11 ∷ truth_number vertex_return ∷ []
+inner_code (inner.RayQuery vertex_return) = 12 ∷ truth_number vertex_return ∷ []
+inner_code (inner.Struct members span) = []
+
+abbrev pub identity_code : Identity → List ℕ
+identity_code Nothing = 0 ∷ []
+identity_code (StructAt h) = 1 ∷ h ∷ []
+identity_code (Itself it) = 2 ∷ inner_code it
+
+-- the word of a type that no text spells so far: it begins with a blank, which no word of a text does
+abbrev pub unspelled : Identity → List ℕ
+unspelled i = 32 ∷ identity_code i
