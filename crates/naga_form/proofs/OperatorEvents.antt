@@ -13,7 +13,7 @@ use Rattle.wgsl_text.specs.Reading.{type_layout}
 use Rattle.wgsl_text.specs.Tree.{TypeSpecifier, Named}
 use Rattle.wgsl_text.proofs.WordLemmas.{all_words, passes}
 use Rattle.naga_form.specs.Abstraction.{request_words, is_request}
-use Rattle.naga_form.specs.OperatorTable.{Operator, UnarySign, Sample, Automatic, Zero, CooperativeLoad, CooperativeStore, Construct, Convert, Reinterpret, with_type, operator_word, own_word, run_word, one_word, asks, is_untyped, TypeIsSound}
+use Rattle.naga_form.specs.OperatorTable.{Operator, UnarySign, Sample, Texel, OnlyTexel, Automatic, Zero, CooperativeLoad, CooperativeStore, Construct, Convert, Reinterpret, with_type, operator_word, own_word, run_word, one_word, asks, is_untyped, TypeIsSound}
 use Rattle.naga_form.proofs.OperatorWords.{others, mathematical, first_with, operator_of, told}
 use Rattle.naga_form.proofs.TypedWords.{head_of, head_is, no_type_begins}
 
@@ -24,6 +24,8 @@ keeps_text (Sample Automatic compares arrayed offset) = refl
 keeps_text (Sample Zero true arrayed offset) = refl
 keeps_text (Sample Zero false arrayed offset) = refl
 keeps_text (Sample _ compares arrayed offset) = refl
+keeps_text (Texel arrayed OnlyTexel) = refl
+keeps_text (Texel arrayed _) = refl
 keeps_text (CooperativeLoad true t) = refl
 keeps_text (CooperativeLoad false t) = refl
 keeps_text (CooperativeStore true) = refl
@@ -33,6 +35,8 @@ keeps_text _ = refl
 keeps_asking : (o : Operator) → asks (one_word o) ≡ asks o
 keeps_asking (UnarySign unary.Negate) = refl
 keeps_asking (UnarySign _) = refl
+keeps_asking (Texel arrayed OnlyTexel) = refl
+keeps_asking (Texel arrayed _) = refl
 keeps_asking _ = refl
 
 abbrev same : Bool → Bool → Bool

@@ -26,7 +26,7 @@ use Rattle.naga_operators.specs.declared.SubgroupOperation.TheVariants as subgro
 use Rattle.naga_operators.specs.declared.CollectiveOperation.{CollectiveOperation}
 use Rattle.naga_operators.specs.declared.CollectiveOperation.TheVariants as collective
 use Rattle.naga_operators.specs.declared.Direction.TheVariants as direction
-use Rattle.naga_form.specs.OperatorTable.{Operator, BinarySign, UnarySign, Choice, Mathematical, Relation, Derivative, ArrayLength, Sample, Gather, Texel, TexelStore, TexelChange, ImageSize, CountOf, AtomicLoad, AtomicStore, AtomicChange, UniformLoad, Ballot, Collective, FromSubgroup, Barrier, CooperativeLoad, CooperativeStore, CooperativeMultiplyAdd, TraceRay, RayIntersection, RayCorners, Construct, Splat, Convert, Reinterpret, Level, Automatic, Zero, ZeroClamped, Exact, Biased, Graded, OnlyTexel, ImageCount, Levels, Layers, Samples, Change, AddTo, SubtractFrom, AndWith, OrWith, XorWith, MinimumOf, MaximumOf, Exchange, CompareExchange, Source, First, Indexed, Shuffled, ShuffledDown, ShuffledUp, ShuffledXor, QuadIndexed, QuadSwapped, Kept, StorageKept, WorkgroupKept, SubgroupKept, TextureKept, run_word, operand_count, one_word, is_told, is_untyped}
+use Rattle.naga_form.specs.OperatorTable.{Operator, BinarySign, UnarySign, Choice, Mathematical, Relation, Derivative, ArrayLength, Sample, Gather, Texel, TexelStore, TexelChange, ImageSize, CountOf, AtomicLoad, AtomicStore, AtomicChange, UniformLoad, Ballot, Collective, FromSubgroup, Barrier, CooperativeLoad, CooperativeStore, CooperativeMultiplyAdd, TraceRay, RayIntersection, RayCorners, Construct, Splat, Convert, Reinterpret, Level, Automatic, Zero, ZeroClamped, Exact, Biased, Graded, OnlyTexel, BothTexel, ImageCount, Levels, Layers, Samples, Change, AddTo, SubtractFrom, AndWith, OrWith, XorWith, MinimumOf, MaximumOf, Exchange, CompareExchange, Source, First, Indexed, Shuffled, ShuffledDown, ShuffledUp, ShuffledXor, QuadIndexed, QuadSwapped, Kept, StorageKept, WorkgroupKept, SubgroupKept, TextureKept, run_word, operand_count, one_word, is_told, is_untyped}
 
 -- the operators of different words that take no type
 abbrev pub mathematical : List Operator
@@ -82,19 +82,20 @@ others =
     FromSubgroup First ∷ FromSubgroup Indexed ∷ FromSubgroup Shuffled ∷ FromSubgroup ShuffledDown ∷
     FromSubgroup ShuffledUp ∷ FromSubgroup ShuffledXor ∷ FromSubgroup QuadIndexed ∷
     FromSubgroup (QuadSwapped direction.X) ∷ FromSubgroup (QuadSwapped direction.Y) ∷
-    FromSubgroup (QuadSwapped direction.Diagonal) ∷ Barrier StorageKept ∷ Barrier WorkgroupKept ∷
-    Barrier SubgroupKept ∷ Barrier TextureKept ∷ Mathematical math.Inverse ∷ Mathematical math.Outer ∷
-    Relation relational.IsNan ∷ Relation relational.IsInf ∷ Sample ZeroClamped true false false ∷
-    TexelChange CompareExchange false ∷ Collective subgroup.All collective.InclusiveScan ∷
-    Collective subgroup.Any collective.InclusiveScan ∷ Collective subgroup.Min collective.InclusiveScan ∷
-    Collective subgroup.Max collective.InclusiveScan ∷ Collective subgroup.And collective.InclusiveScan ∷
-    Collective subgroup.Or collective.InclusiveScan ∷ Collective subgroup.Xor collective.InclusiveScan ∷
-    Collective subgroup.All collective.ExclusiveScan ∷ Collective subgroup.Any collective.ExclusiveScan ∷
-    Collective subgroup.Min collective.ExclusiveScan ∷ Collective subgroup.Max collective.ExclusiveScan ∷
-    Collective subgroup.And collective.ExclusiveScan ∷ Collective subgroup.Or collective.ExclusiveScan ∷
-    Collective subgroup.Xor collective.ExclusiveScan ∷ RayIntersection true ∷ RayIntersection false ∷
-    RayCorners true ∷ RayCorners false ∷ CooperativeStore false ∷ CooperativeStore true ∷
-    CooperativeMultiplyAdd ∷ TraceRay ∷ Splat vector.Bi ∷ Splat vector.Tri ∷ Splat vector.Quad ∷
+    FromSubgroup (QuadSwapped direction.Diagonal) ∷ Barrier true StorageKept ∷ Barrier true WorkgroupKept ∷
+    Barrier true SubgroupKept ∷ Barrier true TextureKept ∷ Mathematical math.Inverse ∷
+    Mathematical math.Outer ∷ Relation relational.IsNan ∷ Relation relational.IsInf ∷
+    Sample ZeroClamped true false false ∷ Texel false BothTexel ∷ TexelChange CompareExchange false ∷
+    Collective subgroup.All collective.InclusiveScan ∷ Collective subgroup.Any collective.InclusiveScan ∷
+    Collective subgroup.Min collective.InclusiveScan ∷ Collective subgroup.Max collective.InclusiveScan ∷
+    Collective subgroup.And collective.InclusiveScan ∷ Collective subgroup.Or collective.InclusiveScan ∷
+    Collective subgroup.Xor collective.InclusiveScan ∷ Collective subgroup.All collective.ExclusiveScan ∷
+    Collective subgroup.Any collective.ExclusiveScan ∷ Collective subgroup.Min collective.ExclusiveScan ∷
+    Collective subgroup.Max collective.ExclusiveScan ∷ Collective subgroup.And collective.ExclusiveScan ∷
+    Collective subgroup.Or collective.ExclusiveScan ∷ Collective subgroup.Xor collective.ExclusiveScan ∷
+    RayIntersection true ∷ RayIntersection false ∷ RayCorners true ∷ RayCorners false ∷
+    CooperativeStore false ∷ CooperativeStore true ∷ CooperativeMultiplyAdd ∷ TraceRay ∷ Splat vector.Bi ∷
+    Splat vector.Tri ∷ Splat vector.Quad ∷
     []
 
 -- the first operator with this word
@@ -198,9 +199,9 @@ source_told (QuadSwapped direction.X) = refl
 source_told (QuadSwapped _) = refl
 source_told _ = refl
 
-barrier_told : (k : Kept) → IsToldBy (Barrier k)
-barrier_told StorageKept = refl
-barrier_told _ = refl
+barrier_told : (control : Bool) (k : Kept) → IsToldBy (Barrier control k)
+barrier_told control StorageKept = refl
+barrier_told control _ = refl
 
 splat_told : (n : VectorSize) → IsToldBy (Splat n)
 splat_told vector.Bi = refl
@@ -216,7 +217,8 @@ told (Derivative a c) u = derivative_told a c
 told ArrayLength u = refl
 told (Sample l compares arrayed offset) u = sample_told l compares arrayed offset
 told (Gather c compares at_zero arrayed offset) u = gather_told c compares at_zero arrayed offset
-told (Texel arrayed t) u = refl
+told (Texel arrayed OnlyTexel) u = refl
+told (Texel arrayed _) u = refl
 told (TexelStore arrayed) u = refl
 told (TexelChange c arrayed) u = texel_change_told c arrayed
 told (ImageSize of_level) u = refl
@@ -228,7 +230,7 @@ told UniformLoad u = refl
 told (Ballot predicate) u = refl
 told (Collective o c) u = collective_told o c
 told (FromSubgroup s) u = source_told s
-told (Barrier k) u = barrier_told k
+told (Barrier control k) u = barrier_told control k
 told (CooperativeLoad row_major t) u = absurd (false≢true u)
 told (CooperativeStore true) u = refl
 told (CooperativeStore false) u = refl
@@ -265,6 +267,7 @@ told_by_count (Sample l compares arrayed offset) t = absurd (false≢true t)
 told_by_count (Gather c compares at_zero arrayed offset) t = absurd (false≢true t)
 told_by_count (Texel arrayed of_) t = absurd (false≢true t)
 told_by_count (Convert u) t = absurd (false≢true t)
+told_by_count (Barrier control k) t = absurd (false≢true t)
 told_by_count (TexelStore true) t = refl
 told_by_count (TexelStore false) t = refl
 told_by_count (TexelChange c true) t = refl
@@ -287,6 +290,8 @@ keeps_word (Sample Automatic compares arrayed offset) = refl
 keeps_word (Sample Zero true arrayed offset) = refl
 keeps_word (Sample Zero false arrayed offset) = refl
 keeps_word (Sample _ compares arrayed offset) = refl
+keeps_word (Texel arrayed OnlyTexel) = refl
+keeps_word (Texel arrayed _) = refl
 keeps_word (CooperativeLoad true t) = refl
 keeps_word (CooperativeLoad false t) = refl
 keeps_word (CooperativeStore true) = refl

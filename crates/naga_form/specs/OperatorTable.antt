@@ -37,9 +37,9 @@ use Rattle.naga_form.specs.Operators.{operator_form}
 pub data Level : Type 0 where
   Automatic Zero ZeroClamped Exact Biased Graded : Level
 
--- whether a texel is taken of an image without samples or levels, of a sample or of a level
+-- whether a texel is taken of an image without samples or levels, of a sample, of a level, or of both
 pub data TexelOf : Type 0 where
-  OnlyTexel SampleTexel LevelTexel : TexelOf
+  OnlyTexel SampleTexel LevelTexel BothTexel : TexelOf
 
 -- what an image is asked for
 pub data ImageCount : Type 0 where
@@ -67,7 +67,8 @@ pub data Operator : Type 0 where
   Derivative : DerivativeAxis → DerivativeControl → Operator
   ArrayLength : Operator
   Sample : Level → (compares arrayed offset : Bool) → Operator
-  -- a depth image has no components
+  -- A depth image has no components. What the table lacks are the sampling forms that have no word: a gather at a given level or
+  -- with the coordinate kept off the edges, and a sampling that keeps it off them at another level than zero.
   Gather : Option SwizzleComponent → (compares at_zero arrayed offset : Bool) → Operator
   Texel : (arrayed : Bool) → TexelOf → Operator
   TexelStore : (arrayed : Bool) → Operator
@@ -80,7 +81,7 @@ pub data Operator : Type 0 where
   Ballot : (predicate : Bool) → Operator
   Collective : SubgroupOperation → CollectiveOperation → Operator
   FromSubgroup : Source → Operator
-  Barrier : Kept → Operator
+  Barrier : (control : Bool) → Kept → Operator
   CooperativeLoad : (row_major : Bool) → TypeSpecifier → Operator
   CooperativeStore : (row_major : Bool) → Operator
   CooperativeMultiplyAdd : Operator
@@ -217,6 +218,7 @@ operator_word ArrayLength = Some (codes "arrayLength")
 operator_word (Sample level compares arrayed offset) = sample_word level compares
 operator_word (Gather component compares at_zero arrayed offset) =
     Some (codes "textureGather" ++ (if_word compares (codes "Compare") ++ component_word component))
+operator_word (Texel arrayed BothTexel) = None
 operator_word (Texel arrayed of_) = Some (codes "textureLoad")
 operator_word (TexelStore arrayed) = Some (codes "textureStore")
 operator_word (TexelChange way arrayed) = texel_change_word way
@@ -229,7 +231,7 @@ operator_word UniformLoad = Some (codes "workgroupUniformLoad")
 operator_word (Ballot predicate) = Some (codes "subgroupBallot")
 operator_word (Collective op collective) = collective_word op collective
 operator_word (FromSubgroup source) = Some (source_word source)
-operator_word (Barrier kept) = Some (barrier_word kept)
+operator_word (Barrier control kept) = Some (barrier_word kept)
 operator_word (CooperativeLoad false t) = Some (with_type (codes "coopLoad") t)
 operator_word (CooperativeLoad true t) = Some (with_type (codes "coopLoadT") t)
 operator_word (CooperativeStore false) = Some (codes "coopStore")
@@ -266,6 +268,7 @@ abbrev pub own_word : Operator → List ℕ
 own_word (Mathematical fun) = own_math_word fun
 own_word (Relation fun) = own_relational_word fun
 own_word (Sample level compares arrayed offset) = codes " textureSampleCompareBaseClampToEdge"
+own_word (Texel arrayed of_) = codes " textureLoad"
 own_word (TexelChange way arrayed) = codes " textureAtomicCompareExchangeWeak"
 own_word (Collective op collective) = own_collective_word op collective
 own_word (RayIntersection committed) = codes " intersection" ++ committed_word committed
@@ -315,6 +318,7 @@ level_count Graded compares = 2
 
 abbrev pub texel_count : TexelOf → ℕ
 texel_count OnlyTexel = 0
+texel_count BothTexel = 2
 texel_count _ = 1
 
 abbrev pub source_count : Source → ℕ
@@ -348,7 +352,7 @@ operand_count UniformLoad = 1
 operand_count (Ballot predicate) = if_there predicate
 operand_count (Collective op collective) = 1
 operand_count (FromSubgroup source) = source_count source
-operand_count (Barrier kept) = 0
+operand_count (Barrier control kept) = 0
 operand_count (CooperativeLoad row_major t) = 2
 operand_count (CooperativeStore row_major) = 3
 operand_count CooperativeMultiplyAdd = 3
@@ -371,12 +375,13 @@ abbrev pub one_word : Operator → Operator
 -- a negation and a difference, which have one operand and two;
 one_word (UnarySign unary.Negate) = BinarySign binary.Subtract
 -- samplings of images with layers and without, with an offset and without, and at level zero and a given one: the types of
--- the image and of the operands tell them apart, and level zero is an operand;
+-- the image and of the operands tell them apart, and level zero is an operand or, compared, one operand less;
 one_word (Sample level compares arrayed offset) = Sample (given_level level) compares false false
 -- gathers of images with layers and without, and with an offset and without, which the types tell apart; and gathers at
 -- level zero and at that of the derivatives, which are one operation, since a gather is always at level zero;
 one_word (Gather component compares at_zero arrayed offset) = Gather component compares false false false
 -- loads of texels, of images of other types;
+one_word (Texel arrayed BothTexel) = Texel false BothTexel
 one_word (Texel arrayed of_) = Texel false OnlyTexel
 -- stores and changes of texels of images with layers and without, which have one operand more;
 one_word (TexelStore arrayed) = TexelStore false
@@ -384,6 +389,8 @@ one_word (TexelChange way arrayed) = TexelChange way false
 -- the size of an image, and of a level of it, and a ballot with a predicate and without: these have one operand more;
 one_word (ImageSize of_level) = ImageSize false
 one_word (Ballot predicate) = Ballot false
+-- a control barrier and a memory barrier, which are alike;
+one_word (Barrier control kept) = Barrier true kept
 -- constructors of one type, which their number of operands tells apart; and a conversion, which is one operation with
 -- the constructor of one operand.
 one_word (Construct t components) = Construct t 1
@@ -395,6 +402,7 @@ abbrev pub is_told : Operator → Bool
 is_told (Sample level compares arrayed offset) = false
 is_told (Gather component compares at_zero arrayed offset) = false
 is_told (Texel arrayed of_) = false
+is_told (Barrier control kept) = false
 is_told (Convert t) = false
 is_told _ = true
 

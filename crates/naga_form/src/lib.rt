@@ -77,7 +77,7 @@ pub fn tells_literals_apart()
 {}
 
 /// What the runs call two operators is one word only where `one_word` sends them to one, and these do share it. But for samplings,
-/// gathers, loads of texels and conversions, the number of operands tells those apart that share a word.
+/// gathers, loads of texels, barriers and conversions, the number of operands tells those apart that share a word.
 pub fn tells_operators_apart()
     ensures words { (a b : Operator) → TypeIsSound a → TypeIsSound b → run_word a ≡ run_word b → one_word a ≡ one_word b }
     ensures kept { (a : Operator) → run_word (one_word a) ≡ run_word a }
