@@ -1,3 +1,4 @@
+pub mod OperatorEvents
 pub mod TypedWords
 pub mod OperatorWords
 pub mod TypeIdentities

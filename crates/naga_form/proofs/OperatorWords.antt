@@ -4,7 +4,7 @@ use Rattle.std.specs.Prelude.{if◌then◌else◌}
 use Rattle.std.specs.Str.{bytes_eq}
 use Rattle.std.proofs.lemmas.Bool.{false≢true}
 use Rattle.naga_info.proofs.Options.{same_some}
-use Rattle.std.specs.Option.{option_map, option_map_or, option_and_then, option_or}
+use Rattle.std.specs.Option.{option_or}
 use Rattle.naga_enumerations.specs.declared.expression.SwizzleComponent.{SwizzleComponent}
 use Rattle.naga_enumerations.specs.declared.expression.SwizzleComponent.TheVariants as component
 use Rattle.naga_enumerations.specs.declared.types.VectorSize.{VectorSize}
@@ -26,7 +26,7 @@ use Rattle.naga_operators.specs.declared.SubgroupOperation.TheVariants as subgro
 use Rattle.naga_operators.specs.declared.CollectiveOperation.{CollectiveOperation}
 use Rattle.naga_operators.specs.declared.CollectiveOperation.TheVariants as collective
 use Rattle.naga_operators.specs.declared.Direction.TheVariants as direction
-use Rattle.naga_form.specs.OperatorTable.{Operator, BinarySign, UnarySign, Choice, Mathematical, Relation, Derivative, ArrayLength, Sample, Gather, Texel, TexelStore, TexelChange, ImageSize, CountOf, AtomicLoad, AtomicStore, AtomicChange, UniformLoad, Ballot, Collective, FromSubgroup, Barrier, CooperativeLoad, CooperativeStore, CooperativeMultiplyAdd, TraceRay, Construct, Splat, Convert, Reinterpret, Level, Automatic, Zero, ZeroClamped, Exact, Biased, Graded, OnlyTexel, ImageCount, Levels, Layers, Samples, Change, AddTo, SubtractFrom, AndWith, OrWith, XorWith, MinimumOf, MaximumOf, Exchange, CompareExchange, Source, First, Indexed, Shuffled, ShuffledDown, ShuffledUp, ShuffledXor, QuadIndexed, QuadSwapped, Kept, StorageKept, WorkgroupKept, SubgroupKept, TextureKept, operator_word, operand_count, one_word, is_told, is_untyped}
+use Rattle.naga_form.specs.OperatorTable.{Operator, BinarySign, UnarySign, Choice, Mathematical, Relation, Derivative, ArrayLength, Sample, Gather, Texel, TexelStore, TexelChange, ImageSize, CountOf, AtomicLoad, AtomicStore, AtomicChange, UniformLoad, Ballot, Collective, FromSubgroup, Barrier, CooperativeLoad, CooperativeStore, CooperativeMultiplyAdd, TraceRay, RayIntersection, RayCorners, Construct, Splat, Convert, Reinterpret, Level, Automatic, Zero, ZeroClamped, Exact, Biased, Graded, OnlyTexel, BothTexel, ImageCount, Levels, Layers, Samples, Change, AddTo, SubtractFrom, AndWith, OrWith, XorWith, MinimumOf, MaximumOf, Exchange, CompareExchange, Source, First, Indexed, Shuffled, ShuffledDown, ShuffledUp, ShuffledXor, QuadIndexed, QuadSwapped, Kept, StorageKept, WorkgroupKept, SubgroupKept, TextureKept, run_word, operand_count, one_word, is_told, is_untyped}
 
 -- the operators of different words that take no type
 abbrev pub mathematical : List Operator
@@ -82,18 +82,26 @@ others =
     FromSubgroup First ∷ FromSubgroup Indexed ∷ FromSubgroup Shuffled ∷ FromSubgroup ShuffledDown ∷
     FromSubgroup ShuffledUp ∷ FromSubgroup ShuffledXor ∷ FromSubgroup QuadIndexed ∷
     FromSubgroup (QuadSwapped direction.X) ∷ FromSubgroup (QuadSwapped direction.Y) ∷
-    FromSubgroup (QuadSwapped direction.Diagonal) ∷ Barrier StorageKept ∷ Barrier WorkgroupKept ∷
-    Barrier SubgroupKept ∷ Barrier TextureKept ∷ CooperativeStore false ∷ CooperativeStore true ∷
-    CooperativeMultiplyAdd ∷ TraceRay ∷ Splat vector.Bi ∷ Splat vector.Tri ∷ Splat vector.Quad ∷
+    FromSubgroup (QuadSwapped direction.Diagonal) ∷ Barrier true StorageKept ∷ Barrier true WorkgroupKept ∷
+    Barrier true SubgroupKept ∷ Barrier true TextureKept ∷ Mathematical math.Inverse ∷
+    Mathematical math.Outer ∷ Relation relational.IsNan ∷ Relation relational.IsInf ∷
+    Sample ZeroClamped true false false ∷ Texel false BothTexel ∷ TexelChange CompareExchange false ∷
+    Collective subgroup.All collective.InclusiveScan ∷ Collective subgroup.Any collective.InclusiveScan ∷
+    Collective subgroup.Min collective.InclusiveScan ∷ Collective subgroup.Max collective.InclusiveScan ∷
+    Collective subgroup.And collective.InclusiveScan ∷ Collective subgroup.Or collective.InclusiveScan ∷
+    Collective subgroup.Xor collective.InclusiveScan ∷ Collective subgroup.All collective.ExclusiveScan ∷
+    Collective subgroup.Any collective.ExclusiveScan ∷ Collective subgroup.Min collective.ExclusiveScan ∷
+    Collective subgroup.Max collective.ExclusiveScan ∷ Collective subgroup.And collective.ExclusiveScan ∷
+    Collective subgroup.Or collective.ExclusiveScan ∷ Collective subgroup.Xor collective.ExclusiveScan ∷
+    RayIntersection true ∷ RayIntersection false ∷ RayCorners true ∷ RayCorners false ∷
+    CooperativeStore false ∷ CooperativeStore true ∷ CooperativeMultiplyAdd ∷ TraceRay ∷ Splat vector.Bi ∷
+    Splat vector.Tri ∷ Splat vector.Quad ∷
     []
-
-abbrev pub has_word : List ℕ → Option (List ℕ) → Bool
-has_word w o = option_map_or (bytes_eq w) o false
 
 -- the first operator with this word
 abbrev pub first_with : List ℕ → List Operator → Option Operator
 first_with w [] = None
-first_with w (o ∷ os) = if has_word w (operator_word o) then Some o else first_with w os
+first_with w (o ∷ os) = if bytes_eq w (run_word o) then Some o else first_with w os
 
 -- the operator of a word, if there is one: those of mathematics stand last
 abbrev pub operator_of : List ℕ → Option Operator
@@ -101,7 +109,7 @@ operator_of w = option_or (first_with w others) (first_with w mathematical)
 
 -- its word tells the operator that stands for it
 abbrev IsToldBy : Operator → Type 0
-IsToldBy o = option_and_then operator_of (operator_word o) ≡ option_map (λ w. one_word o) (operator_word o)
+IsToldBy o = operator_of (run_word o) ≡ Some (one_word o)
 
 binary_told : (op : BinaryOperator) → IsToldBy (BinarySign op)
 binary_told binary.Add = refl
@@ -191,15 +199,15 @@ source_told (QuadSwapped direction.X) = refl
 source_told (QuadSwapped _) = refl
 source_told _ = refl
 
-barrier_told : (k : Kept) → IsToldBy (Barrier k)
-barrier_told StorageKept = refl
-barrier_told _ = refl
+barrier_told : (control : Bool) (k : Kept) → IsToldBy (Barrier control k)
+barrier_told control StorageKept = refl
+barrier_told control _ = refl
 
 splat_told : (n : VectorSize) → IsToldBy (Splat n)
 splat_told vector.Bi = refl
 splat_told _ = refl
 
-told : (o : Operator) → is_untyped o ≡ true → IsToldBy o
+pub told : (o : Operator) → is_untyped o ≡ true → IsToldBy o
 told (BinarySign op) u = binary_told op
 told (UnarySign op) u = unary_told op
 told Choice u = refl
@@ -209,7 +217,8 @@ told (Derivative a c) u = derivative_told a c
 told ArrayLength u = refl
 told (Sample l compares arrayed offset) u = sample_told l compares arrayed offset
 told (Gather c compares at_zero arrayed offset) u = gather_told c compares at_zero arrayed offset
-told (Texel arrayed t) u = refl
+told (Texel arrayed OnlyTexel) u = refl
+told (Texel arrayed _) u = refl
 told (TexelStore arrayed) u = refl
 told (TexelChange c arrayed) u = texel_change_told c arrayed
 told (ImageSize of_level) u = refl
@@ -221,24 +230,24 @@ told UniformLoad u = refl
 told (Ballot predicate) u = refl
 told (Collective o c) u = collective_told o c
 told (FromSubgroup s) u = source_told s
-told (Barrier k) u = barrier_told k
+told (Barrier control k) u = barrier_told control k
 told (CooperativeLoad row_major t) u = absurd (false≢true u)
 told (CooperativeStore true) u = refl
 told (CooperativeStore false) u = refl
 told CooperativeMultiplyAdd u = refl
 told TraceRay u = refl
+told (RayIntersection true) u = refl
+told (RayIntersection false) u = refl
+told (RayCorners true) u = refl
+told (RayCorners false) u = refl
 told (Construct t n) u = absurd (false≢true u)
 told (Splat n) u = splat_told n
 told (Convert t) u = absurd (false≢true u)
 told (Reinterpret t) u = absurd (false≢true u)
 
-pub word_tells : (o : Operator) (w : List ℕ) → is_untyped o ≡ true → operator_word o ≡ Some w → operator_of w ≡ Some (one_word o)
-word_tells o w u e =
-    sym (ap (option_and_then operator_of) e) ∙ (told o u ∙ ap (option_map (λ w. one_word o)) e)
-
 -- two that take no type, and have one word, have one operator that stands for them
-pub untyped_share : (a b : Operator) (w : List ℕ) → is_untyped a ≡ true → is_untyped b ≡ true → operator_word a ≡ Some w → operator_word b ≡ Some w → one_word a ≡ one_word b
-untyped_share a b w ua ub ea eb = same_some (one_word a) (one_word b) (sym (word_tells a w ua ea) ∙ word_tells b w ub eb)
+pub untyped_share : (a b : Operator) → is_untyped a ≡ true → is_untyped b ≡ true → run_word a ≡ run_word b → one_word a ≡ one_word b
+untyped_share a b ua ub e = same_some (one_word a) (one_word b) (sym (told a ua) ∙ (ap operator_of e ∙ told b ub))
 
 -- ---- with the number of operands
 -- the operator with this word's and this number of operands
@@ -258,6 +267,7 @@ told_by_count (Sample l compares arrayed offset) t = absurd (false≢true t)
 told_by_count (Gather c compares at_zero arrayed offset) t = absurd (false≢true t)
 told_by_count (Texel arrayed of_) t = absurd (false≢true t)
 told_by_count (Convert u) t = absurd (false≢true t)
+told_by_count (Barrier control k) t = absurd (false≢true t)
 told_by_count (TexelStore true) t = refl
 told_by_count (TexelStore false) t = refl
 told_by_count (TexelChange c true) t = refl
@@ -273,13 +283,15 @@ counted_apart a b ta tb e n =
     sym (told_by_count a ta) ∙ ((λ i. by_count (e i) (n i)) ∙ told_by_count b tb)
 
 -- what stands for an operator has its word
-pub keeps_word : (o : Operator) → operator_word (one_word o) ≡ operator_word o
+pub keeps_word : (o : Operator) → run_word (one_word o) ≡ run_word o
 keeps_word (UnarySign unary.Negate) = refl
 keeps_word (UnarySign _) = refl
 keeps_word (Sample Automatic compares arrayed offset) = refl
 keeps_word (Sample Zero true arrayed offset) = refl
 keeps_word (Sample Zero false arrayed offset) = refl
 keeps_word (Sample _ compares arrayed offset) = refl
+keeps_word (Texel arrayed OnlyTexel) = refl
+keeps_word (Texel arrayed _) = refl
 keeps_word (CooperativeLoad true t) = refl
 keeps_word (CooperativeLoad false t) = refl
 keeps_word (CooperativeStore true) = refl

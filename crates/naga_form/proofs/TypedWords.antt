@@ -1,15 +1,14 @@
 -- The words of operators that take a type are told from all others, and tell the type.
-use Rattle.std.proofs.Common.{[], ◌≡◌, ℕ, Bool, true, false, not, ◌&&◌, ◌||◌, List, ◌∷◌, ◌++◌, codes, drop, Option, Some, None, refl, sym, ap, subst, ◌∙◌}
+use Rattle.std.proofs.Common.{[], ◌≡◌, ℕ, Bool, true, false, not, ◌&&◌, ◌||◌, List, ◌∷◌, ◌++◌, codes, drop, Some, None, refl, sym, ap, subst, ◌∙◌}
 use Rattle.std.specs.Prelude.{if◌then◌else◌}
 use Rattle.std.specs.Str.{bytes_eq}
 use Rattle.std.specs.Bool.{nat_eq}
 use Rattle.std.specs.Char.{is_ascii_digit}
 use Rattle.std.specs.List.{list_all, list_any}
-use Rattle.std.specs.Option.{option_map_or, option_or}
+use Rattle.std.specs.Option.{option_or}
 use Rattle.std.proofs.lemmas.Bool.{false≢true, true≢false, and_parts, eqb-true}
 use Rattle.std.proofs.lemmas.List.{append-nil, append_cancel_left, append_cancel_right}
 use Rattle.std.proofs.lemmas.Slice.Eq.{bytes_eq-Decides}
-use Rattle.naga_info.proofs.Options.{same_some}
 use Rattle.wgsl_text.specs.Words.{is_word_text, is_letter, all_word_bytes, is_word_byte, stands_in, is_builtin}
 use Rattle.wgsl_text.specs.Grammar.{IsType, IsPart, is_type, plain_type_words, TakesNone, fits, rule_among, type_templates}
 use Rattle.wgsl_text.specs.Reading.{ReadsType, type_layout}
@@ -19,8 +18,8 @@ use Rattle.wgsl_text.specs.Tree.{TypeSpecifier, Named, Template, TypeParts, NoPa
 use Rattle.wgsl_text.proofs.WordLemmas.{type_template}
 use Rattle.wgsl_text.proofs.OneReading.{type_has_one_reading}
 use Rattle.naga_form.specs.Abstraction.{head_word}
-use Rattle.naga_form.specs.OperatorTable.{Operator, CooperativeLoad, Construct, Convert, Reinterpret, with_type, operator_word, one_word, is_untyped, TypeIsSound}
-use Rattle.naga_form.proofs.OperatorWords.{others, mathematical, has_word, first_with, operator_of, word_tells, untyped_share}
+use Rattle.naga_form.specs.OperatorTable.{Operator, CooperativeLoad, Construct, Convert, Reinterpret, with_type, run_word, one_word, is_untyped, TypeIsSound}
+use Rattle.naga_form.proofs.OperatorWords.{others, mathematical, first_with, operator_of, told, untyped_share}
 
 -- ---- the head of a word
 word_byte_goes_on : (b : ℕ) → is_word_byte b ≡ true → (nat_eq b 60 || nat_eq b 32) ≡ false
@@ -54,21 +53,17 @@ is_function w = not (is_word_text w) || (is_builtin w && not (stands_in plain_ty
 
 -- what holds of the words of all operators in a list
 abbrev all_words : (List ℕ → Bool) → List Operator → Bool
-all_words p os = list_all (λ o. option_map_or p (operator_word o) true) os
+all_words p os = list_all (λ o. p (run_word o)) os
 
 none_among : (p : List ℕ → Bool) (w : List ℕ) → p w ≡ false → (os : List Operator) → all_words p os ≡ true → first_with w os ≡ None
 none_among p w fails [] all = refl
 none_among p w fails (o ∷ os) all =
-    let parts = and_parts (option_map_or p (operator_word o) true) (all_words p os) all in
-    by (operator_word o) parts.0 (has_word w (operator_word o)) refl (none_among p w fails os parts.1)
+    let parts = and_parts (p (run_word o)) (all_words p os) all in
+    by (bytes_eq w (run_word o)) refl (none_among p w fails os parts.1)
   where
-    other : (x : Option (List ℕ)) → option_map_or p x true ≡ true → has_word w x ≡ true → ⊥
-    other None holds same = false≢true same
-    other (Some v) holds same = false≢true (sym fails ∙ (ap p ((bytes_eq-Decides w v).0 same) ∙ holds))
-
-    by : (x : Option (List ℕ)) → option_map_or p x true ≡ true → (b : Bool) → has_word w x ≡ b → first_with w os ≡ None → (if b then Some o else first_with w os) ≡ None
-    by x holds true same more = absurd (other x holds same)
-    by x holds false same more = more
+    by : (b : Bool) → bytes_eq w (run_word o) ≡ b → first_with w os ≡ None → (if b then Some o else first_with w os) ≡ None
+    by true same more = absurd (false≢true (sym fails ∙ (ap p ((bytes_eq-Decides w (run_word o)).0 same) ∙ (and_parts (p (run_word o)) (all_words p os) all).0)))
+    by false same more = more
 
 not_open : List ℕ → Bool
 not_open w = not (opens w)
@@ -105,7 +100,7 @@ word_bytes (b ∷ bytes) e = letter_first b bytes (and_parts (is_letter b) (all_
     letter_first b bytes p = λ i. (p.0 i || is_ascii_digit b) && p.1 i
 
 -- what a type's layout begins with, up to its parts
-abbrev head_of : TypeSpecifier → List ℕ
+abbrev pub head_of : TypeSpecifier → List ℕ
 head_of (Named w) = w
 head_of (Template w parts) = w
 
@@ -113,7 +108,7 @@ head_text : (t : TypeSpecifier) → IsPart t → is_word_text (head_of t) ≡ tr
 head_text (Named w) is = is.text
 head_text (Template w parts) is = (type_template w parts is.0).word.text
 
-head_is : (t : TypeSpecifier) → IsPart t → head_word (type_layout t) ≡ head_of t
+pub head_is : (t : TypeSpecifier) → IsPart t → head_word (type_layout t) ≡ head_of t
 head_is (Named w) is = ap head_word (named_layout w) ∙ head_alone w (word_bytes w is.text)
 head_is (Template w parts) is = head_before w (text (parts_pieces parts (has_gaps w))) (word_bytes w (head_text (Template w parts) is))
 
@@ -165,13 +160,13 @@ transposed_opens : (t : TypeSpecifier) → not_open (with_type (codes "coopLoadT
 unfolding not_open
 transposed_opens t = refl
 
-typed_is_none : (o : Operator) → is_untyped o ≡ false → TypeIsSound o → (w : List ℕ) → operator_word o ≡ Some w → operator_of w ≡ None
-typed_is_none (CooperativeLoad false t) u is w e = subst (λ v. operator_of v ≡ None) (same_some _ w e) (open_is_none (with_type (codes "coopLoad") t) (load_opens t))
-typed_is_none (CooperativeLoad true t) u is w e = subst (λ v. operator_of v ≡ None) (same_some _ w e) (open_is_none (with_type (codes "coopLoadT") t) (transposed_opens t))
-typed_is_none (Construct t n) u is w e = subst (λ v. operator_of v ≡ None) (same_some _ w e) (type_is_none t is)
-typed_is_none (Convert t) u is w e = subst (λ v. operator_of v ≡ None) (same_some _ w e) (type_is_none t is)
-typed_is_none (Reinterpret t) u is w e = subst (λ v. operator_of v ≡ None) (same_some _ w e) (open_is_none (with_type (codes "bitcast") t) (reinterpret_opens t))
-typed_is_none _ u is w e = absurd (true≢false u)
+typed_is_none : (o : Operator) → is_untyped o ≡ false → TypeIsSound o → operator_of (run_word o) ≡ None
+typed_is_none (CooperativeLoad false t) u is = open_is_none (with_type (codes "coopLoad") t) (load_opens t)
+typed_is_none (CooperativeLoad true t) u is = open_is_none (with_type (codes "coopLoadT") t) (transposed_opens t)
+typed_is_none (Construct t n) u is = type_is_none t is
+typed_is_none (Convert t) u is = type_is_none t is
+typed_is_none (Reinterpret t) u is = open_is_none (with_type (codes "bitcast") t) (reinterpret_opens t)
+typed_is_none _ u is = absurd (true≢false u)
 
 -- ---- two words with types
 none_fits : (parts : TypeParts) → fits TakesNone parts ≡ false
@@ -179,7 +174,7 @@ none_fits NoParts = refl
 none_fits _ = refl
 
 -- a type does not begin with the word of a function
-no_type_begins : (v : List ℕ) → is_type (Named v) ≡ false → rule_among type_templates v ≡ TakesNone → (t : TypeSpecifier) → IsType t → head_of t ≡ v → ⊥
+pub no_type_begins : (v : List ℕ) → is_type (Named v) ≡ false → rule_among type_templates v ≡ TakesNone → (t : TypeSpecifier) → IsType t → head_of t ≡ v → ⊥
 no_type_begins v named rule (Named w) is e = false≢true (sym named ∙ (ap (λ x. is_type (Named x)) (sym e) ∙ is.whole))
 no_type_begins v named rule (Template w parts) is e =
     false≢true (sym (none_fits parts) ∙ (ap (λ r. fits r parts) (sym rule ∙ ap (rule_among type_templates) (sym e)) ∙ is.part.0))
@@ -218,15 +213,7 @@ other_call v x a b apart t u e =
 some_none : (o : Operator) → Some o ≡ None → ⊥
 some_none o e = cc
 
-abbrev type_word : Operator → List ℕ
-type_word (Construct t n) = type_layout t
-type_word (Convert t) = type_layout t
-type_word (Reinterpret t) = with_type (codes "bitcast") t
-type_word (CooperativeLoad false t) = with_type (codes "coopLoad") t
-type_word (CooperativeLoad true t) = with_type (codes "coopLoadT") t
-type_word _ = []
-
-typed_share : (a b : Operator) → is_untyped a ≡ false → is_untyped b ≡ false → TypeIsSound a → TypeIsSound b → type_word a ≡ type_word b → one_word a ≡ one_word b
+typed_share : (a b : Operator) → is_untyped a ≡ false → is_untyped b ≡ false → TypeIsSound a → TypeIsSound b → run_word a ≡ run_word b → one_word a ≡ one_word b
 typed_share (Construct t n) (Construct u m) ua ub sa sb e = ap (λ x. Construct x 1) (same_type t u sa sb e)
 typed_share (Construct t n) (Convert u) ua ub sa sb e = ap (λ x. Construct x 1) (same_type t u sa sb e)
 typed_share (Construct t n) (Reinterpret u) ua ub sa sb e = absurd (type_is_no_call (codes "bitcast") reinterpret_takes t u sa e)
@@ -259,20 +246,12 @@ typed_share (CooperativeLoad false t) _ ua ub sa sb e = absurd (true≢false ub)
 typed_share (CooperativeLoad true t) _ ua ub sa sb e = absurd (true≢false ub)
 typed_share _ b ua ub sa sb e = absurd (true≢false ua)
 
-typed_word : (o : Operator) → is_untyped o ≡ false → operator_word o ≡ Some (type_word o)
-typed_word (CooperativeLoad false t) u = refl
-typed_word (CooperativeLoad true t) u = refl
-typed_word (Construct t n) u = refl
-typed_word (Convert t) u = refl
-typed_word (Reinterpret t) u = refl
-typed_word _ u = absurd (true≢false u)
-
 -- operators of one word have one operator that stands for them
-pub share_a_word : (a b : Operator) (w : List ℕ) → TypeIsSound a → TypeIsSound b → operator_word a ≡ Some w → operator_word b ≡ Some w → one_word a ≡ one_word b
-share_a_word a b w sa sb ea eb = by (is_untyped a) refl (is_untyped b) refl
+pub share_a_word : (a b : Operator) → TypeIsSound a → TypeIsSound b → run_word a ≡ run_word b → one_word a ≡ one_word b
+share_a_word a b sa sb e = by (is_untyped a) refl (is_untyped b) refl
   where
     by : (x : Bool) → is_untyped a ≡ x → (y : Bool) → is_untyped b ≡ y → one_word a ≡ one_word b
-    by true ua true ub = untyped_share a b w ua ub ea eb
-    by true ua false ub = absurd (some_none (one_word a) (sym (word_tells a w ua ea) ∙ typed_is_none b ub sb w eb))
-    by false ua true ub = absurd (some_none (one_word b) (sym (word_tells b w ub eb) ∙ typed_is_none a ua sa w ea))
-    by false ua false ub = typed_share a b ua ub sa sb (same_some (type_word a) (type_word b) (sym (typed_word a ua) ∙ (ea ∙ (sym eb ∙ typed_word b ub))))
+    by true ua true ub = untyped_share a b ua ub e
+    by true ua false ub = absurd (some_none (one_word a) (sym (told a ua) ∙ (ap operator_of e ∙ typed_is_none b ub sb)))
+    by false ua true ub = absurd (some_none (one_word b) (sym (told b ub) ∙ (ap operator_of (sym e) ∙ typed_is_none a ua sa)))
+    by false ua false ub = typed_share a b ua ub sa sb e

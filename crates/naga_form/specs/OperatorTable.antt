@@ -1,7 +1,7 @@
 -- The operators and operations of a module with their words: one table for all of them. An operator here is what an
 -- expression or a statement asks for, apart from its operands; which of those are there that may be left out belongs to it.
 -- What is new is a constructor, and a line of each function below.
-use Rattle.std.specs.Prelude.{ℕ, ◌+◌, Bool, true, false, List, ◌++◌, Option, Some, None, codes, ⊤, if◌then◌else◌}
+use Rattle.std.specs.Prelude.{ℕ, ◌+◌, Bool, true, false, List, [], ◌++◌, Option, Some, None, codes, ⊤, unwrap_or, if◌then◌else◌}
 use Rattle.naga_enumerations.specs.declared.expression.SwizzleComponent.{SwizzleComponent}
 use Rattle.naga_enumerations.specs.declared.expression.SwizzleComponent.TheVariants as component
 use Rattle.naga_enumerations.specs.declared.types.VectorSize.{VectorSize}
@@ -37,9 +37,9 @@ use Rattle.naga_form.specs.Operators.{operator_form}
 pub data Level : Type 0 where
   Automatic Zero ZeroClamped Exact Biased Graded : Level
 
--- whether a texel is taken of an image without samples or levels, of a sample or of a level
+-- whether a texel is taken of an image without samples or levels, of a sample, of a level, or of both
 pub data TexelOf : Type 0 where
-  OnlyTexel SampleTexel LevelTexel : TexelOf
+  OnlyTexel SampleTexel LevelTexel BothTexel : TexelOf
 
 -- what an image is asked for
 pub data ImageCount : Type 0 where
@@ -67,7 +67,8 @@ pub data Operator : Type 0 where
   Derivative : DerivativeAxis → DerivativeControl → Operator
   ArrayLength : Operator
   Sample : Level → (compares arrayed offset : Bool) → Operator
-  -- a depth image has no components
+  -- A depth image has no components. What the table lacks are the sampling forms that have no word: a gather at a given level or
+  -- with the coordinate kept off the edges, and a sampling that keeps it off them at another level than zero.
   Gather : Option SwizzleComponent → (compares at_zero arrayed offset : Bool) → Operator
   Texel : (arrayed : Bool) → TexelOf → Operator
   TexelStore : (arrayed : Bool) → Operator
@@ -80,11 +81,13 @@ pub data Operator : Type 0 where
   Ballot : (predicate : Bool) → Operator
   Collective : SubgroupOperation → CollectiveOperation → Operator
   FromSubgroup : Source → Operator
-  Barrier : Kept → Operator
+  Barrier : (control : Bool) → Kept → Operator
   CooperativeLoad : (row_major : Bool) → TypeSpecifier → Operator
   CooperativeStore : (row_major : Bool) → Operator
   CooperativeMultiplyAdd : Operator
   TraceRay : Operator
+  -- the hit of a ray query, and the corners of what was hit
+  RayIntersection RayCorners : (committed : Bool) → Operator
   -- a value of this type from so many components; none make its zero value
   Construct : TypeSpecifier → (components : ℕ) → Operator
   Splat : VectorSize → Operator
@@ -157,7 +160,7 @@ change_word CompareExchange = codes "CompareExchangeWeak"
 -- a texel is not compared
 abbrev pub texel_change_word : Change → Option (List ℕ)
 texel_change_word CompareExchange = None
-texel_change_word change = Some (codes "textureAtomic" ++ change_word change)
+texel_change_word way = Some (codes "textureAtomic" ++ change_word way)
 
 abbrev pub subgroup_word : SubgroupOperation → List ℕ
 subgroup_word subgroup.All = codes "All"
@@ -215,29 +218,66 @@ operator_word ArrayLength = Some (codes "arrayLength")
 operator_word (Sample level compares arrayed offset) = sample_word level compares
 operator_word (Gather component compares at_zero arrayed offset) =
     Some (codes "textureGather" ++ (if_word compares (codes "Compare") ++ component_word component))
+operator_word (Texel arrayed BothTexel) = None
 operator_word (Texel arrayed of_) = Some (codes "textureLoad")
 operator_word (TexelStore arrayed) = Some (codes "textureStore")
-operator_word (TexelChange change arrayed) = texel_change_word change
+operator_word (TexelChange way arrayed) = texel_change_word way
 operator_word (ImageSize of_level) = Some (codes "textureDimensions")
 operator_word (CountOf what) = Some (image_count_word what)
 operator_word AtomicLoad = Some (codes "atomicLoad")
 operator_word AtomicStore = Some (codes "atomicStore")
-operator_word (AtomicChange change) = Some (codes "atomic" ++ change_word change)
+operator_word (AtomicChange way) = Some (codes "atomic" ++ change_word way)
 operator_word UniformLoad = Some (codes "workgroupUniformLoad")
 operator_word (Ballot predicate) = Some (codes "subgroupBallot")
 operator_word (Collective op collective) = collective_word op collective
 operator_word (FromSubgroup source) = Some (source_word source)
-operator_word (Barrier kept) = Some (barrier_word kept)
+operator_word (Barrier control kept) = Some (barrier_word kept)
 operator_word (CooperativeLoad false t) = Some (with_type (codes "coopLoad") t)
 operator_word (CooperativeLoad true t) = Some (with_type (codes "coopLoadT") t)
 operator_word (CooperativeStore false) = Some (codes "coopStore")
 operator_word (CooperativeStore true) = Some (codes "coopStoreT")
 operator_word CooperativeMultiplyAdd = Some (codes "coopMultiplyAdd")
 operator_word TraceRay = Some (codes "traceRay")
+operator_word (RayIntersection committed) = None
+operator_word (RayCorners committed) = None
 operator_word (Construct t components) = Some (type_layout t)
 operator_word (Splat size) = Some (vector_word size)
 operator_word (Convert t) = Some (type_layout t)
 operator_word (Reinterpret t) = Some (with_type (codes "bitcast") t)
+
+abbrev pub own_math_word : MathFunction → List ℕ
+own_math_word math.Inverse = codes " inverse"
+own_math_word math.Outer = codes " outer"
+own_math_word _ = []
+
+abbrev pub own_relational_word : RelationalFunction → List ℕ
+own_relational_word relational.IsNan = codes " isNan"
+own_relational_word relational.IsInf = codes " isInf"
+own_relational_word _ = []
+
+abbrev pub own_collective_word : SubgroupOperation → CollectiveOperation → List ℕ
+own_collective_word op collective.InclusiveScan = codes " subgroupInclusive" ++ subgroup_word op
+own_collective_word op collective.ExclusiveScan = codes " subgroupExclusive" ++ subgroup_word op
+own_collective_word op collective.Reduce = []
+
+abbrev pub committed_word : (committed : Bool) → List ℕ
+committed_word committed = if committed then codes "Committed" else codes "Candidate"
+
+-- What has no word is called by one with a blank in front, which no text can spell.
+abbrev pub own_word : Operator → List ℕ
+own_word (Mathematical fun) = own_math_word fun
+own_word (Relation fun) = own_relational_word fun
+own_word (Sample level compares arrayed offset) = codes " textureSampleCompareBaseClampToEdge"
+own_word (Texel arrayed of_) = codes " textureLoad"
+own_word (TexelChange way arrayed) = codes " textureAtomicCompareExchangeWeak"
+own_word (Collective op collective) = own_collective_word op collective
+own_word (RayIntersection committed) = codes " intersection" ++ committed_word committed
+own_word (RayCorners committed) = codes " corners" ++ committed_word committed
+own_word _ = []
+
+-- what the runs call an operator
+abbrev pub run_word : Operator → List ℕ
+run_word operator = unwrap_or (operator_word operator) (own_word operator)
 
 -- ---- numbers of operands
 abbrev pub if_there : Bool → ℕ
@@ -278,6 +318,7 @@ level_count Graded compares = 2
 
 abbrev pub texel_count : TexelOf → ℕ
 texel_count OnlyTexel = 0
+texel_count BothTexel = 2
 texel_count _ = 1
 
 abbrev pub source_count : Source → ℕ
@@ -300,22 +341,24 @@ operand_count (Gather component compares at_zero arrayed offset) =
     3 + (if_there compares + (if_there arrayed + if_there offset))
 operand_count (Texel arrayed of_) = 2 + (if_there arrayed + texel_count of_)
 operand_count (TexelStore arrayed) = 3 + if_there arrayed
-operand_count (TexelChange change arrayed) = 3 + if_there arrayed
+operand_count (TexelChange way arrayed) = 3 + if_there arrayed
 operand_count (ImageSize of_level) = 1 + if_there of_level
 operand_count (CountOf what) = 1
 operand_count AtomicLoad = 1
 operand_count AtomicStore = 2
 operand_count (AtomicChange CompareExchange) = 3
-operand_count (AtomicChange change) = 2
+operand_count (AtomicChange way) = 2
 operand_count UniformLoad = 1
 operand_count (Ballot predicate) = if_there predicate
 operand_count (Collective op collective) = 1
 operand_count (FromSubgroup source) = source_count source
-operand_count (Barrier kept) = 0
+operand_count (Barrier control kept) = 0
 operand_count (CooperativeLoad row_major t) = 2
 operand_count (CooperativeStore row_major) = 3
 operand_count CooperativeMultiplyAdd = 3
 operand_count TraceRay = 3
+operand_count (RayIntersection committed) = 1
+operand_count (RayCorners committed) = 1
 operand_count (Construct t components) = components
 operand_count (Splat size) = 1
 operand_count (Convert t) = 1
@@ -332,19 +375,22 @@ abbrev pub one_word : Operator → Operator
 -- a negation and a difference, which have one operand and two;
 one_word (UnarySign unary.Negate) = BinarySign binary.Subtract
 -- samplings of images with layers and without, with an offset and without, and at level zero and a given one: the types of
--- the image and of the operands tell them apart, and level zero is an operand;
+-- the image and of the operands tell them apart, and level zero is an operand or, compared, one operand less;
 one_word (Sample level compares arrayed offset) = Sample (given_level level) compares false false
 -- gathers of images with layers and without, and with an offset and without, which the types tell apart; and gathers at
 -- level zero and at that of the derivatives, which are one operation, since a gather is always at level zero;
 one_word (Gather component compares at_zero arrayed offset) = Gather component compares false false false
 -- loads of texels, of images of other types;
+one_word (Texel arrayed BothTexel) = Texel false BothTexel
 one_word (Texel arrayed of_) = Texel false OnlyTexel
 -- stores and changes of texels of images with layers and without, which have one operand more;
 one_word (TexelStore arrayed) = TexelStore false
-one_word (TexelChange change arrayed) = TexelChange change false
+one_word (TexelChange way arrayed) = TexelChange way false
 -- the size of an image, and of a level of it, and a ballot with a predicate and without: these have one operand more;
 one_word (ImageSize of_level) = ImageSize false
 one_word (Ballot predicate) = Ballot false
+-- a control barrier and a memory barrier, which are alike;
+one_word (Barrier control kept) = Barrier true kept
 -- constructors of one type, which their number of operands tells apart; and a conversion, which is one operation with
 -- the constructor of one operand.
 one_word (Construct t components) = Construct t 1
@@ -356,8 +402,24 @@ abbrev pub is_told : Operator → Bool
 is_told (Sample level compares arrayed offset) = false
 is_told (Gather component compares at_zero arrayed offset) = false
 is_told (Texel arrayed of_) = false
+is_told (Barrier control kept) = false
 is_told (Convert t) = false
 is_told _ = true
+
+-- it asks for an event; others with operands have a value by the values of these alone
+abbrev pub asks : Operator → Bool
+asks (BinarySign op) = false
+asks (UnarySign op) = false
+asks Choice = false
+asks (Mathematical fun) = false
+asks (Relation fun) = false
+asks ArrayLength = false
+asks CooperativeMultiplyAdd = false
+asks (Construct t components) = false
+asks (Splat size) = false
+asks (Convert t) = false
+asks (Reinterpret t) = false
+asks _ = true
 
 -- the operator takes no type
 abbrev pub is_untyped : Operator → Bool

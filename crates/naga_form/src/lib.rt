@@ -8,7 +8,7 @@ ghost use Rattle.naga_ir.specs.declared.types.Type_.{Type_};
 ghost use Rattle.naga_info.specs.declared.info.ExpressionInfo.{ExpressionInfo};
 ghost use Rattle.name_keys.specs.Keys.{NameMap};
 ghost use Rattle.shader_runs.specs.Form.{form_function, form_module};
-ghost use Rattle.naga_form.specs.Abstraction.{function_read, program_read};
+ghost use Rattle.naga_form.specs.Abstraction.{function_read, is_request, program_read};
 ghost use Rattle.naga_form.specs.Resolution.{ResolvesAs};
 ghost use Rattle.naga_form.specs.Literals.{LiteralsAreWritten, literal_value};
 ghost use Rattle.naga_enumerations.specs.declared.expression.Literal.{Literal};
@@ -16,7 +16,7 @@ ghost use Rattle.naga_form.specs.Types.{value_type, LocalsAreSpelled};
 ghost use Rattle.naga_form.specs.TypeIdentity.{identity};
 ghost use Rattle.accepted_modules.specs.Types.{spelling_of};
 ghost use Rattle.naga_info.specs.declared.info.TypeResolution.{TypeResolution};
-ghost use Rattle.naga_form.specs.OperatorTable.{Operator, TypeIsSound, is_told, one_word, operand_count, operator_word};
+ghost use Rattle.naga_form.specs.OperatorTable.{Operator, TypeIsSound, asks, is_told, one_word, operand_count, operator_word, run_word};
 ghost use Rattle.naga_form.specs.Bindings.{BindsAs};
 ghost use Rattle.naga_form.specs.Form.{function_form, written_program};
 ghost use Rattle.naga_form.specs.Premises.{nothing_named, scope_holds, handles_are_counted};
@@ -77,10 +77,15 @@ pub fn tells_literals_apart()
     ensures { (a b : Literal) → literal_value a ≡ literal_value b → a ≡ b }
 {}
 
-/// Operators share a word only where `one_word` sends them to one, and these do share it. But for samplings, gathers, loads of
-/// texels and conversions, the number of operands tells those apart that share a word.
+/// What the runs call two operators is one word only where `one_word` sends them to one, and these do share it. But for samplings,
+/// gathers, loads of texels, barriers and conversions, the number of operands tells those apart that share a word.
 pub fn tells_operators_apart()
-    ensures words { (a b : Operator) (word : List ℕ) → TypeIsSound a → TypeIsSound b → operator_word a ≡ Some word → operator_word b ≡ Some word → one_word a ≡ one_word b }
-    ensures kept { (a : Operator) → operator_word (one_word a) ≡ operator_word a }
+    ensures words { (a b : Operator) → TypeIsSound a → TypeIsSound b → run_word a ≡ run_word b → one_word a ≡ one_word b }
+    ensures kept { (a : Operator) → run_word (one_word a) ≡ run_word a }
     ensures counts { (a b : Operator) → IsTrue (is_told a) → IsTrue (is_told b) → one_word a ≡ one_word b → operand_count a ≡ operand_count b → a ≡ b }
+{}
+
+/// The words that the run of a text takes for requests of events are, of all operators, those of the operators that ask for one.
+pub fn tells_requests_apart()
+    ensures { (a : Operator) (word : List ℕ) → TypeIsSound a → operator_word a ≡ Some word → is_request word ≡ asks a }
 {}

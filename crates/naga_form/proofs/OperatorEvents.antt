@@ -1,0 +1,152 @@
+-- The words that ask for an event are those of the operators that do.
+use Rattle.std.proofs.Common.{[], ◌≡◌, ℕ, Bool, true, false, not, ◌&&◌, List, ◌∷◌, codes, Option, Some, None, refl, sym, ap, subst, ◌∙◌}
+use Rattle.std.specs.Prelude.{if◌then◌else◌, unwrap_or}
+use Rattle.std.specs.Str.{bytes_eq}
+use Rattle.std.specs.List.{list_all}
+use Rattle.std.specs.Option.{option_map_or, option_or}
+use Rattle.std.proofs.lemmas.Bool.{false≢true, true≢false, and_parts, not-true}
+use Rattle.naga_info.proofs.Options.{same_some}
+use Rattle.naga_operators.specs.declared.UnaryOperator.TheVariants as unary
+use Rattle.wgsl_text.specs.Words.{stands_in, is_builtin}
+use Rattle.wgsl_text.specs.Grammar.{IsType, is_type, PartsRule, TakesNone, rule_among, type_templates}
+use Rattle.wgsl_text.specs.Reading.{type_layout}
+use Rattle.wgsl_text.specs.Tree.{TypeSpecifier, Named}
+use Rattle.wgsl_text.proofs.WordLemmas.{all_words, passes}
+use Rattle.naga_form.specs.Abstraction.{request_words, is_request}
+use Rattle.naga_form.specs.OperatorTable.{Operator, UnarySign, Sample, Texel, OnlyTexel, Automatic, Zero, CooperativeLoad, CooperativeStore, Construct, Convert, Reinterpret, with_type, operator_word, own_word, run_word, one_word, asks, is_untyped, TypeIsSound}
+use Rattle.naga_form.proofs.OperatorWords.{others, mathematical, first_with, operator_of, told}
+use Rattle.naga_form.proofs.TypedWords.{head_of, head_is, no_type_begins}
+
+keeps_text : (o : Operator) → operator_word (one_word o) ≡ operator_word o
+keeps_text (UnarySign unary.Negate) = refl
+keeps_text (UnarySign _) = refl
+keeps_text (Sample Automatic compares arrayed offset) = refl
+keeps_text (Sample Zero true arrayed offset) = refl
+keeps_text (Sample Zero false arrayed offset) = refl
+keeps_text (Sample _ compares arrayed offset) = refl
+keeps_text (Texel arrayed OnlyTexel) = refl
+keeps_text (Texel arrayed _) = refl
+keeps_text (CooperativeLoad true t) = refl
+keeps_text (CooperativeLoad false t) = refl
+keeps_text (CooperativeStore true) = refl
+keeps_text (CooperativeStore false) = refl
+keeps_text _ = refl
+
+keeps_asking : (o : Operator) → asks (one_word o) ≡ asks o
+keeps_asking (UnarySign unary.Negate) = refl
+keeps_asking (UnarySign _) = refl
+keeps_asking (Texel arrayed OnlyTexel) = refl
+keeps_asking (Texel arrayed _) = refl
+keeps_asking _ = refl
+
+abbrev same : Bool → Bool → Bool
+same true b = b
+same false b = not b
+
+same_is : (a b : Bool) → same a b ≡ true → a ≡ b
+same_is true true e = refl
+same_is true false e = absurd (false≢true e)
+same_is false true e = absurd (false≢true e)
+same_is false false e = refl
+
+-- where the operator has a word, that asks as it does
+asks_alike : Operator → Bool
+asks_alike o = option_map_or (λ w. same (is_request w) (asks o)) (operator_word o) true
+
+others_alike : list_all asks_alike others ≡ true
+unfolding asks_alike is_request
+others_alike = refl
+
+mathematical_alike : list_all asks_alike mathematical ≡ true
+unfolding asks_alike is_request
+mathematical_alike = refl
+
+-- what is found in a list passes the test of all in it
+found_passes : (w : List ℕ) (os : List Operator) (o : Operator) → list_all asks_alike os ≡ true → first_with w os ≡ Some o → asks_alike o ≡ true
+found_passes w [] o all e = absurd (cc)
+found_passes w (x ∷ os) o all e =
+    by (bytes_eq w (run_word x)) (and_parts (asks_alike x) (list_all asks_alike os) all) (found_passes w os o) e
+  where
+    by : (b : Bool) → (asks_alike x ≡ true) × (list_all asks_alike os ≡ true) → (list_all asks_alike os ≡ true → first_with w os ≡ Some o → asks_alike o ≡ true) → (if b then Some x else first_with w os) ≡ Some o → asks_alike o ≡ true
+    by true parts later e = subst (λ y. asks_alike y ≡ true) (same_some x o e) parts.0
+    by false parts later e = later parts.1 e
+
+operator_passes : (w : List ℕ) (o : Operator) → operator_of w ≡ Some o → asks_alike o ≡ true
+operator_passes w o e = by (first_with w others) refl e
+  where
+    by : (x : Option Operator) → first_with w others ≡ x → option_or x (first_with w mathematical) ≡ Some o → asks_alike o ≡ true
+    by (Some y) is e = found_passes w others o others_alike (is ∙ e)
+    by None is e = found_passes w mathematical o mathematical_alike e
+
+untyped_stands : (o : Operator) (w : List ℕ) → operator_word o ≡ Some w → asks_alike (one_word o) ≡ true → same (is_request w) (asks o) ≡ true
+unfolding asks_alike
+untyped_stands o w e holds =
+    ap (λ b. same (is_request w) b) (sym (keeps_asking o))
+    ∙ (ap (λ x. option_map_or (λ v. same (is_request v) (asks (one_word o))) x true) (sym (keeps_text o ∙ e)) ∙ holds)
+
+untyped_asks : (o : Operator) (w : List ℕ) → is_untyped o ≡ true → operator_word o ≡ Some w → is_request w ≡ asks o
+untyped_asks o w u e =
+    same_is (is_request w) (asks o) (untyped_stands o w e (operator_passes (run_word o) (one_word o) (told o u)))
+
+-- ---- types
+abbrev takes_none : PartsRule → Bool
+takes_none TakesNone = true
+takes_none _ = false
+
+none_taken : (r : PartsRule) → takes_none r ≡ true → r ≡ TakesNone
+none_taken TakesNone e = refl
+none_taken _ e = absurd (false≢true e)
+
+-- a word that asks for an event is no type's
+no_type : List ℕ → Bool
+no_type v = not (is_type (Named v)) && takes_none (rule_among type_templates v)
+
+no_types : all_words no_type request_words ≡ true
+unfolding no_type is_builtin
+no_types = refl
+
+no_type_parts : (v : List ℕ) → no_type v ≡ true → (is_type (Named v) ≡ false) × (takes_none (rule_among type_templates v) ≡ true)
+unfolding no_type
+no_type_parts v e =
+    let parts = and_parts (not (is_type (Named v))) (takes_none (rule_among type_templates v)) e in
+    (not-true (is_type (Named v)) parts.0, parts.1)
+
+no_request : (t : TypeSpecifier) → IsType t → stands_in request_words (head_of t) ≡ false
+no_request t is = by (stands_in request_words (head_of t)) refl
+  where
+    by : (b : Bool) → stands_in request_words (head_of t) ≡ b → b ≡ false
+    by true at =
+        let parts = no_type_parts (head_of t) (passes no_type request_words (head_of t) no_types at) in
+        absurd (no_type_begins (head_of t) parts.0 (none_taken (rule_among type_templates (head_of t)) parts.1) t is refl)
+    by false at = refl
+
+type_asks_nothing : (t : TypeSpecifier) → IsType t → is_request (type_layout t) ≡ false
+unfolding is_request
+type_asks_nothing t is = ap (stands_in request_words) (head_is t is.part) ∙ no_request t is
+
+reinterpret_asks : (t : TypeSpecifier) → is_request (with_type (codes "bitcast") t) ≡ false
+unfolding is_request
+reinterpret_asks t = refl
+
+load_asks : (t : TypeSpecifier) → is_request (with_type (codes "coopLoad") t) ≡ true
+unfolding is_request
+load_asks t = refl
+
+transposed_asks : (t : TypeSpecifier) → is_request (with_type (codes "coopLoadT") t) ≡ true
+unfolding is_request
+transposed_asks t = refl
+
+typed_asks : (o : Operator) → is_untyped o ≡ false → TypeIsSound o → is_request (run_word o) ≡ asks o
+typed_asks (CooperativeLoad false t) u is = load_asks t
+typed_asks (CooperativeLoad true t) u is = transposed_asks t
+typed_asks (Construct t n) u is = type_asks_nothing t is
+typed_asks (Convert t) u is = type_asks_nothing t is
+typed_asks (Reinterpret t) u is = reinterpret_asks t
+typed_asks _ u is = absurd (true≢false u)
+
+pub asks_as_told : (o : Operator) (w : List ℕ) → TypeIsSound o → operator_word o ≡ Some w → is_request w ≡ asks o
+asks_as_told o w is e = by (is_untyped o) refl
+  where
+    by : (b : Bool) → is_untyped o ≡ b → is_request w ≡ asks o
+    by true u = untyped_asks o w u e
+    by false u = ap (λ x. is_request (unwrap_or x (own_word o))) (sym e) ∙ typed_asks o u is
