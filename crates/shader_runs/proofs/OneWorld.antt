@@ -49,7 +49,7 @@ module _ (p : Process) where
   fine_below a j n le h = cut_fine (after_turns j a) (after_turns n a) (process_cut a j n le p []) h
 
   -- without a mistake, more turns make as many events, but where as many events as turns were made
-  abbrev EventsSettle : Type 0
+  abbrev pub EventsSettle : Type 0
   EventsSettle =
       (a : Types) (j n : ℕ) → j ≤ n → mistakes (after_turns n a) ≡ 0 →
       (events_made (after_turns j a) ≡ events_made (after_turns n a)) ⊎ (j ≤ events_made (after_turns j a))
@@ -101,7 +101,7 @@ module _ (p : Process) where
         go (inr lt) rest = next_agrees n i (omega (arith, lt)) ∙ rest (omega (arith, lt))
 
     -- with any number of turns: a run asks for finitely many answers, whose types a late element of the chain has too
-    diagonal_fine : (n : ℕ) → mistakes (after_turns n (diagonal p)) ≡ 0
+    pub diagonal_fine : (n : ℕ) → mistakes (after_turns n (diagonal p)) ≡ 0
     diagonal_fine n =
         let k = process_makes n p [] (diagonal p) in
         let late = n + events_made k.now in
@@ -134,6 +134,13 @@ pub call_keeps : (env : Environment) (w : World) (m : Meaning) (n : ℕ) (fs : L
 call_keeps env w m n fs g vs t h =
     keeps_types (run_call env w m n fs g vs t) (ap mistakes (call_performed env w m n fs g vs t) ∙ call_mistakes (perform w n (call_process env m fs g vs) t) ∙ h)
 
+-- a call that is the same with every bound makes all its events
+pub steady_settles : (env : Environment) (m : Meaning) (fs : List Function) (g : ℕ) (vs : List Value) → ((w : World) (j n : ℕ) → run_call env w m j fs g vs [] ≡ run_call env w m n fs g vs []) → EventsSettle (call_process env m fs g vs)
+steady_settles env m fs g vs steady a j n le fine = inl (sym (made j) ∙ ap events_made (steady (world_of a) j n) ∙ made n)
+  where
+    made : (n : ℕ) → events_made (run_call env (world_of a) m n fs g vs []) ≡ events_made (after_turns (call_process env m fs g vs) n a)
+    made n = ap events_made (call_performed env (world_of a) m n fs g vs []) ∙ call_events (after_turns (call_process env m fs g vs) n a)
+
 -- a function of a module, from the start with these arguments
 module _ (p : Module) (n : ModuleNames) (fs : List Naming) (fits : ModuleFits p n fs) (env : Environment) (environment : EnvironmentFits p env) (m : Meaning) (typed : IsTyped p m) (g : ℕ) (f : Function) (there : function_numbered p.functions g ≡ Some f) (vs : List Value) (h : IsTrue (has_types p.parts f.argument_types vs)) where
   abbrev process : Process
@@ -148,7 +155,7 @@ module _ (p : Module) (n : ModuleNames) (fs : List Naming) (fits : ModuleFits p 
   as_many j a fine =
       ap events_made (runs_alike p n fs fits env environment m typed g f there vs h (world_of a) j [] (call_keeps env (world_of a) m j p.functions g vs [] fine)) ∙ ap events_made (call_performed env (world_of a) m j p.functions g vs []) ∙ call_events (after_turns process j a)
 
-  events_settle : EventsSettle process
+  pub events_settle : EventsSettle process
   events_settle a j k le fine =
       go (settled_events j (call_settles j (module_scope (form_module p n fs) env) (world_of a) m (word_use (form_module p n fs).functions n.is_request) k le (form_module p n fs).functions (n.function g) vs []))
     where
@@ -158,7 +165,3 @@ module _ (p : Module) (n : ModuleNames) (fs : List Naming) (fits : ModuleFits p 
       go : ((events_made (followed j a) ≡ events_made (followed k a)) ⊎ (j + 0 ≤ events_made (followed j a))) → (events_made (after_turns process j a) ≡ events_made (after_turns process k a)) ⊎ (j ≤ events_made (after_turns process j a))
       go (inl e) = inl (sym first ∙ e ∙ as_many k a fine)
       go (inr l) = inr (omega (arith, l, first))
-
-  -- one choice of types for all bounds
-  pub start_fine : (turns : ℕ) → mistakes (after_turns process turns (diagonal process)) ≡ 0
-  start_fine turns = diagonal_fine process events_settle turns
