@@ -13,17 +13,22 @@ use Rattle.wgsl_text.specs.Reading.{type_layout}
 use Rattle.wgsl_text.specs.Tree.{TypeSpecifier, Named}
 use Rattle.wgsl_text.proofs.WordLemmas.{all_words, passes}
 use Rattle.naga_form.specs.Abstraction.{request_words, is_request}
-use Rattle.naga_form.specs.OperatorTable.{Operator, UnarySign, Sample, Texel, OnlyTexel, Automatic, Zero, CooperativeLoad, CooperativeStore, Construct, Convert, Reinterpret, with_type, operator_word, own_word, run_word, one_word, asks, is_untyped, TypeIsSound}
+use Rattle.naga_form.specs.OperatorTable.{Operator, UnarySign, Sample, Gather, Texel, OnlyTexel, Automatic, Zero, CooperativeLoad, CooperativeStore, Construct, Convert, Reinterpret, with_type, operator_word, own_word, run_word, one_word, asks, is_untyped, TypeIsSound}
 use Rattle.naga_form.proofs.OperatorWords.{others, mathematical, first_with, operator_of, told}
 use Rattle.naga_form.proofs.TypedWords.{head_of, head_is, no_type_begins}
 
 keeps_text : (o : Operator) → operator_word (one_word o) ≡ operator_word o
 keeps_text (UnarySign unary.Negate) = refl
 keeps_text (UnarySign _) = refl
-keeps_text (Sample Automatic compares arrayed offset) = refl
-keeps_text (Sample Zero true arrayed offset) = refl
-keeps_text (Sample Zero false arrayed offset) = refl
-keeps_text (Sample _ compares arrayed offset) = refl
+keeps_text (Sample Zero true false arrayed offset) = refl
+keeps_text (Sample Zero false false arrayed offset) = refl
+keeps_text (Sample Zero compares true arrayed offset) = refl
+keeps_text (Sample Automatic compares clamped arrayed offset) = refl
+keeps_text (Sample _ compares clamped arrayed offset) = refl
+keeps_text (Gather c Zero compares false arrayed offset) = refl
+keeps_text (Gather c Zero compares true arrayed offset) = refl
+keeps_text (Gather c Automatic compares clamped arrayed offset) = refl
+keeps_text (Gather c _ compares clamped arrayed offset) = refl
 keeps_text (Texel arrayed OnlyTexel) = refl
 keeps_text (Texel arrayed _) = refl
 keeps_text (CooperativeLoad true t) = refl

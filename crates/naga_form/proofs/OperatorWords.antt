@@ -26,7 +26,7 @@ use Rattle.naga_operators.specs.declared.SubgroupOperation.TheVariants as subgro
 use Rattle.naga_operators.specs.declared.CollectiveOperation.{CollectiveOperation}
 use Rattle.naga_operators.specs.declared.CollectiveOperation.TheVariants as collective
 use Rattle.naga_operators.specs.declared.Direction.TheVariants as direction
-use Rattle.naga_form.specs.OperatorTable.{Operator, BinarySign, UnarySign, Choice, Mathematical, Relation, Derivative, ArrayLength, Sample, Gather, Texel, TexelStore, TexelChange, ImageSize, CountOf, AtomicLoad, AtomicStore, AtomicChange, UniformLoad, Ballot, Collective, FromSubgroup, Barrier, CooperativeLoad, CooperativeStore, CooperativeMultiplyAdd, TraceRay, RayIntersection, RayCorners, Construct, Splat, Convert, Reinterpret, Level, Automatic, Zero, ZeroClamped, Exact, Biased, Graded, OnlyTexel, BothTexel, ImageCount, Levels, Layers, Samples, Change, AddTo, SubtractFrom, AndWith, OrWith, XorWith, MinimumOf, MaximumOf, Exchange, CompareExchange, Source, First, Indexed, Shuffled, ShuffledDown, ShuffledUp, ShuffledXor, QuadIndexed, QuadSwapped, Kept, StorageKept, WorkgroupKept, SubgroupKept, TextureKept, run_word, operand_count, one_word, is_told, is_untyped}
+use Rattle.naga_form.specs.OperatorTable.{Operator, BinarySign, UnarySign, Choice, Mathematical, Relation, Derivative, ArrayLength, Sample, Gather, Texel, TexelStore, TexelChange, ImageSize, CountOf, AtomicLoad, AtomicStore, AtomicChange, UniformLoad, Ballot, Collective, FromSubgroup, Barrier, CooperativeLoad, CooperativeStore, CooperativeMultiplyAdd, TraceRay, RayStep, RayIntersection, RayCorners, Construct, Splat, Convert, Reinterpret, Level, Automatic, Zero, Exact, Biased, Graded, OnlyTexel, BothTexel, ImageCount, Levels, Layers, Samples, Change, AddTo, SubtractFrom, AndWith, OrWith, XorWith, MinimumOf, MaximumOf, Exchange, CompareExchange, Source, First, Indexed, Shuffled, ShuffledDown, ShuffledUp, ShuffledXor, QuadIndexed, QuadSwapped, Kept, StorageKept, WorkgroupKept, SubgroupKept, TextureKept, run_word, operand_count, one_word, is_told, is_untyped}
 
 -- the operators of different words that take no type
 abbrev pub mathematical : List Operator
@@ -58,18 +58,24 @@ others =
     Derivative axis.X control.None ∷ Derivative axis.Y control.Coarse ∷ Derivative axis.Y control.Fine ∷
     Derivative axis.Y control.None ∷ Derivative axis.Width control.Coarse ∷
     Derivative axis.Width control.Fine ∷ Derivative axis.Width control.None ∷ ArrayLength ∷
-    Sample Automatic false false false ∷ Sample Automatic true false false ∷
-    Sample ZeroClamped false false false ∷ Sample Exact false false false ∷ Sample Exact true false false ∷
-    Sample Biased false false false ∷ Sample Biased true false false ∷ Sample Graded false false false ∷
-    Sample Graded true false false ∷ Gather None false false false false ∷ Gather None true false false false ∷
-    Gather (Some component.X) false false false false ∷ Gather (Some component.X) true false false false ∷
-    Gather (Some component.Y) false false false false ∷ Gather (Some component.Y) true false false false ∷
-    Gather (Some component.Z) false false false false ∷ Gather (Some component.Z) true false false false ∷
-    Gather (Some component.W) false false false false ∷ Gather (Some component.W) true false false false ∷
-    Texel false OnlyTexel ∷ TexelStore false ∷ TexelChange AddTo false ∷ TexelChange SubtractFrom false ∷
-    TexelChange AndWith false ∷ TexelChange OrWith false ∷ TexelChange XorWith false ∷
-    TexelChange MinimumOf false ∷ TexelChange MaximumOf false ∷ TexelChange Exchange false ∷ ImageSize false ∷
-    CountOf Levels ∷ CountOf Layers ∷ CountOf Samples ∷ AtomicLoad ∷ AtomicStore ∷ AtomicChange AddTo ∷
+    Sample Automatic false false false false ∷ Sample Automatic true false false false ∷
+    Sample Exact false false false false ∷ Sample Exact true false false false ∷
+    Sample Biased false false false false ∷ Sample Biased true false false false ∷
+    Sample Graded false false false false ∷ Sample Graded true false false false ∷
+    Sample Zero false true false false ∷ Gather None Automatic false false false false ∷
+    Gather None Automatic true false false false ∷
+    Gather (Some component.X) Automatic false false false false ∷
+    Gather (Some component.X) Automatic true false false false ∷
+    Gather (Some component.Y) Automatic false false false false ∷
+    Gather (Some component.Y) Automatic true false false false ∷
+    Gather (Some component.Z) Automatic false false false false ∷
+    Gather (Some component.Z) Automatic true false false false ∷
+    Gather (Some component.W) Automatic false false false false ∷
+    Gather (Some component.W) Automatic true false false false ∷ Texel false OnlyTexel ∷ TexelStore false ∷
+    TexelChange AddTo false ∷ TexelChange SubtractFrom false ∷ TexelChange AndWith false ∷
+    TexelChange OrWith false ∷ TexelChange XorWith false ∷ TexelChange MinimumOf false ∷
+    TexelChange MaximumOf false ∷ TexelChange Exchange false ∷ ImageSize false ∷ CountOf Levels ∷
+    CountOf Layers ∷ CountOf Samples ∷ AtomicLoad ∷ AtomicStore ∷ AtomicChange AddTo ∷
     AtomicChange SubtractFrom ∷ AtomicChange AndWith ∷ AtomicChange OrWith ∷ AtomicChange XorWith ∷
     AtomicChange MinimumOf ∷ AtomicChange MaximumOf ∷ AtomicChange Exchange ∷ AtomicChange CompareExchange ∷
     UniformLoad ∷ Ballot false ∷ Collective subgroup.All collective.Reduce ∷
@@ -84,18 +90,93 @@ others =
     FromSubgroup (QuadSwapped direction.X) ∷ FromSubgroup (QuadSwapped direction.Y) ∷
     FromSubgroup (QuadSwapped direction.Diagonal) ∷ Barrier true StorageKept ∷ Barrier true WorkgroupKept ∷
     Barrier true SubgroupKept ∷ Barrier true TextureKept ∷ Mathematical math.Inverse ∷
-    Mathematical math.Outer ∷ Relation relational.IsNan ∷ Relation relational.IsInf ∷
-    Sample ZeroClamped true false false ∷ Texel false BothTexel ∷ TexelChange CompareExchange false ∷
-    Collective subgroup.All collective.InclusiveScan ∷ Collective subgroup.Any collective.InclusiveScan ∷
-    Collective subgroup.Min collective.InclusiveScan ∷ Collective subgroup.Max collective.InclusiveScan ∷
-    Collective subgroup.And collective.InclusiveScan ∷ Collective subgroup.Or collective.InclusiveScan ∷
-    Collective subgroup.Xor collective.InclusiveScan ∷ Collective subgroup.All collective.ExclusiveScan ∷
-    Collective subgroup.Any collective.ExclusiveScan ∷ Collective subgroup.Min collective.ExclusiveScan ∷
-    Collective subgroup.Max collective.ExclusiveScan ∷ Collective subgroup.And collective.ExclusiveScan ∷
-    Collective subgroup.Or collective.ExclusiveScan ∷ Collective subgroup.Xor collective.ExclusiveScan ∷
-    RayIntersection true ∷ RayIntersection false ∷ RayCorners true ∷ RayCorners false ∷
-    CooperativeStore false ∷ CooperativeStore true ∷ CooperativeMultiplyAdd ∷ TraceRay ∷ Splat vector.Bi ∷
-    Splat vector.Tri ∷ Splat vector.Quad ∷
+    Mathematical math.Outer ∷ Relation relational.IsNan ∷ Relation relational.IsInf ∷ Texel false BothTexel ∷
+    TexelChange CompareExchange false ∷ Collective subgroup.All collective.InclusiveScan ∷
+    Collective subgroup.Any collective.InclusiveScan ∷ Collective subgroup.Min collective.InclusiveScan ∷
+    Collective subgroup.Max collective.InclusiveScan ∷ Collective subgroup.And collective.InclusiveScan ∷
+    Collective subgroup.Or collective.InclusiveScan ∷ Collective subgroup.Xor collective.InclusiveScan ∷
+    Collective subgroup.All collective.ExclusiveScan ∷ Collective subgroup.Any collective.ExclusiveScan ∷
+    Collective subgroup.Min collective.ExclusiveScan ∷ Collective subgroup.Max collective.ExclusiveScan ∷
+    Collective subgroup.And collective.ExclusiveScan ∷ Collective subgroup.Or collective.ExclusiveScan ∷
+    Collective subgroup.Xor collective.ExclusiveScan ∷ RayStep ∷ RayIntersection true ∷ RayIntersection false ∷
+    RayCorners true ∷ RayCorners false ∷ Sample Automatic false true false false ∷
+    Sample Automatic true true false false ∷ Sample Zero true true false false ∷
+    Sample Exact false true false false ∷ Sample Exact true true false false ∷
+    Sample Biased false true false false ∷ Sample Biased true true false false ∷
+    Sample Graded false true false false ∷ Sample Graded true true false false ∷
+    Gather None Exact false false false false ∷ Gather None Exact true false false false ∷
+    Gather None Biased false false false false ∷ Gather None Biased true false false false ∷
+    Gather None Graded false false false false ∷ Gather None Graded true false false false ∷
+    Gather None Automatic false true false false ∷ Gather None Automatic true true false false ∷
+    Gather None Zero false true false false ∷ Gather None Zero true true false false ∷
+    Gather None Exact false true false false ∷ Gather None Exact true true false false ∷
+    Gather None Biased false true false false ∷ Gather None Biased true true false false ∷
+    Gather None Graded false true false false ∷ Gather None Graded true true false false ∷
+    Gather (Some component.X) Exact false false false false ∷
+    Gather (Some component.X) Exact true false false false ∷
+    Gather (Some component.X) Biased false false false false ∷
+    Gather (Some component.X) Biased true false false false ∷
+    Gather (Some component.X) Graded false false false false ∷
+    Gather (Some component.X) Graded true false false false ∷
+    Gather (Some component.X) Automatic false true false false ∷
+    Gather (Some component.X) Automatic true true false false ∷
+    Gather (Some component.X) Zero false true false false ∷
+    Gather (Some component.X) Zero true true false false ∷
+    Gather (Some component.X) Exact false true false false ∷
+    Gather (Some component.X) Exact true true false false ∷
+    Gather (Some component.X) Biased false true false false ∷
+    Gather (Some component.X) Biased true true false false ∷
+    Gather (Some component.X) Graded false true false false ∷
+    Gather (Some component.X) Graded true true false false ∷
+    Gather (Some component.Y) Exact false false false false ∷
+    Gather (Some component.Y) Exact true false false false ∷
+    Gather (Some component.Y) Biased false false false false ∷
+    Gather (Some component.Y) Biased true false false false ∷
+    Gather (Some component.Y) Graded false false false false ∷
+    Gather (Some component.Y) Graded true false false false ∷
+    Gather (Some component.Y) Automatic false true false false ∷
+    Gather (Some component.Y) Automatic true true false false ∷
+    Gather (Some component.Y) Zero false true false false ∷
+    Gather (Some component.Y) Zero true true false false ∷
+    Gather (Some component.Y) Exact false true false false ∷
+    Gather (Some component.Y) Exact true true false false ∷
+    Gather (Some component.Y) Biased false true false false ∷
+    Gather (Some component.Y) Biased true true false false ∷
+    Gather (Some component.Y) Graded false true false false ∷
+    Gather (Some component.Y) Graded true true false false ∷
+    Gather (Some component.Z) Exact false false false false ∷
+    Gather (Some component.Z) Exact true false false false ∷
+    Gather (Some component.Z) Biased false false false false ∷
+    Gather (Some component.Z) Biased true false false false ∷
+    Gather (Some component.Z) Graded false false false false ∷
+    Gather (Some component.Z) Graded true false false false ∷
+    Gather (Some component.Z) Automatic false true false false ∷
+    Gather (Some component.Z) Automatic true true false false ∷
+    Gather (Some component.Z) Zero false true false false ∷
+    Gather (Some component.Z) Zero true true false false ∷
+    Gather (Some component.Z) Exact false true false false ∷
+    Gather (Some component.Z) Exact true true false false ∷
+    Gather (Some component.Z) Biased false true false false ∷
+    Gather (Some component.Z) Biased true true false false ∷
+    Gather (Some component.Z) Graded false true false false ∷
+    Gather (Some component.Z) Graded true true false false ∷
+    Gather (Some component.W) Exact false false false false ∷
+    Gather (Some component.W) Exact true false false false ∷
+    Gather (Some component.W) Biased false false false false ∷
+    Gather (Some component.W) Biased true false false false ∷
+    Gather (Some component.W) Graded false false false false ∷
+    Gather (Some component.W) Graded true false false false ∷
+    Gather (Some component.W) Automatic false true false false ∷
+    Gather (Some component.W) Automatic true true false false ∷
+    Gather (Some component.W) Zero false true false false ∷
+    Gather (Some component.W) Zero true true false false ∷
+    Gather (Some component.W) Exact false true false false ∷
+    Gather (Some component.W) Exact true true false false ∷
+    Gather (Some component.W) Biased false true false false ∷
+    Gather (Some component.W) Biased true true false false ∷
+    Gather (Some component.W) Graded false true false false ∷
+    Gather (Some component.W) Graded true true false false ∷ CooperativeStore false ∷ CooperativeStore true ∷
+    CooperativeMultiplyAdd ∷ TraceRay ∷ Splat vector.Bi ∷ Splat vector.Tri ∷ Splat vector.Quad ∷
     []
 
 -- the first operator with this word
@@ -136,31 +217,89 @@ derivative_told axis.Width control.Coarse = refl
 derivative_told axis.Width _ = refl
 
 -- with an array index or an offset or without
-sample_told : (l : Level) (compares arrayed offset : Bool) → IsToldBy (Sample l compares arrayed offset)
-sample_told Automatic true arrayed offset = refl
-sample_told Automatic false arrayed offset = refl
-sample_told Zero true arrayed offset = refl
-sample_told Zero false arrayed offset = refl
-sample_told ZeroClamped true arrayed offset = refl
-sample_told ZeroClamped false arrayed offset = refl
-sample_told Exact true arrayed offset = refl
-sample_told Exact false arrayed offset = refl
-sample_told Biased true arrayed offset = refl
-sample_told Biased false arrayed offset = refl
-sample_told Graded true arrayed offset = refl
-sample_told Graded false arrayed offset = refl
+sample_told : (l : Level) (compares clamped arrayed offset : Bool) → IsToldBy (Sample l compares clamped arrayed offset)
+sample_told Automatic true true arrayed offset = refl
+sample_told Automatic true false arrayed offset = refl
+sample_told Automatic false true arrayed offset = refl
+sample_told Automatic false false arrayed offset = refl
+sample_told Zero true true arrayed offset = refl
+sample_told Zero true false arrayed offset = refl
+sample_told Zero false true arrayed offset = refl
+sample_told Zero false false arrayed offset = refl
+sample_told Exact true true arrayed offset = refl
+sample_told Exact true false arrayed offset = refl
+sample_told Exact false true arrayed offset = refl
+sample_told Exact false false arrayed offset = refl
+sample_told Biased true true arrayed offset = refl
+sample_told Biased true false arrayed offset = refl
+sample_told Biased false true arrayed offset = refl
+sample_told Biased false false arrayed offset = refl
+sample_told Graded true true arrayed offset = refl
+sample_told Graded true false arrayed offset = refl
+sample_told Graded false true arrayed offset = refl
+sample_told Graded false false arrayed offset = refl
 
-gather_told : (c : Option SwizzleComponent) (compares at_zero arrayed offset : Bool) → IsToldBy (Gather c compares at_zero arrayed offset)
-gather_told None true at_zero arrayed offset = refl
-gather_told None false at_zero arrayed offset = refl
-gather_told (Some component.X) true at_zero arrayed offset = refl
-gather_told (Some component.X) false at_zero arrayed offset = refl
-gather_told (Some component.Y) true at_zero arrayed offset = refl
-gather_told (Some component.Y) false at_zero arrayed offset = refl
-gather_told (Some component.Z) true at_zero arrayed offset = refl
-gather_told (Some component.Z) false at_zero arrayed offset = refl
-gather_told (Some component.W) true at_zero arrayed offset = refl
-gather_told (Some component.W) false at_zero arrayed offset = refl
+gather_told : (l : Level) (compares clamped arrayed offset : Bool) (c : Option SwizzleComponent) → IsToldBy (Gather c l compares clamped arrayed offset)
+gather_told Automatic true true arrayed offset None = refl
+gather_told Automatic true true arrayed offset (Some component.X) = refl
+gather_told Automatic true true arrayed offset (Some _) = refl
+gather_told Automatic true false arrayed offset None = refl
+gather_told Automatic true false arrayed offset (Some component.X) = refl
+gather_told Automatic true false arrayed offset (Some _) = refl
+gather_told Automatic false true arrayed offset None = refl
+gather_told Automatic false true arrayed offset (Some component.X) = refl
+gather_told Automatic false true arrayed offset (Some _) = refl
+gather_told Automatic false false arrayed offset None = refl
+gather_told Automatic false false arrayed offset (Some component.X) = refl
+gather_told Automatic false false arrayed offset (Some _) = refl
+gather_told Zero true true arrayed offset None = refl
+gather_told Zero true true arrayed offset (Some component.X) = refl
+gather_told Zero true true arrayed offset (Some _) = refl
+gather_told Zero true false arrayed offset None = refl
+gather_told Zero true false arrayed offset (Some component.X) = refl
+gather_told Zero true false arrayed offset (Some _) = refl
+gather_told Zero false true arrayed offset None = refl
+gather_told Zero false true arrayed offset (Some component.X) = refl
+gather_told Zero false true arrayed offset (Some _) = refl
+gather_told Zero false false arrayed offset None = refl
+gather_told Zero false false arrayed offset (Some component.X) = refl
+gather_told Zero false false arrayed offset (Some _) = refl
+gather_told Exact true true arrayed offset None = refl
+gather_told Exact true true arrayed offset (Some component.X) = refl
+gather_told Exact true true arrayed offset (Some _) = refl
+gather_told Exact true false arrayed offset None = refl
+gather_told Exact true false arrayed offset (Some component.X) = refl
+gather_told Exact true false arrayed offset (Some _) = refl
+gather_told Exact false true arrayed offset None = refl
+gather_told Exact false true arrayed offset (Some component.X) = refl
+gather_told Exact false true arrayed offset (Some _) = refl
+gather_told Exact false false arrayed offset None = refl
+gather_told Exact false false arrayed offset (Some component.X) = refl
+gather_told Exact false false arrayed offset (Some _) = refl
+gather_told Biased true true arrayed offset None = refl
+gather_told Biased true true arrayed offset (Some component.X) = refl
+gather_told Biased true true arrayed offset (Some _) = refl
+gather_told Biased true false arrayed offset None = refl
+gather_told Biased true false arrayed offset (Some component.X) = refl
+gather_told Biased true false arrayed offset (Some _) = refl
+gather_told Biased false true arrayed offset None = refl
+gather_told Biased false true arrayed offset (Some component.X) = refl
+gather_told Biased false true arrayed offset (Some _) = refl
+gather_told Biased false false arrayed offset None = refl
+gather_told Biased false false arrayed offset (Some component.X) = refl
+gather_told Biased false false arrayed offset (Some _) = refl
+gather_told Graded true true arrayed offset None = refl
+gather_told Graded true true arrayed offset (Some component.X) = refl
+gather_told Graded true true arrayed offset (Some _) = refl
+gather_told Graded true false arrayed offset None = refl
+gather_told Graded true false arrayed offset (Some component.X) = refl
+gather_told Graded true false arrayed offset (Some _) = refl
+gather_told Graded false true arrayed offset None = refl
+gather_told Graded false true arrayed offset (Some component.X) = refl
+gather_told Graded false true arrayed offset (Some _) = refl
+gather_told Graded false false arrayed offset None = refl
+gather_told Graded false false arrayed offset (Some component.X) = refl
+gather_told Graded false false arrayed offset (Some _) = refl
 
 texel_change_told : (c : Change) (arrayed : Bool) → IsToldBy (TexelChange c arrayed)
 texel_change_told AddTo arrayed = refl
@@ -215,8 +354,8 @@ told (Mathematical f) u = math_told f
 told (Relation f) u = relation_told f
 told (Derivative a c) u = derivative_told a c
 told ArrayLength u = refl
-told (Sample l compares arrayed offset) u = sample_told l compares arrayed offset
-told (Gather c compares at_zero arrayed offset) u = gather_told c compares at_zero arrayed offset
+told (Sample l compares clamped arrayed offset) u = sample_told l compares clamped arrayed offset
+told (Gather c l compares clamped arrayed offset) u = gather_told l compares clamped arrayed offset c
 told (Texel arrayed OnlyTexel) u = refl
 told (Texel arrayed _) u = refl
 told (TexelStore arrayed) u = refl
@@ -236,6 +375,7 @@ told (CooperativeStore true) u = refl
 told (CooperativeStore false) u = refl
 told CooperativeMultiplyAdd u = refl
 told TraceRay u = refl
+told RayStep u = refl
 told (RayIntersection true) u = refl
 told (RayIntersection false) u = refl
 told (RayCorners true) u = refl
@@ -263,8 +403,8 @@ by_count o n = o
 told_by_count : (o : Operator) → is_told o ≡ true → by_count (one_word o) (operand_count o) ≡ o
 told_by_count (UnarySign unary.Negate) t = refl
 told_by_count (UnarySign _) t = refl
-told_by_count (Sample l compares arrayed offset) t = absurd (false≢true t)
-told_by_count (Gather c compares at_zero arrayed offset) t = absurd (false≢true t)
+told_by_count (Sample l compares clamped arrayed offset) t = absurd (false≢true t)
+told_by_count (Gather c l compares clamped arrayed offset) t = absurd (false≢true t)
 told_by_count (Texel arrayed of_) t = absurd (false≢true t)
 told_by_count (Convert u) t = absurd (false≢true t)
 told_by_count (Barrier control k) t = absurd (false≢true t)
@@ -286,10 +426,15 @@ counted_apart a b ta tb e n =
 pub keeps_word : (o : Operator) → run_word (one_word o) ≡ run_word o
 keeps_word (UnarySign unary.Negate) = refl
 keeps_word (UnarySign _) = refl
-keeps_word (Sample Automatic compares arrayed offset) = refl
-keeps_word (Sample Zero true arrayed offset) = refl
-keeps_word (Sample Zero false arrayed offset) = refl
-keeps_word (Sample _ compares arrayed offset) = refl
+keeps_word (Sample Zero true false arrayed offset) = refl
+keeps_word (Sample Zero false false arrayed offset) = refl
+keeps_word (Sample Zero compares true arrayed offset) = refl
+keeps_word (Sample Automatic compares clamped arrayed offset) = refl
+keeps_word (Sample _ compares clamped arrayed offset) = refl
+keeps_word (Gather c Zero compares false arrayed offset) = refl
+keeps_word (Gather c Zero compares true arrayed offset) = refl
+keeps_word (Gather c Automatic compares clamped arrayed offset) = refl
+keeps_word (Gather c _ compares clamped arrayed offset) = refl
 keeps_word (Texel arrayed OnlyTexel) = refl
 keeps_word (Texel arrayed _) = refl
 keeps_word (CooperativeLoad true t) = refl

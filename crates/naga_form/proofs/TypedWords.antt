@@ -7,15 +7,16 @@ use Rattle.std.specs.Char.{is_ascii_digit}
 use Rattle.std.specs.List.{list_all, list_any}
 use Rattle.std.specs.Option.{option_or}
 use Rattle.std.proofs.lemmas.Bool.{false≢true, true≢false, and_parts, eqb-true}
-use Rattle.std.proofs.lemmas.List.{append-nil, append_cancel_left, append_cancel_right}
+use Rattle.std.proofs.lemmas.List.{append_cancel_left, append_cancel_right}
 use Rattle.std.proofs.lemmas.Slice.Eq.{bytes_eq-Decides}
 use Rattle.wgsl_text.specs.Words.{is_word_text, is_letter, all_word_bytes, is_word_byte, stands_in, is_builtin}
 use Rattle.wgsl_text.specs.Grammar.{IsType, IsPart, is_type, plain_type_words, TakesNone, fits, rule_among, type_templates}
 use Rattle.wgsl_text.specs.Reading.{ReadsType, type_layout}
 use Rattle.wgsl_text.specs.Pieces.{parts_pieces, has_gaps}
 use Rattle.wgsl_text.specs.Text.{text, tokens}
-use Rattle.wgsl_text.specs.Tree.{TypeSpecifier, Named, Template, TypeParts, NoParts}
-use Rattle.wgsl_text.proofs.WordLemmas.{type_template}
+use Rattle.wgsl_text.specs.Tree.{TypeSpecifier, Named, Template, TypeParts}
+use Rattle.wgsl_text.proofs.RowText.{named_text}
+use Rattle.wgsl_text.proofs.WordLemmas.{fits_none, type_template}
 use Rattle.wgsl_text.proofs.OneReading.{type_has_one_reading}
 use Rattle.naga_form.specs.Abstraction.{head_word}
 use Rattle.naga_form.specs.OperatorTable.{Operator, CooperativeLoad, Construct, Convert, Reinterpret, with_type, run_word, one_word, is_untyped, TypeIsSound}
@@ -89,9 +90,6 @@ no_operator p w fails one two =
     ap (λ o. option_or o (first_with w mathematical)) (none_among p w fails others one) ∙ none_among p w fails mathematical two
 
 -- ---- the layouts of types
-named_layout : (w : List ℕ) → type_layout (Named w) ≡ w
-named_layout w = append-nil w
-
 word_bytes : (w : List ℕ) → is_word_text w ≡ true → all_word_bytes w ≡ true
 word_bytes [] e = refl
 word_bytes (b ∷ bytes) e = letter_first b bytes (and_parts (is_letter b) (all_word_bytes bytes) e)
@@ -109,7 +107,7 @@ head_text (Named w) is = is.text
 head_text (Template w parts) is = (type_template w parts is.0).word.text
 
 pub head_is : (t : TypeSpecifier) → IsPart t → head_word (type_layout t) ≡ head_of t
-head_is (Named w) is = ap head_word (named_layout w) ∙ head_alone w (word_bytes w is.text)
+head_is (Named w) is = ap head_word (named_text w) ∙ head_alone w (word_bytes w is.text)
 head_is (Template w parts) is = head_before w (text (parts_pieces parts (has_gaps w))) (word_bytes w (head_text (Template w parts) is))
 
 same_type : (t u : TypeSpecifier) → IsType t → IsType u → type_layout t ≡ type_layout u → t ≡ u
@@ -132,7 +130,7 @@ template_opens w parts is =
 
 named_is_none : (w : List ℕ) → IsType (Named w) → is_function (type_layout (Named w)) ≡ false
 named_is_none w is =
-    ap is_function (named_layout w) ∙ by (is_word_text w) is.part.text (stands_in plain_type_words w) (is_builtin w) is.whole
+    ap is_function (named_text w) ∙ by (is_word_text w) is.part.text (stands_in plain_type_words w) (is_builtin w) is.whole
   where
     by : (x : Bool) → x ≡ true → (plain builtin : Bool) → (plain || not builtin) ≡ true → (not x || (builtin && not plain)) ≡ false
     by true e true true whole = refl
@@ -169,15 +167,11 @@ typed_is_none (Reinterpret t) u is = open_is_none (with_type (codes "bitcast") t
 typed_is_none _ u is = absurd (true≢false u)
 
 -- ---- two words with types
-none_fits : (parts : TypeParts) → fits TakesNone parts ≡ false
-none_fits NoParts = refl
-none_fits _ = refl
-
 -- a type does not begin with the word of a function
 pub no_type_begins : (v : List ℕ) → is_type (Named v) ≡ false → rule_among type_templates v ≡ TakesNone → (t : TypeSpecifier) → IsType t → head_of t ≡ v → ⊥
 no_type_begins v named rule (Named w) is e = false≢true (sym named ∙ (ap (λ x. is_type (Named x)) (sym e) ∙ is.whole))
 no_type_begins v named rule (Template w parts) is e =
-    false≢true (sym (none_fits parts) ∙ (ap (λ r. fits r parts) (sym rule ∙ ap (rule_among type_templates) (sym e)) ∙ is.part.0))
+    false≢true (sym (fits_none parts) ∙ (ap (λ r. fits r parts) (sym rule ∙ ap (rule_among type_templates) (sym e)) ∙ is.part.0))
 
 -- a function that takes a type
 record TakesType (v : List ℕ) : Type 0 where

@@ -1,7 +1,7 @@
 -- The operators and operations of a module with their words: one table for all of them. An operator here is what an
 -- expression or a statement asks for, apart from its operands; which of those are there that may be left out belongs to it.
 -- What is new is a constructor, and a line of each function below.
-use Rattle.std.specs.Prelude.{ℕ, ◌+◌, Bool, true, false, List, [], ◌++◌, Option, Some, None, codes, ⊤, unwrap_or, if◌then◌else◌}
+use Rattle.std.specs.Prelude.{ℕ, ◌||◌, ◌+◌, Bool, true, false, List, [], ◌++◌, Option, Some, None, codes, ⊤, unwrap_or, if◌then◌else◌}
 use Rattle.naga_enumerations.specs.declared.expression.SwizzleComponent.{SwizzleComponent}
 use Rattle.naga_enumerations.specs.declared.expression.SwizzleComponent.TheVariants as component
 use Rattle.naga_enumerations.specs.declared.types.VectorSize.{VectorSize}
@@ -32,10 +32,10 @@ use Rattle.wgsl_text.specs.Text.{text, mark_text}
 use Rattle.wgsl_text.specs.Tree.{TypeSpecifier, Negate, LogicalNot, BitwiseNot}
 use Rattle.naga_form.specs.Operators.{operator_form}
 
--- at which level an image is sampled: that of the derivatives; zero; zero with the coordinate kept off the edges; a given
--- one; that of the derivatives and a bias; that of given derivatives
+-- at which level an image is sampled: that of the derivatives; zero; a given one; that of the derivatives and a bias; that of
+-- given derivatives
 pub data Level : Type 0 where
-  Automatic Zero ZeroClamped Exact Biased Graded : Level
+  Automatic Zero Exact Biased Graded : Level
 
 -- whether a texel is taken of an image without samples or levels, of a sample, of a level, or of both
 pub data TexelOf : Type 0 where
@@ -66,10 +66,10 @@ pub data Operator : Type 0 where
   Relation : RelationalFunction → Operator
   Derivative : DerivativeAxis → DerivativeControl → Operator
   ArrayLength : Operator
-  Sample : Level → (compares arrayed offset : Bool) → Operator
-  -- A depth image has no components. What the table lacks are the sampling forms that have no word: a gather at a given level or
-  -- with the coordinate kept off the edges, and a sampling that keeps it off them at another level than zero.
-  Gather : Option SwizzleComponent → (compares at_zero arrayed offset : Bool) → Operator
+  -- clamped: the coordinate is kept off the edges
+  Sample : Level → (compares clamped arrayed offset : Bool) → Operator
+  -- a depth image has no components
+  Gather : Option SwizzleComponent → Level → (compares clamped arrayed offset : Bool) → Operator
   Texel : (arrayed : Bool) → TexelOf → Operator
   TexelStore : (arrayed : Bool) → Operator
   TexelChange : Change → (arrayed : Bool) → Operator
@@ -86,7 +86,8 @@ pub data Operator : Type 0 where
   CooperativeStore : (row_major : Bool) → Operator
   CooperativeMultiplyAdd : Operator
   TraceRay : Operator
-  -- the hit of a ray query, and the corners of what was hit
+  -- a step of a ray query; its hit, and the corners of what was hit
+  RayStep : Operator
   RayIntersection RayCorners : (committed : Bool) → Operator
   -- a value of this type from so many components; none make its zero value
   Construct : TypeSpecifier → (components : ℕ) → Operator
@@ -123,15 +124,16 @@ control_word control.None = codes ""
 abbrev pub level_word : Level → List ℕ
 level_word Automatic = codes ""
 level_word Zero = codes "Level"
-level_word ZeroClamped = codes "BaseClampToEdge"
 level_word Exact = codes "Level"
 level_word Biased = codes "Bias"
 level_word Graded = codes "Grad"
 
--- nothing compares where the coordinate is kept off the edges
-abbrev pub sample_word : Level → (compares : Bool) → Option (List ℕ)
-sample_word ZeroClamped true = None
-sample_word level compares = Some (codes "textureSample" ++ (if_word compares (codes "Compare") ++ level_word level))
+-- clamped, an image is sampled at level zero alone, and nothing is compared
+abbrev pub sample_word : Level → (compares clamped : Bool) → Option (List ℕ)
+sample_word level compares false =
+    Some (codes "textureSample" ++ (if_word compares (codes "Compare") ++ level_word level))
+sample_word Zero false true = Some (codes "textureSampleBaseClampToEdge")
+sample_word level compares true = None
 
 -- a component's number is written as an operand, and belongs to the word
 abbrev pub component_word : Option SwizzleComponent → List ℕ
@@ -140,6 +142,14 @@ component_word (Some component.X) = codes " 0"
 component_word (Some component.Y) = codes " 1"
 component_word (Some component.Z) = codes " 2"
 component_word (Some component.W) = codes " 3"
+
+-- a gather is always at level zero, told or not, and nothing is clamped
+abbrev pub gather_word : Option SwizzleComponent → Level → (compares clamped : Bool) → Option (List ℕ)
+gather_word component Automatic compares false =
+    Some (codes "textureGather" ++ (if_word compares (codes "Compare") ++ component_word component))
+gather_word component Zero compares false =
+    Some (codes "textureGather" ++ (if_word compares (codes "Compare") ++ component_word component))
+gather_word component level compares clamped = None
 
 abbrev pub image_count_word : ImageCount → List ℕ
 image_count_word Levels = codes "textureNumLevels"
@@ -215,9 +225,8 @@ operator_word (Mathematical fun) = math_word fun
 operator_word (Relation fun) = relational_word fun
 operator_word (Derivative axis control) = Some (axis_word axis ++ control_word control)
 operator_word ArrayLength = Some (codes "arrayLength")
-operator_word (Sample level compares arrayed offset) = sample_word level compares
-operator_word (Gather component compares at_zero arrayed offset) =
-    Some (codes "textureGather" ++ (if_word compares (codes "Compare") ++ component_word component))
+operator_word (Sample level compares clamped arrayed offset) = sample_word level compares clamped
+operator_word (Gather component level compares clamped arrayed offset) = gather_word component level compares clamped
 operator_word (Texel arrayed BothTexel) = None
 operator_word (Texel arrayed of_) = Some (codes "textureLoad")
 operator_word (TexelStore arrayed) = Some (codes "textureStore")
@@ -238,6 +247,7 @@ operator_word (CooperativeStore false) = Some (codes "coopStore")
 operator_word (CooperativeStore true) = Some (codes "coopStoreT")
 operator_word CooperativeMultiplyAdd = Some (codes "coopMultiplyAdd")
 operator_word TraceRay = Some (codes "traceRay")
+operator_word RayStep = None
 operator_word (RayIntersection committed) = None
 operator_word (RayCorners committed) = None
 operator_word (Construct t components) = Some (type_layout t)
@@ -260,6 +270,17 @@ own_collective_word op collective.InclusiveScan = codes " subgroupInclusive" ++ 
 own_collective_word op collective.ExclusiveScan = codes " subgroupExclusive" ++ subgroup_word op
 own_collective_word op collective.Reduce = []
 
+abbrev pub own_level_word : Level → List ℕ
+own_level_word Automatic = codes "Automatic"
+own_level_word Zero = codes "Zero"
+own_level_word Exact = codes "Exact"
+own_level_word Biased = codes "Biased"
+own_level_word Graded = codes "Graded"
+
+abbrev pub own_form_word : Level → (compares clamped : Bool) → List ℕ
+own_form_word level compares clamped =
+    if_word compares (codes "Compare") ++ (if_word clamped (codes "Clamped") ++ own_level_word level)
+
 abbrev pub committed_word : (committed : Bool) → List ℕ
 committed_word committed = if committed then codes "Committed" else codes "Candidate"
 
@@ -267,10 +288,13 @@ committed_word committed = if committed then codes "Committed" else codes "Candi
 abbrev pub own_word : Operator → List ℕ
 own_word (Mathematical fun) = own_math_word fun
 own_word (Relation fun) = own_relational_word fun
-own_word (Sample level compares arrayed offset) = codes " textureSampleCompareBaseClampToEdge"
+own_word (Sample level compares clamped arrayed offset) = codes " sample" ++ own_form_word level compares clamped
+own_word (Gather component level compares clamped arrayed offset) =
+    codes " gather" ++ (own_form_word level compares clamped ++ component_word component)
 own_word (Texel arrayed of_) = codes " textureLoad"
 own_word (TexelChange way arrayed) = codes " textureAtomicCompareExchangeWeak"
 own_word (Collective op collective) = own_collective_word op collective
+own_word RayStep = codes " step"
 own_word (RayIntersection committed) = codes " intersection" ++ committed_word committed
 own_word (RayCorners committed) = codes " corners" ++ committed_word committed
 own_word _ = []
@@ -307,14 +331,13 @@ math_count math.ExtractBits = 3
 math_count math.InsertBits = 4
 math_count _ = 1
 
--- Level zero is written as the number `0.0`, but not where it is compared.
-abbrev pub level_count : Level → (compares : Bool) → ℕ
-level_count Automatic compares = 0
-level_count Zero compares = if compares then 0 else 1
-level_count ZeroClamped compares = 0
-level_count Exact compares = 1
-level_count Biased compares = 1
-level_count Graded compares = 2
+-- Level zero is written as the number `0.0`, but not where something is compared or clamped.
+abbrev pub level_count : Level → (compares clamped : Bool) → ℕ
+level_count Automatic compares clamped = 0
+level_count Zero compares clamped = if compares || clamped then 0 else 1
+level_count Exact compares clamped = 1
+level_count Biased compares clamped = 1
+level_count Graded compares clamped = 2
 
 abbrev pub texel_count : TexelOf → ℕ
 texel_count OnlyTexel = 0
@@ -335,9 +358,9 @@ operand_count (Mathematical fun) = math_count fun
 operand_count (Relation fun) = 1
 operand_count (Derivative axis control) = 1
 operand_count ArrayLength = 1
-operand_count (Sample level compares arrayed offset) =
-    3 + (if_there compares + (level_count level compares + (if_there arrayed + if_there offset)))
-operand_count (Gather component compares at_zero arrayed offset) =
+operand_count (Sample level compares clamped arrayed offset) =
+    3 + (if_there compares + (level_count level compares clamped + (if_there arrayed + if_there offset)))
+operand_count (Gather component level compares clamped arrayed offset) =
     3 + (if_there compares + (if_there arrayed + if_there offset))
 operand_count (Texel arrayed of_) = 2 + (if_there arrayed + texel_count of_)
 operand_count (TexelStore arrayed) = 3 + if_there arrayed
@@ -357,6 +380,7 @@ operand_count (CooperativeLoad row_major t) = 2
 operand_count (CooperativeStore row_major) = 3
 operand_count CooperativeMultiplyAdd = 3
 operand_count TraceRay = 3
+operand_count RayStep = 1
 operand_count (RayIntersection committed) = 1
 operand_count (RayCorners committed) = 1
 operand_count (Construct t components) = components
@@ -365,10 +389,15 @@ operand_count (Convert t) = 1
 operand_count (Reinterpret t) = 1
 
 -- ---- what shares a word
--- level zero is a given level, the number zero
-abbrev pub given_level : Level → Level
-given_level Zero = Exact
-given_level level = level
+-- level zero is a given level, the number zero, and where it is clamped it is one by itself
+abbrev pub written_level : Level → (clamped : Bool) → Level
+written_level Zero false = Exact
+written_level level clamped = level
+
+-- a gather at the level of the derivatives is one at level zero
+abbrev pub gathered_level : Level → (clamped : Bool) → Level
+gathered_level Zero false = Automatic
+gathered_level level clamped = level
 
 -- The operator that stands for all that have its word. So these share words, and no others do:
 abbrev pub one_word : Operator → Operator
@@ -376,10 +405,12 @@ abbrev pub one_word : Operator → Operator
 one_word (UnarySign unary.Negate) = BinarySign binary.Subtract
 -- samplings of images with layers and without, with an offset and without, and at level zero and a given one: the types of
 -- the image and of the operands tell them apart, and level zero is an operand or, compared, one operand less;
-one_word (Sample level compares arrayed offset) = Sample (given_level level) compares false false
+one_word (Sample level compares clamped arrayed offset) =
+    Sample (written_level level clamped) compares clamped false false
 -- gathers of images with layers and without, and with an offset and without, which the types tell apart; and gathers at
 -- level zero and at that of the derivatives, which are one operation, since a gather is always at level zero;
-one_word (Gather component compares at_zero arrayed offset) = Gather component compares false false false
+one_word (Gather component level compares clamped arrayed offset) =
+    Gather component (gathered_level level clamped) compares clamped false false
 -- loads of texels, of images of other types;
 one_word (Texel arrayed BothTexel) = Texel false BothTexel
 one_word (Texel arrayed of_) = Texel false OnlyTexel
@@ -399,8 +430,8 @@ one_word operator = operator
 
 -- what is told from all others by its word and its number of operands
 abbrev pub is_told : Operator → Bool
-is_told (Sample level compares arrayed offset) = false
-is_told (Gather component compares at_zero arrayed offset) = false
+is_told (Sample level compares clamped arrayed offset) = false
+is_told (Gather component level compares clamped arrayed offset) = false
 is_told (Texel arrayed of_) = false
 is_told (Barrier control kept) = false
 is_told (Convert t) = false

@@ -72,7 +72,7 @@ abbrev all_rows : (List ℕ → Bool) → List (List (List ℕ) × PartsRule) �
 all_rows p [] = true
 all_rows p (row ∷ rows) = all_words p row.0 && all_rows p rows
 
-fits_none : (parts : TypeParts) → fits TakesNone parts ≡ false
+pub fits_none : (parts : TypeParts) → fits TakesNone parts ≡ false
 fits_none NoParts = refl
 fits_none _ = refl
 
