@@ -3,15 +3,16 @@ use Rattle.std.proofs.Common.{◌≡◌, ◌≢◌, ℕ, suc, ◌+◌, ◌<◌, 
 use Rattle.std.proofs.lemmas.Bool.{eqb-false}
 use Rattle.std.specs.Prelude.{IsTrue}
 use Rattle.shader_runs.specs.Value.{Bytes, same_bytes, Rooted, LocalRoot, has_types, Value}
-use Rattle.shader_runs.specs.World.{Event, Entry, entries, World, Meaning, Environment}
+use Rattle.shader_runs.specs.World.{Event, Entry, entries, World, Meaning, Settings, Environment}
 use Rattle.shader_runs.specs.Outcome.{Stuck, Reached, Gives, Halts, answer}
 use Rattle.shader_runs.specs.Program.{Function, argument_count, function_numbered, Module, any_continue}
 use Rattle.shader_runs.specs.ProgramRun.{Call, constants_kept, called, used, wrapped, with_first, first_used_all, entered, run_all, run_body, run_call}
-use Rattle.shader_runs.specs.TextRun.{IsPlace, Scope, with_parameters, with_variables, with_globals, no_names, module_scope, respond_by_table, put_first, first_followed, first_of_each, entered_by, follow_all, follow_body, follow_call}
+use Rattle.shader_runs.specs.TextRun.{IsPlace, Scope, with_parameters, with_variables, with_globals, no_names, respond_by_table, put_first, first_followed, first_of_each, entered_by, follow_all, follow_body, follow_call}
+use Rattle.shader_runs.specs.Constants.{environment_of, module_scope}
 use Rattle.shader_runs.specs.Scope.{ModuleNames, Naming, usable_if, at_start, first_values_fit, fits_all, after_all}
 use Rattle.shader_runs.specs.Form.{names_from, variables_from, form_all, form_function, form_functions, form_module, functions_of}
-use Rattle.shader_runs.specs.Premises.{FixedName, ArgumentName, LocalName, ConstantName, GlobalName, FixedKey, fixed_name, FunctionFits, AllFit, EnvironmentFits, IsTypedIn, AllTypedIn}
-use Rattle.shader_runs.specs.Correct.{KeepsTypes, RunsAlike}
+use Rattle.shader_runs.specs.Premises.{FixedName, ArgumentName, LocalName, ConstantName, GlobalName, FixedKey, fixed_name, FunctionFits, AllFit, SettingsFit, EnvironmentFits, IsTypedIn, AllTypedIn, IsTyped}
+use Rattle.shader_runs.specs.Correct.{KeepsTypes, ModuleFits, RunsAlike}
 use Rattle.shader_runs.proofs.Alike.{Answers, same_answer, mistyped_answer, alike_answers, reached}
 use Rattle.shader_runs.proofs.Update.{and_left, and_right, same_bytes_equal, same_bytes_apart, has_types_length}
 use Rattle.shader_runs.proofs.Relation.{Returns, global_as, IsHere, NoName, fixed_denoted, Related}
@@ -20,15 +21,12 @@ use Rattle.shader_runs.proofs.Written.{Given, globals_length, value_here}
 use Rattle.shader_runs.proofs.Statements.{Same, same_all}
 use Rattle.shader_runs.proofs.Fresh.{all_fresh, start_sources}
 use Rattle.shader_runs.proofs.Start.{start_stands}
-use Rattle.shader_runs.proofs.Names.{parameter_other, parameter_at, variable_other, variable_at, globals_other, globals_at, length-names_from}
+use Rattle.shader_runs.proofs.Names.{parameter_other, parameter_at, variable_other, variable_at, globals_other, globals_at, length-names_from, length-functions_of, module_names_given}
+use Rattle.shader_runs.proofs.Constants.{environment_fits, scope_is}
 
 length-form_functions : (fs : List Naming) → length (form_functions fs) ≡ length fs
 length-form_functions [] = refl
 length-form_functions (f ∷ fs) = ap suc (length-form_functions fs)
-
-pub length-functions_of : (fs : List Naming) → length (functions_of fs) ≡ length fs
-length-functions_of [] = refl
-length-functions_of (f ∷ fs) = ap suc (length-functions_of fs)
 
 pick_alike : {A : Type 0} (R : A → Type 0) (a b : Bool) (x x' y y' : Reached A) → a ≡ b → (b ≡ true → Answers R x x') → (b ≡ false → Answers R y y') → Answers R (cond b x y) (cond a x' y')
 pick_alike R a true x x' y y' e h k = subst (λ a. Answers R x (cond a x' y')) (sym e) (h refl)
@@ -98,8 +96,7 @@ module _ (p : Module) (n : ModuleNames) (env : Environment) (environment : Envir
 
   -- the names of the module
   abbrev outer_of : ModuleNames → Scope
-  outer_of n =
-      with_parameters (names_from n.constant 0 (length p.constant_types)) env.constants (with_globals (names_from n.global 0 (length p.global_types)) env.globals 0 no_names)
+  outer_of n = module_names_given p n env
 
   abbrev responses : List Naming → Respond
   responses fs = follow_call (outer_of n) w m n.is_request bound (form_functions fs)
@@ -291,9 +288,10 @@ answers_same : {A : Type 0} (R : A → Type 0) (q q' : Reached A) → KeepsTypes
 answers_same R q q' k (same_answer h) = refl
 answers_same R q q' k mistyped_answer = absurd k
 
-pub runs_alike : RunsAlike
-runs_alike p n fs fits env environment m typed g f e vs h w turns t keeps =
-    subst (λ l. function_numbered l g ≡ Some f → AllTypedIn p m l → KeepsTypes (run_call env w m turns l g vs t) → follow_call (module_scope (form_module p n fs) env) w m n.is_request turns (form_functions fs) (n.function g) vs t ≡ run_call env w m turns l g vs t) fits.functions there e typed keeps
+-- in an environment of the module's types
+environment_alike : (p : Module) (n : ModuleNames) (fs : List Naming) → ModuleFits p n fs → (env : Environment) → EnvironmentFits p env → (m : Meaning) → IsTyped p m → (g : ℕ) (f : Function) → function_numbered p.functions g ≡ Some f → (vs : List Value) → IsTrue (has_types f.argument_types vs) → (w : World) (turns : ℕ) (t : List Event) → KeepsTypes (run_call env w m turns p.functions g vs t) → follow_call (module_names_given p n env) w m n.is_request turns (form_functions fs) (n.function g) vs t ≡ run_call env w m turns p.functions g vs t
+environment_alike p n fs fits env environment m typed g f e vs h w turns t keeps =
+    subst (λ l. function_numbered l g ≡ Some f → AllTypedIn p m l → KeepsTypes (run_call env w m turns l g vs t) → follow_call (module_names_given p n env) w m n.is_request turns (form_functions fs) (n.function g) vs t ≡ run_call env w m turns l g vs t) fits.functions there e typed.functions keeps
   where
     count : length (functions_of fs) ≡ length p.functions
     count = ap length fits.functions
@@ -303,6 +301,16 @@ runs_alike p n fs fits env environment m typed g f e vs h w turns t keeps =
         let same : length fs ≡ length p.functions = sym (length-functions_of fs) ∙ count in
         fits.distinct.functions g k (subst (λ z. g < z) same lg) (subst (λ z. k < z) same lk)
 
-    there : function_numbered (functions_of fs) g ≡ Some f → AllTypedIn p m (functions_of fs) → KeepsTypes (run_call env w m turns (functions_of fs) g vs t) → follow_call (module_scope (form_module p n fs) env) w m n.is_request turns (form_functions fs) (n.function g) vs t ≡ run_call env w m turns (functions_of fs) g vs t
+    there : function_numbered (functions_of fs) g ≡ Some f → AllTypedIn p m (functions_of fs) → KeepsTypes (run_call env w m turns (functions_of fs) g vs t) → follow_call (module_names_given p n env) w m n.is_request turns (form_functions fs) (n.function g) vs t ≡ run_call env w m turns (functions_of fs) g vs t
     there e typed keeps =
         answers_same (Returns f) (run_call env w m turns (functions_of fs) g vs t) _ keeps (calls_alike p n env environment w m turns fs fits.all typed one g f e vs h t)
+
+-- the names that the text of the whole module computes
+pub names_are : (p : Module) (n : ModuleNames) (fs : List Naming) → ModuleFits p n fs → (s : Settings) → SettingsFit p s → (m : Meaning) → IsTyped p m → (w : World) → module_scope (form_module p n fs) s w m n.is_request ≡ module_names_given p n (environment_of p s m)
+names_are p n fs fits s settings m typed w =
+    scope_is p n fits.constants s settings m typed fs fits.all (sym (length-functions_of fs) ∙ ap length fits.functions) w
+
+pub runs_alike : RunsAlike
+runs_alike p n fs fits s settings m typed g f e vs h w turns t keeps =
+    ap (λ names. follow_call names w m n.is_request turns (form_functions fs) (n.function g) vs t) (names_are p n fs fits s settings m typed w)
+    ∙ environment_alike p n fs fits (environment_of p s m) (environment_fits p n fits.constants s settings m typed) m typed g f e vs h w turns t keeps

@@ -44,7 +44,7 @@ none_some v e = cc
 pub some_same : {A : Type 0} (a b : A) → Some a ≡ Some b → a ≡ b
 some_same a b e = cc
 
-valued_denoted : (w : World) (o : Option Value) (t : List Event) → valued w (denoted o t) ≡ reached o t
+pub valued_denoted : (w : World) (o : Option Value) (t : List Event) → valued w (denoted o t) ≡ reached o t
 valued_denoted w None t = refl
 valued_denoted w (Some v) t = refl
 

@@ -1,10 +1,13 @@
 -- The names that a function's text starts with.
-use Rattle.std.proofs.Common.{◌≡◌, ◌≢◌, ℕ, zero, suc, ◌+◌, ◌<◌, ◌≤◌, List, [], ◌∷◌, length, Option, Some, slice_get, refl, sym, ap, ◌∙◌, arith}
+use Rattle.std.proofs.Common.{◌≡◌, ◌≢◌, ℕ, zero, suc, ◌+◌, ◌<◌, ◌≤◌, List, [], ◌∷◌, map, length, Option, Some, slice_get, refl, sym, ap, ◌∙◌, arith}
+use Rattle.std.proofs.lemmas.List.{length-map}
 use Rattle.shader_runs.specs.Value.{Bytes, Rooted, LocalRoot, Value}
-use Rattle.shader_runs.specs.World.{GlobalValue, bind}
-use Rattle.shader_runs.specs.TextRun.{IsValue, IsPlace, Scope, with_parameters, with_variables, with_globals, global_denoted}
-use Rattle.shader_runs.specs.Scope.{Naming}
-use Rattle.shader_runs.specs.Form.{names_from, variables_from}
+use Rattle.shader_runs.specs.World.{GlobalValue, Environment, bind}
+use Rattle.shader_runs.specs.Program.{Module}
+use Rattle.shader_runs.specs.TextRun.{IsValue, IsPlace, Scope, with_parameters, with_variables, with_globals, global_denoted, no_names}
+use Rattle.shader_runs.specs.Constants.{known}
+use Rattle.shader_runs.specs.Scope.{ModuleNames, Naming}
+use Rattle.shader_runs.specs.Form.{names_from, variables_from, functions_of}
 use Rattle.shader_runs.proofs.Update.{bind_same, bind_other}
 use Rattle.shader_runs.proofs.Relation.{as_denoted, global_as}
 
@@ -16,26 +19,53 @@ NotAmong name j n x = (i : ℕ) → j ≤ i → i < j + n → name i ≢ x
 abbrev pub AllDifferent : (ℕ → Bytes) → ℕ → ℕ → Type 0
 AllDifferent name j n = (i k : ℕ) → i < j + n → k < j + n → name i ≡ name k → i ≡ k
 
-pub parameter_other : (name : ℕ → Bytes) (x : Bytes) (n j : ℕ) → NotAmong name j n x → (vs : List Value) (names : Scope) → with_parameters (names_from name j n) vs names x ≡ names x
-parameter_other name x zero j f vs names = refl
-parameter_other name x (suc n) j f [] names = refl
-parameter_other name x (suc n) j f (v ∷ vs) names =
-    bind_other (with_parameters (names_from name (suc j) n) vs names) (name j) (Some (IsValue v)) x (λ e. f j (omega arith) (omega arith) (sym e)) ∙ parameter_other name x n (suc j) (λ i le lt. f i (omega arith) (omega arith)) vs names
+-- names with what is known of each
+abbrev pub with_known : List Bytes → List (Option Value) → Scope → Scope
+with_known [] os names = names
+with_known (x ∷ xs) [] names = names
+with_known (x ∷ xs) (o ∷ os) names = bind (with_known xs os names) x (as_denoted o)
 
-pub parameter_at : (name : ℕ → Bytes) (n j : ℕ) → AllDifferent name j n → (vs : List Value) (names : Scope) → length vs ≡ n → (i : ℕ) → i < n → with_parameters (names_from name j n) vs names (name (i + j)) ≡ as_denoted (slice_get vs i)
-parameter_at name zero j one vs names e i lt = absurd (omega arith)
-parameter_at name (suc n) j one [] names e i lt = absurd (omega arith)
-parameter_at name (suc n) j one (v ∷ vs) names e zero lt =
+pub known_other : (name : ℕ → Bytes) (x : Bytes) (n j : ℕ) → NotAmong name j n x → (os : List (Option Value)) (names : Scope) → with_known (names_from name j n) os names x ≡ names x
+known_other name x zero j f os names = refl
+known_other name x (suc n) j f [] names = refl
+known_other name x (suc n) j f (o ∷ os) names =
+    bind_other (with_known (names_from name (suc j) n) os names) (name j) (as_denoted o) x (λ e. f j (omega arith) (omega arith) (sym e)) ∙ known_other name x n (suc j) (λ i le lt. f i (omega arith) (omega arith)) os names
+
+pub known_at : (name : ℕ → Bytes) (n j : ℕ) → AllDifferent name j n → (os : List (Option Value)) (names : Scope) → length os ≡ n → (i : ℕ) → i < n → with_known (names_from name j n) os names (name (i + j)) ≡ as_denoted (known os i)
+known_at name zero j one os names e i lt = absurd (omega arith)
+known_at name (suc n) j one [] names e i lt = absurd (omega arith)
+known_at name (suc n) j one (o ∷ os) names e zero lt =
     let here : zero + j ≡ j = omega arith in
-    let rest = with_parameters (names_from name (suc j) n) vs names in
-    ap (λ k. bind rest (name j) (Some (IsValue v)) (name k)) here ∙ bind_same rest (name j) (Some (IsValue v))
-parameter_at name (suc n) j one (v ∷ vs) names e (suc i) lt =
+    let rest = with_known (names_from name (suc j) n) os names in
+    ap (λ k. bind rest (name j) (as_denoted o) (name k)) here ∙ bind_same rest (name j) (as_denoted o)
+known_at name (suc n) j one (o ∷ os) names e (suc i) lt =
     let there : suc i + j ≡ i + suc j = omega arith in
     let apart : i + suc j ≢ j = omega arith in
-    let rest = with_parameters (names_from name (suc j) n) vs names in
-    ap (λ k. bind rest (name j) (Some (IsValue v)) (name k)) there
-    ∙ bind_other rest (name j) (Some (IsValue v)) (name (i + suc j)) (λ e. apart (one (i + suc j) j (omega arith) (omega arith) e))
-    ∙ parameter_at name n (suc j) (λ a b la lb q. one a b (omega arith) (omega arith) q) vs names (omega arith) i (omega arith)
+    let rest = with_known (names_from name (suc j) n) os names in
+    ap (λ k. bind rest (name j) (as_denoted o) (name k)) there
+    ∙ bind_other rest (name j) (as_denoted o) (name (i + suc j)) (λ e. apart (one (i + suc j) j (omega arith) (omega arith) e))
+    ∙ known_at name n (suc j) (λ a b la lb q. one a b (omega arith) (omega arith) q) os names (omega arith) i (omega arith)
+
+-- parameters are names of which all is known
+pub parameters_known : (xs : List Bytes) (vs : List Value) (names : Scope) → with_parameters xs vs names ≡ with_known xs (map Some vs) names
+parameters_known [] vs names = refl
+parameters_known (x ∷ xs) [] names = refl
+parameters_known (x ∷ xs) (v ∷ vs) names = ap (λ f. bind f x (Some (IsValue v))) (parameters_known xs vs names)
+
+pub known_some : (vs : List Value) (i : ℕ) → known (map Some vs) i ≡ slice_get vs i
+known_some [] i = refl
+known_some (v ∷ vs) zero = refl
+known_some (v ∷ vs) (suc i) = known_some vs i
+
+pub parameter_other : (name : ℕ → Bytes) (x : Bytes) (n j : ℕ) → NotAmong name j n x → (vs : List Value) (names : Scope) → with_parameters (names_from name j n) vs names x ≡ names x
+parameter_other name x n j f vs names =
+    ap (λ scope. scope x) (parameters_known (names_from name j n) vs names) ∙ known_other name x n j f (map Some vs) names
+
+pub parameter_at : (name : ℕ → Bytes) (n j : ℕ) → AllDifferent name j n → (vs : List Value) (names : Scope) → length vs ≡ n → (i : ℕ) → i < n → with_parameters (names_from name j n) vs names (name (i + j)) ≡ as_denoted (slice_get vs i)
+parameter_at name n j one vs names e i lt =
+    ap (λ scope. scope (name (i + j))) (parameters_known (names_from name j n) vs names)
+    ∙ known_at name n j one (map Some vs) names (length-map vs Some ∙ e) i lt
+    ∙ ap as_denoted (known_some vs i)
 
 pub variable_other : (f : Naming) (x : Bytes) (os : List (Option ℕ)) (j k b : ℕ) → NotAmong f.names.local_ j (length os) x → (names : Scope) → with_variables (variables_from f j os) k b names x ≡ names x
 variable_other f x [] j k b apart names = refl
@@ -92,3 +122,12 @@ globals_other name x (suc n) j b f (g ∷ gs) names =
 pub length-names_from : (name : ℕ → Bytes) (j n : ℕ) → length (names_from name j n) ≡ n
 length-names_from name j zero = refl
 length-names_from name j (suc n) = ap suc (length-names_from name (suc j) n)
+
+-- the names of a module whose constants and overrides have these values
+abbrev pub module_names_given : Module → ModuleNames → Environment → Scope
+module_names_given p n env =
+    with_parameters (names_from n.constant 0 (length p.constant_types)) env.constants (with_globals (names_from n.global 0 (length p.global_types)) env.globals 0 no_names)
+
+pub length-functions_of : (fs : List Naming) → length (functions_of fs) ≡ length fs
+length-functions_of [] = refl
+length-functions_of (f ∷ fs) = ap suc (length-functions_of fs)

@@ -1,15 +1,15 @@
 -- The laws: a call runs alike by the text and by the module, event by event.
-use Rattle.std.specs.Prelude.{◌≡◌, ℕ, List, [], Some, IsTrue}
+use Rattle.std.specs.Prelude.{◌≡◌, ℕ, List, [], Some, IsTrue, slice_get}
 use Rattle.shader_runs.specs.Value.{Value, has_types}
-use Rattle.shader_runs.specs.World.{World, Meaning, Event, Environment}
+use Rattle.shader_runs.specs.World.{World, Meaning, Event, Settings}
 use Rattle.shader_runs.specs.Outcome.{Mistyped, Reached, Gives, Halts}
-use Rattle.shader_runs.specs.Program.{Function, function_numbered, Module}
-use Rattle.shader_runs.specs.ProgramRun.{run_call}
-use Rattle.shader_runs.specs.TextRun.{module_scope, follow_call}
+use Rattle.shader_runs.specs.Program.{ConstantTree, Function, function_numbered, Module}
+use Rattle.shader_runs.specs.ProgramRun.{constant_value}
+use Rattle.shader_runs.specs.Constants.{environment_of, run_module, follow_module}
 use Rattle.shader_runs.specs.Scope.{ModuleNames, Naming}
 use Rattle.shader_runs.specs.Form.{form_module, functions_of}
 use Rattle.shader_runs.specs.Typing.{IsConsistent}
-use Rattle.shader_runs.specs.Premises.{IsTyped, AllFit, EnvironmentFits, ModuleNamesAreDistinct}
+use Rattle.shader_runs.specs.Premises.{IsTyped, AllFit, ConstantsFit, SettingsFit, EnvironmentFits, ModuleNamesAreDistinct}
 
 -- each answer of the world that the run asks for has its type
 abbrev pub KeepsTypes : {A : Type 0} → Reached A → Type 0
@@ -21,23 +21,33 @@ KeepsTypes (Halts x t) = Unit {0}
 pub record ModuleFits (p : Module) (n : ModuleNames) (fs : List Naming) : Type 0 where
   pub functions : functions_of fs ≡ p.functions
   pub distinct : ModuleNamesAreDistinct p n
+  pub constants : ConstantsFit p n
   pub all : AllFit p n fs
 
--- of every module whose scope holds, in every world that keeps the types, under all values of constants, overrides and arguments of their types,
+-- of every module whose scope holds, in every world that keeps the types, under all values of overrides and arguments of their types,
 -- every typed meaning and every bound on loop turns, a function or entry point makes by its text the module's events, with their operands,
--- ends as in the module and returns the same
+-- ends as in the module and returns the same. Each side computes its named constants from their initialisers
 abbrev pub RunsAlike : Type 0
 RunsAlike =
     (p : Module) (n : ModuleNames) (fs : List Naming) →
     ModuleFits p n fs →
-    (env : Environment) → EnvironmentFits p env →
+    (settings : Settings) → SettingsFit p settings →
     (m : Meaning) → IsTyped p m →
     (g : ℕ) (f : Function) → function_numbered p.functions g ≡ Some f →
     (vs : List Value) → IsTrue (has_types f.argument_types vs) →
     (w : World) (turns : ℕ) (t : List Event) →
-    KeepsTypes (run_call env w m turns p.functions g vs t) →
-    follow_call (module_scope (form_module p n fs) env) w m n.is_request turns (form_module p n fs).functions (n.function g) vs t
-    ≡ run_call env w m turns p.functions g vs t
+    KeepsTypes (run_module p settings w m turns g vs t) →
+    follow_module (form_module p n fs) settings w m n.is_request turns (n.function g) vs t
+    ≡ run_module p settings w m turns g vs t
+
+-- what a module computes for its named constants is what their initialisers say: each has the value of its own, over the values of all
+abbrev pub ConstantsAreComputed : Type 0
+ConstantsAreComputed =
+    (p : Module) (n : ModuleNames) → ConstantsFit p n →
+    (settings : Settings) → SettingsFit p settings →
+    (m : Meaning) → IsTyped p m →
+    let env = environment_of p settings m in
+    EnvironmentFits p env × ((i : ℕ) (e : ConstantTree) → slice_get p.initialisers i ≡ Some e → slice_get env.constants i ≡ constant_value env m e)
 
 -- the law above isn't empty: every module whose operators are typed consistently has a typed meaning
 abbrev pub HasTypedMeaning : Type 0
@@ -46,5 +56,5 @@ HasTypedMeaning = (p : Module) → IsConsistent p → (m : Meaning) × IsTyped p
 -- nor is its premise on the world: for each bound on loop turns a world exists that keeps the types from every start
 abbrev pub HasTypedWorld : Type 0
 HasTypedWorld =
-    (p : Module) (env : Environment) (m : Meaning) (turns : ℕ) →
-    (w : World) × ((g : ℕ) (vs : List Value) → KeepsTypes (run_call env w m turns p.functions g vs []))
+    (p : Module) (settings : Settings) (m : Meaning) (turns : ℕ) →
+    (w : World) × ((g : ℕ) (vs : List Value) → KeepsTypes (run_module p settings w m turns g vs []))

@@ -1,8 +1,8 @@
 -- What is asked of a module, of its names, of the environment and of the meaning.
-use Rattle.std.specs.Prelude.{◌≡◌, ◌≢◌, ℕ, ◌<◌, Bool, true, false, List, [], ◌∷◌, length, Option, Some, None, ◌&&◌, IsTrue}
+use Rattle.std.specs.Prelude.{◌≡◌, ◌≢◌, ℕ, ◌<◌, ◌≤◌, Bool, true, false, List, [], ◌∷◌, length, Option, Some, None, ◌&&◌, IsTrue, slice_get}
 use Rattle.shader_runs.specs.Value.{Bytes, ValueType, PointerType, type_at, type_of, Value, has_type, has_types, Spelled}
-use Rattle.shader_runs.specs.World.{Environment, GlobalValue, Stored, Held, Meaning}
-use Rattle.shader_runs.specs.Program.{ConstantTree, Fixed, NamedConstant, Constructed, ConstantTrees, no_constant, constant, Expression, Constant, Argument, Local, Global, Operator, Request, Result, Action, Asked, Called, Statement, Block, If, Switch, Loop, Return, Barrier, Act, Statements, end, then, Cases, no_case, case, Function, argument_count, local_count, function_numbered, expression_of, handle_type, operands_of, Module}
+use Rattle.shader_runs.specs.World.{Environment, Settings, GlobalValue, Stored, Held, Meaning}
+use Rattle.shader_runs.specs.Program.{ConstantTree, Fixed, NamedConstant, Constructed, ConstantTrees, no_constant, constant, Expression, Constant, Argument, Local, Global, Operator, Request, Result, Action, Asked, Called, Statement, Block, If, Switch, Loop, Return, Barrier, Act, Statements, end, then, Cases, no_case, case, Function, argument_count, local_count, function_numbered, expression_of, handle_type, operands_of, Module, constant_count, override_types}
 use Rattle.shader_runs.specs.ProgramRun.{combined, barrier_words}
 use Rattle.shader_runs.specs.Scope.{ModuleNames, Names, Naming, is_pure, given_by_all, fits_function}
 use Rattle.shader_runs.specs.Form.{functions_of}
@@ -63,14 +63,23 @@ abbrev pub OperatesBy : Module → Naming → Bytes → Type 0
 OperatesBy p f w = (f.names.outer.is_request w ≡ false) × StandsFree p f w
 
 abbrev mutual
-  pub ConstantWords : Module → Naming → ConstantTree → Type 0
-  ConstantWords p f (Fixed v) = Unit {0}
-  ConstantWords p f (NamedConstant i) = Unit {0}
-  ConstantWords p f (Constructed w ty es) = OperatesBy p f w × ConstantsWords p f es
+  -- each word of a tree over constants alone
+  pub EachWord : (Bytes → Type 0) → ConstantTree → Type 0
+  EachWord P (Fixed v) = Unit {0}
+  EachWord P (NamedConstant i) = Unit {0}
+  EachWord P (Constructed w ty es) = P w × EachWordOf P es
 
-  pub ConstantsWords : Module → Naming → ConstantTrees → Type 0
-  ConstantsWords p f no_constant = Unit {0}
-  ConstantsWords p f (constant e es) = ConstantWords p f e × ConstantsWords p f es
+  pub EachWordOf : (Bytes → Type 0) → ConstantTrees → Type 0
+  EachWordOf P no_constant = Unit {0}
+  EachWordOf P (constant e es) = EachWord P e × EachWordOf P es
+
+-- the words of a tree in a function
+abbrev pub ConstantWords : Module → Naming → ConstantTree → Type 0
+ConstantWords p f e = EachWord (OperatesBy p f) e
+
+-- the words of several
+abbrev pub ConstantsWords : Module → Naming → ConstantTrees → Type 0
+ConstantsWords p f es = EachWordOf (OperatesBy p f) es
 
 -- the words of an expression
 abbrev pub WordFits : Module → Naming → Option Expression → Type 0
@@ -165,15 +174,23 @@ abbrev mutual
   constant_types_of p (constant e es) = constant_type p e ∷ constant_types_of p es
 
 abbrev mutual
-  -- named constants lie in the module's list
-  pub ConstantInRange : Module → ConstantTree → Type 0
-  ConstantInRange p (Fixed v) = Unit {0}
-  ConstantInRange p (NamedConstant i) = i < length p.constant_types
-  ConstantInRange p (Constructed w ty es) = ConstantsInRange p es
+  -- each named constant and override of a tree
+  pub EachNamed : (ℕ → Type 0) → ConstantTree → Type 0
+  EachNamed P (Fixed v) = Unit {0}
+  EachNamed P (NamedConstant i) = P i
+  EachNamed P (Constructed w ty es) = EachNamedOf P es
 
-  pub ConstantsInRange : Module → ConstantTrees → Type 0
-  ConstantsInRange p no_constant = Unit {0}
-  ConstantsInRange p (constant e es) = ConstantInRange p e × ConstantsInRange p es
+  pub EachNamedOf : (ℕ → Type 0) → ConstantTrees → Type 0
+  EachNamedOf P no_constant = Unit {0}
+  EachNamedOf P (constant e es) = EachNamed P e × EachNamedOf P es
+
+-- named constants lie in the module's list
+abbrev pub ConstantInRange : Module → ConstantTree → Type 0
+ConstantInRange p e = EachNamed (λ i. i < length p.constant_types) e
+
+-- those of several trees
+abbrev pub ConstantsInRange : Module → ConstantTrees → Type 0
+ConstantsInRange p es = EachNamedOf (λ i. i < length p.constant_types) es
 
 -- a leaf has the type of its item
 abbrev pub LeafFits : Module → Function → ValueType → Option Expression → Type 0
@@ -213,8 +230,9 @@ AllTypedIn p m [] = Unit {0}
 AllTypedIn p m (f ∷ fs) = IsTypedIn p m f × AllTypedIn p m fs
 
 -- a typed meaning of a module
-abbrev pub IsTyped : Module → Meaning → Type 0
-IsTyped p m = AllTypedIn p m p.functions
+pub record IsTyped (p : Module) (m : Meaning) : Type 0 where
+  pub functions : AllTypedIn p m p.functions
+  pub initialisers : (i : ℕ) (e : ConstantTree) → slice_get p.initialisers i ≡ Some e → ConstantTyped p m e
 
 -- no two of a function's names are equal
 abbrev pub AreDistinct : Module → Naming → Type 0
@@ -237,6 +255,27 @@ abbrev pub AllFit : Module → ModuleNames → List Naming → Type 0
 AllFit p n [] = Unit {0}
 AllFit p n (f ∷ fs) = FunctionFits p n (functions_of fs) f × AllFit p n fs
 
+-- an operator's word that no item of the module hides
+pub record OperatesOutside (p : Module) (n : ModuleNames) (w : Bytes) : Type 0 where
+  pub asks_nothing : n.is_request w ≡ false
+  pub functions : (g : ℕ) → g < length p.functions → n.function g ≢ w
+  pub constants : (i : ℕ) → i < length p.constant_types → n.constant i ≢ w
+  pub globals : (i : ℕ) → i < length p.global_types → n.global i ≢ w
+
+-- an initialiser has its constant's type, its words are operators, and each named constant in it has a smaller rank than its own
+pub record InitialiserFits (p : Module) (n : ModuleNames) (rank : ℕ → ℕ) (i : ℕ) (e : ConstantTree) : Type 0 where
+  pub range : ConstantInRange p e
+  pub type : type_at p.constant_types i ≡ constant_type p e
+  pub words : EachWord (OperatesOutside p n) e
+  pub before : EachNamed (λ k. k < constant_count p → rank k < rank i) e
+
+-- the named constants, in whatever order they are declared: with some rank none leads back to itself
+pub record ConstantsFit (p : Module) (n : ModuleNames) : Type 0 where
+  pub counted : constant_count p ≤ length p.constant_types
+  pub rank : ℕ → ℕ
+  pub initialisers : (i : ℕ) (e : ConstantTree) → slice_get p.initialisers i ≡ Some e → InitialiserFits p n rank i e
+  pub distinct : (i k : ℕ) → i < length p.constant_types → k < length p.constant_types → n.constant i ≡ n.constant k → i ≡ k
+
 -- what the variables' names stand for
 abbrev pub global_has_type : ValueType → GlobalValue → Bool
 global_has_type PointerType Stored = true
@@ -250,6 +289,11 @@ globals_have_types [] [] = true
 globals_have_types [] (g ∷ gs) = false
 globals_have_types (t ∷ ts) [] = false
 globals_have_types (t ∷ ts) (g ∷ gs) = global_has_type t g && globals_have_types ts gs
+
+-- the overrides and variables have their types
+pub record SettingsFit (p : Module) (s : Settings) : Type 0 where
+  pub overrides : IsTrue (has_types (override_types p) s.overrides)
+  pub globals : IsTrue (globals_have_types p.global_types s.globals)
 
 -- the constants, overrides and variables have their types
 pub record EnvironmentFits (p : Module) (env : Environment) : Type 0 where

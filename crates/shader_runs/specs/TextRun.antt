@@ -1,11 +1,11 @@
 -- A text's run: each expression is evaluated anew where it stands, and names are looked up.
 use Rattle.std.specs.Prelude.{ℕ, suc, Bool, true, false, cond, nat_eq, List, [], ◌∷◌, length, Option, Some, None, ◌||◌}
 use Rattle.shader_runs.specs.Value.{Bytes, same_bytes, Place, Rooted, GlobalRoot, LocalRoot, Part, At, Selector, step_of, Value, Truth, Whole, Pointer, Opaque, Spelled, PartWord, IndexWord, ShortCircuit}
-use Rattle.shader_runs.specs.World.{Event, Entry, Ask, Read, Write, Discard, entries, World, Meaning, GlobalValue, Stored, Held, Environment, bind}
+use Rattle.shader_runs.specs.World.{Event, Entry, Ask, Read, Write, Discard, entries, World, Meaning, GlobalValue, Stored, Held, bind}
 use Rattle.shader_runs.specs.Outcome.{Stuck, Discarded, Outcome, Done, Continued, Broke, Returned, Stopped, Reached, Gives, Halts, answer, Next, and_then, turn, turns, after_switch, chosen, with_integer, closed, closed_if}
 use Rattle.shader_runs.specs.Program.{Label, Numbered}
 use Rattle.shader_runs.specs.ProgramRun.{called, decides, undecided, same_label, label_if}
-use Rattle.shader_runs.specs.Text.{Tree, Name, LiteralOf, Apply, Deref, AddressOf, Index, PartOf, LogicalOf, Trees, no_more, more, Line, Let, Assign, Braces, IfElse, SwitchOn, LoopOf, BreakLine, ContinueLine, ReturnLine, DiscardLine, Perform, Lines, last, before, Groups, no_group, group, Variable, TextFunction, TextModule}
+use Rattle.shader_runs.specs.Text.{Tree, Name, LiteralOf, Apply, Deref, AddressOf, Index, PartOf, LogicalOf, Trees, no_more, more, Line, Let, Assign, Braces, IfElse, SwitchOn, LoopOf, BreakLine, ContinueLine, ReturnLine, DiscardLine, Perform, Lines, last, before, Groups, no_group, group, Variable, TextFunction}
 
 -- what an expression stands for: a value, or a reference, the place of a variable or of a part of one
 pub data Denoted : Type 0 where
@@ -254,10 +254,6 @@ with_globals (x ∷ xs) (g ∷ gs) i names = bind (with_globals xs gs (suc i) na
 -- nothing is in scope
 abbrev pub no_names : Scope
 no_names x = None
-
--- the names of a module: its constants and overrides, and its variables
-abbrev pub module_scope : TextModule → Environment → Scope
-module_scope text env = with_parameters text.constants env.constants (with_globals text.globals env.globals 0 no_names)
 
 -- a word of no function: one that asks for an event, or an operator
 abbrev pub respond_by_table : World → Meaning → (Bytes → Bool) → Bytes → List Value → List Event → Reached (Option Value)
