@@ -169,7 +169,7 @@ module _ (m : Module) (g : ℕ) (f : ir_function.Function) (found : slice_get m.
 
   -- a bound handle's name
   bound_is : (k h : ℕ) → binds own.function h ≡ true → IsIdentifier (bound_name own k h)
-  bound_is k h bound = subst (λ b. IsIdentifier (cond b [] (numbered_name h))) (sym (not_given m g f found es fits unnamed (record { constant_types = []; global_types = []; functions = [] }) refl refl h)) (numbered_is h (within (slice_get f.expressions h) refl))
+  bound_is k h bound = subst (λ b. IsIdentifier (cond b [] (numbered_name h))) (sym (not_given m g f found es fits unnamed (record { constant_types = []; initialisers = []; global_types = []; functions = [] }) refl refl h)) (numbered_is h (within (slice_get f.expressions h) refl))
     where
       within : (o : Option ir.Expression) → slice_get f.expressions h ≡ o → h < 2 ^ 64
       within (Some e) at = let lt = slice_get_within f.expressions h e at in omega (arith, lt, few)

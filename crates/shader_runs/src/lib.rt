@@ -1,9 +1,10 @@
 // The run of a module, the run of the text that is written for it, and why they agree.
 #![tactic(auto)]
 
-ghost use Rattle.shader_runs.specs.Correct.{RunsAlike, HasTypedMeaning, HasTypedWorld};
+ghost use Rattle.shader_runs.specs.Correct.{RunsAlike, HasTypedMeaning, HasTypedWorld, ConstantsAreComputed};
 ghost use Rattle.shader_runs.specs.Points.{PointsAgree};
 ghost use Rattle.shader_runs.specs.Rows.{RowsHold};
+ghost use Rattle.shader_runs.specs.ConstantRows.{ConstantRowsHold};
 
 /// A module's functions and entry points and their texts make the same events and end alike.
 pub fn runs_alike()
@@ -14,6 +15,11 @@ pub fn runs_alike()
 /// written without a name still gives them.
 pub fn points_agree()
     ensures { PointsAgree }
+{}
+
+/// What a module computes for its named constants are the values of their initialisers.
+pub fn constants_are_computed()
+    ensures { ConstantsAreComputed }
 {}
 
 /// What the first law asks of the meaning can be met.
@@ -29,4 +35,9 @@ pub fn has_typed_world()
 /// The worked functions run as they are said to, and the texts of other writers do something else.
 pub fn rows_hold()
     ensures { RowsHold }
+{}
+
+/// A worked module with named constants and an override, and texts with other initialisers.
+pub fn constant_rows_hold()
+    ensures { ConstantRowsHold }
 {}

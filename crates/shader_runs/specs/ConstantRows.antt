@@ -1,0 +1,120 @@
+-- A module with named constants and an override: what both sides compute for them, and what texts with other initialisers do.
+use Rattle.std.specs.Prelude.{◌≡◌, ℕ, ◌+◌, ◌*◌, pos, cond, List, [], ◌∷◌, get_or, Option, Some, None, codes}
+use Rattle.shader_runs.specs.Value.{Bytes, same_bytes, ValueType, OtherType, PointerType, Value, Whole, Opaque, Spelled}
+use Rattle.shader_runs.specs.World.{Event, Entry, Meaning, Settings, Stored}
+use Rattle.shader_runs.specs.Outcome.{Reached, Gives, Halts, Stuck}
+use Rattle.shader_runs.specs.Program.{ConstantTree, Fixed, NamedConstant, Constructed, no_constant, constant, Constant, Return, end, then, Function, Module}
+use Rattle.shader_runs.specs.Text.{Tree, Name, LiteralOf, Apply, no_more, more, ReturnLine, last, before, TextModule}
+use Rattle.shader_runs.specs.Constants.{run_module, follow_module}
+use Rattle.shader_runs.specs.Scope.{ModuleNames, Naming}
+use Rattle.shader_runs.specs.Form.{form_module}
+use Rattle.shader_runs.specs.Premises.{ConstantsFit, SettingsFit}
+use Rattle.shader_runs.specs.Rows.{i32, number, numbered_name, row_world, row_asks, text_of}
+
+-- the type `vec2<i32>`
+abbrev pub pair_word : Bytes
+pair_word = codes "vec2<i32>"
+
+-- two digits as one value of it
+abbrev pub pair : ℕ → ℕ → Value
+pair a b = Opaque pair_word (10 * a + b)
+
+-- the meaning of these rows: a pair of digits
+abbrev pub pair_meaning : Meaning
+pair_meaning (Spelled w) (Whole s (pos a) ∷ Whole r (pos b) ∷ []) = cond (same_bytes w pair_word) (pair a b) (number 0)
+pair_meaning w vs = number 0
+
+-- returns the first constant
+abbrev pub pair_function : Function
+pair_function =
+    record {
+      argument_types = [];
+      result = Some (OtherType pair_word);
+      first_values = [];
+      expressions = Constant (NamedConstant 0) ∷ [];
+      types = OtherType pair_word ∷ [];
+      counts = 1 ∷ [];
+      given_names = [];
+      body = then (Return (Some 0)) end;
+    }
+
+-- the constant P, which names the constant N, which is declared behind it, and the override m; and a variable v
+abbrev pub pair_module : Module
+pair_module =
+    record {
+      constant_types = OtherType pair_word ∷ i32 ∷ i32 ∷ [];
+      initialisers = Constructed pair_word (OtherType pair_word) (constant (NamedConstant 1) (constant (NamedConstant 2) no_constant)) ∷ Fixed (number 6) ∷ [];
+      global_types = PointerType ∷ [];
+      functions = pair_function ∷ [];
+    }
+
+-- the names
+abbrev pub pair_names : ModuleNames
+pair_names =
+    record {
+      constant = λ i. get_or (codes "P" ∷ codes "N" ∷ codes "m" ∷ []) i [];
+      global = λ i. codes "v";
+      function = λ g. codes "f";
+      is_request = row_asks;
+    }
+
+-- the function with them
+abbrev pub pair_naming : Naming
+pair_naming =
+    record {
+      function = pair_function;
+      names = record {
+        outer = pair_names;
+        argument = λ i. [];
+        local_ = λ i. [];
+        given = λ k. [];
+        numbered = numbered_name;
+        earlier = 0;
+      };
+    }
+
+-- `const P = vec2<i32>(N, m);`, `const N` with this initialiser, `override m;`, `var v;` and `fn f() { return P; }`
+abbrev pub pair_text : Tree → TextModule
+pair_text initialiser =
+    record {
+      constants =
+          record { name = codes "P"; initialiser = Apply pair_word (more (Name (codes "N")) (more (Name (codes "m")) no_more)) }
+          ∷ record { name = codes "N"; initialiser = initialiser } ∷ [];
+      overrides = codes "m" ∷ [];
+      globals = codes "v" ∷ [];
+      functions = text_of (codes "f") [] [] (before (ReturnLine (Some (Name (codes "P")))) last) ∷ [];
+    }
+
+-- a value of the override
+abbrev pub with_override : ℕ → Settings
+with_override b = record { overrides = number b ∷ []; globals = Stored ∷ [] }
+
+-- what the text with this initialiser does
+abbrev pub follow_pair : Tree → ℕ → Reached (Option Value)
+follow_pair initialiser b =
+    follow_module (pair_text initialiser) (with_override b) row_world pair_meaning row_asks 1 (codes "f") [] []
+
+-- a pair is returned, and nothing is read
+abbrev pub returns_pair : ℕ → ℕ → Reached (Option Value)
+returns_pair a b = Gives (Some (pair a b)) (Entry 0 [] [] ∷ [])
+
+-- no value is there
+abbrev pub without_value : Reached (Option Value)
+without_value = Halts Stuck (Entry 0 [] [] ∷ [])
+
+-- the module's text, what both do, and what other texts do: another initialiser gives another value; one that leads back to itself, asks for an event,
+-- calls a function or names what isn't there gives none
+pub record ConstantRowsHold : Type 0 where
+  pub fits : ConstantsFit pair_module pair_names
+  pub settings : SettingsFit pair_module (with_override 7)
+  pub text : form_module pair_module pair_names (pair_naming ∷ []) ≡ pair_text (LiteralOf (number 6))
+  pub module_run : run_module pair_module (with_override 7) row_world pair_meaning 1 0 [] [] ≡ returns_pair 6 7
+  pub text_run : follow_pair (LiteralOf (number 6)) 7 ≡ returns_pair 6 7
+  pub other_override : (run_module pair_module (with_override 8) row_world pair_meaning 1 0 [] [] ≡ returns_pair 6 8) × (follow_pair (LiteralOf (number 6)) 8 ≡ returns_pair 6 8)
+  pub wrong_initialiser : follow_pair (LiteralOf (number 5)) 7 ≡ returns_pair 5 7
+  pub override_for_constant : follow_pair (Name (codes "m")) 7 ≡ returns_pair 7 7
+  pub leads_back : follow_pair (Name (codes "P")) 7 ≡ without_value
+  pub reads_variable : follow_pair (Name (codes "v")) 7 ≡ without_value
+  pub asks : follow_pair (Apply (codes "storageBarrier") no_more) 7 ≡ without_value
+  pub calls_function : follow_pair (Apply (codes "f") no_more) 7 ≡ without_value
+  pub unknown_name : follow_pair (Name (codes "q")) 7 ≡ without_value
