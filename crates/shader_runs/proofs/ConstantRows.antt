@@ -1,9 +1,7 @@
 -- The worked constants, by computing, and the premises on them.
-use Rattle.std.proofs.Common.{◌≡◌, ◌≢◌, ℕ, zero, suc, ◌-◌, ◌<◌, List, [], ◌∷◌, Some, None, slice_get, refl, sym, subst, arith}
-use Rattle.std.specs.Prelude.{codes}
-use Rattle.shader_runs.specs.Value.{Bytes}
+use Rattle.std.proofs.Common.{◌≡◌, ◌≢◌, ℕ, zero, suc, ◌-◌, ◌<◌, List, [], ◌∷◌, Some, slice_get, refl, subst, arith}
 use Rattle.shader_runs.specs.Program.{ConstantTree}
-use Rattle.shader_runs.specs.Premises.{InitialiserFits, OperatesOutside, ConstantsFit}
+use Rattle.shader_runs.specs.Premises.{InitialiserFits, OperatesOutside}
 use Rattle.shader_runs.specs.ConstantRows.{pair_word, pair_module, pair_names, ConstantRowsHold}
 use Rattle.shader_runs.proofs.Evaluation.{some_same, none_some}
 

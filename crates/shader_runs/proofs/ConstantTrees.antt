@@ -1,16 +1,14 @@
 -- Trees over constants alone: the types of their values, and what their text gives.
-use Rattle.std.proofs.Common.{◌≡◌, ℕ, List, [], ◌∷◌, Option, Some, None, refl, sym, ap, ap₂, ◌∙◌}
+use Rattle.std.proofs.Common.{◌≡◌, ℕ, List, [], ◌∷◌, Option, Some, refl, ap, ap₂, ◌∙◌}
 use Rattle.std.specs.Prelude.{IsTrue}
 use Rattle.shader_runs.specs.Value.{Bytes, type_at, type_of, has_type, has_types, Value, Spelled}
-use Rattle.shader_runs.specs.World.{Event, World, Meaning}
-use Rattle.shader_runs.specs.Outcome.{Reached}
+use Rattle.shader_runs.specs.World.{Event, Meaning}
 use Rattle.shader_runs.specs.Program.{ConstantTree, Fixed, NamedConstant, Constructed, ConstantTrees, no_constant, constant, Module}
 use Rattle.shader_runs.specs.ProgramRun.{also, applied, tree_value, tree_values}
 use Rattle.shader_runs.specs.TextRun.{Words, Scope, named, valued, responded, unhidden, followed_by, as_value, evaluate, evaluate_all}
 use Rattle.shader_runs.specs.Scope.{ModuleNames}
 use Rattle.shader_runs.specs.Form.{constant_form, constant_forms}
 use Rattle.shader_runs.specs.Premises.{EachWord, EachWordOf, EachNamed, EachNamedOf, constant_type, constant_types_of, ConstantTyped, ConstantsTyped}
-use Rattle.shader_runs.proofs.Alike.{reached}
 use Rattle.shader_runs.proofs.Update.{and_both, same_type_self}
 use Rattle.shader_runs.proofs.Relation.{TypedValue, as_denoted}
 use Rattle.shader_runs.proofs.Evaluation.{denoted, valued_denoted, reached_all, followed_reached, named_denoted}

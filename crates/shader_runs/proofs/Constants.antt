@@ -1,8 +1,8 @@
 -- The named constants that a module computes have the values of their initialisers, and those of its text have the same.
-use Rattle.std.proofs.Common.{◌≡◌, ◌≢◌, ℕ, zero, suc, ◌+◌, ◌<◌, ◌≤◌, Bool, true, false, cond, nat_lt, List, [], ◌∷◌, ◌++◌, map, drop, length, Option, Some, None, unwrap_or, slice_get, ◌||◌, refl, sym, ap, ap₂, ◌∙◌, subst, arith, ltb-true, ltb-false}
+use Rattle.std.proofs.Common.{◌≡◌, ◌≢◌, ℕ, zero, suc, ◌+◌, ◌-◌, ◌<◌, ◌≤◌, Bool, true, false, cond, nat_lt, List, [], ◌∷◌, ◌++◌, map, drop, length, Option, Some, None, unwrap_or, slice_get, ◌||◌, refl, sym, ap, ap₂, ◌∙◌, subst, arith, ltb-true, ltb-false}
 use Rattle.std.specs.Prelude.{IsTrue}
 use Rattle.std.specs.List.{list_any}
-use Rattle.std.proofs.lemmas.List.{length-map, length-append}
+use Rattle.std.proofs.lemmas.List.{length-map, length-append, drop-map}
 use Rattle.std.proofs.lemmas.Option.{slice_get_within}
 use Rattle.shader_runs.specs.Value.{Bytes, same_bytes, ValueType, type_at, has_type, has_types, Value, Spelled}
 use Rattle.shader_runs.specs.World.{Event, World, Meaning, Settings, Environment, bind}
@@ -13,14 +13,14 @@ use Rattle.shader_runs.specs.Text.{Tree, TextModule}
 use Rattle.shader_runs.specs.TextRun.{Denoted, Words, Scope, as_value, unhidden, responded, with_parameters, with_globals, no_names}
 use Rattle.shader_runs.specs.Constants.{known, found_with, found_by, all_found, environment_of, is_declared, operate, initialised, with_constants, scope_with, initialiser_value, scope_by, module_scope}
 use Rattle.shader_runs.specs.Scope.{ModuleNames, Naming}
-use Rattle.shader_runs.specs.Form.{constant_form, names_from, constants_from, form_functions, form_module, functions_of}
+use Rattle.shader_runs.specs.Form.{constant_form, names_from, constants_from, form_functions, form_module}
 use Rattle.shader_runs.specs.Premises.{OperatesOutside, ConstantsFit, SettingsFit, EnvironmentFits, IsTyped, AllFit}
-use Rattle.shader_runs.specs.Correct.{ModuleFits, ConstantsAreComputed}
+use Rattle.shader_runs.specs.Correct.{IsSolution, ConstantsAreComputed}
 use Rattle.shader_runs.proofs.Update.{and_both, same_bytes_apart, has_types_length}
 use Rattle.shader_runs.proofs.Relation.{TypedValue, as_denoted}
 use Rattle.shader_runs.proofs.Evaluation.{denoted, reached_all, none_some, some_same}
 use Rattle.shader_runs.proofs.ConstantTrees.{each_both, tree_typed, tree_same, tree_gives}
-use Rattle.shader_runs.proofs.Written.{has_type_at, globals_length}
+use Rattle.shader_runs.proofs.Written.{has_type_at}
 use Rattle.shader_runs.proofs.Ranks.{count_below, count_rises, count_misses}
 use Rattle.shader_runs.proofs.Names.{with_known, known_at, known_other, parameters_known, known_some, globals_other, module_names_given, length-functions_of}
 
@@ -68,9 +68,42 @@ all_there (t ∷ ts) (o ∷ os) e each =
     let rest = all_there ts os (omega (arith, e)) (λ i lt. each (suc i) (omega (arith, lt))) in
     (v.0 ∷ rest.0, (λ i. v.1 i ∷ rest.1 i), and_both (has_type t v.0) (has_types ts rest.0) v.2 rest.2)
 
+-- lists with the same elements are the same
+same_elements : {X : Type 0} (xs ys : List X) → ((i : ℕ) → slice_get xs i ≡ slice_get ys i) → xs ≡ ys
+same_elements [] [] each = refl
+same_elements [] (y ∷ ys) each = absurd (none_some y (each zero))
+same_elements (x ∷ xs) [] each = absurd (none_some x (sym (each zero)))
+same_elements (x ∷ xs) (y ∷ ys) each = ap₂ ◌∷◌ (some_same x y (each zero)) (same_elements xs ys (λ i. each (suc i)))
+
+slice_get_drop : {X : Type 0} (n : ℕ) (xs : List X) (i : ℕ) → slice_get (drop n xs) i ≡ slice_get xs (n + i)
+slice_get_drop zero xs i = let same : i ≡ 0 + i = omega arith in ap (slice_get xs) same
+slice_get_drop (suc n) [] i = refl
+slice_get_drop (suc n) (x ∷ xs) i =
+    let same : suc (n + i) ≡ suc n + i = omega arith in
+    slice_get_drop n xs i ∙ ap (slice_get (x ∷ xs)) same
+
+-- lists whose parts behind n are the same have the same elements there
+behind_same : {X : Type 0} (n : ℕ) (xs ys : List X) → drop n xs ≡ drop n ys → (i : ℕ) → n ≤ i → slice_get xs i ≡ slice_get ys i
+behind_same n xs ys e i le =
+    let there : i ≡ n + (i - n) = omega (arith, le) in
+    ap (slice_get xs) there
+    ∙ sym (slice_get_drop n xs (i - n))
+    ∙ ap (λ zs. slice_get zs (i - n)) e
+    ∙ slice_get_drop n ys (i - n)
+    ∙ ap (slice_get ys) (sym there)
+
 all_found_some : (vs : List Value) → all_found (map Some vs) ≡ Some vs
 all_found_some [] = refl
 all_found_some (v ∷ vs) = ap (also (Some v)) (all_found_some vs)
+
+-- behind the constants stand the overrides
+values_behind : (value : ConstantTree → Option Value) (es : List ConstantTree) (os vs : List Value) → map Some vs ≡ map value es ++ map Some os → drop (length es) vs ≡ os
+values_behind value es os vs e =
+    some_same (drop (length es) vs) os (sym (all_found_some (drop (length es) vs)) ∙ ap all_found (sym (drop-map Some (length es) vs) ∙ ap (drop (length es)) e ∙ behind es) ∙ all_found_some os)
+  where
+    behind : (es : List ConstantTree) → drop (length es) (map value es ++ map Some os) ≡ map Some os
+    behind [] = refl
+    behind (e ∷ es) = behind es
 
 -- ---- the names of the text
 length-constants_from : (n : ModuleNames) (j : ℕ) (es : List ConstantTree) → length (constants_from n j es) ≡ length es
@@ -186,13 +219,45 @@ module _ (p : Module) (n : ModuleNames) (fits : ConstantsFit p n) (s : Settings)
   known_is i =
       ap (λ os. known os i) values.1 ∙ known_some values.0 i ∙ ap (λ vs. slice_get vs i) (sym constants_are)
 
-  pub constant_is : (i : ℕ) (e : ConstantTree) → slice_get p.initialisers i ≡ Some e → slice_get env.constants i ≡ constant_value env m e
+  constant_is : (i : ℕ) (e : ConstantTree) → slice_get p.initialisers i ≡ Some e → slice_get env.constants i ≡ constant_value env m e
   constant_is i e q =
       let small = position_small i e q in
       sym (known_is i)
       ∙ found_same (constant_count p) (suc (constant_count p)) i e q small (omega (arith, small))
       ∙ found_here (tree_value (known all_rounds) m) p.initialisers s.overrides i e q
       ∙ (λ j. tree_value (λ k. known_is k j) m e)
+
+  -- the computed constants solve the module's equations
+  pub solution : IsSolution p s m env
+  solution =
+      record { initialisers = constant_is; overrides = ap (drop (constant_count p)) constants_are ∙ behind (constant_count p) refl; globals = refl }
+    where
+      behind : (rounds : ℕ) → rounds ≡ constant_count p → drop (constant_count p) values.0 ≡ s.overrides
+      behind zero e = values_behind (λ e. None) p.initialisers s.overrides values.0 (sym values.1 ∙ ap (found_by p s m) (sym e))
+      behind (suc r) e =
+          values_behind (tree_value (known (found_by p s m r)) m) p.initialisers s.overrides values.0 (sym values.1 ∙ ap (found_by p s m) (sym e))
+
+  -- and nothing else does
+  module _ (other : Environment) (solves : IsSolution p s m other) where
+    override_agrees : (i : ℕ) → constant_count p ≤ i → slice_get other.constants i ≡ slice_get env.constants i
+    override_agrees = behind_same (constant_count p) other.constants env.constants (solves.overrides ∙ sym solution.overrides)
+
+    constant_agrees : (bound i : ℕ) (e : ConstantTree) → slice_get p.initialisers i ≡ Some e → position i < bound → slice_get other.constants i ≡ slice_get env.constants i
+    constant_agrees zero i e q lt = absurd (omega (arith, lt))
+    constant_agrees (suc r) i e q lt =
+        let f = fits.initialisers i e q in
+        solves.initialisers i e q
+        ∙ tree_same (slice_get other.constants) (slice_get env.constants) m (MayName i) (λ k may. by_order k (constant_count p) (λ l. let d = element p.initialisers k l in let less = earlier k i l (may.1 l) in constant_agrees r k d.0 d.1 (omega (arith, lt, less))) (λ l. override_agrees k l)) e (each_both (λ k. k < length p.constant_types) (λ k. k < constant_count p → fits.rank k < fits.rank i) e f.range f.before)
+        ∙ sym (constant_is i e q)
+
+    each_agrees : (i : ℕ) → slice_get other.constants i ≡ slice_get env.constants i
+    each_agrees i =
+        by_order i (constant_count p) (λ l. let d = element p.initialisers i l in constant_agrees (constant_count p) i d.0 d.1 (position_small i d.0 d.1)) (λ l. override_agrees i l)
+
+    pub only_solution : other ≡ env
+    only_solution =
+        let constants = same_elements other.constants env.constants each_agrees in
+        λ i. record { constants = constants i; globals = solves.globals i }
 
   -- ---- the text's side
   module _ (fs : List Naming) (all : AllFit p n fs) (count : length fs ≡ length p.functions) (w : World) where
@@ -273,4 +338,4 @@ module _ (p : Module) (n : ModuleNames) (fits : ConstantsFit p n) (s : Settings)
 
 pub constants_are_computed : ConstantsAreComputed
 constants_are_computed p n fits s settings m typed =
-    (environment_fits p n fits s settings m typed, constant_is p n fits s settings m typed)
+    (environment_fits p n fits s settings m typed, solution p n fits s settings m typed, only_solution p n fits s settings m typed)

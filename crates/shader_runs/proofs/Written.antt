@@ -2,17 +2,17 @@
 use Rattle.std.proofs.Common.{◌≡◌, ℕ, zero, suc, ◌<◌, ◌≤◌, true, nat_lt, List, [], ◌∷◌, ◌++◌, length, Option, Some, None, slice_get, refl, sym, ap, ◌∙◌, subst, true≢false, arith, ltb-true}
 use Rattle.std.specs.Prelude.{IsTrue}
 use Rattle.std.proofs.lemmas.Option.{slice_get_within}
-use Rattle.shader_runs.specs.Value.{Bytes, Rooted, GlobalRoot, LocalRoot, Selector, ShortCircuit, ValueType, BooleanType, IntegerType, PointerType, OtherType, type_at, type_of, has_type, has_types, Value, Pointer, Spelled}
+use Rattle.shader_runs.specs.Value.{Bytes, Rooted, GlobalRoot, LocalRoot, Selector, ShortCircuit, ValueType, BooleanType, IntegerType, PointerType, OtherType, type_at, has_type, has_types, Value, Pointer, Spelled}
 use Rattle.shader_runs.specs.World.{Event, GlobalValue, Stored, Held, Environment, Meaning}
-use Rattle.shader_runs.specs.Program.{ConstantTree, Fixed, NamedConstant, Constructed, ConstantTrees, no_constant, constant, Expression, Constant, Argument, Local, Global, Load, Operator, Access, AccessIndex, Logical, Request, Result, argument_count, local_count, expression_of, handle_type, operands_of, Module}
+use Rattle.shader_runs.specs.Program.{ConstantTree, ConstantTrees, Expression, Constant, Argument, Local, Global, Load, Operator, Access, AccessIndex, Logical, Request, Result, argument_count, local_count, expression_of, handle_type, operands_of, Module}
 use Rattle.shader_runs.specs.ProgramRun.{Call, Kept, constant_value, constant_values, global_value, used_as, used, also, used_all, joined, applied, combined, gathered, computed}
 use Rattle.shader_runs.specs.Text.{Name}
-use Rattle.shader_runs.specs.TextRun.{Scope, named, valued, responded, unhidden, followed_by, as_value, evaluate, evaluate_all, value_of, global_denoted}
+use Rattle.shader_runs.specs.TextRun.{Scope, named, responded, unhidden, followed_by, as_value, evaluate, evaluate_all, value_of, global_denoted}
 use Rattle.shader_runs.specs.Scope.{Standing, Absent, Barred, Everywhere, Inline, Named, Handles, Names, usable, usable_as, usable_all, is_pure}
 use Rattle.shader_runs.specs.Form.{Plain, AsValue, AsPlace, value_form, place_form, value_forms_then, constant_form, constant_forms, global_form, own_form, standing_form, written_below, written}
 use Rattle.shader_runs.specs.Premises.{FixedName, FixedKey, NumberedKey, GivenKey, IsFixedName, IsNoName, ConstantWords, ConstantsWords, WordFits, OperatesBy, AllBelow, constant_type, constant_types_of, ConstantInRange, ConstantsInRange, LeafFits, ConstantTyped, ConstantsTyped, LeafTyped, handle_types, IsTypedIn, ConstantName, ArgumentName, LocalName, GlobalName, global_has_type, globals_have_types, EnvironmentFits}
 use Rattle.shader_runs.proofs.Alike.{reached, placed}
-use Rattle.shader_runs.proofs.Update.{and_left, and_right, and_both, same_type_self, has_types_length}
+use Rattle.shader_runs.proofs.Update.{and_left, and_right, and_both, has_types_length}
 use Rattle.shader_runs.proofs.Relation.{IsHere, NoName, TypedValue, as_denoted, global_as, Stands, Related}
 use Rattle.shader_runs.proofs.Evaluation.{naming, Respond, words, Responds, denoted, Means, some_same, value_form_gives, place_form_gives, AllMean, reached_all, followed_reached, value_forms_give, named_denoted, applied_reached, OneOf, one_of, TwoOf, two_of, one_there, two_there, access_means, part_means, logical_means}
 use Rattle.shader_runs.proofs.ConstantTrees.{tree_typed, trees_typed, tree_gives, trees_give}

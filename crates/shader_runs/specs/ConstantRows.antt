@@ -1,9 +1,9 @@
 -- A module with named constants and an override: what both sides compute for them, and what texts with other initialisers do.
-use Rattle.std.specs.Prelude.{◌≡◌, ℕ, ◌+◌, ◌*◌, pos, cond, List, [], ◌∷◌, get_or, Option, Some, None, codes}
-use Rattle.shader_runs.specs.Value.{Bytes, same_bytes, ValueType, OtherType, PointerType, Value, Whole, Opaque, Spelled}
-use Rattle.shader_runs.specs.World.{Event, Entry, Meaning, Settings, Stored}
+use Rattle.std.specs.Prelude.{◌≡◌, ℕ, ◌+◌, ◌*◌, pos, cond, [], ◌∷◌, get_or, Option, Some, codes}
+use Rattle.shader_runs.specs.Value.{Bytes, same_bytes, OtherType, PointerType, Value, Whole, Opaque, Spelled}
+use Rattle.shader_runs.specs.World.{Entry, Meaning, Settings, Stored}
 use Rattle.shader_runs.specs.Outcome.{Reached, Gives, Halts, Stuck}
-use Rattle.shader_runs.specs.Program.{ConstantTree, Fixed, NamedConstant, Constructed, no_constant, constant, Constant, Return, end, then, Function, Module}
+use Rattle.shader_runs.specs.Program.{Fixed, NamedConstant, Constructed, no_constant, constant, Constant, Return, end, then, Function, Module}
 use Rattle.shader_runs.specs.Text.{Tree, Name, LiteralOf, Apply, no_more, more, ReturnLine, last, before, TextModule}
 use Rattle.shader_runs.specs.Constants.{run_module, follow_module}
 use Rattle.shader_runs.specs.Scope.{ModuleNames, Naming}

@@ -1,9 +1,9 @@
 -- The laws: a call runs alike by the text and by the module, event by event.
-use Rattle.std.specs.Prelude.{◌≡◌, ℕ, List, [], Some, IsTrue, slice_get}
+use Rattle.std.specs.Prelude.{◌≡◌, ℕ, List, [], Some, IsTrue, slice_get, drop}
 use Rattle.shader_runs.specs.Value.{Value, has_types}
-use Rattle.shader_runs.specs.World.{World, Meaning, Event, Settings}
+use Rattle.shader_runs.specs.World.{World, Meaning, Event, Settings, Environment}
 use Rattle.shader_runs.specs.Outcome.{Mistyped, Reached, Gives, Halts}
-use Rattle.shader_runs.specs.Program.{ConstantTree, Function, function_numbered, Module}
+use Rattle.shader_runs.specs.Program.{ConstantTree, Function, function_numbered, Module, constant_count}
 use Rattle.shader_runs.specs.ProgramRun.{constant_value}
 use Rattle.shader_runs.specs.Constants.{environment_of, run_module, follow_module}
 use Rattle.shader_runs.specs.Scope.{ModuleNames, Naming}
@@ -40,14 +40,20 @@ RunsAlike =
     follow_module (form_module p n fs) settings w m n.is_request turns (n.function g) vs t
     ≡ run_module p settings w m turns g vs t
 
--- what a module computes for its named constants is what their initialisers say: each has the value of its own, over the values of all
+-- each named constant has the value of its initialiser over the values of all; the overrides behind them and the variables are as the caller chose
+pub record IsSolution (p : Module) (s : Settings) (m : Meaning) (env : Environment) : Type 0 where
+  pub initialisers : (i : ℕ) (e : ConstantTree) → slice_get p.initialisers i ≡ Some e → slice_get env.constants i ≡ constant_value env m e
+  pub overrides : drop (constant_count p) env.constants ≡ s.overrides
+  pub globals : env.globals ≡ s.globals
+
+-- what a module computes for its named constants is what their initialisers say, and nothing else is
 abbrev pub ConstantsAreComputed : Type 0
 ConstantsAreComputed =
     (p : Module) (n : ModuleNames) → ConstantsFit p n →
     (settings : Settings) → SettingsFit p settings →
     (m : Meaning) → IsTyped p m →
     let env = environment_of p settings m in
-    EnvironmentFits p env × ((i : ℕ) (e : ConstantTree) → slice_get p.initialisers i ≡ Some e → slice_get env.constants i ≡ constant_value env m e)
+    EnvironmentFits p env × IsSolution p settings m env × ((other : Environment) → IsSolution p settings m other → other ≡ env)
 
 -- the law above isn't empty: every module whose operators are typed consistently has a typed meaning
 abbrev pub HasTypedMeaning : Type 0
