@@ -80,7 +80,12 @@ function_shapes types _ _ = []
 -- the program of shapes; its functions stand in it with the last one first
 abbrev pub program_shape : ir_module.Module → ModuleInfo → Module
 program_shape m info =
-    record { constant_types = []; initialisers = []; global_types = []; functions = reverse (function_shapes m.types m.functions info.functions.items) }
+    record {
+      constant_types = [];
+      initialisers = [];
+      global_types = [];
+      functions = reverse (function_shapes m.types m.functions info.functions.items);
+    }
 
 -- the names of the module's items; it has no constants, overrides and variables so far
 abbrev pub outer_names : NameMap → ModuleNames

@@ -11,10 +11,10 @@ use Rattle.shader_runs.specs.Program.{ConstantTree, Module, constant_count, over
 use Rattle.shader_runs.specs.ProgramRun.{also, applied, tree_value, constant_value}
 use Rattle.shader_runs.specs.Text.{Tree, TextModule}
 use Rattle.shader_runs.specs.TextRun.{Denoted, Words, Scope, as_value, unhidden, responded, with_parameters, with_globals, no_names}
-use Rattle.shader_runs.specs.Constants.{known, found_with, found_by, all_found, environment_of, is_declared, operate, initialised, with_constants, scope_with, initialiser_value, scope_by, module_scope}
+use Rattle.shader_runs.specs.Constants.{known, found_with, found_after, all_found, environment_of, is_declared, operate, initialised, with_constants, scope_with, initialiser_value, scope_after, module_scope}
 use Rattle.shader_runs.specs.Scope.{ModuleNames, Naming}
 use Rattle.shader_runs.specs.Form.{constant_form, names_from, constants_from, form_functions, form_module}
-use Rattle.shader_runs.specs.Premises.{OperatesOutside, ConstantsFit, SettingsFit, EnvironmentFits, IsTyped, AllFit}
+use Rattle.shader_runs.specs.Premises.{OperatesOutside, EachNamed, ConstantsFit, SettingsFit, EnvironmentFits, IsTyped, AllFit}
 use Rattle.shader_runs.specs.Correct.{IsSolution, ConstantsAreComputed}
 use Rattle.shader_runs.proofs.Update.{and_both, same_bytes_apart, has_types_length}
 use Rattle.shader_runs.proofs.Relation.{TypedValue, as_denoted}
@@ -154,48 +154,56 @@ module _ (p : Module) (n : ModuleNames) (fits : ConstantsFit p n) (s : Settings)
   abbrev MayName : ℕ → ℕ → Type 0
   MayName i k = (k < length p.constant_types) × (k < constant_count p → fits.rank k < fits.rank i)
 
-  found_counted : (rounds : ℕ) → length (found_by p s m rounds) ≡ length p.constant_types
+  may_name : (i : ℕ) (e : ConstantTree) → slice_get p.initialisers i ≡ Some e → EachNamed (MayName i) e
+  may_name i e q =
+      let f = fits.initialisers i e q in
+      each_both (λ k. k < length p.constant_types) (λ k. k < constant_count p → fits.rank k < fits.rank i) e f.range f.before
+
+  -- it is a constant of an earlier place, or an override
+  by_kind : {A : Type 0} (i k : ℕ) → MayName i k → ((e : ConstantTree) → slice_get p.initialisers k ≡ Some e → position k < position i → A) → (constant_count p ≤ k → A) → A
+  by_kind i k may constant override =
+      by_order k (constant_count p) (λ l. let d = element p.initialisers k l in constant d.0 d.1 (earlier k i l (may.1 l))) override
+
+  found_counted : (rounds : ℕ) → length (found_after p s m rounds) ≡ length p.constant_types
   found_counted zero = found_length (λ e. None) p.initialisers p.constant_types s.overrides fits.counted settings.overrides
   found_counted (suc r) =
-      found_length (tree_value (known (found_by p s m r)) m) p.initialisers p.constant_types s.overrides fits.counted settings.overrides
+      found_length (tree_value (known (found_after p s m r)) m) p.initialisers p.constant_types s.overrides fits.counted settings.overrides
 
   -- the overrides have their values from the start
-  override_typed : (rounds i : ℕ) → constant_count p ≤ i → i < length p.constant_types → TypedValue (type_at p.constant_types i) (known (found_by p s m rounds) i)
+  override_typed : (rounds i : ℕ) → constant_count p ≤ i → i < length p.constant_types → TypedValue (type_at p.constant_types i) (known (found_after p s m rounds) i)
   override_typed zero i le lt = override_here (λ e. None) p.initialisers p.constant_types s.overrides i le lt settings.overrides
   override_typed (suc r) i le lt =
-      override_here (tree_value (known (found_by p s m r)) m) p.initialisers p.constant_types s.overrides i le lt settings.overrides
+      override_here (tree_value (known (found_after p s m r)) m) p.initialisers p.constant_types s.overrides i le lt settings.overrides
 
-  override_first : (rounds i : ℕ) → constant_count p ≤ i → known (found_by p s m rounds) i ≡ known (found_by p s m 0) i
+  override_first : (rounds i : ℕ) → constant_count p ≤ i → known (found_after p s m rounds) i ≡ known (found_after p s m 0) i
   override_first zero i le = refl
   override_first (suc r) i le =
-      override_same (tree_value (known (found_by p s m r)) m) (λ e. None) p.initialisers s.overrides i le
+      override_same (tree_value (known (found_after p s m r)) m) (λ e. None) p.initialisers s.overrides i le
 
   -- a constant's value is found in the round behind its place
-  found_typed : (rounds i : ℕ) (e : ConstantTree) → slice_get p.initialisers i ≡ Some e → position i < rounds → TypedValue (type_at p.constant_types i) (known (found_by p s m rounds) i)
+  found_typed : (rounds i : ℕ) (e : ConstantTree) → slice_get p.initialisers i ≡ Some e → position i < rounds → TypedValue (type_at p.constant_types i) (known (found_after p s m rounds) i)
   found_typed zero i e q lt = absurd (omega (arith, lt))
   found_typed (suc r) i e q lt =
-      let f = fits.initialisers i e q in
-      let before = known (found_by p s m r) in
-      let v = tree_typed p before m (MayName i) (λ k may. by_order k (constant_count p) (λ l. let d = element p.initialisers k l in let less = earlier k i l (may.1 l) in found_typed r k d.0 d.1 (omega (arith, lt, less))) (λ l. override_typed r k l may.0)) e (each_both (λ k. k < length p.constant_types) (λ k. k < constant_count p → fits.rank k < fits.rank i) e f.range f.before) (typed.initialisers i e q) in
-      (v.0, found_here (tree_value before m) p.initialisers s.overrides i e q ∙ v.1, ap (λ k. has_type k v.0) f.type ∙ v.2)
+      let before = known (found_after p s m r) in
+      let v = tree_typed p before m (MayName i) (λ k may. by_kind i k may (λ d at less. found_typed r k d at (omega (arith, lt, less))) (λ l. override_typed r k l may.0)) e (may_name i e q) (typed.initialisers i e q) in
+      (v.0, found_here (tree_value before m) p.initialisers s.overrides i e q ∙ v.1, ap (λ k. has_type k v.0) (fits.initialisers i e q).type ∙ v.2)
 
   -- and stays
-  found_same : (rounds more i : ℕ) (e : ConstantTree) → slice_get p.initialisers i ≡ Some e → position i < rounds → position i < more → known (found_by p s m rounds) i ≡ known (found_by p s m more) i
+  found_same : (rounds more i : ℕ) (e : ConstantTree) → slice_get p.initialisers i ≡ Some e → position i < rounds → position i < more → known (found_after p s m rounds) i ≡ known (found_after p s m more) i
   found_same zero k i e q lt lt' = absurd (omega (arith, lt))
   found_same (suc r) zero i e q lt lt' = absurd (omega (arith, lt'))
   found_same (suc r) (suc r') i e q lt lt' =
-      let f = fits.initialisers i e q in
-      let a = known (found_by p s m r) in
-      let b = known (found_by p s m r') in
+      let a = known (found_after p s m r) in
+      let b = known (found_after p s m r') in
       found_here (tree_value a m) p.initialisers s.overrides i e q
-      ∙ tree_same a b m (MayName i) (λ k may. by_order k (constant_count p) (λ l. let d = element p.initialisers k l in let less = earlier k i l (may.1 l) in found_same r r' k d.0 d.1 (omega (arith, lt, less)) (omega (arith, lt', less))) (λ l. override_first r k l ∙ sym (override_first r' k l))) e (each_both (λ k. k < length p.constant_types) (λ k. k < constant_count p → fits.rank k < fits.rank i) e f.range f.before)
+      ∙ tree_same a b m (MayName i) (λ k may. by_kind i k may (λ d at less. found_same r r' k d at (omega (arith, lt, less)) (omega (arith, lt', less))) (λ l. override_first r k l ∙ sym (override_first r' k l))) e (may_name i e q)
       ∙ sym (found_here (tree_value b m) p.initialisers s.overrides i e q)
 
   position_small : (i : ℕ) (e : ConstantTree) → slice_get p.initialisers i ≡ Some e → position i < constant_count p
   position_small i e q = count_misses fits.rank (constant_count p) i (slice_get_within p.initialisers i e q)
 
   abbrev all_rounds : List (Option Value)
-  all_rounds = found_by p s m (constant_count p)
+  all_rounds = found_after p s m (constant_count p)
 
   each_typed : (i : ℕ) → i < length p.constant_types → TypedValue (type_at p.constant_types i) (known all_rounds i)
   each_typed i lt =
@@ -233,9 +241,9 @@ module _ (p : Module) (n : ModuleNames) (fits : ConstantsFit p n) (s : Settings)
       record { initialisers = constant_is; overrides = ap (drop (constant_count p)) constants_are ∙ behind (constant_count p) refl; globals = refl }
     where
       behind : (rounds : ℕ) → rounds ≡ constant_count p → drop (constant_count p) values.0 ≡ s.overrides
-      behind zero e = values_behind (λ e. None) p.initialisers s.overrides values.0 (sym values.1 ∙ ap (found_by p s m) (sym e))
+      behind zero e = values_behind (λ e. None) p.initialisers s.overrides values.0 (sym values.1 ∙ ap (found_after p s m) (sym e))
       behind (suc r) e =
-          values_behind (tree_value (known (found_by p s m r)) m) p.initialisers s.overrides values.0 (sym values.1 ∙ ap (found_by p s m) (sym e))
+          values_behind (tree_value (known (found_after p s m r)) m) p.initialisers s.overrides values.0 (sym values.1 ∙ ap (found_after p s m) (sym e))
 
   -- and nothing else does
   module _ (other : Environment) (solves : IsSolution p s m other) where
@@ -245,9 +253,8 @@ module _ (p : Module) (n : ModuleNames) (fits : ConstantsFit p n) (s : Settings)
     constant_agrees : (bound i : ℕ) (e : ConstantTree) → slice_get p.initialisers i ≡ Some e → position i < bound → slice_get other.constants i ≡ slice_get env.constants i
     constant_agrees zero i e q lt = absurd (omega (arith, lt))
     constant_agrees (suc r) i e q lt =
-        let f = fits.initialisers i e q in
         solves.initialisers i e q
-        ∙ tree_same (slice_get other.constants) (slice_get env.constants) m (MayName i) (λ k may. by_order k (constant_count p) (λ l. let d = element p.initialisers k l in let less = earlier k i l (may.1 l) in constant_agrees r k d.0 d.1 (omega (arith, lt, less))) (λ l. override_agrees k l)) e (each_both (λ k. k < length p.constant_types) (λ k. k < constant_count p → fits.rank k < fits.rank i) e f.range f.before)
+        ∙ tree_same (slice_get other.constants) (slice_get env.constants) m (MayName i) (λ k may. by_kind i k may (λ d at less. constant_agrees r k d at (omega (arith, lt, less))) (λ l. override_agrees k l)) e (may_name i e q)
         ∙ sym (constant_is i e q)
 
     each_agrees : (i : ℕ) → slice_get other.constants i ≡ slice_get env.constants i
@@ -322,15 +329,15 @@ module _ (p : Module) (n : ModuleNames) (fits : ConstantsFit p n) (s : Settings)
           ∙ initialised_denoted (tree_value (known found) m e)
 
     -- each round of the text knows what the module's knows
-    round_is : (rounds : ℕ) → scope_by l text s rounds ≡ with_known names (found_by p s m rounds) outside
+    round_is : (rounds : ℕ) → scope_after l text s rounds ≡ with_known names (found_after p s m rounds) outside
     round_is zero = scope_known (λ e. None) (λ e. None) (λ i e q. refl)
     round_is (suc r) =
-        let found = found_by p s m r in
-        scope_known (tree_value (known found) m) (initialiser_value l (scope_by l text s r)) (λ i e q. ap (λ scope. initialiser_value l scope (constant_form n e)) (round_is r) ∙ gives found (found_counted r) i e q)
+        let found = found_after p s m r in
+        scope_known (tree_value (known found) m) (initialiser_value l (scope_after l text s r)) (λ i e q. ap (λ scope. initialiser_value l scope (constant_form n e)) (round_is r) ∙ gives found (found_counted r) i e q)
 
     pub scope_is : module_scope text s w m n.is_request ≡ module_names_given p n env
     scope_is =
-        ap (scope_by l text s) (length-constants_from n 0 p.initialisers)
+        ap (scope_after l text s) (length-constants_from n 0 p.initialisers)
         ∙ round_is (constant_count p)
         ∙ ap (λ os. with_known names os outside) values.1
         ∙ sym (parameters_known names values.0 outside)

@@ -24,9 +24,10 @@ pub record ModuleFits (p : Module) (n : ModuleNames) (fs : List Naming) : Type 0
   pub constants : ConstantsFit p n
   pub all : AllFit p n fs
 
--- of every module whose scope holds, in every world that keeps the types, under all values of overrides and arguments of their types,
--- every typed meaning and every bound on loop turns, a function or entry point makes by its text the module's events, with their operands,
--- ends as in the module and returns the same. Each side computes its named constants from their initialisers
+-- of every module whose scope holds, in every world that keeps the types, under all values of overrides and arguments
+-- of their types, every typed meaning and every bound on loop turns, a function or entry point makes by its text the
+-- module's events, with their operands, ends as in the module and returns the same. Each side computes its named
+-- constants from their initialisers
 abbrev pub RunsAlike : Type 0
 RunsAlike =
     (p : Module) (n : ModuleNames) (fs : List Naming) →
@@ -40,20 +41,24 @@ RunsAlike =
     follow_module (form_module p n fs) settings w m n.is_request turns (n.function g) vs t
     ≡ run_module p settings w m turns g vs t
 
--- each named constant has the value of its initialiser over the values of all; the overrides behind them and the variables are as the caller chose
+-- each named constant has the value of its initialiser over the values of all; the overrides behind them and the
+-- variables are as the caller chose
 pub record IsSolution (p : Module) (s : Settings) (m : Meaning) (env : Environment) : Type 0 where
-  pub initialisers : (i : ℕ) (e : ConstantTree) → slice_get p.initialisers i ≡ Some e → slice_get env.constants i ≡ constant_value env m e
+  pub initialisers : (i : ℕ) (e : ConstantTree) → slice_get p.initialisers i ≡ Some e →
+      slice_get env.constants i ≡ constant_value env m e
   pub overrides : drop (constant_count p) env.constants ≡ s.overrides
   pub globals : env.globals ≡ s.globals
 
--- what a module computes for its named constants is what their initialisers say, and nothing else is
+-- what a module computes for its named constants is what their initialisers say, and no other values are
 abbrev pub ConstantsAreComputed : Type 0
 ConstantsAreComputed =
     (p : Module) (n : ModuleNames) → ConstantsFit p n →
     (settings : Settings) → SettingsFit p settings →
     (m : Meaning) → IsTyped p m →
     let env = environment_of p settings m in
-    EnvironmentFits p env × IsSolution p settings m env × ((other : Environment) → IsSolution p settings m other → other ≡ env)
+    EnvironmentFits p env
+    × IsSolution p settings m env
+    × ((other : Environment) → IsSolution p settings m other → other ≡ env)
 
 -- the law above isn't empty: every module whose operators are typed consistently has a typed meaning
 abbrev pub HasTypedMeaning : Type 0

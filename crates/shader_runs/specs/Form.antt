@@ -187,7 +187,8 @@ functions_of (f ∷ fs) = f.function ∷ functions_of fs
 -- the named constants from the index i on, with their initialisers
 abbrev pub constants_from : ModuleNames → ℕ → List ConstantTree → List TextConstant
 constants_from n i [] = []
-constants_from n i (e ∷ es) = record { name = n.constant i; initialiser = constant_form n e } ∷ constants_from n (suc i) es
+constants_from n i (e ∷ es) =
+    record { name = n.constant i; initialiser = constant_form n e } ∷ constants_from n (suc i) es
 
 -- a module, whose functions have these names
 abbrev pub form_module : Module → ModuleNames → List Naming → TextModule

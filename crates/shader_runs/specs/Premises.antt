@@ -232,7 +232,8 @@ AllTypedIn p m (f ∷ fs) = IsTypedIn p m f × AllTypedIn p m fs
 -- a typed meaning of a module
 pub record IsTyped (p : Module) (m : Meaning) : Type 0 where
   pub functions : AllTypedIn p m p.functions
-  pub initialisers : (i : ℕ) (e : ConstantTree) → slice_get p.initialisers i ≡ Some e → ConstantTyped p m e
+  pub initialisers : (i : ℕ) (e : ConstantTree) → slice_get p.initialisers i ≡ Some e →
+      ConstantTyped p m e
 
 -- no two of a function's names are equal
 abbrev pub AreDistinct : Module → Naming → Type 0
@@ -262,19 +263,22 @@ pub record OperatesOutside (p : Module) (n : ModuleNames) (w : Bytes) : Type 0 w
   pub constants : (i : ℕ) → i < length p.constant_types → n.constant i ≢ w
   pub globals : (i : ℕ) → i < length p.global_types → n.global i ≢ w
 
--- an initialiser has its constant's type, its words are operators, and each named constant in it has a smaller rank than its own
+-- the initialiser of the constant i has its type, its words are operators, and each named constant in it has a
+-- smaller rank than i
 pub record InitialiserFits (p : Module) (n : ModuleNames) (rank : ℕ → ℕ) (i : ℕ) (e : ConstantTree) : Type 0 where
   pub range : ConstantInRange p e
   pub type : type_at p.constant_types i ≡ constant_type p e
   pub words : EachWord (OperatesOutside p n) e
   pub before : EachNamed (λ k. k < constant_count p → rank k < rank i) e
 
--- the named constants, in whatever order they are declared: with some rank none leads back to itself
+-- the named constants, in whatever order they are declared. As each has a rank, none leads back to itself
 pub record ConstantsFit (p : Module) (n : ModuleNames) : Type 0 where
   pub counted : constant_count p ≤ length p.constant_types
   pub rank : ℕ → ℕ
-  pub initialisers : (i : ℕ) (e : ConstantTree) → slice_get p.initialisers i ≡ Some e → InitialiserFits p n rank i e
-  pub distinct : (i k : ℕ) → i < length p.constant_types → k < length p.constant_types → n.constant i ≡ n.constant k → i ≡ k
+  pub initialisers : (i : ℕ) (e : ConstantTree) → slice_get p.initialisers i ≡ Some e →
+      InitialiserFits p n rank i e
+  pub distinct : (i k : ℕ) → i < length p.constant_types → k < length p.constant_types →
+      n.constant i ≡ n.constant k → i ≡ k
 
 -- what the variables' names stand for
 abbrev pub global_has_type : ValueType → GlobalValue → Bool

@@ -176,8 +176,9 @@ abbrev mutual
   some_case_continues no_case = false
   some_case_continues (case l b falls cs) = any_continue b || some_case_continues cs
 
--- a module: the types of its named constants and, behind them, of its overrides; the initialisers of the named constants; the types of what
--- its variables' names stand for; and its functions, then its entry points, in their order, the last one first
+-- a module: the types of its named constants and, behind them, of its overrides; the initialisers of the named
+-- constants; the types of what its variables' names stand for; and its functions, then its entry points, in their
+-- order, the last one first
 pub record Module : Type 0 where
   pub constant_types : List ValueType
   pub initialisers : List ConstantTree

@@ -67,7 +67,8 @@ nothing = record { overrides = []; globals = [] }
 
 -- a module of functions alone
 abbrev pub functions_alone : List Function → Module
-functions_alone fs = record { constant_types = []; initialisers = []; global_types = []; functions = fs }
+functions_alone fs =
+    record { constant_types = []; initialisers = []; global_types = []; functions = fs }
 
 -- `_e` and a digit
 abbrev pub numbered_name : ℕ → Bytes
@@ -112,11 +113,13 @@ all_fit (f ∷ fs) = fits_function f && all_fit fs
 
 -- the run of this text, from a function by its name
 abbrev pub follow_text : Settings → TextModule → Bytes → List Value → Reached (Option Value)
-follow_text settings text name vs = follow_module text settings row_world row_meaning row_asks 3 name vs []
+follow_text settings text name vs =
+    follow_module text settings row_world row_meaning row_asks 3 name vs []
 
 -- the run of functions alone
 abbrev pub follow_row : List TextFunction → Bytes → List Value → Reached (Option Value)
-follow_row texts = follow_text nothing (record { constants = []; overrides = []; globals = []; functions = texts })
+follow_row texts =
+    follow_text nothing (record { constants = []; overrides = []; globals = []; functions = texts })
 
 -- a module's functions, last first, with their texts, and how the last one runs
 pub record IsShown (fs : List Naming) (texts : List TextFunction) (g : ℕ) (name : Bytes) (vs : List Value) (result : Reached (Option Value)) : Type 0 where

@@ -38,8 +38,10 @@ pub data IsOneOf (x : Signature) : List Signature → Type 0 where
 
 -- the module spells it: in an expression of a function, or in the initialiser of a named constant
 pub data IsSpelled (p : Module) (x : Signature) : Type 0 where
-  in_function : (place : ℕ) (f : Function) → slice_get p.functions place ≡ Some f → (h : ℕ) → IsOneOf x (signatures_of p f (handle_type f h) (expression_of f h)) → IsSpelled p x
-  in_initialiser : (i : ℕ) (e : ConstantTree) → slice_get p.initialisers i ≡ Some e → IsOneOf x (constant_signatures p e) → IsSpelled p x
+  in_function : (place : ℕ) (f : Function) → slice_get p.functions place ≡ Some f →
+      (h : ℕ) → IsOneOf x (signatures_of p f (handle_type f h) (expression_of f h)) → IsSpelled p x
+  in_initialiser : (i : ℕ) (e : ConstantTree) → slice_get p.initialisers i ≡ Some e →
+      IsOneOf x (constant_signatures p e) → IsSpelled p x
 
 -- an integer's index through a pointer gives a pointer
 abbrev pub AccessFits : (base index result : ValueType) → Type 0
