@@ -1,12 +1,10 @@
 -- The worked constants, by computing, and the premises on them.
-use Rattle.std.proofs.Common.{◌≡◌, ◌≢◌, ℕ, zero, suc, ◌-◌, ◌<◌, List, [], ◌∷◌, Some, slice_get, refl, subst, arith}
+use Rattle.std.proofs.Common.{◌≡◌, ◌≢◌, ℕ, zero, suc, ◌-◌, ◌<◌, [], ◌∷◌, Some, slice_get, refl, subst, arith}
 use Rattle.shader_runs.specs.Program.{ConstantTree}
 use Rattle.shader_runs.specs.Premises.{InitialiserFits, OperatesOutside}
 use Rattle.shader_runs.specs.ConstantRows.{pair_word, pair_module, pair_names, ConstantRowsHold}
 use Rattle.shader_runs.proofs.Evaluation.{some_same, none_some}
-
-heads : (a b : ℕ) (xs ys : List ℕ) → a ∷ xs ≡ b ∷ ys → a ≡ b
-heads a b xs ys e = cc
+use Rattle.shader_runs.proofs.Rows.{heads}
 
 -- one letter is another
 letters : (a b : ℕ) → (a ≡ b → ⊥) → a ∷ [] ≡ b ∷ [] → ⊥

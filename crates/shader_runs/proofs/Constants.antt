@@ -1,9 +1,9 @@
 -- The named constants that a module computes have the values of their initialisers, and those of its text have the same.
-use Rattle.std.proofs.Common.{◌≡◌, ◌≢◌, ℕ, zero, suc, ◌+◌, ◌-◌, ◌<◌, ◌≤◌, Bool, true, false, cond, nat_lt, List, [], ◌∷◌, ◌++◌, map, drop, length, Option, Some, None, unwrap_or, slice_get, ◌||◌, refl, sym, ap, ap₂, ◌∙◌, subst, arith, ltb-true, ltb-false}
+use Rattle.std.proofs.Common.{inl, inr, ◌≡◌, ◌≢◌, ℕ, zero, suc, ◌+◌, ◌-◌, ◌<◌, ◌≤◌, false, cond, List, [], ◌∷◌, ◌++◌, map, drop, length, Option, Some, None, unwrap_or, slice_get, ◌||◌, refl, sym, ap, ap₂, ◌∙◌, subst, arith}
 use Rattle.std.specs.Prelude.{IsTrue}
 use Rattle.std.specs.List.{list_any}
 use Rattle.std.proofs.lemmas.List.{length-map, length-append, drop-map}
-use Rattle.std.proofs.lemmas.Option.{slice_get_within}
+use Rattle.std.proofs.lemmas.Option.{slice_get_cases, slice_get_within}
 use Rattle.shader_runs.specs.Value.{Bytes, same_bytes, ValueType, type_at, has_type, has_types, Value, Spelled}
 use Rattle.shader_runs.specs.World.{Event, World, Meaning, Settings, Environment, bind}
 use Rattle.shader_runs.specs.Outcome.{Stuck, Gives, Halts}
@@ -24,17 +24,9 @@ use Rattle.shader_runs.proofs.Written.{has_type_at}
 use Rattle.shader_runs.proofs.Ranks.{count_below, count_rises, count_misses}
 use Rattle.shader_runs.proofs.Names.{with_known, known_at, known_other, parameters_known, known_some, globals_other, module_names_given, length-functions_of}
 
-by_order : {A : Type 0} (a b : ℕ) → (a < b → A) → (b ≤ a → A) → A
-by_order {A} a b below past = go (nat_lt a b) refl
-  where
-    go : (x : Bool) → nat_lt a b ≡ x → A
-    go true e = below (ltb-true a b e)
-    go false e = past (ltb-false a b e)
-
-element : {X : Type 0} (xs : List X) (i : ℕ) → i < length xs → (x : X) × (slice_get xs i ≡ Some x)
-element [] i lt = absurd (omega (arith, lt))
-element (x ∷ xs) zero lt = (x, refl)
-element (x ∷ xs) (suc i) lt = element xs i (omega (arith, lt))
+-- a place in a list, or one past its end
+by_place : {X A : Type 0} (xs : List X) (i : ℕ) → ((x : X) → slice_get xs i ≡ Some x → i < length xs → A) → (length xs ≤ i → A) → A
+by_place xs i inside past = elim (slice_get_cases xs i).1 [ inl found ↦ inside found.0 found.2 found.1 | inr none ↦ past none.0 ]
 
 -- ---- what is found of the constants and the overrides
 found_length : (value : ConstantTree → Option Value) (es : List ConstantTree) (ts : List ValueType) (os : List Value) → length es ≤ length ts → IsTrue (has_types (drop (length es) ts) os) → length (map value es ++ map Some os) ≡ length ts
@@ -162,7 +154,7 @@ module _ (p : Module) (n : ModuleNames) (fits : ConstantsFit p n) (s : Settings)
   -- it is a constant of an earlier place, or an override
   by_kind : {A : Type 0} (i k : ℕ) → MayName i k → ((e : ConstantTree) → slice_get p.initialisers k ≡ Some e → position k < position i → A) → (constant_count p ≤ k → A) → A
   by_kind i k may constant override =
-      by_order k (constant_count p) (λ l. let d = element p.initialisers k l in constant d.0 d.1 (earlier k i l (may.1 l))) override
+      by_place p.initialisers k (λ e q l. constant e q (earlier k i l (may.1 l))) override
 
   found_counted : (rounds : ℕ) → length (found_after p s m rounds) ≡ length p.constant_types
   found_counted zero = found_length (λ e. None) p.initialisers p.constant_types s.overrides fits.counted settings.overrides
@@ -207,7 +199,7 @@ module _ (p : Module) (n : ModuleNames) (fits : ConstantsFit p n) (s : Settings)
 
   each_typed : (i : ℕ) → i < length p.constant_types → TypedValue (type_at p.constant_types i) (known all_rounds i)
   each_typed i lt =
-      by_order i (constant_count p) (λ l. let d = element p.initialisers i l in found_typed (constant_count p) i d.0 d.1 (position_small i d.0 d.1)) (λ l. override_typed (constant_count p) i l lt)
+      by_place p.initialisers i (λ e q l. found_typed (constant_count p) i e q (position_small i e q)) (λ l. override_typed (constant_count p) i l lt)
 
   -- the values of all
   values : (vs : List Value) × (all_rounds ≡ map Some vs) × IsTrue (has_types p.constant_types vs)
@@ -259,7 +251,7 @@ module _ (p : Module) (n : ModuleNames) (fits : ConstantsFit p n) (s : Settings)
 
     each_agrees : (i : ℕ) → slice_get other.constants i ≡ slice_get env.constants i
     each_agrees i =
-        by_order i (constant_count p) (λ l. let d = element p.initialisers i l in constant_agrees (constant_count p) i d.0 d.1 (position_small i d.0 d.1)) (λ l. override_agrees i l)
+        by_place p.initialisers i (λ e q l. constant_agrees (constant_count p) i e q (position_small i e q)) (λ l. override_agrees i l)
 
     pub only_solution : other ≡ env
     only_solution =

@@ -7,7 +7,7 @@ use Rattle.shader_runs.specs.Premises.{AllBelow, WordFits, LeafFits, AreDistinct
 use Rattle.shader_runs.specs.Typing.{Signature, IsOneOf, IsSpelled, in_function, in_initialiser, PartsFit, signatures_of}
 use Rattle.shader_runs.specs.Rows.{RowsHold, PremisesHold, store_function, store_naming, store_module, numbered_name}
 
-heads : (a b : ℕ) (xs ys : List ℕ) → a ∷ xs ≡ b ∷ ys → a ≡ b
+pub heads : (a b : ℕ) (xs ys : List ℕ) → a ∷ xs ≡ b ∷ ys → a ≡ b
 heads a b xs ys e = cc
 
 thirds : (a b : ℕ) → 95 ∷ 101 ∷ a ∷ [] ≡ 95 ∷ 101 ∷ b ∷ [] → a ≡ b
