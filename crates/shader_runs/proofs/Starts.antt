@@ -5,6 +5,7 @@ use Rattle.shader_runs.specs.World.{Event, Entry, Ask, Read, Write, Discard, ent
 use Rattle.shader_runs.specs.Outcome.{Outcome, Done, Continued, Broke, Returned, Stopped, Reached, Gives, Halts, answer, Next, and_then, and_continue, within, turn, and_again, turns, after_switch, chosen, with_integer}
 use Rattle.shader_runs.specs.Program.{Expression, Constant, Argument, Local, Global, Load, Operator, Access, AccessIndex, Logical, Swizzle, Request, Action, Asked, Called, Label, Numbered, Statement, Emit, Store, Block, If, Switch, Loop, Break, Continue, Return, Kill, Barrier, Act, Statements, end, then, Cases, no_case, case, Function, argument_count, expression_of, handle_type, operands_of, is_counted, is_asked, from, Module}
 use Rattle.shader_runs.specs.ProgramRun.{Call, Kept, constant_values, used, used_as, also, used_all, gathered, computed, joined, if_typed, keep_typed, with_used, loaded, asked, if_counted, emit_as, emit, with_pointer, leave, returned, acted, with_result, with_all, barrier_words, ask_each, same_label, has_label, label_if, run, run_all, run_cases, run_on, constants_kept, with_first, wrapped, first_used, first_used_all, entered, run_body, called, run_call}
+use Rattle.shader_runs.specs.Constants.{environment_of}
 use Rattle.shader_runs.specs.Correct.{KeepsTypes, HasTypedWorld}
 use Rattle.shader_runs.proofs.Worlds.{world_of, events_of, reached_events, call_types, call_keeps}
 
@@ -355,8 +356,8 @@ types_of_start p env m turns (started g vs) = world_of (call_types env m turns p
 abbrev one_world : Module → Environment → Meaning → ℕ → World
 one_world p env m turns t r = by_start (types_of_start p env m turns) (start_of t) t r
 
-pub has_typed_world : HasTypedWorld
-has_typed_world p env m turns = (one_world p env m turns, each)
+typed_world : (p : Module) (env : Environment) (m : Meaning) (turns : ℕ) → (w : World) × ((g : ℕ) (vs : List Value) → KeepsTypes (run_call env w m turns p.functions g vs []))
+typed_world p env m turns = (one_world p env m turns, each)
   where
     each : (g : ℕ) (vs : List Value) → KeepsTypes (run_call env (one_world p env m turns) m turns p.functions g vs [])
     each g vs =
@@ -364,3 +365,6 @@ has_typed_world p env m turns = (one_world p env m turns, each)
       where
         same : (t : List Event) (r : Event) → start_of t ≡ Some (started g vs) → one_world p env m turns t r ≡ world_of (call_types env m turns p.functions g vs) t r
         same t r e = ap (λ o. by_start (types_of_start p env m turns) o t r) e
+
+pub has_typed_world : HasTypedWorld
+has_typed_world p settings m turns = typed_world p (environment_of p settings m) m turns

@@ -1,14 +1,15 @@
 -- The two facts that hold at each point that a run of a function passes.
 use Rattle.std.specs.Prelude.{◌≡◌, ℕ, zero, suc, List, ◌∷◌, ◌++◌, Some, IsTrue}
 use Rattle.shader_runs.specs.Value.{Bytes, Value, has_types}
-use Rattle.shader_runs.specs.World.{Event, entries, World, Meaning, Environment}
+use Rattle.shader_runs.specs.World.{Event, entries, World, Meaning, Environment, Settings}
 use Rattle.shader_runs.specs.Outcome.{Gives}
 use Rattle.shader_runs.specs.Program.{Statement, Emit, If, Switch, Loop, Statements, end, then, Cases, no_case, case, Function, from, Module}
 use Rattle.shader_runs.specs.ProgramRun.{Call, Kept, used, constants_kept, run_call}
-use Rattle.shader_runs.specs.TextRun.{IsValue, Scope, Words, value_of, with_parameters, with_variables, word_use, module_scope, follow_call}
+use Rattle.shader_runs.specs.TextRun.{IsValue, Scope, Words, value_of, with_parameters, with_variables, word_use, follow_call}
 use Rattle.shader_runs.specs.Scope.{Named, Handles, ModuleNames, Naming, usable, given_by, given_by_all, after, after_emit, after_all, at_start}
+use Rattle.shader_runs.specs.Constants.{environment_of, module_scope}
 use Rattle.shader_runs.specs.Form.{value_at, form_all, form_function, form_functions, form_module, functions_of}
-use Rattle.shader_runs.specs.Premises.{IsTyped, EnvironmentFits}
+use Rattle.shader_runs.specs.Premises.{IsTyped, SettingsFit}
 use Rattle.shader_runs.specs.Correct.{ModuleFits}
 use Rattle.shader_runs.specs.Passes.{Region, Reject, CaseBody, Continuing, BreakIf, Point, here, behind, inside, emitting, statements_in, Passes, TextPasses, point_in_text}
 
@@ -32,19 +33,23 @@ call_of env w m turns f fs vs t =
       calls = run_call env w m turns (functions_of fs);
     }
 
--- what words do in its text, where these are all functions of the module
-abbrev pub words_of : Module → ModuleNames → (all : List Naming) → Environment → World → Meaning → (turns : ℕ) → List Naming → Words
-words_of p n all env w m turns fs =
+-- what words do in its text, inside these module-level names, where these are all functions of the module
+abbrev pub words_of :
+    (outer : Scope) → ModuleNames → (all : List Naming) → World → Meaning → (turns : ℕ) → List Naming →
+    Words
+words_of outer n all w m turns fs =
+    let uses = word_use (form_functions all) n.is_request in
     record {
       world = w;
       meaning = m;
-      respond = follow_call (module_scope (form_module p n fs) env) w m (word_use (form_functions all) n.is_request) turns (form_functions fs);
+      respond = follow_call outer w m uses turns (form_functions fs);
     }
 
 -- the names that its text starts with
-abbrev pub names_of : Module → ModuleNames → Environment → Naming → List Naming → List Value → List Event → Scope
-names_of p n env f fs vs t =
-    with_variables (form_function f).variables (entries t) 0 (with_parameters (form_function f).parameters vs (module_scope (form_module p n fs) env))
+abbrev pub names_of : (outer : Scope) → Naming → List Value → List Event → Scope
+names_of outer f vs t =
+    let text = form_function f in
+    with_variables text.variables (entries t) 0 (with_parameters text.parameters vs outer)
 
 -- how many names were given in front of the case with this index
 abbrev pub given_before : Function → Cases → ℕ → ℕ → ℕ
@@ -82,16 +87,19 @@ abbrev pub PointsAgree : Type 0
 PointsAgree =
     (p : Module) (n : ModuleNames) (later : List Naming) (f : Naming) (fs : List Naming) →
     ModuleFits p n (later ++ (f ∷ fs)) →
-    (env : Environment) → EnvironmentFits p env →
+    (settings : Settings) → SettingsFit p settings →
     (m : Meaning) → IsTyped p m →
     (vs : List Value) → IsTrue (has_types p.parts f.function.argument_types vs) →
     (w : World) (turns : ℕ) (before_entry t : List Event) (q : Point) (kept : Kept) (t1 : List Event) →
+    let all = later ++ (f ∷ fs) in
+    let env = environment_of p settings m in
+    let outer = module_scope (form_module p n all) settings w m n.is_request in
     let c = call_of env w m turns f fs vs before_entry in
-    let l = words_of p n (later ++ (f ∷ fs)) env w m turns fs in
+    let l = words_of outer n all w m turns fs in
     let body = f.function.body in
     let start = at_start f.function in
     let in_text = point_in_text f.function body q in
     Passes c turns body q (constants_kept f.function env m) t kept t1 →
     (names : Scope)
-    × TextPasses l turns (form_all f 0 body start) in_text (names_of p n env f fs vs before_entry) t names t1
+    × TextPasses l turns (form_all f 0 body start) in_text (names_of outer f vs before_entry) t names t1
     × FactsHold c l f (handles_at f 0 body q start) kept names
