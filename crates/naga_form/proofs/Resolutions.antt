@@ -68,7 +68,7 @@ reference_targets scope (ReferenceForm e) = refl
 
 -- no module has constants and variables so far
 abbrev pub nothing_outside : shapes.Module
-nothing_outside = record { constant_types = []; global_types = []; parts = no_parts; functions = [] }
+nothing_outside = record { constant_types = []; initialisers = []; global_types = []; parts = no_parts; functions = [] }
 
 module _ (m : Module) (g : ℕ) (f : ir_function.Function) (found : slice_get m.functions g ≡ Some f) (es : List ExpressionInfo) (fits : function_fits m.types f es ≡ true) (unnamed : IsTrue (length (keys f.named_expressions) == 0)) (counted : NamesAreCounted m) where
   abbrev own : Naming

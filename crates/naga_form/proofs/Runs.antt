@@ -24,11 +24,12 @@ use Rattle.name_keys.specs.declared.key.NameKey.TheVariants as key
 use Rattle.shader_runs.specs.Program as shapes
 use Rattle.shader_runs.specs.Scope.{Naming, fits_function}
 use Rattle.shader_runs.specs.Text.{TextModule}
-use Rattle.shader_runs.specs.TextRun.{module_scope, word_use, follow_call}
+use Rattle.shader_runs.specs.Constants.{follow_module}
 use Rattle.shader_runs.specs.Form.{form_function, form_functions, form_module, functions_of}
-use Rattle.shader_runs.specs.Premises.{AllFit}
+use Rattle.shader_runs.specs.Premises.{AllFit, ConstantsFit}
 use Rattle.shader_runs.specs.Correct.{ModuleFits}
-use Rattle.shader_runs.proofs.Calls.{runs_alike, length-functions_of}
+use Rattle.shader_runs.proofs.Calls.{runs_alike}
+use Rattle.shader_runs.proofs.Names.{length-functions_of}
 use Rattle.shader_runs.proofs.Update.{and_left, and_right}
 use Rattle.item_names.proofs.Counts.{element}
 use Rattle.naga_form.specs.Form.{functions_form, written_program}
@@ -101,6 +102,7 @@ program_reads m info explicit accepted =
     let each = functions_read explicit (module_names m) m.types parts.1 0 m.functions info.functions.items parts.5 in
     λ i. record {
       constants = [];
+      overrides = [];
       globals = [];
       functions = (ap reverse (append-nil (map function_read (functions_form explicit (module_names m) m.types 0 m.functions info.functions.items)) ∙ each) ∙ sym (form_functions-map (reverse listed) ∙ map-reverse form_function listed)) i;
     }
@@ -143,16 +145,25 @@ module _ (m : Module) (info : ModuleInfo) (accepted : IsTrue (is_accepted m info
               let b = element m.functions k (subst (λ n. k < n) count lk) in
               one_function g k (ap (λ item. item.0) (items_tell m counted (function_item m g a.0) (function_item m k b.0) (function_there m g a.0 a.1) (function_there m k b.0 b.1) e));
         };
+        constants = no_constants;
         all = all_fit 0 m.functions info.functions.items parts.5 (from_start m.functions) unnamed (all_reversed fits_function listed [] scope) [] refl tt;
       }
     where
+      no_constants : ConstantsFit p (outer_names (module_names m))
+      no_constants = record {
+        counted = omega arith;
+        rank = λ i. i;
+        initialisers = λ i e q. absurd (cc);
+        distinct = λ i k lt lk e. absurd (omega (arith, lt));
+      }
+
       one_function : (g k : ℕ) → key.Function g ≡ key.Function k → g ≡ k
       one_function g k e = cc
 
   runs : (explicit : Bool) → RunsAs m info (written_program m info explicit)
-  runs explicit environment fit meaning typed g f found arguments typed_arguments world turns past keeps =
-      ap (λ (text : TextModule). follow_call (module_scope text environment) world meaning (word_use text.functions is_request) turns text.functions (function_name (module_names m) g) arguments past) (program_reads m info explicit accepted)
-      ∙ runs_alike p (outer_names (module_names m)) (namings (module_names m) m info) fits environment fit meaning typed g f found arguments typed_arguments world turns past keeps
+  runs explicit settings fit meaning typed g f found arguments typed_arguments world turns past keeps =
+      ap (λ (text : TextModule). follow_module text settings world meaning is_request turns (function_name (module_names m) g) arguments past) (program_reads m info explicit accepted)
+      ∙ runs_alike p (outer_names (module_names m)) (namings (module_names m) m info) fits settings fit meaning typed g f found arguments typed_arguments world turns past keeps
 
 pub runs_as : (m : Module) (info : ModuleInfo) (explicit : Bool) → IsTrue (is_accepted m info) → IsTrue (nothing_named m) → IsTrue (scope_holds m info) → NamesAreCounted m → RunsAs m info (written_program m info explicit)
 runs_as m info explicit accepted unnamed scope counted = runs m info accepted unnamed scope counted explicit

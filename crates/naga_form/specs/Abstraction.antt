@@ -10,7 +10,7 @@ use Rattle.wgsl_text.specs.Text.{text, mark_text}
 use Rattle.wgsl_text.specs.Reading.{type_layout}
 use Rattle.shader_runs.specs.Value.{Bytes, MemberNamed, ElementAt, Opaque, ShortCircuitAnd, ShortCircuitOr}
 use Rattle.shader_runs.specs.Program.{Label, Numbered, Default}
-use Rattle.shader_runs.specs.Text.{Tree, Name, LiteralOf, Apply, Deref, AddressOf, Index, PartOf, LogicalOf as Logical, Trees, no_more, more, Line, Let, Assign, Braces, IfElse, SwitchOn, LoopOf, BreakLine, ContinueLine, ReturnLine, DiscardLine, Perform, Lines, last, before, Groups, no_group, group, Variable, ModuleVariable, TextFunction, TextModule}
+use Rattle.shader_runs.specs.Text.{Tree, Name, LiteralOf, Apply, Deref, AddressOf, Index, PartOf, LogicalOf as Logical, Trees, no_more, more, Line, Let, Assign, Braces, IfElse, SwitchOn, LoopOf, BreakLine, ContinueLine, ReturnLine, DiscardLine, Perform, Lines, last, before, Groups, no_group, group, Variable, ModuleVariable, TextFunction, TextModule, TextConstant}
 use Rattle.naga_form.specs.Literals.{value_read, signed}
 
 -- `&&` and `||` decide by their left side alone where they can; any other operator is a word with two operands
@@ -99,11 +99,15 @@ abbrev pub function_read : tree.Function → TextFunction
 function_read f =
     record { name = f.name; parameters = map (λ p. p.name) f.parameters; variables = map variable_read f.locals; lines = statements_read f.body }
 
+abbrev pub constant_read : tree.NamedConstant → TextConstant
+constant_read c = record { name = c.name; initialiser = expression_read c.value }
+
 -- a text's functions and entry points, the last one first
 abbrev pub program_read : tree.Program → TextModule
 program_read p =
     record {
-      constants = map (λ c. c.name) p.constants ++ map (λ o. o.name) p.overrides;
+      constants = map constant_read p.constants;
+      overrides = map (λ o. o.name) p.overrides;
       globals = map module_variable_read p.globals;
       functions = reverse (map function_read p.functions ++ map (λ e. function_read e.function) p.entry_points);
     }

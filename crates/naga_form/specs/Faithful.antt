@@ -4,11 +4,10 @@ use Rattle.naga_ir.specs.declared.module.Module.{Module}
 use Rattle.naga_info.specs.declared.info.ModuleInfo.{ModuleInfo}
 use Rattle.wgsl_text.specs.Tree.{Program}
 use Rattle.shader_runs.specs.Value.{Value, has_types}
-use Rattle.shader_runs.specs.World.{World, Meaning, Event, Environment}
+use Rattle.shader_runs.specs.World.{World, Meaning, Event, Settings}
 use Rattle.shader_runs.specs.Program as shapes
-use Rattle.shader_runs.specs.ProgramRun.{run_call}
-use Rattle.shader_runs.specs.TextRun.{module_scope, word_use, follow_call}
-use Rattle.shader_runs.specs.Premises.{IsTyped, EnvironmentFits}
+use Rattle.shader_runs.specs.Premises.{IsTyped, SettingsFit}
+use Rattle.shader_runs.specs.Constants.{run_module, follow_module}
 use Rattle.shader_runs.specs.Correct.{KeepsTypes}
 use Rattle.naga_form.specs.Names.{module_names, function_name}
 use Rattle.naga_form.specs.Shapes.{program_shape}
@@ -19,18 +18,18 @@ use Rattle.naga_form.specs.Interface.{interface_read, module_interface}
 abbrev pub HasInterfaceOf : Module → Program → Type 0
 HasInterfaceOf m program = interface_read program ≡ module_interface (module_names m) m
 
--- In every world that keeps the types, under all values of constants, overrides and arguments of their types, every typed
--- meaning of operators and every bound on loop turns, each function and entry point of the program makes the module's events
--- in their order, with their operands, ends as in the module and returns the same.
+-- In every world that keeps the types, under all values of overrides and arguments of their types, every typed meaning of
+-- operators and every bound on loop turns, each function and entry point of the program makes the module's events in their
+-- order, with their operands, ends as in the module and returns the same. Each side computes its named constants by itself.
 abbrev pub RunsAs : Module → ModuleInfo → Program → Type 0
 RunsAs m info program =
     let shape = program_shape m info in
     let text = program_read program in
-    (environment : Environment) → EnvironmentFits shape environment →
+    (settings : Settings) → SettingsFit shape settings →
     (meaning : Meaning) → IsTyped shape meaning →
     (g : ℕ) (f : shapes.Function) → shapes.function_numbered shape.functions g ≡ Some f →
     (arguments : List Value) → IsTrue (has_types shape.parts f.argument_types arguments) →
     (world : World) (turns : ℕ) (past : List Event) →
-    KeepsTypes (run_call environment world meaning turns shape.functions g arguments past) →
-    follow_call (module_scope text environment) world meaning (word_use text.functions is_request) turns text.functions (function_name (module_names m) g) arguments past
-    ≡ run_call environment world meaning turns shape.functions g arguments past
+    KeepsTypes (run_module shape settings world meaning turns g arguments past) →
+    follow_module text settings world meaning is_request turns (function_name (module_names m) g) arguments past
+    ≡ run_module shape settings world meaning turns g arguments past

@@ -85,7 +85,13 @@ no_parts whole step = []
 -- the program of shapes; its functions stand in it with the last one first
 abbrev pub program_shape : ir_module.Module → ModuleInfo → Module
 program_shape m info =
-    record { constant_types = []; global_types = []; parts = no_parts; functions = reverse (function_shapes m.types m.functions info.functions.items) }
+    record {
+      constant_types = [];
+      initialisers = [];
+      global_types = [];
+      parts = no_parts;
+      functions = reverse (function_shapes m.types m.functions info.functions.items);
+    }
 
 -- the names of the module's items; it has no constants, overrides and variables so far
 abbrev pub outer_names : NameMap → ModuleNames

@@ -1,20 +1,21 @@
 -- Calls, by the functions of a module in their order.
-use Rattle.std.proofs.Common.{◌≡◌, ◌≢◌, ℕ, zero, suc, ◌+◌, ◌<◌, ◌≤◌, min, Bool, true, false, cond, nat_eq, List, [], ◌∷◌, take, length, Option, Some, None, ◌||◌, slice_get, refl, sym, ap, ◌∙◌, subst, add-zero, zero-add, arith, eqb-true}
+use Rattle.std.proofs.Common.{◌≡◌, ◌≢◌, ℕ, zero, suc, ◌+◌, ◌<◌, ◌≤◌, min, Bool, true, false, cond, nat_eq, List, [], ◌∷◌, take, length, Option, Some, None, ◌||◌, slice_get, refl, sym, ap, ◌∙◌, subst, add-zero, zero-add, arith, eqb-true, map}
 use Rattle.std.proofs.Math.Nat.{min-le_right}
 use Rattle.std.proofs.lemmas.List.{length-take, length-take-le}
 use Rattle.std.proofs.lemmas.Option.{slice_get_within}
 use Rattle.std.proofs.lemmas.Bool.{eqb-false}
 use Rattle.std.specs.Prelude.{IsTrue}
 use Rattle.shader_runs.specs.Value.{Bytes, same_bytes, PartTypes, ValueType, has_types, Value}
-use Rattle.shader_runs.specs.World.{Event, Entry, entries, World, Meaning, Environment, bind}
+use Rattle.shader_runs.specs.World.{Event, Entry, entries, World, Meaning, Environment, bind, Settings}
 use Rattle.shader_runs.specs.Outcome.{Stuck, Reached, Gives, Halts, answer}
 use Rattle.shader_runs.specs.Program.{ConstantTree, Fixed, NamedConstant, Constructed, ConstantTrees, no_constant, constant, Expression, Constant, Operator, Request, Function, argument_count, local_count, function_numbered, expression_of, handle_type, operands_of, from, Statement, Emit, Store, Block, If, Switch, Loop, Break, Continue, Return, Kill, Barrier, Act, Statements, end, then, Cases, no_case, case, Module, any_continue}
 use Rattle.shader_runs.specs.ProgramRun.{Call, Kept, constants_kept, called, used, wrapped, with_first, first_used, first_used_all, entered, run_all, run_body, run_call}
-use Rattle.shader_runs.specs.TextRun.{Scope, Words, WordUse, NamesFunction, AsksForEvent, Operates, value_of, with_parameters, with_variables, with_globals, no_names, module_scope, respond_by_use, names_function, word_use, put_first, first_followed, first_then, first_of_each, entered_by, follow_all, follow_body, follow_call}
+use Rattle.shader_runs.specs.TextRun.{Scope, Words, WordUse, NamesFunction, AsksForEvent, Operates, value_of, with_parameters, with_variables, with_globals, no_names, respond_by_use, word_use, put_first, first_followed, first_then, first_of_each, entered_by, follow_all, follow_body, follow_call}
 use Rattle.shader_runs.specs.Scope.{ModuleNames, Naming, usable, usable_if, given_after, given_after_all, given_by, given_by_all, given_by_cases, at_start, before_local, first_values_fit, fits_all, after_all}
 use Rattle.shader_runs.specs.Form.{names_from, variables_from, globals_from, value_at, value_if, form_all, form_function, form_functions, form_module, functions_of}
-use Rattle.shader_runs.specs.Premises.{FixedName, ArgumentName, LocalName, ConstantName, GlobalName, NameKey, FixedKey, NumberedKey, GivenKey, fixed_name, IsFixedName, IsName, StandsFree, ConstantWords, ConstantsWords, WordFits, AllBelow, LeafFits, AreDistinct, FunctionFits, AllFit, EnvironmentFits, IsTypedIn, AllTypedIn}
-use Rattle.shader_runs.specs.Correct.{KeepsTypes, RunsAlike}
+use Rattle.shader_runs.specs.Premises.{FixedName, ArgumentName, LocalName, ConstantName, GlobalName, NameKey, FixedKey, NumberedKey, GivenKey, fixed_name, IsFixedName, IsName, StandsFree, ConstantWords, ConstantsWords, WordFits, AllBelow, LeafFits, AreDistinct, FunctionFits, AllFit, EnvironmentFits, IsTypedIn, AllTypedIn, SettingsFit, IsTyped}
+use Rattle.shader_runs.specs.Correct.{KeepsTypes, RunsAlike, ModuleFits}
+use Rattle.shader_runs.specs.Constants.{environment_of, module_scope}
 use Rattle.shader_runs.proofs.Alike.{Answers, same_answer, mistyped_answer, alike_answers, reached}
 use Rattle.shader_runs.proofs.Update.{and_left, and_right, same_bytes_equal, same_bytes_apart, has_types_length}
 use Rattle.shader_runs.proofs.Relation.{Returns, global_as, IsHere, NoName, fixed_denoted, Related}
@@ -24,15 +25,12 @@ use Rattle.shader_runs.proofs.Checked.{FitsAll}
 use Rattle.shader_runs.proofs.Statements.{Same, same_all}
 use Rattle.shader_runs.proofs.Fresh.{all_fresh, start_sources}
 use Rattle.shader_runs.proofs.Start.{start_stands}
-use Rattle.shader_runs.proofs.Names.{parameter_other, parameter_at, variable_place, variable_other, variable_at, one_more_variable, take_one_more, globals_other, globals_at, length-names_from}
+use Rattle.shader_runs.proofs.Names.{parameter_other, parameter_at, variable_place, variable_other, variable_at, one_more_variable, take_one_more, globals_other, globals_at, held, length-names_from, length-functions_of, module_names_given, no_name_among}
+use Rattle.shader_runs.proofs.Constants.{environment_fits, scope_is}
 
 length-form_functions : (fs : List Naming) → length (form_functions fs) ≡ length fs
 length-form_functions [] = refl
 length-form_functions (f ∷ fs) = ap suc (length-form_functions fs)
-
-pub length-functions_of : (fs : List Naming) → length (functions_of fs) ≡ length fs
-length-functions_of [] = refl
-length-functions_of (f ∷ fs) = ap suc (length-functions_of fs)
 
 pick_alike : {A : Type 0} (R : A → Type 0) (a b : Bool) (x x' y y' : Reached A) → a ≡ b → (b ≡ true → Answers R x x') → (b ≡ false → Answers R y y') → Answers R (cond b x y) (cond a x' y')
 pick_alike R a true x x' y y' e h k = subst (λ a. Answers R x (cond a x' y')) (sym e) (h refl)
@@ -216,8 +214,7 @@ module _ (p : Module) (n : ModuleNames) (uses : Bytes → WordUse) (uses_fit : U
 
   -- the names of the module
   abbrev outer_of : ModuleNames → Scope
-  outer_of n =
-      with_parameters (names_from n.constant 0 (length p.constant_types)) env.constants (with_globals (globals_from n.global 0 p.global_types) env.globals 0 no_names)
+  outer_of n = module_names_given p n env
 
   abbrev responses : List Naming → Respond
   responses fs = follow_call (outer_of n) w m uses bound (form_functions fs)
@@ -330,7 +327,7 @@ module _ (p : Module) (n : ModuleNames) (uses : Bytes → WordUse) (uses_fit : U
         variable_other f (name i) f.function.first_values 0 (entries t) (λ a le la q. local_global a i (fit.distinct (FixedKey (LocalName a)) (FixedKey (GlobalName i)) (omega arith) lt' q)) (parameter_names f.names.outer f vs)
         ∙ parameter_other f.names.argument (name i) (argument_count f.function) 0 (λ a le la q. argument_global a i (fit.distinct (FixedKey (ArgumentName a)) (FixedKey (GlobalName i)) (omega arith) lt' q)) vs _
         ∙ parameter_other f.names.outer.constant (name i) (length p.constant_types) 0 (λ a le la q. constant_global a i (fit.distinct (FixedKey (ConstantName a)) (FixedKey (GlobalName i)) (omega arith) lt' q)) env.constants _
-        ∙ ap (λ k. with_globals (globals_from name 0 p.global_types) env.globals 0 no_names (name k)) here
+        ∙ ap (λ k. with_globals (globals_from name 0 p.global_types) (map held env.globals) 0 no_names (name k)) here
         ∙ globals_at env.parts name p.global_types 0 (λ a b la lb q. global_same a b (fit.distinct (FixedKey (GlobalName a)) (FixedKey (GlobalName b)) (omega arith) (omega arith) q)) env.globals no_names environment.globals i lt'
         ∙ ap (λ k. global_as k (slice_get env.globals i)) back
 
@@ -339,7 +336,7 @@ module _ (p : Module) (n : ModuleNames) (uses : Bytes → WordUse) (uses_fit : U
         variable_other f x f.function.first_values 0 (entries t) (λ a le la q. free.fixed (LocalName a) (omega arith) q) (parameter_names f.names.outer f vs)
         ∙ parameter_other f.names.argument x (argument_count f.function) 0 (λ a le la q. free.fixed (ArgumentName a) (omega arith) q) vs _
         ∙ parameter_other f.names.outer.constant x (length p.constant_types) 0 (λ a le la q. let count = has_types_length env.parts p.constant_types env.constants environment.constants in let here : a < length p.constant_types = omega arith in free.fixed (ConstantName a) (subst (λ k. a < k) (sym count) here) q) env.constants _
-        ∙ globals_other f.names.outer.global x p.global_types 0 (λ a le la q. let count = globals_length env.parts p.global_types env.globals environment.globals in let here : a < length p.global_types = omega arith in free.fixed (GlobalName a) (subst (λ k. a < k) (sym count) here) q) env.globals no_names
+        ∙ globals_other f.names.outer.global x p.global_types 0 (λ a le la q. let count = globals_length env.parts p.global_types env.globals environment.globals in let here : a < length p.global_types = omega arith in free.fixed (GlobalName a) (subst (λ k. a < k) (sym count) here) q) (map held env.globals) no_names
 
     starts_own : length vs ≡ argument_count f.function → Related (call_of fs f vs t) f.names (at_start f.function) (first_names f.names.outer f vs t) (constants_kept f.function env m)
     starts_own e =
@@ -470,16 +467,6 @@ answers_same : {A : Type 0} (R : A → Type 0) (q q' : Reached A) → KeepsTypes
 answers_same R q q' k (same_answer h) = refl
 answers_same R q q' k mistyped_answer = absurd k
 
--- no function has a word for its name that is none of the module's
-no_name_among : (p : Module) (n : ModuleNames) (fs : List Naming) → length fs ≤ length p.functions → AllFit p n fs → (word : Bytes) → ((g : ℕ) → g < length p.functions → n.function g ≢ word) → names_function (form_functions fs) word ≡ false
-no_name_among p n [] within fits word other = refl
-no_name_among p n (f ∷ fs) within fits word other =
-    let own_name = f.names.outer.function f.names.earlier in
-    let is_name : own_name ≡ n.function (length fs) = ap (λ n. n.function f.names.earlier) fits.0.outer ∙ ap n.function (fits.0.earlier ∙ length-functions_of fs) in
-    let apart : same_bytes word own_name ≡ false = same_bytes_apart word own_name (λ e. other (length fs) (omega (arith, within)) (sym (e ∙ is_name))) in
-    let fewer : length fs ≤ length p.functions = omega (arith, within) in
-    ap (λ b. b || names_function (form_functions fs) word) apart ∙ no_name_among p n fs fewer fits.1 word other
-
 pub uses_fit : (p : Module) (n : ModuleNames) (fs : List Naming) → length fs ≤ length p.functions → AllFit p n fs → UsesFit p n (word_use (form_functions fs) n.is_request)
 uses_fit p n fs within fits =
     record {
@@ -497,9 +484,10 @@ module_within p fs e =
     let count : length fs ≡ length p.functions = sym (length-functions_of fs) ∙ ap length e in
     omega (arith, count)
 
-pub runs_alike : RunsAlike
-runs_alike p n fs fits env environment m typed g f e vs h w turns t keeps =
-    subst (λ l. function_numbered l g ≡ Some f → AllTypedIn env.parts p m l → KeepsTypes (run_call env w m turns l g vs t) → follow_call (module_scope (form_module p n fs) env) w m uses turns (form_functions fs) (n.function g) vs t ≡ run_call env w m turns l g vs t) fits.functions there e (subst (λ parts. AllTypedIn parts p m p.functions) (sym environment.parts) typed) keeps
+-- in an environment of the module's types
+environment_alike : (p : Module) (n : ModuleNames) (fs : List Naming) → ModuleFits p n fs → (env : Environment) → EnvironmentFits p env → (m : Meaning) → IsTyped p m → (g : ℕ) (f : Function) → function_numbered p.functions g ≡ Some f → (vs : List Value) → IsTrue (has_types p.parts f.argument_types vs) → (w : World) (turns : ℕ) (t : List Event) → KeepsTypes (run_call env w m turns p.functions g vs t) → follow_call (module_names_given p n env) w m (word_use (form_functions fs) n.is_request) turns (form_functions fs) (n.function g) vs t ≡ run_call env w m turns p.functions g vs t
+environment_alike p n fs fits env environment m typed g f e vs h w turns t keeps =
+    subst (λ l. function_numbered l g ≡ Some f → AllTypedIn env.parts p m l → KeepsTypes (run_call env w m turns l g vs t) → follow_call (module_names_given p n env) w m uses turns (form_functions fs) (n.function g) vs t ≡ run_call env w m turns l g vs t) fits.functions there e (subst (λ parts. AllTypedIn parts p m p.functions) (sym environment.parts) typed.functions) keeps
   where
     uses : Bytes → WordUse
     uses = word_use (form_functions fs) n.is_request
@@ -515,6 +503,16 @@ runs_alike p n fs fits env environment m typed g f e vs h w turns t keeps =
         let same : length fs ≡ length p.functions = sym (length-functions_of fs) ∙ count in
         fits.distinct.functions g k (subst (λ z. g < z) same lg) (subst (λ z. k < z) same lk)
 
-    there : function_numbered (functions_of fs) g ≡ Some f → AllTypedIn env.parts p m (functions_of fs) → KeepsTypes (run_call env w m turns (functions_of fs) g vs t) → follow_call (module_scope (form_module p n fs) env) w m uses turns (form_functions fs) (n.function g) vs t ≡ run_call env w m turns (functions_of fs) g vs t
+    there : function_numbered (functions_of fs) g ≡ Some f → AllTypedIn env.parts p m (functions_of fs) → KeepsTypes (run_call env w m turns (functions_of fs) g vs t) → follow_call (module_names_given p n env) w m uses turns (form_functions fs) (n.function g) vs t ≡ run_call env w m turns (functions_of fs) g vs t
     there e typed keeps =
         answers_same (Returns env.parts f) (run_call env w m turns (functions_of fs) g vs t) _ keeps (calls_alike p n uses (uses_fit p n fs within fits.all) env environment w m turns fs within fits.all typed one g f e vs (subst (λ parts. IsTrue (has_types parts f.argument_types vs)) (sym environment.parts) h) t)
+
+-- the names that the text of the whole module computes
+pub names_are : (p : Module) (n : ModuleNames) (fs : List Naming) → ModuleFits p n fs → (s : Settings) → SettingsFit p s → (m : Meaning) → IsTyped p m → (w : World) → module_scope (form_module p n fs) s w m n.is_request ≡ module_names_given p n (environment_of p s m)
+names_are p n fs fits s settings m typed w =
+    scope_is p n fits.constants s settings m typed fs fits.all (module_within p fs fits.functions) w
+
+pub runs_alike : RunsAlike
+runs_alike p n fs fits s settings m typed g f e vs h w turns t keeps =
+    ap (λ names. follow_call names w m (word_use (form_functions fs) n.is_request) turns (form_functions fs) (n.function g) vs t) (names_are p n fs fits s settings m typed w)
+    ∙ environment_alike p n fs fits (environment_of p s m) (environment_fits p n fits.constants s settings m typed) m typed g f e vs h w turns t keeps

@@ -7,7 +7,7 @@ use Rattle.shader_runs.specs.Outcome.{Stuck, Reached, Gives, Halts}
 use Rattle.shader_runs.specs.Program.{Module, Function, function_numbered, Expression}
 use Rattle.shader_runs.specs.ProgramRun.{Call, Kept, used, also, used_all, applied, index_value_of, part_value, swizzle_value, decides, undecided, combined, gathered}
 use Rattle.shader_runs.specs.Text.{Index, PartOf, LogicalOf}
-use Rattle.shader_runs.specs.TextRun.{part_reached, index_reached, indexed, part_picked, undecided_reached, logical_reached, Denoted, IsValue, IsPlace, Words, Scope, named, valued, responded, unhidden, as_value, dereferenced, addressed, put_before, followed_by, evaluate, evaluate_all, value_of, WordUse, AsksForEvent, Operates, respond_by_use}
+use Rattle.shader_runs.specs.TextRun.{part_reached, index_reached, indexed, part_picked, undecided_reached, logical_reached, Denoted, IsValue, IsPlace, Words, Scope, named, valued, responded, unhidden, as_value, dereferenced, addressed, put_before, followed_by, evaluate, evaluate_all, value_of, AsksForEvent, Operates, respond_by_use}
 use Rattle.shader_runs.specs.Scope.{Names, Naming}
 use Rattle.shader_runs.specs.Form.{Plain, AsValue, AsPlace, value_form, place_form, value_forms, access_form, part_form}
 use Rattle.shader_runs.specs.Premises.{IsNoPointer, OperatesBy, AsksBy}
@@ -45,7 +45,7 @@ none_some v e = cc
 pub some_same : {A : Type 0} (a b : A) → Some a ≡ Some b → a ≡ b
 some_same a b e = cc
 
-valued_denoted : (w : World) (o : Option Value) (t : List Event) → valued w (denoted o t) ≡ reached o t
+pub valued_denoted : (w : World) (o : Option Value) (t : List Event) → valued w (denoted o t) ≡ reached o t
 valued_denoted w None t = refl
 valued_denoted w (Some v) t = refl
 

@@ -1,15 +1,17 @@
 -- The names that a function's text starts with.
-use Rattle.std.proofs.Common.{◌≡◌, ◌≢◌, ℕ, zero, suc, ◌+◌, ◌<◌, ◌≤◌, List, [], ◌∷◌, ◌++◌, take, length, Option, Some, None, slice_get, refl, sym, ap, ◌∙◌, true≢false, arith}
+use Rattle.std.proofs.Common.{◌≡◌, ◌≢◌, ℕ, zero, suc, ◌+◌, ◌<◌, ◌≤◌, List, [], ◌∷◌, ◌++◌, take, false, length, Option, Some, None, ◌||◌, slice_get, refl, sym, ap, ◌∙◌, true≢false, arith, map}
 use Rattle.std.specs.Prelude.{IsTrue}
-use Rattle.shader_runs.specs.Value.{Bytes, PartTypes, Rooted, GlobalRoot, LocalRoot, ValueType, BooleanType, IntegerType, PointerType, OtherType, Value}
-use Rattle.shader_runs.specs.World.{GlobalValue, Stored, Held, bind}
-use Rattle.shader_runs.specs.Program.{local_pointer}
-use Rattle.shader_runs.specs.TextRun.{Denoted, IsValue, IsPlace, Scope, with_parameters, with_variables, with_globals, global_denoted}
-use Rattle.shader_runs.specs.Scope.{Naming}
-use Rattle.shader_runs.specs.Form.{names_from, variables_from, pointer_spelling, globals_from}
-use Rattle.shader_runs.specs.Premises.{global_has_type, globals_have_types}
-use Rattle.shader_runs.proofs.Update.{and_left, and_right, same_bytes_true, bind_same, bind_other}
+use Rattle.shader_runs.specs.Value.{Bytes, same_bytes, pointer_spelling, PartTypes, Rooted, GlobalRoot, LocalRoot, ValueType, BooleanType, IntegerType, PointerType, OtherType, Value}
+use Rattle.shader_runs.specs.World.{GlobalValue, Stored, Held, bind, Environment}
+use Rattle.shader_runs.specs.Program.{local_pointer, Module}
+use Rattle.shader_runs.specs.TextRun.{names_function, Denoted, IsValue, IsPlace, Scope, with_parameters, with_variables, with_globals, global_denoted, no_names}
+use Rattle.shader_runs.specs.Scope.{Naming, ModuleNames}
+use Rattle.shader_runs.specs.Form.{names_from, variables_from, globals_from, functions_of, form_functions}
+use Rattle.shader_runs.specs.Premises.{global_has_type, globals_have_types, AllFit}
+use Rattle.shader_runs.proofs.Update.{and_left, and_right, same_bytes_true, same_bytes_apart, bind_same, bind_other}
 use Rattle.shader_runs.proofs.Relation.{as_denoted, stored_denoted, global_as}
+use Rattle.std.proofs.lemmas.List.{length-map}
+use Rattle.shader_runs.specs.Constants.{known, global_values}
 
 -- none of these names is x
 abbrev pub NotAmong : (ℕ → Bytes) → ℕ → ℕ → Bytes → Type 0
@@ -19,26 +21,53 @@ NotAmong name j n x = (i : ℕ) → j ≤ i → i < j + n → name i ≢ x
 abbrev pub AllDifferent : (ℕ → Bytes) → ℕ → ℕ → Type 0
 AllDifferent name j n = (i k : ℕ) → i < j + n → k < j + n → name i ≡ name k → i ≡ k
 
-pub parameter_other : (name : ℕ → Bytes) (x : Bytes) (n j : ℕ) → NotAmong name j n x → (vs : List Value) (names : Scope) → with_parameters (names_from name j n) vs names x ≡ names x
-parameter_other name x zero j f vs names = refl
-parameter_other name x (suc n) j f [] names = refl
-parameter_other name x (suc n) j f (v ∷ vs) names =
-    bind_other (with_parameters (names_from name (suc j) n) vs names) (name j) (Some (IsValue v)) x (λ e. f j (omega arith) (omega arith) (sym e)) ∙ parameter_other name x n (suc j) (λ i le lt. f i (omega arith) (omega arith)) vs names
+-- names with what is known of each
+abbrev pub with_known : List Bytes → List (Option Value) → Scope → Scope
+with_known [] os names = names
+with_known (x ∷ xs) [] names = names
+with_known (x ∷ xs) (o ∷ os) names = bind (with_known xs os names) x (as_denoted o)
 
-pub parameter_at : (name : ℕ → Bytes) (n j : ℕ) → AllDifferent name j n → (vs : List Value) (names : Scope) → length vs ≡ n → (i : ℕ) → i < n → with_parameters (names_from name j n) vs names (name (i + j)) ≡ as_denoted (slice_get vs i)
-parameter_at name zero j one vs names e i lt = absurd (omega arith)
-parameter_at name (suc n) j one [] names e i lt = absurd (omega arith)
-parameter_at name (suc n) j one (v ∷ vs) names e zero lt =
+pub known_other : (name : ℕ → Bytes) (x : Bytes) (n j : ℕ) → NotAmong name j n x → (os : List (Option Value)) (names : Scope) → with_known (names_from name j n) os names x ≡ names x
+known_other name x zero j f os names = refl
+known_other name x (suc n) j f [] names = refl
+known_other name x (suc n) j f (o ∷ os) names =
+    bind_other (with_known (names_from name (suc j) n) os names) (name j) (as_denoted o) x (λ e. f j (omega arith) (omega arith) (sym e)) ∙ known_other name x n (suc j) (λ i le lt. f i (omega arith) (omega arith)) os names
+
+pub known_at : (name : ℕ → Bytes) (n j : ℕ) → AllDifferent name j n → (os : List (Option Value)) (names : Scope) → length os ≡ n → (i : ℕ) → i < n → with_known (names_from name j n) os names (name (i + j)) ≡ as_denoted (known os i)
+known_at name zero j one os names e i lt = absurd (omega arith)
+known_at name (suc n) j one [] names e i lt = absurd (omega arith)
+known_at name (suc n) j one (o ∷ os) names e zero lt =
     let here : zero + j ≡ j = omega arith in
-    let rest = with_parameters (names_from name (suc j) n) vs names in
-    ap (λ k. bind rest (name j) (Some (IsValue v)) (name k)) here ∙ bind_same rest (name j) (Some (IsValue v))
-parameter_at name (suc n) j one (v ∷ vs) names e (suc i) lt =
+    let rest = with_known (names_from name (suc j) n) os names in
+    ap (λ k. bind rest (name j) (as_denoted o) (name k)) here ∙ bind_same rest (name j) (as_denoted o)
+known_at name (suc n) j one (o ∷ os) names e (suc i) lt =
     let there : suc i + j ≡ i + suc j = omega arith in
     let apart : i + suc j ≢ j = omega arith in
-    let rest = with_parameters (names_from name (suc j) n) vs names in
-    ap (λ k. bind rest (name j) (Some (IsValue v)) (name k)) there
-    ∙ bind_other rest (name j) (Some (IsValue v)) (name (i + suc j)) (λ e. apart (one (i + suc j) j (omega arith) (omega arith) e))
-    ∙ parameter_at name n (suc j) (λ a b la lb q. one a b (omega arith) (omega arith) q) vs names (omega arith) i (omega arith)
+    let rest = with_known (names_from name (suc j) n) os names in
+    ap (λ k. bind rest (name j) (as_denoted o) (name k)) there
+    ∙ bind_other rest (name j) (as_denoted o) (name (i + suc j)) (λ e. apart (one (i + suc j) j (omega arith) (omega arith) e))
+    ∙ known_at name n (suc j) (λ a b la lb q. one a b (omega arith) (omega arith) q) os names (omega arith) i (omega arith)
+
+-- parameters are names of which all is known
+pub parameters_known : (xs : List Bytes) (vs : List Value) (names : Scope) → with_parameters xs vs names ≡ with_known xs (map Some vs) names
+parameters_known [] vs names = refl
+parameters_known (x ∷ xs) [] names = refl
+parameters_known (x ∷ xs) (v ∷ vs) names = ap (λ f. bind f x (Some (IsValue v))) (parameters_known xs vs names)
+
+pub known_some : (vs : List Value) (i : ℕ) → known (map Some vs) i ≡ slice_get vs i
+known_some [] i = refl
+known_some (v ∷ vs) zero = refl
+known_some (v ∷ vs) (suc i) = known_some vs i
+
+pub parameter_other : (name : ℕ → Bytes) (x : Bytes) (n j : ℕ) → NotAmong name j n x → (vs : List Value) (names : Scope) → with_parameters (names_from name j n) vs names x ≡ names x
+parameter_other name x n j f vs names =
+    ap (λ scope. scope x) (parameters_known (names_from name j n) vs names) ∙ known_other name x n j f (map Some vs) names
+
+pub parameter_at : (name : ℕ → Bytes) (n j : ℕ) → AllDifferent name j n → (vs : List Value) (names : Scope) → length vs ≡ n → (i : ℕ) → i < n → with_parameters (names_from name j n) vs names (name (i + j)) ≡ as_denoted (slice_get vs i)
+parameter_at name n j one vs names e i lt =
+    ap (λ scope. scope (name (i + j))) (parameters_known (names_from name j n) vs names)
+    ∙ known_at name n j one (map Some vs) names (length-map vs Some ∙ e) i lt
+    ∙ ap as_denoted (known_some vs i)
 
 -- the place of a function's variable
 abbrev pub variable_place : Naming → (entries index : ℕ) → Option Denoted
@@ -92,8 +121,20 @@ take_one_more (y ∷ xs) zero x e = ap (λ z. z ∷ []) (same e)
     same e = cc
 take_one_more (y ∷ xs) (suc i) x e = ap (λ zs. y ∷ zs) (take_one_more xs i x e)
 
+-- a value that is held
+abbrev pub held : GlobalValue → Option Value
+held (Stored pointer) = None
+held (Held v) = Some v
+
+pub held_values : (ks : List ValueType) (gs : List (Option Value)) → length gs ≡ length ks → map held (global_values ks gs) ≡ gs
+held_values [] [] e = refl
+held_values [] (g ∷ gs) e = absurd (omega (arith, e))
+held_values (k ∷ ks) [] e = absurd (omega (arith, e))
+held_values (k ∷ ks) (None ∷ gs) e = ap (λ l. None ∷ l) (held_values ks gs (omega (arith, e)))
+held_values (k ∷ ks) (Some v ∷ gs) e = ap (λ l. Some v ∷ l) (held_values ks gs (omega (arith, e)))
+
 -- a variable of the module stands where its type says
-declared_denoted : (parts : PartTypes) (k : ValueType) (b : ℕ) (g : GlobalValue) → IsTrue (global_has_type parts k g) → global_denoted (pointer_spelling k) b g ≡ stored_denoted b g
+declared_denoted : (parts : PartTypes) (k : ValueType) (b : ℕ) (g : GlobalValue) → IsTrue (global_has_type parts k g) → global_denoted (pointer_spelling k) b (held g) ≡ stored_denoted b g
 declared_denoted parts (PointerType s) b (Stored q) h = ap (λ s. IsPlace (Rooted (GlobalRoot s b))) (same_bytes_true s q h)
 declared_denoted parts (PointerType s) b (Held v) h = refl
 declared_denoted parts BooleanType b (Stored q) h = absurd (true≢false (sym h))
@@ -103,14 +144,14 @@ declared_denoted parts (IntegerType s) b (Held v) h = refl
 declared_denoted parts (OtherType s) b (Stored q) h = absurd (true≢false (sym h))
 declared_denoted parts (OtherType s) b (Held v) h = refl
 
-pub globals_at : (parts : PartTypes) (name : ℕ → Bytes) (ks : List ValueType) (j : ℕ) → AllDifferent name j (length ks) → (gs : List GlobalValue) (names : Scope) → IsTrue (globals_have_types parts ks gs) → (i : ℕ) → i < length ks → with_globals (globals_from name j ks) gs j names (name (i + j)) ≡ global_as (i + j) (slice_get gs i)
+pub globals_at : (parts : PartTypes) (name : ℕ → Bytes) (ks : List ValueType) (j : ℕ) → AllDifferent name j (length ks) → (gs : List GlobalValue) (names : Scope) → IsTrue (globals_have_types parts ks gs) → (i : ℕ) → i < length ks → with_globals (globals_from name j ks) (map held gs) j names (name (i + j)) ≡ global_as (i + j) (slice_get gs i)
 globals_at parts name [] j one gs names e i lt = absurd (omega arith)
 globals_at parts name (k ∷ ks) j one [] names e i lt = absurd (true≢false (sym e))
 globals_at parts name (k ∷ ks) j one (g ∷ gs) names e zero lt =
     let here : zero + j ≡ j = omega arith in
-    let rest = with_globals (globals_from name (suc j) ks) gs (suc j) names in
+    let rest = with_globals (globals_from name (suc j) ks) (map held gs) (suc j) names in
     let typed = and_left (global_has_type parts k g) (globals_have_types parts ks gs) e in
-    let denoted = global_denoted (pointer_spelling k) j g in
+    let denoted = global_denoted (pointer_spelling k) j (held g) in
     ap (λ m. bind rest (name j) (Some denoted) (name m)) here
     ∙ bind_same rest (name j) (Some denoted)
     ∙ ap Some (declared_denoted parts k j g typed)
@@ -118,14 +159,14 @@ globals_at parts name (k ∷ ks) j one (g ∷ gs) names e zero lt =
 globals_at parts name (k ∷ ks) j one (g ∷ gs) names e (suc i) lt =
     let there : suc i + j ≡ i + suc j = omega arith in
     let apart : i + suc j ≢ j = omega arith in
-    let rest = with_globals (globals_from name (suc j) ks) gs (suc j) names in
-    let denoted = global_denoted (pointer_spelling k) j g in
+    let rest = with_globals (globals_from name (suc j) ks) (map held gs) (suc j) names in
+    let denoted = global_denoted (pointer_spelling k) j (held g) in
     ap (λ m. bind rest (name j) (Some denoted) (name m)) there
     ∙ bind_other rest (name j) (Some denoted) (name (i + suc j)) (λ e. apart (one (i + suc j) j (omega arith) (omega arith) e))
     ∙ globals_at parts name ks (suc j) (λ a b la lb q. one a b (omega arith) (omega arith) q) gs names (and_right (global_has_type parts k g) (globals_have_types parts ks gs) e) i (omega arith)
     ∙ ap (λ b. global_as b (slice_get gs i)) (sym there)
 
-pub globals_other : (name : ℕ → Bytes) (x : Bytes) (ks : List ValueType) (j : ℕ) → NotAmong name j (length ks) x → (gs : List GlobalValue) (names : Scope) → with_globals (globals_from name j ks) gs j names x ≡ names x
+pub globals_other : (name : ℕ → Bytes) (x : Bytes) (ks : List ValueType) (j : ℕ) → NotAmong name j (length ks) x → (gs : List (Option Value)) (names : Scope) → with_globals (globals_from name j ks) gs j names x ≡ names x
 globals_other name x [] j f gs names = refl
 globals_other name x (k ∷ ks) j f [] names = refl
 globals_other name x (k ∷ ks) j f (g ∷ gs) names =
@@ -135,3 +176,22 @@ globals_other name x (k ∷ ks) j f (g ∷ gs) names =
 pub length-names_from : (name : ℕ → Bytes) (j n : ℕ) → length (names_from name j n) ≡ n
 length-names_from name j zero = refl
 length-names_from name j (suc n) = ap suc (length-names_from name (suc j) n)
+
+-- the names of a module whose constants and overrides have these values
+abbrev pub module_names_given : Module → ModuleNames → Environment → Scope
+module_names_given p n env =
+    with_parameters (names_from n.constant 0 (length p.constant_types)) env.constants (with_globals (globals_from n.global 0 p.global_types) (map held env.globals) 0 no_names)
+
+pub length-functions_of : (fs : List Naming) → length (functions_of fs) ≡ length fs
+length-functions_of [] = refl
+length-functions_of (f ∷ fs) = ap suc (length-functions_of fs)
+
+-- no function has a word for its name that is none of the module's
+pub no_name_among : (p : Module) (n : ModuleNames) (fs : List Naming) → length fs ≤ length p.functions → AllFit p n fs → (word : Bytes) → ((g : ℕ) → g < length p.functions → n.function g ≢ word) → names_function (form_functions fs) word ≡ false
+no_name_among p n [] within fits word other = refl
+no_name_among p n (f ∷ fs) within fits word other =
+    let own_name = f.names.outer.function f.names.earlier in
+    let is_name : own_name ≡ n.function (length fs) = ap (λ n. n.function f.names.earlier) fits.0.outer ∙ ap n.function (fits.0.earlier ∙ length-functions_of fs) in
+    let apart : same_bytes word own_name ≡ false = same_bytes_apart word own_name (λ e. other (length fs) (omega (arith, within)) (sym (e ∙ is_name))) in
+    let fewer : length fs ≤ length p.functions = omega (arith, within) in
+    ap (λ b. b || names_function (form_functions fs) word) apart ∙ no_name_among p n fs fewer fits.1 word other

@@ -3,14 +3,15 @@ use Rattle.std.proofs.Common.{◌≡◌, ℕ, zero, suc, ◌+◌, ◌<◌, ◌�
 use Rattle.std.specs.Prelude.{IsTrue}
 use Rattle.std.proofs.Math.Nat.{eq-or-lt_of_le}
 use Rattle.shader_runs.specs.Value.{BooleanType, has_types, Value}
-use Rattle.shader_runs.specs.World.{Event, World, Meaning, Environment}
+use Rattle.shader_runs.specs.World.{Event, World, Meaning, Environment, Settings}
 use Rattle.shader_runs.specs.Outcome.{Stuck, Unreturned, OutOfTurns, Discarded, Mistyped, Reached, Gives, Halts}
 use Rattle.shader_runs.specs.Program.{Function, function_numbered, Module}
 use Rattle.shader_runs.specs.ProgramRun.{run_call}
-use Rattle.shader_runs.specs.TextRun.{module_scope, word_use, follow_call}
+use Rattle.shader_runs.specs.Constants.{environment_of, module_scope, follow_module}
+use Rattle.shader_runs.specs.TextRun.{word_use}
 use Rattle.shader_runs.specs.Scope.{ModuleNames, Naming}
 use Rattle.shader_runs.specs.Form.{form_module}
-use Rattle.shader_runs.specs.Premises.{EnvironmentFits, IsTyped}
+use Rattle.shader_runs.specs.Premises.{SettingsFit, IsTyped}
 use Rattle.shader_runs.specs.Correct.{KeepsTypes, ModuleFits}
 use Rattle.shader_runs.proofs.Calls.{runs_alike}
 use Rattle.shader_runs.proofs.Process.{Pause, Process, perform, call_process}
@@ -142,22 +143,25 @@ steady_settles env m fs g vs steady a j n le fine = inl (sym (made j) ∙ ap eve
     made n = ap events_made (call_performed env (world_of a) m n fs g vs []) ∙ call_events (after_turns (call_process env m fs g vs) n a)
 
 -- a function of a module, from the start with these arguments
-module _ (p : Module) (n : ModuleNames) (fs : List Naming) (fits : ModuleFits p n fs) (env : Environment) (environment : EnvironmentFits p env) (m : Meaning) (typed : IsTyped p m) (g : ℕ) (f : Function) (there : function_numbered p.functions g ≡ Some f) (vs : List Value) (h : IsTrue (has_types p.parts f.argument_types vs)) where
+module _ (p : Module) (n : ModuleNames) (fs : List Naming) (fits : ModuleFits p n fs) (settings : Settings) (fit : SettingsFit p settings) (m : Meaning) (typed : IsTyped p m) (g : ℕ) (f : Function) (there : function_numbered p.functions g ≡ Some f) (vs : List Value) (h : IsTrue (has_types p.parts f.argument_types vs)) where
+  abbrev env : Environment
+  env = environment_of p settings m
+
   abbrev process : Process
   process = call_process env m p.functions g vs
 
   abbrev followed : ℕ → Types → Reached (Option Value)
   followed j a =
-      follow_call (module_scope (form_module p n fs) env) (world_of a) m (word_use (form_module p n fs).functions n.is_request) j (form_module p n fs).functions (n.function g) vs []
+      follow_module (form_module p n fs) settings (world_of a) m n.is_request j (n.function g) vs []
 
   -- the text's run makes as many events
   as_many : (j : ℕ) (a : Types) → mistakes (after_turns process j a) ≡ 0 → events_made (followed j a) ≡ events_made (after_turns process j a)
   as_many j a fine =
-      ap events_made (runs_alike p n fs fits env environment m typed g f there vs h (world_of a) j [] (call_keeps env (world_of a) m j p.functions g vs [] fine)) ∙ ap events_made (call_performed env (world_of a) m j p.functions g vs []) ∙ call_events (after_turns process j a)
+      ap events_made (runs_alike p n fs fits settings fit m typed g f there vs h (world_of a) j [] (call_keeps env (world_of a) m j p.functions g vs [] fine)) ∙ ap events_made (call_performed env (world_of a) m j p.functions g vs []) ∙ call_events (after_turns process j a)
 
   pub events_settle : EventsSettle process
   events_settle a j k le fine =
-      go (settled_events j (call_settles j (module_scope (form_module p n fs) env) (world_of a) m (word_use (form_module p n fs).functions n.is_request) k le (form_module p n fs).functions (n.function g) vs []))
+      go (settled_events j (call_settles j (module_scope (form_module p n fs) settings (world_of a) m n.is_request) (world_of a) m (word_use (form_module p n fs).functions n.is_request) k le (form_module p n fs).functions (n.function g) vs []))
     where
       first : events_made (followed j a) ≡ events_made (after_turns process j a)
       first = as_many j a (fine_below process a j k le fine)

@@ -1,23 +1,26 @@
 -- The two facts at each point.
 use Rattle.std.proofs.Common.{◌≡◌, ℕ, ◌<◌, ◌≤◌, List, [], ◌∷◌, ◌++◌, length, sym, ap, ◌∙◌, subst, arith}
-use Rattle.std.specs.Prelude.{IsTrue}
-use Rattle.shader_runs.specs.Value.{PartTypes, has_types}
-use Rattle.shader_runs.specs.World.{Meaning}
+use Rattle.shader_runs.specs.Value.{PartTypes}
+use Rattle.shader_runs.specs.World.{Meaning, Environment}
 use Rattle.shader_runs.specs.Program.{expression_of, handle_type, Module}
 use Rattle.shader_runs.specs.ProgramRun.{Call, Kept}
 use Rattle.shader_runs.specs.TextRun.{Scope, word_use}
 use Rattle.shader_runs.specs.Scope.{Handles, ModuleNames, Names, Naming, at_start}
-use Rattle.shader_runs.specs.Form.{form_functions, functions_of}
-use Rattle.shader_runs.specs.Premises.{AllFit, AllTypedIn}
-use Rattle.shader_runs.specs.Points.{FactsHold, call_of, words_of, handles_at, PointsAgree}
+use Rattle.shader_runs.specs.Form.{form_functions, functions_of, form_all}
+use Rattle.shader_runs.specs.Premises.{AllFit, AllTypedIn, EnvironmentFits}
+use Rattle.shader_runs.specs.Points.{LinesAreTheForm, FactsHold, call_of, words_of, handles_at, PointsAgree, names_of}
 use Rattle.shader_runs.proofs.Alike.{reached}
+use Rattle.shader_runs.specs.Constants.{environment_of}
 use Rattle.shader_runs.proofs.Update.{has_types_length}
 use Rattle.shader_runs.proofs.Relation.{as_denoted, Stands, Related}
 use Rattle.shader_runs.proofs.Evaluation.{naming, words, Respond}
 use Rattle.shader_runs.proofs.Written.{Given, typed_value, value_here}
-use Rattle.shader_runs.proofs.Calls.{length-functions_of, starting, given, starts, body_fits, calls_alike, uses_fit, module_within}
+use Rattle.shader_runs.proofs.Calls.{starting, given, starts, body_fits, calls_alike, uses_fit, module_within, names_are}
 use Rattle.shader_runs.proofs.Places.{lines_there}
 use Rattle.shader_runs.proofs.Passes.{passes}
+use Rattle.shader_runs.proofs.Names.{length-functions_of, module_names_given}
+use Rattle.shader_runs.proofs.Constants.{environment_fits}
+use Rattle.shader_runs.specs.Passes.{TextPasses, point_in_text}
 
 facts_hold : (p : Module) (c : Call) (n : Names) (d : Respond) → Given p c n d → (s : Handles) (names : Scope) (kept : Kept) → Related c n s names kept → FactsHold c (words c d) (naming c n) s kept names
 facts_hold p c n d given s names kept r =
@@ -40,26 +43,25 @@ count_behind [] fs = omega arith
 count_behind (g ∷ later) fs = omega (arith, count_behind later fs)
 
 pub points_agree : PointsAgree
-points_agree p n later f fs fits env environment m typed vs h w turns before_entry t q kept t1 passed =
-    let every = later ++ (f ∷ fs) in
-    let whole = module_within p every fits.functions in
-    let within : length fs ≤ length p.functions = omega (arith, whole, count_behind later (f ∷ fs)) in
-    let uses = word_use (form_functions every) n.is_request in
-    let known = uses_fit p n every whole fits.all in
-    let fit = fit_behind p n later (f ∷ fs) fits.all in
-    let typed_here = subst (λ parts. AllTypedIn parts p m p.functions) (sym environment.parts) typed in
-    let all = typed_behind env.parts p m later (f ∷ fs) (subst (λ l. AllTypedIn env.parts p m l) (sym fits.functions) typed_here) in
-    let has = subst (λ parts. IsTrue (has_types parts f.function.argument_types vs)) (sym environment.parts) h in
-    let earlier = calls_alike p n uses known env environment w m turns fs within fit.1 all.1 one in
-    let c = call_of env w m turns f fs vs before_entry in
-    let d = (words_of p n every env w m turns fs).respond in
-    let first = starting p n (functions_of fs) f fit.0 in
-    let given = given p n uses known env environment w m turns fs within fit.1 earlier f first all.0 vs before_entry has in
-    let start = starts p n uses known env environment w m turns fs within fit.1 earlier f first all.0 vs before_entry (has_types_length env.parts f.function.argument_types vs has) in
-    let body = body_fits p n uses known env environment w m turns fs within fit.1 earlier f fit.0 all.0 vs before_entry in
-    let there = passes p c f.names d given turns passed 0 (at_start f.function) _ start body in
-    (there.0, there.1, (λ e. lines_there f c turns passed 0 (at_start f.function) e), facts_hold p c f.names d given (handles_at f 0 f.function.body q (at_start f.function)) there.0 kept there.2)
+points_agree p n later f fs fits s settings m typed vs h w turns before_entry t q kept t1 passed =
+    subst (λ outer. Arrived outer) (sym (names_are p n every fits s settings m typed w)) inside_given
   where
+    every : List Naming
+    every = later ++ (f ∷ fs)
+
+    env : Environment
+    env = environment_of p s m
+
+    environment : EnvironmentFits p env
+    environment = environment_fits p n fits.constants s settings m typed
+
+    c : Call
+    c = call_of env w m turns f fs vs before_entry
+
+    -- where the text's run has come to, inside these names of the module
+    Arrived : Scope → Type 0
+    Arrived outer = (names : Scope) × TextPasses (words_of outer n every w m turns fs) turns (form_all f 0 f.function.body (at_start f.function)) (point_in_text f.function f.function.body q) (names_of outer f vs before_entry) t names t1 × LinesAreTheForm f f.function.body q × FactsHold c (words_of outer n every w m turns fs) f (handles_at f 0 f.function.body q (at_start f.function)) kept names
+
     count : length (later ++ (f ∷ fs)) ≡ length p.functions
     count = sym (length-functions_of (later ++ (f ∷ fs))) ∙ ap length fits.functions
 
@@ -67,3 +69,20 @@ points_agree p n later f fs fits env environment m typed vs h w turns before_ent
     one g k lg lk =
         let more = count_behind later (f ∷ fs) in
         fits.distinct.functions g k (omega (arith, more, count)) (omega (arith, more, count))
+
+    inside_given : Arrived (module_names_given p n env)
+    inside_given =
+        let whole = module_within p every fits.functions in
+        let within : length fs ≤ length p.functions = omega (arith, whole, count_behind later (f ∷ fs)) in
+        let uses = word_use (form_functions every) n.is_request in
+        let known = uses_fit p n every whole fits.all in
+        let fit = fit_behind p n later (f ∷ fs) fits.all in
+        let all = typed_behind env.parts p m later (f ∷ fs) (subst (λ l. AllTypedIn env.parts p m l) (sym fits.functions) typed.functions) in
+        let earlier = calls_alike p n uses known env environment w m turns fs within fit.1 all.1 one in
+        let d = (words_of (module_names_given p n env) n every w m turns fs).respond in
+        let first = starting p n (functions_of fs) f fit.0 in
+        let given = given p n uses known env environment w m turns fs within fit.1 earlier f first all.0 vs before_entry h in
+        let start = starts p n uses known env environment w m turns fs within fit.1 earlier f first all.0 vs before_entry (has_types_length env.parts f.function.argument_types vs h) in
+        let body = body_fits p n uses known env environment w m turns fs within fit.1 earlier f fit.0 all.0 vs before_entry in
+        let there = passes p c f.names d given turns passed 0 (at_start f.function) _ start body in
+        (there.0, there.1, (λ e. lines_there f c turns passed 0 (at_start f.function) e), facts_hold p c f.names d given (handles_at f 0 f.function.body q (at_start f.function)) there.0 kept there.2)

@@ -26,6 +26,8 @@ use Rattle.shader_runs.proofs.Statements.{ReturnsOf, ActionReturns, called_typed
 use Rattle.shader_runs.proofs.Fresh.{all_fresh, start_sources}
 use Rattle.shader_runs.proofs.Start.{start_stands}
 use Rattle.shader_runs.proofs.Calls.{runs_alike}
+use Rattle.shader_runs.specs.Constants.{environment_of}
+use Rattle.shader_runs.proofs.Constants.{environment_fits}
 
 -- a run that isn't stuck: P holds where it is done, Q where it continues, B where it breaks, R of what it returns
 pub data Proceeds {S : Type 0} (R : Option Value → Type 0) (P Q B : S → Type 0) : Outcome S → Type 0 where
@@ -577,10 +579,16 @@ not_stuck R (Gives v t) k = tt
 not_stuck R (Halts x t) k = k
 
 pub runs_are_not_stuck : RunsAreNotStuck
-runs_are_not_stuck p n fs fits well env environment m typed g f e vs h w turns t =
-    let proceeds = there (subst (λ l. function_numbered l g ≡ Some f) (sym fits.functions) e) (subst (λ l. AllTypedIn env.parts p m l) (sym fits.functions) (subst (λ parts. AllTypedIn parts p m p.functions) (sym environment.parts) typed)) (subst (λ l. AllWellFormed l) (sym fits.functions) well) in
-    (proceeds, λ keeps. subst (λ q. IsNotStuck q) (sym (runs_alike p n fs fits env environment m typed g f e vs h w turns t keeps)) proceeds)
+runs_are_not_stuck p n fs fits well s settings m typed g f e vs h w turns t =
+    let proceeds = there (subst (λ l. function_numbered l g ≡ Some f) (sym fits.functions) e) (subst (λ l. AllTypedIn env.parts p m l) (sym fits.functions) (subst (λ parts. AllTypedIn parts p m p.functions) (sym environment.parts) typed.functions)) (subst (λ l. AllWellFormed l) (sym fits.functions) well) in
+    (proceeds, λ keeps. subst (λ q. IsNotStuck q) (sym (runs_alike p n fs fits s settings m typed g f e vs h w turns t keeps)) proceeds)
   where
+    env : Environment
+    env = environment_of p s m
+
+    environment : EnvironmentFits p env
+    environment = environment_fits p n fits.constants s settings m typed
+
     there : function_numbered (functions_of fs) g ≡ Some f → AllTypedIn env.parts p m (functions_of fs) → AllWellFormed (functions_of fs) → IsNotStuck (run_call env w m turns p.functions g vs t)
     there e typed well =
         subst (λ l. IsNotStuck (run_call env w m turns l g vs t)) fits.functions (not_stuck (Returns env.parts f) (run_call env w m turns (functions_of fs) g vs t) (calls_proceed p n env environment w m turns fs fits.all typed well g f e vs (subst (λ parts. IsTrue (has_types parts f.argument_types vs)) (sym environment.parts) h) t))

@@ -14,6 +14,7 @@ use Rattle.shader_runs.specs.Results.{holds_break, any_break, may_end, may_end_a
 use Rattle.shader_runs.proofs.Update.{and_left, and_right, and_both}
 use Rattle.shader_runs.proofs.Evaluation.{some_same}
 use Rattle.shader_runs.proofs.Statements.{or_left, or_right}
+use Rattle.shader_runs.specs.Constants.{environment_of}
 
 -- a run that misses no result, with a result of this type: ends and breaks tell whether it may be done and may break
 abbrev Leads : {S : Type 0} → Option ValueType → (ends breaks : Bool) → Outcome S → Type 0
@@ -347,9 +348,12 @@ module _ (p : Module) (n : ModuleNames) (env : Environment) (w : World) (m : Mea
       go false e earlier = earlier g callee e vs t
 
 pub results_are_returned : ResultsAreReturned
-results_are_returned p n fs fits gives env m g f e vs w turns t =
+results_are_returned p n fs fits gives settings m g f e vs w turns t =
     there (subst (λ l. function_numbered l g ≡ Some f) (sym fits.functions) e) (subst (λ l. AllGiveResults l) (sym fits.functions) gives)
   where
+    env : Environment
+    env = environment_of p settings m
+
     there : function_numbered (functions_of fs) g ≡ Some f → AllGiveResults (functions_of fs) → IsComplete f.result (run_call env w m turns p.functions g vs t)
     there e gives =
         subst (λ l. IsComplete f.result (run_call env w m turns l g vs t)) fits.functions (calls_complete p n env w m turns fs fits.all gives g f e vs t)

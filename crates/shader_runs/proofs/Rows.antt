@@ -1,14 +1,14 @@
 -- The worked functions, by computing, and the premises of the law for one of them.
 use Rattle.std.proofs.Common.{◌≡◌, ℕ, zero, suc, ◌+◌, ◌<◌, List, [], ◌∷◌, Some, None, slice_get, refl, sym, ap, subst, arith}
 use Rattle.std.specs.Prelude.{codes}
-use Rattle.shader_runs.specs.Program.{Function, expression_of, handle_type, operands_of}
+use Rattle.shader_runs.specs.Program.{ConstantTree, Function, expression_of, handle_type, operands_of}
 use Rattle.shader_runs.specs.Scope.{given_by_all}
-use Rattle.shader_runs.specs.Premises.{AllBelow, WordFits, LeafFits, AreDistinct, FixedKey, NumberedKey, GivenKey, ArgumentName, LocalName, ConstantName, GlobalName}
-use Rattle.shader_runs.specs.Typing.{Signature, IsOneOf, IsSpelled, PartsFit, signatures_of}
+use Rattle.shader_runs.specs.Premises.{AllBelow, WordFits, LeafFits, AreDistinct, FixedKey, NumberedKey, GivenKey, ArgumentName, LocalName, ConstantName, GlobalName, ConstantsFit}
+use Rattle.shader_runs.specs.Typing.{Signature, IsOneOf, IsSpelled, PartsFit, signatures_of, in_function, in_initialiser}
 use Rattle.shader_runs.specs.Rows.{RowsHold, PremisesHold, no_parts as row_parts, store_function, store_naming, store_module, numbered_name}
 use Rattle.shader_runs.specs.Progress.{LoadFits}
 
-heads : (a b : ℕ) (xs ys : List ℕ) → a ∷ xs ≡ b ∷ ys → a ≡ b
+pub heads : (a b : ℕ) (xs ys : List ℕ) → a ∷ xs ≡ b ∷ ys → a ≡ b
 heads a b xs ys e = cc
 
 thirds : (a b : ℕ) → 95 ∷ 101 ∷ a ∷ [] ≡ 95 ∷ 101 ∷ b ∷ [] → a ≡ b
@@ -112,17 +112,28 @@ only_function (suc i) f e = absurd (none e)
     none q = cc
 
 no_spelled : (x : Signature) → IsSpelled store_module x → ⊥
-no_spelled x s = go s.function (only_function s.place s.function s.there) s.among
+no_spelled x (in_function place f there h k) = go f (only_function place f there) k
   where
-    go : (f : Function) → store_function ≡ f → IsOneOf x (signatures_of store_module f (handle_type f s.handle) (expression_of f s.handle)) → ⊥
+    go : (f : Function) → store_function ≡ f → IsOneOf x (signatures_of store_module f (handle_type f h) (expression_of f h)) → ⊥
     go f e k =
-        no_operator x s.handle (subst (λ f. IsOneOf x (signatures_of store_module f (handle_type f s.handle) (expression_of f s.handle))) (sym e) k)
+        no_operator x h (subst (λ f. IsOneOf x (signatures_of store_module f (handle_type f h) (expression_of f h))) (sym e) k)
+no_spelled x (in_initialiser i e there k) = none_there e there
+  where
+    none_there : (e : ConstantTree) → None ≡ Some e → ⊥
+    none_there e q = cc
+
+no_constants : ConstantsFit store_module store_naming.names.outer
+no_constants =
+    record { counted = omega arith; rank = λ i. i; initialisers = λ i e q. absurd (none_there e q); distinct = λ i k lt lk e. absurd (omega arith) }
+  where
+    none_there : (e : ConstantTree) → None ≡ Some e → ⊥
+    none_there e q = cc
 
 premises : PremisesHold
 premises =
     record {
-      fits = record { functions = refl; distinct = record { functions = λ g k lg lk e. omega arith }; all = (record { outer = refl; earlier = refl; ordered = ordered; words = plain; leaves = leaves; regular = (tt, (tt, (refl, tt))); distinct = distinct; scope = refl }, tt) };
-      environment = record { parts = refl; constants = refl; globals = refl };
+      fits = record { functions = refl; distinct = record { functions = λ g k lg lk e. omega arith }; constants = no_constants; all = (record { outer = refl; earlier = refl; ordered = ordered; words = plain; leaves = leaves; regular = (tt, (tt, (refl, tt))); distinct = distinct; scope = refl }, tt) };
+      settings = record { overrides = refl; counted = refl; globals = refl };
       consistent = record { alike = λ x y s t w o. absurd (no_spelled x s); parts = λ place f e h. subst (λ f. PartsFit row_parts f (handle_type f h) (expression_of f h)) (only_function place f e) (no_parts h) };
       well_formed = (record { loads = loads; body = (tt, (tt, (tt, tt))) }, tt);
       results = ((refl, refl), tt);

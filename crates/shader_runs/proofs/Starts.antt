@@ -1,10 +1,11 @@
 -- One world for all starts: it looks at the entry that its history began with.
 use Rattle.std.proofs.Common.{◌≡◌, ℕ, zero, suc, ℤ, Bool, true, false, cond, nat_eq, List, [], ◌∷◌, length, Option, Some, None, refl, sym, ap, ap₂, ◌∙◌, subst, eqb-true}
 use Rattle.shader_runs.specs.Value.{Bytes, PartTypes, Place, ValueType, has_type, Value, Truth, Whole, Pointer, Opaque, has_types}
-use Rattle.shader_runs.specs.World.{Event, Entry, Ask, Read, Write, Discard, entries, World, Meaning, Environment, update}
+use Rattle.shader_runs.specs.World.{Event, Entry, Ask, Read, Write, Discard, entries, World, Meaning, Environment, Settings, update}
 use Rattle.shader_runs.specs.Outcome.{Outcome, Done, Continued, Broke, Returned, Stopped, Reached, Gives, Halts, answer, Next, and_then, and_continue, within, turn, and_again, turns, after_switch, chosen, with_integer}
 use Rattle.shader_runs.specs.Program.{Expression, Constant, Argument, Local, Global, Load, Operator, Access, AccessIndex, Logical, Swizzle, Request, Action, Asked, Called, Label, Numbered, Statement, Emit, Store, Block, If, Switch, Loop, Break, Continue, Return, Kill, Barrier, Act, Statements, end, then, Cases, no_case, case, Function, argument_count, expression_of, handle_type, operands_of, is_counted, is_asked, from, Module, function_numbered}
 use Rattle.shader_runs.specs.ProgramRun.{Call, Kept, constant_values, used, used_as, also, used_all, gathered, computed, joined, if_typed, keep_typed, with_used, loaded, asked, if_counted, emit_as, emit, with_pointer, leave, returned, acted, with_result, with_all, barrier_words, ask_each, same_label, has_label, label_if, run, run_all, run_cases, run_on, constants_kept, with_first, wrapped, first_used, first_used_all, entered, run_body, called, run_call}
+use Rattle.shader_runs.specs.Constants.{environment_of, run_module}
 use Rattle.std.specs.Prelude.{IsTrue}
 use Rattle.shader_runs.specs.Correct.{KeepsTypes, AlwaysKeepsTypes, HasTypedWorld}
 use Rattle.shader_runs.proofs.Process.{reached_events, Pause, DoneWith, ContinuedWith, BrokeWith, ReturnedWith, Process, gives, stuck, unreturned, discards, tells, wants, looks, sequence, repeats, answered, resumed, again, rounds, perform, answers_call, if_true, entry_process, list_process, body_process, call_alone, call_process}
@@ -106,12 +107,15 @@ one_world p env m t r = by_start (world_from p env m) (start_of t) t r
 
 -- it keeps the types, where the events of each call settle
 pub settled_world :
-    (p : Module) (env : Environment) (m : Meaning) →
-    ((g : ℕ) (f : Function) → function_numbered p.functions g ≡ Some f → (vs : List Value) → IsTrue (has_types p.parts f.argument_types vs) → EventsSettle (call_process env m p.functions g vs)) →
-    (w : World) × AlwaysKeepsTypes p env m w
-settled_world p env m settle = (one_world p env m, each)
+    (p : Module) (settings : Settings) (m : Meaning) →
+    ((g : ℕ) (f : Function) → function_numbered p.functions g ≡ Some f → (vs : List Value) → IsTrue (has_types p.parts f.argument_types vs) → EventsSettle (call_process (environment_of p settings m) m p.functions g vs)) →
+    (w : World) × AlwaysKeepsTypes p settings m w
+settled_world p settings m settle = (one_world p env m, each)
   where
-    each : (turns : ℕ) (g : ℕ) (f : Function) → function_numbered p.functions g ≡ Some f → (vs : List Value) → IsTrue (has_types p.parts f.argument_types vs) → KeepsTypes (run_call env (one_world p env m) m turns p.functions g vs [])
+    env : Environment
+    env = environment_of p settings m
+
+    each : (turns : ℕ) (g : ℕ) (f : Function) → function_numbered p.functions g ≡ Some f → (vs : List Value) → IsTrue (has_types p.parts f.argument_types vs) → KeepsTypes (run_module p settings (one_world p env m) m turns g vs [])
     each turns g f e vs h =
         let process = call_process env m p.functions g vs in
         call_keeps env (one_world p env m) m turns p.functions g vs [] (ap mistakes (first_call (started g vs) (one_world p env m) (world_from p env m (started g vs)) same env m turns p.functions g vs refl) ∙ diagonal_fine process (settle g f e vs h) turns)
@@ -119,10 +123,14 @@ settled_world p env m settle = (one_world p env m, each)
         same : (t : List Event) (r : Event) → start_of t ≡ Some (started g vs) → one_world p env m t r ≡ world_from p env m (started g vs) t r
         same t r e = ap (λ o. by_start (world_from p env m) o t r) e
 
--- of a module without loops, whatever is in scope
-pub steady_world : (p : Module) (env : Environment) (m : Meaning) → ((w : World) (j n : ℕ) (g : ℕ) (vs : List Value) → run_call env w m j p.functions g vs [] ≡ run_call env w m n p.functions g vs []) → (w : World) × AlwaysKeepsTypes p env m w
-steady_world p env m steady = settled_world p env m (λ g f e vs h. steady_settles env m p.functions g vs (λ w j n. steady w j n g vs))
+-- of a module whose runs are the same with every bound, whatever is in scope
+pub steady_world :
+    (p : Module) (settings : Settings) (m : Meaning) →
+    ((w : World) (j n : ℕ) (g : ℕ) (vs : List Value) → run_module p settings w m j g vs [] ≡ run_module p settings w m n g vs []) →
+    (w : World) × AlwaysKeepsTypes p settings m w
+steady_world p settings m steady =
+    settled_world p settings m (λ g f e vs h. steady_settles (environment_of p settings m) m p.functions g vs (λ w j n. steady w j n g vs))
 
 pub has_typed_world : HasTypedWorld
-has_typed_world p n fs fits env environment m typed =
-    settled_world p env m (λ g f e vs h. events_settle p n fs fits env environment m typed g f e vs h)
+has_typed_world p n fs fits settings fit m typed =
+    settled_world p settings m (λ g f e vs h. events_settle p n fs fits settings fit m typed g f e vs h)

@@ -9,7 +9,7 @@ use Rattle.shader_runs.specs.Program.{ConstantTree, Fixed, NamedConstant, Constr
 use Rattle.shader_runs.specs.ProgramRun.{index_value_of, part_value, decides, undecided, combined}
 use Rattle.shader_runs.specs.Scope.{is_pure}
 use Rattle.shader_runs.specs.Premises.{constant_types_of, handle_types, ConstantTyped, ConstantsTyped, LeafTyped, IsTypedIn, AllTypedIn}
-use Rattle.shader_runs.specs.Typing.{Signature, constant_signatures, constants_signatures, signatures_of, IsOneOf, first_of, later_of, IsSpelled, AccessFits, AccessIndexFits, LogicalFits, PartsFit, IsConsistent}
+use Rattle.shader_runs.specs.Typing.{Signature, constant_signatures, constants_signatures, signatures_of, IsOneOf, first_of, later_of, IsSpelled, in_function, in_initialiser, AccessFits, AccessIndexFits, LogicalFits, PartsFit, IsConsistent}
 use Rattle.shader_runs.specs.Correct.{HasTypedMeaning}
 use Rattle.shader_runs.proofs.Update.{and_left, and_right, and_both, same_bytes_true, same_bytes_self, same_type_true, same_type_self}
 use Rattle.shader_runs.proofs.Evaluation.{not_pointer, not_pointer_type, typed_not_pointer}
@@ -206,55 +206,104 @@ spelled_in p (f ∷ fs) shift at x m =
     go : IsOneOf x (signatures_below p f (length f.expressions)) ⊎ IsOneOf x (signatures_in p fs) → (IsOneOf x (signatures_in p fs) → IsSpelled p x) → IsSpelled p x
     go (inl k) rest =
         let found = handle_of p f (length f.expressions) x k in
-        record { place = 0 + shift; function = f; there = at 0 f refl; handle = found.0; among = found.1 }
+        in_function (0 + shift) f (at 0 f refl) found.0 found.1
+    go (inr k) rest = rest k
+
+-- what the initialisers spell
+abbrev initialiser_signatures : Module → List ConstantTree → List Signature
+initialiser_signatures p [] = []
+initialiser_signatures p (e ∷ es) = constant_signatures p e ++ initialiser_signatures p es
+
+initialiser_there : (p : Module) (es : List ConstantTree) (i : ℕ) (e : ConstantTree) → slice_get es i ≡ Some e → (x : Signature) → IsOneOf x (constant_signatures p e) → IsOneOf x (initialiser_signatures p es)
+initialiser_there p [] i e q x k = absurd (none_here q)
+  where
+    none_here : None ≡ Some e → ⊥
+    none_here q = cc
+initialiser_there p (d ∷ es) zero e q x k =
+    one_of_left x (constant_signatures p d) (initialiser_signatures p es) (subst (λ e. IsOneOf x (constant_signatures p e)) (sym (same d e q)) k)
+  where
+    same : (a b : ConstantTree) → Some a ≡ Some b → a ≡ b
+    same a b q = cc
+initialiser_there p (d ∷ es) (suc i) e q x k =
+    one_of_right x (constant_signatures p d) (initialiser_signatures p es) (initialiser_there p es i e q x k)
+
+-- what a list of the module's last initialisers spells, the module spells
+initialiser_spelled : (p : Module) (es : List ConstantTree) (shift : ℕ) → ((i : ℕ) (e : ConstantTree) → slice_get es i ≡ Some e → slice_get p.initialisers (i + shift) ≡ Some e) → (x : Signature) → IsOneOf x (initialiser_signatures p es) → IsSpelled p x
+initialiser_spelled p [] shift at x k = absurd (no_signature x k)
+initialiser_spelled p (d ∷ es) shift at x k =
+    go (one_of_either x (constant_signatures p d) (initialiser_signatures p es) k) (λ k. initialiser_spelled p es (suc shift) later x k)
+  where
+    later : (i : ℕ) (e : ConstantTree) → slice_get es i ≡ Some e → slice_get p.initialisers (i + suc shift) ≡ Some e
+    later i e q =
+        let same : suc i + shift ≡ i + suc shift = omega arith in
+        subst (λ k. slice_get p.initialisers k ≡ Some e) same (at (suc i) e q)
+
+    go : IsOneOf x (constant_signatures p d) ⊎ IsOneOf x (initialiser_signatures p es) → (IsOneOf x (initialiser_signatures p es) → IsSpelled p x) → IsSpelled p x
+    go (inl k) rest = in_initialiser (0 + shift) d (at 0 d refl) k
     go (inr k) rest = rest k
 
 module _ (p : Module) (consistent : IsConsistent p) where
   abbrev All : List Signature
-  All = signatures_in p p.functions
+  All = signatures_in p p.functions ++ initialiser_signatures p p.initialisers
 
   abbrev m : Meaning
   m = meaning_of p.parts All
 
   all_spelled : (x : Signature) → IsOneOf x All → IsSpelled p x
-  all_spelled x k = spelled_in p p.functions 0 at x k
+  all_spelled x k =
+      go (one_of_either x (signatures_in p p.functions) (initialiser_signatures p p.initialisers) k)
     where
-      at : (i : ℕ) (f : Function) → slice_get p.functions i ≡ Some f → slice_get p.functions (i + 0) ≡ Some f
-      at i f e =
+      at_function : (i : ℕ) (f : Function) → slice_get p.functions i ≡ Some f → slice_get p.functions (i + 0) ≡ Some f
+      at_function i f e =
           let same : i ≡ i + 0 = omega arith in
           subst (λ k. slice_get p.functions k ≡ Some f) same e
+
+      at_initialiser : (i : ℕ) (e : ConstantTree) → slice_get p.initialisers i ≡ Some e → slice_get p.initialisers (i + 0) ≡ Some e
+      at_initialiser i e q =
+          let same : i ≡ i + 0 = omega arith in
+          subst (λ k. slice_get p.initialisers k ≡ Some e) same q
+
+      go : IsOneOf x (signatures_in p p.functions) ⊎ IsOneOf x (initialiser_signatures p p.initialisers) → IsSpelled p x
+      go (inl k) = spelled_in p p.functions 0 at_function x k
+      go (inr k) = initialiser_spelled p p.initialisers 0 at_initialiser x k
+
+  there : (x : Signature) → IsSpelled p x → IsOneOf x All
+  there x (in_function place f here h k) =
+      one_of_left x (signatures_in p p.functions) (initialiser_signatures p p.initialisers) (spelled_there p p.functions place f here h x k)
+  there x (in_initialiser i e here k) =
+      one_of_right x (signatures_in p p.functions) (initialiser_signatures p p.initialisers) (initialiser_there p p.initialisers i e here x k)
 
   -- a spelled operator gives a value of its result's type
   spelled_typed : (x : Signature) → IsSpelled p x → (vs : List Value) → IsTrue (has_types p.parts x.operands vs) → IsTrue (has_type p.parts x.result (m x.word vs))
   spelled_typed x s vs h =
-      let there = spelled_there p p.functions s.place s.function s.there s.handle x s.among in
-      let found = result_found All x (λ y k w o. consistent.alike y x (all_spelled y k) s w o) there in
+      let found = result_found All x (λ y k w o. consistent.alike y x (all_spelled y k) s w o) (there x s) in
       let typed = ap (result_in All x.word) (types_of_typed p.parts x.operands vs h) ∙ found in
       subst (λ t. IsTrue (has_type p.parts x.result (default_value t))) (sym typed) (default_typed p.parts x.result)
+
+  -- a tree over constants alone whose operators the module spells
+  mutual
+    constant_fits : (e : ConstantTree) → ((x : Signature) → IsOneOf x (constant_signatures p e) → IsSpelled p x) → ConstantTyped p.parts p m e
+    constant_fits (Fixed v) at = tt
+    constant_fits (NamedConstant i) at = tt
+    constant_fits (Constructed w ty es) at =
+        let x : Signature = record { word = Spelled w; operands = constant_types_of p es; result = ty } in
+        (λ vs k. spelled_typed x (at x first_of) vs k, constants_fit es (λ y k. at y (later_of k)))
+
+    constants_fit : (es : ConstantTrees) → ((x : Signature) → IsOneOf x (constants_signatures p es) → IsSpelled p x) → ConstantsTyped p.parts p m es
+    constants_fit no_constant at = tt
+    constants_fit (constant e es) at =
+        (constant_fits e (λ y k. at y (one_of_left y (constant_signatures p e) (constants_signatures p es) k)), constants_fit es (λ y k. at y (one_of_right y (constant_signatures p e) (constants_signatures p es) k)))
 
   module _ (place : ℕ) (f : Function) (here : slice_get p.functions place ≡ Some f) where
     abbrev IsHere : ℕ → Signature → Type 0
     IsHere h x = IsOneOf x (at_handle p f h)
 
     spelled : (h : ℕ) (x : Signature) → IsHere h x → IsSpelled p x
-    spelled h x k = record { place = place; function = f; there = here; handle = h; among = k }
-
-    mutual
-      constant_fits : (h : ℕ) (e : ConstantTree) → ((x : Signature) → IsOneOf x (constant_signatures p e) → IsHere h x) → ConstantTyped p.parts p m e
-      constant_fits h (Fixed v) at = tt
-      constant_fits h (NamedConstant i) at = tt
-      constant_fits h (Constructed w ty es) at =
-          let x : Signature = record { word = Spelled w; operands = constant_types_of p es; result = ty } in
-          (λ vs k. spelled_typed x (spelled h x (at x first_of)) vs k, constants_fit h es (λ y k. at y (later_of k)))
-
-      constants_fit : (h : ℕ) (es : ConstantTrees) → ((x : Signature) → IsOneOf x (constants_signatures p es) → IsHere h x) → ConstantsTyped p.parts p m es
-      constants_fit h no_constant at = tt
-      constants_fit h (constant e es) at =
-          (constant_fits h e (λ y k. at y (one_of_left y (constant_signatures p e) (constants_signatures p es) k)), constants_fit h es (λ y k. at y (one_of_right y (constant_signatures p e) (constants_signatures p es) k)))
+    spelled h x k = in_function place f here h k
 
     leaf_fits : (h : ℕ) (e : Option Expression) → ((x : Signature) → IsOneOf x (signatures_of p f (handle_type f h) e) → IsHere h x) → LeafTyped p.parts p m e
-    leaf_fits h (Some (Constant e)) at = constant_fits h e at
-    leaf_fits h (Some (Request a w xs es)) at = constants_fit h es at
+    leaf_fits h (Some (Constant e)) at = constant_fits e (λ x k. spelled h x (at x k))
+    leaf_fits h (Some (Request a w xs es)) at = constants_fit es (λ x k. spelled h x (at x k))
     leaf_fits h (Some _) at = tt
     leaf_fits h None at = tt
 
@@ -403,7 +452,8 @@ module _ (p : Module) (consistent : IsConsistent p) where
           subst (λ k. slice_get p.functions k ≡ Some g) same (at (suc i) g e)
 
 pub has_typed_meaning : HasTypedMeaning
-has_typed_meaning p consistent = (m p consistent, all_typed p consistent p.functions 0 start)
+has_typed_meaning p consistent =
+    (m p consistent, record { functions = all_typed p consistent p.functions 0 start; initialisers = λ i e q. constant_fits p consistent e (λ x k. in_initialiser i e q k) })
   where
     start : (i : ℕ) (f : Function) → slice_get p.functions i ≡ Some f → slice_get p.functions (i + 0) ≡ Some f
     start i f e =

@@ -2,19 +2,20 @@
 use Rattle.std.proofs.Common.{◌≡◌, ℕ, zero, suc, ◌<◌, ◌≤◌, true, nat_lt, List, [], ◌∷◌, ◌++◌, length, Option, Some, None, slice_get, refl, sym, ap, ◌∙◌, subst, true≢false, arith, ltb-true}
 use Rattle.std.specs.Prelude.{IsTrue}
 use Rattle.std.proofs.lemmas.Option.{slice_get_within}
-use Rattle.shader_runs.specs.Value.{Bytes, PartTypes, Rooted, GlobalRoot, LocalRoot, Selector, ShortCircuit, ValueType, BooleanType, IntegerType, PointerType, OtherType, type_at, has_type, has_types, Value, Truth, Whole, Pointer, Opaque, Spelled}
+use Rattle.shader_runs.specs.Value.{Bytes, PartTypes, Rooted, GlobalRoot, LocalRoot, Selector, ShortCircuit, ValueType, BooleanType, IntegerType, PointerType, OtherType, type_at, has_type, has_types, Value, Pointer, Spelled}
 use Rattle.shader_runs.specs.World.{Event, GlobalValue, Stored, Held, Environment, Meaning}
-use Rattle.shader_runs.specs.Program.{ConstantTree, Fixed, NamedConstant, Constructed, ConstantTrees, no_constant, constant, Expression, Constant, Argument, Local, Global, Load, Operator, Access, AccessIndex, Logical, Swizzle, Request, Result, argument_count, local_count, local_pointer, expression_of, handle_type, operands_of, Module}
+use Rattle.shader_runs.specs.Program.{ConstantTree, ConstantTrees, constant, Expression, Constant, Argument, Local, Global, Load, Operator, Access, AccessIndex, Logical, Swizzle, Request, Result, argument_count, local_count, local_pointer, expression_of, handle_type, operands_of, Module}
 use Rattle.shader_runs.specs.ProgramRun.{Call, Kept, constant_value, constant_values, global_value, used_as, used, also, used_all, joined, applied, combined, gathered, computed}
 use Rattle.shader_runs.specs.Text.{Name}
-use Rattle.shader_runs.specs.TextRun.{Scope, named, valued, responded, unhidden, followed_by, as_value, evaluate, evaluate_all, value_of, global_denoted}
+use Rattle.shader_runs.specs.TextRun.{Scope, named, responded, unhidden, followed_by, as_value, evaluate, evaluate_all, value_of}
 use Rattle.shader_runs.specs.Scope.{Standing, Absent, Barred, Everywhere, Inline, Named, Handles, Names, usable, usable_as, usable_all, is_pure, is_present}
 use Rattle.shader_runs.specs.Form.{Plain, AsValue, AsPlace, value_form, place_form, value_forms_then, constant_form, constant_forms, global_form, own_form, standing_form, written_below, written}
-use Rattle.shader_runs.specs.Premises.{FixedName, FixedKey, NumberedKey, GivenKey, IsFixedName, IsNoName, ConstantWords, ConstantsWords, WordFits, AllBelow, IsLiteral, literal_type, constant_type, constant_types_of, ConstantInRange, ConstantsInRange, LeafFits, ConstantTyped, ConstantsTyped, LeafTyped, handle_types, IsTypedIn, ConstantName, ArgumentName, LocalName, GlobalName, global_has_type, globals_have_types, EnvironmentFits}
+use Rattle.shader_runs.specs.Premises.{FixedName, FixedKey, NumberedKey, GivenKey, IsFixedName, IsNoName, ConstantWords, ConstantsWords, WordFits, AllBelow, constant_type, constant_types_of, ConstantInRange, ConstantsInRange, LeafFits, ConstantTyped, ConstantsTyped, LeafTyped, handle_types, IsTypedIn, ConstantName, ArgumentName, LocalName, GlobalName, global_has_type, globals_have_types, EnvironmentFits, OperatesBy}
 use Rattle.shader_runs.proofs.Alike.{reached, placed}
 use Rattle.shader_runs.proofs.Update.{and_left, and_right, and_both, same_type_self, has_types_length}
-use Rattle.shader_runs.proofs.Relation.{IsHere, NoName, TypedValue, stored_denoted, global_as, Stands, Related}
+use Rattle.shader_runs.proofs.Relation.{IsHere, NoName, TypedValue, stored_denoted, global_as, Stands, Related, as_denoted}
 use Rattle.shader_runs.proofs.Evaluation.{naming, Respond, words, Responds, denoted, Means, some_same, value_form_gives, place_form_gives, AllMean, reached_all, followed_reached, value_forms_give, named_denoted, applied_reached, OneOf, one_of, TwoOf, two_of, one_there, two_there, access_means, part_means, swizzle_means, logical_means}
+use Rattle.shader_runs.proofs.ConstantTrees.{tree_typed, trees_typed, tree_gives, trees_give}
 
 -- what a call owes to its function's text
 pub record Given (p : Module) (c : Call) (n : Names) (d : Respond) : Type 0 where
@@ -90,28 +91,15 @@ held_typed parts (IntegerType s) i (Held v) h = (v, refl, h)
 held_typed parts (OtherType s) i (Stored q) h = absurd (true≢false (sym h))
 held_typed parts (OtherType s) i (Held v) h = (v, refl, h)
 
-literal_typed : (parts : PartTypes) (v : Value) → IsLiteral v → IsTrue (has_type parts (literal_type v) v)
-literal_typed parts (Truth b) l = refl
-literal_typed parts (Whole s z) l = same_type_self (IntegerType s)
-literal_typed parts (Opaque s z) l = same_type_self (OtherType s)
-literal_typed parts (Pointer q) l = absurd l
-
 -- the values of trees over constants have their types
 module _ (p : Module) (env : Environment) (fits : EnvironmentFits p env) (m : Meaning) where
-  mutual
-    pub constant_typed : (e : ConstantTree) → ConstantInRange p e → ConstantTyped env.parts p m e → TypedValue env.parts (constant_type p e) (constant_value env m e)
-    constant_typed (Fixed v) r t = (v, refl, literal_typed env.parts v r)
-    constant_typed (NamedConstant i) r t = has_type_at env.parts p.constant_types env.constants fits.constants i r
-    constant_typed (Constructed w ty es) r t =
-        let vs = constants_typed es r t.1 in
-        (m (Spelled w) vs.0, ap (applied m (Spelled w)) vs.1, t.0 vs.0 vs.2)
+  pub constant_typed : (e : ConstantTree) → ConstantInRange p e → ConstantTyped env.parts p m e → TypedValue env.parts (constant_type p e) (constant_value env m e)
+  constant_typed =
+      tree_typed env.parts p (slice_get env.constants) m (λ i. i < length p.constant_types) (has_type_at env.parts p.constant_types env.constants fits.constants)
 
-    pub constants_typed : (es : ConstantTrees) → ConstantsInRange p es → ConstantsTyped env.parts p m es → (vs : List Value) × (constant_values env m es ≡ Some vs) × IsTrue (has_types env.parts (constant_types_of p es) vs)
-    constants_typed no_constant r t = ([], refl, refl)
-    constants_typed (constant e es) r t =
-        let a = constant_typed e r.0 t.0 in
-        let b = constants_typed es r.1 t.1 in
-        (a.0 ∷ b.0, ap (λ o. also o (constant_values env m es)) a.1 ∙ ap (also (Some a.0)) b.1, and_both (has_type env.parts (constant_type p e) a.0) (has_types env.parts (constant_types_of p es) b.0) a.2 b.2)
+  pub constants_typed : (es : ConstantTrees) → ConstantsInRange p es → ConstantsTyped env.parts p m es → (vs : List Value) × (constant_values env m es ≡ Some vs) × IsTrue (has_types env.parts (constant_types_of p es) vs)
+  constants_typed =
+      trees_typed env.parts p (slice_get env.constants) m (λ i. i < length p.constant_types) (has_type_at env.parts p.constant_types env.constants fits.constants)
 
 retyped : (parts : PartTypes) (k k' : ValueType) (o : Option Value) → k ≡ k' → TypedValue parts k' o → TypedValue parts k o
 retyped parts k k' o e v = (v.0, v.1, ap (λ k. has_type parts k v.0) e ∙ v.2)
@@ -184,26 +172,21 @@ module _ (p : Module) (c : Call) (n : Names) (d : Respond) (given : Given p c n 
   pub free : (w : Bytes) → IsNoName p (naming c n) w → names w ≡ None
   free w f = r.words w (no_name p c n given.environment w f)
 
-  mutual
-    constant_gives : (e : ConstantTree) → ConstantWords p (naming c n) e → ConstantInRange p e → (t : List Event) → evaluate (words c d) (constant_form n.outer e) names t ≡ denoted (constant_value c.environment c.meaning e) t
-    constant_gives (Fixed v) w i t = refl
-    constant_gives (NamedConstant j) w i t =
-        ap (λ z. named z t) (r.fixed (ConstantName j) (subst (λ k. j < k) (sym (has_types_length c.environment.parts p.constant_types c.environment.constants given.environment.constants)) i)) ∙ named_denoted (slice_get c.environment.constants j) t
-    constant_gives (Constructed word ty es) w i t =
-        ap (λ q. as_value (unhidden (names word) t (responded (words c d) word q))) (constants_give es w.1 i t) ∙ applied_reached p c n d given.responds word w.0 (names word) (free word w.0.1.1) (constant_values c.environment c.meaning es) t
+  -- a named constant's name stands for its value
+  constant_here : (i : ℕ) → i < length p.constant_types → names (n.outer.constant i) ≡ as_denoted (slice_get c.environment.constants i)
+  constant_here i lt =
+      r.fixed (ConstantName i) (subst (λ k. i < k) (sym (has_types_length c.environment.parts p.constant_types c.environment.constants given.environment.constants)) lt)
 
-    pub constants_give : (es : ConstantTrees) → ConstantsWords p (naming c n) es → ConstantsInRange p es → (t : List Event) → evaluate_all (words c d) (constant_forms n.outer es) names t ≡ reached_all (constant_values c.environment c.meaning es) t
-    constants_give no_constant w i t = refl
-    constants_give (constant e es) w i t =
-        let rest = evaluate_all (words c d) (constant_forms n.outer es) names in
-        let o = constant_value c.environment c.meaning e in
-        ap (λ q. followed_by (valued c.world q) rest) (constant_gives e w.0 i.0 t)
-        ∙ ap (λ q. followed_by q rest) (valued_there o t)
-        ∙ followed_reached o (constant_values c.environment c.meaning es) t rest (constants_give es w.1 i.1)
-      where
-        valued_there : (o : Option Value) (t : List Event) → valued c.world (denoted o t) ≡ reached o t
-        valued_there None t = refl
-        valued_there (Some v) t = refl
+  operator_here : (w : Bytes) → OperatesBy p (naming c n) w → (os : Option (List Value)) (t : List Event) → as_value (unhidden (names w) t (responded (words c d) w (reached_all os t))) ≡ denoted (applied c.meaning (Spelled w) os) t
+  operator_here w o = applied_reached p c n d given.responds w o (names w) (free w o.1.1)
+
+  constant_gives : (e : ConstantTree) → ConstantWords p (naming c n) e → ConstantInRange p e → (t : List Event) → evaluate (words c d) (constant_form n.outer e) names t ≡ denoted (constant_value c.environment c.meaning e) t
+  constant_gives =
+      tree_gives (words c d) names n.outer (slice_get c.environment.constants) (λ i. i < length p.constant_types) constant_here (OperatesBy p (naming c n)) operator_here
+
+  pub constants_give : (es : ConstantTrees) → ConstantsWords p (naming c n) es → ConstantsInRange p es → (t : List Event) → evaluate_all (words c d) (constant_forms n.outer es) names t ≡ reached_all (constant_values c.environment c.meaning es) t
+  constants_give =
+      trees_give (words c d) names n.outer (slice_get c.environment.constants) (λ i. i < length p.constant_types) constant_here (OperatesBy p (naming c n)) operator_here
 
   joined_none : (o : Option (List Value)) → joined (Some []) o ≡ o
   joined_none None = refl

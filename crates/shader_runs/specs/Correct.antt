@@ -1,15 +1,15 @@
 -- The laws: a call runs alike by the text and by the module, event by event.
-use Rattle.std.specs.Prelude.{◌≡◌, ℕ, List, [], Some, IsTrue}
+use Rattle.std.specs.Prelude.{◌≡◌, ℕ, List, [], Some, IsTrue, slice_get, drop}
 use Rattle.shader_runs.specs.Value.{Value, has_types}
-use Rattle.shader_runs.specs.World.{World, Meaning, Event, Environment}
+use Rattle.shader_runs.specs.World.{World, Meaning, Event, Settings, Environment}
 use Rattle.shader_runs.specs.Outcome.{Mistyped, Reached, Gives, Halts}
-use Rattle.shader_runs.specs.Program.{Function, function_numbered, Module}
-use Rattle.shader_runs.specs.ProgramRun.{run_call}
-use Rattle.shader_runs.specs.TextRun.{module_scope, word_use, follow_call}
+use Rattle.shader_runs.specs.Program.{Function, function_numbered, Module, ConstantTree, constant_count}
+use Rattle.shader_runs.specs.ProgramRun.{constant_value}
+use Rattle.shader_runs.specs.Constants.{global_values, environment_of, run_module, follow_module}
 use Rattle.shader_runs.specs.Scope.{ModuleNames, Naming}
 use Rattle.shader_runs.specs.Form.{form_module, functions_of}
 use Rattle.shader_runs.specs.Typing.{IsConsistent}
-use Rattle.shader_runs.specs.Premises.{IsTyped, AllFit, EnvironmentFits, ModuleNamesAreDistinct}
+use Rattle.shader_runs.specs.Premises.{IsTyped, AllFit, ConstantsFit, SettingsFit, EnvironmentFits, ModuleNamesAreDistinct}
 
 -- each answer of the world that the run asks for has its type
 abbrev pub KeepsTypes : {A : Type 0} → Reached A → Type 0
@@ -21,24 +21,45 @@ KeepsTypes (Halts x t) = Unit {0}
 pub record ModuleFits (p : Module) (n : ModuleNames) (fs : List Naming) : Type 0 where
   pub functions : functions_of fs ≡ p.functions
   pub distinct : ModuleNamesAreDistinct p n
+  pub constants : ConstantsFit p n
   pub all : AllFit p n fs
 
--- of every module whose scope holds, in every world that keeps the types, under all values of constants, overrides and arguments of their types,
--- every typed meaning and every bound on loop turns, a function or entry point makes by its text the module's events, with their operands,
--- ends as in the module and returns the same
+-- of every module whose scope holds, in every world that keeps the types, under all values of overrides and arguments
+-- of their types, every typed meaning and every bound on loop turns, a function or entry point makes by its text the
+-- module's events, with their operands, ends as in the module and returns the same. Each side computes its named
+-- constants from their initialisers
 abbrev pub RunsAlike : Type 0
 RunsAlike =
     (p : Module) (n : ModuleNames) (fs : List Naming) →
     ModuleFits p n fs →
-    (env : Environment) → EnvironmentFits p env →
+    (settings : Settings) → SettingsFit p settings →
     (m : Meaning) → IsTyped p m →
     (g : ℕ) (f : Function) → function_numbered p.functions g ≡ Some f →
     (vs : List Value) → IsTrue (has_types p.parts f.argument_types vs) →
     (w : World) (turns : ℕ) (t : List Event) →
-    KeepsTypes (run_call env w m turns p.functions g vs t) →
-    let text = form_module p n fs in
-    follow_call (module_scope text env) w m (word_use text.functions n.is_request) turns text.functions (n.function g) vs t
-    ≡ run_call env w m turns p.functions g vs t
+    KeepsTypes (run_module p settings w m turns g vs t) →
+    follow_module (form_module p n fs) settings w m n.is_request turns (n.function g) vs t
+    ≡ run_module p settings w m turns g vs t
+
+-- each named constant has the value of its initialiser over the values of all; the overrides behind them and the
+-- variables are as the caller chose
+pub record IsSolution (p : Module) (s : Settings) (m : Meaning) (env : Environment) : Type 0 where
+  pub initialisers : (i : ℕ) (e : ConstantTree) → slice_get p.initialisers i ≡ Some e →
+      slice_get env.constants i ≡ constant_value env m e
+  pub overrides : drop (constant_count p) env.constants ≡ s.overrides
+  pub globals : env.globals ≡ global_values p.global_types s.globals
+  pub parts : env.parts ≡ p.parts
+
+-- what a module computes for its named constants is what their initialisers say, and no other values are
+abbrev pub ConstantsAreComputed : Type 0
+ConstantsAreComputed =
+    (p : Module) (n : ModuleNames) → ConstantsFit p n →
+    (settings : Settings) → SettingsFit p settings →
+    (m : Meaning) → IsTyped p m →
+    let env = environment_of p settings m in
+    EnvironmentFits p env
+    × IsSolution p settings m env
+    × ((other : Environment) → IsSolution p settings m other → other ≡ env)
 
 -- the law above isn't empty: every module whose operators are typed consistently has a typed meaning
 abbrev pub HasTypedMeaning : Type 0
@@ -46,17 +67,17 @@ HasTypedMeaning = (p : Module) → IsConsistent p → (m : Meaning) × IsTyped p
 
 -- with each bound on loop turns, from each function and entry point with arguments of its types,
 -- each answer of this world that the run asks for has its type
-abbrev pub AlwaysKeepsTypes : Module → Environment → Meaning → World → Type 0
-AlwaysKeepsTypes p env m w =
+abbrev pub AlwaysKeepsTypes : Module → Settings → Meaning → World → Type 0
+AlwaysKeepsTypes p settings m w =
     (turns : ℕ) (g : ℕ) (f : Function) → function_numbered p.functions g ≡ Some f →
     (vs : List Value) → IsTrue (has_types p.parts f.argument_types vs) →
-    KeepsTypes (run_call env w m turns p.functions g vs [])
+    KeepsTypes (run_module p settings w m turns g vs [])
 
 -- nor is its premise on the world: one world keeps the types in all these runs
 abbrev pub HasTypedWorld : Type 0
 HasTypedWorld =
     (p : Module) (n : ModuleNames) (fs : List Naming) →
     ModuleFits p n fs →
-    (env : Environment) → EnvironmentFits p env →
+    (settings : Settings) → SettingsFit p settings →
     (m : Meaning) → IsTyped p m →
-    (w : World) × AlwaysKeepsTypes p env m w
+    (w : World) × AlwaysKeepsTypes p settings m w

@@ -1,9 +1,9 @@
 -- The abstract text that is written for a module.
 use Rattle.std.specs.Prelude.{ℕ, zero, suc, Bool, true, false, List, [], ◌∷◌, ◌++◌, length, Option, Some, None}
-use Rattle.shader_runs.specs.Value.{Bytes, Selector, MemberNamed, ValueType, PointerType, type_at, Truth}
-use Rattle.shader_runs.specs.Program.{ConstantTree, Fixed, NamedConstant, Constructed, ConstantTrees, no_constant, constant, Expression, Constant, Argument, Local, Global, Load, Operator, Access, AccessIndex, Logical, Swizzle, Request, Result, Action, Asked, Called, Label, Statement, Emit, Store, Block, If, Switch, Loop, Break, Continue, Return, Kill, Barrier, Act, Statements, end, then, Cases, no_case, case, Function, argument_count, local_pointer, expression_of, handle_type, binds, from, Module}
+use Rattle.shader_runs.specs.Value.{Bytes, Selector, MemberNamed, ValueType, PointerType, pointer_spelling, Truth}
+use Rattle.shader_runs.specs.Program.{ConstantTree, Fixed, NamedConstant, Constructed, ConstantTrees, no_constant, constant, Expression, Constant, Argument, Local, Global, Load, Operator, Access, AccessIndex, Logical, Swizzle, Request, Result, Action, Asked, Called, Label, Statement, Emit, Store, Block, If, Switch, Loop, Break, Continue, Return, Kill, Barrier, Act, Statements, end, then, Cases, no_case, case, Function, argument_count, local_pointer, expression_of, handle_type, binds, from, Module, constant_count, override_types}
 use Rattle.shader_runs.specs.ProgramRun.{barrier_words}
-use Rattle.shader_runs.specs.Text.{Tree, Name, LiteralOf, Apply, Deref, AddressOf, Index, PartOf, LogicalOf, Trees, no_more, more, Line, Let, Assign, Braces, IfElse, SwitchOn, LoopOf, BreakLine, ContinueLine, ReturnLine, DiscardLine, Perform, Lines, last, before, Groups, no_group, group, Variable, ModuleVariable, TextFunction, TextModule}
+use Rattle.shader_runs.specs.Text.{Tree, Name, LiteralOf, Apply, Deref, AddressOf, Index, PartOf, LogicalOf, Trees, no_more, more, Line, Let, Assign, Braces, IfElse, SwitchOn, LoopOf, BreakLine, ContinueLine, ReturnLine, DiscardLine, Perform, Lines, last, before, Groups, no_group, group, Variable, ModuleVariable, TextFunction, TextModule, TextConstant}
 use Rattle.shader_runs.specs.Scope.{Standing, Named, Handles, ModuleNames, Names, Naming, bound_name, after_one, given_after, given_by, given_by_all, after, after_all, at_start}
 
 -- a plain form, a value or a reference
@@ -189,21 +189,23 @@ abbrev pub functions_of : List Naming → List Function
 functions_of [] = []
 functions_of (f ∷ fs) = f.function ∷ functions_of fs
 
--- the spelling of a pointer's type; what is held and not stored has none
-abbrev pub pointer_spelling : ValueType → Bytes
-pointer_spelling (PointerType spelling) = spelling
-pointer_spelling _ = []
-
 -- the module-level variables from the index i on
 abbrev pub globals_from : (ℕ → Bytes) → ℕ → List ValueType → List ModuleVariable
 globals_from name i [] = []
 globals_from name i (k ∷ ks) = record { name = name i; pointer = pointer_spelling k } ∷ globals_from name (suc i) ks
 
+-- the named constants from the index i on, with their initialisers
+abbrev pub constants_from : ModuleNames → ℕ → List ConstantTree → List TextConstant
+constants_from n i [] = []
+constants_from n i (e ∷ es) =
+    record { name = n.constant i; initialiser = constant_form n e } ∷ constants_from n (suc i) es
+
 -- a module, whose functions have these names
 abbrev pub form_module : Module → ModuleNames → List Naming → TextModule
 form_module p n fs =
     record {
-      constants = names_from n.constant 0 (length p.constant_types);
+      constants = constants_from n 0 p.initialisers;
+      overrides = names_from n.constant (constant_count p) (length (override_types p));
       globals = globals_from n.global 0 p.global_types;
       functions = form_functions fs;
     }

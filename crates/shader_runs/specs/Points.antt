@@ -1,14 +1,15 @@
 -- The two facts that hold at each point that a run of a function passes.
 use Rattle.std.specs.Prelude.{◌≡◌, ℕ, zero, suc, false, List, ◌∷◌, ◌++◌, Some, IsTrue}
 use Rattle.shader_runs.specs.Value.{Bytes, Value, has_types}
-use Rattle.shader_runs.specs.World.{Event, entries, World, Meaning, Environment}
+use Rattle.shader_runs.specs.World.{Event, entries, World, Meaning, Environment, Settings}
 use Rattle.shader_runs.specs.Outcome.{Gives}
 use Rattle.shader_runs.specs.Program.{Statement, Emit, If, Switch, Loop, Statements, end, then, Cases, no_case, case, Function, from, Module}
 use Rattle.shader_runs.specs.ProgramRun.{Call, Kept, used, constants_kept, run_call}
-use Rattle.shader_runs.specs.TextRun.{IsValue, Scope, Words, value_of, with_parameters, with_variables, word_use, module_scope, follow_call}
+use Rattle.shader_runs.specs.TextRun.{IsValue, Scope, Words, value_of, with_parameters, with_variables, word_use, follow_call}
 use Rattle.shader_runs.specs.Scope.{Named, Handles, ModuleNames, Naming, usable, given_by, given_by_all, after, after_emit, after_all, at_start, given_after_all}
+use Rattle.shader_runs.specs.Constants.{environment_of, module_scope}
 use Rattle.shader_runs.specs.Form.{value_at, form_all, form_function, form_functions, form_module, functions_of}
-use Rattle.shader_runs.specs.Premises.{IsTyped, EnvironmentFits}
+use Rattle.shader_runs.specs.Premises.{IsTyped, SettingsFit}
 use Rattle.shader_runs.specs.Correct.{ModuleFits}
 use Rattle.shader_runs.specs.Passes.{Region, Reject, CaseBody, Continuing, BreakIf, Point, here, behind, inside, emitting, statements_in, statements_at, lines_behind, Passes, TextPasses, point_in_text, falls_at}
 
@@ -38,11 +39,11 @@ call_of env w m turns f fs vs t =
       calls = run_call env w m turns (functions_of fs);
     }
 
--- what words do in its text, where these are all functions of the module
+-- what words do in its text, inside these module-level names, where these are all functions of the module
 abbrev pub words_of :
-    Module → ModuleNames → List Naming → Environment → World → Meaning → ℕ → List Naming → Words
-words_of p n all env w m turns fs =
-    let outer = module_scope (form_module p n fs) env in
+    (outer : Scope) → ModuleNames → (all : List Naming) → World → Meaning → (turns : ℕ) → List Naming →
+    Words
+words_of outer n all w m turns fs =
     let uses = word_use (form_functions all) n.is_request in
     record {
       world = w;
@@ -51,10 +52,8 @@ words_of p n all env w m turns fs =
     }
 
 -- the names that its text starts with
-abbrev pub names_of :
-    Module → ModuleNames → Environment → Naming → List Naming → List Value → List Event → Scope
-names_of p n env f fs vs t =
-    let outer = module_scope (form_module p n fs) env in
+abbrev pub names_of : (outer : Scope) → Naming → List Value → List Event → Scope
+names_of outer f vs t =
     let text = form_function f in
     with_variables text.variables (entries t) 0 (with_parameters text.parameters vs outer)
 
@@ -117,13 +116,16 @@ abbrev pub PointsAgree : Type 0
 PointsAgree =
     (p : Module) (n : ModuleNames) (later : List Naming) (f : Naming) (fs : List Naming) →
     ModuleFits p n (later ++ (f ∷ fs)) →
-    (env : Environment) → EnvironmentFits p env →
+    (settings : Settings) → SettingsFit p settings →
     (m : Meaning) → IsTyped p m →
     (vs : List Value) → IsTrue (has_types p.parts f.function.argument_types vs) →
     (w : World) (turns : ℕ) (before_entry t : List Event) →
+    let all = later ++ (f ∷ fs) in
+    let env = environment_of p settings m in
+    let outer = module_scope (form_module p n all) settings w m n.is_request in
     let c = call_of env w m turns f fs vs before_entry in
-    let l = words_of p n (later ++ (f ∷ fs)) env w m turns fs in
-    let first_names = names_of p n env f fs vs before_entry in
+    let l = words_of outer n all w m turns fs in
+    let first_names = names_of outer f vs before_entry in
     let body = f.function.body in
     let start = at_start f.function in
     (q : Point) (kept : Kept) (t1 : List Event) →

@@ -1,9 +1,10 @@
 -- What is asked of a module, of its names, of the environment and of the meaning.
-use Rattle.std.specs.Prelude.{◌≡◌, ◌≢◌, ℕ, ◌<◌, Bool, true, false, List, [], ◌∷◌, length, Option, Some, None, ◌&&◌, IsTrue}
+use Rattle.std.specs.Prelude.{◌≡◌, ◌≢◌, ℕ, ◌<◌, Bool, true, false, List, [], ◌∷◌, length, Option, Some, None, ◌&&◌, IsTrue, ◌≤◌, slice_get}
 use Rattle.shader_runs.specs.Value.{Bytes, same_bytes, PartTypes, ValueType, BooleanType, IntegerType, PointerType, OtherType, type_at, Value, Truth, Whole, Pointer, Opaque, has_type, has_types, Spelled}
-use Rattle.shader_runs.specs.World.{Environment, GlobalValue, Stored, Held, Meaning}
-use Rattle.shader_runs.specs.Program.{ConstantTree, Fixed, NamedConstant, Constructed, ConstantTrees, no_constant, constant, Expression, Constant, Argument, Local, Global, Operator, Swizzle, Request, Result, Action, Asked, Called, Statement, Block, If, Switch, Loop, Return, Barrier, Act, Statements, end, then, Cases, no_case, case, Function, argument_count, local_count, local_pointer, function_numbered, expression_of, handle_type, operands_of, Module}
+use Rattle.shader_runs.specs.World.{Environment, GlobalValue, Stored, Held, Meaning, Settings}
+use Rattle.shader_runs.specs.Program.{ConstantTree, Fixed, NamedConstant, Constructed, ConstantTrees, no_constant, constant, Expression, Constant, Argument, Local, Global, Operator, Swizzle, Request, Result, Action, Asked, Called, Statement, Block, If, Switch, Loop, Return, Barrier, Act, Statements, end, then, Cases, no_case, case, Function, argument_count, local_count, local_pointer, function_numbered, expression_of, handle_type, operands_of, Module, constant_count, override_types}
 use Rattle.shader_runs.specs.ProgramRun.{combined, barrier_words}
+use Rattle.shader_runs.specs.Constants.{global_values}
 use Rattle.shader_runs.specs.Scope.{ModuleNames, Names, Naming, is_pure, given_by_all, fits_function}
 use Rattle.shader_runs.specs.Form.{functions_of}
 
@@ -63,14 +64,23 @@ abbrev pub OperatesBy : Module → Naming → Bytes → Type 0
 OperatesBy p f w = (f.names.outer.is_request w ≡ false) × StandsFree p f w
 
 abbrev mutual
-  pub ConstantWords : Module → Naming → ConstantTree → Type 0
-  ConstantWords p f (Fixed v) = Unit {0}
-  ConstantWords p f (NamedConstant i) = Unit {0}
-  ConstantWords p f (Constructed w ty es) = OperatesBy p f w × ConstantsWords p f es
+  -- each word of a tree over constants alone
+  pub EachWord : (Bytes → Type 0) → ConstantTree → Type 0
+  EachWord P (Fixed v) = Unit {0}
+  EachWord P (NamedConstant i) = Unit {0}
+  EachWord P (Constructed w ty es) = P w × EachWordOf P es
 
-  pub ConstantsWords : Module → Naming → ConstantTrees → Type 0
-  ConstantsWords p f no_constant = Unit {0}
-  ConstantsWords p f (constant e es) = ConstantWords p f e × ConstantsWords p f es
+  pub EachWordOf : (Bytes → Type 0) → ConstantTrees → Type 0
+  EachWordOf P no_constant = Unit {0}
+  EachWordOf P (constant e es) = EachWord P e × EachWordOf P es
+
+-- the words of a tree in a function
+abbrev pub ConstantWords : Module → Naming → ConstantTree → Type 0
+ConstantWords p f e = EachWord (OperatesBy p f) e
+
+-- the words of several
+abbrev pub ConstantsWords : Module → Naming → ConstantTrees → Type 0
+ConstantsWords p f es = EachWordOf (OperatesBy p f) es
 
 -- the words of an expression
 abbrev pub WordFits : Module → Naming → Option Expression → Type 0
@@ -177,15 +187,23 @@ abbrev mutual
   constant_types_of p (constant e es) = constant_type p e ∷ constant_types_of p es
 
 abbrev mutual
-  -- named constants lie in the module's list, and literals are no pointers
-  pub ConstantInRange : Module → ConstantTree → Type 0
-  ConstantInRange p (Fixed v) = IsLiteral v
-  ConstantInRange p (NamedConstant i) = i < length p.constant_types
-  ConstantInRange p (Constructed w ty es) = ConstantsInRange p es
+  -- each literal of a tree, and each named constant and override
+  pub EachLeaf : (Value → Type 0) → (ℕ → Type 0) → ConstantTree → Type 0
+  EachLeaf L P (Fixed v) = L v
+  EachLeaf L P (NamedConstant i) = P i
+  EachLeaf L P (Constructed w ty es) = EachLeafOf L P es
 
-  pub ConstantsInRange : Module → ConstantTrees → Type 0
-  ConstantsInRange p no_constant = Unit {0}
-  ConstantsInRange p (constant e es) = ConstantInRange p e × ConstantsInRange p es
+  pub EachLeafOf : (Value → Type 0) → (ℕ → Type 0) → ConstantTrees → Type 0
+  EachLeafOf L P no_constant = Unit {0}
+  EachLeafOf L P (constant e es) = EachLeaf L P e × EachLeafOf L P es
+
+-- named constants lie in the module's list, and literals are no pointers
+abbrev pub ConstantInRange : Module → ConstantTree → Type 0
+ConstantInRange p e = EachLeaf IsLiteral (λ i. i < length p.constant_types) e
+
+-- those of several trees
+abbrev pub ConstantsInRange : Module → ConstantTrees → Type 0
+ConstantsInRange p es = EachLeafOf IsLiteral (λ i. i < length p.constant_types) es
 
 -- a value that is no pointer
 abbrev pub IsNoPointer : ValueType → Type 0
@@ -234,8 +252,10 @@ AllTypedIn parts p m [] = Unit {0}
 AllTypedIn parts p m (f ∷ fs) = IsTypedIn parts p m f × AllTypedIn parts p m fs
 
 -- a typed meaning of a module
-abbrev pub IsTyped : Module → Meaning → Type 0
-IsTyped p m = AllTypedIn p.parts p m p.functions
+pub record IsTyped (p : Module) (m : Meaning) : Type 0 where
+  pub functions : AllTypedIn p.parts p m p.functions
+  pub initialisers : (i : ℕ) (e : ConstantTree) → slice_get p.initialisers i ≡ Some e →
+      ConstantTyped p.parts p m e
 
 -- no two of a function's names are equal
 abbrev pub AreDistinct : Module → Naming → Type 0
@@ -258,6 +278,30 @@ abbrev pub AllFit : Module → ModuleNames → List Naming → Type 0
 AllFit p n [] = Unit {0}
 AllFit p n (f ∷ fs) = FunctionFits p n (functions_of fs) f × AllFit p n fs
 
+-- an operator's word that no item of the module hides
+pub record OperatesOutside (p : Module) (n : ModuleNames) (w : Bytes) : Type 0 where
+  pub asks_nothing : n.is_request w ≡ false
+  pub functions : (g : ℕ) → g < length p.functions → n.function g ≢ w
+  pub constants : (i : ℕ) → i < length p.constant_types → n.constant i ≢ w
+  pub globals : (i : ℕ) → i < length p.global_types → n.global i ≢ w
+
+-- the initialiser of the constant i has its type, its words are operators, and each named constant in it has a
+-- smaller rank than i
+pub record InitialiserFits (p : Module) (n : ModuleNames) (rank : ℕ → ℕ) (i : ℕ) (e : ConstantTree) : Type 0 where
+  pub range : ConstantInRange p e
+  pub type : type_at p.constant_types i ≡ constant_type p e
+  pub words : EachWord (OperatesOutside p n) e
+  pub before : EachLeaf (λ v. Unit {0}) (λ k. k < constant_count p → rank k < rank i) e
+
+-- the named constants, in whatever order they are declared. As each has a rank, none leads back to itself
+pub record ConstantsFit (p : Module) (n : ModuleNames) : Type 0 where
+  pub counted : constant_count p ≤ length p.constant_types
+  pub rank : ℕ → ℕ
+  pub initialisers : (i : ℕ) (e : ConstantTree) → slice_get p.initialisers i ≡ Some e →
+      InitialiserFits p n rank i e
+  pub distinct : (i k : ℕ) → i < length p.constant_types → k < length p.constant_types →
+      n.constant i ≡ n.constant k → i ≡ k
+
 -- what the variables' names stand for
 abbrev pub global_has_type : PartTypes → ValueType → GlobalValue → Bool
 global_has_type parts (PointerType spelling) (Stored pointer) = same_bytes spelling pointer
@@ -271,6 +315,13 @@ globals_have_types parts [] [] = true
 globals_have_types parts [] (g ∷ gs) = false
 globals_have_types parts (t ∷ ts) [] = false
 globals_have_types parts (t ∷ ts) (g ∷ gs) = global_has_type parts t g && globals_have_types parts ts gs
+
+-- the overrides and variables have their types
+pub record SettingsFit (p : Module) (s : Settings) : Type 0 where
+  pub overrides : IsTrue (has_types p.parts (override_types p) s.overrides)
+  pub counted : length s.globals ≡ length p.global_types
+  pub globals :
+      IsTrue (globals_have_types p.parts p.global_types (global_values p.global_types s.globals))
 
 -- the constants, overrides and variables have their types, and types have the module's parts
 pub record EnvironmentFits (p : Module) (env : Environment) : Type 0 where

@@ -1,5 +1,5 @@
 -- A module as shapes: expressions in a list, statements that name them by their index.
-use Rattle.std.specs.Prelude.{ℕ, zero, suc, ℤ, Bool, true, false, cond, ◌-◌, ◌^◌, List, [], ◌∷◌, length, Option, Some, None, ◌||◌, nat_eq, nat_le, get_or, slice_get}
+use Rattle.std.specs.Prelude.{ℕ, zero, suc, ℤ, Bool, true, false, cond, ◌-◌, ◌^◌, List, [], ◌∷◌, length, Option, Some, None, ◌||◌, nat_eq, nat_le, get_or, slice_get, drop}
 use Rattle.shader_runs.specs.Value.{Bytes, PartTypes, Selector, Value, ValueType, type_at, ShortCircuit}
 
 mutual
@@ -185,10 +185,20 @@ abbrev mutual
   some_case_continues no_case = false
   some_case_continues (case l b falls cs) = any_continue b || some_case_continues cs
 
--- a module: the types of its named constants and overrides and of what its variables' names stand for, how pointers to parts
--- of its types are spelled, and its functions, then its entry points, in their order, the last one first
+-- a module: the types of its named constants and, behind them, of its overrides; the initialisers of the named constants;
+-- the types of what its variables' names stand for; how pointers to parts of its types are spelled; and its functions, then
+-- its entry points, in their order, the last one first
 pub record Module : Type 0 where
   pub constant_types : List ValueType
+  pub initialisers : List ConstantTree
   pub global_types : List ValueType
   pub parts : PartTypes
   pub functions : List Function
+
+-- how many named constants it has
+abbrev pub constant_count : Module → ℕ
+constant_count p = length p.initialisers
+
+-- the types of its overrides
+abbrev pub override_types : Module → List ValueType
+override_types p = drop (constant_count p) p.constant_types

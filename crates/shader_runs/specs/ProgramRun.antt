@@ -32,15 +32,23 @@ applied m w None = None
 applied m w (Some vs) = Some (m w vs)
 
 abbrev mutual
-  -- the value of a tree over constants alone
-  pub constant_value : Environment → Meaning → ConstantTree → Option Value
-  constant_value env m (Fixed v) = Some v
-  constant_value env m (NamedConstant i) = slice_get env.constants i
-  constant_value env m (Constructed w ty es) = applied m (Spelled w) (constant_values env m es)
+  -- the value of a tree over constants alone, by what is known of the named ones
+  pub tree_value : (ℕ → Option Value) → Meaning → ConstantTree → Option Value
+  tree_value known m (Fixed v) = Some v
+  tree_value known m (NamedConstant i) = known i
+  tree_value known m (Constructed w ty es) = applied m (Spelled w) (tree_values known m es)
 
-  pub constant_values : Environment → Meaning → ConstantTrees → Option (List Value)
-  constant_values env m no_constant = Some []
-  constant_values env m (constant e es) = also (constant_value env m e) (constant_values env m es)
+  pub tree_values : (ℕ → Option Value) → Meaning → ConstantTrees → Option (List Value)
+  tree_values known m no_constant = Some []
+  tree_values known m (constant e es) = also (tree_value known m e) (tree_values known m es)
+
+-- its value where all are known
+abbrev pub constant_value : Environment → Meaning → ConstantTree → Option Value
+constant_value env m e = tree_value (slice_get env.constants) m e
+
+-- the values of several
+abbrev pub constant_values : Environment → Meaning → ConstantTrees → Option (List Value)
+constant_values env m es = tree_values (slice_get env.constants) m es
 
 -- what a module-level variable's name gives: a pointer to it, or the value itself
 abbrev pub global_value : ℕ → Option GlobalValue → Option Value

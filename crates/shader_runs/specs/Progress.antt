@@ -1,14 +1,13 @@
 -- The law of progress: a call isn't stuck, neither in the module nor in its text.
 use Rattle.std.specs.Prelude.{◌≡◌, ℕ, Bool, true, false, List, [], ◌∷◌, Option, Some, None, IsTrue}
 use Rattle.shader_runs.specs.Value.{ValueType, BooleanType, IntegerType, PointerType, Value, has_types}
-use Rattle.shader_runs.specs.World.{World, Meaning, Event, Environment}
+use Rattle.shader_runs.specs.World.{World, Meaning, Event, Settings}
 use Rattle.shader_runs.specs.Outcome.{Stop, Stuck, Reached, Gives, Halts}
 use Rattle.shader_runs.specs.Program.{Expression, Load, Statement, Store, Block, If, Switch, Loop, Break, Continue, Statements, end, then, Cases, no_case, case, Function, function_numbered, expression_of, handle_type, Module}
-use Rattle.shader_runs.specs.ProgramRun.{run_call}
-use Rattle.shader_runs.specs.TextRun.{module_scope, word_use, follow_call}
+use Rattle.shader_runs.specs.Constants.{run_module, follow_module}
 use Rattle.shader_runs.specs.Scope.{ModuleNames, Naming}
 use Rattle.shader_runs.specs.Form.{form_module}
-use Rattle.shader_runs.specs.Premises.{IsTyped, EnvironmentFits}
+use Rattle.shader_runs.specs.Premises.{IsTyped, SettingsFit}
 use Rattle.shader_runs.specs.Correct.{KeepsTypes, ModuleFits}
 
 -- the type of a pointer
@@ -91,12 +90,12 @@ RunsAreNotStuck =
     (p : Module) (n : ModuleNames) (fs : List Naming) →
     ModuleFits p n fs →
     AllWellFormed p.functions →
-    (env : Environment) → EnvironmentFits p env →
+    (settings : Settings) → SettingsFit p settings →
     (m : Meaning) → IsTyped p m →
     (g : ℕ) (f : Function) → function_numbered p.functions g ≡ Some f →
     (vs : List Value) → IsTrue (has_types p.parts f.argument_types vs) →
     (w : World) (turns : ℕ) (t : List Event) →
-    let module_run = run_call env w m turns p.functions g vs t in
+    let module_run = run_module p settings w m turns g vs t in
     let text = form_module p n fs in
-    let text_run = follow_call (module_scope text env) w m (word_use text.functions n.is_request) turns text.functions (n.function g) vs t in
+    let text_run = follow_module text settings w m n.is_request turns (n.function g) vs t in
     IsNotStuck module_run × (KeepsTypes module_run → IsNotStuck text_run)

@@ -1,10 +1,11 @@
 -- The law of results: where functions return what they promise, no call misses a result.
 use Rattle.std.specs.Prelude.{◌≡◌, ℕ, Bool, true, false, not, is_some, List, [], ◌∷◌, Option, Some, None, ◌&&◌, ◌||◌, IsTrue}
 use Rattle.shader_runs.specs.Value.{ValueType, Value}
-use Rattle.shader_runs.specs.World.{World, Meaning, Event, Environment}
+use Rattle.shader_runs.specs.World.{World, Meaning, Event, Settings}
 use Rattle.shader_runs.specs.Outcome.{Stop, Unreturned, Reached, Gives, Halts}
 use Rattle.shader_runs.specs.Program.{Default, Statement, Block, If, Switch, Loop, Break, Continue, Return, Kill, Statements, end, then, Cases, no_case, case, Function, function_numbered, Module}
-use Rattle.shader_runs.specs.ProgramRun.{has_label, run_call}
+use Rattle.shader_runs.specs.ProgramRun.{has_label}
+use Rattle.shader_runs.specs.Constants.{run_module}
 use Rattle.shader_runs.specs.Scope.{ModuleNames, Naming}
 use Rattle.shader_runs.specs.Correct.{ModuleFits}
 
@@ -91,7 +92,7 @@ ResultsAreReturned =
     (p : Module) (n : ModuleNames) (fs : List Naming) →
     ModuleFits p n fs →
     AllGiveResults p.functions →
-    (env : Environment) (m : Meaning) (g : ℕ) (f : Function) →
+    (settings : Settings) (m : Meaning) (g : ℕ) (f : Function) →
     function_numbered p.functions g ≡ Some f →
     (vs : List Value) (w : World) (turns : ℕ) (t : List Event) →
-    IsComplete f.result (run_call env w m turns p.functions g vs t)
+    IsComplete f.result (run_module p settings w m turns g vs t)

@@ -1,14 +1,13 @@
 -- Worked functions: each with its text, and what both runs of it do in one world. Then texts that other writers would give, which do something else.
 use Rattle.std.specs.Prelude.{◌≡◌, ℕ, ◌+◌, ◌*◌, pos, Bool, true, false, cond, List, [], ◌∷◌, ◌++◌, Option, Some, None, ◌&&◌, ◌||◌, nat_eq, get_or, IsTrue, codes}
 use Rattle.shader_runs.specs.Value.{Bytes, PartTypes, same_bytes, same_integer, MemberNamed, ElementAt, step_of, At, Field, Rooted, GlobalRoot, LocalRoot, Part, Place, ValueType, BooleanType, IntegerType, PointerType, Value, Truth, Whole, Pointer, Spelled}
-use Rattle.shader_runs.specs.World.{Event, Entry, Ask, Read, Write, Discard, World, Meaning, Environment, Stored}
+use Rattle.shader_runs.specs.World.{Event, Entry, Ask, Read, Write, Discard, World, Meaning, Settings}
 use Rattle.shader_runs.specs.Outcome.{Reached, Gives, Halts, Stuck, Unreturned, OutOfTurns}
 use Rattle.shader_runs.specs.Program.{Fixed, NamedConstant, Module, Expression, Constant, Argument, Local, Global, Load, Operator, Access, AccessIndex, Result, Called, Numbered, Default, Statements, Emit, Store, If, Switch, Loop, Break, Continue, Return, Act, Barrier, end, then, no_case, case, Function}
-use Rattle.shader_runs.specs.ProgramRun.{run_call}
 use Rattle.shader_runs.specs.Text.{Tree, Name, LiteralOf, Apply, Deref, AddressOf, Index, PartOf, no_more, more, Let, Assign, IfElse, SwitchOn, LoopOf, ContinueLine, ReturnLine, Perform, Lines, last, before, no_group, group, Variable, TextFunction, TextModule}
-use Rattle.shader_runs.specs.TextRun.{module_scope, word_use, follow_call}
+use Rattle.shader_runs.specs.Constants.{run_module, follow_module}
 use Rattle.shader_runs.specs.Scope.{ModuleNames, Naming, fits_function}
-use Rattle.shader_runs.specs.Premises.{EnvironmentFits}
+use Rattle.shader_runs.specs.Premises.{SettingsFit}
 use Rattle.shader_runs.specs.Typing.{IsConsistent}
 use Rattle.shader_runs.specs.Correct.{ModuleFits}
 use Rattle.shader_runs.specs.Progress.{AllWellFormed}
@@ -75,9 +74,20 @@ row_asks w = same_bytes w (codes "storageBarrier") || same_bytes w (codes "textu
 abbrev pub no_parts : PartTypes
 no_parts whole step = []
 
--- no constant and no variable
-abbrev pub nothing : Environment
-nothing = record { constants = []; globals = []; parts = no_parts }
+-- no override and no variable
+abbrev pub nothing : Settings
+nothing = record { overrides = []; globals = [] }
+
+-- a module of functions alone
+abbrev pub functions_alone : List Function → Module
+functions_alone fs =
+    record {
+      constant_types = [];
+      initialisers = [];
+      global_types = [];
+      parts = no_parts;
+      functions = fs;
+    }
 
 -- `_e` and a digit
 abbrev pub numbered_name : ℕ → Bytes
@@ -121,19 +131,21 @@ all_fit [] = true
 all_fit (f ∷ fs) = fits_function f && all_fit fs
 
 -- the run of this text, from a function by its name
-abbrev pub follow_text : Environment → TextModule → Bytes → List Value → Reached (Option Value)
-follow_text env text name vs =
-    follow_call (module_scope text env) row_world row_meaning (word_use text.functions row_asks) 3 text.functions name vs []
+abbrev pub follow_text : Settings → TextModule → Bytes → List Value → Reached (Option Value)
+follow_text settings text name vs =
+    follow_module text settings row_world row_meaning row_asks 3 name vs []
 
 -- the run of functions alone
 abbrev pub follow_row : List TextFunction → Bytes → List Value → Reached (Option Value)
-follow_row texts = follow_text nothing (record { constants = []; globals = []; functions = texts })
+follow_row texts =
+    follow_text nothing (record { constants = []; overrides = []; globals = []; functions = texts })
 
 -- a module's functions, last first, with their texts, and how the last one runs
 pub record IsShown (fs : List Naming) (texts : List TextFunction) (g : ℕ) (name : Bytes) (vs : List Value) (result : Reached (Option Value)) : Type 0 where
   pub fits : IsTrue (all_fit fs)
   pub text : form_functions fs ≡ texts
-  pub module_run : run_call nothing row_world row_meaning 3 (functions_of fs) g vs [] ≡ result
+  pub module_run :
+      run_module (functions_alone (functions_of fs)) nothing row_world row_meaning 3 g vs [] ≡ result
   pub text_run : follow_row texts name vs ≡ result
 
 -- a local without a first value
@@ -359,7 +371,8 @@ UnreturnedRow =
 -- the run of this body is stuck where it starts
 abbrev pub IsStuck : Statements → Type 0
 IsStuck body =
-    run_call nothing row_world row_meaning 3 (body_of (literal 1) None body ∷ []) 0 [] [] ≡ Halts Stuck (entered_with [] [])
+    let alone = functions_alone (body_of (literal 1) None body ∷ []) in
+    run_module alone nothing row_world row_meaning 3 0 [] [] ≡ Halts Stuck (entered_with [] [])
 
 -- bodies that aren't well-formed
 pub record AreStuck : Type 0 where
@@ -477,10 +490,9 @@ places_function =
       body = then (Emit 3 1) (then (Store 3 2) (then (Emit 4 2) (then (Return (Some 5)) end)));
     }
 
--- the constant is 5
-abbrev pub places_environment : Environment
-places_environment =
-    record { constants = number 5 ∷ []; globals = Stored private_vector ∷ []; parts = vector_parts }
+-- the variable is stored
+abbrev pub places_settings : Settings
+places_settings = record { overrides = []; globals = None ∷ [] }
 
 -- its names
 abbrev pub places_naming : Naming
@@ -507,6 +519,7 @@ abbrev pub places_module : Module
 places_module =
     record {
       constant_types = i32 ∷ [];
+      initialisers = Fixed (number 5) ∷ [];
       global_types = PointerType private_vector ∷ [];
       parts = vector_parts;
       functions = places_function ∷ [];
@@ -516,7 +529,8 @@ places_module =
 abbrev pub places_text : TextModule
 places_text =
     record {
-      constants = codes "N" ∷ [];
+      constants = record { name = codes "N"; initialiser = LiteralOf (number 5) } ∷ [];
+      overrides = [];
       globals = record { name = codes "v"; pointer = private_vector } ∷ [];
       functions = text_of (codes "h") (codes "i" ∷ []) [] (before (Assign (PartOf (MemberNamed (codes "x")) (Name (codes "v"))) (Name (codes "N"))) (before (Let (numbered_name 5) (Index (Name (codes "v")) (Name (codes "i")))) (before (ReturnLine (Some (named_by 5))) last))) ∷ [];
     }
@@ -534,8 +548,10 @@ places_result =
 pub record PlacesRow : Type 0 where
   pub fits : IsTrue (fits_function places_naming)
   pub text : form_module places_module places_naming.names.outer (places_naming ∷ []) ≡ places_text
-  pub module_run : run_call places_environment row_world row_meaning 3 places_module.functions 0 (number 0 ∷ []) [] ≡ places_result
-  pub text_run : follow_text places_environment places_text (codes "h") (number 0 ∷ []) ≡ places_result
+  pub module_run :
+      run_module places_module places_settings row_world row_meaning 3 0 (number 0 ∷ []) []
+      ≡ places_result
+  pub text_run : follow_text places_settings places_text (codes "h") (number 0 ∷ []) ≡ places_result
 
 -- [continue]: `continuing` uses a sum that a `continue` may skip
 abbrev pub continue_function : Function
@@ -599,12 +615,12 @@ store_naming = with_names (codes "g" ∷ []) 0 [] (codes "a" ∷ []) [] store_fu
 
 -- its module
 abbrev pub store_module : Module
-store_module = record { constant_types = []; global_types = []; parts = no_parts; functions = store_function ∷ [] }
+store_module = functions_alone (store_function ∷ [])
 
 -- all premises
 pub record PremisesHold : Type 0 where
   pub fits : ModuleFits store_module store_naming.names.outer (store_naming ∷ [])
-  pub environment : EnvironmentFits store_module nothing
+  pub settings : SettingsFit store_module nothing
   pub consistent : IsConsistent store_module
   pub well_formed : AllWellFormed store_module.functions
   pub results : AllGiveResults store_module.functions

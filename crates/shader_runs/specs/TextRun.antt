@@ -1,11 +1,11 @@
 -- A text's run: each expression is evaluated anew where it stands, and names are looked up.
 use Rattle.std.specs.Prelude.{ℕ, suc, Bool, true, false, cond, nat_eq, List, [], ◌∷◌, length, Option, Some, None, ◌||◌}
 use Rattle.shader_runs.specs.Value.{Bytes, same_bytes, Place, Rooted, GlobalRoot, LocalRoot, Part, At, Selector, step_of, Value, Truth, Whole, Pointer, Opaque, Spelled, PartWord, IndexWord, ShortCircuit}
-use Rattle.shader_runs.specs.World.{Event, Entry, Ask, Read, Write, Discard, entries, World, Meaning, GlobalValue, Stored, Held, Environment, bind}
+use Rattle.shader_runs.specs.World.{Event, Entry, Ask, Read, Write, Discard, entries, World, Meaning, bind}
 use Rattle.shader_runs.specs.Outcome.{Stuck, Unreturned, Discarded, Outcome, Done, Continued, Broke, Returned, Stopped, Reached, Gives, Halts, answer, Next, and_then, turn, turns, after_switch, chosen, with_integer, closed, closed_if}
 use Rattle.shader_runs.specs.Program.{Label, Numbered}
 use Rattle.shader_runs.specs.ProgramRun.{called, decides, undecided, same_label, label_if}
-use Rattle.shader_runs.specs.Text.{Tree, Name, LiteralOf, Apply, Deref, AddressOf, Index, PartOf, LogicalOf, Trees, no_more, more, Line, Let, Assign, Braces, IfElse, SwitchOn, LoopOf, BreakLine, ContinueLine, ReturnLine, DiscardLine, Perform, Lines, last, before, Groups, no_group, group, Variable, ModuleVariable, TextFunction, TextModule}
+use Rattle.shader_runs.specs.Text.{Tree, Name, LiteralOf, Apply, Deref, AddressOf, Index, PartOf, LogicalOf, Trees, no_more, more, Line, Let, Assign, Braces, IfElse, SwitchOn, LoopOf, BreakLine, ContinueLine, ReturnLine, DiscardLine, Perform, Lines, last, before, Groups, no_group, group, Variable, ModuleVariable, TextFunction}
 
 -- what an expression stands for: a value, or a reference, the place of a variable or of a part of one
 pub data Denoted : Type 0 where
@@ -243,13 +243,13 @@ abbrev pub with_variables : List Variable → (entries index : ℕ) → Scope �
 with_variables [] k i names = names
 with_variables (x ∷ xs) k i names = with_variables xs k (suc i) (with_variable x k i names)
 
--- what a module-level variable's name stands for: a place of the declared type, or a value
-abbrev pub global_denoted : (pointer : Bytes) → ℕ → GlobalValue → Denoted
-global_denoted pointer i (Stored s) = IsPlace (Rooted (GlobalRoot pointer i))
-global_denoted pointer i (Held v) = IsValue v
+-- what a module-level variable's name stands for: the value that is held, or a place of the declared type
+abbrev pub global_denoted : (pointer : Bytes) → ℕ → Option Value → Denoted
+global_denoted pointer i None = IsPlace (Rooted (GlobalRoot pointer i))
+global_denoted pointer i (Some v) = IsValue v
 
 -- module-level variables with their places or values
-abbrev pub with_globals : List ModuleVariable → List GlobalValue → ℕ → Scope → Scope
+abbrev pub with_globals : List ModuleVariable → List (Option Value) → ℕ → Scope → Scope
 with_globals [] gs i names = names
 with_globals (x ∷ xs) [] i names = names
 with_globals (x ∷ xs) (g ∷ gs) i names = bind (with_globals xs gs (suc i) names) x.name (Some (global_denoted x.pointer i g))
@@ -257,10 +257,6 @@ with_globals (x ∷ xs) (g ∷ gs) i names = bind (with_globals xs gs (suc i) na
 -- nothing is in scope
 abbrev pub no_names : Scope
 no_names x = None
-
--- the names of a module: its constants and overrides, and its variables
-abbrev pub module_scope : TextModule → Environment → Scope
-module_scope text env = with_parameters text.constants env.constants (with_globals text.globals env.globals 0 no_names)
 
 -- what a word before operands is, wherever no variable hides it: the name of a function of the module, a word that asks for an event, or an operator
 pub data WordUse : Type 0 where

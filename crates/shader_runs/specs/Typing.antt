@@ -37,13 +37,12 @@ pub data IsOneOf (x : Signature) : List Signature → Type 0 where
   first_of : {xs : List Signature} → IsOneOf x (x ∷ xs)
   later_of : {y : Signature} {xs : List Signature} → IsOneOf x xs → IsOneOf x (y ∷ xs)
 
--- a function of the module has an expression that spells it
-pub record IsSpelled (p : Module) (x : Signature) : Type 0 where
-  pub place : ℕ
-  pub function : Function
-  pub there : slice_get p.functions place ≡ Some function
-  pub handle : ℕ
-  pub among : IsOneOf x (signatures_of p function (handle_type function handle) (expression_of function handle))
+-- the module spells it: in an expression of a function, or in the initialiser of a named constant
+pub data IsSpelled (p : Module) (x : Signature) : Type 0 where
+  in_function : (place : ℕ) (f : Function) → slice_get p.functions place ≡ Some f →
+      (h : ℕ) → IsOneOf x (signatures_of p f (handle_type f h) (expression_of f h)) → IsSpelled p x
+  in_initialiser : (i : ℕ) (e : ConstantTree) → slice_get p.initialisers i ≡ Some e →
+      IsOneOf x (constant_signatures p e) → IsSpelled p x
 
 -- an integer's index through a pointer gives a pointer to the part, which is of one type whatever the index is
 abbrev pub AccessFits : PartTypes → (base index result : ValueType) → Type 0

@@ -1,13 +1,14 @@
 //! The run of a module, the run of the text that is written for it, and why they agree.
 #![tactic(auto)]
 
-ghost use Rattle.shader_runs.specs.Correct.{RunsAlike, HasTypedMeaning, HasTypedWorld};
+ghost use Rattle.shader_runs.specs.Correct.{RunsAlike, HasTypedMeaning, HasTypedWorld, ConstantsAreComputed};
 ghost use Rattle.shader_runs.specs.Ends.{EndsArePassed};
 ghost use Rattle.shader_runs.specs.Points.{PointsAgree};
 ghost use Rattle.shader_runs.specs.Progress.{RunsAreNotStuck};
 ghost use Rattle.shader_runs.specs.Results.{ResultsAreReturned};
 ghost use Rattle.shader_runs.specs.Rows.{RowsHold};
 ghost use Rattle.shader_runs.specs.ScopeRules.{ScopeCheckIsTheRules};
+ghost use Rattle.shader_runs.specs.ConstantRows.{ConstantRowsHold};
 
 /// A module's functions and entry points and their texts make the same events and end alike.
 pub fn runs_alike()
@@ -42,6 +43,11 @@ pub fn ends_are_passed()
     ensures { EndsArePassed }
 {}
 
+/// What a module computes for its named constants are the values of their initialisers.
+pub fn constants_are_computed()
+    ensures { ConstantsAreComputed }
+{}
+
 /// What the first law asks of the meaning can be met.
 pub fn has_typed_meaning()
     ensures { HasTypedMeaning }
@@ -55,4 +61,9 @@ pub fn has_typed_world()
 /// The worked functions run as they are said to, and the texts of other writers do something else.
 pub fn rows_hold()
     ensures { RowsHold }
+{}
+
+/// A worked module with named constants and an override, and texts with other initialisers.
+pub fn constant_rows_hold()
+    ensures { ConstantRowsHold }
 {}

@@ -1,0 +1,143 @@
+-- A module with named constants and an override: what both sides compute, and what texts with other initialisers do.
+use Rattle.std.specs.Prelude.{◌≡◌, ℕ, ◌+◌, ◌*◌, pos, cond, [], ◌∷◌, get_or, Option, Some, None, codes}
+use Rattle.shader_runs.specs.Value.{Bytes, same_bytes, OtherType, PointerType, Value, Whole, Opaque, Spelled}
+use Rattle.shader_runs.specs.World.{Entry, Meaning, Settings}
+use Rattle.shader_runs.specs.Outcome.{Reached, Gives, Halts, Stuck}
+use Rattle.shader_runs.specs.Program.{ConstantTree, Fixed, NamedConstant, Constructed, no_constant, constant, Constant, Return, end, then, Function, Module}
+use Rattle.shader_runs.specs.Text.{Tree, Name, LiteralOf, Apply, no_more, more, ReturnLine, last, before, TextModule}
+use Rattle.shader_runs.specs.Constants.{run_module, follow_module}
+use Rattle.shader_runs.specs.Scope.{ModuleNames, Naming}
+use Rattle.shader_runs.specs.Form.{form_module}
+use Rattle.shader_runs.specs.Premises.{ConstantsFit, SettingsFit}
+use Rattle.shader_runs.specs.Rows.{no_parts, i32, number, numbered_name, row_world, row_asks, text_of}
+
+-- the type `vec2<i32>`
+abbrev pub pair_word : Bytes
+pair_word = codes "vec2<i32>"
+
+-- a pointer to a variable of it
+abbrev pub private_pair : Bytes
+private_pair = codes "ptr<private, vec2<i32>>"
+
+-- two digits as one value of it
+abbrev pub pair : ℕ → ℕ → Value
+pair a b = Opaque pair_word (10 * a + b)
+
+-- the meaning of these rows: a pair of digits
+abbrev pub pair_meaning : Meaning
+pair_meaning (Spelled w) (Whole s (pos a) ∷ Whole r (pos b) ∷ []) =
+    cond (same_bytes w pair_word) (pair a b) (number 0)
+pair_meaning w vs = number 0
+
+-- returns the first constant
+abbrev pub pair_function : Function
+pair_function =
+    record {
+      argument_types = [];
+      result = Some (OtherType pair_word);
+      first_values = [];
+      local_pointers = [];
+      expressions = Constant (NamedConstant 0) ∷ [];
+      types = OtherType pair_word ∷ [];
+      counts = 1 ∷ [];
+      given_names = [];
+      body = then (Return (Some 0)) end;
+    }
+
+-- what P is: a pair of the constant 1 and the override, which is 2
+abbrev pub pair_initialiser : ConstantTree
+pair_initialiser =
+    Constructed pair_word (OtherType pair_word) (constant (NamedConstant 1) (constant (NamedConstant 2) no_constant))
+
+-- the constant P; the constant N, which P names and which is declared behind it; the override m; a variable v
+abbrev pub pair_module : Module
+pair_module =
+    record {
+      constant_types = OtherType pair_word ∷ i32 ∷ i32 ∷ [];
+      initialisers = pair_initialiser ∷ Fixed (number 6) ∷ [];
+      global_types = PointerType private_pair ∷ [];
+      parts = no_parts;
+      functions = pair_function ∷ [];
+    }
+
+-- the names
+abbrev pub pair_names : ModuleNames
+pair_names =
+    record {
+      constant = λ i. get_or (codes "P" ∷ codes "N" ∷ codes "m" ∷ []) i [];
+      global = λ i. codes "v";
+      function = λ g. codes "f";
+      is_request = row_asks;
+    }
+
+-- the function with them
+abbrev pub pair_naming : Naming
+pair_naming =
+    record {
+      function = pair_function;
+      names = record {
+        outer = pair_names;
+        argument = λ i. [];
+        local_ = λ i. [];
+        given = λ k. [];
+        numbered = numbered_name;
+        earlier = 0;
+      };
+    }
+
+-- `vec2<i32>(N, m)`
+abbrev pub pair_tree : Tree
+pair_tree = Apply pair_word (more (Name (codes "N")) (more (Name (codes "m")) no_more))
+
+-- `P` as that, `N` with this initialiser, `m` and `v`, and a function that returns `P`
+abbrev pub pair_text : Tree → TextModule
+pair_text initialiser =
+    record {
+      constants =
+          record { name = codes "P"; initialiser = pair_tree }
+          ∷ record { name = codes "N"; initialiser = initialiser }
+          ∷ [];
+      overrides = codes "m" ∷ [];
+      globals = record { name = codes "v"; pointer = private_pair } ∷ [];
+      functions =
+          text_of (codes "f") [] [] (before (ReturnLine (Some (Name (codes "P")))) last) ∷ [];
+    }
+
+-- a value of the override
+abbrev pub with_override : ℕ → Settings
+with_override b = record { overrides = number b ∷ []; globals = None ∷ [] }
+
+-- what the module does
+abbrev pub run_pair : ℕ → Reached (Option Value)
+run_pair b = run_module pair_module (with_override b) row_world pair_meaning 1 0 [] []
+
+-- what the text with this initialiser does
+abbrev pub follow_pair : Tree → ℕ → Reached (Option Value)
+follow_pair initialiser b =
+    follow_module (pair_text initialiser) (with_override b) row_world pair_meaning row_asks 1 (codes "f") [] []
+
+-- a pair is returned, and nothing is read
+abbrev pub returns_pair : ℕ → ℕ → Reached (Option Value)
+returns_pair a b = Gives (Some (pair a b)) (Entry 0 [] [] ∷ [])
+
+-- no value is there
+abbrev pub without_value : Reached (Option Value)
+without_value = Halts Stuck (Entry 0 [] [] ∷ [])
+
+-- the module's text, what both do, and what other texts do: another initialiser gives another value; one that leads
+-- back to itself, reads, asks for an event, calls a function or names what isn't there gives none
+pub record ConstantRowsHold : Type 0 where
+  pub fits : ConstantsFit pair_module pair_names
+  pub settings : SettingsFit pair_module (with_override 7)
+  pub text : form_module pair_module pair_names (pair_naming ∷ []) ≡ pair_text (LiteralOf (number 6))
+  pub module_run : run_pair 7 ≡ returns_pair 6 7
+  pub text_run : follow_pair (LiteralOf (number 6)) 7 ≡ returns_pair 6 7
+  pub other_override : run_pair 8 ≡ returns_pair 6 8
+  pub text_of_other_override : follow_pair (LiteralOf (number 6)) 8 ≡ returns_pair 6 8
+  pub wrong_initialiser : follow_pair (LiteralOf (number 5)) 7 ≡ returns_pair 5 7
+  pub override_for_constant : follow_pair (Name (codes "m")) 7 ≡ returns_pair 7 7
+  pub leads_back : follow_pair (Name (codes "P")) 7 ≡ without_value
+  pub reads_variable : follow_pair (Name (codes "v")) 7 ≡ without_value
+  pub asks : follow_pair (Apply (codes "storageBarrier") no_more) 7 ≡ without_value
+  pub calls_function : follow_pair (Apply (codes "f") no_more) 7 ≡ without_value
+  pub unknown_name : follow_pair (Name (codes "q")) 7 ≡ without_value

@@ -1,0 +1,108 @@
+-- Named constants: each side computes its own from their initialisers, under what the caller chooses.
+use Rattle.std.specs.Prelude.{ℕ, zero, suc, Bool, cond, List, [], ◌∷◌, ◌++◌, map, length, get_or, Option, Some, None, unwrap_or, ◌||◌}
+use Rattle.std.specs.List.{list_any}
+use Rattle.shader_runs.specs.Value.{Bytes, same_bytes, ValueType, pointer_spelling, Value, Spelled}
+use Rattle.shader_runs.specs.World.{Event, World, Meaning, GlobalValue, Stored, Held, Settings, Environment, bind}
+use Rattle.shader_runs.specs.Outcome.{Stuck, Reached, Gives, Halts}
+use Rattle.shader_runs.specs.Program.{ConstantTree, Module, constant_count}
+use Rattle.shader_runs.specs.ProgramRun.{also, tree_value, run_call}
+use Rattle.shader_runs.specs.Text.{Tree, TextConstant, TextModule}
+use Rattle.shader_runs.specs.TextRun.{Denoted, IsValue, Scope, Words, evaluate, with_parameters, with_globals, no_names, names_function, word_use, follow_call}
+
+-- what is known of an item
+abbrev pub known : List (Option Value) → ℕ → Option Value
+known found i = get_or found i None
+
+-- the values of the initialisers, where they have one, and behind them those of the overrides
+abbrev pub found_with : (ConstantTree → Option Value) → Module → Settings → List (Option Value)
+found_with value p s = map value p.initialisers ++ map Some s.overrides
+
+-- what so many rounds find: at first the overrides alone have values, and each round computes the initialisers
+-- over what the one before it found
+abbrev pub found_after : Module → Settings → Meaning → (rounds : ℕ) → List (Option Value)
+found_after p s m zero = found_with (λ e. None) p s
+found_after p s m (suc n) = found_with (tree_value (known (found_after p s m n)) m) p s
+
+-- all values, if they are there
+abbrev pub all_found : List (Option Value) → Option (List Value)
+all_found [] = Some []
+all_found (o ∷ os) = also o (all_found os)
+
+-- what a variable's name stands for: the value that is held, or a place that pointers of its type lead to
+abbrev pub global_value_by : ValueType → Option Value → GlobalValue
+global_value_by k None = Stored (pointer_spelling k)
+global_value_by k (Some v) = Held v
+
+-- what the names of all variables stand for
+abbrev pub global_values : List ValueType → List (Option Value) → List GlobalValue
+global_values (k ∷ ks) (g ∷ gs) = global_value_by k g ∷ global_values ks gs
+global_values _ _ = []
+
+-- what the module's names stand for. Where no constant leads back to itself, as many rounds as there are
+-- named constants find the values of all
+abbrev pub environment_of : Module → Settings → Meaning → Environment
+environment_of p s m =
+    let found = found_after p s m (constant_count p) in
+    record {
+      constants = unwrap_or (all_found found) [];
+      globals = global_values p.global_types s.globals;
+      parts = p.parts;
+    }
+
+-- the run of a function of the module
+abbrev pub run_module :
+    Module → Settings → World → Meaning → (turns function : ℕ) → List Value → List Event → Reached (Option Value)
+run_module p s w m n g vs t = run_call (environment_of p s m) w m n p.functions g vs t
+
+-- the word is a constant's or a function's name in the text
+abbrev pub is_declared : TextModule → Bytes → Bool
+is_declared text word =
+    list_any (λ c. same_bytes word c.name) text.constants || names_function text.functions word
+
+-- a word in an initialiser is an operator: no function is called there, and nothing is asked
+abbrev pub operate :
+    TextModule → Meaning → (Bytes → Bool) → Bytes → List Value → List Event → Reached (Option Value)
+operate text m is_request word vs t =
+    let refused = is_declared text word || is_request word in
+    cond refused (Halts Stuck t) (Gives (Some (m (Spelled word) vs)) t)
+
+-- an initialiser gives a value, and makes no event
+abbrev pub initialised : Reached Denoted → Option Denoted
+initialised (Gives (IsValue v) []) = Some (IsValue v)
+initialised _ = None
+
+-- named constants, each with what its initialiser gives
+abbrev pub with_constants : (Tree → Option Denoted) → List TextConstant → Scope → Scope
+with_constants value [] names = names
+with_constants value (x ∷ xs) names =
+    bind (with_constants value xs names) x.name (value x.initialiser)
+
+-- the module-level names: the named constants, the overrides and the variables
+abbrev pub scope_with : (Tree → Option Denoted) → TextModule → Settings → Scope
+scope_with value text s =
+    let variables = with_globals text.globals s.globals 0 no_names in
+    with_constants value text.constants (with_parameters text.overrides s.overrides variables)
+
+-- what an initialiser gives where these names are in scope
+abbrev pub initialiser_value : Words → Scope → Tree → Option Denoted
+initialiser_value l names e = initialised (evaluate l e names [])
+
+-- the names after so many rounds: at first no named constant has a value, and each round evaluates the initialisers
+-- in the scope of the one before it
+abbrev pub scope_after : Words → TextModule → Settings → (rounds : ℕ) → Scope
+scope_after l text s zero = scope_with (λ e. None) text s
+scope_after l text s (suc n) = scope_with (initialiser_value l (scope_after l text s n)) text s
+
+-- the names of a text: as many rounds as it has named constants
+abbrev pub module_scope : TextModule → Settings → World → Meaning → (Bytes → Bool) → Scope
+module_scope text s w m is_request =
+    let l : Words = record { world = w; meaning = m; respond = operate text m is_request } in
+    scope_after l text s (length text.constants)
+
+-- the run of a function of the text, by its name
+abbrev pub follow_module :
+    TextModule → Settings → World → Meaning → (is_request : Bytes → Bool) → (turns : ℕ) → (name : Bytes) →
+    List Value → List Event → Reached (Option Value)
+follow_module text s w m is_request n word vs t =
+    let uses = word_use text.functions is_request in
+    follow_call (module_scope text s w m is_request) w m uses n text.functions word vs t
