@@ -9,6 +9,7 @@ use Rattle.naga_enumerations.specs.declared.expression.Literal as ir_literal
 use Rattle.naga_enumerations.specs.declared.expression.Literal.TheVariants as literal
 use Rattle.naga_ir.specs.declared.module.Function as ir_function
 use Rattle.naga_ir.specs.declared.module.LocalVariable.{LocalVariable}
+use Rattle.naga_ir.specs.declared.types.Type_.{Type_}
 use Rattle.naga_info.specs.declared.info.ExpressionInfo.{ExpressionInfo}
 use Rattle.accepted_modules.specs.Types.{word_at, spelling_of, local_pointer, literal_word, spelling_at, operator_word}
 use Rattle.accepted_modules.specs.Accepted.{statement_fits, return_fits, block_fits, function_fits}
@@ -119,6 +120,20 @@ none_listed i ts e lt = let none : i < 0 = subst (λ ts. i < length ts) e lt in 
 abbrev pub local_item : ℕ → ℕ → LocalVariable → Labelled
 local_item g l v = (key.FunctionLocal g l, label_or v.name (codes "local"))
 
+-- the type of a handle that is spelled
+pub typed_as : (types : List Type_) (f : ir_function.Function) (es : List ExpressionInfo) (h : ℕ) (w : List ℕ) → spelling_at types es h ≡ Some w → handle_type (function_shape types f es) h ≡ type_spelled w
+typed_as types f es h w spelled =
+    let k = then_some (λ e. spelling_of types e.ty) (slice_get es h) w spelled in
+    type_at_mapped (λ e. value_type types e.ty) es h k.0 k.1 ∙ ap (λ o. type_told o (identity types k.0.ty)) k.2
+
+-- what holds of no shape and of each expression's holds of the shape of any handle
+pub at_any : (types : List Type_) (f : ir_function.Function) (es : List ExpressionInfo) (h : ℕ) (P : Option shapes.Expression → Type 0) → P None → ((e : ir.Expression) → slice_get f.expressions h ≡ Some e → P (Some (expression_shape e))) → P (expression_of (function_shape types f es) h)
+at_any types f es h P none some = subst P (sym (slice_get-map expression_shape f.expressions h)) (by (slice_get f.expressions h) refl)
+  where
+    by : (o : Option ir.Expression) → slice_get f.expressions h ≡ o → P (option_map expression_shape o)
+    by None is = none
+    by (Some e) is = some e is
+
 -- ---- one function
 module _ (m : Module) (g : ℕ) (f : ir_function.Function) (found : slice_get m.functions g ≡ Some f) (es : List ExpressionInfo) (fits : function_fits m.types f es ≡ true) (unnamed : IsTrue (length (keys f.named_expressions) == 0)) (p : shapes.Module) (constants : p.constant_types ≡ []) (globals : p.global_types ≡ []) where
   abbrev own : Naming
@@ -148,23 +163,9 @@ module _ (m : Module) (g : ℕ) (f : ir_function.Function) (found : slice_get m.
   none_given : (k : ℕ) → k < given_by_all shape (statements_shape f.body) 0 → ⊥
   none_given k lt = let none : k < 0 = subst (λ n. k < n) (given_lines f.body 0) lt in omega (arith, none)
 
-  -- the type of a handle that is spelled
-  typed_as : (h : ℕ) (w : List ℕ) → spelling_at m.types es h ≡ Some w → handle_type shape h ≡ type_spelled w
-  typed_as h w spelled =
-      let k = then_some (λ e. spelling_of m.types e.ty) (slice_get es h) w spelled in
-      type_at_mapped (λ e. value_type m.types e.ty) es h k.0 k.1 ∙ ap (λ o. type_told o (identity m.types k.0.ty)) k.2
-
   -- the type of a declaration that has a word
   declared_as : (ty : ℕ) (w : List ℕ) → word_at m.types ty ≡ Some w → declared_type m.types ty ≡ type_spelled w
   declared_as ty w e = ap (λ o. type_told o (identity m.types (Handle ty))) (declared_spelling m.types ty w e)
-
-  -- what holds of no shape and of each expression's holds of the shape of any handle
-  at_any : (h : ℕ) (P : Option shapes.Expression → Type 0) → P None → ((e : ir.Expression) → slice_get f.expressions h ≡ Some e → P (Some (expression_shape e))) → P (expression_of shape h)
-  at_any h P none some = subst P (sym (slice_get-map expression_shape f.expressions h)) (by (slice_get f.expressions h) refl)
-    where
-      by : (o : Option ir.Expression) → slice_get f.expressions h ≡ o → P (option_map expression_shape o)
-      by None is = none
-      by (Some e) is = some e is
 
   pub ordered_at : (h : ℕ) (e : ir.Expression) → slice_get f.expressions h ≡ Some e → AllBelow h (operands_of (Some (expression_shape e)))
   ordered_at h (expression.Load q) at = let l = load_word_at m.types f es h q fits at in (l.1, tt)
@@ -183,14 +184,14 @@ module _ (m : Module) (g : ℕ) (f : ir_function.Function) (found : slice_get m.
   leaf_at : (h : ℕ) (e : ir.Expression) → slice_get f.expressions h ≡ Some e → LeafFits p shape (handle_type shape h) (Some (expression_shape e))
   leaf_at h (expression.Literal v) at =
       let w = function_fits_word_at m.types f es h (expression.Literal v) fits at in
-      (literal_is v, typed_as h w.0 w.1 ∙ (ap (λ o. type_told o Nothing) (sym w.2) ∙ literal_typed v w.0 w.2))
+      (literal_is v, typed_as m.types f es h w.0 w.1 ∙ (ap (λ o. type_told o Nothing) (sym w.2) ∙ literal_typed v w.0 w.2))
   leaf_at h (expression.FunctionArgument n) at =
       let w = function_fits_word_at m.types f es h (expression.FunctionArgument n) fits at in
       let a = then_some (λ a. word_at m.types a.ty) (slice_get f.arguments.items n) w.0 w.2 in
-      typed_as h w.0 w.1 ∙ (sym (declared_as a.0.ty w.0 a.2) ∙ sym (type_at_mapped (λ a. declared_type m.types a.ty) f.arguments.items n a.0 a.1))
+      typed_as m.types f es h w.0 w.1 ∙ (sym (declared_as a.0.ty w.0 a.2) ∙ sym (type_at_mapped (λ a. declared_type m.types a.ty) f.arguments.items n a.0 a.1))
   leaf_at h (expression.LocalVariable v) at =
       let l = local_word_at m.types f es h v fits at in
-      typed_as h _ l.4 ∙ ap PointerType (sym (pointer_of v l.0 l.1 l.2 l.3))
+      typed_as m.types f es h _ l.4 ∙ ap PointerType (sym (pointer_of v l.0 l.1 l.2 l.3))
   leaf_at h (expression.Binary op left right) at = nothing op
     where
       nothing : (op : BinaryOperator) → LeafFits p shape (handle_type shape h) (Some (binary_shape (operator_form op) left right))
@@ -244,7 +245,7 @@ module _ (m : Module) (g : ℕ) (f : ir_function.Function) (found : slice_get m.
   return_at None fit = tt
   return_at (Some h) fit =
       let r = returned_at m.types f es h (function_fits_expressions m.types f es fits) f.result refl fit in
-      ap (option_map (λ a. declared_type m.types a.ty)) r.answers ∙ ap Some (declared_as _ r.word r.wanted) ∙ ap Some (sym (typed_as h r.word r.typed))
+      ap (option_map (λ a. declared_type m.types a.ty)) r.answers ∙ ap Some (declared_as _ r.word r.wanted) ∙ ap Some (sym (typed_as m.types f es h r.word r.typed))
 
   regular_at : (callees : List shapes.Function) (st : StatementTree) → statement_fits m.types es f.result st ≡ true → IsRegular p callees own (statement_shape st)
   regular_at callees (simple (emit first last)) fit = tt
@@ -319,9 +320,9 @@ module _ (m : Module) (g : ℕ) (f : ir_function.Function) (found : slice_get m.
   function_fits_shape all_counted callees earlier counted scope = record {
     outer = refl;
     earlier = sym earlier;
-    ordered = λ h. at_any h (λ o. AllBelow h (operands_of o)) tt (ordered_at h);
-    words = λ h. at_any h (λ o. WordFits p own o) tt (words_at all_counted h);
-    leaves = λ h. at_any h (λ o. LeafFits p shape (handle_type shape h) o) tt (leaf_at h);
+    ordered = λ h. at_any m.types f es h (λ o. AllBelow h (operands_of o)) tt (ordered_at h);
+    words = λ h. at_any m.types f es h (λ o. WordFits p own o) tt (words_at all_counted h);
+    leaves = λ h. at_any m.types f es h (λ o. LeafFits p shape (handle_type shape h) o) tt (leaf_at h);
     regular = regular callees f.body (function_fits_block m.types f es fits);
     distinct = distinct counted;
     scope = scope;

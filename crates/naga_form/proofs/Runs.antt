@@ -132,8 +132,8 @@ module _ (m : Module) (info : ModuleInfo) (accepted : IsTrue (is_accepted m info
       let this = function_fits_shape m g f found es fit unnamed_here p refl refl (module_counted m info accepted) (functions_of behind) (length-functions_of behind ∙ at) counted scoped_here in
       all_fit (g + 1) fs ess (and_right (function_fits m.types f es) (functions_fit m.types fs ess) fits) (further m.functions g f fs there) (and_right (length (keys f.named_expressions) == 0) (list_all (λ f. length (keys f.named_expressions) == 0) fs) named_none) (and_right (fits_function own) (list_all fits_function (namings_from (module_names m) (g + 1) (function_shapes m.types fs ess))) scoped) (own ∷ behind) (ap suc at ∙ sym (add-one g)) (this, so_far)
 
-  fits : ModuleFits p (outer_names (module_names m)) (namings (module_names m) m info)
-  fits =
+  pub module_fits : ModuleFits p (outer_names (module_names m)) (namings (module_names m) m info)
+  module_fits =
       let parts = accepted_parts m info accepted in
       let listed = namings_from (module_names m) 0 (function_shapes m.types m.functions info.functions.items) in
       let count : length (reverse (function_shapes m.types m.functions info.functions.items)) ≡ length m.functions = length-reverse (function_shapes m.types m.functions info.functions.items) ∙ shapes_counted m.types m.functions info.functions.items parts.5 in
@@ -163,7 +163,7 @@ module _ (m : Module) (info : ModuleInfo) (accepted : IsTrue (is_accepted m info
   runs : (explicit : Bool) → RunsAs m info (written_program m info explicit)
   runs explicit settings fit meaning typed g f found arguments typed_arguments world turns past keeps =
       ap (λ (text : TextModule). follow_module text settings world meaning is_request turns (function_name (module_names m) g) arguments past) (program_reads m info explicit accepted)
-      ∙ runs_alike p (outer_names (module_names m)) (namings (module_names m) m info) fits settings fit meaning typed g f found arguments typed_arguments world turns past keeps
+      ∙ runs_alike p (outer_names (module_names m)) (namings (module_names m) m info) module_fits settings fit meaning typed g f found arguments typed_arguments world turns past keeps
 
 pub runs_as : (m : Module) (info : ModuleInfo) (explicit : Bool) → IsTrue (is_accepted m info) → IsTrue (nothing_named m) → IsTrue (scope_holds m info) → NamesAreCounted m → RunsAs m info (written_program m info explicit)
 runs_as m info explicit accepted unnamed scope counted = runs m info accepted unnamed scope counted explicit

@@ -12,3 +12,4 @@ pub mod Interface
 pub mod Resolution
 pub mod Bindings
 pub mod Faithful
+pub mod Meanings

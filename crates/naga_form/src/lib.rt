@@ -26,6 +26,7 @@ ghost use Rattle.accepted_modules.specs.Part.{is_written_so_far};
 ghost use Rattle.naga_info.specs.declared.info.ModuleInfo.{ModuleInfo};
 ghost use Rattle.naga_form.specs.Names.{NamesAreCounted, module_names};
 ghost use Rattle.naga_form.specs.Faithful.{HasInterfaceOf, RunsAs};
+ghost use Rattle.naga_form.specs.Meanings.{OperatorsAreConsistent, HasTypedMeaning, HasTypedWorld, IsNeverStuck};
 ghost use Rattle.wgsl_text.specs.GrammarOfLines.{IsProgram};
 
 /// The program that is written for an accepted module is one of the grammar, so that its text has one reading.
@@ -63,6 +64,23 @@ pub fn is_read_as_its_shapes()
 /// It does what the module does, where the module's handles are in scope where they are used.
 pub fn runs_as_the_module()
     ensures { (m : Module) (info : ModuleInfo) (explicit : Bool) → IsTrue (is_accepted m info) → IsTrue (nothing_named m) → IsTrue (scope_holds m info) → NamesAreCounted m → RunsAs m info (written_program m info explicit) }
+{}
+
+/// The operators of an accepted module are typed consistently, so that some meaning gives each a value of its handle's type.
+pub fn has_a_typed_meaning()
+    ensures consistent { (m : Module) (info : ModuleInfo) → IsTrue (is_accepted m info) → OperatorsAreConsistent m info }
+    ensures meaning { (m : Module) (info : ModuleInfo) → IsTrue (is_accepted m info) → HasTypedMeaning m info }
+{}
+
+/// For each such meaning, one world answers by the right types in every run of the module.
+pub fn has_a_typed_world()
+    ensures { (m : Module) (info : ModuleInfo) → IsTrue (is_accepted m info) → HasTypedWorld m info }
+{}
+
+/// No run of an accepted module is stuck, nor one of its program in a world that keeps the types, where the module's handles are in
+/// scope where they are used.
+pub fn is_never_stuck()
+    ensures { (m : Module) (info : ModuleInfo) (explicit : Bool) → IsTrue (is_accepted m info) → IsTrue (nothing_named m) → IsTrue (scope_holds m info) → NamesAreCounted m → IsNeverStuck m info (written_program m info explicit) }
 {}
 
 /// Two types that no text spells so far have values of one type only where they are told by the same, a struct by its handle and

@@ -1,0 +1,351 @@
+-- An accepted module has a typed meaning and a world that keeps the types, and no run of it is stuck.
+use Rattle.std.proofs.Common.{[], ◌≡◌, ℕ, suc, zero, Bool, true, false, List, ◌∷◌, map, length, Option, Some, None, refl, sym, ap, subst, ◌∙◌, ◌⊎◌, inl, inr, true≢false, codes}
+use Rattle.std.specs.Prelude.{IsTrue, slice_get, reverse, cond, if◌then◌else◌}
+use mathlib.Core.List.{reverse_aux}
+use Rattle.std.specs.List.{starts_with}
+use Rattle.std.specs.Bool.{nat_eq}
+use Rattle.std.specs.Str.{bytes_eq}
+use Rattle.std.specs.Option.{option_map}
+use Rattle.std.proofs.lemmas.Option.{slice_get-map}
+use Rattle.std.proofs.lemmas.Slice.Eq.{bytes_eq-Decides}
+use Rattle.naga_ir.specs.StatementTree.{BlockTree, no_statements, statement, emit, store, StatementTree, simple}
+use Rattle.naga_ir.specs.declared.expression.Expression as ir
+use Rattle.naga_ir.specs.declared.expression.Expression.TheVariants as expression
+use Rattle.naga_ir.specs.declared.module.Function as ir_function
+use Rattle.naga_ir.specs.declared.module.Module.{Module}
+use Rattle.naga_ir.specs.declared.types.Type_.{Type_}
+use Rattle.naga_operators.specs.declared.BinaryOperator.{BinaryOperator}
+use Rattle.naga_operators.specs.declared.BinaryOperator.TheVariants as operator
+use Rattle.naga_info.specs.declared.info.ExpressionInfo.{ExpressionInfo}
+use Rattle.naga_info.specs.declared.info.ModuleInfo.{ModuleInfo}
+use Rattle.naga_info.proofs.Options.{then_some}
+use Rattle.accepted_modules.specs.Types.{spelling_of, spelling_at, operator_word, local_pointer}
+use Rattle.accepted_modules.specs.Accepted.{is_accepted, function_fits, functions_fit, statement_fits, block_fits}
+use Rattle.accepted_modules.proofs.Accepting.{accepted_parts, functions_fit_at, function_fits_block, load_word_at, store_fits_word, binary_at, IsOperation}
+use Rattle.accepted_modules.proofs.Operating.{accepted_operations_agree}
+use Rattle.shader_runs.specs.Value.{ValueType, BooleanType, IntegerType, PointerType, OtherType, Word, Spelled, PartWord, IndexWord, Value}
+use Rattle.shader_runs.specs.World.{World, Meaning, Event, entries, Environment, Settings}
+use Rattle.shader_runs.specs.Outcome.{Reached, and_then, Outcome, answer}
+use Rattle.shader_runs.specs.Program as shapes
+use Rattle.shader_runs.specs.Program.{handle_type, expression_of, argument_count}
+use Rattle.shader_runs.specs.ProgramRun.{Call, Kept, constants_kept, first_used_all, entered, run, run_all, run_body, called, run_call}
+use Rattle.shader_runs.specs.Constants.{environment_of, run_module, follow_module}
+use Rattle.shader_runs.specs.Premises.{handle_types}
+use Rattle.shader_runs.specs.Text.{TextModule}
+use Rattle.shader_runs.specs.Correct.{KeepsTypes}
+use Rattle.shader_runs.specs.Progress.{IsNotStuck, IsPointer, LoadFits, AreWellFormed, IsWellFormed, FunctionIsWellFormed, AllWellFormed}
+use Rattle.shader_runs.specs.Typing.{Signature, signatures_of, IsOneOf, first_of, later_of, IsSpelled, in_function, in_initialiser, PartsFit, IsConsistent}
+use Rattle.shader_runs.proofs.Update.{and_left, and_right}
+use Rattle.shader_runs.proofs.Typing.{has_typed_meaning}
+use Rattle.shader_runs.proofs.Starts.{steady_world}
+use Rattle.shader_runs.proofs.Progress.{runs_are_not_stuck}
+use Rattle.wgsl_text.specs.Words.{stands_in}
+use Rattle.naga_form.specs.Operators.{operator_form}
+use Rattle.naga_form.specs.Premises.{nothing_named, scope_holds}
+use Rattle.naga_form.specs.Names.{NamesAreCounted, module_names, function_name}
+use Rattle.naga_form.specs.Types.{type_spelled, value_type, integer_words}
+use Rattle.naga_form.specs.Shapes.{binary_shape, expression_shape, statement_shape, statements_shape, function_shape, function_shapes, program_shape, namings, outer_names}
+use Rattle.naga_form.specs.Abstraction.{is_request}
+use Rattle.naga_form.specs.Form.{written_program}
+use Rattle.naga_form.specs.Meanings.{OperatorsAreConsistent, HasTypedMeaning, HasTypedWorld, IsNeverStuck}
+use Rattle.naga_form.proofs.Fits.{typed_as, at_any}
+use Rattle.naga_form.proofs.Runs.{module_fits, program_reads}
+
+-- ---- lists that are turned round
+
+-- what stands in a list that is turned round onto another stands in one of both
+in_either : {X : Type 0} (xs behind : List X) (i : ℕ) (x : X) → slice_get (reverse_aux xs behind) i ≡ Some x → ((k : ℕ) × (slice_get xs k ≡ Some x)) ⊎ ((k : ℕ) × (slice_get behind k ≡ Some x))
+in_either [] behind i x there = inr (i, there)
+in_either (y ∷ xs) behind i x there = go (in_either xs (y ∷ behind) i x there)
+  where
+    go : ((k : ℕ) × (slice_get xs k ≡ Some x)) ⊎ ((k : ℕ) × (slice_get (y ∷ behind) k ≡ Some x)) → ((k : ℕ) × (slice_get (y ∷ xs) k ≡ Some x)) ⊎ ((k : ℕ) × (slice_get behind k ≡ Some x))
+    go (inl found) = inl (suc found.0, found.1)
+    go (inr (zero, at)) = inl (0, at)
+    go (inr (suc k, at)) = inr (k, at)
+
+-- what stands in a list turned round stands in the list
+in_reversed : {X : Type 0} (xs : List X) (i : ℕ) (x : X) → slice_get (reverse xs) i ≡ Some x → (k : ℕ) × (slice_get xs k ≡ Some x)
+in_reversed xs i x there = go (in_either xs [] i x there)
+  where
+    go : ((k : ℕ) × (slice_get xs k ≡ Some x)) ⊎ ((k : ℕ) × (slice_get [] k ≡ Some x)) → (k : ℕ) × (slice_get xs k ≡ Some x)
+    go (inl found) = found
+    go (inr found) = absurd (cc)
+
+-- ---- words of types
+-- what a value type is spelled by
+abbrev word_of : ValueType → List ℕ
+word_of BooleanType = codes "bool"
+word_of (IntegerType w) = w
+word_of (PointerType w) = w
+word_of (OtherType w) = w
+
+spelled_by : (w : List ℕ) → word_of (type_spelled w) ≡ w
+spelled_by w = by (bytes_eq w (codes "bool")) refl (stands_in integer_words w) (starts_with nat_eq w (codes "ptr<"))
+  where
+    by : (a : Bool) → bytes_eq w (codes "bool") ≡ a → (b c : Bool) → word_of (if a then BooleanType else (if b then IntegerType w else (if c then PointerType w else OtherType w))) ≡ w
+    by true is b c = sym ((bytes_eq-Decides w (codes "bool")).0 is)
+    by false is true c = refl
+    by false is false true = refl
+    by false is false false = refl
+
+-- types of one value type have one spelling
+one_spelling : (a b : List ℕ) → type_spelled a ≡ type_spelled b → a ≡ b
+one_spelling a b e = sym (spelled_by a) ∙ (ap word_of e ∙ spelled_by b)
+
+-- ---- bounds on loop turns
+-- a function whose body is written of a block
+abbrev AllAreWritten : List shapes.Function → Type 0
+AllAreWritten [] = Unit {0}
+AllAreWritten (f ∷ fs) = ((b : BlockTree) × (f.body ≡ statements_shape b)) × AllAreWritten fs
+
+all_are_written : (types : List Type_) (fs : List ir_function.Function) (ess : List (List ExpressionInfo)) (behind : List shapes.Function) → AllAreWritten behind → AllAreWritten (reverse_aux (function_shapes types fs ess) behind)
+all_are_written types [] ess behind all = all
+all_are_written types (f ∷ fs) [] behind all = all
+all_are_written types (f ∷ fs) (es ∷ ess) behind all = all_are_written types fs ess (function_shape types f es ∷ behind) ((f.body, refl), all)
+
+-- no statement so far makes turns
+steady_line : (c : Call) (j n : ℕ) (s : StatementTree) (kept : Kept) (t : List Event) → run c j (statement_shape s) kept t ≡ run c n (statement_shape s) kept t
+steady_line c j n (simple (emit first last)) kept t = refl
+steady_line c j n (simple (store pointer value)) kept t = refl
+steady_line c j n _ kept t = refl
+
+steady_lines : (c : Call) (j n : ℕ) (b : BlockTree) (kept : Kept) (t : List Event) → run_all c j (statements_shape b) kept t ≡ run_all c n (statements_shape b) kept t
+steady_lines c j n no_statements kept t = refl
+steady_lines c j n (statement s b) kept t =
+    λ i. and_then (steady_line c j n s kept t i) (λ kept t. steady_lines c j n b kept t i)
+
+-- one call, by what its callees do
+module _ (env : Environment) (w : World) (m : Meaning) (f : shapes.Function) (fs : List shapes.Function) (g : ℕ) (vs : List Value) (t : List Event) where
+  abbrev call_by : (ℕ → List Value → List Event → Reached (Option Value)) → Call
+  call_by calls = record { function = f; callees = fs; environment = env; world = w; meaning = m; arguments = vs; frame = entries t; calls = calls }
+
+  abbrev own_by : (ℕ → List Value → List Event → Reached (Option Value)) → ℕ → Reached (Option Value)
+  own_by calls n = called (nat_eq (length vs) (argument_count f)) (run_body (call_by calls) n (length fs) vs t) t
+
+  abbrev either_by : (ℕ → List Value → List Event → Reached (Option Value)) → ℕ → Reached (Option Value) → Reached (Option Value)
+  either_by calls n other = cond (nat_eq g (length fs)) (own_by calls n) other
+
+  own_steady : (b : BlockTree) → f.body ≡ statements_shape b → (calls : ℕ → List Value → List Event → Reached (Option Value)) (j n : ℕ) → own_by calls j ≡ own_by calls n
+  own_steady b is calls j n =
+      let c = call_by calls in
+      let kept = constants_kept f env m in
+      λ i. called (nat_eq (length vs) (argument_count f)) (entered (length fs) vs (first_used_all c kept f.first_values) t (λ t1. answer (lines kept t1 i))) t
+    where
+      lines : (kept : Kept) (t1 : List Event) → run_all (call_by calls) j f.body kept t1 ≡ run_all (call_by calls) n f.body kept t1
+      lines kept t1 = subst (λ b. run_all (call_by calls) j b kept t1 ≡ run_all (call_by calls) n b kept t1) (sym is) (steady_lines (call_by calls) j n b kept t1)
+
+steady_calls : (env : Environment) (w : World) (m : Meaning) (fs : List shapes.Function) → AllAreWritten fs → (j n g : ℕ) (vs : List Value) (t : List Event) → run_call env w m j fs g vs t ≡ run_call env w m n fs g vs t
+steady_calls env w m [] all j n g vs t = refl
+steady_calls env w m (f ∷ fs) all j n g vs t =
+    let same_calls : run_call env w m j fs ≡ run_call env w m n fs = λ i. λ g vs t. steady_calls env w m fs all.1 j n g vs t i in
+    ap (λ calls. either_by env w m f fs g vs t calls j (calls g vs t)) same_calls
+    ∙ ap (λ o. cond (nat_eq g (length fs)) o (run_call env w m n fs g vs t)) (own_steady env w m f fs g vs t all.0.0 all.0.1 (run_call env w m n fs) j n)
+
+-- ---- what is spelled
+-- a shape of the module, with the function and what is known of it
+record IsFitting (types : List Type_) (fs : List ir_function.Function) (ess : List (List ExpressionInfo)) (shape : shapes.Function) : Type 0 where
+  number : ℕ
+  function : ir_function.Function
+  known : List ExpressionInfo
+  function_there : slice_get fs number ≡ Some function
+  known_there : slice_get ess number ≡ Some known
+  fit : function_fits types function known ≡ true
+  same : function_shape types function known ≡ shape
+
+fitting_at : (types : List Type_) (fs : List ir_function.Function) (ess : List (List ExpressionInfo)) → functions_fit types fs ess ≡ true → (k : ℕ) (shape : shapes.Function) → slice_get (function_shapes types fs ess) k ≡ Some shape → IsFitting types fs ess shape
+fitting_at types [] ess all k shape there = absurd (cc)
+fitting_at types (f ∷ fs) [] all k shape there = absurd (cc)
+fitting_at types (f ∷ fs) (es ∷ ess) all zero shape there =
+    record { number = 0; function = f; known = es; function_there = refl; known_there = refl; fit = and_left (function_fits types f es) (functions_fit types fs ess) all; same = cc }
+fitting_at types (f ∷ fs) (es ∷ ess) all (suc k) shape there =
+    let found = fitting_at types fs ess (and_right (function_fits types f es) (functions_fit types fs ess) all) k shape there in
+    record { number = suc found.number; function = found.function; known = found.known; function_there = found.function_there; known_there = found.known_there; fit = found.fit; same = found.same }
+
+-- the signature of an operator between two operands
+abbrev operation_signature : (word left right answer : List ℕ) → Signature
+operation_signature word left right answer =
+    record { word = Spelled word; operands = type_spelled left ∷ type_spelled right ∷ []; result = type_spelled answer }
+
+-- an accepted operator between two operands
+record IsOperator (types : List Type_) (fs : List ir_function.Function) (ess : List (List ExpressionInfo)) (x : Signature) : Type 0 where
+  number : ℕ
+  function : ir_function.Function
+  known : List ExpressionInfo
+  function_there : slice_get fs number ≡ Some function
+  known_there : slice_get ess number ≡ Some known
+  handle : ℕ
+  operator_ : BinaryOperator
+  left : ℕ
+  right : ℕ
+  there : slice_get function.expressions handle ≡ Some (expression.Binary operator_ left right)
+  operation : IsOperation types known handle operator_ left right
+  same : x ≡ operation_signature operation.word operation.left_word operation.right_word operation.answer_word
+
+the_word : {a b : List ℕ} → Some a ≡ Some b → a ≡ b
+the_word e = cc
+
+unspelled : {w : List ℕ} → None ≡ Some w → ⊥
+unspelled e = cc
+
+abbrev first_or : List ValueType → ValueType
+first_or [] = BooleanType
+first_or (k ∷ ks) = k
+
+abbrev second_or : List ValueType → ValueType
+second_or [] = BooleanType
+second_or (k ∷ ks) = first_or ks
+
+no_signature : (x : Signature) → IsOneOf x [] → ⊥
+no_signature x there = elim there [ ]
+
+only_one : (x y : Signature) → IsOneOf x (y ∷ []) → x ≡ y
+only_one x y first_of = refl
+only_one x y (later_of there) = absurd (no_signature x there)
+
+-- the integers, locals and so on of an accepted function spell nothing; an operator between two operands has its signature
+module _ (types : List Type_) (fs : List ir_function.Function) (ess : List (List ExpressionInfo)) (p : shapes.Module) (g : ℕ) (f : ir_function.Function) (f_at : slice_get fs g ≡ Some f) (es : List ExpressionInfo) (es_at : slice_get ess g ≡ Some es) (fit : function_fits types f es ≡ true) where
+  abbrev own : shapes.Function
+  own = function_shape types f es
+
+  operator_is : (x : Signature) (h : ℕ) (op : BinaryOperator) (left right : ℕ) → slice_get f.expressions h ≡ Some (expression.Binary op left right) → (o : IsOperation types es h op left right) → (word : List ℕ) → word ≡ o.word → IsOneOf x (record { word = Spelled word; operands = handle_type own left ∷ handle_type own right ∷ []; result = handle_type own h } ∷ []) → IsOperator types fs ess x
+  operator_is x h op left right at o word same among =
+      let a = typed_as types f es left o.left_word o.left_spelled in
+      let b = typed_as types f es right o.right_word o.right_spelled in
+      let c = typed_as types f es h o.answer_word o.answer_spelled in
+      record {
+        number = g;
+        function = f;
+        known = es;
+        function_there = f_at;
+        known_there = es_at;
+        handle = h;
+        operator_ = op;
+        left = left;
+        right = right;
+        there = at;
+        operation = o;
+        same = only_one x _ among ∙ (λ i. record { word = Spelled (same i); operands = a i ∷ b i ∷ []; result = c i });
+      }
+
+  operator_among : (x : Signature) (h : ℕ) (op : BinaryOperator) (left right : ℕ) → slice_get f.expressions h ≡ Some (expression.Binary op left right) → (o : IsOperation types es h op left right) → IsOneOf x (signatures_of p own (handle_type own h) (Some (binary_shape (operator_form op) left right))) → IsOperator types fs ess x
+  operator_among x h operator.Add left right at o among = operator_is x h operator.Add left right at o (codes "+") (the_word o.spelled) among
+  operator_among x h operator.Subtract left right at o among = operator_is x h operator.Subtract left right at o (codes "-") (the_word o.spelled) among
+  operator_among x h operator.Multiply left right at o among = operator_is x h operator.Multiply left right at o (codes "*") (the_word o.spelled) among
+  operator_among x h _ left right at o among = absurd (unspelled o.spelled)
+
+  spelled_among : (x : Signature) (h : ℕ) (e : ir.Expression) → slice_get f.expressions h ≡ Some e → IsOneOf x (signatures_of p own (handle_type own h) (Some (expression_shape e))) → IsOperator types fs ess x
+  spelled_among x h (expression.Binary op left right) at among = operator_among x h op left right at (binary_at types f es h op left right fit at) among
+  spelled_among x h _ at among = absurd (no_signature x among)
+
+  spelled_at : (x : Signature) (h : ℕ) → IsOneOf x (signatures_of p own (handle_type own h) (expression_of own h)) → IsOperator types fs ess x
+  spelled_at x h = at_any types f es h (λ o. IsOneOf x (signatures_of p own (handle_type own h) o) → IsOperator types fs ess x) (λ among. absurd (no_signature x among)) (spelled_among x h)
+
+  -- no expression so far is over parts or truth values
+  parts_among : (h : ℕ) (e : ir.Expression) → slice_get f.expressions h ≡ Some e → PartsFit p.parts own (handle_type own h) (Some (expression_shape e))
+  parts_among h (expression.Binary op left right) at = by op (binary_at types f es h op left right fit at)
+    where
+      by : (op : BinaryOperator) → IsOperation types es h op left right → PartsFit p.parts own (handle_type own h) (Some (binary_shape (operator_form op) left right))
+      by operator.LogicalAnd o = absurd (unspelled o.spelled)
+      by operator.LogicalOr o = absurd (unspelled o.spelled)
+      by _ o = tt
+  parts_among h _ at = tt
+
+  parts_at : (h : ℕ) → PartsFit p.parts own (handle_type own h) (expression_of own h)
+  parts_at h = at_any types f es h (λ o. PartsFit p.parts own (handle_type own h) o) tt (parts_among h)
+
+  -- ---- loads and stores are through pointers
+  points_at : (h : ℕ) (w : List ℕ) → spelling_at types es h ≡ Some (local_pointer w) → IsPointer (handle_type own h)
+  points_at h w spelled = subst IsPointer (sym (typed_as types f es h (local_pointer w) spelled)) tt
+
+  load_among : (h : ℕ) (e : ir.Expression) → slice_get f.expressions h ≡ Some e → LoadFits own (Some (expression_shape e))
+  load_among h (expression.Load q) at = let l = load_word_at types f es h q fit at in points_at q l.0 l.3
+  load_among h (expression.Binary op left right) at = by op
+    where
+      by : (op : BinaryOperator) → LoadFits own (Some (binary_shape (operator_form op) left right))
+      by operator.LogicalAnd = tt
+      by _ = tt
+  load_among h _ at = tt
+
+  line_well_formed : (st : StatementTree) → statement_fits types es f.result st ≡ true → IsWellFormed own false false (statement_shape st)
+  line_well_formed (simple (emit first last)) fit = tt
+  line_well_formed (simple (store pointer value)) fit = let s = store_fits_word types es f.result pointer value fit in points_at pointer s.0 s.3
+  line_well_formed _ fit = tt
+
+  lines_well_formed : (b : BlockTree) → block_fits types es f.result b ≡ true → AreWellFormed own false false (statements_shape b)
+  lines_well_formed no_statements fit = tt
+  lines_well_formed (statement st b) fit = (
+    line_well_formed st (and_left (statement_fits types es f.result st) (block_fits types es f.result b) fit),
+    lines_well_formed b (and_right (statement_fits types es f.result st) (block_fits types es f.result b) fit),
+  )
+
+  well_formed : FunctionIsWellFormed own
+  well_formed = record {
+    loads = λ h. at_any types f es h (λ o. LoadFits own o) tt (load_among h);
+    body = lines_well_formed f.body (function_fits_block types f es fit);
+  }
+
+all_well_formed : (types : List Type_) (p : shapes.Module) (fs : List ir_function.Function) (ess : List (List ExpressionInfo)) → functions_fit types fs ess ≡ true → (behind : List shapes.Function) → AllWellFormed behind → AllWellFormed (reverse_aux (function_shapes types fs ess) behind)
+all_well_formed types p [] ess fit behind all = all
+all_well_formed types p (f ∷ fs) [] fit behind all = all
+all_well_formed types p (f ∷ fs) (es ∷ ess) fit behind all =
+    let here = well_formed types (f ∷ fs) (es ∷ ess) p 0 f refl es refl (and_left (function_fits types f es) (functions_fit types fs ess) fit) in
+    all_well_formed types p fs ess (and_right (function_fits types f es) (functions_fit types fs ess) fit) (function_shape types f es ∷ behind) (here, all)
+
+-- ---- an accepted module
+module _ (m : Module) (info : ModuleInfo) (accepted : IsTrue (is_accepted m info)) where
+  abbrev shape : shapes.Module
+  shape = program_shape m info
+
+  abbrev ess : List (List ExpressionInfo)
+  ess = info.functions.items
+
+  found_shape : (place : ℕ) (f : shapes.Function) → slice_get shape.functions place ≡ Some f → IsFitting m.types m.functions ess f
+  found_shape place f there =
+      let found = in_reversed (function_shapes m.types m.functions ess) place f there in
+      fitting_at m.types m.functions ess (accepted_parts m info accepted).5 found.0 f found.1
+
+  operator_of : (x : Signature) → IsSpelled shape x → IsOperator m.types m.functions ess x
+  operator_of x (in_initialiser i e there among) = absurd (cc)
+  operator_of x (in_function place f there h among) =
+      let k = found_shape place f there in
+      spelled_at m.types m.functions ess shape k.number k.function k.function_there k.known k.known_there k.fit x h
+      (subst (λ f. IsOneOf x (signatures_of shape f (handle_type f h) (expression_of f h))) (sym k.same) among)
+
+  pub consistent : OperatorsAreConsistent m info
+  consistent = record { alike = alike; parts = parts }
+    where
+      -- both are operators of the module, which agree
+      agree : (x y : Signature) → IsOperator m.types m.functions ess x → IsOperator m.types m.functions ess y → x.word ≡ y.word → x.operands ≡ y.operands → x.result ≡ y.result
+      agree x y a b word operands =
+          let words : a.operation.word ≡ b.operation.word = one_word (sym (ap (λ x. x.word) a.same) ∙ (word ∙ ap (λ x. x.word) b.same)) in
+          let types = sym (ap (λ x. x.operands) a.same) ∙ (operands ∙ ap (λ x. x.operands) b.same) in
+          let left = one_spelling a.operation.left_word b.operation.left_word (ap (λ l. first_or l) types) in
+          let right = one_spelling a.operation.right_word b.operation.right_word (ap (λ l. second_or l) types) in
+          let answers = accepted_operations_agree m info accepted a.number a.function a.known a.handle a.operator_ a.left a.right a.function_there a.known_there a.there a.operation b.number b.function b.known b.handle b.operator_ b.left b.right b.function_there b.known_there b.there b.operation words left right in
+          ap (λ x. x.result) a.same ∙ (ap type_spelled answers ∙ sym (ap (λ x. x.result) b.same))
+        where
+          one_word : {a b : List ℕ} → Spelled a ≡ Spelled b → a ≡ b
+          one_word e = cc
+
+      alike : (x y : Signature) → IsSpelled shape x → IsSpelled shape y → x.word ≡ y.word → x.operands ≡ y.operands → x.result ≡ y.result
+      alike x y is_x is_y word operands = agree x y (operator_of x is_x) (operator_of y is_y) word operands
+
+      parts : (place : ℕ) (f : shapes.Function) → slice_get shape.functions place ≡ Some f → (h : ℕ) → PartsFit shape.parts f (handle_type f h) (expression_of f h)
+      parts place f there h =
+          let k = found_shape place f there in
+          subst (λ f. PartsFit shape.parts f (handle_type f h) (expression_of f h)) k.same
+          (parts_at m.types m.functions ess shape k.number k.function k.function_there k.known k.known_there k.fit h)
+
+  pub has_meaning : HasTypedMeaning m info
+  has_meaning = has_typed_meaning shape consistent
+
+  pub has_world : HasTypedWorld m info
+  has_world settings fit meaning typed =
+      steady_world shape settings meaning (λ w j n g vs. steady_calls (environment_of shape settings meaning) w meaning shape.functions (all_are_written m.types m.functions ess [] tt) j n g vs [])
+
+  pub never_stuck : (explicit : Bool) → IsTrue (nothing_named m) → IsTrue (scope_holds m info) → NamesAreCounted m → IsNeverStuck m info (written_program m info explicit)
+  never_stuck explicit unnamed scope counted settings fit meaning typed g f found arguments typed_arguments world turns past =
+      let well = all_well_formed m.types shape m.functions ess (accepted_parts m info accepted).5 [] tt in
+      subst (λ (text : TextModule). IsNotStuck (run_module shape settings world meaning turns g arguments past) × (KeepsTypes (run_module shape settings world meaning turns g arguments past) → IsNotStuck (follow_module text settings world meaning is_request turns (function_name (module_names m) g) arguments past)))
+      (sym (program_reads m info explicit accepted))
+      (runs_are_not_stuck shape (outer_names (module_names m)) (namings (module_names m) m info) (module_fits m info accepted unnamed scope counted) well settings fit meaning typed g f found arguments typed_arguments world turns past)

@@ -1,0 +1,8 @@
+use Rattle.naga_form.proofs.Meanings.{consistent, has_meaning}
+use Rattle.naga_form.proofs.has_a_typed_meaning.Goals as goal
+
+pub returns-clause-consistent : goal.returns-clause-consistent
+returns-clause-consistent c = consistent
+
+pub returns-clause-meaning : goal.returns-clause-meaning
+returns-clause-meaning c = has_meaning
