@@ -31,7 +31,7 @@ use Rattle.naga_form.specs.Literals.{literal_value}
 use Rattle.naga_form.specs.Shapes.{expression_shape, statements_shape, function_shape, outer_names, function_naming, binary_shape, statement_shape, given_from}
 use Rattle.naga_form.proofs.Named.{numbered_distinct, name_is, item_not_numbered, items_tell, function_item, argument_item, function_there, argument_there}
 use Rattle.naga_form.proofs.Facts.{returned_at}
-use Rattle.std.proofs.lemmas.Option.{slice_get-map, slice_get_within}
+use Rattle.std.proofs.lemmas.Option.{slice_get-map}
 use Rattle.indexmap.specs.IndexMap.{keys}
 use Rattle.naga_ir.specs.declared.expression.Expression.TheVariants as expression
 use Rattle.naga_operators.specs.declared.BinaryOperator.{BinaryOperator}
@@ -134,6 +134,19 @@ at_any types f es h P none some = subst P (sym (slice_get-map expression_shape f
     by None is = none
     by (Some e) is = some e is
 
+-- operands stand before their expressions
+pub ordered_at : (types : List Type_) (f : ir_function.Function) (es : List ExpressionInfo) → function_fits types f es ≡ true → (h : ℕ) (e : ir.Expression) → slice_get f.expressions h ≡ Some e → AllBelow h (operands_of (Some (expression_shape e)))
+ordered_at types f es fits h (expression.Load q) at = let l = load_word_at types f es h q fits at in (l.1, tt)
+ordered_at types f es fits h (expression.Binary op left right) at = let o = binary_at types f es h op left right fits at in both op o.left_before o.right_before
+  where
+    both : (op : BinaryOperator) → left < h → right < h → AllBelow h (operands_of (Some (binary_shape (operator_form op) left right)))
+    both operator.LogicalAnd a b = (a, (b, tt))
+    both _ a b = (a, (b, tt))
+ordered_at types f es fits h _ at = tt
+
+pub ordered : (types : List Type_) (f : ir_function.Function) (es : List ExpressionInfo) → function_fits types f es ≡ true → (h : ℕ) → AllBelow h (operands_of (expression_of (function_shape types f es) h))
+ordered types f es fits h = at_any types f es h (λ o. AllBelow h (operands_of o)) tt (ordered_at types f es fits h)
+
 -- ---- one function
 module _ (m : Module) (g : ℕ) (f : ir_function.Function) (found : slice_get m.functions g ≡ Some f) (es : List ExpressionInfo) (fits : function_fits m.types f es ≡ true) (unnamed : IsTrue (length (keys f.named_expressions) == 0)) (p : shapes.Module) (constants : p.constant_types ≡ []) (globals : p.global_types ≡ []) where
   abbrev own : Naming
@@ -166,15 +179,6 @@ module _ (m : Module) (g : ℕ) (f : ir_function.Function) (found : slice_get m.
   -- the type of a declaration that has a word
   declared_as : (ty : ℕ) (w : List ℕ) → word_at m.types ty ≡ Some w → declared_type m.types ty ≡ type_spelled w
   declared_as ty w e = ap (λ o. type_told o (identity m.types (Handle ty))) (declared_spelling m.types ty w e)
-
-  pub ordered_at : (h : ℕ) (e : ir.Expression) → slice_get f.expressions h ≡ Some e → AllBelow h (operands_of (Some (expression_shape e)))
-  ordered_at h (expression.Load q) at = let l = load_word_at m.types f es h q fits at in (l.1, tt)
-  ordered_at h (expression.Binary op left right) at = let o = binary_at m.types f es h op left right fits at in both op o.left_before o.right_before
-    where
-      both : (op : BinaryOperator) → left < h → right < h → AllBelow h (operands_of (Some (binary_shape (operator_form op) left right)))
-      both operator.LogicalAnd a b = (a, (b, tt))
-      both _ a b = (a, (b, tt))
-  ordered_at h _ at = tt
 
   -- the spelling of a pointer to a local
   pointer_of : (v : ℕ) (l : LocalVariable) (w : List ℕ) → slice_get f.local_variables v ≡ Some l → word_at m.types l.ty ≡ Some w → shapes.local_pointer shape v ≡ local_pointer w
@@ -320,7 +324,7 @@ module _ (m : Module) (g : ℕ) (f : ir_function.Function) (found : slice_get m.
   function_fits_shape all_counted callees earlier counted scope = record {
     outer = refl;
     earlier = sym earlier;
-    ordered = λ h. at_any m.types f es h (λ o. AllBelow h (operands_of o)) tt (ordered_at h);
+    ordered = ordered m.types f es fits;
     words = λ h. at_any m.types f es h (λ o. WordFits p own o) tt (words_at all_counted h);
     leaves = λ h. at_any m.types f es h (λ o. LeafFits p shape (handle_type shape h) o) tt (leaf_at h);
     regular = regular callees f.body (function_fits_block m.types f es fits);

@@ -6,6 +6,7 @@ pub mod LiteralValues
 pub mod Interfaces
 pub mod Facts
 pub mod Runs
+pub mod ScopeRules
 pub mod Meanings
 pub mod WrittenTypes
 pub mod Abstractions

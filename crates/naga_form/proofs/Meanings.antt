@@ -1,12 +1,10 @@
 -- An accepted module has a typed meaning and a world that keeps the types, and no run of it is stuck.
-use Rattle.std.proofs.Common.{[], ◌≡◌, ℕ, suc, zero, Bool, true, false, List, ◌∷◌, map, length, Option, Some, None, refl, sym, ap, subst, ◌∙◌, ◌⊎◌, inl, inr, true≢false, codes}
+use Rattle.std.proofs.Common.{[], ◌≡◌, ℕ, suc, zero, Bool, true, false, List, ◌∷◌, length, Option, Some, None, refl, sym, ap, subst, ◌∙◌, ◌⊎◌, inl, inr, codes}
 use Rattle.std.specs.Prelude.{IsTrue, slice_get, reverse, cond, if◌then◌else◌}
 use mathlib.Core.List.{reverse_aux}
 use Rattle.std.specs.List.{starts_with}
 use Rattle.std.specs.Bool.{nat_eq}
 use Rattle.std.specs.Str.{bytes_eq}
-use Rattle.std.specs.Option.{option_map}
-use Rattle.std.proofs.lemmas.Option.{slice_get-map}
 use Rattle.std.proofs.lemmas.Slice.Eq.{bytes_eq-Decides}
 use Rattle.naga_ir.specs.StatementTree.{BlockTree, no_statements, statement, emit, store, StatementTree, simple}
 use Rattle.naga_ir.specs.declared.expression.Expression as ir
@@ -18,37 +16,36 @@ use Rattle.naga_operators.specs.declared.BinaryOperator.{BinaryOperator}
 use Rattle.naga_operators.specs.declared.BinaryOperator.TheVariants as operator
 use Rattle.naga_info.specs.declared.info.ExpressionInfo.{ExpressionInfo}
 use Rattle.naga_info.specs.declared.info.ModuleInfo.{ModuleInfo}
-use Rattle.naga_info.proofs.Options.{then_some}
-use Rattle.accepted_modules.specs.Types.{spelling_of, spelling_at, operator_word, local_pointer}
+use Rattle.accepted_modules.specs.Types.{spelling_at, local_pointer}
 use Rattle.accepted_modules.specs.Accepted.{is_accepted, function_fits, functions_fit, statement_fits, block_fits}
-use Rattle.accepted_modules.proofs.Accepting.{accepted_parts, functions_fit_at, function_fits_block, load_word_at, store_fits_word, binary_at, IsOperation}
+use Rattle.accepted_modules.proofs.Accepting.{accepted_parts, function_fits_block, load_word_at, store_fits_word, binary_at, IsOperation}
 use Rattle.accepted_modules.proofs.Operating.{accepted_operations_agree}
-use Rattle.shader_runs.specs.Value.{ValueType, BooleanType, IntegerType, PointerType, OtherType, Word, Spelled, PartWord, IndexWord, Value}
-use Rattle.shader_runs.specs.World.{World, Meaning, Event, entries, Environment, Settings}
-use Rattle.shader_runs.specs.Outcome.{Reached, and_then, Outcome, answer}
+use Rattle.shader_runs.specs.Value.{ValueType, BooleanType, IntegerType, PointerType, OtherType, Spelled, Value}
+use Rattle.shader_runs.specs.World.{World, Meaning, Event, entries, Environment}
+use Rattle.shader_runs.specs.Outcome.{Reached, and_then, answer}
 use Rattle.shader_runs.specs.Program as shapes
 use Rattle.shader_runs.specs.Program.{handle_type, expression_of, argument_count}
 use Rattle.shader_runs.specs.ProgramRun.{Call, Kept, constants_kept, first_used_all, entered, run, run_all, run_body, called, run_call}
 use Rattle.shader_runs.specs.Constants.{environment_of, run_module, follow_module}
-use Rattle.shader_runs.specs.Premises.{handle_types}
 use Rattle.shader_runs.specs.Text.{TextModule}
 use Rattle.shader_runs.specs.Correct.{KeepsTypes}
 use Rattle.shader_runs.specs.Progress.{IsNotStuck, IsPointer, LoadFits, AreWellFormed, IsWellFormed, FunctionIsWellFormed, AllWellFormed}
-use Rattle.shader_runs.specs.Typing.{Signature, signatures_of, IsOneOf, first_of, later_of, IsSpelled, in_function, in_initialiser, PartsFit, IsConsistent}
+use Rattle.shader_runs.specs.Typing.{Signature, signatures_of, IsOneOf, first_of, later_of, IsSpelled, in_function, in_initialiser, PartsFit}
 use Rattle.shader_runs.proofs.Update.{and_left, and_right}
 use Rattle.shader_runs.proofs.Typing.{has_typed_meaning}
 use Rattle.shader_runs.proofs.Starts.{steady_world}
 use Rattle.shader_runs.proofs.Progress.{runs_are_not_stuck}
 use Rattle.wgsl_text.specs.Words.{stands_in}
 use Rattle.naga_form.specs.Operators.{operator_form}
-use Rattle.naga_form.specs.Premises.{nothing_named, scope_holds}
+use Rattle.naga_form.specs.Premises.{nothing_named, ScopesHold}
 use Rattle.naga_form.specs.Names.{NamesAreCounted, module_names, function_name}
-use Rattle.naga_form.specs.Types.{type_spelled, value_type, integer_words}
+use Rattle.naga_form.specs.Types.{type_spelled, integer_words}
 use Rattle.naga_form.specs.Shapes.{binary_shape, expression_shape, statement_shape, statements_shape, function_shape, function_shapes, program_shape, namings, outer_names}
 use Rattle.naga_form.specs.Abstraction.{is_request}
 use Rattle.naga_form.specs.Form.{written_program}
 use Rattle.naga_form.specs.Meanings.{OperatorsAreConsistent, HasTypedMeaning, HasTypedWorld, IsNeverStuck}
 use Rattle.naga_form.proofs.Fits.{typed_as, at_any}
+use Rattle.naga_form.proofs.ScopeRules.{scopes_are_checked}
 use Rattle.naga_form.proofs.Runs.{module_fits, program_reads}
 
 -- ---- lists that are turned round
@@ -343,9 +340,9 @@ module _ (m : Module) (info : ModuleInfo) (accepted : IsTrue (is_accepted m info
   has_world settings fit meaning typed =
       steady_world shape settings meaning (λ w j n g vs. steady_calls (environment_of shape settings meaning) w meaning shape.functions (all_are_written m.types m.functions ess [] tt) j n g vs [])
 
-  pub never_stuck : (explicit : Bool) → IsTrue (nothing_named m) → IsTrue (scope_holds m info) → NamesAreCounted m → IsNeverStuck m info (written_program m info explicit)
+  pub never_stuck : (explicit : Bool) → IsTrue (nothing_named m) → ScopesHold m info → NamesAreCounted m → IsNeverStuck m info (written_program m info explicit)
   never_stuck explicit unnamed scope counted settings fit meaning typed g f found arguments typed_arguments world turns past =
       let well = all_well_formed m.types shape m.functions ess (accepted_parts m info accepted).5 [] tt in
       subst (λ (text : TextModule). IsNotStuck (run_module shape settings world meaning turns g arguments past) × (KeepsTypes (run_module shape settings world meaning turns g arguments past) → IsNotStuck (follow_module text settings world meaning is_request turns (function_name (module_names m) g) arguments past)))
       (sym (program_reads m info explicit accepted))
-      (runs_are_not_stuck shape (outer_names (module_names m)) (namings (module_names m) m info) (module_fits m info accepted unnamed scope counted) well settings fit meaning typed g f found arguments typed_arguments world turns past)
+      (runs_are_not_stuck shape (outer_names (module_names m)) (namings (module_names m) m info) (module_fits m info accepted unnamed ((scopes_are_checked m info accepted).1 scope) counted) well settings fit meaning typed g f found arguments typed_arguments world turns past)

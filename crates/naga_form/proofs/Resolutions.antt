@@ -35,7 +35,7 @@ use Rattle.shader_runs.proofs.Update.{and_left, and_right}
 use Rattle.naga_form.proofs.Facts.{further, from_start}
 use Rattle.naga_form.specs.Types.{told_type, declared_type}
 use Rattle.naga_form.specs.Names.{NamesAreCounted, module_names, argument_name, local_name, numbered_name}
-use Rattle.naga_form.specs.Types.{value_type, type_names}
+use Rattle.naga_form.specs.Types.{type_names}
 use Rattle.naga_form.specs.Shapes.{no_parts, statement_shape, function_naming}
 use Rattle.naga_form.specs.Form.{PlainForm, ValueForm, ReferenceForm, as_value, as_reference, own_plain, own_if, standing_plain, plain_below, plain_form, value_form, let_form, then_if, lets_form, line_form, lines_form, locals_form, parameters_form, function_form, functions_form, written_program}
 use Rattle.naga_form.specs.Resolution.{Target, ArgumentTarget, LocalTarget, LetTarget, Scope, lookup, parameters_scope, functions_scope, expression_targets, statements_targets, locals_targets, function_targets, let_number, standing_meant, own_meant, own_meant_if, meant_below, value_meant, bound_after, bound_after_all, bound_behind, lets_meant, line_meant, lines_meant, first_values_meant, function_meant, functions_meant, ResolvesAs}

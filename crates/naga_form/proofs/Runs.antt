@@ -33,7 +33,7 @@ use Rattle.shader_runs.proofs.Names.{length-functions_of}
 use Rattle.shader_runs.proofs.Update.{and_left, and_right}
 use Rattle.item_names.proofs.Counts.{element}
 use Rattle.naga_form.specs.Form.{functions_form, written_program}
-use Rattle.naga_form.specs.Premises.{nothing_named, scope_holds}
+use Rattle.naga_form.specs.Premises.{nothing_named, scope_holds, ScopesHold}
 use Rattle.naga_form.specs.Names.{NamesAreCounted, module_names, function_name}
 use Rattle.naga_form.specs.Shapes.{function_shapes, program_shape, namings_from, namings, outer_names, function_naming}
 use Rattle.naga_form.specs.Abstraction.{function_read, program_read, is_request}
@@ -41,20 +41,13 @@ use Rattle.naga_form.specs.Faithful.{RunsAs}
 use Rattle.naga_form.proofs.Facts.{further, from_start}
 use Rattle.naga_form.proofs.Abstractions.{locals_spelled, function_reads}
 use Rattle.naga_form.proofs.Fits.{function_fits_shape}
+use Rattle.naga_form.proofs.ScopeRules.{namings_functions, scopes_are_checked}
 use Rattle.naga_form.proofs.Named.{items_tell, function_item, function_there}
 use Rattle.indexmap.specs.IndexMap.{keys}
 
 pub form_functions-map : (ns : List Naming) → form_functions ns ≡ map form_function ns
 form_functions-map [] = refl
 form_functions-map (n ∷ ns) = ap (λ fs. form_function n ∷ fs) (form_functions-map ns)
-
-pub functions_of-map : (ns : List Naming) → functions_of ns ≡ map (λ n. n.function) ns
-functions_of-map [] = refl
-functions_of-map (n ∷ ns) = ap (λ fs. n.function ∷ fs) (functions_of-map ns)
-
-pub functions_of_namings : (names : NameMap) (g : ℕ) (fs : List shapes.Function) → map (λ n. n.function) (namings_from names g fs) ≡ fs
-functions_of_namings names g [] = refl
-functions_of_namings names g (f ∷ fs) = ap (λ fs. f ∷ fs) (functions_of_namings names (g + 1) fs)
 
 pub shapes_counted : (types : List Type_) (fs : List ir_function.Function) (ess : List (List ExpressionInfo)) → IsTrue (functions_fit types fs ess) → length (function_shapes types fs ess) ≡ length fs
 shapes_counted types [] [] fits = refl
@@ -138,7 +131,7 @@ module _ (m : Module) (info : ModuleInfo) (accepted : IsTrue (is_accepted m info
       let listed = namings_from (module_names m) 0 (function_shapes m.types m.functions info.functions.items) in
       let count : length (reverse (function_shapes m.types m.functions info.functions.items)) ≡ length m.functions = length-reverse (function_shapes m.types m.functions info.functions.items) ∙ shapes_counted m.types m.functions info.functions.items parts.5 in
       record {
-        functions = functions_of-map (reverse listed) ∙ (map-reverse (λ n. n.function) listed ∙ ap reverse (functions_of_namings (module_names m) 0 (function_shapes m.types m.functions info.functions.items)));
+        functions = namings_functions m info;
         distinct = record {
           functions = λ g k lg lk e.
               let a = element m.functions g (subst (λ n. g < n) count lg) in
@@ -165,5 +158,5 @@ module _ (m : Module) (info : ModuleInfo) (accepted : IsTrue (is_accepted m info
       ap (λ (text : TextModule). follow_module text settings world meaning is_request turns (function_name (module_names m) g) arguments past) (program_reads m info explicit accepted)
       ∙ runs_alike p (outer_names (module_names m)) (namings (module_names m) m info) module_fits settings fit meaning typed g f found arguments typed_arguments world turns past keeps
 
-pub runs_as : (m : Module) (info : ModuleInfo) (explicit : Bool) → IsTrue (is_accepted m info) → IsTrue (nothing_named m) → IsTrue (scope_holds m info) → NamesAreCounted m → RunsAs m info (written_program m info explicit)
-runs_as m info explicit accepted unnamed scope counted = runs m info accepted unnamed scope counted explicit
+pub runs_as : (m : Module) (info : ModuleInfo) (explicit : Bool) → IsTrue (is_accepted m info) → IsTrue (nothing_named m) → ScopesHold m info → NamesAreCounted m → RunsAs m info (written_program m info explicit)
+runs_as m info explicit accepted unnamed scope counted = runs m info accepted unnamed ((scopes_are_checked m info accepted).1 scope) counted explicit

@@ -1,18 +1,29 @@
 -- What the laws ask of a module beside its acceptance.
-use Rattle.std.specs.Prelude.{Bool, length, nat_le, ◌^◌, ◌==◌}
+use Rattle.std.specs.Prelude.{Bool, List, [], ◌∷◌, length, nat_le, ◌^◌, ◌==◌}
 use Rattle.std.specs.List.{list_all}
 use Rattle.indexmap.specs.IndexMap.{keys}
 use Rattle.naga_ir.specs.declared.module.Module.{Module}
 use Rattle.naga_info.specs.declared.info.ModuleInfo.{ModuleInfo}
+use Rattle.shader_runs.specs.Program as shapes
 use Rattle.shader_runs.specs.Scope.{fits_function}
+use Rattle.shader_runs.specs.ScopeRules.{ScopeHolds}
 use Rattle.naga_form.specs.Names.{module_names}
-use Rattle.naga_form.specs.Shapes.{namings}
+use Rattle.naga_form.specs.Shapes.{program_shape, namings}
 
 -- no function has expressions that a front end named
 abbrev pub nothing_named : Module → Bool
 nothing_named m = list_all (λ f. length (keys f.named_expressions) == 0) m.functions
 
--- each handle is in scope where it is used, and no `Emit` is refused
+-- the rules of scope hold in each function
+abbrev pub EachScopeHolds : List shapes.Function → Type 0
+EachScopeHolds [] = Unit {0}
+EachScopeHolds (f ∷ fs) = ScopeHolds f × EachScopeHolds fs
+
+-- each handle is in scope where it is used, and each `Emit` is allowed
+abbrev pub ScopesHold : Module → ModuleInfo → Type 0
+ScopesHold m info = EachScopeHolds (program_shape m info).functions
+
+-- the check of these rules
 abbrev pub scope_holds : Module → ModuleInfo → Bool
 scope_holds m info = list_all fits_function (namings (module_names m) m info)
 

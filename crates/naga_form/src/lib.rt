@@ -1,7 +1,7 @@
 //! What is written for a module, and why it does what the module does. The public functions are laws.
 #![tactic(auto)]
 
-ghost use Rattle.std.specs.Prelude.{◌≡◌, ℕ, List, Some, None, IsTrue, Bool, length};
+ghost use Rattle.std.specs.Prelude.{◌≡◌, ◌↔◌, ℕ, List, Some, None, IsTrue, Bool, length};
 ghost use Rattle.naga_ir.specs.declared.module.Function.{Function};
 ghost use Rattle.naga_ir.specs.declared.module.Module.{Module};
 ghost use Rattle.naga_ir.specs.declared.types.Type_.{Type_};
@@ -19,7 +19,7 @@ ghost use Rattle.naga_info.specs.declared.info.TypeResolution.{TypeResolution};
 ghost use Rattle.naga_form.specs.OperatorTable.{Operator, TypeIsSound, asks, is_told, one_word, operand_count, operator_word, run_word};
 ghost use Rattle.naga_form.specs.Bindings.{BindsAs};
 ghost use Rattle.naga_form.specs.Form.{function_form, written_program};
-ghost use Rattle.naga_form.specs.Premises.{nothing_named, scope_holds, handles_are_counted};
+ghost use Rattle.naga_form.specs.Premises.{nothing_named, scope_holds, ScopesHold, handles_are_counted};
 ghost use Rattle.naga_form.specs.Shapes.{function_naming, program_shape, outer_names, namings};
 ghost use Rattle.accepted_modules.specs.Accepted.{is_accepted};
 ghost use Rattle.accepted_modules.specs.Part.{is_written_so_far};
@@ -61,9 +61,14 @@ pub fn is_read_as_its_shapes()
     ensures { (m : Module) (info : ModuleInfo) (explicit : Bool) → IsTrue (is_accepted m info) → program_read (written_program m info explicit) ≡ form_module (program_shape m info) (outer_names (module_names m)) (namings (module_names m) m info) }
 {}
 
-/// It does what the module does, where the module's handles are in scope where they are used.
+/// It does what the module does, where the rules of scope hold in the module.
 pub fn runs_as_the_module()
-    ensures { (m : Module) (info : ModuleInfo) (explicit : Bool) → IsTrue (is_accepted m info) → IsTrue (nothing_named m) → IsTrue (scope_holds m info) → NamesAreCounted m → RunsAs m info (written_program m info explicit) }
+    ensures { (m : Module) (info : ModuleInfo) (explicit : Bool) → IsTrue (is_accepted m info) → IsTrue (nothing_named m) → ScopesHold m info → NamesAreCounted m → RunsAs m info (written_program m info explicit) }
+{}
+
+/// The check of scope holds of an accepted module exactly where the rules of scope hold in each of its functions.
+pub fn scopes_are_checked()
+    ensures { (m : Module) (info : ModuleInfo) → IsTrue (is_accepted m info) → (IsTrue (scope_holds m info) ↔ ScopesHold m info) }
 {}
 
 /// The operators of an accepted module are typed consistently, so that some meaning gives each a value of its handle's type.
@@ -77,10 +82,10 @@ pub fn has_a_typed_world()
     ensures { (m : Module) (info : ModuleInfo) → IsTrue (is_accepted m info) → HasTypedWorld m info }
 {}
 
-/// No run of an accepted module is stuck, nor one of its program in a world that keeps the types, where the module's handles are in
-/// scope where they are used.
+/// No run of an accepted module is stuck, nor one of its program in a world that keeps the types, where the rules of scope hold in the
+/// module.
 pub fn is_never_stuck()
-    ensures { (m : Module) (info : ModuleInfo) (explicit : Bool) → IsTrue (is_accepted m info) → IsTrue (nothing_named m) → IsTrue (scope_holds m info) → NamesAreCounted m → IsNeverStuck m info (written_program m info explicit) }
+    ensures { (m : Module) (info : ModuleInfo) (explicit : Bool) → IsTrue (is_accepted m info) → IsTrue (nothing_named m) → ScopesHold m info → NamesAreCounted m → IsNeverStuck m info (written_program m info explicit) }
 {}
 
 /// Two types that no text spells so far have values of one type only where they are told by the same, a struct by its handle and

@@ -135,7 +135,7 @@ module _ (m : Module) (names : NameMap) (g : ℕ) (f : Function) (es : List Expr
   unnamed = (written_parts f can.written).0
 
   pub ordered : OperandsStandBefore f.expressions
-  ordered h e at = ordered_at m g f can.function es can.fits unnamed nothing_outside refl refl h e at
+  ordered h e at = ordered_at m.types f es can.fits h e at
 
   -- ---- names of handles
   pub none_given : (h k : ℕ) → given_after (naming_of m g f es).function h k ≡ k
