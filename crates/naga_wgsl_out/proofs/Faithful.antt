@@ -1,5 +1,5 @@
 -- What was written is faithful to the module.
-use Rattle.std.proofs.Common.{◌≡◌, ℕ, false, List, [], ◌∷◌, ◌++◌, drop, refl, sym, ap, subst, ◌∙◌, Ok, Err, inl, inr}
+use Rattle.std.proofs.Common.{◌≡◌, ℕ, false, List, [], ◌∷◌, ◌++◌, drop, refl, sym, ap, subst, ◌∙◌, true≢false, Ok, Err, inl, inr}
 use Rattle.std.specs.Prelude.{IsTrue, Result, OnOk, OnErr, codes}
 use Rattle.std.specs.List.{enumerate_from, list_all}
 use Rattle.std.proofs.lemmas.Bool.{and_parts}
@@ -24,6 +24,7 @@ use Rattle.naga_form.proofs.Programs.{is_program}
 use Rattle.naga_form.specs.Resolution.{ResolvesAs}
 use Rattle.naga_form.proofs.Resolutions.{resolves, functions_are_written, written_parts}
 use Rattle.naga_form.proofs.Runs.{runs_as}
+use Rattle.naga_form.proofs.ScopeRules.{scopes_are_checked}
 use Rattle.spelling_parts.specs.Sink.{IsBehind}
 use Rattle.wgsl_pieces.specs.Appends.{Appends}
 use Rattle.wgsl_pieces.proofs.Appending.{appends_as}
@@ -53,10 +54,10 @@ for_names m info (Memory e) before after is = tt
 for_names m info _ before after is = absurd is
 
 -- and so is an operand out of scope
-pub for_scope : (m : Module) (info : ModuleInfo) (error : Error) (before after : ℕ) → IsCustom (codes "operand out of scope") error → scope_holds m info ≡ false → IsRefusal m info before after error
-for_scope m info (Custom message) before after is out = inr (is, out)
-for_scope m info (Memory e) before after is out = tt
-for_scope m info _ before after is out = absurd is
+pub for_scope : (m : Module) (info : ModuleInfo) → IsTrue (is_accepted m info) → (error : Error) (before after : ℕ) → IsCustom (codes "operand out of scope") error → scope_holds m info ≡ false → IsRefusal m info before after error
+for_scope m info accepted (Custom message) before after is out = inr (is, λ rules. true≢false (sym ((scopes_are_checked m info accepted).1 rules) ∙ out))
+for_scope m info accepted (Memory e) before after is out = tt
+for_scope m info accepted _ before after is out = absurd is
 
 -- so are a sink that failed and want of memory
 pub for_want : (m : Module) (info : ModuleInfo) (error : Error) (before after : ℕ) → IsWant before after error → IsRefusal m info before after error
@@ -92,10 +93,10 @@ module _ (m : Module) (info : ModuleInfo) (flags : WriterFlags) (accepted : IsTr
 
   pub faithful : (held now : List ℕ) (before after : ℕ) → now ≡ held ++ written_text m info flags → FaithfulWriting m info (Ok tt) held now before after
   faithful held now before after appended = record {
-    refusals = record { written = written; in_scope = scope; told = has.told; keys = has.keys };
+    refusals = record { written = written; in_scope = (scopes_are_checked m info accepted).0 scope; told = has.told; keys = has.keys };
     reading = record { text = written_text m info flags; appended = appended; program = written_program m info (tells_types flags); reading = one };
     interface = each held now appended (HasInterfaceOf m) (has_interface m info (tells_types flags) (functions_fit_length m.types m.functions info.functions.items (accepted_functions_fit m info accepted)));
-    runs = each held now appended (RunsAs m info) (runs_as m info (tells_types flags) accepted (unnamed m written) scope has.counted);
+    runs = each held now appended (RunsAs m info) (runs_as m info (tells_types flags) accepted (unnamed m written) ((scopes_are_checked m info accepted).0 scope) has.counted);
   }
 
   -- the answer of the call that wrote the lines

@@ -9,7 +9,7 @@ use Rattle.item_names.specs.declared.error.NamerError.TheVariants as namer_error
 use Rattle.name_keys.specs.Keys.{NameMap}
 use Rattle.item_names.specs.Reset.{labelled_items}
 use Rattle.naga_form.specs.Names.{wgsl_names, HasNamesOf, NamesAreCounted}
-use Rattle.naga_form.specs.Premises.{scope_holds}
+use Rattle.naga_form.specs.Premises.{ScopesHold}
 use Rattle.wgsl_pieces.specs.Errors.{IsCustom, IsSinkWant}
 use Rattle.wgsl_pieces.specs.declared.error.Error.{Error}
 use Rattle.wgsl_pieces.specs.declared.error.Error.TheVariants.{FmtError, Custom, Unimplemented, Memory}
@@ -37,9 +37,9 @@ IsErrorOfNames namer_error.Full error = IsCustom (codes "namer is full") error
 IsErrorOfNames namer_error.KeyFull error = IsCustom (codes "name key out of range") error
 IsErrorOfNames (namer_error.Memory e) error = error ≡ Memory e
 
--- some operand is used where it is out of scope, or some `Emit` is refused by the rules of scope
+-- the rules of scope don't hold in some function: an operand is used where it is out of scope, or an `Emit` isn't allowed
 abbrev pub IsOutOfScope : Module → ModuleInfo → (message : List ℕ) → Type 0
-IsOutOfScope m info message = (message ≡ codes "operand out of scope") × IsFalse (scope_holds m info)
+IsOutOfScope m info message = (message ≡ codes "operand out of scope") × (ScopesHold m info → ⊥)
 
 -- Why a module is refused, of which this is known, where the sink had failed so often before and has failed so often now: the sink failed,
 -- memory ran out, the names can't be told, an operand is out of scope, or the module holds what is not written so far.
@@ -59,7 +59,7 @@ TellsOfModule _ = ⊤
 -- no reason stands in the module
 pub record IsWritable (m : Module) (info : ModuleInfo) : Type 0 where
   pub written : IsTrue (is_written_so_far m)
-  pub in_scope : IsTrue (scope_holds m info)
+  pub in_scope : ScopesHold m info
   pub told : NamerIsFull m → ⊥
   pub keys : KeyIsOutOfRange m → ⊥
 

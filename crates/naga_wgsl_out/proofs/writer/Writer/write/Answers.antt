@@ -7,7 +7,7 @@ use Rattle.naga_form.specs.Resolution.{ResolvesAs}
 use Rattle.naga_form.specs.Bindings.{BindsAs}
 use Rattle.naga_wgsl_fns.specs.Texts.{tells_types}
 use Rattle.naga_wgsl_out.specs.Writing.{written_text}
-use Rattle.naga_wgsl_out.proofs.Faithful.{concludes, unnamed}
+use Rattle.naga_wgsl_out.proofs.Faithful.{concludes, for_scope, refused, unnamed}
 use Rattle.naga_wgsl_out.proofs.writer.Writer.write.Goals as goal
 
 pub returns-clause-faithful : goal.returns-clause-faithful
@@ -52,3 +52,11 @@ returns-clause-text_err g c =
 
 pub scope_holds-requires-clause-unnamed : goal.scope_holds-requires-clause-unnamed
 scope_holds-requires-clause-unnamed g c = unnamed c.args.«module».now (sym c.is_written_so_far.ensures ∙ c.if-not-is_written_so_far.false)
+
+pub returns-then-not-branch-clause-faithful : goal.returns-then-not-branch-clause-faithful
+returns-then-not-branch-clause-faithful g c =
+    let m = c.args.«module».now in
+    let text = g.W.TextSink.text c.args.self.now.sink in
+    let failures = g.W.TextSink.failures c.args.self.now.sink in
+    let fails = sym c.in_ok-scope_holds.ensures.scope ∙ c.if-not-branch.true in
+    refused m c.args.info.now c.custom.result text text failures failures (for_scope m c.args.info.now c.requires.accepted c.custom.result failures failures c.custom.ensures fails)
