@@ -1,5 +1,5 @@
 use naga_acceptance::accepts;
-use naga_ir::{BinaryOperator, Expression, Handle, Literal, Type_};
+use naga_ir::{BinaryOperator, Expression, Handle, Literal, Scalar, Type_};
 use naga_scope::{nothing_named, scope_holds};
 use sample_modules::Sample;
 use std::alloc::{AllocError, Global};
@@ -13,6 +13,7 @@ enum Row {
     ConstantSum { emits: usize },
     ArgumentSum { emits_argument: bool },
     ReadSum { comes_first: bool },
+    PointerSums { apart: bool },
 }
 
 fn build(sample: &mut Sample, row: Row) -> Result<(), AllocError> {
@@ -24,6 +25,7 @@ fn build(sample: &mut Sample, row: Row) -> Result<(), AllocError> {
         Row::ConstantSum { emits } => constant_sum(sample, ty, emits),
         Row::ArgumentSum { emits_argument } => argument_sum(sample, ty, emits_argument),
         Row::ReadSum { comes_first } => read_sum(sample, ty, comes_first),
+        Row::PointerSums { apart } => pointer_sums(sample, ty, apart),
     }
 }
 
@@ -101,6 +103,22 @@ fn read_sum(sample: &mut Sample, ty: Handle<Type_>, comes_first: bool) -> Result
     };
     sample.emit(first, first)?;
     sample.emit(last, last)?;
+    sample.end_with(sum)
+}
+
+/// Two sums of pointers, one of which is known as an `i32` and the other as a `u32`: of pointers to locals of
+/// these types, or of pointers to one local.
+fn pointer_sums(sample: &mut Sample, ty: Handle<Type_>, apart: bool) -> Result<(), AllocError> {
+    let unsigned = sample.scalar(Scalar::U32)?;
+    let pointer = local(sample, ty)?;
+    let other = if apart {
+        local(sample, unsigned)?
+    } else {
+        pointer
+    };
+    let sum = double(sample, pointer, ty)?;
+    let other_sum = double(sample, other, unsigned)?;
+    sample.emit(sum, other_sum)?;
     sample.end_with(sum)
 }
 
@@ -193,5 +211,16 @@ fn rows_hold(rt: HostRuntime) -> Result<(), Fail> {
     for (row, want) in ROWS {
         check_row(&rt, rt.alloc(), *row, *want)?;
     }
+    Ok(())
+}
+
+/// `naga_form::has_a_typed_meaning` says of each accepted module that an operator over operands of types alike has one
+/// type. Sums of pointers to different types are accepted with different types, sums of pointers to one type aren't.
+#[test]
+fn sums_of_pointers_are_told_apart(rt: HostRuntime) -> Result<(), Fail> {
+    let apart = row_holds(rt.alloc(), Row::PointerSums { apart: true })?;
+    assert_eq!(rt; apart, Some(true));
+    let alike = row_holds(rt.alloc(), Row::PointerSums { apart: false })?;
+    assert_eq!(rt; alike, None);
     Ok(())
 }
