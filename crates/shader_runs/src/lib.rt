@@ -8,6 +8,7 @@ ghost use Rattle.shader_runs.specs.Progress.{RunsAreNotStuck};
 ghost use Rattle.shader_runs.specs.Results.{ResultsAreReturned};
 ghost use Rattle.shader_runs.specs.Rows.{RowsHold};
 ghost use Rattle.shader_runs.specs.ScopeRules.{ScopeCheckIsTheRules};
+ghost use Rattle.shader_runs.specs.StatementRows.{StatementRowsHold};
 
 /// A module's functions and entry points and their texts make the same events and end alike.
 pub fn runs_alike()
@@ -55,4 +56,10 @@ pub fn has_typed_world()
 /// The worked functions run as they are said to, and the texts of other writers do something else.
 pub fn rows_hold()
     ensures { RowsHold }
+{}
+
+/// Worked functions for kinds of statements run as they are said to: atomics, images, collectives, barriers, ray traces, jumps,
+/// calls through several functions, discards and loops that don't end.
+pub fn statement_rows_hold()
+    ensures { StatementRowsHold }
 {}
