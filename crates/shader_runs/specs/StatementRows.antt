@@ -1,227 +1,15 @@
 -- Worked functions for kinds of statements: each with its text, and what both runs of it do. Then
 -- texts that other writers would give, which do something else.
 use Rattle.std.specs.Prelude.{◌≡◌, ℕ, pos, Bool, true, false, cond, List, [], ◌∷◌, ◌++◌, Some, None, ◌&&◌, ◌||◌, codes}
-use Rattle.shader_runs.specs.Value.{Bytes, Place, Rooted, GlobalRoot, LocalRoot, ValueType, BooleanType, PointerType, OtherType, Value, Truth, Pointer, Opaque, MemberNamed, ShortCircuit, ShortCircuitAnd, ShortCircuitOr, is_decided}
-use Rattle.shader_runs.specs.World.{Event, Entry, Ask, Read, Write, Discard}
+use Rattle.shader_runs.specs.Value.{Bytes, Place, Rooted, LocalRoot, BooleanType, PointerType, Value, Truth, Pointer, MemberNamed, ShortCircuit, ShortCircuitAnd, ShortCircuitOr, is_decided}
+use Rattle.shader_runs.specs.World.{Event, Entry, Read, Write, Discard}
 use Rattle.shader_runs.specs.Outcome.{Gives, Halts, Stuck, OutOfTurns, Discarded}
-use Rattle.shader_runs.specs.Program.{Fixed, NamedConstant, no_constant, constant, WhenCounted, Always, Constant, Argument, Local, Global, Load, Operator, Access, Logical, Swizzle, Request, Result, Asked, Called, Numbered, Default, Emit, Store, If, Switch, Loop, Break, Continue, Return, Kill, Barrier, BarrierBits, Act, end, Function}
-use Rattle.shader_runs.specs.Text.{Tree, Name, LiteralOf, Deref, Index, PartOf, LogicalOf, Assign, IfElse, SwitchOn, LoopOf, BreakLine, ContinueLine, DiscardLine, last, no_group, group, Line, TextFunction}
+use Rattle.shader_runs.specs.Program.{Fixed, no_constant, Constructed, Block, Constant, Argument, Local, Load, Operator, Logical, Swizzle, Result, Called, Numbered, Default, Emit, Store, If, Switch, Loop, Break, Continue, Return, Kill, Act, end, Function}
+use Rattle.shader_runs.specs.Text.{Tree, Name, LiteralOf, Deref, PartOf, LogicalOf, Assign, Braces, IfElse, SwitchOn, LoopOf, BreakLine, ContinueLine, DiscardLine, last, no_group, group, Line, TextFunction}
 use Rattle.shader_runs.specs.Correct.{ModuleFits}
-use Rattle.shader_runs.specs.Rows.{i32, local_i32, i32_pointer, number, literal, named_by, sum_of, product_of, text_of}
-use Rattle.shader_runs.specs.WorkedModules.{texel, ballot, pair_type, pair, described, statements, cases, Labelled, function_with, lines, call_of, perform, let_own, return_of, digits, pointer_of, variable, number_variable, in_memory, resource, named_function, Example, functions_alone, module_of, outer_of, namings_of, follow_example, run_example, IsWritten, IsWorked, started, CallEnd}
-
--- ---- atomics
-
--- a counter of the work group
-abbrev pub counter_type : Bytes
-counter_type = codes "ptr<workgroup, atomic<i32>>"
-
-abbrev pub counter_place : Place
-counter_place = Rooted (GlobalRoot counter_type 0)
-
--- it is stored to, added to and loaded; what the addition found and what is loaded are added up
-abbrev pub count_function : Function
-count_function =
-    function_with [] (Some i32) [] (
-    described (Global 0) (PointerType counter_type) 3
-    ∷ described (literal 5) i32 2
-    ∷ described Result i32 1
-    ∷ described (Request WhenCounted (codes "atomicLoad") (0 ∷ []) no_constant) i32 1
-    ∷ described (Operator (codes "+") (2 ∷ 3 ∷ [])) i32 1 ∷ []) (
-    Act (Asked (codes "atomicStore")) (0 ∷ 1 ∷ []) None
-    ∷ Act (Asked (codes "atomicAdd")) (0 ∷ 1 ∷ []) (Some 2)
-    ∷ Emit 3 2
-    ∷ Return (Some 4) ∷ [])
-
-abbrev pub atomic_example : Example
-atomic_example =
-    record {
-      constants = [];
-      variables = in_memory (codes "counter") counter_type ∷ [];
-      functions = named_function (codes "count") [] [] count_function ∷ [];
-    }
-
--- its text, with this for the load
-abbrev pub atomic_text : Tree → List TextFunction
-atomic_text load =
-    text_of (codes "count") [] [] (lines (
-    perform (codes "atomicStore") (pointer_of (codes "counter") ∷ digits 5 ∷ [])
-    ∷ let_own 2 (call_of (codes "atomicAdd") (pointer_of (codes "counter") ∷ digits 5 ∷ []))
-    ∷ let_own 3 load
-    ∷ return_of (sum_of (named_by 2) (named_by 3)) ∷ [])) ∷ []
-
--- its events up to the addition
-abbrev pub counted : List Event
-counted =
-    Ask (codes "atomicAdd") (Pointer counter_place ∷ number 5 ∷ [])
-    ∷ Ask (codes "atomicStore") (Pointer counter_place ∷ number 5 ∷ [])
-    ∷ started 0 [] []
-
-abbrev pub AtomicRow : Type 0
-AtomicRow =
-    let text = atomic_text (call_of (codes "atomicLoad") (pointer_of (codes "counter") ∷ [])) in
-    let loading = Ask (codes "atomicLoad") (Pointer counter_place ∷ []) in
-    IsWorked atomic_example text 0 3 [] (Gives (Some (number 15)) (loading ∷ counted))
-
--- ---- images
-
-abbrev pub layers_type : Bytes
-layers_type = codes "texture_2d_array<f32>"
-
-abbrev pub sampler_type : Bytes
-sampler_type = codes "sampler"
-
-abbrev pub texel_type : ValueType
-texel_type = OtherType (codes "vec4<f32>")
-
-abbrev pub coordinate_type : ValueType
-coordinate_type = OtherType (codes "vec2<f32>")
-
-abbrev pub coordinate : Value
-coordinate = Opaque (codes "vec2<f32>") 9
-
--- the level `0.0`
-abbrev pub level_zero : Value
-level_zero = Opaque (codes "f32") 0
-
--- an image with layers is sampled at level zero, with an offset that is a named constant
-abbrev pub sample_function : Function
-sample_function =
-    let constants = constant (Fixed level_zero) (constant (NamedConstant 0) no_constant) in
-    let sample = Request Always (codes "textureSampleLevel") (0 ∷ 1 ∷ 2 ∷ 3 ∷ []) constants in
-    function_with (coordinate_type ∷ i32 ∷ []) (Some texel_type) [] (
-    described (Global 0) (OtherType layers_type) 1
-    ∷ described (Global 1) (OtherType sampler_type) 1
-    ∷ described (Argument 0) coordinate_type 1
-    ∷ described (Argument 1) i32 1
-    ∷ described sample texel_type 1 ∷ []) (
-    Emit 4 1
-    ∷ Return (Some 4) ∷ [])
-
-abbrev pub sample_arguments : List Bytes
-sample_arguments = codes "uv" ∷ codes "layer" ∷ []
-
-abbrev pub sample_example : Example
-sample_example =
-    let image = resource (codes "image") layers_type 400 in
-    let filtering = resource (codes "filtering") sampler_type 2 in
-    record {
-      constants = record { name = codes "OFFSET"; type = pair_type; value = pair 30 } ∷ [];
-      variables = image ∷ filtering ∷ [];
-      functions = named_function (codes "shade") sample_arguments [] sample_function ∷ [];
-    }
-
--- its text, with these operands behind the layer
-abbrev pub sample_text : List Tree → List TextFunction
-sample_text behind =
-    let image = Name (codes "image") in
-    let filtering = Name (codes "filtering") in
-    let operands = image ∷ filtering ∷ Name (codes "uv") ∷ Name (codes "layer") ∷ behind in
-    text_of (codes "shade") sample_arguments [] (lines (
-    let_own 4 (call_of (codes "textureSampleLevel") operands)
-    ∷ return_of (named_by 4) ∷ [])) ∷ []
-
--- its arguments
-abbrev pub sample_values : List Value
-sample_values = coordinate ∷ number 1 ∷ []
-
--- its events, with these operands behind the layer
-abbrev pub sampling : List Value → List Event
-sampling behind =
-    let image = Opaque layers_type 400 in
-    let filtering = Opaque sampler_type 2 in
-    let operands = image ∷ filtering ∷ coordinate ∷ number 1 ∷ behind in
-    Ask (codes "textureSampleLevel") operands ∷ started 0 sample_values []
-
--- the world's answer is 400 and 1 and 0 and 30
-abbrev pub SampleRow : Type 0
-SampleRow =
-    let text = sample_text (LiteralOf level_zero ∷ Name (codes "OFFSET") ∷ []) in
-    let events = sampling (level_zero ∷ pair 30 ∷ []) in
-    IsWorked sample_example text 0 3 sample_values (Gives (Some (texel 431)) events)
-
--- a texel of one of many images, whose index is a sum
-abbrev pub images_type : Bytes
-images_type = codes "binding_array<texture_2d<f32>>"
-
-abbrev pub image_type : Bytes
-image_type = codes "texture_2d<f32>"
-
-abbrev pub texel_function : Function
-texel_function =
-    let load = Request Always (codes "textureLoad") (6 ∷ 2 ∷ 4 ∷ []) no_constant in
-    function_with (i32 ∷ pair_type ∷ []) (Some texel_type) [] (
-    described (Global 0) (OtherType images_type) 1
-    ∷ described (Argument 0) i32 1
-    ∷ described (Argument 1) pair_type 1
-    ∷ described (literal 1) i32 1
-    ∷ described (literal 0) i32 1
-    ∷ described (Operator (codes "+") (1 ∷ 3 ∷ [])) i32 1
-    ∷ described (Access 0 5) (OtherType image_type) 1
-    ∷ described load texel_type 1 ∷ []) (
-    Emit 5 3
-    ∷ Return (Some 7) ∷ [])
-
-abbrev pub texel_arguments : List Bytes
-texel_arguments = codes "i" ∷ codes "at" ∷ []
-
-abbrev pub texel_example : Example
-texel_example =
-    record {
-      constants = [];
-      variables = resource (codes "images") images_type 400 ∷ [];
-      functions = named_function (codes "pick") texel_arguments [] texel_function ∷ [];
-    }
-
--- neither the sum nor the chosen image has a name
-abbrev pub texel_text : List TextFunction
-texel_text =
-    let image = Index (Name (codes "images")) (sum_of (Name (codes "i")) (digits 1)) in
-    text_of (codes "pick") texel_arguments [] (lines (
-    let_own 7 (call_of (codes "textureLoad") (image ∷ Name (codes "at") ∷ digits 0 ∷ []))
-    ∷ return_of (named_by 7) ∷ [])) ∷ []
-
-abbrev pub TexelRow : Type 0
-TexelRow =
-    let vs : List Value = number 2 ∷ pair 12 ∷ [] in
-    let loading = Ask (codes "textureLoad") (Opaque image_type 403 ∷ pair 12 ∷ number 0 ∷ []) in
-    IsWorked texel_example texel_text 0 3 vs (Gives (Some (texel 403)) (loading ∷ started 0 vs []))
-
--- two reads that nobody uses: one of an atomic, one of an image
-abbrev pub unused_function : Function
-unused_function =
-    let load = Request Always (codes "textureLoad") (1 ∷ 2 ∷ 3 ∷ []) no_constant in
-    function_with (pair_type ∷ []) None [] (
-    described (Global 0) (PointerType counter_type) 0
-    ∷ described (Global 1) (OtherType image_type) 1
-    ∷ described (Argument 0) pair_type 1
-    ∷ described (literal 0) i32 1
-    ∷ described (Request WhenCounted (codes "atomicLoad") (0 ∷ []) no_constant) i32 0
-    ∷ described load texel_type 0 ∷ []) (
-    Emit 4 2 ∷ [])
-
-abbrev pub unused_example : Example
-unused_example =
-    let counter = in_memory (codes "counter") counter_type in
-    let image = resource (codes "image") image_type 400 in
-    record {
-      constants = [];
-      variables = counter ∷ image ∷ [];
-      functions = named_function (codes "peek") (codes "at" ∷ []) [] unused_function ∷ [];
-    }
-
-abbrev pub unused_text : List TextFunction
-unused_text =
-    let operands = Name (codes "image") ∷ Name (codes "at") ∷ digits 0 ∷ [] in
-    text_of (codes "peek") (codes "at" ∷ []) [] (lines (
-    let_own 5 (call_of (codes "textureLoad") operands) ∷ [])) ∷ []
-
--- that of the image is written, and is the one event
-abbrev pub UnusedRequestsRow : Type 0
-UnusedRequestsRow =
-    let vs : List Value = pair 12 ∷ [] in
-    let loading = Ask (codes "textureLoad") (Opaque image_type 400 ∷ pair 12 ∷ number 0 ∷ []) in
-    IsWorked unused_example unused_text 0 3 vs (Gives None (loading ∷ started 0 vs []))
+use Rattle.shader_runs.specs.Rows.{i32, local_i32, i32_pointer, number, literal, named_by, sum_of, product_of, x_plus_x, text_of}
+use Rattle.shader_runs.specs.WorkedModules.{texel, pair_type, pair, described, statements, cases, Labelled, function_with, lines, call_of, perform, let_own, return_of, digits, pointer_of, variable, number_variable, named_function, Example, functions_alone, module_of, outer_of, namings_of, follow_example, run_example, IsWritten, IsWorked, started, CallEnd}
+use Rattle.shader_runs.specs.RequestRows.{counter_place, atomic_example, atomic_text, counted, AtomicRow, level_zero, sample_example, sample_text, sample_values, sampling, SampleRow, TexelRow, UnusedRequestsRow, EdgeRow, TogetherRow}
 
 -- ---- `&&` and `||`
 
@@ -344,6 +132,49 @@ JumpsRow =
     ∷ Write n_place (number 1) ∷ Read n_place ∷ Write a_place (number 5) ∷ Read a_place
     ∷ started 0 [] (Some (number 0) ∷ Some (number 0) ∷ [])))
 
+-- ---- a block
+
+-- a sum has its name in a block, and another one behind it; the local starts with its type's zero
+abbrev pub block_function : Function
+block_function =
+    let inner = Emit 3 1 ∷ Store 2 3 ∷ [] in
+    function_with (i32 ∷ []) (Some i32) ((local_i32, Some 1) ∷ []) (
+    described (Argument 0) i32 4
+    ∷ described (Constant (Constructed (codes "i32") i32 no_constant)) i32 1
+    ∷ described (Local 0) i32_pointer 2
+    ∷ described (Operator (codes "+") (0 ∷ 0 ∷ [])) i32 2
+    ∷ described (Load 2) i32 1
+    ∷ described (Operator (codes "*") (3 ∷ 4 ∷ [])) i32 1 ∷ []) (
+    Block (statements inner)
+    ∷ Emit 3 3
+    ∷ Return (Some 5) ∷ [])
+
+abbrev pub block_example : Example
+block_example =
+    functions_alone (
+    named_function (codes "nest") (codes "x" ∷ []) (codes "a" ∷ []) block_function ∷ [])
+
+-- its text, with these lines behind the block
+abbrev pub block_text : List Line → List TextFunction
+block_text behind =
+    let a = Name (codes "a") in
+    let zero = call_of (codes "i32") [] in
+    let inner = let_own 3 x_plus_x ∷ Assign a (named_by 3) ∷ [] in
+    let product = return_of (product_of (named_by 3) (named_by 4)) in
+    let variables = variable (codes "a") local_i32 (Some zero) ∷ [] in
+    text_of (codes "nest") (codes "x" ∷ []) variables (lines (
+    Braces (lines inner) ∷ (behind ++ let_own 4 a ∷ product ∷ []))) ∷ []
+
+-- its events behind the block
+abbrev pub block_events : List Event
+block_events =
+    Read a_place ∷ Write a_place (number 6) ∷ started 0 (number 3 ∷ []) (Some (number 0) ∷ [])
+
+abbrev pub BlockRow : Type 0
+BlockRow =
+    let text = block_text (let_own 3 x_plus_x ∷ []) in
+    IsWorked block_example text 0 3 (number 3 ∷ []) (Gives (Some (number 36)) block_events)
+
 -- ---- calls
 
 -- reads through its argument, stores one more, and returns what it read
@@ -359,8 +190,8 @@ take_function =
     ∷ Return (Some 2) ∷ [])
 
 -- passes its argument on, and adds what it reads then
-abbrev pub pass_function : Function
-pass_function =
+abbrev pub forward_function : Function
+forward_function =
     function_with (i32_pointer ∷ []) (Some i32) [] (
     described (Argument 0) i32_pointer 2
     ∷ described Result i32 1
@@ -399,7 +230,7 @@ calls_example =
     functions_alone (
     named_function (codes "start") [] [] start_function
     ∷ named_function (codes "own") [] (codes "a" ∷ []) own_function
-    ∷ named_function (codes "pass") (codes "q" ∷ []) [] pass_function
+    ∷ named_function (codes "forward") (codes "q" ∷ []) [] forward_function
     ∷ named_function (codes "take") (codes "p" ∷ []) [] take_function ∷ [])
 
 -- their texts, where a pointer to the local is spelled so, and this is passed on
@@ -412,10 +243,10 @@ calls_text pointer passed =
     let_own 0 (call_of (codes "own") [])
     ∷ return_of (sum_of (named_by 0) (digits 1)) ∷ []))
     ∷ text_of (codes "own") [] (local_ ∷ []) (lines (
-    let_own 2 (call_of (codes "pass") (pointer_of (codes "a") ∷ []))
+    let_own 2 (call_of (codes "forward") (pointer_of (codes "a") ∷ []))
     ∷ let_own 3 a
     ∷ return_of (product_of (named_by 2) (named_by 3)) ∷ []))
-    ∷ text_of (codes "pass") (codes "q" ∷ []) [] (lines (
+    ∷ text_of (codes "forward") (codes "q" ∷ []) [] (lines (
     let_own 1 (call_of (codes "take") (passed ∷ []))
     ∷ let_own 2 (Deref (Name (codes "q")))
     ∷ return_of (sum_of (named_by 1) (named_by 2)) ∷ []))
@@ -429,106 +260,21 @@ abbrev pub second_local : Bytes → Place
 second_local pointer = Rooted (LocalRoot pointer 1 0)
 
 -- the entries of the first three calls
-abbrev pub entered_to_pass : Place → List Event
-entered_to_pass p =
+abbrev pub entered_to_forward : Place → List Event
+entered_to_forward p =
     Entry 1 (Pointer p ∷ []) [] ∷ Entry 2 [] (Some (number 4) ∷ []) ∷ started 3 [] []
 
 -- the last callee reads 4 and stores 5; then (4 + 5) * 5 + 1 is returned
 abbrev pub calls_end : Place → CallEnd
 calls_end p =
     Gives (Some (number 46)) (
-    Read p ∷ Read p ∷ Write p (number 5) ∷ Read p ∷ Entry 0 (Pointer p ∷ []) [] ∷ entered_to_pass p)
+    Read p ∷ Read p ∷ Write p (number 5) ∷ Read p
+    ∷ Entry 0 (Pointer p ∷ []) [] ∷ entered_to_forward p)
 
 abbrev pub CallsRow : Type 0
 CallsRow =
     let text = calls_text local_i32 (Name (codes "q")) in
     IsWorked calls_example text 3 3 [] (calls_end (second_local local_i32))
-
--- ---- collectives, barriers, a ballot and a ray trace
-
-abbrev pub common_type : Bytes
-common_type = codes "ptr<workgroup, i32>"
-
-abbrev pub payload_type : Bytes
-payload_type = codes "ptr<ray_payload, i32>"
-
-abbrev pub scene_type : Bytes
-scene_type = codes "acceleration_structure"
-
-abbrev pub ray_type : Bytes
-ray_type = codes "RayDesc"
-
-abbrev pub ballot_type : ValueType
-ballot_type = OtherType (codes "vec4<u32>")
-
--- an argument is stored for the work group, read by all behind all barriers, and is the payload of
--- a ray; then the subgroup votes
-abbrev pub together_function : Function
-together_function =
-    let all : BarrierBits =
-    record { storage = true; work_group = true; sub_group = true; texture = true } in
-    function_with (i32 ∷ OtherType ray_type ∷ []) (Some ballot_type) [] (
-    described (Global 0) (PointerType common_type) 2
-    ∷ described (Global 1) (OtherType scene_type) 1
-    ∷ described (Global 2) (PointerType payload_type) 2
-    ∷ described (Argument 0) i32 1
-    ∷ described (Argument 1) (OtherType ray_type) 1
-    ∷ described Result i32 1
-    ∷ described Result ballot_type 1 ∷ []) (
-    Store 0 3
-    ∷ Barrier all
-    ∷ Act (Asked (codes "workgroupUniformLoad")) (0 ∷ []) (Some 5)
-    ∷ Store 2 5
-    ∷ Act (Asked (codes "traceRay")) (1 ∷ 4 ∷ 2 ∷ []) None
-    ∷ Act (Asked (codes "subgroupBallot")) [] (Some 6)
-    ∷ Return (Some 6) ∷ [])
-
-abbrev pub together_arguments : List Bytes
-together_arguments = codes "x" ∷ codes "ray" ∷ []
-
-abbrev pub together_example : Example
-together_example =
-    let common = in_memory (codes "common") common_type in
-    let scene = resource (codes "scene") scene_type 6 in
-    let payload = in_memory (codes "payload") payload_type in
-    record {
-      constants = [];
-      variables = common ∷ scene ∷ payload ∷ [];
-      functions = named_function (codes "together") together_arguments [] together_function ∷ [];
-    }
-
-abbrev pub together_text : List TextFunction
-together_text =
-    let trace = Name (codes "scene") ∷ Name (codes "ray") ∷ pointer_of (codes "payload") ∷ [] in
-    text_of (codes "together") together_arguments [] (lines (
-    Assign (Name (codes "common")) (Name (codes "x"))
-    ∷ perform (codes "storageBarrier") []
-    ∷ perform (codes "workgroupBarrier") []
-    ∷ perform (codes "subgroupBarrier") []
-    ∷ perform (codes "textureBarrier") []
-    ∷ let_own 5 (call_of (codes "workgroupUniformLoad") (pointer_of (codes "common") ∷ []))
-    ∷ Assign (Name (codes "payload")) (named_by 5)
-    ∷ perform (codes "traceRay") trace
-    ∷ let_own 6 (call_of (codes "subgroupBallot") [])
-    ∷ return_of (named_by 6) ∷ [])) ∷ []
-
-abbrev pub TogetherRow : Type 0
-TogetherRow =
-    let common = Rooted (GlobalRoot common_type 0) in
-    let payload = Rooted (GlobalRoot payload_type 2) in
-    let ray = Opaque ray_type 3 in
-    let vs : List Value = number 8 ∷ ray ∷ [] in
-    IsWorked together_example together_text 0 3 vs (Gives (Some ballot) (
-    Ask (codes "subgroupBallot") []
-    ∷ Ask (codes "traceRay") (Opaque scene_type 6 ∷ ray ∷ Pointer payload ∷ [])
-    ∷ Write payload (number 8)
-    ∷ Ask (codes "workgroupUniformLoad") (Pointer common ∷ [])
-    ∷ Ask (codes "textureBarrier") []
-    ∷ Ask (codes "subgroupBarrier") []
-    ∷ Ask (codes "workgroupBarrier") []
-    ∷ Ask (codes "storageBarrier") []
-    ∷ Write common (number 8)
-    ∷ started 0 vs []))
 
 -- ---- a discard in a callee, inside a loop
 
@@ -689,10 +435,13 @@ pub record StatementsAreToldApart : Type 0 where
       follow_example sample_example (sample_text (LiteralOf level_zero ∷ [])) 0 3 sample_values
       ≡ Gives (Some (texel 400)) (sampling (level_zero ∷ []))
   pub read_on_the_right : ReadOnTheRight
+  -- a name of a block is used behind it
+  pub name_behind_block :
+      follow_example block_example (block_text []) 0 3 (number 3 ∷ []) ≡ Halts Stuck block_events
   -- a pointer that is passed on by its address
   pub address_of_pointer :
       follow_example calls_example (calls_text local_i32 (pointer_of (codes "q"))) 3 3 []
-      ≡ Halts Stuck (entered_to_pass (second_local local_i32))
+      ≡ Halts Stuck (entered_to_forward (second_local local_i32))
   -- a local of another type: all that is stored there is stored at another place
   pub local_of_another_type :
       let u32 = codes "ptr<function, u32>" in
@@ -706,10 +455,12 @@ pub record StatementRowsHold : Type 0 where
   pub sample : SampleRow
   pub texel : TexelRow
   pub unused_requests : UnusedRequestsRow
+  pub edge : EdgeRow
+  pub together : TogetherRow
   pub logical : LogicalRow
   pub jumps : JumpsRow
+  pub block : BlockRow
   pub calls : CallsRow
-  pub together : TogetherRow
   pub discard : DiscardRow
   pub silent : SilentRow
   pub swizzle : SwizzleRow

@@ -23,8 +23,9 @@ is_one_of (w ∷ ws) word = same_bytes w word || is_one_of ws word
 abbrev pub asking : Bytes → Bool
 asking =
     is_one_of (
-    codes "atomicLoad" ∷ codes "atomicStore" ∷ codes "atomicAdd" ∷ codes "textureSampleLevel"
-    ∷ codes "textureLoad" ∷ codes "workgroupUniformLoad" ∷ codes "subgroupBallot" ∷ codes "traceRay"
+    codes "atomicLoad" ∷ codes "atomicStore" ∷ codes "atomicAdd"
+    ∷ codes "textureSampleLevel" ∷ codes "textureLoad" ∷ codes "textureStore" ∷ codes "dpdx"
+    ∷ codes "workgroupUniformLoad" ∷ codes "subgroupBallot" ∷ codes "traceRay"
     ∷ codes "storageBarrier" ∷ codes "workgroupBarrier" ∷ codes "subgroupBarrier"
     ∷ codes "textureBarrier" ∷ [])
 
