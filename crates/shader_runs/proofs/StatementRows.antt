@@ -1,15 +1,15 @@
 -- The worked functions for kinds of statements, by computing; the loop without an end by induction
 -- on the bound.
 use Rattle.std.proofs.Common.{◌≡◌, ℕ, zero, suc, Bool, true, false, List, refl, ap, ◌∙◌, arith}
-use Rattle.std.specs.Prelude.{IsTrue}
-use Rattle.shader_runs.specs.Value.{Value, ShortCircuitAnd, ShortCircuitOr}
-use Rattle.shader_runs.specs.World.{Event}
-use Rattle.shader_runs.specs.Outcome.{OutOfTurns, Done, Stopped, Next, and_then, and_again, turns, answer}
+use Rattle.std.specs.Prelude.{IsTrue, ◌∷◌, get_or, codes}
+use Rattle.shader_runs.specs.Value.{Value, Rooted, LocalRoot, ShortCircuitAnd, ShortCircuitOr}
+use Rattle.shader_runs.specs.World.{Event, Read}
+use Rattle.shader_runs.specs.Outcome.{OutOfTurns, Gives, Done, Stopped, Next, and_then, and_again, turns, answer}
 use Rattle.shader_runs.specs.Text.{TextFunction}
 use Rattle.shader_runs.specs.Form.{form_module}
-use Rattle.shader_runs.specs.Rows.{all_fit}
+use Rattle.shader_runs.specs.Rows.{all_fit, local_i32}
 use Rattle.shader_runs.specs.WorkedModules.{Example, CallEnd, module_of, outer_of, namings_of, text_with, run_example, follow_example, IsWorked}
-use Rattle.shader_runs.specs.StatementRows.{StatementRowsHold, LogicalRow, ReadOnTheRight, SilentRow, WordIsTaken, StatementsAreToldApart}
+use Rattle.shader_runs.specs.StatementRows.{StatementRowsHold, LogicalRow, ReadOnTheRight, SilentRow, WordIsTaken, StatementsAreToldApart, calls_end, second_local}
 
 worked : {e : Example} {texts : List TextFunction} {g n : ℕ} {vs : List Value} {result : CallEnd} →
     IsTrue (all_fit (namings_of e)) → form_module (module_of e) (outer_of e) (namings_of e) ≡ text_with e texts →
@@ -43,6 +43,17 @@ word_is_taken =
       refused = λ fits. ((fits.all.1.0.words 2).1).0 1 (omega arith) refl;
     }
 
+-- the letter behind the comma in the spelling of a pointer to the place that is read last
+abbrev letter : CallEnd → ℕ
+letter (Gives v (Read (Rooted (LocalRoot pointer k i)) ∷ t)) = get_or pointer 14 0
+letter _ = 0
+
+-- `u` is not `i`
+places_differ : calls_end (second_local (codes "ptr<function, u32>")) ≡ calls_end (second_local local_i32) → ⊥
+places_differ e =
+    let same : ◌≡◌ {A = ℕ} 117 105 = ap letter e in
+    omega arith
+
 told_apart : StatementsAreToldApart
 told_apart =
     record {
@@ -52,6 +63,7 @@ told_apart =
       name_behind_block = refl;
       address_of_pointer = refl;
       local_of_another_type = refl;
+      places_differ = places_differ;
       word_is_taken = word_is_taken;
     }
 

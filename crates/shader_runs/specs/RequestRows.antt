@@ -15,6 +15,7 @@ use Rattle.shader_runs.specs.WorkedModules.{texel, ballot, pair_type, pair, desc
 abbrev pub counter_type : Bytes
 counter_type = codes "ptr<workgroup, atomic<i32>>"
 
+-- its place
 abbrev pub counter_place : Place
 counter_place = Rooted (GlobalRoot counter_type 0)
 
@@ -32,6 +33,7 @@ count_function =
     ∷ Emit 3 2
     ∷ Return (Some 4) ∷ [])
 
+-- its module
 abbrev pub atomic_example : Example
 atomic_example =
     record {
@@ -56,6 +58,7 @@ counted =
     ∷ Ask (codes "atomicStore") (Pointer counter_place ∷ number 5 ∷ [])
     ∷ started 0 [] []
 
+-- 5 is found and 10 is loaded
 abbrev pub AtomicRow : Type 0
 AtomicRow =
     let text = atomic_text (call_of (codes "atomicLoad") (pointer_of (codes "counter") ∷ [])) in
@@ -64,6 +67,8 @@ AtomicRow =
 
 -- ---- images
 
+-- the types of an image with layers, of a sampler, of what is taken from an image, and of a
+-- coordinate
 abbrev pub layers_type : Bytes
 layers_type = codes "texture_2d_array<f32>"
 
@@ -76,6 +81,7 @@ texel_type = OtherType (codes "vec4<f32>")
 abbrev pub coordinate_type : ValueType
 coordinate_type = OtherType (codes "vec2<f32>")
 
+-- some coordinate
 abbrev pub coordinate : Value
 coordinate = Opaque (codes "vec2<f32>") 9
 
@@ -97,9 +103,11 @@ sample_function =
     Emit 4 1
     ∷ Return (Some 4) ∷ [])
 
+-- its arguments' names
 abbrev pub sample_arguments : List Bytes
 sample_arguments = codes "uv" ∷ codes "layer" ∷ []
 
+-- its module
 abbrev pub sample_example : Example
 sample_example =
     let image = resource (codes "image") layers_type 400 in
@@ -161,9 +169,11 @@ texel_function =
     Emit 5 3
     ∷ Return (Some 7) ∷ [])
 
+-- its arguments' names
 abbrev pub texel_arguments : List Bytes
 texel_arguments = codes "i" ∷ codes "at" ∷ []
 
+-- its module
 abbrev pub texel_example : Example
 texel_example =
     record {
@@ -180,6 +190,7 @@ texel_text =
     let_own 7 (call_of (codes "textureLoad") (image ∷ Name (codes "at") ∷ digits 0 ∷ []))
     ∷ return_of (named_by 7) ∷ [])) ∷ []
 
+-- index 2 and 1 leads to the image 403
 abbrev pub TexelRow : Type 0
 TexelRow =
     let vs : List Value = number 2 ∷ pair 12 ∷ [] in
@@ -199,6 +210,7 @@ unused_function =
     ∷ described load texel_type 0 ∷ []) (
     Emit 4 2 ∷ [])
 
+-- its module
 abbrev pub unused_example : Example
 unused_example =
     let counter = in_memory (codes "counter") counter_type in
@@ -209,6 +221,7 @@ unused_example =
       functions = named_function (codes "peek") (codes "at" ∷ []) [] unused_function ∷ [];
     }
 
+-- its text, where the atomic is not read
 abbrev pub unused_text : List TextFunction
 unused_text =
     let operands = Name (codes "image") ∷ Name (codes "at") ∷ digits 0 ∷ [] in
@@ -227,6 +240,7 @@ UnusedRequestsRow =
 abbrev pub canvas_type : Bytes
 canvas_type = codes "texture_storage_2d<rgba8unorm, write>"
 
+-- the derivative of an argument is stored to an image
 abbrev pub edge_function : Function
 edge_function =
     let derivative = Request WhenCounted (codes "dpdx") (2 ∷ []) no_constant in
@@ -238,9 +252,11 @@ edge_function =
     Emit 3 1
     ∷ Act (Asked (codes "textureStore")) (0 ∷ 1 ∷ 3 ∷ []) None ∷ [])
 
+-- its arguments' names
 abbrev pub edge_arguments : List Bytes
 edge_arguments = codes "at" ∷ codes "colour" ∷ []
 
+-- its module
 abbrev pub edge_example : Example
 edge_example =
     record {
@@ -249,6 +265,7 @@ edge_example =
       functions = named_function (codes "edge") edge_arguments [] edge_function ∷ [];
     }
 
+-- its text
 abbrev pub edge_text : List TextFunction
 edge_text =
     let operands = Name (codes "canvas") ∷ Name (codes "at") ∷ named_by 3 ∷ [] in
@@ -256,6 +273,7 @@ edge_text =
     let_own 3 (call_of (codes "dpdx") (Name (codes "colour") ∷ []))
     ∷ perform (codes "textureStore") operands ∷ [])) ∷ []
 
+-- the derivative is asked for first
 abbrev pub EdgeRow : Type 0
 EdgeRow =
     let vs : List Value = pair 12 ∷ texel 5 ∷ [] in
@@ -266,6 +284,8 @@ EdgeRow =
 
 -- ---- collectives, barriers, a ballot and a ray trace
 
+-- a number of the work group, the payload of a ray, and the types of a scene, of a ray and of a
+-- ballot
 abbrev pub cell_type : Bytes
 cell_type = codes "ptr<workgroup, i32>"
 
@@ -303,9 +323,11 @@ together_function =
     ∷ Act (Asked (codes "subgroupBallot")) [] (Some 6)
     ∷ Return (Some 6) ∷ [])
 
+-- its arguments' names
 abbrev pub together_arguments : List Bytes
 together_arguments = codes "x" ∷ codes "ray" ∷ []
 
+-- its module
 abbrev pub together_example : Example
 together_example =
     let cell = in_memory (codes "cell") cell_type in
@@ -317,6 +339,7 @@ together_example =
       functions = named_function (codes "together") together_arguments [] together_function ∷ [];
     }
 
+-- its text, with a line for each barrier
 abbrev pub together_text : List TextFunction
 together_text =
     let trace = Name (codes "scene") ∷ Name (codes "ray") ∷ pointer_of (codes "payload") ∷ [] in
@@ -332,6 +355,7 @@ together_text =
     ∷ let_own 6 (call_of (codes "subgroupBallot") [])
     ∷ return_of (named_by 6) ∷ [])) ∷ []
 
+-- each barrier is an event, and what is read behind them is what was stored
 abbrev pub TogetherRow : Type 0
 TogetherRow =
     let cell = Rooted (GlobalRoot cell_type 0) in

@@ -1,6 +1,6 @@
 -- Worked functions for kinds of statements: each with its text, and what both runs of it do. Then
 -- texts that other writers would give, which do something else.
-use Rattle.std.specs.Prelude.{◌≡◌, ℕ, pos, Bool, true, false, cond, List, [], ◌∷◌, ◌++◌, Some, None, ◌&&◌, ◌||◌, codes}
+use Rattle.std.specs.Prelude.{◌≡◌, ◌≢◌, ℕ, pos, Bool, true, false, cond, List, [], ◌∷◌, ◌++◌, Some, None, ◌&&◌, ◌||◌, codes}
 use Rattle.shader_runs.specs.Value.{Bytes, Place, Rooted, LocalRoot, BooleanType, PointerType, Value, Truth, Pointer, MemberNamed, ShortCircuit, ShortCircuitAnd, ShortCircuitOr, is_decided}
 use Rattle.shader_runs.specs.World.{Event, Entry, Read, Write, Discard}
 use Rattle.shader_runs.specs.Outcome.{Gives, Halts, Stuck, OutOfTurns, Discarded}
@@ -13,6 +13,7 @@ use Rattle.shader_runs.specs.RequestRows.{counter_place, atomic_example, atomic_
 
 -- ---- `&&` and `||`
 
+-- a pointer to a local of type `bool`, and the first local of the first call
 abbrev pub local_bool : Bytes
 local_bool = codes "ptr<function, bool>"
 
@@ -31,6 +32,7 @@ logical_function j b =
     Emit 3 2
     ∷ Return (Some 4) ∷ [])
 
+-- its module
 abbrev pub logical_example : ShortCircuit → Bool → Example
 logical_example j b =
     let f = logical_function j b in
@@ -102,11 +104,13 @@ jumps_function =
     ∷ described (Operator (codes "+") (7 ∷ 4 ∷ [])) i32 1 ∷ []) (
     Loop (statements body) (statements continuing) None ∷ [])
 
+-- its module
 abbrev pub jumps_example : Example
 jumps_example =
     let locals = codes "a" ∷ codes "n" ∷ [] in
     functions_alone (named_function (codes "walk") [] locals jumps_function ∷ [])
 
+-- its text
 abbrev pub jumps_text : List TextFunction
 jumps_text =
     let a = Name (codes "a") in
@@ -149,6 +153,7 @@ block_function =
     ∷ Emit 3 3
     ∷ Return (Some 5) ∷ [])
 
+-- its module
 abbrev pub block_example : Example
 block_example =
     functions_alone (
@@ -170,6 +175,7 @@ abbrev pub block_events : List Event
 block_events =
     Read a_place ∷ Write a_place (number 6) ∷ started 0 (number 3 ∷ []) (Some (number 0) ∷ [])
 
+-- 6 is stored, and multiplied by itself
 abbrev pub BlockRow : Type 0
 BlockRow =
     let text = block_text (let_own 3 x_plus_x ∷ []) in
@@ -225,6 +231,7 @@ start_function =
     ∷ Emit 2 1
     ∷ Return (Some 2) ∷ [])
 
+-- their module
 abbrev pub calls_example : Example
 calls_example =
     functions_alone (
@@ -271,6 +278,7 @@ calls_end p =
     Read p ∷ Read p ∷ Write p (number 5) ∷ Read p
     ∷ Entry 0 (Pointer p ∷ []) [] ∷ entered_to_forward p)
 
+-- the last callee works on a local of the caller of its caller
 abbrev pub CallsRow : Type 0
 CallsRow =
     let text = calls_text local_i32 (Name (codes "q")) in
@@ -278,6 +286,7 @@ CallsRow =
 
 -- ---- a discard in a callee, inside a loop
 
+-- discards where its argument is true
 abbrev pub check_function : Function
 check_function =
     let kill = statements (Kill ∷ []) in
@@ -295,12 +304,14 @@ repeat_function =
     ∷ described (Load 0) BooleanType 1 ∷ []) (
     Loop (statements body) end None ∷ [])
 
+-- their module
 abbrev pub discard_example : Example
 discard_example =
     functions_alone (
     named_function (codes "repeat") [] (codes "a" ∷ []) repeat_function
     ∷ named_function (codes "check") (codes "c" ∷ []) [] check_function ∷ [])
 
+-- their texts
 abbrev pub discard_text : List TextFunction
 discard_text =
     let a = Name (codes "a") in
@@ -311,6 +322,7 @@ discard_text =
     ∷ text_of (codes "check") (codes "c" ∷ []) [] (lines (
     IfElse (Name (codes "c")) (lines (DiscardLine ∷ [])) last ∷ [])) ∷ []
 
+-- the discard ends the caller too
 abbrev pub DiscardRow : Type 0
 DiscardRow =
     IsWorked discard_example discard_text 1 3 [] (Halts Discarded (
@@ -321,16 +333,19 @@ DiscardRow =
 
 -- ---- a loop without events and without an end
 
+-- continues, or comes to the end of its turn, without an event
 abbrev pub silent_function : Function
 silent_function =
     let skip = If 0 (statements (Continue ∷ [])) end in
     function_with (BooleanType ∷ []) None [] (described (Argument 0) BooleanType 1 ∷ []) (
     Loop (statements (skip ∷ [])) end None ∷ [])
 
+-- its module
 abbrev pub silent_example : Example
 silent_example =
     functions_alone (named_function (codes "wait") (codes "c" ∷ []) [] silent_function ∷ [])
 
+-- its text
 abbrev pub silent_text : List TextFunction
 silent_text =
     let skip = IfElse (Name (codes "c")) (lines (ContinueLine ∷ [])) last in
@@ -356,10 +371,12 @@ swizzle_function =
     Emit 1 2
     ∷ Return (Some 2) ∷ [])
 
+-- its module
 abbrev pub swizzle_example : Example
 swizzle_example =
     functions_alone (named_function (codes "swap") (codes "v" ∷ []) [] swizzle_function ∷ [])
 
+-- its text
 abbrev pub swizzle_text : List TextFunction
 swizzle_text =
     text_of (codes "swap") (codes "v" ∷ []) [] (lines (
@@ -389,6 +406,7 @@ greater_example later =
     named_function later [] [] (function_with [] None [] [] [])
     ∷ named_function (codes "greater") (codes "x" ∷ codes "y" ∷ []) [] greater_function ∷ [])
 
+-- its text
 abbrev pub greater_text : Bytes → List TextFunction
 greater_text later =
     let x = Name (codes "x") in
@@ -405,6 +423,7 @@ greater_values = number 3 ∷ number 8 ∷ []
 abbrev pub greater_end : CallEnd
 greater_end = Gives (Some (number 8)) (started 0 greater_values [])
 
+-- a later function of another name does not matter
 abbrev pub GreaterRow : Type 0
 GreaterRow =
     let later = codes "most" in
@@ -447,6 +466,8 @@ pub record StatementsAreToldApart : Type 0 where
       let u32 = codes "ptr<function, u32>" in
       follow_example calls_example (calls_text u32 (Name (codes "q"))) 3 3 []
       ≡ calls_end (second_local u32)
+  pub places_differ :
+      calls_end (second_local (codes "ptr<function, u32>")) ≢ calls_end (second_local local_i32)
   pub word_is_taken : WordIsTaken
 
 -- all rows

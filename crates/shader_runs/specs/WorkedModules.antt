@@ -60,10 +60,11 @@ held p (Entry g vs firsts ∷ t) = after_entry p (entries t) firsts (held p t)
 held p (Read q ∷ t) = held p t
 held p (Discard ∷ t) = held p t
 
--- a texel, a ballot
+-- a texel by its number
 abbrev pub texel : ℕ → Value
 texel n = Opaque (codes "vec4<f32>") n
 
+-- a ballot
 abbrev pub ballot : Value
 ballot = Opaque (codes "vec4<u32>") 1
 
@@ -91,9 +92,11 @@ memory_world t request = number 7
 abbrev pub pair_type : ValueType
 pair_type = OtherType (codes "vec2<i32>")
 
+-- a pair by its number
 abbrev pub pair : ℕ → Value
 pair n = Opaque (codes "vec2<i32>") n
 
+-- the components in the other order
 abbrev pub exchanged : ℕ → ℕ
 exchanged n = n % 10 * 10 + n / 10
 
@@ -123,6 +126,7 @@ pub record Described : Type 0 where
   pub type : ValueType
   pub count : ℕ
 
+-- one row of a table of expressions
 abbrev pub described : Expression → ValueType → ℕ → Described
 described e k n = record { expression = e; type = k; count = n }
 
@@ -230,6 +234,7 @@ pub record NamedFunction : Type 0 where
   pub locals : List Bytes
   pub function : Function
 
+-- such a function
 abbrev pub named_function : Bytes → List Bytes → List Bytes → Function → NamedFunction
 named_function x arguments locals f =
     record { name = x; arguments = arguments; locals = locals; function = f }
@@ -244,6 +249,7 @@ pub record Example : Type 0 where
 abbrev pub functions_alone : List NamedFunction → Example
 functions_alone fs = record { constants = []; variables = []; functions = fs }
 
+-- the module of shapes
 abbrev pub module_of : Example → Module
 module_of e =
     record {
@@ -253,6 +259,7 @@ module_of e =
       functions = map (λ f. f.function) e.functions;
     }
 
+-- what its names stand for
 abbrev pub environment_of : Example → Environment
 environment_of e =
     record {
@@ -261,6 +268,7 @@ environment_of e =
       parts = no_parts;
     }
 
+-- the names of its items
 abbrev pub outer_of : Example → ModuleNames
 outer_of e =
     record {
@@ -286,6 +294,7 @@ namings_with n (f ∷ fs) =
       };
     } ∷ namings_with n fs
 
+-- its functions with their names
 abbrev pub namings_of : Example → List Naming
 namings_of e = namings_with (outer_of e) e.functions
 
