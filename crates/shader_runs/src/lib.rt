@@ -9,6 +9,7 @@ ghost use Rattle.shader_runs.specs.Results.{ResultsAreReturned};
 ghost use Rattle.shader_runs.specs.Rows.{RowsHold};
 ghost use Rattle.shader_runs.specs.ScopeRules.{ScopeCheckIsTheRules};
 ghost use Rattle.shader_runs.specs.ConstantRows.{ConstantRowsHold};
+ghost use Rattle.shader_runs.specs.StatementRows.{StatementRowsHold};
 
 /// A module's functions and entry points and their texts make the same events and end alike.
 pub fn runs_alike()
@@ -66,4 +67,10 @@ pub fn rows_hold()
 /// A worked module with named constants and an override, and texts with other initialisers.
 pub fn constant_rows_hold()
     ensures { ConstantRowsHold }
+{}
+
+/// Worked functions for kinds of statements run as they are said to: atomics, images, collectives, barriers, ray traces, jumps,
+/// calls through several functions, discards and loops that don't end.
+pub fn statement_rows_hold()
+    ensures { StatementRowsHold }
 {}

@@ -1,0 +1,338 @@
+-- Worked modules by their tables: one world, where a read gives what was stored or added last, one
+-- meaning, and that a module and its text do the same in them.
+use Rattle.std.specs.Prelude.{◌≡◌, ℕ, ◌+◌, ◌*◌, ◌/◌, ◌%◌, max, pos, Bool, false, cond, List, [], ◌∷◌, length, map, reverse, Option, Some, None, ◌||◌, nat_eq, get_or, unwrap_or, IsTrue, codes}
+use Rattle.shader_runs.specs.Value.{Bytes, same_bytes, Place, Rooted, LocalRoot, ValueType, PointerType, OtherType, pointer_spelling, Value, Whole, Pointer, Opaque, Spelled, PartWord, IndexWord, MemberNamed}
+use Rattle.shader_runs.specs.World.{Event, Entry, Ask, Read, Write, Discard, entries, World, Meaning, Settings}
+use Rattle.shader_runs.specs.Outcome.{Reached}
+use Rattle.shader_runs.specs.Program.{Fixed, constant, Module, Expression, Label, Statement, Statements, Cases, end, then, no_case, case, Function}
+use Rattle.shader_runs.specs.Text.{Tree, Trees, Name, LiteralOf, Apply, AddressOf, no_more, more, Line, Let, ReturnLine, Perform, Lines, last, before, Variable, TextFunction, TextModule}
+use Rattle.shader_runs.specs.Constants.{run_module, follow_module}
+use Rattle.shader_runs.specs.Scope.{ModuleNames, Naming}
+use Rattle.shader_runs.specs.Form.{form_module}
+use Rattle.shader_runs.specs.Rows.{local_i32, number, same_place, no_parts, numbered_name, all_fit}
+
+-- ---- the world
+
+-- a word among these
+abbrev pub is_one_of : List Bytes → Bytes → Bool
+is_one_of [] word = false
+is_one_of (w ∷ ws) word = same_bytes w word || is_one_of ws word
+
+-- the words that ask for events
+abbrev pub asking : Bytes → Bool
+asking =
+    is_one_of (
+    codes "atomicLoad" ∷ codes "atomicStore" ∷ codes "atomicAdd"
+    ∷ codes "textureSampleLevel" ∷ codes "textureLoad" ∷ codes "textureStore" ∷ codes "dpdx"
+    ∷ codes "workgroupUniformLoad" ∷ codes "subgroupBallot" ∷ codes "traceRay"
+    ∷ codes "storageBarrier" ∷ codes "workgroupBarrier" ∷ codes "subgroupBarrier"
+    ∷ codes "textureBarrier" ∷ [])
+
+-- the sum of two integers of one type
+abbrev pub added : Value → Value → Value
+added (Whole s (pos a)) (Whole r (pos b)) = Whole s (pos (a + b))
+added v w = v
+
+-- what an atomic leaves at a place where this was
+abbrev pub changed : (word : Bytes) → (was operand : Value) → Value
+changed word was v =
+    cond (same_bytes word (codes "atomicStore")) v
+    (cond (same_bytes word (codes "atomicAdd")) (added was v) was)
+
+-- what is at a place behind a request
+abbrev pub after_ask : Place → (word : Bytes) → List Value → (was : Value) → Value
+after_ask p word (Pointer q ∷ v ∷ vs) was = cond (same_place p q) (changed word was v) was
+after_ask p word vs was = was
+
+-- what is at a place behind an entry: a local's first value, if it has one
+abbrev pub after_entry : Place → (earlier : ℕ) → List (Option Value) → (was : Value) → Value
+after_entry (Rooted (LocalRoot pointer k i)) earlier firsts was =
+    cond (nat_eq k earlier) (unwrap_or (get_or firsts i None) was) was
+after_entry p earlier firsts was = was
+
+-- what is at a place: what was stored or added last, or its first value, or 7
+abbrev pub held : Place → List Event → Value
+held p [] = number 7
+held p (Write q v ∷ t) = cond (same_place p q) v (held p t)
+held p (Ask word vs ∷ t) = after_ask p word vs (held p t)
+held p (Entry g vs firsts ∷ t) = after_entry p (entries t) firsts (held p t)
+held p (Read q ∷ t) = held p t
+held p (Discard ∷ t) = held p t
+
+-- a texel by its number
+abbrev pub texel : ℕ → Value
+texel n = Opaque (codes "vec4<f32>") n
+
+-- a ballot
+abbrev pub ballot : Value
+ballot = Opaque (codes "vec4<u32>") 1
+
+-- what an image has: the sum of its number and those of a layer, of a level and of an offset
+abbrev pub sampled : List Value → Value
+sampled (Opaque i n ∷ sampler ∷ at ∷ Whole s (pos layer) ∷ Opaque l level ∷ Opaque o offset ∷ []) =
+    texel (n + layer + level + offset)
+sampled (Opaque i n ∷ vs) = texel n
+sampled vs = texel 0
+
+-- what is asked of no place
+abbrev pub told : (word : Bytes) → List Value → Value
+told word vs = cond (same_bytes word (codes "subgroupBallot")) ballot (sampled vs)
+
+-- the one world of these rows
+abbrev pub memory_world : World
+memory_world t (Read p) = held p t
+memory_world t (Ask word (Pointer p ∷ vs)) = held p t
+memory_world t (Ask word vs) = told word vs
+memory_world t request = number 7
+
+-- ---- the meaning
+
+-- the components of a pair are the tens and the units of its number
+abbrev pub pair_type : ValueType
+pair_type = OtherType (codes "vec2<i32>")
+
+-- a pair by its number
+abbrev pub pair : ℕ → Value
+pair n = Opaque (codes "vec2<i32>") n
+
+-- the components in the other order
+abbrev pub exchanged : ℕ → ℕ
+exchanged n = n % 10 * 10 + n / 10
+
+-- an operator of two numbers
+abbrev pub calculated : (word : Bytes) → ℕ → ℕ → ℕ
+calculated word a b =
+    cond (same_bytes word (codes "*")) (a * b)
+    (cond (same_bytes word (codes "max")) (max a b) (a + b))
+
+-- products, maxima and sums, `.yx` of a pair, and the elements of an array of images, which are
+-- numbered on from its number
+abbrev pub memory_meaning : Meaning
+memory_meaning (Spelled word) (Whole s (pos a) ∷ Whole r (pos b) ∷ []) =
+    number (calculated word a b)
+memory_meaning (Spelled word) (Opaque s a ∷ Opaque r b ∷ []) = Opaque s (a + b)
+memory_meaning (PartWord (MemberNamed letters)) (Opaque s a ∷ []) =
+    Opaque s (cond (same_bytes letters (codes "yx")) (exchanged a) a)
+memory_meaning IndexWord (Opaque s a ∷ Whole r (pos b) ∷ []) =
+    Opaque (codes "texture_2d<f32>") (a + b)
+memory_meaning word vs = number 0
+
+-- ---- shapes and texts by their lists
+
+-- an expression with its type and how often it is used
+pub record Described : Type 0 where
+  pub expression : Expression
+  pub type : ValueType
+  pub count : ℕ
+
+-- one row of a table of expressions
+abbrev pub described : Expression → ValueType → ℕ → Described
+described e k n = record { expression = e; type = k; count = n }
+
+-- statements in their order
+abbrev pub statements : List Statement → Statements
+statements [] = end
+statements (s ∷ ss) = then s (statements ss)
+
+-- a case's label and statements
+abbrev pub Labelled : Type 0
+Labelled = Label × List Statement
+
+-- cases, none of which falls through
+abbrev pub cases : List Labelled → Cases
+cases [] = no_case
+cases (c ∷ cs) = case c.0 (statements c.1) false (cases cs)
+
+-- a local with the spelling of a pointer to it, and its initialiser
+abbrev pub Declared : Type 0
+Declared = Bytes × Option ℕ
+
+-- a function by its table of expressions and its statements
+abbrev pub function_with : (arguments : List ValueType) → (result : Option ValueType) →
+    List Declared → List Described → List Statement → Function
+function_with arguments result locals expressions body =
+    record {
+      argument_types = arguments;
+      result = result;
+      first_values = map (λ l. l.1) locals;
+      local_pointers = map (λ l. l.0) locals;
+      expressions = map (λ x. x.expression) expressions;
+      types = map (λ x. x.type) expressions;
+      counts = map (λ x. x.count) expressions;
+      given_names = [];
+      body = statements body;
+    }
+
+-- operands in their order
+abbrev pub operands : List Tree → Trees
+operands [] = no_more
+operands (e ∷ es) = more e (operands es)
+
+-- lines in their order
+abbrev pub lines : List Line → Lines
+lines [] = last
+lines (l ∷ ls) = before l (lines ls)
+
+-- a call where a value is wanted, and one where none is
+abbrev pub call_of : Bytes → List Tree → Tree
+call_of word es = Apply word (operands es)
+
+abbrev pub perform : Bytes → List Tree → Line
+perform word es = Perform word (operands es)
+
+-- a handle is bound to its own name
+abbrev pub let_own : ℕ → Tree → Line
+let_own h e = Let (numbered_name h) e
+
+-- a value is returned
+abbrev pub return_of : Tree → Line
+return_of e = ReturnLine (Some e)
+
+-- `1i` and such
+abbrev pub digits : ℕ → Tree
+digits n = LiteralOf (number n)
+
+-- a pointer to a variable
+abbrev pub pointer_of : Bytes → Tree
+pointer_of x = AddressOf (Name x)
+
+-- a variable of a function with its first value
+abbrev pub variable : Bytes → Bytes → Option Tree → Variable
+variable x pointer first = record { name = x; pointer = pointer; first_value = first }
+
+-- one of type `i32` that starts with this number
+abbrev pub number_variable : Bytes → ℕ → Variable
+number_variable x n = variable x local_i32 (Some (digits n))
+
+-- ---- modules with their texts
+
+-- a named constant with a literal as its initialiser
+pub record NamedValue : Type 0 where
+  pub name : Bytes
+  pub type : ValueType
+  pub value : Value
+
+-- a module-level variable, with the value that it holds if it isn't stored
+pub record NamedVariable : Type 0 where
+  pub name : Bytes
+  pub type : ValueType
+  pub value : Option Value
+
+-- a variable that stands in memory
+abbrev pub in_memory : Bytes → (pointer : Bytes) → NamedVariable
+in_memory x pointer = record { name = x; type = PointerType pointer; value = None }
+
+-- a variable in the handle space: an image or such, by its number
+abbrev pub resource : Bytes → (type : Bytes) → ℕ → NamedVariable
+resource x type n = record { name = x; type = OtherType type; value = Some (Opaque type n) }
+
+-- a function with the names of its arguments and locals
+pub record NamedFunction : Type 0 where
+  pub name : Bytes
+  pub arguments : List Bytes
+  pub locals : List Bytes
+  pub function : Function
+
+-- such a function
+abbrev pub named_function : Bytes → List Bytes → List Bytes → Function → NamedFunction
+named_function x arguments locals f =
+    record { name = x; arguments = arguments; locals = locals; function = f }
+
+-- a module, with its functions last first
+pub record Example : Type 0 where
+  pub constants : List NamedValue
+  pub variables : List NamedVariable
+  pub functions : List NamedFunction
+
+-- functions alone
+abbrev pub functions_alone : List NamedFunction → Example
+functions_alone fs = record { constants = []; variables = []; functions = fs }
+
+-- the module of shapes
+abbrev pub module_of : Example → Module
+module_of e =
+    record {
+      constant_types = map (λ c. c.type) e.constants;
+      initialisers = map (λ c. Fixed c.value) e.constants;
+      global_types = map (λ x. x.type) e.variables;
+      parts = no_parts;
+      functions = map (λ f. f.function) e.functions;
+    }
+
+-- what its variables hold; it has no overrides
+abbrev pub settings_of : Example → Settings
+settings_of e = record { overrides = []; globals = map (λ x. x.value) e.variables }
+
+-- the names of its items
+abbrev pub outer_of : Example → ModuleNames
+outer_of e =
+    record {
+      constant = λ i. get_or (map (λ c. c.name) e.constants) i [];
+      global = λ i. get_or (map (λ x. x.name) e.variables) i [];
+      function = λ g. get_or (reverse (map (λ f. f.name) e.functions)) g [];
+      is_request = asking;
+    }
+
+-- each function with its names and with how many stand before it
+abbrev pub namings_with : ModuleNames → List NamedFunction → List Naming
+namings_with n [] = []
+namings_with n (f ∷ fs) =
+    record {
+      function = f.function;
+      names = record {
+        outer = n;
+        argument = λ i. get_or f.arguments i [];
+        local_ = λ i. get_or f.locals i [];
+        given = λ k. [];
+        numbered = numbered_name;
+        earlier = length fs;
+      };
+    } ∷ namings_with n fs
+
+-- its functions with their names
+abbrev pub namings_of : Example → List Naming
+namings_of e = namings_with (outer_of e) e.functions
+
+-- the declarations of its text, and these functions
+abbrev pub text_with : Example → List TextFunction → TextModule
+text_with e texts =
+    record {
+      constants =
+          map (λ c. record { name = c.name; initialiser = LiteralOf c.value }) e.constants;
+      overrides = [];
+      globals = map (λ x. record { name = x.name; pointer = pointer_spelling x.type }) e.variables;
+      functions = texts;
+    }
+
+-- what a call reaches
+abbrev pub CallEnd : Type 0
+CallEnd = Reached (Option Value)
+
+-- the module's run of the function of this number, with at most n turns of each loop
+abbrev pub run_example : Example → (g n : ℕ) → List Value → CallEnd
+run_example e g n vs =
+    run_module (module_of e) (settings_of e) memory_world memory_meaning n g vs []
+
+-- the run of this text of it, from the function of that name
+abbrev pub follow_example : Example → List TextFunction → (g n : ℕ) → List Value → CallEnd
+follow_example e texts g n vs =
+    let text = text_with e texts in
+    let name = (outer_of e).function g in
+    follow_module text (settings_of e) memory_world memory_meaning asking n name vs []
+
+-- these functions are what is written for the module, which passes the check of scope
+pub record IsWritten (e : Example) (texts : List TextFunction) : Type 0 where
+  pub fits : IsTrue (all_fit (namings_of e))
+  pub text : form_module (module_of e) (outer_of e) (namings_of e) ≡ text_with e texts
+
+-- called with these arguments, with at most n turns of each loop, the function g of the module and
+-- that of its text do this
+pub record IsWorked (e : Example) (texts : List TextFunction) (g n : ℕ) (vs : List Value)
+    (result : CallEnd) : Type 0 where
+  pub written : IsWritten e texts
+  pub module_run : run_example e g n vs ≡ result
+  pub text_run : follow_example e texts g n vs ≡ result
+
+-- the entry of a start
+abbrev pub started : (g : ℕ) → List Value → List (Option Value) → List Event
+started g vs firsts = Entry g vs firsts ∷ []
