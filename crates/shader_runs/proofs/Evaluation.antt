@@ -1,5 +1,5 @@
 -- What a text's expression gives where it makes no event, by its parts.
-use Rattle.std.proofs.Common.{◌≡◌, ◌≢◌, ℕ, ◌<◌, Bool, true, false, cond, List, [], ◌∷◌, Option, Some, None, refl, sym, ap, ◌∙◌, true≢false}
+use Rattle.std.proofs.Common.{◌≡◌, ℕ, Bool, true, false, cond, List, [], ◌∷◌, Option, Some, None, refl, sym, ap, ◌∙◌, true≢false}
 use Rattle.std.specs.Prelude.{IsTrue}
 use Rattle.shader_runs.specs.Value.{Bytes, PartTypes, Part, At, Selector, MemberNamed, step_of, ValueType, BooleanType, IntegerType, PointerType, OtherType, has_type, has_types, Value, Truth, Whole, Pointer, Opaque, Spelled, PartWord, IndexWord, ShortCircuit}
 use Rattle.shader_runs.specs.World.{Event, Ask, World, Meaning}

@@ -1,8 +1,8 @@
 -- A text's run with more turns is the run with fewer turns, or that one ran out of turns behind as many events.
 use Rattle.std.proofs.Common.{◌≡◌, ℕ, zero, suc, ◌+◌, ◌<◌, ◌≤◌, ◌⊎◌, inl, inr, ℤ, Bool, true, false, cond, nat_eq, List, [], ◌∷◌, length, Option, Some, None, refl, sym, ap, ◌∙◌, subst, arith}
 use Rattle.std.proofs.Math.Nat.{eq-or-lt_of_le}
-use Rattle.shader_runs.specs.Value.{Bytes, same_bytes, Place, Selector, Value, Truth, Whole, Pointer, Opaque, Spelled, ShortCircuit}
-use Rattle.shader_runs.specs.World.{Event, Entry, Ask, Write, entries, World, Meaning, bind}
+use Rattle.shader_runs.specs.Value.{Bytes, same_bytes, Place, Selector, Value, Truth, Whole, Pointer, Opaque, ShortCircuit}
+use Rattle.shader_runs.specs.World.{Event, Entry, Write, entries, World, Meaning, bind}
 use Rattle.shader_runs.specs.Outcome.{OutOfTurns, Outcome, Done, Continued, Broke, Returned, Stopped, Reached, Gives, Halts, answer, Next, and_then, and_continue, within, turn, and_again, turns, after_switch, closed, closed_if, chosen, with_integer}
 use Rattle.shader_runs.specs.Program.{Label, Numbered}
 use Rattle.shader_runs.specs.ProgramRun.{called, decides, label_if}

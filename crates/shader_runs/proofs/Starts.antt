@@ -1,10 +1,10 @@
 -- One world for all starts: it looks at the entry that its history began with.
-use Rattle.std.proofs.Common.{◌≡◌, ℕ, zero, suc, ℤ, Bool, true, false, cond, nat_eq, List, [], ◌∷◌, length, Option, Some, None, refl, sym, ap, ap₂, ◌∙◌, subst, eqb-true}
-use Rattle.shader_runs.specs.Value.{Bytes, PartTypes, Place, ValueType, has_type, Value, Truth, Whole, Pointer, Opaque, has_types}
-use Rattle.shader_runs.specs.World.{Event, Entry, Ask, Read, Write, Discard, entries, World, Meaning, Environment, Settings, update}
-use Rattle.shader_runs.specs.Outcome.{Outcome, Done, Continued, Broke, Returned, Stopped, Reached, Gives, Halts, answer, Next, and_then, and_continue, within, turn, and_again, turns, after_switch, chosen, with_integer}
-use Rattle.shader_runs.specs.Program.{Expression, Constant, Argument, Local, Global, Load, Operator, Access, AccessIndex, Logical, Swizzle, Request, Action, Asked, Called, Label, Numbered, Statement, Emit, Store, Block, If, Switch, Loop, Break, Continue, Return, Kill, Barrier, Act, Statements, end, then, Cases, no_case, case, Function, argument_count, expression_of, handle_type, operands_of, is_counted, is_asked, from, Module, function_numbered}
-use Rattle.shader_runs.specs.ProgramRun.{Call, Kept, constant_values, used, used_as, also, used_all, gathered, computed, joined, if_typed, keep_typed, with_used, loaded, asked, if_counted, emit_as, emit, with_pointer, leave, returned, acted, with_result, with_all, barrier_words, ask_each, same_label, has_label, label_if, run, run_all, run_cases, run_on, constants_kept, with_first, wrapped, first_used, first_used_all, entered, run_body, called, run_call}
+use Rattle.std.proofs.Common.{◌≡◌, ℕ, zero, suc, Bool, true, false, nat_eq, List, [], ◌∷◌, length, Option, Some, None, refl, sym, ap, ◌∙◌, subst, eqb-true}
+use Rattle.shader_runs.specs.Value.{has_type, Value, Truth, has_types}
+use Rattle.shader_runs.specs.World.{Event, Entry, Discard, entries, World, Meaning, Environment, Settings}
+use Rattle.shader_runs.specs.Outcome.{Reached, Gives, Halts, turns}
+use Rattle.shader_runs.specs.Program.{Function, argument_count, Module, function_numbered}
+use Rattle.shader_runs.specs.ProgramRun.{Kept, constants_kept, first_used_all}
 use Rattle.shader_runs.specs.Constants.{environment_of, run_module}
 use Rattle.std.specs.Prelude.{IsTrue}
 use Rattle.shader_runs.specs.Correct.{KeepsTypes, AlwaysKeepsTypes, HasTypedWorld}

@@ -1,6 +1,6 @@
 -- The worked functions for kinds of statements, by computing; the loop without an end by induction
 -- on the bound.
-use Rattle.std.proofs.Common.{◌≡◌, ℕ, zero, suc, Bool, true, false, List, refl, ap, ◌∙◌, arith}
+use Rattle.std.proofs.Common.{◌≡◌, ℕ, zero, suc, true, false, List, refl, ap, ◌∙◌, arith}
 use Rattle.std.specs.Prelude.{IsTrue, ◌∷◌, get_or, codes}
 use Rattle.shader_runs.specs.Value.{Value, Rooted, LocalRoot, ShortCircuitAnd, ShortCircuitOr}
 use Rattle.shader_runs.specs.World.{Event, Read}

@@ -1,12 +1,9 @@
 -- Types of answers with which a process meets no mistake: at the first mistake the wanted type is put in, and so on.
-use Rattle.std.proofs.Common.{◌≡◌, ℕ, zero, suc, ◌<◌, ◌≤◌, ℤ, Bool, true, false, cond, nat_eq, List, [], ◌∷◌, length, Option, Some, None, refl, sym, ap, ap₂, ◌∙◌, subst, true≢false, arith, ◌+◌}
-use Rattle.std.specs.Prelude.{IsTrue}
-use Rattle.shader_runs.specs.Value.{PartTypes, Bytes, PartTypes, Place, ValueType, BooleanType, has_type, Value, Truth, Whole, Pointer, Opaque}
-use Rattle.shader_runs.specs.World.{Event, Entry, Ask, Read, Write, Discard, entries, World, Meaning, Environment, update}
-use Rattle.shader_runs.specs.Outcome.{Stop, Stuck, Unreturned, OutOfTurns, Discarded, Mistyped, Outcome, Done, Continued, Broke, Returned, Stopped, Reached, Gives, Halts, answer, Next, and_then, and_continue, within, turn, and_again, turns, after_switch, chosen, with_integer, Unreturned}
-use Rattle.shader_runs.specs.Program.{ConstantTrees, Expression, Constant, Argument, Local, Global, Load, Operator, Access, AccessIndex, Logical, Swizzle, Request, Action, Asked, Called, Label, Numbered, Statement, Emit, Store, Block, If, Switch, Loop, Break, Continue, Return, Kill, Barrier, Act, Statements, end, then, Cases, no_case, case, Function, argument_count, expression_of, handle_type, operands_of, is_counted, is_asked, from}
-use Rattle.shader_runs.specs.ProgramRun.{Call, Kept, constant_values, used, used_as, also, used_all, gathered, computed, joined, if_typed, keep_typed, with_used, loaded, asked, if_counted, emit_as, emit, with_pointer, leave, returned, acted, with_result, with_all, barrier_words, ask_each, same_label, has_label, label_if, run, run_all, run_cases, run_on, constants_kept, with_first, wrapped, first_used, first_used_all, entered, run_body, called, run_call}
-use Rattle.shader_runs.specs.Correct.{KeepsTypes}
+use Rattle.std.proofs.Common.{◌≡◌, ℕ, zero, suc, ◌<◌, ◌≤◌, Bool, true, false, List, ◌∷◌, length, refl, ap, ◌∙◌, arith, ◌+◌}
+use Rattle.shader_runs.specs.Value.{PartTypes, PartTypes, ValueType, has_type, Value}
+use Rattle.shader_runs.specs.World.{Event, Discard, entries, World, update}
+use Rattle.shader_runs.specs.Outcome.{Stop, Stuck, Unreturned, OutOfTurns, Discarded, Mistyped, Reached, Gives, Halts, Unreturned}
+use Rattle.shader_runs.specs.ProgramRun.{Kept}
 use Rattle.shader_runs.proofs.Update.{update_cases}
 use Rattle.shader_runs.proofs.Process.{reached_events, Pause, DoneWith, ContinuedWith, BrokeWith, ReturnedWith, Process, gives, stuck, unreturned, discards, tells, wants, looks, sequence, repeats, answered, resumed, again, rounds, perform}
 use Rattle.shader_runs.proofs.Typing.{default_value, default_typed}

@@ -4,7 +4,7 @@ use Rattle.std.specs.Prelude.{IsTrue}
 use Rattle.std.proofs.lemmas.Option.{slice_get_within}
 use Rattle.shader_runs.specs.Value.{Bytes, PartTypes, Rooted, GlobalRoot, LocalRoot, Selector, ShortCircuit, ValueType, BooleanType, IntegerType, PointerType, OtherType, type_at, has_type, has_types, Value, Pointer, Spelled}
 use Rattle.shader_runs.specs.World.{Event, GlobalValue, Stored, Held, Environment, Meaning}
-use Rattle.shader_runs.specs.Program.{ConstantTree, ConstantTrees, constant, Expression, Constant, Argument, Local, Global, Load, Operator, Access, AccessIndex, Logical, Swizzle, Request, Result, argument_count, local_count, local_pointer, expression_of, handle_type, operands_of, Module}
+use Rattle.shader_runs.specs.Program.{ConstantTree, ConstantTrees, Expression, Constant, Argument, Local, Global, Load, Operator, Access, AccessIndex, Logical, Swizzle, Request, Result, argument_count, local_count, local_pointer, expression_of, handle_type, operands_of, Module}
 use Rattle.shader_runs.specs.ProgramRun.{Call, Kept, constant_value, constant_values, global_value, used_as, used, also, used_all, joined, applied, combined, gathered, computed}
 use Rattle.shader_runs.specs.Text.{Name}
 use Rattle.shader_runs.specs.TextRun.{Scope, named, responded, unhidden, followed_by, as_value, evaluate, evaluate_all, value_of}

@@ -4,7 +4,7 @@ use Rattle.std.specs.Prelude.{◌≡◌, ℕ, ◌+◌, ◌*◌, ◌/◌, ◌%◌
 use Rattle.shader_runs.specs.Value.{Bytes, same_bytes, Place, Rooted, LocalRoot, ValueType, PointerType, OtherType, pointer_spelling, Value, Whole, Pointer, Opaque, Spelled, PartWord, IndexWord, MemberNamed}
 use Rattle.shader_runs.specs.World.{Event, Entry, Ask, Read, Write, Discard, entries, World, Meaning, Settings}
 use Rattle.shader_runs.specs.Outcome.{Reached}
-use Rattle.shader_runs.specs.Program.{Fixed, constant, Module, Expression, Label, Statement, Statements, Cases, end, then, no_case, case, Function}
+use Rattle.shader_runs.specs.Program.{Fixed, Module, Expression, Label, Statement, Statements, Cases, end, then, no_case, case, Function}
 use Rattle.shader_runs.specs.Text.{Tree, Trees, Name, LiteralOf, Apply, AddressOf, no_more, more, Line, Let, ReturnLine, Perform, Lines, last, before, Variable, TextFunction, TextModule}
 use Rattle.shader_runs.specs.Constants.{run_module, follow_module}
 use Rattle.shader_runs.specs.Scope.{ModuleNames, Naming}
