@@ -16,6 +16,7 @@ use Rattle.naga_operators.specs.declared.BinaryOperator.{BinaryOperator}
 use Rattle.naga_operators.specs.declared.BinaryOperator.TheVariants as operator
 use Rattle.naga_info.specs.declared.info.ExpressionInfo.{ExpressionInfo}
 use Rattle.naga_info.specs.declared.info.ModuleInfo.{ModuleInfo}
+use Rattle.naga_info.proofs.Options.{same_some}
 use Rattle.accepted_modules.specs.Types.{spelling_at, local_pointer}
 use Rattle.accepted_modules.specs.Accepted.{is_accepted, function_fits, functions_fit, statement_fits, block_fits}
 use Rattle.accepted_modules.proofs.Accepting.{accepted_parts, function_fits_block, load_word_at, store_fits_word, binary_at, IsOperation}
@@ -32,7 +33,7 @@ use Rattle.shader_runs.specs.Correct.{KeepsTypes}
 use Rattle.shader_runs.specs.Progress.{IsNotStuck, IsPointer, LoadFits, AreWellFormed, IsWellFormed, FunctionIsWellFormed, AllWellFormed}
 use Rattle.shader_runs.specs.Typing.{Signature, signatures_of, IsOneOf, first_of, later_of, IsSpelled, in_function, in_initialiser, PartsFit}
 use Rattle.shader_runs.proofs.Update.{and_left, and_right}
-use Rattle.shader_runs.proofs.Typing.{has_typed_meaning}
+use Rattle.shader_runs.proofs.Typing.{has_typed_meaning, no_signature}
 use Rattle.shader_runs.proofs.Starts.{steady_world}
 use Rattle.shader_runs.proofs.Progress.{runs_are_not_stuck}
 use Rattle.wgsl_text.specs.Words.{stands_in}
@@ -178,9 +179,6 @@ record IsOperator (types : List Type_) (fs : List ir_function.Function) (ess : L
   operation : IsOperation types known handle operator_ left right
   same : x ≡ operation_signature operation.word operation.left_word operation.right_word operation.answer_word
 
-the_word : {a b : List ℕ} → Some a ≡ Some b → a ≡ b
-the_word e = cc
-
 unspelled : {w : List ℕ} → None ≡ Some w → ⊥
 unspelled e = cc
 
@@ -191,9 +189,6 @@ first_or (k ∷ ks) = k
 abbrev second_or : List ValueType → ValueType
 second_or [] = BooleanType
 second_or (k ∷ ks) = first_or ks
-
-no_signature : (x : Signature) → IsOneOf x [] → ⊥
-no_signature x there = elim there [ ]
 
 only_one : (x y : Signature) → IsOneOf x (y ∷ []) → x ≡ y
 only_one x y first_of = refl
@@ -225,9 +220,9 @@ module _ (types : List Type_) (fs : List ir_function.Function) (ess : List (List
       }
 
   operator_among : (x : Signature) (h : ℕ) (op : BinaryOperator) (left right : ℕ) → slice_get f.expressions h ≡ Some (expression.Binary op left right) → (o : IsOperation types es h op left right) → IsOneOf x (signatures_of p own (handle_type own h) (Some (binary_shape (operator_form op) left right))) → IsOperator types fs ess x
-  operator_among x h operator.Add left right at o among = operator_is x h operator.Add left right at o (codes "+") (the_word o.spelled) among
-  operator_among x h operator.Subtract left right at o among = operator_is x h operator.Subtract left right at o (codes "-") (the_word o.spelled) among
-  operator_among x h operator.Multiply left right at o among = operator_is x h operator.Multiply left right at o (codes "*") (the_word o.spelled) among
+  operator_among x h operator.Add left right at o among = operator_is x h operator.Add left right at o (codes "+") (same_some (codes "+") o.word o.spelled) among
+  operator_among x h operator.Subtract left right at o among = operator_is x h operator.Subtract left right at o (codes "-") (same_some (codes "-") o.word o.spelled) among
+  operator_among x h operator.Multiply left right at o among = operator_is x h operator.Multiply left right at o (codes "*") (same_some (codes "*") o.word o.spelled) among
   operator_among x h _ left right at o among = absurd (unspelled o.spelled)
 
   spelled_among : (x : Signature) (h : ℕ) (e : ir.Expression) → slice_get f.expressions h ≡ Some e → IsOneOf x (signatures_of p own (handle_type own h) (Some (expression_shape e))) → IsOperator types fs ess x

@@ -79,7 +79,8 @@ abbrev mutual
   cases_read NoCases = no_group
   cases_read (Case labels body rest) = group (labels_read labels) (statements_read body) (cases_read rest)
 
--- the spelling of a pointer to a local of the declared type, and to a module-level variable by its space; what has no space is held, and no pointer
+-- the spelling of a pointer to a local of the declared type, and to a module-level variable by its
+-- space; what has no space is held, and no pointer
 abbrev pub local_pointer_read : TypeSpecifier → Bytes
 local_pointer_read type = type_layout (pointer_tree (codes "function") None type)
 
@@ -117,8 +118,8 @@ abbrev pub head_word : Bytes → Bytes
 head_word [] = []
 head_word (b ∷ bytes) = if b == 60 || b == 32 then [] else b ∷ head_word bytes
 
--- the built-in functions that ask for an event: reads and stores of atomics, operations on images, derivatives, collectives,
--- cooperative loads and stores, ray traces and barriers
+-- the built-in functions that ask for an event: reads and stores of atomics, operations on images,
+-- derivatives, collectives, cooperative loads and stores, ray traces and barriers
 abbrev pub request_words : List Bytes
 request_words =
     codes "atomicLoad" ∷ codes "atomicStore" ∷ codes "atomicAdd" ∷ codes "atomicSub" ∷ codes "atomicAnd" ∷ codes "atomicOr" ∷ codes "atomicXor" ∷

@@ -1,10 +1,11 @@
 -- What it is for a program to be faithful to a module: it has the module's interface, and it does what the module does.
-use Rattle.std.specs.Prelude.{◌≡◌, ℕ, List, Some, IsTrue}
+use Rattle.std.specs.Prelude.{◌≡◌, ℕ, List, Option, Some, IsTrue}
 use Rattle.naga_ir.specs.declared.module.Module.{Module}
 use Rattle.naga_info.specs.declared.info.ModuleInfo.{ModuleInfo}
 use Rattle.wgsl_text.specs.Tree.{Program}
 use Rattle.shader_runs.specs.Value.{Value, has_types}
 use Rattle.shader_runs.specs.World.{World, Meaning, Event, Settings}
+use Rattle.shader_runs.specs.Outcome.{Reached}
 use Rattle.shader_runs.specs.Program as shapes
 use Rattle.shader_runs.specs.Premises.{IsTyped, SettingsFit}
 use Rattle.shader_runs.specs.Constants.{run_module, follow_module}
@@ -18,11 +19,13 @@ use Rattle.naga_form.specs.Interface.{interface_read, module_interface}
 abbrev pub HasInterfaceOf : Module → Program → Type 0
 HasInterfaceOf m program = interface_read program ≡ module_interface (module_names m) m
 
--- In every world that keeps the types, under all values of overrides and arguments of their types, every typed meaning of
--- operators and every bound on loop turns, each function and entry point of the program makes the module's events in their
--- order, with their operands, ends as in the module and returns the same. Each side computes its named constants by itself.
-abbrev pub RunsAs : Module → ModuleInfo → Program → Type 0
-RunsAs m info program =
+-- What holds of each run of the module and the run of the program beside it: of each function and
+-- entry point, under all values of overrides and arguments of their types and every typed meaning of
+-- operators, in every world, with every bound on loop turns and behind any history. Each side
+-- computes its named constants by itself.
+abbrev pub OfEachRun : Module → ModuleInfo → Program →
+    ((module_run text_run : Reached (Option Value)) → Type 0) → Type 0
+OfEachRun m info program Holds =
     let shape = program_shape m info in
     let text = program_read program in
     (settings : Settings) → SettingsFit shape settings →
@@ -30,6 +33,13 @@ RunsAs m info program =
     (g : ℕ) (f : shapes.Function) → shapes.function_numbered shape.functions g ≡ Some f →
     (arguments : List Value) → IsTrue (has_types shape.parts f.argument_types arguments) →
     (world : World) (turns : ℕ) (past : List Event) →
-    KeepsTypes (run_module shape settings world meaning turns g arguments past) →
-    follow_module text settings world meaning is_request turns (function_name (module_names m) g) arguments past
-    ≡ run_module shape settings world meaning turns g arguments past
+    let name = function_name (module_names m) g in
+    Holds
+    (run_module shape settings world meaning turns g arguments past)
+    (follow_module text settings world meaning is_request turns name arguments past)
+
+-- In every world that keeps the types the program makes the module's events in their order, with
+-- their operands, ends as in the module and returns the same.
+abbrev pub RunsAs : Module → ModuleInfo → Program → Type 0
+RunsAs m info program =
+    OfEachRun m info program (λ module_run text_run. KeepsTypes module_run → text_run ≡ module_run)

@@ -1,5 +1,6 @@
--- The syntax tree that is written for a module under its names, of those modules that are written so far, with a `let` for each emitted
--- handle that is bound. Which handles are bound, and where their names are in scope, is what the runs say of a function's shape.
+-- The syntax tree that is written for a module under its names, of those modules that are written
+-- so far, with a `let` for each emitted handle that is bound. Which handles are bound, and where
+-- their names are in scope, is what the runs say of a function's shape.
 use Rattle.std.specs.Prelude.{[], ℕ, ◌+◌, false, List, ◌∷◌, Option, Some, None, slice_get, zero, suc, ◌-◌, Bool, true, length}
 use Rattle.std.specs.Option.{option_map_or, option_map}
 use Rattle.naga_ir.specs.StatementTree.{return, simple, BlockTree, no_statements, statement, emit, store, StatementTree}
@@ -140,7 +141,8 @@ abbrev pub functions_form : (explicit : Bool) → NameMap → List Type_ → ℕ
 functions_form explicit names types g (f ∷ fs) (es ∷ ess) = function_form explicit names types g f es ∷ functions_form explicit names types (g + 1) fs ess
 functions_form explicit names types g _ _ = []
 
--- the syntax tree that is written for a module, by what is known of it, with the types of its `let`s told or not: so far its functions
+-- the syntax tree that is written for a module, by what is known of it, with the types of its
+-- `let`s told or not: so far its functions
 abbrev pub written_program : Module → ModuleInfo → (explicit : Bool) → Program
 written_program m info explicit =
     record no_declarations { functions = functions_form explicit (module_names m) m.types 0 m.functions info.functions.items }

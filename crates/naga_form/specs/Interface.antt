@@ -1,4 +1,5 @@
--- The interface of a program: what it declares for others. It is told of a syntax tree, and of a module under its names.
+-- The interface of a program: what it declares for others. It is told of a syntax tree, and of a
+-- module under its names.
 use Rattle.std.specs.Prelude.{ℕ, ◌+◌, List, [], ◌∷◌, map, Option, Some, None}
 use Rattle.naga_ir.specs.declared.module.Function as ir_function
 use Rattle.naga_ir.specs.declared.module.FunctionResult.{FunctionResult}

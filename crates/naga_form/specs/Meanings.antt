@@ -1,19 +1,14 @@
 -- What the run of a module asks of operators and of the world can be met, and no run of an accepted module is stuck.
-use Rattle.std.specs.Prelude.{◌≡◌, ℕ, List, Some, IsTrue}
 use Rattle.naga_ir.specs.declared.module.Module.{Module}
 use Rattle.naga_info.specs.declared.info.ModuleInfo.{ModuleInfo}
 use Rattle.wgsl_text.specs.Tree.{Program}
-use Rattle.shader_runs.specs.Value.{Value, has_types}
-use Rattle.shader_runs.specs.World.{World, Meaning, Event, Settings}
-use Rattle.shader_runs.specs.Program as shapes
-use Rattle.shader_runs.specs.Constants.{run_module, follow_module}
+use Rattle.shader_runs.specs.World.{World, Meaning, Settings}
 use Rattle.shader_runs.specs.Premises.{IsTyped, SettingsFit}
 use Rattle.shader_runs.specs.Correct.{AlwaysKeepsTypes, KeepsTypes}
 use Rattle.shader_runs.specs.Progress.{IsNotStuck}
 use Rattle.shader_runs.specs.Typing.{IsConsistent}
-use Rattle.naga_form.specs.Names.{module_names, function_name}
+use Rattle.naga_form.specs.Faithful.{OfEachRun}
 use Rattle.naga_form.specs.Shapes.{program_shape}
-use Rattle.naga_form.specs.Abstraction.{program_read, is_request}
 
 -- What is spelled alike over operands of types alike has results of types alike, in all functions of the module.
 abbrev pub OperatorsAreConsistent : Module → ModuleInfo → Type 0
@@ -23,8 +18,9 @@ OperatorsAreConsistent m info = IsConsistent (program_shape m info)
 abbrev pub HasTypedMeaning : Module → ModuleInfo → Type 0
 HasTypedMeaning m info = (meaning : Meaning) × IsTyped (program_shape m info) meaning
 
--- Under each typed meaning, and all values of overrides and variables of their types, one world answers by the right types in
--- every run: of each function, from all arguments of its types, with every bound on loop turns.
+-- Under each typed meaning, and all values of overrides and variables of their types, one world
+-- answers by the right types in every run: of each function, from all arguments of its types, with
+-- every bound on loop turns.
 abbrev pub HasTypedWorld : Module → ModuleInfo → Type 0
 HasTypedWorld m info =
     let shape = program_shape m info in
@@ -32,18 +28,10 @@ HasTypedWorld m info =
     (meaning : Meaning) → IsTyped shape meaning →
     (world : World) × AlwaysKeepsTypes shape settings meaning world
 
--- Each call of the module with arguments of the right types returns, or it ends by a discard, out of turns, for want of a
--- callee's result or, in a world that doesn't keep the types, at an answer of a wrong type. In a world that keeps them the same
--- holds of the program.
+-- Each call of the module with arguments of the right types returns, or it ends by a discard, out
+-- of turns, for want of a callee's result or, in a world that doesn't keep the types, at an answer
+-- of a wrong type. In a world that keeps them the same holds of the program.
 abbrev pub IsNeverStuck : Module → ModuleInfo → Program → Type 0
 IsNeverStuck m info program =
-    let shape = program_shape m info in
-    let text = program_read program in
-    (settings : Settings) → SettingsFit shape settings →
-    (meaning : Meaning) → IsTyped shape meaning →
-    (g : ℕ) (f : shapes.Function) → shapes.function_numbered shape.functions g ≡ Some f →
-    (arguments : List Value) → IsTrue (has_types shape.parts f.argument_types arguments) →
-    (world : World) (turns : ℕ) (past : List Event) →
-    let module_run = run_module shape settings world meaning turns g arguments past in
-    let text_run = follow_module text settings world meaning is_request turns (function_name (module_names m) g) arguments past in
-    IsNotStuck module_run × (KeepsTypes module_run → IsNotStuck text_run)
+    OfEachRun m info program (λ module_run text_run.
+    IsNotStuck module_run × (KeepsTypes module_run → IsNotStuck text_run))

@@ -1,6 +1,7 @@
--- The operators and operations of a module with their words: one table for all of them. An operator here is what an
--- expression or a statement asks for, apart from its operands; which of those are there that may be left out belongs to it.
--- What is new is a constructor, and a line of each function below.
+-- The operators and operations of a module with their words: one table for all of them. An operator
+-- here is what an expression or a statement asks for, apart from its operands; which of those are
+-- there that may be left out belongs to it. What is new is a constructor, and a line of each
+-- function below.
 use Rattle.std.specs.Prelude.{ℕ, ◌||◌, ◌+◌, Bool, true, false, List, [], ◌++◌, Option, Some, None, codes, ⊤, unwrap_or, if◌then◌else◌}
 use Rattle.naga_enumerations.specs.declared.expression.SwizzleComponent.{SwizzleComponent}
 use Rattle.naga_enumerations.specs.declared.expression.SwizzleComponent.TheVariants as component
@@ -32,8 +33,8 @@ use Rattle.wgsl_text.specs.Text.{text, mark_text}
 use Rattle.wgsl_text.specs.Tree.{TypeSpecifier, Negate, LogicalNot, BitwiseNot}
 use Rattle.naga_form.specs.Operators.{operator_form}
 
--- at which level an image is sampled: that of the derivatives; zero; a given one; that of the derivatives and a bias; that of
--- given derivatives
+-- at which level an image is sampled: that of the derivatives; zero; a given one; that of the
+-- derivatives and a bias; that of given derivatives
 pub data Level : Type 0 where
   Automatic Zero Exact Biased Graded : Level
 
@@ -403,8 +404,9 @@ gathered_level level clamped = level
 abbrev pub one_word : Operator → Operator
 -- a negation and a difference, which have one operand and two;
 one_word (UnarySign unary.Negate) = BinarySign binary.Subtract
--- samplings of images with layers and without, with an offset and without, and at level zero and a given one: the types of
--- the image and of the operands tell them apart, and level zero is an operand or, compared, one operand less;
+-- samplings of images with layers and without, with an offset and without, and at level zero and a
+-- given one: the types of the image and of the operands tell them apart, and level zero is an
+-- operand or, compared, one operand less;
 one_word (Sample level compares clamped arrayed offset) =
     Sample (written_level level clamped) compares clamped false false
 -- gathers of images with layers and without, and with an offset and without, which the types tell apart; and gathers at

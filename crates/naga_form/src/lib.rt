@@ -44,14 +44,14 @@ pub fn resolves_as_meant()
     ensures { (m : Module) (info : ModuleInfo) (explicit : Bool) → IsTrue (is_accepted m info) → IsTrue (is_written_so_far m) → NamesAreCounted m → ResolvesAs m info (written_program m info explicit) }
 {}
 
-/// Its `let`s are those of the emitted handles that are bound, each under its handle's name, and each tells its handle's type
-/// where types are to be told.
+/// Its `let`s are those of the emitted handles that are bound, each under its handle's name, and
+/// each tells its handle's type where types are to be told.
 pub fn binds_as_counted()
     ensures { (m : Module) (info : ModuleInfo) (explicit : Bool) → IsTrue (is_accepted m info) → IsTrue (nothing_named m) → BindsAs m info explicit (written_program m info explicit) }
 {}
 
-/// What is written of a function whose literals are all written so far, and the types of whose locals are all spelled, is read as
-/// its shape is written, whatever is known of it.
+/// What is written of a function whose literals are all written so far, and the types of whose
+/// locals are all spelled, is read as its shape is written, whatever is known of it.
 pub fn functions_are_read()
     ensures { (explicit : Bool) (names : NameMap) (types : List Type_) (g : ℕ) (f : Function) (es : List ExpressionInfo) → LiteralsAreWritten f.expressions → LocalsAreSpelled types f.local_variables → function_read (function_form explicit names types g f es) ≡ form_function (function_naming names types g f es) }
 {}
@@ -71,7 +71,8 @@ pub fn scopes_are_checked()
     ensures { (m : Module) (info : ModuleInfo) → IsTrue (is_accepted m info) → (IsTrue (scope_holds m info) ↔ ScopesHold m info) }
 {}
 
-/// The operators of an accepted module are typed consistently, so that some meaning gives each a value of its handle's type.
+/// The operators of an accepted module are typed consistently, so that some meaning gives each a
+/// value of its handle's type.
 pub fn has_a_typed_meaning()
     ensures consistent { (m : Module) (info : ModuleInfo) → IsTrue (is_accepted m info) → OperatorsAreConsistent m info }
     ensures meaning { (m : Module) (info : ModuleInfo) → IsTrue (is_accepted m info) → HasTypedMeaning m info }
@@ -82,14 +83,15 @@ pub fn has_a_typed_world()
     ensures { (m : Module) (info : ModuleInfo) → IsTrue (is_accepted m info) → HasTypedWorld m info }
 {}
 
-/// No run of an accepted module is stuck, nor one of its program in a world that keeps the types, where the rules of scope hold in the
-/// module.
+/// No run of an accepted module is stuck, nor one of its program in a world that keeps the types,
+/// where the rules of scope hold in the module.
 pub fn is_never_stuck()
     ensures { (m : Module) (info : ModuleInfo) (explicit : Bool) → IsTrue (is_accepted m info) → IsTrue (nothing_named m) → ScopesHold m info → NamesAreCounted m → IsNeverStuck m info (written_program m info explicit) }
 {}
 
-/// Two types that no text spells so far have values of one type only where they are told by the same, a struct by its handle and
-/// any other type by what it is, and never of a type that is spelled.
+/// Two types that no text spells so far have values of one type only where they are told by the
+/// same, a struct by its handle and any other type by what it is, and never of a type that is
+/// spelled.
 pub fn tells_types_apart()
     ensures unspelled { (types : List Type_) (a b : TypeResolution) → spelling_of types a ≡ None → spelling_of types b ≡ None → value_type types a ≡ value_type types b → identity types a ≡ identity types b }
     ensures spelled { (types : List Type_) (a b : TypeResolution) (word : List ℕ) → spelling_of types a ≡ Some word → spelling_of types b ≡ None → value_type types a ≡ value_type types b → ⊥ }
@@ -100,15 +102,17 @@ pub fn tells_literals_apart()
     ensures { (a b : Literal) → literal_value a ≡ literal_value b → a ≡ b }
 {}
 
-/// What the runs call two operators is one word only where `one_word` sends them to one, and these do share it. But for samplings,
-/// gathers, loads of texels, barriers and conversions, the number of operands tells those apart that share a word.
+/// What the runs call two operators is one word only where `one_word` sends them to one, and these
+/// do share it. But for samplings, gathers, loads of texels, barriers and conversions, the number
+/// of operands tells those apart that share a word.
 pub fn tells_operators_apart()
     ensures words { (a b : Operator) → TypeIsSound a → TypeIsSound b → run_word a ≡ run_word b → one_word a ≡ one_word b }
     ensures kept { (a : Operator) → run_word (one_word a) ≡ run_word a }
     ensures counts { (a b : Operator) → IsTrue (is_told a) → IsTrue (is_told b) → one_word a ≡ one_word b → operand_count a ≡ operand_count b → a ≡ b }
 {}
 
-/// The words that the run of a text takes for requests of events are, of all operators, those of the operators that ask for one.
+/// The words that the run of a text takes for requests of events are, of all operators, those of
+/// the operators that ask for one.
 pub fn tells_requests_apart()
     ensures { (a : Operator) (word : List ℕ) → TypeIsSound a → operator_word a ≡ Some word → is_request word ≡ asks a }
 {}

@@ -37,12 +37,14 @@ IsErrorOfNames namer_error.Full error = IsCustom (codes "namer is full") error
 IsErrorOfNames namer_error.KeyFull error = IsCustom (codes "name key out of range") error
 IsErrorOfNames (namer_error.Memory e) error = error ≡ Memory e
 
--- the rules of scope don't hold in some function: an operand is used where it is out of scope, or an `Emit` isn't allowed
+-- the rules of scope don't hold in some function: an operand is used where it is out of scope, or
+-- an `Emit` isn't allowed
 abbrev pub IsOutOfScope : Module → ModuleInfo → (message : List ℕ) → Type 0
 IsOutOfScope m info message = (message ≡ codes "operand out of scope") × (ScopesHold m info → ⊥)
 
--- Why a module is refused, of which this is known, where the sink had failed so often before and has failed so often now: the sink failed,
--- memory ran out, the names can't be told, an operand is out of scope, or the module holds what is not written so far.
+-- Why a module is refused, of which this is known, where the sink had failed so often before and
+-- has failed so often now: the sink failed, memory ran out, the names can't be told, an operand is
+-- out of scope, or the module holds what is not written so far.
 abbrev pub IsRefusal : Module → ModuleInfo → (before now : ℕ) → Error → Type 0
 IsRefusal m info before now (FmtError e) = IsSinkWant before now e
 IsRefusal m info before now (Memory e) = ⊤

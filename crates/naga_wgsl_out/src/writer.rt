@@ -89,7 +89,8 @@ impl<W: TextSink> Writer<W> {
         ensures faithful { FaithfulWriting «module».now info.now result (W.text self.old.sink) (W.text self.new.sink) (W.failures self.old.sink) (W.failures self.new.sink) }
         // Each identifier of the text stands for the item that it was written for.
         ensures resolution { OnOk result (EachReading (W.text self.old.sink) (W.text self.new.sink) (ResolvesAs «module».now info.now)) }
-        // Its `let`s are those of the emitted expressions that are to be bound, and tell the types of these if the flags ask for it.
+        // Its `let`s are those of the emitted expressions that are to be bound, and tell the types
+        // of these if the flags ask for it.
         ensures bindings { OnOk result (EachReading (W.text self.old.sink) (W.text self.new.sink) (BindsAs «module».now info.now (tells_types self.old.flags))) }
         ensures text_ok { OnOk result (W.text self.new.sink ≡ W.text self.old.sink ++ written_text «module».now info.now self.old.flags) }
         ensures text_err { OnErr result (IsBehind (W.text self.old.sink) (written_text «module».now info.now self.old.flags) (W.text self.new.sink)) }

@@ -24,6 +24,7 @@ use Rattle.shader_runs.proofs.Emission.{extends_update, unbound_present}
 use Rattle.shader_runs.proofs.Scopes.{extends_after, extends_all}
 use Rattle.shader_runs.proofs.Statements.{ReturnsOf, ActionReturns, called_typed, or_left, or_right}
 use Rattle.shader_runs.proofs.Fresh.{all_fresh, start_sources}
+use Rattle.shader_runs.proofs.ScopeRules.{everywhere_forgotten}
 use Rattle.shader_runs.proofs.Start.{start_stands}
 use Rattle.shader_runs.proofs.Calls.{runs_alike}
 use Rattle.shader_runs.specs.Constants.{environment_of}
@@ -199,13 +200,6 @@ unbound_everywhere false Everywhere e = e
 unbound_everywhere false Inline e = e
 unbound_everywhere false (Named x) e = e
 
-forgotten_everywhere : (st now : Standing) → forgotten_one st now ≡ Everywhere → st ≡ Everywhere
-forgotten_everywhere Absent now e = e
-forgotten_everywhere Barred now e = e
-forgotten_everywhere Inline now e = e
-forgotten_everywhere (Named x) now e = e
-forgotten_everywhere Everywhere now e = refl
-
 module _ (c : Call) (n : Names) where
   rooted_update : (s : Handles) (h : ℕ) (st : Standing) → (IsTrue (is_present (s h)) → IsTrue (is_present st)) → (st ≡ Everywhere → s h ≡ Everywhere) → Rooted c s → Rooted c (update s h st)
   rooted_update s h st i e r k =
@@ -240,7 +234,7 @@ module _ (c : Call) (n : Names) where
 
   rooted_if : (b : Bool) (s s2 : Handles) → Rooted c s → Rooted c s2 → Rooted c (forgotten_if b s s2)
   rooted_if true s s2 r r2 h e =
-      usable_all_more c.function s (forgotten s s2) (extends_forgotten s s2) (operands_of (expression_of c.function h)) (r h (forgotten_everywhere (s h) (s2 h) e))
+      usable_all_more c.function s (forgotten s s2) (extends_forgotten s s2) (operands_of (expression_of c.function h)) (r h (everywhere_forgotten (s h) (s2 h) e))
   rooted_if false s s2 r r2 h e = r2 h e
 
   rooted_all : (k : ℕ) (ss : Statements) (s : Handles) → Rooted c s → Rooted c (after_all (naming c n) k ss s)

@@ -438,7 +438,7 @@ among_statements f end v k a = a
 among_statements f (then st ss) v k a =
     among_statements f ss (with_statement f st v) k (among_statement f st v k a)
 
-everywhere_forgotten : (st now : Standing) → forgotten_one st now ≡ Everywhere → st ≡ Everywhere
+pub everywhere_forgotten : (st now : Standing) → forgotten_one st now ≡ Everywhere → st ≡ Everywhere
 everywhere_forgotten Everywhere now e = refl
 everywhere_forgotten Absent now e = e
 everywhere_forgotten Barred now e = e

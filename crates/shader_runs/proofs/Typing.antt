@@ -157,7 +157,7 @@ below_there p f (suc n) h x lt m = go (nat_eq h n) refl (λ less. below_there p 
     go true e rest = one_of_left x (at_handle p f n) (signatures_below p f n) (subst (λ h. IsOneOf x (at_handle p f h)) (eqb-true h n e) m)
     go false e rest = one_of_right x (at_handle p f n) (signatures_below p f n) (rest (smaller (eqb-false h n e)))
 
-no_signature : (x : Signature) → IsOneOf x [] → ⊥
+pub no_signature : (x : Signature) → IsOneOf x [] → ⊥
 no_signature x m = elim m [ ]
 
 within_list : (p : Module) (f : Function) (h : ℕ) (x : Signature) → IsOneOf x (at_handle p f h) → h < length f.expressions

@@ -3,8 +3,8 @@ use Rattle.std.specs.Prelude.{ℕ, zero, suc, ℤ, Bool, true, false, List, Opti
 use Rattle.shader_runs.specs.Value.{Value, Truth, Whole, Pointer, Opaque}
 use Rattle.shader_runs.specs.World.{Event}
 
--- why a run ends before its end: a wanted value is missing, a callee ended without the result that its caller wants, a loop had its turns,
--- a discard, or an answer of a wrong type
+-- why a run ends before its end: a wanted value is missing, a callee ended without the result that
+-- its caller wants, a loop had its turns, a discard, or an answer of a wrong type
 pub data Stop : Type 0 where
   Stuck : Stop
   Unreturned : Stop

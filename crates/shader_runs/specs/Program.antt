@@ -3,8 +3,8 @@ use Rattle.std.specs.Prelude.{ℕ, zero, suc, ℤ, Bool, true, false, cond, ◌-
 use Rattle.shader_runs.specs.Value.{Bytes, PartTypes, Selector, Value, ValueType, type_at, ShortCircuit}
 
 mutual
-  -- an expression over constants alone that no handle of the function names inside: a literal, a named constant or override,
-  -- or a type's value from parts (no parts: its zero value)
+  -- an expression over constants alone that no handle of the function names inside: a literal, a
+  -- named constant or override, or a type's value from parts (no parts: its zero value)
   pub data ConstantTree : Type 0 where
     Fixed : Value → ConstantTree
     NamedConstant : (index : ℕ) → ConstantTree
@@ -75,8 +75,8 @@ mutual
     no_case : Cases
     case : Label → Statements → (falls_through : Bool) → Cases → Cases
 
--- types, counts and given names are by handle, first values are the initialisers of the locals, and local pointers the spellings
--- of pointers to these
+-- types, counts and given names are by handle, first values are the initialisers of the locals, and
+-- local pointers the spellings of pointers to these
 pub record Function : Type 0 where
   pub argument_types : List ValueType
   pub result : Option ValueType
@@ -141,7 +141,8 @@ abbrev pub is_asked : Function → ℕ → Asking → Bool
 is_asked f h WhenCounted = is_counted f 1 h
 is_asked f h Always = true
 
--- an emitted handle that a `let` binds: an operation on images, a read that counts, an operator used twice, or what has a name
+-- an emitted handle that a `let` binds: an operation on images, a read that counts, an operator
+-- used twice, or what has a name
 abbrev pub binds_as : Function → ℕ → Option Expression → Bool
 binds_as f h (Some (Load p)) = is_counted f 1 h
 binds_as f h (Some (Request a w xs es)) = is_asked f h a
@@ -185,9 +186,10 @@ abbrev mutual
   some_case_continues no_case = false
   some_case_continues (case l b falls cs) = any_continue b || some_case_continues cs
 
--- a module: the types of its named constants and, behind them, of its overrides; the initialisers of the named constants;
--- the types of what its variables' names stand for; how pointers to parts of its types are spelled; and its functions, then
--- its entry points, in their order, the last one first
+-- a module: the types of its named constants and, behind them, of its overrides; the initialisers
+-- of the named constants; the types of what its variables' names stand for; how pointers to parts
+-- of its types are spelled; and its functions, then its entry points, in their order, the last one
+-- first
 pub record Module : Type 0 where
   pub constant_types : List ValueType
   pub initialisers : List ConstantTree

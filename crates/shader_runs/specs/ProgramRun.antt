@@ -5,7 +5,8 @@ use Rattle.shader_runs.specs.World.{Event, Entry, Ask, Read, Write, Discard, ent
 use Rattle.shader_runs.specs.Outcome.{Stuck, Discarded, Mistyped, Outcome, Done, Continued, Broke, Returned, Stopped, Reached, Gives, Halts, answer, Next, and_then, turn, turns, after_switch, chosen, with_integer, Unreturned}
 use Rattle.shader_runs.specs.Program.{ConstantTree, Fixed, NamedConstant, Constructed, ConstantTrees, no_constant, constant, Expression, Constant, Argument, Local, Global, Load, Operator, Access, AccessIndex, Logical, Swizzle, Request, Action, Asked, Called, BarrierBits, Label, Numbered, Default, Statement, Emit, Store, Block, If, Switch, Loop, Break, Continue, Return, Kill, Barrier, Act, Statements, end, then, Cases, no_case, case, Function, argument_count, local_pointer, expression_of, handle_type, operands_of, is_counted, is_asked, from}
 
--- one call of a function: callees are the functions before it and calls what they do, frame is the number of entries before it
+-- one call of a function: callees are the functions before it and calls what they do, frame is the
+-- number of entries before it
 pub record Call : Type 0 where
   pub function : Function
   pub callees : List Function

@@ -1,4 +1,5 @@
--- Worked functions: each with its text, and what both runs of it do in one world. Then texts that other writers would give, which do something else.
+-- Worked functions: each with its text, and what both runs of it do in one world. Then texts that
+-- other writers would give, which do something else.
 use Rattle.std.specs.Prelude.{◌≡◌, ℕ, ◌+◌, ◌*◌, pos, Bool, true, false, cond, List, [], ◌∷◌, ◌++◌, Option, Some, None, ◌&&◌, ◌||◌, nat_eq, get_or, IsTrue, codes}
 use Rattle.shader_runs.specs.Value.{Bytes, PartTypes, same_bytes, same_integer, MemberNamed, ElementAt, step_of, At, Field, Rooted, GlobalRoot, LocalRoot, Part, Place, ValueType, BooleanType, IntegerType, PointerType, Value, Truth, Whole, Pointer, Spelled}
 use Rattle.shader_runs.specs.World.{Event, Entry, Ask, Read, Write, Discard, World, Meaning, Settings}
@@ -475,7 +476,8 @@ abbrev pub vector_parts : PartTypes
 vector_parts whole (At z) = cond (same_bytes whole private_vector) private_i32 []
 vector_parts whole (Field word) = []
 
--- a module with a named constant and a variable: a store to `v.x` and a read of `v[i]`, which are one place where i is 0
+-- a module with a named constant and a variable: a store to `v.x` and a read of `v[i]`, which are
+-- one place where i is 0
 abbrev pub places_function : Function
 places_function =
     record {

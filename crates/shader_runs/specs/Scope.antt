@@ -4,8 +4,8 @@ use Rattle.shader_runs.specs.Value.{Bytes}
 use Rattle.shader_runs.specs.World.{update}
 use Rattle.shader_runs.specs.Program.{Expression, Constant, Argument, Local, Global, Load, Operator, Access, AccessIndex, Logical, Swizzle, Request, Statement, Emit, Store, Block, If, Switch, Loop, Return, Act, Statements, end, then, Cases, no_case, case, Function, argument_count, local_count, expression_of, operands_of, is_given, binds, from, holds_continue}
 
--- a handle at a point: not emitted here; emitted where an operand was out of scope; a constant tree that wasn't emitted here;
--- written where it is used; or bound under a name
+-- a handle at a point: not emitted here; emitted where an operand was out of scope; a constant tree
+-- that wasn't emitted here; written where it is used; or bound under a name
 pub data Standing : Type 0 where
   Absent : Standing
   Barred : Standing
@@ -254,7 +254,8 @@ abbrev mutual
   fits_cases f k no_case s = true
   fits_cases f k (case l b falls cs) s = fits_all f k b s && fits_cases f (given_by_all f.function b k) cs s
 
--- the function with its first locals alone, as many as these: what is in scope in front of the declaration of the next one
+-- the function with its first locals alone, as many as these: what is in scope in front of the
+-- declaration of the next one
 abbrev pub before_local : Function → ℕ → Function
 before_local f i = record f { first_values = take i f.first_values }
 

@@ -258,7 +258,8 @@ with_globals (x ∷ xs) (g ∷ gs) i names = bind (with_globals xs gs (suc i) na
 abbrev pub no_names : Scope
 no_names x = None
 
--- what a word before operands is, wherever no variable hides it: the name of a function of the module, a word that asks for an event, or an operator
+-- what a word before operands is, wherever no variable hides it: the name of a function of the
+-- module, a word that asks for an event, or an operator
 pub data WordUse : Type 0 where
   NamesFunction : WordUse
   AsksForEvent : WordUse
@@ -294,7 +295,8 @@ abbrev pub first_then : Words → Option Tree → Scope → List Event → (List
 first_then l None names t rest = put_first None (rest t)
 first_then l (Some e) names t rest = first_followed (value_of l e names t) rest
 
--- the first values of a function's variables, in their order: each is evaluated where the variables before it are in scope
+-- the first values of a function's variables, in their order: each is evaluated where the variables
+-- before it are in scope
 abbrev pub first_of_each : Words → List Variable → (entries index : ℕ) → Scope → List Event → Reached (List (Option Value))
 first_of_each l [] k i names t = Gives [] t
 first_of_each l (x ∷ xs) k i names t =

@@ -29,8 +29,8 @@ pub data Step : Type 0 where
   At : ℤ → Step
   Field : Bytes → Step
 
--- `.x` and `[0]` are one step, so are `.y` and `[1]`, and so on. Members of one struct have different words, and no index reaches into a struct,
--- so that its members stay apart
+-- `.x` and `[0]` are one step, so are `.y` and `[1]`, and so on. Members of one struct have
+-- different words, and no index reaches into a struct, so that its members stay apart
 abbrev pub step_of : Selector → Step
 step_of (ElementAt index) = At (pos index)
 step_of (MemberNamed word) =
@@ -40,8 +40,8 @@ step_of (MemberNamed word) =
     )
     )
 
--- a variable, with the spelling of a pointer to it: a module's by its index, or a local by the number of function entries
--- before its own function's and its index
+-- a variable, with the spelling of a pointer to it: a module's by its index, or a local by the
+-- number of function entries before its own function's and its index
 pub data Root : Type 0 where
   GlobalRoot : (pointer : Bytes) → (index : ℕ) → Root
   LocalRoot : (pointer : Bytes) → (entries index : ℕ) → Root

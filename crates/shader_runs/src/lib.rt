@@ -22,8 +22,9 @@ pub fn points_agree()
     ensures { PointsAgree }
 {}
 
-/// In a module whose conditions, selectors, pointers and jumps are well-formed too, no call is stuck: it returns, or ends by a
-/// discard, out of turns, for want of a callee's result or at an answer of a wrong type.
+/// In a module whose conditions, selectors, pointers and jumps are well-formed too, no call is
+/// stuck: it returns, or ends by a discard, out of turns, for want of a callee's result or at an
+/// answer of a wrong type.
 pub fn runs_are_not_stuck()
     ensures { RunsAreNotStuck }
 {}
@@ -69,8 +70,8 @@ pub fn constant_rows_hold()
     ensures { ConstantRowsHold }
 {}
 
-/// Worked functions for kinds of statements run as they are said to: atomics, images, collectives, barriers, ray traces, jumps,
-/// calls through several functions, discards and loops that don't end.
+/// Worked functions for kinds of statements run as they are said to: atomics, images, collectives,
+/// barriers, ray traces, jumps, calls through several functions, discards and loops that don't end.
 pub fn statement_rows_hold()
     ensures { StatementRowsHold }
 {}
