@@ -1,5 +1,5 @@
 -- The program that is written for a module has the module's interface.
-use Rattle.std.proofs.Common.{[], ◌≡◌, ℕ, ◌+◌, Bool, List, ◌∷◌, map, length, pred, Option, Some, None, refl, ap}
+use Rattle.std.proofs.Common.{[], ◌≡◌, ℕ, ◌+◌, Bool, true, List, ◌∷◌, map, length, pred, Option, Some, None, refl, sym, ap, ◌∙◌}
 use Rattle.naga_ir.specs.declared.module.Function as ir_function
 use Rattle.naga_ir.specs.declared.module.FunctionArgument.{FunctionArgument}
 use Rattle.naga_ir.specs.declared.module.FunctionResult.{FunctionResult}
@@ -13,24 +13,46 @@ use Rattle.type_spelling.specs.Trees.{Names as TypeNames}
 use Rattle.naga_ir.specs.declared.expression.Expression as ir
 use Rattle.naga_ir.specs.declared.module.LocalVariable.{LocalVariable}
 use Rattle.shader_runs.specs.Scope.{Naming}
-use Rattle.naga_form.specs.Types.{type_form}
+use Rattle.naga_form.specs.Types.{type_form, spelled_type}
+use Rattle.type_spelling.specs.Trees.{type_tree}
+use Rattle.type_spelling.proofs.Forms.{type_row}
+use Rattle.wgsl_text.proofs.RowText.{text-append}
+use Rattle.std.specs.Option.{option_map}
+use Rattle.std.specs.Prelude.{unwrap_or}
+use Rattle.wgsl_text.specs.Reading.{type_layout}
+use Rattle.wgsl_text.specs.Tree.{TypeSpecifier, Named}
 use Rattle.naga_form.specs.Shapes.{function_naming}
 use Rattle.naga_form.specs.Names.{module_names}
 use Rattle.naga_form.specs.Form.{locals_form, parameters_form, result_form, function_form, functions_form, written_program}
-use Rattle.naga_form.specs.Interface.{parameter_read, result_read, function_interface_read, passed, result_passed, function_interface, function_interfaces}
+use Rattle.naga_form.specs.Interface.{parameter_read, result_read, function_interface_read, Passed, passed, result_passed, function_interface, function_interfaces}
 use Rattle.naga_form.specs.Faithful.{HasInterfaceOf}
+
+-- the layout of a type's form is its spelling, and nothing where it has no form
+spelled_form : (t : TypeNames) (ty : ℕ) → type_layout (type_form t ty) ≡ spelled_type t ty
+spelled_form t ty = by (type_tree t ty) ∙ ap (λ w. unwrap_or w []) (sym (type_row text-append t (λ handle. true) ty))
+  where
+    by : (tree : Option TypeSpecifier) → type_layout (unwrap_or tree (Named [])) ≡ unwrap_or (option_map type_layout tree) []
+    by None = refl
+    by (Some tree) = refl
+
+-- what passes in or out, by its form
+abbrev form_passed : TypeNames → ℕ → Passed
+form_passed t ty = record { attributes = []; type = type_layout (type_form t ty) }
+
+passed_is : (t : TypeNames) (ty : ℕ) → form_passed t ty ≡ passed t ty
+passed_is t ty = ap (λ w. record { attributes = []; type = w }) (spelled_form t ty)
 
 parameters_passed : (names : NameMap) (types : List Type_) (g n : ℕ) (args : List FunctionArgument) → map parameter_read (parameters_form names types g n args) ≡ map (λ a. passed (names_of types names) a.ty) args
 parameters_passed names types g n [] = refl
-parameters_passed names types g n (a ∷ more) = ap (λ ps. passed (names_of types names) a.ty ∷ ps) (parameters_passed names types g (n + 1) more)
+parameters_passed names types g n (a ∷ more) = λ i. passed_is (names_of types names) a.ty i ∷ parameters_passed names types g (n + 1) more i
 
 results_passed : (t : TypeNames) (r : Option FunctionResult) → result_read (result_form t r) ≡ result_passed t r
 results_passed t None = refl
-results_passed t (Some r) = refl
+results_passed t (Some r) = ap Some (passed_is t r.ty)
 
-locals_declared : (n : Naming) (t : TypeNames) (es : List ir.Expression) (l : ℕ) (vs : List LocalVariable) → map (λ v. v.type) (locals_form n t es l vs) ≡ map (λ v. type_form t v.ty) vs
+locals_declared : (n : Naming) (t : TypeNames) (es : List ir.Expression) (l : ℕ) (vs : List LocalVariable) → map (λ v. type_layout v.type) (locals_form n t es l vs) ≡ map (λ v. spelled_type t v.ty) vs
 locals_declared n t es l [] = refl
-locals_declared n t es l (v ∷ more) = ap (λ ts. type_form t v.ty ∷ ts) (locals_declared n t es (l + 1) more)
+locals_declared n t es l (v ∷ more) = λ i. spelled_form t v.ty i ∷ locals_declared n t es (l + 1) more i
 
 function_interface_form : (explicit : Bool) (names : NameMap) (types : List Type_) (g : ℕ) (f : ir_function.Function) (es : List ExpressionInfo) → function_interface_read (function_form explicit names types g f es) ≡ function_interface names types g f
 function_interface_form explicit names types g f es = λ i. record {

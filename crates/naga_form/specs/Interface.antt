@@ -1,21 +1,22 @@
 -- The interface of a program: what it declares for others. It is told of a syntax tree, and of a
--- module under its names.
+-- module under its names. A type is told by its spelling.
 use Rattle.std.specs.Prelude.{ℕ, ◌+◌, List, [], ◌∷◌, map, Option, Some, None}
 use Rattle.naga_ir.specs.declared.module.Function as ir_function
 use Rattle.naga_ir.specs.declared.module.FunctionResult.{FunctionResult}
 use Rattle.naga_ir.specs.declared.module.Module as ir_module
 use Rattle.naga_ir.specs.declared.types.Type_.{Type_}
 use Rattle.name_keys.specs.Keys.{NameMap}
-use Rattle.wgsl_text.specs.Tree.{Attribute, TypeSpecifier, Parameter, Result, NoResult, ResultOf, Function, EntryPoint, Struct, NamedConstant, Override, Global, Program}
+use Rattle.wgsl_text.specs.Reading.{type_layout}
+use Rattle.wgsl_text.specs.Tree.{Attribute, Parameter, Result, NoResult, ResultOf, Function, EntryPoint, Struct, NamedConstant, Override, Global, Program}
 use Rattle.naga_form.specs.Names.{function_name}
 use Rattle.type_spelling.specs.Contexts.{names_of}
 use Rattle.type_spelling.specs.Trees.{Names as TypeNames}
-use Rattle.naga_form.specs.Types.{type_form}
+use Rattle.naga_form.specs.Types.{spelled_type}
 
--- what passes in or out of a function: the attributes that bind it, and its type
+-- what passes in or out of a function: the attributes that bind it, and its type's spelling
 pub record Passed : Type 0 where
   pub attributes : List Attribute
-  pub type : TypeSpecifier
+  pub type : List ℕ
 
 -- A function by its name, the types of its arguments and that of its result. The types of its locals, in their order,
 -- are told too, since no run looks at the type that a local is declared with.
@@ -23,7 +24,7 @@ pub record FunctionInterface : Type 0 where
   pub name : List ℕ
   pub arguments : List Passed
   pub result : Option Passed
-  pub locals : List TypeSpecifier
+  pub locals : List (List ℕ)
 
 -- So far a module has nothing but functions in its interface, and what else a text declares is told as it stands.
 pub record Interface : Type 0 where
@@ -36,11 +37,11 @@ pub record Interface : Type 0 where
   pub entry_points : List EntryPoint
 
 abbrev pub parameter_read : Parameter → Passed
-parameter_read p = record { attributes = p.attributes; type = p.type }
+parameter_read p = record { attributes = p.attributes; type = type_layout p.type }
 
 abbrev pub result_read : Result → Option Passed
 result_read NoResult = None
-result_read (ResultOf attributes type) = Some (record { attributes = attributes; type = type })
+result_read (ResultOf attributes type) = Some (record { attributes = attributes; type = type_layout type })
 
 -- the interface of a function of a text
 abbrev pub function_interface_read : Function → FunctionInterface
@@ -49,7 +50,7 @@ function_interface_read f =
       name = f.name;
       arguments = map parameter_read f.parameters;
       result = result_read f.result;
-      locals = map (λ l. l.type) f.locals;
+      locals = map (λ l. type_layout l.type) f.locals;
     }
 
 -- the interface of a text
@@ -66,7 +67,7 @@ interface_read p =
     }
 
 abbrev pub passed : TypeNames → ℕ → Passed
-passed t ty = record { attributes = []; type = type_form t ty }
+passed t ty = record { attributes = []; type = spelled_type t ty }
 
 abbrev pub result_passed : TypeNames → Option FunctionResult → Option Passed
 result_passed t None = None
@@ -80,7 +81,7 @@ function_interface names types g f =
       name = function_name names g;
       arguments = map (λ a. passed t a.ty) f.arguments.items;
       result = result_passed t f.result;
-      locals = map (λ l. type_form t l.ty) f.local_variables;
+      locals = map (λ l. spelled_type t l.ty) f.local_variables;
     }
 
 abbrev pub function_interfaces : NameMap → List Type_ → ℕ → List ir_function.Function → List FunctionInterface

@@ -13,7 +13,9 @@ use Rattle.naga_info.specs.declared.info.TypeResolution.{TypeResolution}
 use Rattle.naga_info.specs.declared.info.TypeResolution.TheVariants.{Handle}
 use Rattle.accepted_modules.specs.Types.{word_at, spelling_of, local_pointer}
 use Rattle.type_spelling.specs.Contexts.{names_of}
-use Rattle.type_spelling.specs.Trees.{Names as TypeNames, type_tree, resolution_tree}
+use Rattle.spelling_parts.specs.Parts.{known_text}
+use Rattle.type_spelling.specs.Spelling.{Context, type_parts, resolution_parts}
+use Rattle.type_spelling.specs.Trees.{Names as TypeNames, type_tree, resolution_tree, writer_context}
 use Rattle.naga_form.specs.TypeIdentity.{Identity, identity, unspelled}
 use Rattle.naga_form.specs.Names.{module_names}
 use Rattle.wgsl_text.specs.Words.{stands_in}
@@ -23,6 +25,23 @@ use Rattle.shader_runs.specs.Value.{ValueType, BooleanType, IntegerType, Pointer
 -- a module's types, with the names of its structs and overrides
 abbrev pub type_names : Module → TypeNames
 type_names m = names_of m.types (module_names m)
+
+-- types are spelled by these names, and what has no form is refused
+abbrev pub spelling_context : TypeNames → Context
+spelling_context t = writer_context t (λ handle. true)
+
+-- the spelling of a type of the module, and nothing where it has none
+abbrev pub spelled_type : TypeNames → ℕ → List ℕ
+spelled_type t ty = unwrap_or (known_text (type_parts (spelling_context t) ty)) []
+
+-- the spelling of an expression's type
+abbrev pub spelled_resolution : TypeNames → TypeResolution → Option (List ℕ)
+spelled_resolution t r = known_text (resolution_parts (spelling_context t) r)
+
+-- the type that the `let` of a handle tells, if it is to tell one, by its spelling
+abbrev pub told_spelling : (explicit : Bool) → TypeNames → List ExpressionInfo → ℕ → Option (List ℕ)
+told_spelling true t es h = option_and_then (λ e. spelled_resolution t e.ty) (slice_get es h)
+told_spelling false t es h = None
 
 -- a type of the module. What has no form is not written
 abbrev pub type_form : TypeNames → ℕ → TypeSpecifier
