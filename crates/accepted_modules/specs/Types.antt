@@ -17,6 +17,7 @@ use Rattle.naga_ir.specs.declared.types.TypeInner.TheVariants.{Scalar as ScalarT
 use Rattle.naga_info.specs.declared.info.ExpressionInfo.{ExpressionInfo}
 use Rattle.naga_info.specs.declared.info.TypeResolution.{TypeResolution}
 use Rattle.naga_info.specs.Resolution.{inner_of}
+use Rattle.wgsl_words.specs.Words.{operator_text}
 
 -- WGSL's word for a scalar type of this kind and width in bytes, of those that are written so far:
 -- `bool`, `i32`, `u32`, `i64` and `u64`
@@ -86,9 +87,9 @@ is_alike _ _ = false
 
 -- how an operator is written, of those that are written so far
 abbrev pub operator_word : BinaryOperator → Option (List ℕ)
-operator_word Add = Some (codes "+")
-operator_word Subtract = Some (codes "-")
-operator_word Multiply = Some (codes "*")
+operator_word Add = Some (operator_text Add)
+operator_word Subtract = Some (operator_text Subtract)
+operator_word Multiply = Some (operator_text Multiply)
 operator_word _ = None
 
 -- the word of a literal's type

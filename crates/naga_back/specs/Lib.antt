@@ -3,4 +3,3 @@ pub mod Baking
 pub mod FunctionContext
 pub mod FixedInput
 pub mod Kinds
-pub mod Operators

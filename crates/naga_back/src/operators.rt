@@ -1,7 +1,7 @@
 //! The letters of a vector's components, and the texts of operators.
 
 ghost use Rattle.std.specs.Prelude.{◌≡◌};
-ghost use Rattle.naga_back.specs.Operators.{operator_text};
+ghost use Rattle.wgsl_words.specs.Words.{operator_text};
 
 use naga_ir::BinaryOperator;
 

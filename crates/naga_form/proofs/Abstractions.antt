@@ -36,10 +36,10 @@ use Rattle.naga_ir.specs.declared.expression.Expression.TheVariants as expressio
 use Rattle.naga_operators.specs.declared.BinaryOperator.{BinaryOperator}
 use Rattle.naga_operators.specs.declared.BinaryOperator.TheVariants as operator
 use Rattle.wgsl_text.specs.Tree as tree
-use Rattle.wgsl_text.specs.Pieces.{type_pieces, mark, binary_pieces}
+use Rattle.wgsl_text.specs.Pieces.{type_pieces, mark}
 use Rattle.wgsl_text.specs.Text.{text}
 use Rattle.shader_runs.specs.Form as runs
-use Rattle.naga_form.specs.Operators.{operator_form}
+use Rattle.naga_form.proofs.Operators.{operator_row}
 use Rattle.naga_form.proofs.Fits.{mapped_at, mapped_length}
 use Rattle.naga_form.proofs.WrittenTypes.{tree_of_word}
 
@@ -94,7 +94,7 @@ module _ (n : Naming) where
       binary_reads : (op : BinaryOperator) → plain_read (own_plain n operand (expression.Binary op left right)) ≡ runs.own_form n like k (Some (expression_shape (expression.Binary op left right)))
       binary_reads operator.LogicalAnd = λ i. AsValue (LogicalOf ShortCircuitAnd (left_is i) (right_is i))
       binary_reads operator.LogicalOr = λ i. AsValue (LogicalOf ShortCircuitOr (left_is i) (right_is i))
-      binary_reads op = λ i. AsValue (Apply (text (binary_pieces (operator_form op))) (more (left_is i) (more (right_is i) no_more)))
+      binary_reads op = λ i. AsValue (Apply (sym (operator_row op) i) (more (left_is i) (more (right_is i) no_more)))
   own_reads operand like same k _ w = refl
 
   own_if_reads : (operand : ℕ → PlainForm) (like : ℕ → Plain) → ((x : ℕ) → plain_read (operand x) ≡ like x) → (k : ValueType) (e : Option ir.Expression) → option_map_or literal_is_written e true ≡ true → plain_read (own_if n operand e) ≡ runs.own_form n like k (option_map expression_shape e)

@@ -43,7 +43,6 @@ use Rattle.item_names.specs.Naming.{label_or}
 use Rattle.name_keys.specs.declared.key.NameKey.TheVariants as key
 use Rattle.item_names.proofs.NameShapes.{name_after_is_word}
 use Rattle.item_names.proofs.NamedItems.{Stands, local_stands}
-use Rattle.naga_form.specs.Operators.{operator_form}
 use Rattle.naga_form.specs.Abstraction.{is_request}
 
 -- what stands at an index of a list made from other things
@@ -139,7 +138,7 @@ pub ordered_at : (types : List Type_) (f : ir_function.Function) (es : List Expr
 ordered_at types f es fits h (expression.Load q) at = let l = load_word_at types f es h q fits at in (l.1, tt)
 ordered_at types f es fits h (expression.Binary op left right) at = let o = binary_at types f es h op left right fits at in both op o.left_before o.right_before
   where
-    both : (op : BinaryOperator) → left < h → right < h → AllBelow h (operands_of (Some (binary_shape (operator_form op) left right)))
+    both : (op : BinaryOperator) → left < h → right < h → AllBelow h (operands_of (Some (binary_shape op left right)))
     both operator.LogicalAnd a b = (a, (b, tt))
     both _ a b = (a, (b, tt))
 ordered_at types f es fits h _ at = tt
@@ -198,7 +197,7 @@ module _ (m : Module) (g : ℕ) (f : ir_function.Function) (found : slice_get m.
       typed_as m.types f es h _ l.4 ∙ ap PointerType (sym (pointer_of v l.0 l.1 l.2 l.3))
   leaf_at h (expression.Binary op left right) at = nothing op
     where
-      nothing : (op : BinaryOperator) → LeafFits p shape (handle_type shape h) (Some (binary_shape (operator_form op) left right))
+      nothing : (op : BinaryOperator) → LeafFits p shape (handle_type shape h) (Some (binary_shape op left right))
       nothing operator.LogicalAnd = tt
       nothing _ = tt
   leaf_at h _ at = tt
@@ -237,7 +236,7 @@ module _ (m : Module) (g : ℕ) (f : ir_function.Function) (found : slice_get m.
   words_at : length p.functions ≡ length m.functions → (h : ℕ) (e : ir.Expression) → slice_get f.expressions h ≡ Some e → WordFits p own (Some (expression_shape e))
   words_at counted h (expression.Binary op left right) at = let o = binary_at m.types f es h op left right fits at in by op o.word o.spelled
     where
-      by : (op : BinaryOperator) (w : List ℕ) → operator_word op ≡ Some w → WordFits p own (Some (binary_shape (operator_form op) left right))
+      by : (op : BinaryOperator) (w : List ℕ) → operator_word op ≡ Some w → WordFits p own (Some (binary_shape op left right))
       by operator.Add w e = sign_operates counted 43 [] no_request_plus refl refl refl
       by operator.Subtract w e = sign_operates counted 45 [] no_request_minus refl refl refl
       by operator.Multiply w e = sign_operates counted 42 [] no_request_star refl refl refl

@@ -1,6 +1,7 @@
 pub mod OperatorEvents
 pub mod TypedWords
 pub mod OperatorWords
+pub mod Operators
 pub mod TypeIdentities
 pub mod LiteralValues
 pub mod Interfaces

@@ -37,7 +37,6 @@ use Rattle.shader_runs.proofs.Typing.{has_typed_meaning, no_signature}
 use Rattle.shader_runs.proofs.Starts.{steady_world}
 use Rattle.shader_runs.proofs.Progress.{runs_are_not_stuck}
 use Rattle.wgsl_text.specs.Words.{stands_in}
-use Rattle.naga_form.specs.Operators.{operator_form}
 use Rattle.naga_form.specs.Premises.{nothing_named, ScopesHold}
 use Rattle.naga_form.specs.Names.{NamesAreCounted, module_names, function_name}
 use Rattle.naga_form.specs.Types.{type_spelled, integer_words}
@@ -219,7 +218,7 @@ module _ (types : List Type_) (fs : List ir_function.Function) (ess : List (List
         same = only_one x _ among ∙ (λ i. record { word = Spelled (same i); operands = a i ∷ b i ∷ []; result = c i });
       }
 
-  operator_among : (x : Signature) (h : ℕ) (op : BinaryOperator) (left right : ℕ) → slice_get f.expressions h ≡ Some (expression.Binary op left right) → (o : IsOperation types es h op left right) → IsOneOf x (signatures_of p own (handle_type own h) (Some (binary_shape (operator_form op) left right))) → IsOperator types fs ess x
+  operator_among : (x : Signature) (h : ℕ) (op : BinaryOperator) (left right : ℕ) → slice_get f.expressions h ≡ Some (expression.Binary op left right) → (o : IsOperation types es h op left right) → IsOneOf x (signatures_of p own (handle_type own h) (Some (binary_shape op left right))) → IsOperator types fs ess x
   operator_among x h operator.Add left right at o among = operator_is x h operator.Add left right at o (codes "+") (same_some (codes "+") o.word o.spelled) among
   operator_among x h operator.Subtract left right at o among = operator_is x h operator.Subtract left right at o (codes "-") (same_some (codes "-") o.word o.spelled) among
   operator_among x h operator.Multiply left right at o among = operator_is x h operator.Multiply left right at o (codes "*") (same_some (codes "*") o.word o.spelled) among
@@ -236,7 +235,7 @@ module _ (types : List Type_) (fs : List ir_function.Function) (ess : List (List
   parts_among : (h : ℕ) (e : ir.Expression) → slice_get f.expressions h ≡ Some e → PartsFit p.parts own (handle_type own h) (Some (expression_shape e))
   parts_among h (expression.Binary op left right) at = by op (binary_at types f es h op left right fit at)
     where
-      by : (op : BinaryOperator) → IsOperation types es h op left right → PartsFit p.parts own (handle_type own h) (Some (binary_shape (operator_form op) left right))
+      by : (op : BinaryOperator) → IsOperation types es h op left right → PartsFit p.parts own (handle_type own h) (Some (binary_shape op left right))
       by operator.LogicalAnd o = absurd (unspelled o.spelled)
       by operator.LogicalOr o = absurd (unspelled o.spelled)
       by _ o = tt
@@ -253,7 +252,7 @@ module _ (types : List Type_) (fs : List ir_function.Function) (ess : List (List
   load_among h (expression.Load q) at = let l = load_word_at types f es h q fit at in points_at q l.0 l.3
   load_among h (expression.Binary op left right) at = by op
     where
-      by : (op : BinaryOperator) → LoadFits own (Some (binary_shape (operator_form op) left right))
+      by : (op : BinaryOperator) → LoadFits own (Some (binary_shape op left right))
       by operator.LogicalAnd = tt
       by _ = tt
   load_among h _ at = tt

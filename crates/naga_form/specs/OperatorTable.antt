@@ -24,14 +24,11 @@ use Rattle.naga_operators.specs.declared.CollectiveOperation.{CollectiveOperatio
 use Rattle.naga_operators.specs.declared.CollectiveOperation.TheVariants as collective
 use Rattle.naga_operators.specs.declared.Direction.{Direction}
 use Rattle.naga_operators.specs.declared.Direction.TheVariants as direction
-use Rattle.wgsl_words.specs.Words.{math_word}
+use Rattle.wgsl_words.specs.Words.{math_word, operator_text, unary_text}
 use Rattle.spelling_parts.specs.Words.{vector_word}
 use Rattle.wgsl_text.specs.Grammar.{IsType}
-use Rattle.wgsl_text.specs.Pieces.{binary_pieces, unary_mark}
 use Rattle.wgsl_text.specs.Reading.{type_layout}
-use Rattle.wgsl_text.specs.Text.{text, mark_text}
-use Rattle.wgsl_text.specs.Tree.{TypeSpecifier, Negate, LogicalNot, BitwiseNot}
-use Rattle.naga_form.specs.Operators.{operator_form}
+use Rattle.wgsl_text.specs.Tree.{TypeSpecifier}
 
 -- at which level an image is sampled: that of the derivatives; zero; a given one; that of the
 -- derivatives and a bias; that of given derivatives
@@ -101,11 +98,6 @@ pub data Operator : Type 0 where
 -- ---- words
 abbrev pub if_word : Bool → List ℕ → List ℕ
 if_word b word = if b then word else codes ""
-
-abbrev pub unary_word : UnaryOperator → List ℕ
-unary_word unary.Negate = mark_text (unary_mark Negate)
-unary_word unary.LogicalNot = mark_text (unary_mark LogicalNot)
-unary_word unary.BitwiseNot = mark_text (unary_mark BitwiseNot)
 
 abbrev pub relational_word : RelationalFunction → Option (List ℕ)
 relational_word relational.All = Some (codes "all")
@@ -219,8 +211,8 @@ with_type word t = word ++ (codes "<" ++ (type_layout t ++ codes ">"))
 
 -- the word of an operator, and none where WGSL has none
 abbrev pub operator_word : Operator → Option (List ℕ)
-operator_word (BinarySign op) = Some (text (binary_pieces (operator_form op)))
-operator_word (UnarySign op) = Some (unary_word op)
+operator_word (BinarySign op) = Some (operator_text op)
+operator_word (UnarySign op) = Some (unary_text op)
 operator_word Choice = Some (codes "select")
 operator_word (Mathematical fun) = math_word fun
 operator_word (Relation fun) = relational_word fun

@@ -10,6 +10,8 @@ use Rattle.naga_ir.specs.declared.expression.Expression.TheVariants as expressio
 use Rattle.naga_ir.specs.declared.module.Function as ir_function
 use Rattle.naga_ir.specs.declared.module.Module as ir_module
 use Rattle.naga_ir.specs.declared.types.Type_.{Type_}
+use Rattle.naga_operators.specs.declared.BinaryOperator.{BinaryOperator}
+use Rattle.naga_operators.specs.declared.BinaryOperator.TheVariants.{LogicalAnd, LogicalOr}
 use Rattle.naga_info.specs.declared.info.ExpressionInfo.{ExpressionInfo}
 use Rattle.naga_info.specs.declared.info.ModuleInfo.{ModuleInfo}
 use Rattle.accepted_modules.specs.Types.{word_at}
@@ -18,11 +20,8 @@ use Rattle.shader_runs.specs.Value.{PartTypes, ShortCircuitAnd, ShortCircuitOr}
 use Rattle.shader_runs.specs.Program.{Fixed, Expression, Constant, Argument, Local, Load, Operator, Logical, Result, Statement, Emit, Store, Return, Block, Statements, end, then, Function, Module, operands_of}
 use Rattle.shader_runs.specs.Premises.{AllBelow}
 use Rattle.shader_runs.specs.Scope.{ModuleNames, Names, Naming}
-use Rattle.wgsl_text.specs.Pieces.{binary_pieces}
-use Rattle.wgsl_text.specs.Text.{text}
-use Rattle.wgsl_text.specs.Tree.{BinaryOperator, LogicalAnd, LogicalOr}
+use Rattle.wgsl_words.specs.Words.{operator_text}
 use Rattle.naga_form.specs.Names.{function_name, argument_name, local_name, numbered_name}
-use Rattle.naga_form.specs.Operators.{operator_form}
 use Rattle.naga_form.specs.Types.{value_type, pointer_to_local, declared_type}
 use Rattle.naga_form.specs.Literals.{literal_value}
 use Rattle.naga_form.specs.Abstraction.{is_request}
@@ -31,7 +30,7 @@ use Rattle.naga_form.specs.Abstraction.{is_request}
 abbrev pub binary_shape : BinaryOperator → ℕ → ℕ → Expression
 binary_shape LogicalAnd left right = Logical ShortCircuitAnd left right
 binary_shape LogicalOr left right = Logical ShortCircuitOr left right
-binary_shape op left right = Operator (text (binary_pieces op)) (left ∷ right ∷ [])
+binary_shape op left right = Operator (operator_text op) (left ∷ right ∷ [])
 
 -- what an expression evaluates. What is not written so far stands as a result that no statement gives
 abbrev pub expression_shape : ir.Expression → Expression
@@ -39,7 +38,7 @@ expression_shape (expression.Literal value) = Constant (Fixed (literal_value val
 expression_shape (expression.FunctionArgument number) = Argument number
 expression_shape (expression.LocalVariable handle) = Local handle
 expression_shape (expression.Load pointer) = Load pointer
-expression_shape (expression.Binary op left right) = binary_shape (operator_form op) left right
+expression_shape (expression.Binary op left right) = binary_shape op left right
 expression_shape _ = Result
 
 -- what a statement does. What is not written so far stands as an empty block

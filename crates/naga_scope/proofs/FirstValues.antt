@@ -19,7 +19,6 @@ use Rattle.shader_runs.specs.Program.{Function, local_count}
 use Rattle.shader_runs.specs.Scope.{Standing, Handles, usable_as, usable_if, at_start, before_local, first_values_fit}
 use Rattle.shader_runs.proofs.Update.{and_left, and_right, and_both}
 use Rattle.naga_form.specs.Shapes.{expression_shape, binary_shape, function_shape}
-use Rattle.naga_form.specs.Operators.{operator_form}
 use Rattle.naga_form.proofs.Fits.{mapped_length}
 use Rattle.naga_scope.specs.Standings.{names_earlier, is_earlier}
 
@@ -59,7 +58,7 @@ module _ (types : List Type_) (f : ir_function.Function) (es : List ExpressionIn
   usable_shape (Some (expression.LocalVariable other)) s = below_both other i (local_count shape) ∙ ap (nat_lt other) (sym fewer)
   usable_shape (Some (expression.Binary op left right)) s = by op
     where
-      by : (op : BinaryOperator) → (usable_as shape (Some (binary_shape (operator_form op) left right)) s && true) ≡ usable_as (before_local shape i) (Some (binary_shape (operator_form op) left right)) s
+      by : (op : BinaryOperator) → (usable_as shape (Some (binary_shape op left right)) s && true) ≡ usable_as (before_local shape i) (Some (binary_shape op left right)) s
       by operator.LogicalAnd = and_true _
       by operator.LogicalOr = and_true _
       by _ = and_true _

@@ -17,11 +17,10 @@ use Rattle.naga_info.specs.declared.info.ExpressionInfo.{ExpressionInfo}
 use Rattle.accepted_modules.proofs.Accepting.{load_word_at, binary_at}
 use Rattle.accepted_modules.proofs.Fitting.{drop_first, item_at}
 use Rattle.name_keys.specs.Keys.{NameMap}
-use Rattle.wgsl_text.specs.Tree.{BinaryOperator as tree_operator}
+use Rattle.naga_operators.specs.declared.BinaryOperator.{BinaryOperator}
 use Rattle.shader_runs.specs.Program.{Function, operands_of, from}
 use Rattle.shader_runs.specs.Premises.{AllBelow}
 use Rattle.shader_runs.specs.Scope.{Naming, Handles, given_after, given_after_all, given_by, after, fits, fits_all, fits_function}
-use Rattle.naga_form.specs.Operators.{operator_form}
 use Rattle.naga_form.specs.Shapes.{binary_shape, statement_shape, statements_shape, function_shape, function_shapes, function_naming, namings_from, OperandsStandBefore}
 use Rattle.naga_scope.proofs.Shaped.{not_given, operator_operands}
 use Rattle.naga_scope.proofs.Emitting.{no_and}
@@ -32,9 +31,9 @@ pub ordered_function : (types : List Type_) (f : ir_function.Function) (es : Lis
 ordered_function types f es fits h (expression.Load q) at = let l = load_word_at types f es h q fits at in (l.1, tt)
 ordered_function types f es fits h (expression.Binary op left right) at =
     let o = binary_at types f es h op left right fits at in
-    both (operator_form op) o.left_before o.right_before
+    both op o.left_before o.right_before
   where
-    both : (op : tree_operator) → left < h → right < h → AllBelow h (operands_of (Some (binary_shape op left right)))
+    both : (op : BinaryOperator) → left < h → right < h → AllBelow h (operands_of (Some (binary_shape op left right)))
     both op a b = subst (AllBelow h) (sym (operator_operands op left right)) (a, (b, tt))
 ordered_function types f es fits h _ at = tt
 

@@ -7,13 +7,12 @@ use Rattle.indexmap.specs.IndexMap.{keys}
 use Rattle.naga_ir.specs.declared.expression.Expression as ir
 use Rattle.naga_ir.specs.declared.expression.Expression.TheVariants as expression
 use Rattle.naga_ir.specs.declared.module.Function as ir_function
-use Rattle.naga_operators.specs.declared.BinaryOperator.{BinaryOperator as ir_operator}
+use Rattle.naga_operators.specs.declared.BinaryOperator.{BinaryOperator}
+use Rattle.naga_operators.specs.declared.BinaryOperator.TheVariants.{LogicalAnd, LogicalOr}
 use Rattle.naga_ir.specs.declared.types.Type_.{Type_}
 use Rattle.naga_info.specs.declared.info.ExpressionInfo.{ExpressionInfo}
-use Rattle.wgsl_text.specs.Tree.{BinaryOperator, LogicalAnd, LogicalOr}
 use Rattle.shader_runs.specs.Program.{Function, operands_of, expression_of, is_given, is_counted, binds_as, binds}
 use Rattle.shader_runs.specs.Scope.{Standing, Handles, is_present, usable_as, usable, usable_all, is_pure, is_constant_leaf, is_emittable}
-use Rattle.naga_form.specs.Operators.{operator_form}
 use Rattle.naga_form.specs.Shapes.{binary_shape, expression_shape, given_from, function_shape}
 use Rattle.naga_form.proofs.Fits.{nothing_given, no_keys}
 
@@ -70,16 +69,16 @@ module _ (types : List Type_) (f : ir_function.Function) (es : List ExpressionIn
   pub load_binds : (pointer : ℕ) → slice_get f.expressions h ≡ Some (expression.Load pointer) → nat_le 1 count ≡ binds shape h
   load_binds pointer at = sym (ap (binds_as shape h) (shape_of (Some (expression.Load pointer)) at) ∙ counted_from 1)
 
-  pub binary_binds : (op : ir_operator) (left right : ℕ) → slice_get f.expressions h ≡ Some (expression.Binary op left right) → nat_le 2 count ≡ binds shape h
-  binary_binds op left right at = sym (ap (binds_as shape h) (shape_of (Some (expression.Binary op left right)) at) ∙ operator_bound shape h (operator_form op) left right ∙ counted_from 2)
+  pub binary_binds : (op : BinaryOperator) (left right : ℕ) → slice_get f.expressions h ≡ Some (expression.Binary op left right) → nat_le 2 count ≡ binds shape h
+  binary_binds op left right at = sym (ap (binds_as shape h) (shape_of (Some (expression.Binary op left right)) at) ∙ operator_bound shape h op left right ∙ counted_from 2)
 
   pub none_binds : slice_get f.expressions h ≡ None → false ≡ binds shape h
   none_binds at = sym (ap (binds_as shape h) (shape_of None at))
 
-  pub other_binds : (e : ir.Expression) → slice_get f.expressions h ≡ Some e → ((p : ℕ) → e ≢ expression.Load p) → ((op : ir_operator) (l r : ℕ) → e ≢ expression.Binary op l r) → false ≡ binds shape h
+  pub other_binds : (e : ir.Expression) → slice_get f.expressions h ≡ Some e → ((p : ℕ) → e ≢ expression.Load p) → ((op : BinaryOperator) (l r : ℕ) → e ≢ expression.Binary op l r) → false ≡ binds shape h
   other_binds e at no_load no_binary = sym (ap (binds_as shape h) (shape_of (Some e) at) ∙ by e no_load no_binary)
     where
-      by : (e : ir.Expression) → ((p : ℕ) → e ≢ expression.Load p) → ((op : ir_operator) (l r : ℕ) → e ≢ expression.Binary op l r) → binds_as shape h (Some (expression_shape e)) ≡ false
+      by : (e : ir.Expression) → ((p : ℕ) → e ≢ expression.Load p) → ((op : BinaryOperator) (l r : ℕ) → e ≢ expression.Binary op l r) → binds_as shape h (Some (expression_shape e)) ≡ false
       by (expression.Load p) n m = absurd (n p refl)
       by (expression.Binary op l r) n m = absurd (m op l r refl)
       by _ n m = refl
@@ -93,8 +92,8 @@ module _ (f : Function) (s : Handles) where
   pub load_usable : (pointer : ℕ) → usable f s pointer ≡ usable_all f s (operands_of (Some (expression_shape (expression.Load pointer))))
   load_usable pointer = sym (and_true (usable f s pointer))
 
-  pub binary_usable : (op : ir_operator) (left right : ℕ) → (usable f s left && usable f s right) ≡ usable_all f s (operands_of (Some (expression_shape (expression.Binary op left right))))
-  binary_usable op left right = sym (ap (usable_all f s) (operator_operands (operator_form op) left right) ∙ ap (λ b. usable f s left && b) (and_true (usable f s right)))
+  pub binary_usable : (op : BinaryOperator) (left right : ℕ) → (usable f s left && usable f s right) ≡ usable_all f s (operands_of (Some (expression_shape (expression.Binary op left right))))
+  binary_usable op left right = sym (ap (usable_all f s) (operator_operands op left right) ∙ ap (λ b. usable f s left && b) (and_true (usable f s right)))
 
 -- what an expression that was found evaluates
 pub shape_found : {X : Type 0} (view : X → ir.Expression) (o : Option X) (found : Option ir.Expression) → option_map view o ≡ found → option_map (λ x. expression_shape (view x)) o ≡ option_map expression_shape found

@@ -16,7 +16,7 @@ module _ (n : Naming) (es : List ir.Expression) (before : OperandsStandBefore es
   own_same : (a b : ℕ → PlainForm) (h : ℕ) (e : ir.Expression) → AllBelow h (operands_of (Some (expression_shape e))) → ((x : ℕ) → x < h → a x ≡ b x) → own_plain n a e ≡ own_plain n b e
   own_same a b h (expression.Load p) below same = ap (λ q. ValueForm (as_reference q)) (same p below.0)
   own_same a b h (expression.Binary op l r) below same =
-      let two = subst (AllBelow h) (operator_operands (operator_form op) l r) below in
+      let two = subst (AllBelow h) (operator_operands op l r) below in
       λ i. ValueForm (Binary (as_value (same l two.0 i)) (operator_form op) (as_value (same r two.1.0 i)))
   own_same a b h _ below same = refl
 

@@ -14,7 +14,7 @@ use Rattle.naga_form.specs.Shapes.{OperandsStandBefore}
 use Rattle.naga_scope.specs.Standings.{handles_of, standing_of}
 use Rattle.naga_scope.specs.declared.points.Standing.{Standing}
 use Rattle.naga_scope.specs.declared.points.Standing.TheVariants.{Absent, Barred, Everywhere, Inline, Named}
-use Rattle.naga_back.specs.Operators.{operator_text}
+use Rattle.wgsl_words.specs.Words.{operator_text}
 use Rattle.wgsl_text.specs.Tree.{Name, Dereference}
 use Rattle.wgsl_text.specs.Pieces.{expression_pieces}
 use Rattle.wgsl_text.specs.Text.{text}

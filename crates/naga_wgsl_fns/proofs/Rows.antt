@@ -17,7 +17,8 @@ use Rattle.naga_operators.specs.declared.BinaryOperator.TheVariants as operator
 use Rattle.naga_ir.specs.declared.types.Type_.{Type_}
 use Rattle.naga_info.specs.declared.info.ExpressionInfo.{ExpressionInfo}
 use Rattle.naga_back.specs.Indentation.{indentation}
-use Rattle.naga_back.specs.Operators.{operator_text}
+use Rattle.wgsl_words.specs.Words.{operator_text}
+use Rattle.naga_form.proofs.Operators.{operator_row}
 use Rattle.name_keys.specs.Keys.{NameMap}
 use Rattle.shader_runs.specs.Program.{binds}
 use Rattle.shader_runs.specs.Scope.{Handles, Naming, at_start, given_after, after_one, bound_name}
@@ -43,27 +44,6 @@ indentation_row zero = refl
 indentation_row (suc n) =
     let four : 4 * suc n ≡ suc (suc (suc (suc (4 * n)))) = omega arith
     in rw four (ap (λ t. codes "    " ++ t) (indentation_row n))
-
--- the sign of an operator
-pub operator_row : (op : ir_operator.BinaryOperator) → operator_text op ≡ text (binary_pieces (operator_form op))
-operator_row operator.Add = refl
-operator_row operator.Subtract = refl
-operator_row operator.Multiply = refl
-operator_row operator.Divide = refl
-operator_row operator.Modulo = refl
-operator_row operator.Equal = refl
-operator_row operator.NotEqual = refl
-operator_row operator.Less = refl
-operator_row operator.LessEqual = refl
-operator_row operator.Greater = refl
-operator_row operator.GreaterEqual = refl
-operator_row operator.And = refl
-operator_row operator.ExclusiveOr = refl
-operator_row operator.InclusiveOr = refl
-operator_row operator.LogicalAnd = refl
-operator_row operator.LogicalOr = refl
-operator_row operator.ShiftLeft = refl
-operator_row operator.ShiftRight = refl
 
 pub binary_row : (a b : Expression) (op : ir_operator.BinaryOperator)
     → codes "(" ++ (text (expression_pieces a) ++ ((codes " " ++ (operator_text op ++ codes " ")) ++ (text (expression_pieces b) ++ codes ")"))) ≡ text (expression_pieces (tree.Binary a (operator_form op) b))

@@ -21,6 +21,10 @@ use Rattle.naga_enumerations.specs.declared.types.Scalar.{Scalar}
 use Rattle.std.specs.Int.RustNames.{bit_and}
 use Rattle.naga_enumerations.specs.declared.types.ScalarKind.{ScalarKind}
 use Rattle.naga_enumerations.specs.declared.types.ScalarKind.TheVariants as kind
+use Rattle.naga_operators.specs.declared.BinaryOperator.{BinaryOperator}
+use Rattle.naga_operators.specs.declared.BinaryOperator.TheVariants as binary
+use Rattle.naga_operators.specs.declared.UnaryOperator.{UnaryOperator}
+use Rattle.naga_operators.specs.declared.UnaryOperator.TheVariants as unary
 
 -- scalar types, by what the bits mean and the number of bytes
 abbrev pub scalar_word_of : ScalarKind → ℕ → Option (List ℕ)
@@ -285,3 +289,30 @@ abbrev pub image_access_word : StorageAccess → List ℕ
 image_access_word access =
     if has atomic_bit access then codes "atomic" else (
     if has load_bit access then (if has store_bit access then codes "read_write" else codes "read") else codes "write")
+
+-- the text of an operator between its operands
+abbrev pub operator_text : BinaryOperator → List ℕ
+operator_text binary.Add = codes "+"
+operator_text binary.Subtract = codes "-"
+operator_text binary.Multiply = codes "*"
+operator_text binary.Divide = codes "/"
+operator_text binary.Modulo = codes "%"
+operator_text binary.Equal = codes "=="
+operator_text binary.NotEqual = codes "!="
+operator_text binary.Less = codes "<"
+operator_text binary.LessEqual = codes "<="
+operator_text binary.Greater = codes ">"
+operator_text binary.GreaterEqual = codes ">="
+operator_text binary.And = codes "&"
+operator_text binary.ExclusiveOr = codes "^"
+operator_text binary.InclusiveOr = codes "|"
+operator_text binary.LogicalAnd = codes "&&"
+operator_text binary.LogicalOr = codes "||"
+operator_text binary.ShiftLeft = codes "<<"
+operator_text binary.ShiftRight = codes ">>"
+
+-- the text of an operator before its operand
+abbrev pub unary_text : UnaryOperator → List ℕ
+unary_text unary.Negate = codes "-"
+unary_text unary.LogicalNot = codes "!"
+unary_text unary.BitwiseNot = codes "~"

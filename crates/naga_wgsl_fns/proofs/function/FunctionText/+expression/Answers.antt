@@ -1,7 +1,7 @@
 use Rattle.std.proofs.Common.{arith, ◌<◌, length, refl}
 use Rattle.name_keys.specs.Keys.{names_in}
 use Rattle.naga_scope.specs.Standings.{handles_of}
-use Rattle.naga_back.specs.Operators.{operator_text}
+use Rattle.wgsl_words.specs.Words.{operator_text}
 use Rattle.naga_wgsl_fns.specs.Texts.{naming_of}
 use Rattle.wgsl_pieces.proofs.Appending.{appends_as, appends_stopped, appends_then, stopped_first, stopped_then}
 use Rattle.naga_wgsl_fns.proofs.Owns.{local_own, binary_own, named_value, unnamed_value, named_reference, local_reference, value_reference, pointed_row}
