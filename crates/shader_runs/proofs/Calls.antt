@@ -7,7 +7,7 @@ use Rattle.std.proofs.lemmas.Bool.{eqb-false}
 use Rattle.std.specs.Prelude.{IsTrue}
 use Rattle.shader_runs.specs.Value.{Bytes, same_bytes, PartTypes, ValueType, has_types, Value}
 use Rattle.shader_runs.specs.World.{Event, Entry, entries, World, Meaning, Environment, bind, Settings}
-use Rattle.shader_runs.specs.Outcome.{Stuck, Reached, Gives, Halts, answer}
+use Rattle.shader_runs.specs.Outcome.{Stuck, Reached, Gives, Halts, answer, reach}
 use Rattle.shader_runs.specs.Program.{ConstantTree, Fixed, NamedConstant, Constructed, ConstantTrees, no_constant, constant, Expression, Constant, Operator, Request, Function, argument_count, local_count, function_numbered, expression_of, handle_type, operands_of, from, Statement, Emit, Store, Block, If, Switch, Loop, Break, Continue, Return, Kill, Barrier, Act, Statements, end, then, Cases, no_case, case, Module, any_continue}
 use Rattle.shader_runs.specs.ProgramRun.{Call, Kept, constants_kept, called, used, wrapped, with_first, first_used, first_used_all, entered, run_all, run_body, run_call}
 use Rattle.shader_runs.specs.TextRun.{Scope, Words, WordUse, NamesFunction, AsksForEvent, Operates, value_of, with_parameters, with_variables, with_globals, no_names, respond_by_use, word_use, put_first, first_followed, first_then, first_of_each, entered_by, follow_all, follow_body, follow_call}
@@ -16,7 +16,7 @@ use Rattle.shader_runs.specs.Form.{names_from, variables_from, globals_from, val
 use Rattle.shader_runs.specs.Premises.{FixedName, ArgumentName, LocalName, ConstantName, GlobalName, NameKey, FixedKey, NumberedKey, GivenKey, fixed_name, IsFixedName, IsName, StandsFree, ConstantWords, ConstantsWords, WordFits, AllBelow, LeafFits, AreDistinct, FunctionFits, AllFit, EnvironmentFits, IsTypedIn, AllTypedIn, SettingsFit, IsTyped}
 use Rattle.shader_runs.specs.Correct.{KeepsTypes, RunsAlike, ModuleFits}
 use Rattle.shader_runs.specs.Constants.{environment_of, module_scope}
-use Rattle.shader_runs.proofs.Alike.{Answers, same_answer, mistyped_answer, alike_answers, reached}
+use Rattle.shader_runs.proofs.Alike.{Answers, same_answer, mistyped_answer, alike_answers}
 use Rattle.shader_runs.proofs.Update.{and_left, and_right, same_bytes_equal, same_bytes_apart, has_types_length}
 use Rattle.shader_runs.proofs.Relation.{Returns, global_as, IsHere, NoName, fixed_denoted, Related}
 use Rattle.shader_runs.proofs.Evaluation.{words, Respond, Responds}
@@ -74,7 +74,7 @@ put_reached : (o : Option (List (Option Value))) (t : List Event) → put_first 
 put_reached None t = refl
 put_reached (Some firsts) t = refl
 
-followed_firsts : (o : Option Value) (os : Option (List (Option Value))) (t : List Event) (rest : List Event → Reached (List (Option Value))) → ((t : List Event) → rest t ≡ reached_firsts os t) → first_followed (reached o t) rest ≡ reached_firsts (with_first (wrapped o) os) t
+followed_firsts : (o : Option Value) (os : Option (List (Option Value))) (t : List Event) (rest : List Event → Reached (List (Option Value))) → ((t : List Event) → rest t ≡ reached_firsts os t) → first_followed (reach o t) rest ≡ reached_firsts (with_first (wrapped o) os) t
 followed_firsts None os t rest h = refl
 followed_firsts (Some v) None t rest h = ap (put_first (Some v)) (h t)
 followed_firsts (Some v) (Some firsts) t rest h = ap (put_first (Some v)) (h t)
@@ -363,7 +363,7 @@ module _ (p : Module) (n : ModuleNames) (uses : Bytes → WordUse) (uses_fit : U
         }
 
     -- a handle at the start
-    pub first_value_here : IsTrue (has_types env.parts f.function.argument_types vs) → length vs ≡ argument_count f.function → (h : ℕ) → IsTrue (usable f.function (at_start f.function) h) → (t1 : List Event) → value_of (words (call_of fs f vs t) (responses fs)) (value_at f (at_start f.function) h) (first_names n f vs t) t1 ≡ reached (used (call_of fs f vs t) (constants_kept f.function env m) h) t1
+    pub first_value_here : IsTrue (has_types env.parts f.function.argument_types vs) → length vs ≡ argument_count f.function → (h : ℕ) → IsTrue (usable f.function (at_start f.function) h) → (t1 : List Event) → value_of (words (call_of fs f vs t) (responses fs)) (value_at f (at_start f.function) h) (first_names n f vs t) t1 ≡ reach (used (call_of fs f vs t) (constants_kept f.function env m) h) t1
     first_value_here k e h u t1 =
         value_here p (call_of fs f vs t) f.names (responses fs) (given k) (at_start f.function) (first_names n f vs t) (constants_kept f.function env m) (starts e) h u t1
 

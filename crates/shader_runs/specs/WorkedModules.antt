@@ -1,11 +1,19 @@
 -- Worked modules by their tables: one world, where a read gives what was stored or added last, one
 -- meaning, and that a module and its text do the same in them.
-use Rattle.std.specs.Prelude.{◌≡◌, ℕ, ◌+◌, ◌*◌, ◌/◌, ◌%◌, max, pos, Bool, false, cond, List, [], ◌∷◌, length, map, reverse, Option, Some, None, ◌||◌, nat_eq, get_or, unwrap_or, IsTrue, codes}
-use Rattle.shader_runs.specs.Value.{Bytes, same_bytes, Place, Rooted, LocalRoot, ValueType, PointerType, OtherType, pointer_spelling, Value, Whole, Pointer, Opaque, Spelled, PartWord, IndexWord, MemberNamed}
-use Rattle.shader_runs.specs.World.{Event, Entry, Ask, Read, Write, Discard, entries, World, Meaning, Settings}
+use Rattle.std.specs.Prelude.{◌≡◌, ℕ, ◌+◌, ◌*◌, ◌/◌, ◌%◌, max, pos, Bool, false, cond, List, []}
+use Rattle.std.specs.Prelude.{◌∷◌, length, map, reverse, Option, Some, None, ◌||◌, nat_eq, get_or}
+use Rattle.std.specs.Prelude.{unwrap_or, IsTrue, codes}
+use Rattle.shader_runs.specs.Value.{Bytes, same_bytes, Place, Rooted, LocalRoot, ValueType}
+use Rattle.shader_runs.specs.Value.{PointerType, OtherType, pointer_spelling, Value, Whole, Pointer}
+use Rattle.shader_runs.specs.Value.{Opaque, Spelled, PartWord, IndexWord, MemberNamed}
+use Rattle.shader_runs.specs.World.{Event, Entry, Ask, Read, Write, Discard, entries, World}
+use Rattle.shader_runs.specs.World.{Meaning, Settings}
 use Rattle.shader_runs.specs.Outcome.{Reached}
-use Rattle.shader_runs.specs.Program.{Fixed, Module, Expression, Label, Statement, Statements, Cases, end, then, no_case, case, Function}
-use Rattle.shader_runs.specs.Text.{Tree, Trees, Name, LiteralOf, Apply, AddressOf, no_more, more, Line, Let, ReturnLine, Perform, Lines, last, before, Variable, TextFunction, TextModule}
+use Rattle.shader_runs.specs.Program.{Fixed, Module, Expression, Label, Statement, Statements}
+use Rattle.shader_runs.specs.Program.{Cases, end, then, no_case, case, Function}
+use Rattle.shader_runs.specs.Text.{Tree, Trees, Name, LiteralOf, Apply, AddressOf, no_more, more}
+use Rattle.shader_runs.specs.Text.{Line, Let, ReturnLine, Perform, Lines, last, before, Variable}
+use Rattle.shader_runs.specs.Text.{TextFunction, TextModule}
 use Rattle.shader_runs.specs.Constants.{run_module, follow_module}
 use Rattle.shader_runs.specs.Scope.{ModuleNames, Naming}
 use Rattle.shader_runs.specs.Form.{form_module}

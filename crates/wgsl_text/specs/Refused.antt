@@ -40,7 +40,8 @@ pub record Refused : Type 0 where
   pub cut : IsNoProgram (codes "fn f(x: i32) -> i32 {\n    return x")
   -- `break if` before another statement of `continuing`
   pub break_if_first : IsNoProgram (
-      codes "fn f(c: bool) {\n    loop {\n        continuing {\n            break if c;\n            g();\n" ++
+      codes
+      "fn f(c: bool) {\n    loop {\n        continuing {\n            break if c;\n            g();\n" ++
       codes "        }\n    }\n}\n\n")
   -- a member with two sizes, with two alignments, and with its size behind its alignment or binding
   pub two_sizes : IsNoProgram (codes "struct S {\n    @size(16) @size(16) a: f32,\n}\n\n")
