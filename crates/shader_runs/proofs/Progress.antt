@@ -29,7 +29,7 @@ use Rattle.shader_runs.proofs.Start.{start_stands}
 use Rattle.shader_runs.proofs.Calls.{runs_alike}
 use Rattle.shader_runs.specs.Constants.{environment_of}
 use Rattle.shader_runs.proofs.Constants.{environment_fits}
-use Rattle.std.proofs.lemmas.Option.{same_Some}
+use Rattle.std.proofs.lemmas.Option.{same_Some, none-some}
 
 -- a run that isn't stuck: P holds where it is done, Q where it continues, B where it breaks, R of what it returns
 pub data Proceeds {S : Type 0} (R : Option Value → Type 0) (P Q B : S → Type 0) : Outcome S → Type 0 where
@@ -536,10 +536,7 @@ module _ (p : Module) (n : ModuleNames) (env : Environment) (environment : Envir
         subst (λ b. Answered (Returns env.parts f.function) (called b (run_body c bound g vs t) t)) (sym count) (subst (λ o. Answered (Returns env.parts f.function) (entered g vs o t body)) (sym firsts.1) (answer_proceeds tt (λ k q. true≢false (sym q.2)) (λ k b. true≢false (sym b.1)) (body_proceeds p c f.names sound bound f.function.body 0 start false false start_rooted checked well.body kept (Entry g vs firsts.0 ∷ t) start_typed)))
 
   calls_proceed : (fs : List Naming) → AllFit p n fs → AllTypedIn env.parts p m (functions_of fs) → AllWellFormed (functions_of fs) → Calls_proceed fs
-  calls_proceed [] fits typed well g callee e vs h t = absurd (nothing e)
-    where
-      nothing : None ≡ Some callee → ⊥
-      nothing e = cc
+  calls_proceed [] fits typed well g callee e vs h t = absurd (none-some callee e)
   calls_proceed (f ∷ fs) fits typed well g callee e vs h t =
       go (nat_eq g (length (functions_of fs))) e (calls_proceed fs fits.1 typed.1 well.1)
     where

@@ -14,7 +14,7 @@ use Rattle.shader_runs.specs.Results.{holds_break, any_break, may_end, may_end_a
 use Rattle.shader_runs.proofs.Update.{and_left, and_right, and_both}
 use Rattle.shader_runs.proofs.Statements.{or_left, or_right}
 use Rattle.shader_runs.specs.Constants.{environment_of}
-use Rattle.std.proofs.lemmas.Option.{same_Some}
+use Rattle.std.proofs.lemmas.Option.{same_Some, none-some}
 
 -- a run that misses no result, with a result of this type: ends and breaks tell whether it may be done and may break
 abbrev Leads : {S : Type 0} → Option ValueType → (ends breaks : Bool) → Outcome S → Type 0
@@ -180,10 +180,7 @@ module _ (p : Module) (c : Call) (f : Naming) (complete : (g : ℕ) (callee : Fu
           result_leads c.environment.parts k c.function callee.result (Called g) r kept (c.calls g vs t) (wanted r w) (complete g callee e vs t)
         where
           wanted : (r : Option ℕ) → CallFits f.function (Some callee) xs r → (h : ℕ) → r ≡ Some h → (z : ValueType) × (callee.result ≡ Some z)
-          wanted None w h e = absurd (nothing e)
-            where
-              nothing : None ≡ Some h → ⊥
-              nothing e = cc
+          wanted None w h e = absurd (none-some h e)
           wanted (Some j) w h e = (handle_type f.function j, w.1)
 
   -- a case and those that it falls through to
@@ -312,10 +309,7 @@ module _ (p : Module) (n : ModuleNames) (env : Environment) (w : World) (m : Mea
           answer_complete k (may_end_all body) (any_break body) (run_all c bound body kept t1) (end_given k body gives) (body_leads p c f earlier k bound body regular (values_where k body gives) kept t1)
 
   calls_complete : (fs : List Naming) → AllFit p n fs → AllGiveResults (functions_of fs) → Calls_complete fs
-  calls_complete [] fits gives g callee e vs t = absurd (nothing e)
-    where
-      nothing : None ≡ Some callee → ⊥
-      nothing e = cc
+  calls_complete [] fits gives g callee e vs t = absurd (none-some callee e)
   calls_complete (f ∷ fs) fits gives g callee e vs t =
       go (nat_eq g (length (functions_of fs))) e (calls_complete fs fits.1 gives.1)
     where

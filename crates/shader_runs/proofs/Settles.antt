@@ -54,6 +54,11 @@ onward F F' o next (same {q = q} h) = widen h (next q)
 onward {l = l} {k = k} {t = t} F F' o next (out_of_turns {e = e} {q = q} h) =
     subst (λ y. Settles l k t y (F' q)) (sym (o e)) (out_of_turns h)
 
+-- a turn that makes no event is followed by its like
+pub silent : {S : Type 0} (n : ℕ) (once : Next S) (s : S) (t : List Event) → once s t ≡ Done s t → turns n once s t ≡ Stopped OutOfTurns t
+silent zero once s t e = refl
+silent (suc n) once s t e = ap (λ o. and_again o (turns n once)) e ∙ silent n once s t e
+
 module _ (k : ℕ) where
   abbrev pub SettlesReached : {A : Type 0} → List Event → Reached A → Reached A → Type 0
   SettlesReached t q q' = Settles reached_ends k t q q'
@@ -134,11 +139,6 @@ module _ (k : ℕ) where
 
   chosen_settles : {S : Type 0} (v : Value) (t : List Event) (a b a' b' : Outcome S) → SettlesOutcome t a a' → SettlesOutcome t b b' → SettlesOutcome t (chosen v t a b) (chosen v t a' b')
   chosen_settles v t a b a' b' h l = there_settles (truth_in v) t _ _ (λ y. cond_settles y a b a' b' h l)
-
-  -- a turn that makes no event is followed by its like
-  silent : {S : Type 0} (n : ℕ) (once : Next S) (s : S) (t : List Event) → once s t ≡ Done s t → turns n once s t ≡ Stopped OutOfTurns t
-  silent zero once s t e = refl
-  silent (suc n) once s t e = ap (λ o. and_again o (turns n once)) e ∙ silent n once s t e
 
   one_more : {S : Type 0} {j : ℕ} {t e : List Event} {o o' : Outcome S} → Later t e → length t < length e → Settles outcome_ends j e o o' → Settles outcome_ends (suc j) t o o'
   one_more l lt (same h) = same (still_later l h)

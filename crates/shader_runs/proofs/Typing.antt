@@ -180,17 +180,26 @@ handle_of p f (suc n) x m =
     go (inl k) rest = (n, k)
     go (inr k) rest = rest k
 
+-- what stands at a place of the second list stands so many places later in the first
+abbrev StandsFrom : {A : Type 0} → List A → List A → ℕ → Type 0
+StandsFrom {A} xs ys shift = (i : ℕ) (a : A) → slice_get ys i ≡ Some a → slice_get xs (i + shift) ≡ Some a
+
+stands_behind : {A : Type 0} (xs : List A) (y : A) (ys : List A) (shift : ℕ) → StandsFrom xs (y ∷ ys) shift → StandsFrom xs ys (suc shift)
+stands_behind xs y ys shift at i a e =
+    let same : suc i + shift ≡ i + suc shift = omega arith in
+    subst (λ k. slice_get xs k ≡ Some a) same (at (suc i) a e)
+
+stands_at_start : {A : Type 0} (xs : List A) → StandsFrom xs xs 0
+stands_at_start xs i a e =
+    let same : i ≡ i + 0 = omega arith in
+    subst (λ k. slice_get xs k ≡ Some a) same e
+
 -- what a list of the module's last functions spells, the module spells
-spelled_in : (p : Module) (fs : List Function) (shift : ℕ) → ((i : ℕ) (f : Function) → slice_get fs i ≡ Some f → slice_get p.functions (i + shift) ≡ Some f) → (x : Signature) → IsOneOf x (signatures_in p fs) → IsSpelled p x
+spelled_in : (p : Module) (fs : List Function) (shift : ℕ) → StandsFrom p.functions fs shift → (x : Signature) → IsOneOf x (signatures_in p fs) → IsSpelled p x
 spelled_in p [] shift at x m = absurd (no_signature x m)
 spelled_in p (f ∷ fs) shift at x m =
-    go (one_of_either x (signatures_below p f (length f.expressions)) (signatures_in p fs) m) (λ k. spelled_in p fs (suc shift) later x k)
+    go (one_of_either x (signatures_below p f (length f.expressions)) (signatures_in p fs) m) (λ k. spelled_in p fs (suc shift) (stands_behind p.functions f fs shift at) x k)
   where
-    later : (i : ℕ) (g : Function) → slice_get fs i ≡ Some g → slice_get p.functions (i + suc shift) ≡ Some g
-    later i g e =
-        let same : suc i + shift ≡ i + suc shift = omega arith in
-        subst (λ k. slice_get p.functions k ≡ Some g) same (at (suc i) g e)
-
     go : IsOneOf x (signatures_below p f (length f.expressions)) ⊎ IsOneOf x (signatures_in p fs) → (IsOneOf x (signatures_in p fs) → IsSpelled p x) → IsSpelled p x
     go (inl k) rest =
         let found = handle_of p f (length f.expressions) x k in
@@ -210,16 +219,11 @@ initialiser_there p (d ∷ es) (suc i) e q x k =
     one_of_right x (constant_signatures p d) (initialiser_signatures p es) (initialiser_there p es i e q x k)
 
 -- what a list of the module's last initialisers spells, the module spells
-initialiser_spelled : (p : Module) (es : List ConstantTree) (shift : ℕ) → ((i : ℕ) (e : ConstantTree) → slice_get es i ≡ Some e → slice_get p.initialisers (i + shift) ≡ Some e) → (x : Signature) → IsOneOf x (initialiser_signatures p es) → IsSpelled p x
+initialiser_spelled : (p : Module) (es : List ConstantTree) (shift : ℕ) → StandsFrom p.initialisers es shift → (x : Signature) → IsOneOf x (initialiser_signatures p es) → IsSpelled p x
 initialiser_spelled p [] shift at x k = absurd (no_signature x k)
 initialiser_spelled p (d ∷ es) shift at x k =
-    go (one_of_either x (constant_signatures p d) (initialiser_signatures p es) k) (λ k. initialiser_spelled p es (suc shift) later x k)
+    go (one_of_either x (constant_signatures p d) (initialiser_signatures p es) k) (λ k. initialiser_spelled p es (suc shift) (stands_behind p.initialisers d es shift at) x k)
   where
-    later : (i : ℕ) (e : ConstantTree) → slice_get es i ≡ Some e → slice_get p.initialisers (i + suc shift) ≡ Some e
-    later i e q =
-        let same : suc i + shift ≡ i + suc shift = omega arith in
-        subst (λ k. slice_get p.initialisers k ≡ Some e) same (at (suc i) e q)
-
     go : IsOneOf x (constant_signatures p d) ⊎ IsOneOf x (initialiser_signatures p es) → (IsOneOf x (initialiser_signatures p es) → IsSpelled p x) → IsSpelled p x
     go (inl k) rest = in_initialiser (0 + shift) d (at 0 d refl) k
     go (inr k) rest = rest k
@@ -235,19 +239,9 @@ module _ (p : Module) (consistent : IsConsistent p) where
   all_spelled x k =
       go (one_of_either x (signatures_in p p.functions) (initialiser_signatures p p.initialisers) k)
     where
-      at_function : (i : ℕ) (f : Function) → slice_get p.functions i ≡ Some f → slice_get p.functions (i + 0) ≡ Some f
-      at_function i f e =
-          let same : i ≡ i + 0 = omega arith in
-          subst (λ k. slice_get p.functions k ≡ Some f) same e
-
-      at_initialiser : (i : ℕ) (e : ConstantTree) → slice_get p.initialisers i ≡ Some e → slice_get p.initialisers (i + 0) ≡ Some e
-      at_initialiser i e q =
-          let same : i ≡ i + 0 = omega arith in
-          subst (λ k. slice_get p.initialisers k ≡ Some e) same q
-
       go : IsOneOf x (signatures_in p p.functions) ⊎ IsOneOf x (initialiser_signatures p p.initialisers) → IsSpelled p x
-      go (inl k) = spelled_in p p.functions 0 at_function x k
-      go (inr k) = initialiser_spelled p p.initialisers 0 at_initialiser x k
+      go (inl k) = spelled_in p p.functions 0 (stands_at_start p.functions) x k
+      go (inr k) = initialiser_spelled p p.initialisers 0 (stands_at_start p.initialisers) x k
 
   there : (x : Signature) → IsSpelled p x → IsOneOf x All
   there x (in_function place f here h k) =
@@ -403,20 +397,10 @@ module _ (p : Module) (consistent : IsConsistent p) where
           operators = λ h q vs t. operator_fits h (expression_of f h) (consistent.parts place f here h) (λ x k. k) q vs t;
         }
 
-  all_typed : (fs : List Function) (shift : ℕ) → ((i : ℕ) (f : Function) → slice_get fs i ≡ Some f → slice_get p.functions (i + shift) ≡ Some f) → AllTypedIn p.parts p m fs
+  all_typed : (fs : List Function) (shift : ℕ) → StandsFrom p.functions fs shift → AllTypedIn p.parts p m fs
   all_typed [] shift at = tt
-  all_typed (f ∷ fs) shift at = (function_typed (0 + shift) f (at 0 f refl), all_typed fs (suc shift) later)
-    where
-      later : (i : ℕ) (g : Function) → slice_get fs i ≡ Some g → slice_get p.functions (i + suc shift) ≡ Some g
-      later i g e =
-          let same : suc i + shift ≡ i + suc shift = omega arith in
-          subst (λ k. slice_get p.functions k ≡ Some g) same (at (suc i) g e)
+  all_typed (f ∷ fs) shift at = (function_typed (0 + shift) f (at 0 f refl), all_typed fs (suc shift) (stands_behind p.functions f fs shift at))
 
 pub has_typed_meaning : HasTypedMeaning
 has_typed_meaning p consistent =
-    (m p consistent, record { functions = all_typed p consistent p.functions 0 start; initialisers = λ i e q. constant_fits p consistent e (λ x k. in_initialiser i e q k) })
-  where
-    start : (i : ℕ) (f : Function) → slice_get p.functions i ≡ Some f → slice_get p.functions (i + 0) ≡ Some f
-    start i f e =
-        let same : i ≡ i + 0 = omega arith in
-        subst (λ k. slice_get p.functions k ≡ Some f) same e
+    (m p consistent, record { functions = all_typed p consistent p.functions 0 (stands_at_start p.functions); initialisers = λ i e q. constant_fits p consistent e (λ x k. in_initialiser i e q k) })

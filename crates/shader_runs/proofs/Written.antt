@@ -1,7 +1,7 @@
 -- What is written for a handle in scope gives the value that the module uses for it, with no event.
 use Rattle.std.proofs.Common.{◌≡◌, ℕ, zero, suc, ◌<◌, ◌≤◌, true, nat_lt, List, [], ◌∷◌, ◌++◌, length, Option, Some, None, slice_get, refl, sym, ap, ◌∙◌, subst, true≢false, arith, ltb-true}
 use Rattle.std.specs.Prelude.{IsTrue}
-use Rattle.std.proofs.lemmas.Option.{slice_get_within, same_Some}
+use Rattle.std.proofs.lemmas.Option.{slice_get_within, same_Some, none-some}
 use Rattle.shader_runs.specs.Value.{Bytes, PartTypes, Rooted, GlobalRoot, LocalRoot, Selector, ShortCircuit, ValueType, BooleanType, IntegerType, PointerType, OtherType, type_at, has_type, has_types, Value, Pointer, Spelled}
 use Rattle.shader_runs.specs.World.{Event, GlobalValue, Stored, Held, Environment, Meaning}
 use Rattle.shader_runs.specs.Program.{ConstantTree, ConstantTrees, Expression, Constant, Argument, Local, Global, Load, Operator, Access, AccessIndex, Logical, Swizzle, Request, Result, argument_count, local_count, local_pointer, expression_of, handle_type, operands_of, Module}
@@ -29,10 +29,7 @@ pub record Given (p : Module) (c : Call) (n : Names) (d : Respond) : Type 0 wher
   pub typed : IsTypedIn c.environment.parts p c.meaning c.function
 
 pub no_value : (parts : PartTypes) (y : ValueType) (o : Option Value) → TypedValue parts y o → o ≡ None → ⊥
-no_value parts y o v e = not_some v.0 (sym v.1 ∙ e)
-  where
-    not_some : (v : Value) → Some v ≡ None → ⊥
-    not_some v e = cc
+no_value parts y o v e = none-some v.0 (sym e ∙ v.1)
 
 pub unwritten : (m : Meaning) (e : Option Expression) → ((vs : List Value) → combined m e vs ≡ None) → (os : Option (List Value)) → gathered m e os ≡ None
 unwritten m e h None = refl
