@@ -45,8 +45,9 @@ is_below bound handle = option_map_or (λ h. nat_lt h bound) handle true
 -- the types that have a meaning of their own lie in the types
 abbrev pub special_types_fit : ℕ → SpecialTypes → Bool
 special_types_fit count s =
-    list_all (λ h. nat_lt h count) (values s.predeclared_types) && (is_below count
-    s.external_texture_params && is_below count s.external_texture_transfer_function)
+    list_all (λ h. nat_lt h count) (values s.predeclared_types) &&
+    (is_below count s.external_texture_params &&
+    is_below count s.external_texture_transfer_function)
 
 -- the types of the arguments and of the result lie in the types
 abbrev pub signature_fits : ℕ → Function → Bool

@@ -62,5 +62,5 @@ function_is_written f =
 -- scalar types and such functions
 unfoldable pub is_written_so_far : Module → Bool
 is_written_so_far m =
-    declares_functions m && (list_all is_scalar_type m.types &&
-    list_all function_is_written m.functions)
+    declares_functions m &&
+    (list_all is_scalar_type m.types && list_all function_is_written m.functions)

@@ -37,8 +37,8 @@ by_number c = codes "u" ++ hexadecimal c ++ codes "_"
 -- a mark is spelled `_`, a foreign character `_uXXXX_` by its number, and any other one as it is
 abbrev pub spelled : ℕ → List ℕ
 spelled c =
-    if is_mark c then codes "_" else (if is_identifier_char c then c ∷ []
-    else codes "_" ++ by_number c)
+    if is_mark c then codes "_"
+    else (if is_identifier_char c then c ∷ [] else codes "_" ++ by_number c)
 
 -- the text begins with a `_`
 abbrev pub begins_separated : List ℕ → Bool

@@ -91,8 +91,9 @@ MembersAreNamed =
     HasNamedItems start before (labelled_items start module_) names now →
     (t : ℕ) (ty : Type_) → slice_get module_.types t ≡ Some ty → (n : ℕ) (member : StructMember) →
     slice_get (members_of ty.inner) n ≡ Some member →
-    now (key.StructMember t n) ≡ Some (name_after (member_names start)
-    (map member_label (take n (members_of ty.inner))) (member_label member))
+    let earlier = map member_label (take n (members_of ty.inner)) in
+    now (key.StructMember t n)
+    ≡ Some (name_after (member_names start) earlier (member_label member))
 
 -- members of one struct that have one name are one member
 abbrev pub MembersAreTold : Type 0

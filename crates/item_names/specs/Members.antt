@@ -28,7 +28,8 @@ pub record PutsNoName (old : Names) (before : NameMap) (label : List ℕ) (now :
 -- the members of a struct with their names, each behind the labels of those before it
 abbrev pub named_members : Names → ℕ → List StructMember → List (NameKey × List ℕ)
 named_members start t members =
-    scan (λ earlier item. earlier ++ item.1 ∷ [])
+    scan
+    (λ earlier item. earlier ++ item.1 ∷ [])
     (λ earlier item. (item.0, name_after start earlier item.1)) [] (labelled_members t members)
 
 -- what began as `start`, with no uses, gave these members their names, which were put into a map

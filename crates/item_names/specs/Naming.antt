@@ -28,8 +28,7 @@ words_code = set.code (coded_list coded_ℕ)
 abbrev pub uses_code : Coded Uses
 uses_code = map.code (coded_list coded_ℕ) coded_ℕ
 
--- what a `Namer` goes by: its three sets of words, the prefixes that it keeps off, and the uses so
--- far
+-- what a `Namer` goes by: its three sets of words, the prefixes that it keeps off, and its uses
 pub record Names : Type 0 where
   pub keywords : Words
   pub builtin_identifiers : Words
@@ -40,8 +39,10 @@ pub record Names : Type 0 where
 
 abbrev pub names_code : Coded Names
 names_code =
-    code_by (Words × (Words × (Words × (List (List ℕ) × Uses)))) (coded× words_code
-    (coded× words_code (coded× words_code (coded× (coded_list (coded_list coded_ℕ)) uses_code))))
+    let prefixes_code = coded_list (coded_list coded_ℕ) in
+    let rest_code = coded× words_code (coded× prefixes_code uses_code) in
+    code_by (Words × (Words × (Words × (List (List ℕ) × Uses))))
+    (coded× words_code (coded× words_code rest_code))
     (λ n.
     (n.keywords, (n.builtin_identifiers, (n.caseless_keywords, (n.reserved_prefixes, n.uses)))))
     (λ p. record {

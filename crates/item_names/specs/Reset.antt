@@ -61,8 +61,9 @@ is_struct other = false
 -- it
 abbrev pub type_label : List EntryPoint → ℕ → Type_ → List ℕ
 type_label entry_points t ty =
-    label_or ty.name (if is_struct ty.inner
-    then unwrap_or (output_label t entry_points) (codes "type") else codes "type")
+    label_or ty.name
+    (if is_struct ty.inner then unwrap_or (output_label t entry_points) (codes "type")
+    else codes "type")
 
 -- the members of a type; only a struct has some
 abbrev pub members_of : TypeInner → List StructMember
@@ -126,8 +127,9 @@ labelled_locals function locals =
 -- a function, and then its arguments and its variables
 abbrev pub labelled_function : List Type_ → ℕ → Function → List Labelled
 labelled_function types handle function =
-    (key.Function handle, label_or function.name (codes "function")) ∷ (labelled_arguments types
-    handle function.arguments.items ++ labelled_locals handle function.local_variables)
+    (key.Function handle, label_or function.name (codes "function")) ∷
+    (labelled_arguments types handle function.arguments.items ++
+    labelled_locals handle function.local_variables)
 
 abbrev pub labelled_functions : List Type_ → List Function → List Labelled
 labelled_functions types functions =
@@ -168,8 +170,9 @@ labelled_globals types globals =
 abbrev pub labelled_declarations : Module → List Labelled
 labelled_declarations module_ =
     labelled_types module_.entry_points.items module_.types
-    ++ (labelled_entry_points module_.entry_points.items ++ (labelled_functions module_.types
-    module_.functions ++ labelled_globals module_.types module_.global_variables))
+    ++ (labelled_entry_points module_.entry_points.items ++
+    (labelled_functions module_.types module_.functions ++
+    labelled_globals module_.types module_.global_variables))
 
 -- the key can be told: the index of an entry point is a `u16`, and that of a member or an argument
 -- a `u32`
@@ -221,7 +224,8 @@ item_name names earlier item =
 -- each item with the name that it has behind those before it
 abbrev pub named_items : Names → List Labelled → List (NameKey × List ℕ)
 named_items names items =
-    scan (λ earlier item. earlier ++ item ∷ [])
+    scan
+    (λ earlier item. earlier ++ item ∷ [])
     (λ earlier item. (item.0, item_name names earlier item)) [] items
 
 -- `now` is `before` with these pairs put in, one after another
@@ -252,8 +256,8 @@ labelled_values names module_ =
 -- the name of a type of the module; there is none for a type that isn't there
 abbrev pub type_name : Names → Module → ℕ → List ℕ
 type_name start module_ t =
-    unwrap_or (lookup (same_key (key.Type_ t))
-    (named_items start (labelled_types module_.entry_points.items module_.types))) []
+    let names = named_items start (labelled_types module_.entry_points.items module_.types) in
+    unwrap_or (lookup (same_key (key.Type_ t)) names) []
 
 -- the items that are named, in the order of their names
 abbrev pub labelled_items : Names → Module → List Labelled

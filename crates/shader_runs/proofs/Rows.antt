@@ -5,9 +5,10 @@ use Rattle.shader_runs.specs.Program.{Function, expression_of, handle_type, oper
 use Rattle.shader_runs.specs.Scope.{given_by_all}
 use Rattle.shader_runs.specs.Premises.{AllBelow, WordFits, LeafFits, AreDistinct, FixedKey, NumberedKey, GivenKey, ArgumentName, LocalName, ConstantName, GlobalName, ConstantsFit}
 use Rattle.shader_runs.specs.Typing.{Signature, IsOneOf, IsSpelled, PartsFit, signatures_of, in_function, in_initialiser}
-use Rattle.shader_runs.specs.Rows.{RowsHold, PremisesHold, no_parts as row_parts, store_function, store_naming, store_module, numbered_name}
+use Rattle.shader_runs.specs.Rows.{RowsHold, PremisesHold, store_function, store_naming, store_module}
 use Rattle.shader_runs.specs.Progress.{LoadFits}
 use Rattle.std.proofs.lemmas.Option.{none-some, same_Some}
+use Rattle.shader_runs.specs.WorkedFunctions.{no_parts as row_parts, numbered_name}
 
 pub heads : (a b : ℕ) (xs ys : List ℕ) → a ∷ xs ≡ b ∷ ys → a ≡ b
 heads a b xs ys e = cc

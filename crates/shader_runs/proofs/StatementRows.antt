@@ -7,10 +7,10 @@ use Rattle.shader_runs.specs.World.{Event, Read}
 use Rattle.shader_runs.specs.Outcome.{OutOfTurns, Gives, Done, Stopped, Next, and_then, turns, answer}
 use Rattle.shader_runs.specs.Text.{TextFunction}
 use Rattle.shader_runs.specs.Form.{form_module}
-use Rattle.shader_runs.specs.Rows.{all_fit, local_i32}
 use Rattle.shader_runs.specs.WorkedModules.{Example, CallEnd, module_of, outer_of, namings_of, text_with, run_example, follow_example, IsWorked}
 use Rattle.shader_runs.specs.StatementRows.{StatementRowsHold, LogicalRow, ReadOnTheRight, SilentRow, WordIsTaken, StatementsAreToldApart, calls_end, second_local}
 use Rattle.shader_runs.proofs.Settles.{silent}
+use Rattle.shader_runs.specs.WorkedFunctions.{all_fit, local_i32}
 
 worked : {e : Example} {texts : List TextFunction} {g n : ℕ} {vs : List Value} {result : CallEnd} →
     IsTrue (all_fit (namings_of e)) → form_module (module_of e) (outer_of e) (namings_of e) ≡ text_with e texts →

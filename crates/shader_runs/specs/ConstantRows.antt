@@ -14,8 +14,8 @@ use Rattle.shader_runs.specs.Constants.{run_module, follow_module}
 use Rattle.shader_runs.specs.Scope.{ModuleNames, Naming}
 use Rattle.shader_runs.specs.Form.{form_module}
 use Rattle.shader_runs.specs.Premises.{ConstantsFit, SettingsFit}
-use Rattle.shader_runs.specs.Rows.{no_parts, i32, number, numbered_name, row_world, row_asks}
-use Rattle.shader_runs.specs.Rows.{text_of}
+use Rattle.shader_runs.specs.WorkedFunctions.{no_parts, i32, number, numbered_name, row_world}
+use Rattle.shader_runs.specs.WorkedFunctions.{row_asks, text_of}
 
 -- the type `vec2<i32>`
 abbrev pub pair_word : Bytes

@@ -10,11 +10,11 @@ use Rattle.shader_runs.specs.Program.{Always, Argument, Global, Operator, Access
 use Rattle.shader_runs.specs.Program.{Asked, Emit, Store, Return, Barrier, BarrierBits, Act}
 use Rattle.shader_runs.specs.Program.{Function}
 use Rattle.shader_runs.specs.Text.{Tree, Name, LiteralOf, Index, Assign, TextFunction}
-use Rattle.shader_runs.specs.Rows.{i32, number, literal, named_by, sum_of, text_of}
-use Rattle.shader_runs.specs.WorkedModules.{texel, ballot, pair_type, pair, described}
-use Rattle.shader_runs.specs.WorkedModules.{function_with, lines, call_of, perform, let_own}
-use Rattle.shader_runs.specs.WorkedModules.{return_of, digits, pointer_of, in_memory, resource}
+use Rattle.shader_runs.specs.WorkedModules.{texel, ballot, pair_type, pair, in_memory, resource}
 use Rattle.shader_runs.specs.WorkedModules.{named_function, Example, IsWorked, started}
+use Rattle.shader_runs.specs.WorkedFunctions.{i32, number, literal, named_by, sum_of, text_of}
+use Rattle.shader_runs.specs.WorkedFunctions.{described, function_with, lines, call_of, perform}
+use Rattle.shader_runs.specs.WorkedFunctions.{let_own, return_of, digits, pointer_of}
 
 -- ---- atomics
 

@@ -15,12 +15,8 @@ use Rattle.shader_runs.specs.Text.{Tree, Name, LiteralOf, Deref, PartOf, Logical
 use Rattle.shader_runs.specs.Text.{IfElse, SwitchOn, LoopOf, BreakLine, ContinueLine, DiscardLine}
 use Rattle.shader_runs.specs.Text.{last, no_group, group, Line, TextFunction}
 use Rattle.shader_runs.specs.Correct.{ModuleFits}
-use Rattle.shader_runs.specs.Rows.{i32, local_i32, i32_pointer, number, literal, named_by, sum_of}
-use Rattle.shader_runs.specs.Rows.{product_of, x_plus_x, text_of}
-use Rattle.shader_runs.specs.WorkedModules.{texel, pair_type, pair, described, statements, cases}
-use Rattle.shader_runs.specs.WorkedModules.{Labelled, function_with, lines, call_of, perform}
-use Rattle.shader_runs.specs.WorkedModules.{let_own, return_of, digits, pointer_of, variable}
-use Rattle.shader_runs.specs.WorkedModules.{number_variable, named_function, Example}
+use Rattle.shader_runs.specs.Rows.{x_plus_x}
+use Rattle.shader_runs.specs.WorkedModules.{texel, pair_type, pair, named_function, Example}
 use Rattle.shader_runs.specs.WorkedModules.{functions_alone, module_of, outer_of, namings_of}
 use Rattle.shader_runs.specs.WorkedModules.{follow_example, run_example, IsWritten, IsWorked}
 use Rattle.shader_runs.specs.WorkedModules.{started, CallEnd}
@@ -28,6 +24,11 @@ use Rattle.shader_runs.specs.RequestRows.{counter_place, atomic_example, atomic_
 use Rattle.shader_runs.specs.RequestRows.{AtomicRow, level_zero, sample_example, sample_text}
 use Rattle.shader_runs.specs.RequestRows.{sample_values, sampling, SampleRow, TexelRow}
 use Rattle.shader_runs.specs.RequestRows.{UnusedRequestsRow, EdgeRow, TogetherRow}
+use Rattle.shader_runs.specs.WorkedFunctions.{i32, local_i32, i32_pointer, number, literal}
+use Rattle.shader_runs.specs.WorkedFunctions.{named_by, sum_of, product_of, text_of, described}
+use Rattle.shader_runs.specs.WorkedFunctions.{statements, cases, Labelled, function_with, lines}
+use Rattle.shader_runs.specs.WorkedFunctions.{call_of, perform, let_own, return_of, digits}
+use Rattle.shader_runs.specs.WorkedFunctions.{pointer_of, variable, number_variable}
 
 -- ---- `&&` and `||`
 

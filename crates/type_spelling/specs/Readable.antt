@@ -53,8 +53,10 @@ handle_names types =
 -- Types are alike that are spelled alike, where each struct and each override stands for its
 -- handle. A type without a form is a type of its own.
 pub data AreAlike (types : List Type_) : TypeResolution → TypeResolution → Type 0 where
-  SpelledAlike : {a b : TypeResolution} (t : TypeSpecifier) → resolution_tree (handle_names types) a
-      ≡ Some t → resolution_tree (handle_names types) b ≡ Some t → AreAlike types a b
-  Formless : {a b : TypeResolution} → resolution_tree (handle_names types) a ≡ None →
-      resolution_tree (handle_names types) b ≡ None → inner_of a types ≡ inner_of b types →
-      AreAlike types a b
+  SpelledAlike : {a b : TypeResolution} (t : TypeSpecifier) →
+      resolution_tree (handle_names types) a ≡ Some t →
+      resolution_tree (handle_names types) b ≡ Some t → AreAlike types a b
+  Formless : {a b : TypeResolution} →
+      resolution_tree (handle_names types) a ≡ None →
+      resolution_tree (handle_names types) b ≡ None →
+      inner_of a types ≡ inner_of b types → AreAlike types a b

@@ -28,7 +28,8 @@ conclusion_parts c (Predeclared p) = Word (predeclared_name p) ∷ []
 -- a rule, by the function's name: `fn dot(vec3<f32>, vec3<f32>) -> f32`
 abbrev pub rule_parts : Context → List ℕ → Rule → List Part
 rule_parts c name rule =
-    Word (codes "fn ") ∷ Word name ∷ Word (codes "(") ∷ (arguments_parts c rule.arguments.items ++
+    Word (codes "fn ") ∷ Word name ∷ Word (codes "(") ∷
+    (arguments_parts c rule.arguments.items ++
     (Word (codes ") -> ") ∷ conclusion_parts c rule.conclusion))
 
 -- What the arguments name is known to the context.

@@ -82,8 +82,8 @@ image_tree dim arrayed (class.Depth multi) =
     Some (Named (image_word (codes "texture_depth_") multi dim arrayed))
 image_tree dim arrayed class.External = Some (Named (codes "texture_external"))
 image_tree dim arrayed (class.Storage format access) =
-    Some (of_two (image_word (codes "texture_storage_") false dim arrayed)
-    (Named (format_word format)) (Named (image_access_word access)))
+    let word = image_word (codes "texture_storage_") false dim arrayed in
+    Some (of_two word (Named (format_word format)) (Named (image_access_word access)))
 
 -- a word, with `vertex_return` or without
 abbrev pub ray_tree : List ℕ → Bool → TypeSpecifier

@@ -52,9 +52,8 @@ is_type (Template w parts) = true
 
 -- what parts a word takes
 pub data PartsRule : Type 0 where
-  TakesNone TakesScalar TakesSampled TakesElements TakesPointee TakesFormat TakesVertexReturn
-  TakesRole TakesType :
-      PartsRule
+  TakesNone TakesScalar TakesSampled TakesElements TakesPointee : PartsRule
+  TakesFormat TakesVertexReturn TakesRole TakesType : PartsRule
 
 abbrev pub rule_among : List (List (List ℕ) × PartsRule) → List ℕ → PartsRule
 rule_among [] w = TakesNone
@@ -63,10 +62,14 @@ rule_among (row ∷ rows) w = if stands_in row.0 w then row.1 else rule_among ro
 -- the words of types with parts
 abbrev pub type_templates : List (List (List ℕ) × PartsRule)
 type_templates =
-    (vector_words, TakesScalar) ∷ (matrix_words, TakesScalar) ∷ (atomic_words, TakesScalar) ∷
+    (vector_words, TakesScalar) ∷
+    (matrix_words, TakesScalar) ∷
+    (atomic_words, TakesScalar) ∷
     (sampled_image_words, TakesSampled) ∷
-    (array_words, TakesElements) ∷ (pointer_words, TakesPointee) ∷
-    (storage_image_words, TakesFormat) ∷ (ray_words, TakesVertexReturn) ∷
+    (array_words, TakesElements) ∷
+    (pointer_words, TakesPointee) ∷
+    (storage_image_words, TakesFormat) ∷
+    (ray_words, TakesVertexReturn) ∷
     (cooperative_matrix_words, TakesRole) ∷ []
 
 -- the words of calls with parts: these, and types

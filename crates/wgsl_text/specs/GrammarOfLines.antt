@@ -9,13 +9,13 @@ use Rattle.wgsl_text.specs.Tree.{Expression, Name, Member, Index, IndexAt, Deref
 use Rattle.wgsl_text.specs.Tree.{DefaultLabel, SignedLabel, UnsignedLabel, Labels, LastLabel}
 use Rattle.wgsl_text.specs.Tree.{MoreLabels, Statement, Let, TypedLet, Assign, CallStatement}
 use Rattle.wgsl_text.specs.Tree.{ReturnValue, If, Loop, LoopBreakIf, Switch, Block, Statements}
-use Rattle.wgsl_text.specs.Tree.{NoStatements, Then, Cases, NoCases, Case}
-use Rattle.wgsl_text.specs.Tree.{Invariant, PerPrimitive, Coherent, Volatile, Vertex, Fragment}
-use Rattle.wgsl_text.specs.Tree.{Compute, Task, RayGeneration, AnyHit, ClosestHit, Miss, Location}
-use Rattle.wgsl_text.specs.Tree.{BlendSource, Id, Group, Binding, Size, Align, Builtin, Interpolate}
-use Rattle.wgsl_text.specs.Tree.{Mesh, Payload, IncomingPayload, Attribute, Plain, Numbered, Worded}
-use Rattle.wgsl_text.specs.Tree.{Interpolated, WorkgroupSize, Parameter, Result, NoResult, ResultOf}
-use Rattle.wgsl_text.specs.Tree.{Local, Function, EntryPoint, StructMember, Struct, NamedConstant}
+use Rattle.wgsl_text.specs.Tree.{NoStatements, Then, Cases, NoCases, Case, Invariant, PerPrimitive}
+use Rattle.wgsl_text.specs.Tree.{Coherent, Volatile, Vertex, Fragment, Compute, Task, RayGeneration}
+use Rattle.wgsl_text.specs.Tree.{AnyHit, ClosestHit, Miss, Location, BlendSource, Id, Group}
+use Rattle.wgsl_text.specs.Tree.{Binding, Size, Align, Builtin, Interpolate, Mesh, Payload}
+use Rattle.wgsl_text.specs.Tree.{IncomingPayload, Attribute, Plain, Numbered, Worded, Interpolated}
+use Rattle.wgsl_text.specs.Tree.{WorkgroupSize, Parameter, Result, NoResult, ResultOf, Local}
+use Rattle.wgsl_text.specs.Tree.{Function, EntryPoint, StructMember, Struct, NamedConstant}
 use Rattle.wgsl_text.specs.Tree.{Override, Space, NoSpace, SpaceAlone, SpaceAndAccess, Global}
 use Rattle.wgsl_text.specs.Tree.{Program}
 use Rattle.wgsl_text.specs.Grammar.{IsPlainNumber, IsSigned, IsType, IsCallee, may_take}

@@ -5,9 +5,8 @@ use Rattle.wgsl_text.specs.Token.{Mark, OpenParen, CloseParen, OpenBracket, Clos
 use Rattle.wgsl_text.specs.Token.{Dot, Equals, LessThan, GreaterThan, Plus, Minus, Star, Slash}
 use Rattle.wgsl_text.specs.Token.{Percent, Ampersand, Bar, Caret, Not, Tilde, EqualsEquals}
 use Rattle.wgsl_text.specs.Token.{NotEquals, LessEquals, AndAnd, BarBar, LessLess, KeywordTrue}
-use Rattle.wgsl_text.specs.Token.{KeywordFalse}
-use Rattle.wgsl_text.specs.Token.{NoSuffix, Fixed, Word, Number, ZeroPointZero, Piece, TokenPiece}
-use Rattle.wgsl_text.specs.Token.{Blank}
+use Rattle.wgsl_text.specs.Token.{KeywordFalse, NoSuffix, Fixed, Word, Number, ZeroPointZero, Piece}
+use Rattle.wgsl_text.specs.Token.{TokenPiece, Blank}
 use Rattle.wgsl_text.specs.Words.{stands_in}
 use Rattle.wgsl_text.specs.Tables.{storage_image_words, cooperative_matrix_words}
 use Rattle.wgsl_text.specs.Tree.{BinaryOperator, Add, Subtract, Multiply, Divide, Modulo, Equal}

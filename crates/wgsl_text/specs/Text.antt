@@ -14,10 +14,9 @@ use Rattle.wgsl_text.specs.Token.{KeywordVar, KeywordIf, KeywordElse, KeywordLoo
 use Rattle.wgsl_text.specs.Token.{KeywordContinuing, KeywordBreak, KeywordContinue, KeywordSwitch}
 use Rattle.wgsl_text.specs.Token.{KeywordCase, KeywordDefault, KeywordReturn, KeywordDiscard}
 use Rattle.wgsl_text.specs.Token.{KeywordFn, KeywordStruct, KeywordConst, KeywordEnable}
-use Rattle.wgsl_text.specs.Token.{KeywordOverride}
-use Rattle.wgsl_text.specs.Token.{Suffix, NoSuffix, SuffixI, SuffixU, SuffixLi, SuffixLu, Token}
-use Rattle.wgsl_text.specs.Token.{Fixed, Word, Number, ZeroPointZero, Foreign, Piece, TokenPiece}
-use Rattle.wgsl_text.specs.Token.{Blank, LineEnd, Indent}
+use Rattle.wgsl_text.specs.Token.{KeywordOverride, Suffix, NoSuffix, SuffixI, SuffixU, SuffixLi}
+use Rattle.wgsl_text.specs.Token.{SuffixLu, Token, Fixed, Word, Number, ZeroPointZero, Foreign}
+use Rattle.wgsl_text.specs.Token.{Piece, TokenPiece, Blank, LineEnd, Indent}
 use Rattle.wgsl_text.specs.Words.{is_letter, is_word_byte, is_reserved}
 
 abbrev pub mark_text : Mark → List ℕ
