@@ -1,16 +1,20 @@
--- Whether a module and what is known of it fit together: handles, `Emit` ranges and argument numbers lie in their arenas and
--- lists, each expression has the type that its operands and declarations give it, statements get what they want, and operators
--- that are spelled alike have types alike where their operands have.
--- The counts don't matter. So far no module is accepted that declares more than scalar types and functions, or whose
--- expressions are others than literals, arguments, locals, loads of locals and sums, differences and products, or whose
--- statements are others than `Emit`, `Store` and `Return`.
-use Rattle.std.specs.Prelude.{ℕ, Bool, true, false, ◌&&◌, List, [], ◌∷◌, length, Option, Some, None, ◌==◌, nat_lt, nat_le, ◌+◌, if◌then◌else◌, slice_get}
+-- Whether a module and what is known of it fit together: handles, `Emit` ranges and argument
+-- numbers lie in their arenas and lists, each expression has the type that its operands and
+-- declarations give it, statements get what they want, and operators that are spelled alike have
+-- types alike where their operands have. The counts don't matter. So far no module is accepted that
+-- declares more than scalar types and functions, or whose expressions are others than literals,
+-- arguments, locals, loads of locals and sums, differences and products, or whose statements are
+-- others than `Emit`, `Store` and `Return`.
+use Rattle.std.specs.Prelude.{ℕ, Bool, true, false, ◌&&◌, List, [], ◌∷◌, length, Option, Some, None}
+use Rattle.std.specs.Prelude.{◌==◌, nat_lt, nat_le, ◌+◌, if◌then◌else◌, slice_get}
 use Rattle.std.specs.List.{list_all}
 use Rattle.std.specs.Option.{option_map, option_map_or, is_some, option_and_then}
 use Rattle.indexmap.specs.IndexMap.{keys, values}
-use Rattle.naga_ir.specs.StatementTree.{SimpleStatement, emit, store, return, StatementTree, simple, BlockTree, no_statements, statement}
+use Rattle.naga_ir.specs.StatementTree.{SimpleStatement, emit, store, return, StatementTree, simple}
+use Rattle.naga_ir.specs.StatementTree.{BlockTree, no_statements, statement}
 use Rattle.naga_ir.specs.declared.expression.Expression.{Expression}
-use Rattle.naga_ir.specs.declared.expression.Expression.TheVariants.{Literal, FunctionArgument, LocalVariable, Load, Binary}
+use Rattle.naga_ir.specs.declared.expression.Expression.TheVariants.{Literal, FunctionArgument}
+use Rattle.naga_ir.specs.declared.expression.Expression.TheVariants.{LocalVariable, Load, Binary}
 use Rattle.naga_ir.specs.declared.module.Function.{Function}
 use Rattle.naga_ir.specs.declared.module.FunctionResult.{FunctionResult}
 use Rattle.naga_ir.specs.declared.module.LocalVariable.{LocalVariable as Local}
@@ -20,7 +24,9 @@ use Rattle.naga_ir.specs.declared.types.Type_.{Type_}
 use Rattle.naga_info.specs.declared.info.ExpressionInfo.{ExpressionInfo}
 use Rattle.naga_info.specs.declared.info.ModuleInfo.{ModuleInfo}
 use Rattle.accepted_modules.specs.Operations.{operators_agree}
-use Rattle.accepted_modules.specs.Types.{word_of_type, word_at, local_pointer, spelling_at, spelling_of, pointee_at, operator_word, is_alike, literal_word, literal_is_within}
+use Rattle.accepted_modules.specs.Types.{word_of_type, word_at, local_pointer, spelling_at}
+use Rattle.accepted_modules.specs.Types.{spelling_of, pointee_at, operator_word, is_alike}
+use Rattle.accepted_modules.specs.Types.{literal_word, literal_is_within}
 
 -- nothing is declared but types and functions
 abbrev pub declares_functions : Module → Bool
@@ -39,12 +45,15 @@ is_below bound handle = option_map_or (λ h. nat_lt h bound) handle true
 -- the types that have a meaning of their own lie in the types
 abbrev pub special_types_fit : ℕ → SpecialTypes → Bool
 special_types_fit count s =
-    list_all (λ h. nat_lt h count) (values s.predeclared_types) && (is_below count s.external_texture_params && is_below count s.external_texture_transfer_function)
+    list_all (λ h. nat_lt h count) (values s.predeclared_types) &&
+    (is_below count s.external_texture_params &&
+    is_below count s.external_texture_transfer_function)
 
 -- the types of the arguments and of the result lie in the types
 abbrev pub signature_fits : ℕ → Function → Bool
 signature_fits count f =
-    list_all (λ a. nat_lt a.ty count) f.arguments.items && is_below count (option_map (λ r. r.ty) f.result)
+    list_all (λ a. nat_lt a.ty count) f.arguments.items &&
+    is_below count (option_map (λ r. r.ty) f.result)
 
 -- front ends' names are given to expressions of the function
 abbrev pub names_fit : Function → Bool
@@ -54,15 +63,23 @@ names_fit f = list_all (λ h. nat_lt h (length f.expressions)) (keys f.named_exp
 abbrev pub operand_fits : List Type_ → List ExpressionInfo → (here : ℕ) → (operand : ℕ) → Bool
 operand_fits types es here operand = nat_lt operand here && is_some (spelling_at types es operand)
 
--- the spelling of the type that the expression with the handle `here` has by what it stands for, its operands standing before
--- it. That of an operator between two operands is its own, whichever it is, where those of the operands are spelled.
-abbrev pub expected_type : List Type_ → Function → List ExpressionInfo → (here : ℕ) → Expression → Option (List ℕ)
+-- the spelling of the type that the expression with the handle `here` has by what it stands for,
+-- its operands standing before it. That of an operator between two operands is its own, whichever
+-- it is, where those of the operands are spelled.
+abbrev pub expected_type :
+    List Type_ → Function → List ExpressionInfo → (here : ℕ) → Expression → Option (List ℕ)
 expected_type types f es here (Literal value) = literal_word value
-expected_type types f es here (FunctionArgument number) = option_and_then (λ a. word_at types a.ty) (slice_get f.arguments.items number)
-expected_type types f es here (LocalVariable handle) = option_and_then (λ l. option_map local_pointer (word_at types l.ty)) (slice_get f.local_variables handle)
-expected_type types f es here (Load pointer) = if nat_lt pointer here then pointee_at types es pointer else None
+expected_type types f es here (FunctionArgument number) =
+    option_and_then (λ a. word_at types a.ty) (slice_get f.arguments.items number)
+expected_type types f es here (LocalVariable handle) =
+    option_and_then (λ l. option_map local_pointer (word_at types l.ty))
+    (slice_get f.local_variables handle)
+expected_type types f es here (Load pointer) =
+    if nat_lt pointer here then pointee_at types es pointer else None
 expected_type types f es here (Binary op left right) =
-    if is_some (operator_word op) && (operand_fits types es here left && operand_fits types es here right) then spelling_at types es here else None
+    if is_some (operator_word op) &&
+    (operand_fits types es here left && operand_fits types es here right)
+    then spelling_at types es here else None
 expected_type types f es here _ = None
 
 -- the value of a literal is one of its type
@@ -71,13 +88,17 @@ is_within (Literal value) = literal_is_within value
 is_within _ = true
 
 -- what is known of the expression with this handle is its type; `es` is what is known of all
-abbrev pub expression_fits : List Type_ → Function → (es : List ExpressionInfo) → (here : ℕ) → Expression → ExpressionInfo → Bool
-expression_fits types f es here e known = is_alike (spelling_of types known.ty) (expected_type types f es here e) && is_within e
+abbrev pub expression_fits : List Type_ → Function → (es : List ExpressionInfo) → (here : ℕ) →
+    Expression → ExpressionInfo → Bool
+expression_fits types f es here e known =
+    is_alike (spelling_of types known.ty) (expected_type types f es here e) && is_within e
 
 -- of each expression, from this handle on, one thing is known, and it fits
-abbrev pub expressions_fit_from : List Type_ → Function → (es : List ExpressionInfo) → (here : ℕ) → List Expression → List ExpressionInfo → Bool
+abbrev pub expressions_fit_from : List Type_ → Function → (es : List ExpressionInfo) → (here : ℕ) →
+    List Expression → List ExpressionInfo → Bool
 expressions_fit_from types f es here [] [] = true
-expressions_fit_from types f es here (e ∷ xs) (k ∷ ks) = expression_fits types f es here e k && expressions_fit_from types f es (here + 1) xs ks
+expressions_fit_from types f es here (e ∷ xs) (k ∷ ks) =
+    expression_fits types f es here e k && expressions_fit_from types f es (here + 1) xs ks
 expressions_fit_from types f es here _ _ = false
 
 -- of each expression one thing is known, and it fits
@@ -86,31 +107,37 @@ expressions_fit types f xs es = expressions_fit_from types f es 0 xs es
 
 -- the expression, if there is one, has a type like that of the type's handle
 abbrev pub value_fits : List Type_ → List ExpressionInfo → ℕ → Option ℕ → Bool
-value_fits types es ty value = option_map_or (λ h. is_alike (spelling_at types es h) (word_at types ty)) value true
+value_fits types es ty value =
+    option_map_or (λ h. is_alike (spelling_at types es h) (word_at types ty)) value true
 
 -- a local's type lies in the types, and its first value has this type
 abbrev pub local_fits : List Type_ → List ExpressionInfo → Local → Bool
 local_fits types es l = nat_lt l.ty (length types) && value_fits types es l.ty l.init
 
 -- what is returned is of the result's type, and nothing is where there is no result
-abbrev pub return_fits : List Type_ → List ExpressionInfo → (answer : Option FunctionResult) → (value : Option ℕ) → Bool
+abbrev pub return_fits :
+    List Type_ → List ExpressionInfo → (answer : Option FunctionResult) → (value : Option ℕ) → Bool
 return_fits types es (Some answer) (Some value) = value_fits types es answer.ty (Some value)
 return_fits types es None None = true
 return_fits types es _ _ = false
 
-abbrev pub simple_fits : List Type_ → List ExpressionInfo → Option FunctionResult → SimpleStatement → Bool
+abbrev pub simple_fits :
+    List Type_ → List ExpressionInfo → Option FunctionResult → SimpleStatement → Bool
 simple_fits types es answer (emit first end) = nat_le first end && nat_le end (length es)
-simple_fits types es answer (store pointer value) = is_alike (spelling_at types es value) (pointee_at types es pointer)
+simple_fits types es answer (store pointer value) =
+    is_alike (spelling_at types es value) (pointee_at types es pointer)
 simple_fits types es answer (return value) = return_fits types es answer value
 simple_fits types es answer _ = false
 
-abbrev pub statement_fits : List Type_ → List ExpressionInfo → Option FunctionResult → StatementTree → Bool
+abbrev pub statement_fits :
+    List Type_ → List ExpressionInfo → Option FunctionResult → StatementTree → Bool
 statement_fits types es answer (simple s) = simple_fits types es answer s
 statement_fits types es answer _ = false
 
 abbrev pub block_fits : List Type_ → List ExpressionInfo → Option FunctionResult → BlockTree → Bool
 block_fits types es answer no_statements = true
-block_fits types es answer (statement s b) = statement_fits types es answer s && block_fits types es answer b
+block_fits types es answer (statement s b) =
+    statement_fits types es answer s && block_fits types es answer b
 
 -- a function and what is known of its expressions
 abbrev pub function_fits : List Type_ → Function → List ExpressionInfo → Bool
@@ -127,6 +154,8 @@ functions_fit types _ _ = false
 -- the module is accepted with what is known of it
 unfoldable pub is_accepted : Module → ModuleInfo → Bool
 is_accepted m info =
-    declares_functions m && (list_all is_scalar_type m.types && (special_types_fit (length m.types) m.special_types &&
+    declares_functions m && (list_all is_scalar_type m.types &&
+    (special_types_fit (length m.types) m.special_types &&
     (length info.entry_points.items == 0 && (length info.const_expression_types.items == 0 &&
-    (functions_fit m.types m.functions info.functions.items && operators_agree m.types m.functions info.functions.items)))))
+    (functions_fit m.types m.functions info.functions.items &&
+    operators_agree m.types m.functions info.functions.items)))))

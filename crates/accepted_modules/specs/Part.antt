@@ -3,16 +3,19 @@ use Rattle.std.specs.Prelude.{Bool, true, false, ◌&&◌, List, length, ◌==�
 use Rattle.std.specs.List.{list_all}
 use Rattle.std.specs.Option.{option_map_or, is_some, is_none}
 use Rattle.indexmap.specs.IndexMap.{keys}
-use Rattle.naga_ir.specs.StatementTree.{emit, store, return, StatementTree, simple, BlockTree, no_statements, statement}
+use Rattle.naga_ir.specs.StatementTree.{emit, store, return, StatementTree, simple, BlockTree}
+use Rattle.naga_ir.specs.StatementTree.{no_statements, statement}
 use Rattle.naga_ir.specs.declared.expression.Expression.{Expression}
-use Rattle.naga_ir.specs.declared.expression.Expression.TheVariants.{Literal, FunctionArgument, LocalVariable, Load, Binary}
+use Rattle.naga_ir.specs.declared.expression.Expression.TheVariants.{Literal, FunctionArgument}
+use Rattle.naga_ir.specs.declared.expression.Expression.TheVariants.{LocalVariable, Load, Binary}
 use Rattle.naga_ir.specs.declared.module.Function.{Function}
 use Rattle.naga_ir.specs.declared.module.LocalVariable.{LocalVariable as Local}
 use Rattle.naga_ir.specs.declared.module.Module.{Module}
 use Rattle.accepted_modules.specs.Types.{literal_word, operator_word}
 use Rattle.accepted_modules.specs.Accepted.{declares_functions, is_scalar_type}
 
--- a literal of one of the scalar types, an argument, a local, a load, or a sum, a difference or a product
+-- a literal of one of the scalar types, an argument, a local, a load, or a sum, a difference or a
+-- product
 abbrev pub expression_is_written : Expression → Bool
 expression_is_written (Literal value) = is_some (literal_word value)
 expression_is_written (FunctionArgument number) = true
@@ -42,7 +45,9 @@ block_is_written (statement s b) = statement_is_written s && block_is_written b
 
 -- neither the arguments nor the result are bound to a location or a builtin value
 abbrev pub is_unbound : Function → Bool
-is_unbound f = list_all (λ a. is_none a.binding) f.arguments.items && option_map_or (λ r. is_none r.binding) f.result true
+is_unbound f =
+    list_all (λ a. is_none a.binding) f.arguments.items &&
+    option_map_or (λ r. is_none r.binding) f.result true
 
 -- front ends named none of the function's expressions
 abbrev pub names_nothing : Function → Bool
@@ -57,4 +62,5 @@ function_is_written f =
 -- scalar types and such functions
 unfoldable pub is_written_so_far : Module → Bool
 is_written_so_far m =
-    declares_functions m && (list_all is_scalar_type m.types && list_all function_is_written m.functions)
+    declares_functions m &&
+    (list_all is_scalar_type m.types && list_all function_is_written m.functions)

@@ -1,16 +1,20 @@
--- How types are spelled, of those that are told apart so far. Types are alike where they are spelled alike.
-use Rattle.std.specs.Prelude.{ℕ, ℤ, pos, negsuc, ◌^◌, nat_lt, Bool, true, false, List, ◌++◌, Option, Some, None, ◌==◌, if◌then◌else◌, codes, slice_get}
+-- How types are spelled, of those that are told apart so far. Types are alike where they are
+-- spelled alike.
+use Rattle.std.specs.Prelude.{ℕ, ℤ, pos, negsuc, ◌^◌, nat_lt, Bool, true, false, List, ◌++◌, Option}
+use Rattle.std.specs.Prelude.{Some, None, ◌==◌, if◌then◌else◌, codes, slice_get}
 use Rattle.std.specs.Option.{option_map, option_and_then}
 use Rattle.std.specs.Str.{bytes_eq}
 use Rattle.naga_enumerations.specs.declared.expression.Literal.{Literal}
-use Rattle.naga_enumerations.specs.declared.expression.Literal.TheVariants.{U32, I32, U64, I64, Bool as BoolLiteral}
+use Rattle.naga_enumerations.specs.declared.expression.Literal.TheVariants.{U32, I32, U64, I64}
+use Rattle.naga_enumerations.specs.declared.expression.Literal.TheVariants.{Bool as BoolLiteral}
 use Rattle.naga_operators.specs.declared.BinaryOperator.{BinaryOperator}
 use Rattle.naga_operators.specs.declared.BinaryOperator.TheVariants.{Add, Subtract, Multiply}
 use Rattle.naga_enumerations.specs.declared.types.AddressSpace.{AddressSpace}
 use Rattle.naga_enumerations.specs.declared.types.AddressSpace.TheVariants.{Function}
 use Rattle.naga_enumerations.specs.declared.types.Scalar.{Scalar}
 use Rattle.naga_enumerations.specs.declared.types.ScalarKind.{ScalarKind}
-use Rattle.naga_enumerations.specs.declared.types.ScalarKind.TheVariants.{Sint, Uint, Bool as BoolKind}
+use Rattle.naga_enumerations.specs.declared.types.ScalarKind.TheVariants.{Sint, Uint}
+use Rattle.naga_enumerations.specs.declared.types.ScalarKind.TheVariants.{Bool as BoolKind}
 use Rattle.naga_ir.specs.declared.types.Type_.{Type_}
 use Rattle.naga_ir.specs.declared.types.TypeInner.{TypeInner}
 use Rattle.naga_ir.specs.declared.types.TypeInner.TheVariants.{Scalar as ScalarType, Pointer}
@@ -23,8 +27,10 @@ use Rattle.wgsl_words.specs.Words.{operator_text}
 -- `bool`, `i32`, `u32`, `i64` and `u64`
 abbrev pub word_of_width : ScalarKind → ℕ → Option (List ℕ)
 word_of_width BoolKind w = if w == 1 then Some (codes "bool") else None
-word_of_width Sint w = if w == 4 then Some (codes "i32") else (if w == 8 then Some (codes "i64") else None)
-word_of_width Uint w = if w == 4 then Some (codes "u32") else (if w == 8 then Some (codes "u64") else None)
+word_of_width Sint w =
+    if w == 4 then Some (codes "i32") else (if w == 8 then Some (codes "i64") else None)
+word_of_width Uint w =
+    if w == 4 then Some (codes "u32") else (if w == 8 then Some (codes "u64") else None)
 word_of_width _ w = None
 
 abbrev pub scalar_word : Scalar → Option (List ℕ)

@@ -1,12 +1,12 @@
 -- The names of a list of items: where they stand, that none comes twice, and what a map has of them.
-use Rattle.std.proofs.Common.{◌≡◌, ℕ, ◌+◌, ◌<◌, ◌≤◌, ◌^◌, zero, suc, string_bytes, List, [], ◌∷◌, ◌++◌, map, take, Some, None, true, false, cond, refl, ap, sym, subst, ◌∙◌, arith, codes, append_assoc, append-nil, unwrap_or, slice_get}
+use Rattle.std.proofs.Common.{◌≡◌, ℕ, ◌+◌, ◌<◌, ◌≤◌, ◌^◌, zero, suc, string_bytes, List, [], ◌∷◌, ◌++◌, map, take, Some, None, true, false, cond, refl, ap, sym, subst, ◌∙◌, arith, codes, append_assoc, append-nil, slice_get}
 use Rattle.std.specs.Prelude.{◌⊎◌}
 use mathlib.Core.Logic.{inl, inr}
 use Rattle.std.specs.List.{AllByRecursion, IsDistinct, scan, flat_map, enumerate_from}
 use Rattle.std.specs.Map.{keys_of, lookup}
 use Rattle.std.specs.Option.{option_or}
 use Rattle.std.proofs.lemmas.Map.Made.{update_all_distinct}
-use Rattle.std.proofs.lemmas.Option.{none-some}
+use Rattle.std.proofs.lemmas.Option.{none-some, same_Some}
 use Rattle.naga_ir.specs.declared.module.Module.{Module}
 use Rattle.naga_ir.specs.declared.module.Function.{Function}
 use Rattle.naga_ir.specs.declared.module.FunctionArgument.{FunctionArgument}
@@ -29,13 +29,10 @@ use Rattle.item_names.proofs.ResetLemmas.{labels_of-around, item_name-outside}
 abbrev named_from : Names → List Labelled → List Labelled → List (NameKey × List ℕ)
 named_from start earlier items = scan (λ earlier item. earlier ++ item ∷ []) (λ earlier item. (item.0, item_name start earlier item)) earlier items
 
-it_is : {X : Type 0} (x y : X) → Some x ≡ Some y → x ≡ y
-it_is x y e = ap (λ o. unwrap_or o x) e
-
 -- ---- no name comes twice
 split_one : (xs : List Labelled) (j : ℕ) (y : Labelled) → slice_get xs j ≡ Some y → (rest : List Labelled) × (xs ≡ take j xs ++ y ∷ rest)
 split_one [] j y e = absurd (none-some y e)
-split_one (x ∷ xs) zero y e = (xs, ap (λ z. z ∷ xs) (it_is x y e))
+split_one (x ∷ xs) zero y e = (xs, ap (λ z. z ∷ xs) (same_Some x y e))
 split_one (x ∷ xs) (suc j) y e = let rest = split_one xs j y e in (rest.0, ap (λ t. x ∷ t) rest.1)
 
 record Split (xs : List Labelled) (i j : ℕ) (x y : Labelled) : Type 0 where
@@ -49,7 +46,7 @@ split_two [] i j x y lt ex ey = absurd (none-some x ex)
 split_two (z ∷ xs) zero zero x y lt ex ey = absurd (omega (arith, lt))
 split_two (z ∷ xs) zero (suc j) x y lt ex ey =
     let after = split_one xs j y ey in
-    let same = it_is z x ex in
+    let same = same_Some z x ex in
     record { middle = take j xs; rest = after.0; all = λ k. same k ∷ after.1 k; before = λ k. same k ∷ take j xs }
 split_two (z ∷ xs) (suc i) zero x y lt ex ey = absurd (omega (arith, lt))
 split_two (z ∷ xs) (suc i) (suc j) x y lt ex ey =
@@ -101,13 +98,13 @@ keys_distinct start earlier (x ∷ items) apart = (apart_from start x.0 (earlier
 
 at_place : (P : Labelled → Type 0) (xs : List Labelled) (i : ℕ) (y : Labelled) → AllByRecursion P xs → slice_get xs i ≡ Some y → P y
 at_place P [] i y all e = absurd (none-some y e)
-at_place P (x ∷ xs) zero y all e = subst P (it_is x y e) all.0
+at_place P (x ∷ xs) zero y all e = subst P (same_Some x y e) all.0
 at_place P (x ∷ xs) (suc i) y all e = at_place P xs i y all.1 e
 
 found : (start : Names) (earlier items : List Labelled) (i : ℕ) (item : Labelled) → AreApart items → slice_get items i ≡ Some item → lookup (same_key item.0) (named_from start earlier items) ≡ Some (item_name start (earlier ++ take i items) item)
 found start earlier [] i item apart e = absurd (none-some item e)
 found start earlier (x ∷ items) zero item apart e =
-    let same = it_is x item e in
+    let same = same_Some x item e in
     let yes = ap (same_key item.0) (ap (λ (y : Labelled). y.0) same) ∙ same_key_laws.refl item.0 in
     ap (λ b. cond b (Some (item_name start earlier x)) (lookup (same_key item.0) (named_from start (earlier ++ x ∷ []) items))) yes
     ∙ (λ j. Some (item_name start (sym (append-nil earlier) j) (same j)))
@@ -185,7 +182,7 @@ pub among_sections : {X : Type 0} (section : ℕ → X → List Labelled) (n i :
 among_sections section n i [] x item e s = absurd (none-some x e)
 among_sections section n zero (y ∷ xs) x item e s =
     let here : n + zero ≡ n = omega arith in
-    among_left (section n y) (flat_map (λ p. section p.0 p.1) (enumerate_from (n + 1) xs)) item (subst (λ z. IsAmong (section n z) item) (sym (it_is y x e)) (subst (λ m. IsAmong (section m x) item) here s))
+    among_left (section n y) (flat_map (λ p. section p.0 p.1) (enumerate_from (n + 1) xs)) item (subst (λ z. IsAmong (section n z) item) (sym (same_Some y x e)) (subst (λ m. IsAmong (section m x) item) here s))
 among_sections section n (suc i) (y ∷ xs) x item e s =
     let next : n + suc i ≡ n + 1 + i = omega arith in
     among_right (section n y) (flat_map (λ p. section p.0 p.1) (enumerate_from (n + 1) xs)) item (among_sections section (n + 1) i xs x item e (subst (λ m. IsAmong (section m x) item) next s))
@@ -351,12 +348,9 @@ module _ (start : Names) (before : NameMap) («module» : Module) (names : Names
   -- items with one name are one item
   pub names_tell : (a b : Labelled) → Stands (labelled_items start «module») a → Stands (labelled_items start «module») b → now a.0 ≡ now b.0 → a ≡ b
   names_tell a b s t same =
-      let one = name_of_some (sym (named_there a s) ∙ same ∙ named_there b t) in
+      let one = same_Some _ _ (sym (named_there a s) ∙ same ∙ named_there b t) in
       let place = item_names_tell start (labelled_items start «module») few_labels s.place t.place a b s.there t.there s.outside t.outside one in
-      it_is a b (sym s.there ∙ ap (slice_get (labelled_items start «module»)) place ∙ t.there)
-    where
-      name_of_some : {x y : List ℕ} → Some x ≡ Some y → x ≡ y
-      name_of_some {x} {y} e = ap (λ o. unwrap_or o x) e
+      same_Some a b (sym s.there ∙ ap (slice_get (labelled_items start «module»)) place ∙ t.there)
 
   -- a function has its name, and each of its arguments
   pub function_named : (h : ℕ) (function : Function) → slice_get «module».functions h ≡ Some function → (name : List ℕ) × (now (key.Function h) ≡ Some name)
@@ -377,7 +371,4 @@ module _ (start : Names) (before : NameMap) («module» : Module) (names : Names
       let items = labelled_items start «module» in
       let a_is = put_at start before now items has.put (items_apart start «module») i a ea out_a in
       let b_is = put_at start before now items has.put (items_apart start «module») j b eb out_b in
-      item_names_tell start items few_labels i j a b ea eb out_a out_b (name_of_some (sym a_is ∙ same ∙ b_is))
-    where
-      name_of_some : {x y : List ℕ} → Some x ≡ Some y → x ≡ y
-      name_of_some {x} {y} e = ap (λ o. unwrap_or o x) e
+      item_names_tell start items few_labels i j a b ea eb out_a out_b (same_Some _ _ (sym a_is ∙ same ∙ b_is))

@@ -1,5 +1,6 @@
 -- The base of a label: the part of an identifier that comes from the label alone.
-use Rattle.std.specs.Prelude.{ℕ, ◌-◌, Bool, false, not, ◌||◌, ◌&&◌, ◌==◌, if◌then◌else◌, List, [], ◌∷◌, ◌++◌, length, drop, replicate, codes}
+use Rattle.std.specs.Prelude.{ℕ, ◌-◌, Bool, false, not, ◌||◌, ◌&&◌, ◌==◌, if◌then◌else◌, List, []}
+use Rattle.std.specs.Prelude.{◌∷◌, ◌++◌, length, drop, replicate, codes}
 use Rattle.std.specs.Fmt.{digits}
 use Rattle.std.specs.List.{flat_map, list_any, starts_with}
 use Rattle.std.specs.Bool.{nat_eq}
@@ -35,7 +36,9 @@ by_number c = codes "u" ++ hexadecimal c ++ codes "_"
 
 -- a mark is spelled `_`, a foreign character `_uXXXX_` by its number, and any other one as it is
 abbrev pub spelled : ℕ → List ℕ
-spelled c = if is_mark c then codes "_" else (if is_identifier_char c then c ∷ [] else codes "_" ++ by_number c)
+spelled c =
+    if is_mark c then codes "_"
+    else (if is_identifier_char c then c ∷ [] else codes "_" ++ by_number c)
 
 -- the text begins with a `_`
 abbrev pub begins_separated : List ℕ → Bool
@@ -51,7 +54,8 @@ abbrev pub begins_foreign : List ℕ → Bool
 begins_foreign [] = false
 begins_foreign (c ∷ cs) = is_foreign c
 
--- the characters spelled one after another and squeezed, without the `_` of a foreign first character
+-- the characters spelled one after another and squeezed, without the `_` of a foreign first
+-- character
 unfoldable pub spelling : List ℕ → List ℕ
 spelling characters =
     let text = squeezed (flat_map spelled characters) in
@@ -84,8 +88,10 @@ or_unnamed (c ∷ cs) = c ∷ cs
 
 -- a text that begins with one of the prefixes has `gen_` before it
 abbrev pub kept_off : List (List ℕ) → List ℕ → List ℕ
-kept_off prefixes text = if list_any (starts_with nat_eq text) prefixes then codes "gen_" ++ text else text
+kept_off prefixes text =
+    if list_any (starts_with nat_eq text) prefixes then codes "gen_" ++ text else text
 
 -- the base of a label, of which these are the characters, where identifiers keep off these prefixes
 unfoldable pub base_of : List (List ℕ) → List ℕ → List ℕ
-base_of prefixes characters = kept_off prefixes (or_unnamed (without_last_separators (spelling (after_numerics characters))))
+base_of prefixes characters =
+    kept_off prefixes (or_unnamed (without_last_separators (spelling (after_numerics characters))))

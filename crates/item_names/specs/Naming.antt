@@ -1,5 +1,7 @@
 -- The names that a `Namer` gives.
-use Rattle.std.specs.Prelude.{◌≡◌, ℕ, ◌+◌, ◌-◌, ◌^◌, ◌≤◌, Bool, ◌||◌, ◌==◌, if◌then◌else◌, List, ◌++◌, length, slice_index, [], codes, count_by, unwrap_or, decimal, refl, string_bytes}
+use Rattle.std.specs.Prelude.{◌≡◌, ℕ, ◌+◌, ◌-◌, ◌^◌, ◌≤◌, Bool, ◌||◌, ◌==◌, if◌then◌else◌, List}
+use Rattle.std.specs.Prelude.{◌++◌, length, slice_index, [], codes, count_by, unwrap_or, decimal}
+use Rattle.std.specs.Prelude.{refl, string_bytes}
 use Rattle.std.specs.Option.{option_map_or}
 use Rattle.std.specs.declared.option.Option.{Option}
 use Rattle.std.specs.declared.string.String.{String}
@@ -26,7 +28,7 @@ words_code = set.code (coded_list coded_ℕ)
 abbrev pub uses_code : Coded Uses
 uses_code = map.code (coded_list coded_ℕ) coded_ℕ
 
--- what a `Namer` goes by: its three sets of words, the prefixes that it keeps off, and the uses so far
+-- what a `Namer` goes by: its three sets of words, the prefixes that it keeps off, and its uses
 pub record Names : Type 0 where
   pub keywords : Words
   pub builtin_identifiers : Words
@@ -37,18 +39,42 @@ pub record Names : Type 0 where
 
 abbrev pub names_code : Coded Names
 names_code =
-    code_by (Words × (Words × (Words × (List (List ℕ) × Uses)))) (coded× words_code (coded× words_code (coded× words_code (coded× (coded_list (coded_list coded_ℕ)) uses_code))))
-    (λ n. (n.keywords, (n.builtin_identifiers, (n.caseless_keywords, (n.reserved_prefixes, n.uses)))))
-    (λ p. record { keywords = p.0; builtin_identifiers = p.1.0; caseless_keywords = p.1.1.0; reserved_prefixes = p.1.1.1.0; uses = p.1.1.1.1 })
+    let prefixes_code = coded_list (coded_list coded_ℕ) in
+    let rest_code = coded× words_code (coded× prefixes_code uses_code) in
+    code_by (Words × (Words × (Words × (List (List ℕ) × Uses))))
+    (coded× words_code (coded× words_code rest_code))
+    (λ n.
+    (n.keywords, (n.builtin_identifiers, (n.caseless_keywords, (n.reserved_prefixes, n.uses)))))
+    (λ p. record {
+      keywords = p.0;
+      builtin_identifiers = p.1.0;
+      caseless_keywords = p.1.1.0;
+      reserved_prefixes = p.1.1.1.0;
+      uses = p.1.1.1.1;
+    })
     (λ _. refl)
 
 -- no words, no prefixes, no uses
 abbrev pub no_names : Names
-no_names = record { keywords = set.empty; builtin_identifiers = set.empty; caseless_keywords = set.empty; reserved_prefixes = []; uses = map.empty }
+no_names =
+    record {
+      keywords = set.empty;
+      builtin_identifiers = set.empty;
+      caseless_keywords = set.empty;
+      reserved_prefixes = [];
+      uses = map.empty;
+    }
 
 -- these words and prefixes, and no uses
 abbrev pub new_names : Words → Words → Words → List (List ℕ) → Names
-new_names keywords builtins caseless prefixes = record { keywords = keywords; builtin_identifiers = builtins; caseless_keywords = caseless; reserved_prefixes = prefixes; uses = map.empty }
+new_names keywords builtins caseless prefixes =
+    record {
+      keywords = keywords;
+      builtin_identifiers = builtins;
+      caseless_keywords = caseless;
+      reserved_prefixes = prefixes;
+      uses = map.empty;
+    }
 
 -- the label, or the fallback where there is none
 abbrev pub label_or : {Y : Type 0} → Option (String Y) → List ℕ → List ℕ
@@ -60,14 +86,18 @@ label_base names label = base_of names.reserved_prefixes (chars label)
 
 -- the word is in one of the three sets
 abbrev pub is_taken : Names → List ℕ → Bool
-is_taken names word = set.contains names.keywords word || set.contains names.builtin_identifiers word || set.contains names.caseless_keywords (lowered word)
+is_taken names word =
+    set.contains names.keywords word || set.contains names.builtin_identifiers word ||
+    set.contains names.caseless_keywords (lowered word)
 
 abbrev pub ends_in_digit : List ℕ → Bool
 ends_in_digit text = is_ascii_digit (slice_index text (length text - 1))
 
--- the first name of a base has a `_` behind it where the base ends in a digit or is in one of the sets
+-- the first name of a base has a `_` behind it where the base ends in a digit or is in one of the
+-- sets
 abbrev pub first_name : Names → List ℕ → List ℕ
-first_name names base = if ends_in_digit base || is_taken names base then base ++ codes "_" else base
+first_name names base =
+    if ends_in_digit base || is_taken names base then base ++ codes "_" else base
 
 -- a later one has `_` and the number of earlier uses behind it
 abbrev pub later_name : List ℕ → ℕ → List ℕ
@@ -79,11 +109,14 @@ name_of_base names base uses = if uses == 0 then first_name names base else late
 
 -- the name of a label, by the uses of its base so far
 unfoldable pub name_of : Names → List ℕ → List ℕ
-name_of names label = let base = label_base names label in name_of_base names base (uses_of names.uses base)
+name_of names label =
+    let base = label_base names label in name_of_base names base (uses_of names.uses base)
 
 -- one more use of the label's base, and nothing else
 unfoldable pub with_use : Names → List ℕ → Names
-with_use names label = let base = label_base names label in record names { uses = map.insert names.uses base (uses_of names.uses base + 1) }
+with_use names label =
+    let base = label_base names label in
+    record names { uses = map.insert names.uses base (uses_of names.uses base + 1) }
 
 -- the base has been used so often that there is no next name: its counter is at the greatest `u32`
 abbrev pub IsFull : Names → List ℕ → Type 0
@@ -91,11 +124,14 @@ IsFull names label = uses_of names.uses (label_base names label) ≡ 2 ^ 32
 
 -- how many of these labels have this base
 abbrev pub labels_with_base : Names → List (List ℕ) → List ℕ → ℕ
-labels_with_base names labels base = count_by (λ label. bytes_eq (label_base names label) base) labels
+labels_with_base names labels base =
+    count_by (λ label. bytes_eq (label_base names label) base) labels
 
 -- the name of a label after these earlier ones
 abbrev pub name_after : Names → List (List ℕ) → List ℕ → List ℕ
-name_after names earlier label = let base = label_base names label in name_of_base names base (labels_with_base names earlier base)
+name_after names earlier label =
+    let base = label_base names label in
+    name_of_base names base (labels_with_base names earlier base)
 
 -- the uses so far are those of these labels, and none of them are more than can be counted
 pub record HasNamed (names : Names) (labels : List (List ℕ)) : Type 0 where

@@ -20,7 +20,8 @@ use Rattle.naga_info.specs.Resolution.{inner_of}
 use Rattle.accepted_modules.specs.Types.{word_of_width, scalar_word, word_of_type, word_at, local_pointer, spelling, spelling_of, spelling_at, operator_word}
 use Rattle.accepted_modules.specs.Operations.{Operation, operation_of, expression_operations, function_operations, all_operations, operators_agree}
 use Rattle.naga_acceptance.specs.Table.{type_number, operator_number, all_entered}
-use Rattle.naga_info.proofs.Options.{then_some, map_some, same_some}
+use Rattle.std.proofs.lemmas.Option.{same_Some}
+use Rattle.naga_info.proofs.Options.{then_some, map_some}
 use Rattle.naga_acceptance.proofs.Agreeing.{AreNumbered, entered_where_all_agree}
 use Rattle.accepted_modules.proofs.Fitting.{drop_first, item_at}
 
@@ -45,11 +46,11 @@ is_u64 : IsScalarWord (codes "u64")
 is_u64 = let small : 4 < 5 = omega arith in record { number = small; pointer = refl }
 
 by_one : (a : Bool) (x w : List ℕ) → IsScalarWord x → (if a then Some x else None) ≡ Some w → IsScalarWord w
-by_one true x w p e = subst IsScalarWord (same_some x w e) p
+by_one true x w p e = subst IsScalarWord (same_Some x w e) p
 by_one false x w p e = absurd cc
 
 by_two : (a b : Bool) (x y w : List ℕ) → IsScalarWord x → IsScalarWord y → (if a then Some x else (if b then Some y else None)) ≡ Some w → IsScalarWord w
-by_two true b x y w p q e = subst IsScalarWord (same_some x w e) p
+by_two true b x y w p q e = subst IsScalarWord (same_Some x w e) p
 by_two false b x y w p q e = by_one b y w q e
 
 width_word : (kind : ScalarKind) (width : ℕ) (w : List ℕ) → word_of_width kind width ≡ Some w → IsScalarWord w
@@ -94,9 +95,9 @@ spelling_at_numbered types es h w e =
     in spelling_numbered types t.0 w t.2
 
 pub operator_numbered : (op : BinaryOperator) (w : List ℕ) → operator_word op ≡ Some w → operator_number w < 3
-operator_numbered Add w e = let small : 0 < 3 = omega arith in subst (λ w. operator_number w < 3) (same_some (codes "+") w e) small
-operator_numbered Subtract w e = let small : 1 < 3 = omega arith in subst (λ w. operator_number w < 3) (same_some (codes "-") w e) small
-operator_numbered Multiply w e = let small : 2 < 3 = omega arith in subst (λ w. operator_number w < 3) (same_some (codes "*") w e) small
+operator_numbered Add w e = let small : 0 < 3 = omega arith in subst (λ w. operator_number w < 3) (same_Some (codes "+") w e) small
+operator_numbered Subtract w e = let small : 1 < 3 = omega arith in subst (λ w. operator_number w < 3) (same_Some (codes "-") w e) small
+operator_numbered Multiply w e = let small : 2 < 3 = omega arith in subst (λ w. operator_number w < 3) (same_Some (codes "*") w e) small
 operator_numbered _ w e = absurd cc
 
 -- ---- the operations of a module

@@ -16,7 +16,7 @@ use Rattle.naga_operators.specs.declared.BinaryOperator.{BinaryOperator}
 use Rattle.naga_operators.specs.declared.BinaryOperator.TheVariants as operator
 use Rattle.naga_info.specs.declared.info.ExpressionInfo.{ExpressionInfo}
 use Rattle.naga_info.specs.declared.info.ModuleInfo.{ModuleInfo}
-use Rattle.naga_info.proofs.Options.{same_some}
+use Rattle.std.proofs.lemmas.Option.{same_Some}
 use Rattle.accepted_modules.specs.Types.{spelling_at, local_pointer}
 use Rattle.accepted_modules.specs.Accepted.{is_accepted, function_fits, functions_fit, statement_fits, block_fits}
 use Rattle.accepted_modules.proofs.Accepting.{accepted_parts, function_fits_block, load_word_at, store_fits_word, binary_at, IsOperation}
@@ -219,9 +219,9 @@ module _ (types : List Type_) (fs : List ir_function.Function) (ess : List (List
       }
 
   operator_among : (x : Signature) (h : ℕ) (op : BinaryOperator) (left right : ℕ) → slice_get f.expressions h ≡ Some (expression.Binary op left right) → (o : IsOperation types es h op left right) → IsOneOf x (signatures_of p own (handle_type own h) (Some (binary_shape op left right))) → IsOperator types fs ess x
-  operator_among x h operator.Add left right at o among = operator_is x h operator.Add left right at o (codes "+") (same_some (codes "+") o.word o.spelled) among
-  operator_among x h operator.Subtract left right at o among = operator_is x h operator.Subtract left right at o (codes "-") (same_some (codes "-") o.word o.spelled) among
-  operator_among x h operator.Multiply left right at o among = operator_is x h operator.Multiply left right at o (codes "*") (same_some (codes "*") o.word o.spelled) among
+  operator_among x h operator.Add left right at o among = operator_is x h operator.Add left right at o (codes "+") (same_Some (codes "+") o.word o.spelled) among
+  operator_among x h operator.Subtract left right at o among = operator_is x h operator.Subtract left right at o (codes "-") (same_Some (codes "-") o.word o.spelled) among
+  operator_among x h operator.Multiply left right at o among = operator_is x h operator.Multiply left right at o (codes "*") (same_Some (codes "*") o.word o.spelled) among
   operator_among x h _ left right at o among = absurd (unspelled o.spelled)
 
   spelled_among : (x : Signature) (h : ℕ) (e : ir.Expression) → slice_get f.expressions h ≡ Some e → IsOneOf x (signatures_of p own (handle_type own h) (Some (expression_shape e))) → IsOperator types fs ess x

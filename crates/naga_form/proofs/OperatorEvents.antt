@@ -5,7 +5,7 @@ use Rattle.std.specs.Str.{bytes_eq}
 use Rattle.std.specs.List.{list_all}
 use Rattle.std.specs.Option.{option_map_or, option_or}
 use Rattle.std.proofs.lemmas.Bool.{false≢true, true≢false, and_parts, not-true}
-use Rattle.naga_info.proofs.Options.{same_some}
+use Rattle.std.proofs.lemmas.Option.{same_Some}
 use Rattle.naga_operators.specs.declared.UnaryOperator.TheVariants as unary
 use Rattle.wgsl_text.specs.Words.{stands_in, is_builtin}
 use Rattle.wgsl_text.specs.Grammar.{IsType, is_type, PartsRule, TakesNone, rule_among, type_templates}
@@ -73,7 +73,7 @@ found_passes w (x ∷ os) o all e =
     by (bytes_eq w (run_word x)) (and_parts (asks_alike x) (list_all asks_alike os) all) (found_passes w os o) e
   where
     by : (b : Bool) → (asks_alike x ≡ true) × (list_all asks_alike os ≡ true) → (list_all asks_alike os ≡ true → first_with w os ≡ Some o → asks_alike o ≡ true) → (if b then Some x else first_with w os) ≡ Some o → asks_alike o ≡ true
-    by true parts later e = subst (λ y. asks_alike y ≡ true) (same_some x o e) parts.0
+    by true parts later e = subst (λ y. asks_alike y ≡ true) (same_Some x o e) parts.0
     by false parts later e = later parts.1 e
 
 operator_passes : (w : List ℕ) (o : Operator) → operator_of w ≡ Some o → asks_alike o ≡ true

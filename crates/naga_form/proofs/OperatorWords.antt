@@ -3,7 +3,7 @@ use Rattle.std.proofs.Common.{[], ◌≡◌, ℕ, Bool, true, false, List, ◌�
 use Rattle.std.specs.Prelude.{if◌then◌else◌}
 use Rattle.std.specs.Str.{bytes_eq}
 use Rattle.std.proofs.lemmas.Bool.{false≢true}
-use Rattle.naga_info.proofs.Options.{same_some}
+use Rattle.std.proofs.lemmas.Option.{same_Some}
 use Rattle.std.specs.Option.{option_or}
 use Rattle.naga_enumerations.specs.declared.expression.SwizzleComponent.{SwizzleComponent}
 use Rattle.naga_enumerations.specs.declared.expression.SwizzleComponent.TheVariants as component
@@ -387,7 +387,7 @@ told (Reinterpret t) u = absurd (false≢true u)
 
 -- two that take no type, and have one word, have one operator that stands for them
 pub untyped_share : (a b : Operator) → is_untyped a ≡ true → is_untyped b ≡ true → run_word a ≡ run_word b → one_word a ≡ one_word b
-untyped_share a b ua ub e = same_some (one_word a) (one_word b) (sym (told a ua) ∙ (ap operator_of e ∙ told b ub))
+untyped_share a b ua ub e = same_Some (one_word a) (one_word b) (sym (told a ua) ∙ (ap operator_of e ∙ told b ub))
 
 -- ---- with the number of operands
 -- the operator with this word's and this number of operands

@@ -4,7 +4,7 @@ use Rattle.std.specs.Prelude.{IsTrue, unwrap_or, if◌then◌else◌}
 use Rattle.std.specs.List.{list_all}
 use Rattle.std.specs.Option.{option_map, option_and_then}
 use Rattle.std.proofs.lemmas.Bool.{eqb-true}
-use Rattle.std.proofs.lemmas.Option.{slice_get_within}
+use Rattle.std.proofs.lemmas.Option.{slice_get_within, same_Some}
 use Rattle.naga_enumerations.specs.declared.types.AddressSpace.{AddressSpace}
 use Rattle.naga_enumerations.specs.declared.types.AddressSpace.TheVariants as space
 use Rattle.naga_enumerations.specs.declared.types.ScalarKind.{ScalarKind}
@@ -19,7 +19,7 @@ use Rattle.naga_info.specs.declared.info.TypeResolution.TheVariants.{Handle, Val
 use Rattle.accepted_modules.specs.Accepted.{is_scalar_type, function_fits}
 use Rattle.naga_info.specs.Resolution.{inner_of}
 use Rattle.accepted_modules.specs.Types.{word_of_width, word_of_type, word_at, pointer_spelling, spelling, spelling_of}
-use Rattle.naga_info.proofs.Options.{map_some, then_some, same_some}
+use Rattle.naga_info.proofs.Options.{map_some, then_some}
 use Rattle.accepted_modules.proofs.Accepting.{scalar_types_word_at, function_fits_expressions, function_fits_word_at}
 use Rattle.wgsl_words.specs.Words.{scalar_word_of, space_word, space_access_word}
 use Rattle.name_keys.specs.Keys.{NameMap}
@@ -132,7 +132,7 @@ module _ (types : List Type_) where
         let k = then_some (λ k. resolution_tree (names_of types names) k.ty) (slice_get es h) tree is in
         let w = known h k.0 k.1 in
         let has = resolution_has_form k.0.ty w.0 w.1 in
-        subst IsType (same_some has.tree tree (sym (has.is names) ∙ k.2)) has.form
+        subst IsType (same_Some has.tree tree (sym (has.is names) ∙ k.2)) has.form
     told_is names false es known h tree is = absurd (cc)
 
 -- what is known of an expression of a function that fits spells its type

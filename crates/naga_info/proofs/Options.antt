@@ -9,7 +9,3 @@ then_some f (Some a) b is = (a, refl, is)
 pub map_some : {A B : Type 0} (f : A → B) (o : Option A) (b : B) → option_map f o ≡ Some b → (a : A) × (o ≡ Some a) × (f a ≡ b)
 map_some f None b is = absurd cc
 map_some f (Some a) b is = (a, refl, cc)
-
--- what is there is one value
-pub same_some : {A : Type 0} (a b : A) → Some a ≡ Some b → a ≡ b
-same_some a b is = cc

@@ -1,5 +1,6 @@
 -- Where the expressions of a function stand at a point of its text, as the code keeps it.
-use Rattle.std.specs.Prelude.{ℕ, Bool, true, false, List, Option, Some, None, nat_lt, slice_get, get_or, ◌||◌}
+use Rattle.std.specs.Prelude.{ℕ, Bool, true, false, List, Option, Some, None, nat_lt, slice_get}
+use Rattle.std.specs.Prelude.{get_or, ◌||◌}
 use Rattle.std.specs.Option.{option_map}
 use Rattle.naga_ir.specs.declared.expression.Expression as ir
 use Rattle.naga_ir.specs.declared.expression.Expression.TheVariants.{LocalVariable}
@@ -8,7 +9,8 @@ use Rattle.shader_runs.specs.Scope as runs
 use Rattle.naga_form.specs.Names.{numbered_name}
 use Rattle.naga_form.specs.Shapes.{expression_shape}
 use Rattle.naga_scope.specs.declared.points.Standing.{Standing}
-use Rattle.naga_scope.specs.declared.points.Standing.TheVariants.{Absent, Barred, Everywhere, Inline, Named}
+use Rattle.naga_scope.specs.declared.points.Standing.TheVariants.{Absent, Barred, Everywhere}
+use Rattle.naga_scope.specs.declared.points.Standing.TheVariants.{Inline, Named}
 
 -- what a cell says of a handle that has this name where it is bound
 abbrev pub standing_of : List ℕ → Standing → runs.Standing
@@ -18,7 +20,8 @@ standing_of name Everywhere = runs.Everywhere
 standing_of name Inline = runs.Inline
 standing_of name Named = runs.Named name
 
--- what a table of one cell for each expression says of each handle; one past the table's end is absent
+-- what a table of one cell for each expression says of each handle; one past the table's end is
+-- absent
 abbrev pub handles_of : List Standing → runs.Handles
 handles_of table h = standing_of (numbered_name h) (get_or table h Absent)
 
@@ -33,7 +36,8 @@ is_everywhere _ = false
 
 -- a literal, or what the table says is in scope everywhere
 abbrev pub is_constant_by : List Standing → List ir.Expression → ℕ → Bool
-is_constant_by table es h = runs.is_constant_leaf (shape_at es h) || is_everywhere (get_or table h Absent)
+is_constant_by table es h =
+    runs.is_constant_leaf (shape_at es h) || is_everywhere (get_or table h Absent)
 
 -- an expression is no local, or one before this local
 abbrev pub names_earlier : ℕ → Option ir.Expression → Bool

@@ -1,5 +1,6 @@
 -- Why a module is refused, each reason with what it says.
-use Rattle.std.specs.Prelude.{◌≡◌, ⊤, ℕ, List, ◌⊎◌, codes, string_bytes, IsTrue, IsFalse, Result, Ok, Err}
+use Rattle.std.specs.Prelude.{◌≡◌, ⊤, ℕ, List, ◌⊎◌, codes, string_bytes, IsTrue, IsFalse, Result}
+use Rattle.std.specs.Prelude.{Ok, Err}
 use Rattle.naga_ir.specs.declared.module.Module.{Module}
 use Rattle.accepted_modules.specs.Part.{is_written_so_far}
 use Rattle.naga_info.specs.declared.info.ModuleInfo.{ModuleInfo}
@@ -12,9 +13,11 @@ use Rattle.naga_form.specs.Names.{wgsl_names, HasNamesOf, NamesAreCounted}
 use Rattle.naga_form.specs.Premises.{ScopesHold}
 use Rattle.wgsl_pieces.specs.Errors.{IsCustom, IsSinkWant}
 use Rattle.wgsl_pieces.specs.declared.error.Error.{Error}
-use Rattle.wgsl_pieces.specs.declared.error.Error.TheVariants.{FmtError, Custom, Unimplemented, Memory}
+use Rattle.wgsl_pieces.specs.declared.error.Error.TheVariants.{FmtError, Custom, Unimplemented}
+use Rattle.wgsl_pieces.specs.declared.error.Error.TheVariants.{Memory}
 
--- the names of some items of the module can't be told: so many of them have one base, or the key of one is out of range
+-- the names of some items of the module can't be told: so many of them have one base, or the key of
+-- one is out of range
 abbrev pub NamerIsFull : Module → Type 0
 NamerIsFull m = SomeNameIsFull wgsl_names (labelled_items wgsl_names m)
 
@@ -23,7 +26,9 @@ KeyIsOutOfRange m = SomeKeyIsFull (labelled_items wgsl_names m)
 
 -- what a `Custom` error says of names, and that it is so
 abbrev pub IsToldOf : Module → (message : List ℕ) → Type 0
-IsToldOf m message = ((message ≡ codes "namer is full") × NamerIsFull m) ⊎ ((message ≡ codes "name key out of range") × KeyIsOutOfRange m)
+IsToldOf m message =
+    ((message ≡ codes "namer is full") × NamerIsFull m)
+    ⊎ ((message ≡ codes "name key out of range") × KeyIsOutOfRange m)
 
 -- why the items of a module get no names
 abbrev pub IsNamesRefusal : Module → Error → Type 0
@@ -48,8 +53,10 @@ IsOutOfScope m info message = (message ≡ codes "operand out of scope") × (Sco
 abbrev pub IsRefusal : Module → ModuleInfo → (before now : ℕ) → Error → Type 0
 IsRefusal m info before now (FmtError e) = IsSinkWant before now e
 IsRefusal m info before now (Memory e) = ⊤
-IsRefusal m info before now (Custom message) = IsToldOf m (string_bytes message) ⊎ IsOutOfScope m info (string_bytes message)
-IsRefusal m info before now (Unimplemented message) = (string_bytes message ≡ codes "not yet written") × IsFalse (is_written_so_far m)
+IsRefusal m info before now (Custom message) =
+    IsToldOf m (string_bytes message) ⊎ IsOutOfScope m info (string_bytes message)
+IsRefusal m info before now (Unimplemented message) =
+    (string_bytes message ≡ codes "not yet written") × IsFalse (is_written_so_far m)
 IsRefusal m info before now _ = ⊥
 
 -- the error tells of the module, and not of memory or of the sink

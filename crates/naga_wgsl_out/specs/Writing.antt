@@ -23,4 +23,7 @@ written_text m info flags = layout (written_program m info (tells_types flags))
 -- the functions' texts, an empty line behind each
 abbrev pub lines_of : Module → ModuleInfo → WriterFlags → List (ℕ × Function) → List ℕ
 lines_of m info flags functions =
-    flat_map (λ p. text (function_pieces (function_form (tells_types flags) (module_names m) m.types p.0 p.1 (known_of info p.0))) ++ codes "\n") functions
+    flat_map (λ p.
+    let known = known_of info p.0 in
+    let form = function_form (tells_types flags) (module_names m) m.types p.0 p.1 known in
+    text (function_pieces form) ++ codes "\n") functions

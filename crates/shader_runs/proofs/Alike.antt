@@ -1,9 +1,9 @@
 -- Two runs that make the same events and stand in a relation wherever they pause.
-use Rattle.std.proofs.Common.{◌≡◌, ℕ, zero, suc, ℤ, Bool, true, false, List, Option, Some, None, refl, sym, subst}
-use Rattle.shader_runs.specs.Value.{Place, Value, Truth, Whole, Pointer, Opaque}
+use Rattle.std.proofs.Common.{◌≡◌, ℕ, zero, suc, Bool, true, false, List, Option, Some, None, refl, sym, subst, cond, option_map, option_and_then}
+use Rattle.shader_runs.specs.Value.{Place, Value, truth_in, place_in}
 use Rattle.shader_runs.specs.World.{Event}
-use Rattle.shader_runs.specs.Outcome.{Stop, Stuck, Mistyped, Outcome, Done, Continued, Broke, Returned, Stopped, Reached, Gives, Halts, answer, Next, and_then, and_continue, within, and_again, turns, after_switch, closed, chosen, with_integer}
-use Rattle.shader_runs.specs.ProgramRun.{if_typed, with_used, with_pointer}
+use Rattle.shader_runs.specs.Outcome.{Stop, Mistyped, Outcome, Done, Continued, Broke, Returned, Stopped, Reached, Gives, Halts, answer, Next, and_then, and_continue, within, and_again, turns, after_switch, closed, chosen, or_stuck, reach}
+use Rattle.shader_runs.specs.ProgramRun.{if_typed, with_pointer}
 use Rattle.shader_runs.specs.TextRun.{Denoted, IsPlace, with_value, with_place}
 
 abbrev pub HoldsOf : {A : Type 0} → (A → Type 0) → Reached A → Type 0
@@ -81,12 +81,17 @@ closed_alike t p q b (returned_alike r) = returned_alike r
 closed_alike t p q b stopped = stopped
 closed_alike t p q b mistyped = mistyped
 
+-- both go on alike with what is there
+pub there_alike : {A S T : Type 0} {R : Option Value → Type 0} {P Q B : S → T → Type 0} (o : Option A) (e : List Event) (f : A → Outcome S) (g : A → Outcome T) → ((a : A) → Alike R P Q B (f a) (g a)) → Alike R P Q B (or_stuck o e f) (or_stuck o e g)
+there_alike None e f g h = stopped
+there_alike (Some a) e f g h = h a
+
 pub chosen_alike : {S T : Type 0} {R : Option Value → Type 0} {P Q B : S → T → Type 0} {a b : Outcome S} {a' b' : Outcome T} → (v : Value) (e : List Event) → Alike R P Q B a a' → Alike R P Q B b b' → Alike R P Q B (chosen v e a b) (chosen v e a' b')
-chosen_alike (Truth true) e h k = h
-chosen_alike (Truth false) e h k = k
-chosen_alike (Whole spelling z) e h k = stopped
-chosen_alike (Opaque spelling payload) e h k = stopped
-chosen_alike (Pointer p) e h k = stopped
+chosen_alike {R = R} {P = P} {Q = Q} {B = B} {a = a} {b = b} {a' = a'} {b' = b'} v e h k = there_alike (truth_in v) e _ _ go
+  where
+    go : (y : Bool) → Alike R P Q B (cond y a b) (cond y a' b')
+    go true = h
+    go false = k
 
 -- a `break` ends a switch
 pub switch_alike : {S T : Type 0} {R : Option Value → Type 0} {P Q B' : S → T → Type 0} {o : Outcome S} {o' : Outcome T} → Alike R P Q P o o' → Alike R P Q B' (after_switch o) (after_switch o')
@@ -96,12 +101,6 @@ switch_alike (broke h) = done h
 switch_alike (returned_alike r) = returned_alike r
 switch_alike stopped = stopped
 switch_alike mistyped = mistyped
-
-pub integer_alike : {S T : Type 0} {R : Option Value → Type 0} {P Q B : S → T → Type 0} (v : Value) (e : List Event) (f : ℤ → Outcome S) (g : ℤ → Outcome T) → ((z : ℤ) → Alike R P Q B (f z) (g z)) → Alike R P Q B (with_integer v e f) (with_integer v e g)
-integer_alike (Whole spelling z) e f g h = h z
-integer_alike (Truth b) e f g h = stopped
-integer_alike (Pointer p) e f g h = stopped
-integer_alike (Opaque spelling payload) e f g h = stopped
 
 pub alike_answers : {S T : Type 0} {R : Option Value → Type 0} {P Q B : S → T → Type 0} {o : Outcome S} {o' : Outcome T} → R None → Alike R P Q B o o' → Answers R (answer o) (answer o')
 alike_answers n (done h) = same_answer n
@@ -117,34 +116,23 @@ typed_alike true t o f h = h refl
 typed_alike false t o f h = mistyped
 
 -- what an evaluation without events gives
-abbrev pub reached : Option Value → List Event → Reached Value
-reached None t = Halts Stuck t
-reached (Some v) t = Gives v t
-
 abbrev pub placed : Option Value → List Event → Reached Denoted
-placed None t = Halts Stuck t
-placed (Some (Pointer p)) t = Gives (IsPlace p) t
-placed (Some (Truth b)) t = Halts Stuck t
-placed (Some (Whole spelling z)) t = Halts Stuck t
-placed (Some (Opaque spelling payload)) t = Halts Stuck t
+placed o t = reach (option_map IsPlace (option_and_then place_in o)) t
 
-used_alike_at : {S T : Type 0} {R : Option Value → Type 0} {P Q B : S → T → Type 0} (f : Value → Outcome S) (g : Value → List Event → Outcome T) (o : Option Value) (t : List Event) → ((v : Value) → Alike R P Q B (f v) (g v t)) → Alike R P Q B (with_used o t f) (with_value (reached o t) g)
+used_alike_at : {S T : Type 0} {R : Option Value → Type 0} {P Q B : S → T → Type 0} (f : Value → Outcome S) (g : Value → List Event → Outcome T) (o : Option Value) (t : List Event) → ((v : Value) → Alike R P Q B (f v) (g v t)) → Alike R P Q B (or_stuck o t f) (with_value (reach o t) g)
 used_alike_at f g None t h = stopped
 used_alike_at f g (Some v) t h = h v
 
 -- the same value on both sides
-pub used_alike : {S T : Type 0} {R : Option Value → Type 0} {P Q B : S → T → Type 0} (f : Value → Outcome S) (g : Value → List Event → Outcome T) (o : Option Value) (t : List Event) (r : Reached Value) → r ≡ reached o t → ((v : Value) → Alike R P Q B (f v) (g v t)) → Alike R P Q B (with_used o t f) (with_value r g)
+pub used_alike : {S T : Type 0} {R : Option Value → Type 0} {P Q B : S → T → Type 0} (f : Value → Outcome S) (g : Value → List Event → Outcome T) (o : Option Value) (t : List Event) (r : Reached Value) → r ≡ reach o t → ((v : Value) → Alike R P Q B (f v) (g v t)) → Alike R P Q B (or_stuck o t f) (with_value r g)
 used_alike {R = R} {P = P} {Q = Q} {B = B} f g o t r e h =
-    subst (λ r. Alike R P Q B (with_used o t f) (with_value r g)) (sym e) (used_alike_at f g o t h)
+    subst (λ r. Alike R P Q B (or_stuck o t f) (with_value r g)) (sym e) (used_alike_at f g o t h)
 
-pointer_alike_at : {S T : Type 0} {R : Option Value → Type 0} {P Q B : S → T → Type 0} (f : Place → Outcome S) (g : Place → List Event → Outcome T) (o : Option Value) (t : List Event) → ((p : Place) → Alike R P Q B (f p) (g p t)) → Alike R P Q B (with_pointer o t f) (with_place (placed o t) g)
+pointer_alike_at : {S T : Type 0} {R : Option Value → Type 0} {P Q B : S → T → Type 0} (f : Place → Outcome S) (g : Place → List Event → Outcome T) (o : Option Place) (t : List Event) → ((p : Place) → Alike R P Q B (f p) (g p t)) → Alike R P Q B (or_stuck o t f) (with_place (reach (option_map IsPlace o) t) g)
 pointer_alike_at f g None t h = stopped
-pointer_alike_at f g (Some (Pointer p)) t h = h p
-pointer_alike_at f g (Some (Truth b)) t h = stopped
-pointer_alike_at f g (Some (Whole spelling z)) t h = stopped
-pointer_alike_at f g (Some (Opaque spelling payload)) t h = stopped
+pointer_alike_at f g (Some p) t h = h p
 
 -- the same place on both sides
 pub pointer_alike : {S T : Type 0} {R : Option Value → Type 0} {P Q B : S → T → Type 0} (f : Place → Outcome S) (g : Place → List Event → Outcome T) (o : Option Value) (t : List Event) (r : Reached Denoted) → r ≡ placed o t → ((p : Place) → Alike R P Q B (f p) (g p t)) → Alike R P Q B (with_pointer o t f) (with_place r g)
 pointer_alike {R = R} {P = P} {Q = Q} {B = B} f g o t r e h =
-    subst (λ r. Alike R P Q B (with_pointer o t f) (with_place r g)) (sym e) (pointer_alike_at f g o t h)
+    subst (λ r. Alike R P Q B (with_pointer o t f) (with_place r g)) (sym e) (pointer_alike_at f g (option_and_then place_in o) t h)

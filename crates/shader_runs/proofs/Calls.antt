@@ -2,21 +2,22 @@
 use Rattle.std.proofs.Common.{◌≡◌, ◌≢◌, ℕ, suc, ◌+◌, ◌<◌, ◌≤◌, min, Bool, true, false, cond, nat_eq, List, [], ◌∷◌, take, length, Option, Some, None, slice_get, refl, sym, ap, ◌∙◌, subst, add-zero, zero-add, arith, eqb-true, map}
 use Rattle.std.proofs.Math.Nat.{min-le_right}
 use Rattle.std.proofs.lemmas.List.{length-take, length-take-le}
-use Rattle.std.proofs.lemmas.Option.{slice_get_within}
+use Rattle.std.proofs.lemmas.Option.{slice_get_within, none-some, same_Some}
 use Rattle.std.proofs.lemmas.Bool.{eqb-false}
 use Rattle.std.specs.Prelude.{IsTrue}
 use Rattle.shader_runs.specs.Value.{Bytes, same_bytes, PartTypes, ValueType, has_types, Value}
 use Rattle.shader_runs.specs.World.{Event, Entry, entries, World, Meaning, Environment, bind, Settings}
-use Rattle.shader_runs.specs.Outcome.{Stuck, Reached, Gives, Halts, answer}
+use Rattle.shader_runs.specs.Outcome.{Stuck, Reached, Gives, Halts, answer, reach}
 use Rattle.shader_runs.specs.Program.{ConstantTree, Fixed, NamedConstant, Constructed, ConstantTrees, no_constant, constant, Expression, Constant, Operator, Request, Function, argument_count, local_count, function_numbered, expression_of, handle_type, operands_of, from, Statement, Emit, Store, Block, If, Switch, Loop, Break, Continue, Return, Kill, Barrier, Act, Statements, end, then, Cases, no_case, case, Module, any_continue}
 use Rattle.shader_runs.specs.ProgramRun.{Call, Kept, constants_kept, called, used, wrapped, with_first, first_used, first_used_all, entered, run_all, run_body, run_call}
 use Rattle.shader_runs.specs.TextRun.{Scope, Words, WordUse, NamesFunction, AsksForEvent, Operates, value_of, with_parameters, with_variables, with_globals, no_names, respond_by_use, word_use, put_first, first_followed, first_then, first_of_each, entered_by, follow_all, follow_body, follow_call}
 use Rattle.shader_runs.specs.Scope.{ModuleNames, Naming, usable, usable_if, given_after, given_after_all, given_by, given_by_all, given_by_cases, at_start, before_local, first_values_fit, fits_all, after_all}
 use Rattle.shader_runs.specs.Form.{names_from, variables_from, globals_from, value_at, value_if, form_all, form_function, form_functions, form_module, functions_of}
+use Rattle.shader_runs.specs.Points.{call_of as a_call}
 use Rattle.shader_runs.specs.Premises.{FixedName, ArgumentName, LocalName, ConstantName, GlobalName, NameKey, FixedKey, NumberedKey, GivenKey, fixed_name, IsFixedName, IsName, StandsFree, ConstantWords, ConstantsWords, WordFits, AllBelow, LeafFits, AreDistinct, FunctionFits, AllFit, EnvironmentFits, IsTypedIn, AllTypedIn, SettingsFit, IsTyped}
 use Rattle.shader_runs.specs.Correct.{KeepsTypes, RunsAlike, ModuleFits}
 use Rattle.shader_runs.specs.Constants.{environment_of, module_scope}
-use Rattle.shader_runs.proofs.Alike.{Answers, same_answer, mistyped_answer, alike_answers, reached}
+use Rattle.shader_runs.proofs.Alike.{Answers, same_answer, mistyped_answer, alike_answers}
 use Rattle.shader_runs.proofs.Update.{and_left, and_right, same_bytes_equal, same_bytes_apart, has_types_length}
 use Rattle.shader_runs.proofs.Relation.{Returns, global_as, IsHere, NoName, fixed_denoted, Related}
 use Rattle.shader_runs.proofs.Evaluation.{words, Respond, Responds}
@@ -41,10 +42,7 @@ called_alike R a true x x' t e h = subst (λ a. Answers R x (called a x' t)) (sy
 called_alike R a false x x' t e h = subst (λ a. Answers R (called false x t) (called a x' t)) (sym e) (same_answer tt)
 
 numbered_within : (fs : List Function) (g : ℕ) (f : Function) → function_numbered fs g ≡ Some f → g < length fs
-numbered_within [] g f e = absurd (nothing e)
-  where
-    nothing : None ≡ Some f → ⊥
-    nothing e = cc
+numbered_within [] g f e = absurd (none-some f e)
 numbered_within (k ∷ fs) g f e = go (nat_eq g (length fs)) refl e (numbered_within fs g f)
   where
     go : (b : Bool) → nat_eq g (length fs) ≡ b → cond b (Some k) (function_numbered fs g) ≡ Some f → (function_numbered fs g ≡ Some f → g < length fs) → g < suc (length fs)
@@ -54,9 +52,6 @@ numbered_within (k ∷ fs) g f e = go (nat_eq g (length fs)) refl e (numbered_wi
     go false q e rest =
         let less : g < length fs = rest e in
         omega arith
-
-same_function : (f k : Function) → Some f ≡ Some k → f ≡ k
-same_function f k e = cc
 
 same_test : (a b : Bytes) (c d : ℕ) → (a ≡ b → c ≡ d) → (c ≡ d → a ≡ b) → same_bytes a b ≡ nat_eq c d
 same_test a b c d f g = go (nat_eq c d) refl
@@ -74,7 +69,7 @@ put_reached : (o : Option (List (Option Value))) (t : List Event) → put_first 
 put_reached None t = refl
 put_reached (Some firsts) t = refl
 
-followed_firsts : (o : Option Value) (os : Option (List (Option Value))) (t : List Event) (rest : List Event → Reached (List (Option Value))) → ((t : List Event) → rest t ≡ reached_firsts os t) → first_followed (reached o t) rest ≡ reached_firsts (with_first (wrapped o) os) t
+followed_firsts : (o : Option Value) (os : Option (List (Option Value))) (t : List Event) (rest : List Event → Reached (List (Option Value))) → ((t : List Event) → rest t ≡ reached_firsts os t) → first_followed (reach o t) rest ≡ reached_firsts (with_first (wrapped o) os) t
 followed_firsts None os t rest h = refl
 followed_firsts (Some v) None t rest h = ap (put_first (Some v)) (h t)
 followed_firsts (Some v) (Some firsts) t rest h = ap (put_first (Some v)) (h t)
@@ -200,17 +195,7 @@ pub record UsesFit (p : Module) (n : ModuleNames) (uses : Bytes → WordUse) : T
 
 module _ (p : Module) (n : ModuleNames) (uses : Bytes → WordUse) (uses_fit : UsesFit p n uses) (env : Environment) (environment : EnvironmentFits p env) (w : World) (m : Meaning) (bound : ℕ) where
   abbrev call_of : List Naming → Naming → List Value → List Event → Call
-  call_of fs f vs t =
-      record {
-        function = f.function;
-        callees = functions_of fs;
-        environment = env;
-        world = w;
-        meaning = m;
-        arguments = vs;
-        frame = entries t;
-        calls = run_call env w m bound (functions_of fs);
-      }
+  call_of fs f vs t = a_call env w m bound f fs vs t
 
   -- the names of the module
   abbrev outer_of : ModuleNames → Scope
@@ -363,7 +348,7 @@ module _ (p : Module) (n : ModuleNames) (uses : Bytes → WordUse) (uses_fit : U
         }
 
     -- a handle at the start
-    pub first_value_here : IsTrue (has_types env.parts f.function.argument_types vs) → length vs ≡ argument_count f.function → (h : ℕ) → IsTrue (usable f.function (at_start f.function) h) → (t1 : List Event) → value_of (words (call_of fs f vs t) (responses fs)) (value_at f (at_start f.function) h) (first_names n f vs t) t1 ≡ reached (used (call_of fs f vs t) (constants_kept f.function env m) h) t1
+    pub first_value_here : IsTrue (has_types env.parts f.function.argument_types vs) → length vs ≡ argument_count f.function → (h : ℕ) → IsTrue (usable f.function (at_start f.function) h) → (t1 : List Event) → value_of (words (call_of fs f vs t) (responses fs)) (value_at f (at_start f.function) h) (first_names n f vs t) t1 ≡ reach (used (call_of fs f vs t) (constants_kept f.function env m) h) t1
     first_value_here k e h u t1 =
         value_here p (call_of fs f vs t) f.names (responses fs) (given k) (at_start f.function) (first_names n f vs t) (constants_kept f.function env m) (starts e) h u t1
 
@@ -448,10 +433,7 @@ module _ (p : Module) (n : ModuleNames) (uses : Bytes → WordUse) (uses_fit : U
         called_alike (Returns env.parts f.function) (nat_eq (length vs) (length (names_from f.names.argument 0 (argument_count f.function)))) (nat_eq (length vs) (argument_count f.function)) _ _ t (ap (nat_eq (length vs)) count) (λ e. body_alike there (length (form_functions fs)) place (eqb-true (length vs) (argument_count f.function) e) h)
 
   pub calls_alike : (fs : List Naming) → length fs ≤ length p.functions → AllFit p n fs → AllTypedIn env.parts p m (functions_of fs) → ((g k : ℕ) → g < length fs → k < length fs → n.function g ≡ n.function k → g ≡ k) → Alike_calls fs
-  calls_alike [] within fits typed one g callee e vs h t = absurd (nothing e)
-    where
-      nothing : None ≡ Some callee → ⊥
-      nothing e = cc
+  calls_alike [] within fits typed one g callee e vs h t = absurd (none-some callee e)
   calls_alike (f ∷ fs) within fits typed one g callee e vs h t =
       let own_name = f.names.outer.function f.names.earlier in
       let place : length (functions_of fs) ≡ length fs = length-functions_of fs in
@@ -461,7 +443,7 @@ module _ (p : Module) (n : ModuleNames) (uses : Bytes → WordUse) (uses_fit : U
       let within : g < suc (length (functions_of fs)) = numbered_within (functions_of (f ∷ fs)) g callee e in
       let lt : g < suc (length fs) = subst (λ k. g < suc k) place within in
       let test = same_test (n.function g) own_name g (length (functions_of fs)) (λ e. one g (length fs) lt (omega arith) (e ∙ is_name) ∙ sym place) (λ e. ap n.function (e ∙ place) ∙ sym is_name) in
-      pick_alike (Returns env.parts callee) (same_bytes (n.function g) own_name) (nat_eq g (length (functions_of fs))) (program_call fs f vs t) (text_call fs f vs t) (run_call env w m bound (functions_of fs) g vs t) (responses fs (n.function g) vs t) test (λ q. let same : f.function ≡ callee = same_function f.function callee (ap (λ b. cond b (Some f.function) (function_numbered (functions_of fs) g)) (sym q) ∙ e) in subst (λ k. Answers (Returns env.parts k) (program_call fs f vs t) (text_call fs f vs t)) same (call_alike fs fewer fits.1 earlier f fits.0 typed.0 vs t (subst (λ k. IsTrue (has_types env.parts k.argument_types vs)) (sym same) h))) (λ q. earlier g callee (ap (λ b. cond b (Some f.function) (function_numbered (functions_of fs) g)) (sym q) ∙ e) vs h t)
+      pick_alike (Returns env.parts callee) (same_bytes (n.function g) own_name) (nat_eq g (length (functions_of fs))) (program_call fs f vs t) (text_call fs f vs t) (run_call env w m bound (functions_of fs) g vs t) (responses fs (n.function g) vs t) test (λ q. let same : f.function ≡ callee = same_Some f.function callee (ap (λ b. cond b (Some f.function) (function_numbered (functions_of fs) g)) (sym q) ∙ e) in subst (λ k. Answers (Returns env.parts k) (program_call fs f vs t) (text_call fs f vs t)) same (call_alike fs fewer fits.1 earlier f fits.0 typed.0 vs t (subst (λ k. IsTrue (has_types env.parts k.argument_types vs)) (sym same) h))) (λ q. earlier g callee (ap (λ b. cond b (Some f.function) (function_numbered (functions_of fs) g)) (sym q) ∙ e) vs h t)
 
 answers_same : {A : Type 0} (R : A → Type 0) (q q' : Reached A) → KeepsTypes q → Answers R q q' → q' ≡ q
 answers_same R q q' k (same_answer h) = refl

@@ -3,8 +3,8 @@ use Rattle.std.proofs.Common.{◌≡◌, ◌≢◌, ℕ, zero, suc, ◌-◌, ◌
 use Rattle.shader_runs.specs.Program.{ConstantTree}
 use Rattle.shader_runs.specs.Premises.{InitialiserFits, OperatesOutside}
 use Rattle.shader_runs.specs.ConstantRows.{pair_word, pair_module, pair_names, ConstantRowsHold}
-use Rattle.shader_runs.proofs.Evaluation.{some_same, none_some}
 use Rattle.shader_runs.proofs.Rows.{heads}
+use Rattle.std.proofs.lemmas.Option.{none-some, same_Some}
 
 -- one letter is another
 letters : (a b : ℕ) → (a ≡ b → ⊥) → a ∷ [] ≡ b ∷ [] → ⊥
@@ -41,10 +41,10 @@ free =
 
 initialisers : (i : ℕ) (e : ConstantTree) → slice_get pair_module.initialisers i ≡ Some e → InitialiserFits pair_module pair_names (λ i. 1 - i) i e
 initialisers zero e q =
-    subst (InitialiserFits pair_module pair_names (λ i. 1 - i) 0) (some_same _ e q) (record { range = (omega arith, (omega arith, tt)); type = refl; words = (free, (tt, (tt, tt))); before = (λ lt. omega arith, (λ lt. absurd (omega (arith, lt)), tt)) })
+    subst (InitialiserFits pair_module pair_names (λ i. 1 - i) 0) (same_Some _ e q) (record { range = (omega arith, (omega arith, tt)); type = refl; words = (free, (tt, (tt, tt))); before = (λ lt. omega arith, (λ lt. absurd (omega (arith, lt)), tt)) })
 initialisers (suc zero) e q =
-    subst (InitialiserFits pair_module pair_names (λ i. 1 - i) 1) (some_same _ e q) (record { range = tt; type = refl; words = tt; before = tt })
-initialisers (suc (suc i)) e q = absurd (none_some e q)
+    subst (InitialiserFits pair_module pair_names (λ i. 1 - i) 1) (same_Some _ e q) (record { range = tt; type = refl; words = tt; before = tt })
+initialisers (suc (suc i)) e q = absurd (none-some e q)
 
 pub constant_rows_hold : ConstantRowsHold
 constant_rows_hold =

@@ -5,13 +5,14 @@ use Rattle.shader_runs.specs.Value.{Bytes, PartTypes, IntegerType, OtherType, ty
 use Rattle.shader_runs.specs.World.{Event, Meaning}
 use Rattle.shader_runs.specs.Program.{ConstantTree, Fixed, NamedConstant, Constructed, ConstantTrees, no_constant, constant, Module}
 use Rattle.shader_runs.specs.ProgramRun.{also, applied, tree_value, tree_values}
-use Rattle.shader_runs.specs.TextRun.{Words, Scope, named, valued, responded, unhidden, followed_by, as_value, evaluate, evaluate_all}
+use Rattle.shader_runs.specs.TextRun.{Words, Scope, valued, responded, followed_by, as_value, evaluate, evaluate_all}
 use Rattle.shader_runs.specs.Scope.{ModuleNames}
 use Rattle.shader_runs.specs.Form.{constant_form, constant_forms}
 use Rattle.shader_runs.specs.Premises.{EachWord, EachWordOf, EachLeaf, EachLeafOf, IsLiteral, literal_type, constant_type, constant_types_of, ConstantTyped, ConstantsTyped}
 use Rattle.shader_runs.proofs.Update.{and_both, same_type_self}
 use Rattle.shader_runs.proofs.Relation.{TypedValue, as_denoted}
-use Rattle.shader_runs.proofs.Evaluation.{denoted, valued_denoted, reached_all, followed_reached, named_denoted}
+use Rattle.shader_runs.proofs.Evaluation.{denoted, valued_denoted, followed_reached}
+use Rattle.shader_runs.specs.Outcome.{reach, unless}
 
 -- what holds of each leaf and of each named constant
 mutual
@@ -60,16 +61,16 @@ module _ (known known' : ℕ → Option Value) (m : Meaning) (P : ℕ → Type 0
     trees_same (constant e es) r = ap₂ also (tree_same e r.0) (trees_same es r.1)
 
 -- where the names of the constants stand for what is known of them, and no name hides a word, the text of a tree gives its value and makes no event
-module _ (l : Words) (names : Scope) (n : ModuleNames) (known : ℕ → Option Value) (P : ℕ → Type 0) (here : (i : ℕ) → P i → names (n.constant i) ≡ as_denoted (known i)) (Q : Bytes → Type 0) (operates : (w : Bytes) → Q w → (os : Option (List Value)) (t : List Event) → as_value (unhidden (names w) t (responded l w (reached_all os t))) ≡ denoted (applied l.meaning (Spelled w) os) t) where
+module _ (l : Words) (names : Scope) (n : ModuleNames) (known : ℕ → Option Value) (P : ℕ → Type 0) (here : (i : ℕ) → P i → names (n.constant i) ≡ as_denoted (known i)) (Q : Bytes → Type 0) (operates : (w : Bytes) → Q w → (os : Option (List Value)) (t : List Event) → as_value (unless (names w) t (responded l w (reach os t))) ≡ denoted (applied l.meaning (Spelled w) os) t) where
   mutual
     pub tree_gives : (e : ConstantTree) → EachWord Q e → EachLeaf IsLiteral P e → (t : List Event) → evaluate l (constant_form n e) names t ≡ denoted (tree_value known l.meaning e) t
     tree_gives (Fixed v) w r t = refl
-    tree_gives (NamedConstant i) w r t = ap (λ z. named z t) (here i r) ∙ named_denoted (known i) t
+    tree_gives (NamedConstant i) w r t = ap (λ z. reach z t) (here i r)
     tree_gives (Constructed word ty es) w r t =
-        ap (λ q. as_value (unhidden (names word) t (responded l word q))) (trees_give es w.1 r t)
+        ap (λ q. as_value (unless (names word) t (responded l word q))) (trees_give es w.1 r t)
         ∙ operates word w.0 (tree_values known l.meaning es) t
 
-    pub trees_give : (es : ConstantTrees) → EachWordOf Q es → EachLeafOf IsLiteral P es → (t : List Event) → evaluate_all l (constant_forms n es) names t ≡ reached_all (tree_values known l.meaning es) t
+    pub trees_give : (es : ConstantTrees) → EachWordOf Q es → EachLeafOf IsLiteral P es → (t : List Event) → evaluate_all l (constant_forms n es) names t ≡ reach (tree_values known l.meaning es) t
     trees_give no_constant w r t = refl
     trees_give (constant e es) w r t =
         let rest = evaluate_all l (constant_forms n es) names in

@@ -3,14 +3,14 @@ use Rattle.std.proofs.Common.{inl, inr, ◌≡◌, ◌≢◌, ℕ, zero, suc, �
 use Rattle.std.specs.Prelude.{IsTrue}
 use Rattle.std.specs.List.{list_any}
 use Rattle.std.proofs.lemmas.List.{length-map, length-append, drop-map}
-use Rattle.std.proofs.lemmas.Option.{slice_get_cases, slice_get_within}
+use Rattle.std.proofs.lemmas.Option.{slice_get_cases, slice_get_within, none-some, same_Some}
 use Rattle.shader_runs.specs.Value.{Bytes, same_bytes, PartTypes, ValueType, type_at, has_type, has_types, Value, Spelled}
 use Rattle.shader_runs.specs.World.{Event, World, Meaning, Settings, Environment, bind}
-use Rattle.shader_runs.specs.Outcome.{Stuck, Gives, Halts}
+use Rattle.shader_runs.specs.Outcome.{Stuck, Gives, Halts, reach, unless}
 use Rattle.shader_runs.specs.Program.{ConstantTree, Module, constant_count, override_types}
 use Rattle.shader_runs.specs.ProgramRun.{also, applied, tree_value, constant_value}
 use Rattle.shader_runs.specs.Text.{Tree, TextModule}
-use Rattle.shader_runs.specs.TextRun.{Denoted, Words, Scope, as_value, unhidden, responded, with_parameters, with_globals, no_names, names_function}
+use Rattle.shader_runs.specs.TextRun.{Denoted, Words, Scope, as_value, responded, with_parameters, with_globals, no_names, names_function}
 use Rattle.shader_runs.specs.Constants.{known, found_with, found_after, all_found, environment_of, is_declared, operate, initialised, with_constants, scope_with, initialiser_value, scope_after, module_scope}
 use Rattle.shader_runs.specs.Scope.{ModuleNames, Naming}
 use Rattle.shader_runs.specs.Form.{constant_form, names_from, globals_from, constants_from, form_functions, form_module}
@@ -18,7 +18,7 @@ use Rattle.shader_runs.specs.Premises.{OperatesOutside, EachLeaf, IsLiteral, Con
 use Rattle.shader_runs.specs.Correct.{IsSolution, ConstantsAreComputed}
 use Rattle.shader_runs.proofs.Update.{and_both, same_bytes_apart, has_types_length}
 use Rattle.shader_runs.proofs.Relation.{TypedValue, as_denoted}
-use Rattle.shader_runs.proofs.Evaluation.{denoted, reached_all, none_some, some_same}
+use Rattle.shader_runs.proofs.Evaluation.{denoted}
 use Rattle.shader_runs.proofs.ConstantTrees.{each_both, tree_typed, tree_same, tree_gives}
 use Rattle.shader_runs.proofs.Written.{has_type_at}
 use Rattle.shader_runs.proofs.Ranks.{count_below, count_rises, count_misses}
@@ -35,8 +35,8 @@ found_length value (e ∷ es) parts [] os le h = absurd (omega (arith, le))
 found_length value (e ∷ es) parts (t ∷ ts) os le h = ap suc (found_length value es parts ts os (omega (arith, le)) h)
 
 found_here : (value : ConstantTree → Option Value) (es : List ConstantTree) (os : List Value) (i : ℕ) (e : ConstantTree) → slice_get es i ≡ Some e → known (map value es ++ map Some os) i ≡ value e
-found_here value [] os i e q = absurd (none_some e q)
-found_here value (d ∷ es) os zero e q = ap value (some_same d e q)
+found_here value [] os i e q = absurd (none-some e q)
+found_here value (d ∷ es) os zero e q = ap value (same_Some d e q)
 found_here value (d ∷ es) os (suc i) e q = found_here value es os i e q
 
 override_here : (value : ConstantTree → Option Value) (es : List ConstantTree) (parts : PartTypes) (ts : List ValueType) (os : List Value) (i : ℕ) → length es ≤ i → i < length ts → IsTrue (has_types parts (drop (length es) ts) os) → TypedValue parts (type_at ts i) (known (map value es ++ map Some os) i)
@@ -63,9 +63,9 @@ all_there parts (t ∷ ts) (o ∷ os) e each =
 -- lists with the same elements are the same
 same_elements : {X : Type 0} (xs ys : List X) → ((i : ℕ) → slice_get xs i ≡ slice_get ys i) → xs ≡ ys
 same_elements [] [] each = refl
-same_elements [] (y ∷ ys) each = absurd (none_some y (each zero))
-same_elements (x ∷ xs) [] each = absurd (none_some x (sym (each zero)))
-same_elements (x ∷ xs) (y ∷ ys) each = ap₂ ◌∷◌ (some_same x y (each zero)) (same_elements xs ys (λ i. each (suc i)))
+same_elements [] (y ∷ ys) each = absurd (none-some y (each zero))
+same_elements (x ∷ xs) [] each = absurd (none-some x (sym (each zero)))
+same_elements (x ∷ xs) (y ∷ ys) each = ap₂ ◌∷◌ (same_Some x y (each zero)) (same_elements xs ys (λ i. each (suc i)))
 
 slice_get_drop : {X : Type 0} (n : ℕ) (xs : List X) (i : ℕ) → slice_get (drop n xs) i ≡ slice_get xs (n + i)
 slice_get_drop zero xs i = let same : i ≡ 0 + i = omega arith in ap (slice_get xs) same
@@ -91,7 +91,7 @@ all_found_some (v ∷ vs) = ap (also (Some v)) (all_found_some vs)
 -- behind the constants stand the overrides
 values_behind : (value : ConstantTree → Option Value) (es : List ConstantTree) (os vs : List Value) → map Some vs ≡ map value es ++ map Some os → drop (length es) vs ≡ os
 values_behind value es os vs e =
-    some_same (drop (length es) vs) os (sym (all_found_some (drop (length es) vs)) ∙ ap all_found (sym (drop-map Some (length es) vs) ∙ ap (drop (length es)) e ∙ behind es) ∙ all_found_some os)
+    same_Some (drop (length es) vs) os (sym (all_found_some (drop (length es) vs)) ∙ ap all_found (sym (drop-map Some (length es) vs) ∙ ap (drop (length es)) e ∙ behind es) ∙ all_found_some os)
   where
     behind : (es : List ConstantTree) → drop (length es) (map value es ++ map Some os) ≡ map Some os
     behind [] = refl
@@ -299,14 +299,14 @@ module _ (p : Module) (n : ModuleNames) (fits : ConstantsFit p n) (s : Settings)
           ap (λ b. b || names_function (form_functions fs) word) (no_constant_called n word p.initialisers 0 (λ i le lt e. let counted = fits.counted in o.constants i (omega (arith, lt, counted)) e))
           ∙ no_name_among p n fs within all word o.functions
 
-      operates : (word : Bytes) → OperatesOutside p n word → (os : Option (List Value)) (t : List Event) → as_value (unhidden (here word) t (responded l word (reached_all os t))) ≡ denoted (applied m (Spelled word) os) t
+      operates : (word : Bytes) → OperatesOutside p n word → (os : Option (List Value)) (t : List Event) → as_value (unless (here word) t (responded l word (reach os t))) ≡ denoted (applied m (Spelled word) os) t
       operates word o os t =
-          ap (λ d. as_value (unhidden d t (responded l word (reached_all os t)))) (free word o) ∙ given os
+          ap (λ d. as_value (unless d t (responded l word (reach os t)))) (free word o) ∙ given os
         where
           tests : (is_declared text word || n.is_request word) ≡ false
           tests = ap (λ b. b || n.is_request word) (undeclared word o) ∙ o.asks_nothing
 
-          given : (os : Option (List Value)) → as_value (responded l word (reached_all os t)) ≡ denoted (applied m (Spelled word) os) t
+          given : (os : Option (List Value)) → as_value (responded l word (reach os t)) ≡ denoted (applied m (Spelled word) os) t
           given None = refl
           given (Some vs) = ap (λ b. as_value (cond b (Halts Stuck t) (Gives (Some (m (Spelled word) vs)) t))) tests
 

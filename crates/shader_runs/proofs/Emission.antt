@@ -1,22 +1,23 @@
 -- An `Emit` and the lines that are written for it.
-use Rattle.std.proofs.Common.{◌≡◌, ◌≢◌, ℕ, Bool, true, false, cond, nat_eq, List, [], ◌∷◌, Option, Some, None, refl, sym, ap, ◌∙◌, subst, true≢false, eqb-true}
+use Rattle.std.proofs.Common.{◌≡◌, ◌≢◌, ℕ, Bool, true, false, cond, nat_eq, List, [], ◌∷◌, Option, Some, None, refl, sym, ap, ◌∙◌, subst, true≢false, eqb-true, option_map}
 use Rattle.std.specs.Prelude.{IsTrue}
-use Rattle.shader_runs.specs.Value.{Bytes, PartTypes, ValueType, has_type, Value, Truth, Whole, Pointer, Opaque}
+use Rattle.shader_runs.specs.Value.{Bytes, PartTypes, ValueType, has_type, Value, place_in, Place}
 use Rattle.shader_runs.specs.World.{Event, Ask, Read, update, bind}
-use Rattle.shader_runs.specs.Outcome.{Outcome, Done, Next, and_then, Continued, Broke, Returned, Stopped, Reached, Gives}
+use Rattle.shader_runs.specs.Outcome.{Outcome, Done, Next, and_then, Continued, Broke, Returned, Stopped, Reached, Gives, or_stuck, reach, unless}
 use Rattle.shader_runs.specs.Program.{Expression, Constant, Argument, Local, Global, Load, Operator, Access, AccessIndex, Logical, Swizzle, Request, Asking, ConstantTrees, expression_of, handle_type, operands_of, is_counted, is_asked, binds, binds_as, greatest_count, Module}
-use Rattle.shader_runs.specs.ProgramRun.{Call, Kept, used_as, constant_values, used, used_all, joined, combined, computed, loaded, asked, if_counted, emit_as, emit}
+use Rattle.shader_runs.specs.ProgramRun.{Call, Kept, used_as, constant_values, used, used_all, joined, combined, computed, loaded, asked, if_counted, emit_as, emit, keep_typed}
 use Rattle.shader_runs.specs.Text.{Apply, Lines}
-use Rattle.shader_runs.specs.TextRun.{Denoted, IsValue, Scope, valued, as_value, responded, unhidden, evaluate_all, value_of, with_value, follow_all}
+use Rattle.shader_runs.specs.TextRun.{Denoted, IsValue, Scope, valued, as_value, responded, evaluate_all, value_of, with_value, follow_all, IsPlace}
 use Rattle.shader_runs.specs.Scope.{Standing, Absent, Barred, Everywhere, is_present, is_new, Inline, Named, Handles, Names, bound_name, is_pure, is_emittable, usable, usable_all, unbound, emitted, after_one, given_after, after_emit}
 use Rattle.shader_runs.specs.Form.{value_form, place_form, value_forms_then, constant_forms, own_form, written, let_if, lets}
 use Rattle.shader_runs.specs.Premises.{FixedName, fixed_name, WordFits, LeafFits, LeafTyped, ConstantsInRange, ConstantsTyped}
-use Rattle.shader_runs.proofs.Alike.{Alike, stopped, typed_alike, reached, placed}
+use Rattle.shader_runs.proofs.Alike.{Alike, stopped, typed_alike, placed}
 use Rattle.shader_runs.proofs.Update.{and_left, update_cases, bind_same, bind_other}
 use Rattle.shader_runs.proofs.Relation.{TypedValue, as_denoted, IsHere, NoName, Stands, Related, Extends, Agree, extends_refl, agree_refl, extends_trans, agree_trans, computed_agree, usable_all_more, KeepsName, keeps_all, stands_on, related_agree}
-use Rattle.shader_runs.proofs.Evaluation.{naming, words, Respond, value_form_gives, request_responds, reached_all}
+use Rattle.shader_runs.proofs.Evaluation.{naming, words, Respond, value_form_gives, request_responds}
 use Rattle.shader_runs.proofs.Written.{Given, free, request_forms_give, request_values, no_value, unwritten, typed_value, operator_typed, operator_there, place_here, all_here}
 use Rattle.shader_runs.proofs.Checked.{IsFresh, MayBind, MayEmitAll}
+use Rattle.std.proofs.lemmas.Option.{none-some}
 
 pub extends_update : (s : Handles) (h : ℕ) (st : Standing) → (IsTrue (is_present (s h)) → IsTrue (is_present st)) → Extends s (update s h st)
 extends_update s h st i k p =
@@ -129,17 +130,15 @@ value_only parts k o v = (v.0, v.1)
 
 module _ (p : Module) (c : Call) (n : Names) (d : Respond) (given : Given p c n d) (R : Option Value → Type 0) (P Q B : Kept → Scope → Type 0) (bound : ℕ) (f : Next Kept) (tail : Lines) where
   module _ (s : Handles) (names : Scope) (kept : Kept) (r : Related c n s names kept) (h : ℕ) (x : Bytes) (a : IsTrue (is_new (s h))) (i : (o : Option Value) → used_as c (expression_of c.function h) o ≡ o) (t : List Event) where
-    load_at : (IsTrue (is_present (s h)) → ⊥) → IsFresh c n s x → GoesOn c n R P Q B s kept (update s h (Named x)) f (follow_all (words c d) bound tail) → (o : Option Value) → (v : Value) × (o ≡ Some v) → Alike R P Q B (and_then (loaded c.environment.parts (handle_type c.function h) c.world h o kept t) f) (bound_next (valued c.world (placed o t)) x names (follow_all (words c d) bound tail))
-    load_at none fresh next None v = absurd (not_none v.0 v.1)
-      where
-        not_none : (v : Value) → None ≡ Some v → ⊥
-        not_none v e = cc
-    load_at none fresh next (Some (Pointer q)) v =
+    load_place : (IsTrue (is_present (s h)) → ⊥) → IsFresh c n s x → GoesOn c n R P Q B s kept (update s h (Named x)) f (follow_all (words c d) bound tail) → (o : Option Place) → Alike R P Q B (and_then (or_stuck o t (λ p. keep_typed c.environment.parts (handle_type c.function h) h (c.world t (Read p)) kept (Read p ∷ t))) f) (bound_next (valued c.world (reach (option_map IsPlace o) t)) x names (follow_all (words c d) bound tail))
+    load_place none fresh next None = stopped
+    load_place none fresh next (Some q) =
         let value = c.world t (Read q) in
         typed_alike (has_type c.environment.parts (handle_type c.function h) value) (Read q ∷ t) (Done (update kept h (Some value)) (Read q ∷ t)) f (λ y. next (update kept h (Some value)) (bind names x (Some (IsValue value))) (Read q ∷ t) (bind_related c n s names kept h x value r (λ p. absurd (none p)) i fresh y) (agree_update s kept h (Some value) (λ p. absurd (none p))))
-    load_at none fresh next (Some (Truth b)) v = stopped
-    load_at none fresh next (Some (Whole b z)) v = stopped
-    load_at none fresh next (Some (Opaque b z)) v = stopped
+
+    load_at : (IsTrue (is_present (s h)) → ⊥) → IsFresh c n s x → GoesOn c n R P Q B s kept (update s h (Named x)) f (follow_all (words c d) bound tail) → (o : Option Value) → (v : Value) × (o ≡ Some v) → Alike R P Q B (and_then (loaded c.environment.parts (handle_type c.function h) c.world h o kept t) f) (bound_next (valued c.world (placed o t)) x names (follow_all (words c d) bound tail))
+    load_at none fresh next None v = absurd (none-some v.0 v.1)
+    load_at none fresh next (Some u) v = load_place none fresh next (place_in u)
 
     emit_load : (IsTrue (is_present (s h)) → ⊥) → (b : Bool) (q : ℕ) → MayBind c n b s x (Some (Load q)) → GoesOn c n R P Q B s kept (emitted b false (usable_all c.function s (q ∷ [])) x s h) f (follow_all (words c d) bound tail) → Alike R P Q B (and_then (if_counted b (loaded c.environment.parts (handle_type c.function h) c.world h (used c kept q)) kept t) f) (follow_all (words c d) bound (let_if b x (place_form (written (naming c n) s q)) tail) names t)
     emit_load none true q m next =
@@ -147,9 +146,9 @@ module _ (p : Module) (c : Call) (n : Names) (d : Respond) (given : Given p c n 
         subst (λ z. Alike R P Q B (and_then (loaded c.environment.parts (handle_type c.function h) c.world h (used c kept q) kept t) f) (bound_next (valued c.world z) x names (follow_all (words c d) bound tail))) (sym (place_here p c n d given s names kept r q u t)) (load_at none m.1 next (used c kept q) (value_only c.environment.parts (handle_type c.function q) (used c kept q) (typed_value p c n d given s names kept r q u)))
     emit_load none false q m next = next kept names t r (agree_refl s kept)
 
-    let_at : IsFresh c n s x → GoesOn c n R P Q B s kept (update s h (Named x)) f (follow_all (words c d) bound tail) → (o : Option Value) → (IsTrue (is_present (s h)) → o ≡ kept h) → TypedValue c.environment.parts (handle_type c.function h) o → (q : Reached Value) → q ≡ reached o t → Alike R P Q B (f (update kept h o) t) (bound_next q x names (follow_all (words c d) bound tail))
+    let_at : IsFresh c n s x → GoesOn c n R P Q B s kept (update s h (Named x)) f (follow_all (words c d) bound tail) → (o : Option Value) → (IsTrue (is_present (s h)) → o ≡ kept h) → TypedValue c.environment.parts (handle_type c.function h) o → (q : Reached Value) → q ≡ reach o t → Alike R P Q B (f (update kept h o) t) (bound_next q x names (follow_all (words c d) bound tail))
     let_at fresh next o un v q e =
-        let same = e ∙ ap (λ o. reached o t) v.1 in
+        let same = e ∙ ap (λ o. reach o t) v.1 in
         let there = next (update kept h (Some v.0)) (bind names x (Some (IsValue v.0))) t (bind_related c n s names kept h x v.0 r (λ p. sym v.1 ∙ un p) i fresh v.2) (agree_update s kept h (Some v.0) (λ p. sym v.1 ∙ un p)) in
         subst (λ o. Alike R P Q B (f (update kept h o) t) (bound_next q x names (follow_all (words c d) bound tail))) (sym v.1) (subst (λ q. Alike R P Q B (f (update kept h (Some v.0)) t) (bound_next q x names (follow_all (words c d) bound tail))) (sym same) there)
 
@@ -193,10 +192,7 @@ module _ (p : Module) (c : Call) (n : Names) (d : Respond) (given : Given p c n 
         inline_at (usable_all c.function s (operands_of e)) (λ u. subst (λ e. IsTrue (usable_all c.function s (operands_of e))) (sym q) u) (computed c kept e) (unchanged e q) (λ u. value_there e q z u) (ap (computed c kept) (sym q)) next
 
     request_at : (IsTrue (is_present (s h)) → ⊥) → (w : Bytes) → IsFresh c n s x → GoesOn c n R P Q B s kept (update s h (Named x)) f (follow_all (words c d) bound tail) → (os : Option (List Value)) → (vs : List Value) × (os ≡ Some vs) → (q : Reached Value) → ((vs : List Value) → os ≡ Some vs → q ≡ Gives (c.world t (Ask w vs)) (Ask w vs ∷ t)) → Alike R P Q B (and_then (asked c.environment.parts (handle_type c.function h) c.world h w os kept t) f) (bound_next q x names (follow_all (words c d) bound tail))
-    request_at none w fresh next None v q e = absurd (not_none v.0 v.1)
-      where
-        not_none : (vs : List Value) → None ≡ Some vs → ⊥
-        not_none vs e = cc
+    request_at none w fresh next None v q e = absurd (none-some v.0 v.1)
     request_at none w fresh next (Some vs) v q e =
         let value = c.world t (Ask w vs) in
         typed_alike (has_type c.environment.parts (handle_type c.function h) value) (Ask w vs ∷ t) (Done (update kept h (Some value)) (Ask w vs ∷ t)) f (λ y. subst (λ q. Alike R P Q B (f (update kept h (Some value)) (Ask w vs ∷ t)) (bound_next q x names (follow_all (words c d) bound tail))) (sym (e vs refl)) (next (update kept h (Some value)) (bind names x (Some (IsValue value))) (Ask w vs ∷ t) (bind_related c n s names kept h x value r (λ p. absurd (none p)) i fresh y) (agree_update s kept h (Some value) (λ p. absurd (none p)))))
@@ -204,7 +200,7 @@ module _ (p : Module) (c : Call) (n : Names) (d : Respond) (given : Given p c n 
     emit_request : (IsTrue (is_present (s h)) → ⊥) → (b : Bool) (q : Asking) (w : Bytes) (xs : List ℕ) (es : ConstantTrees) → WordFits p (naming c n) (Some (Request q w xs es)) → ConstantsInRange p es → ConstantsTyped c.environment.parts p c.meaning es → MayBind c n b s x (Some (Request q w xs es)) → GoesOn c n R P Q B s kept (emitted b false (usable_all c.function s xs) x s h) f (follow_all (words c d) bound tail) → Alike R P Q B (and_then (if_counted b (asked c.environment.parts (handle_type c.function h) c.world h w (joined (used_all c kept xs) (constant_values c.environment c.meaning es))) kept t) f) (follow_all (words c d) bound (let_if b x (Apply w (value_forms_then (written (naming c n) s) xs (constant_forms n.outer es))) tail) names t)
     emit_request none true q w xs es y i k m next =
         let forms = value_forms_then (written (naming c n) s) xs (constant_forms n.outer es) in
-        request_at none w m.1 next (joined (used_all c kept xs) (constant_values c.environment c.meaning es)) (request_values p c n d given s names kept r xs es i k m.0) (value_of (words c d) (Apply w forms) names t) (λ vs e. ap (λ o. valued c.world (as_value (unhidden o t (responded (words c d) w (evaluate_all (words c d) forms names t))))) (free p c n d given s names kept r w y.0.1.1) ∙ ap (λ q. valued c.world (as_value (responded (words c d) w q))) (request_forms_give p c n d given s names kept r (written (naming c n) s) xs es y.1 i (all_here p c n d given s names kept r xs m.0) t ∙ ap (λ os. reached_all os t) e) ∙ ap (λ q. valued c.world (as_value q)) (request_responds p c n d given.responds w y.0 vs t))
+        request_at none w m.1 next (joined (used_all c kept xs) (constant_values c.environment c.meaning es)) (request_values p c n d given s names kept r xs es i k m.0) (value_of (words c d) (Apply w forms) names t) (λ vs e. ap (λ o. valued c.world (as_value (unless o t (responded (words c d) w (evaluate_all (words c d) forms names t))))) (free p c n d given s names kept r w y.0.1.1) ∙ ap (λ q. valued c.world (as_value (responded (words c d) w q))) (request_forms_give p c n d given s names kept r (written (naming c n) s) xs es y.1 i (all_here p c n d given s names kept r xs m.0) t ∙ ap (λ os. reach os t) e) ∙ ap (λ q. valued c.world (as_value q)) (request_responds p c n d given.responds w y.0 vs t))
     emit_request none false q w xs es y i k m next = next kept names t r (agree_refl s kept)
 
     emit_one_as : (e : Option Expression) → WordFits p (naming c n) e → LeafFits p c.function (handle_type c.function h) e → LeafTyped c.environment.parts p c.meaning e → expression_of c.function h ≡ e → IsTrue (is_emittable e) → MayBind c n (binds_as c.function h e) s x e → GoesOn c n R P Q B s kept (emitted (binds_as c.function h e) (is_pure e) (usable_all c.function s (operands_of e)) x s h) f (follow_all (words c d) bound tail) → Alike R P Q B (and_then (emit_as c h e kept t) f) (follow_all (words c d) bound (let_if (binds_as c.function h e) x (value_form (own_form (naming c n) (written (naming c n) s) (handle_type c.function h) e)) tail) names t)

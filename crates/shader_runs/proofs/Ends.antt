@@ -1,11 +1,11 @@
 -- No end of a run is missed by the points that it passes.
 use Rattle.std.proofs.Common.{◌≡◌, ℕ, zero, suc, ◌<◌, Bool, true, false, cond, List, Option, Some, None, refl, sym, ap, ◌∙◌, subst, arith, true≢false}
 use Rattle.std.specs.Prelude.{IsTrue}
-use Rattle.shader_runs.specs.Value.{Value, Truth, Whole, Pointer, Opaque}
+use Rattle.shader_runs.specs.Value.{Value, Truth, Whole}
 use Rattle.shader_runs.specs.World.{Event}
-use Rattle.shader_runs.specs.Outcome.{Outcome, Done, Continued, Broke, Returned, Stopped, Next, and_then, and_continue, within, turns, and_again, after_switch, chosen, with_integer}
+use Rattle.shader_runs.specs.Outcome.{Outcome, Done, Continued, Broke, Returned, Stopped, Next, and_then, and_continue, within, turns, and_again, after_switch, chosen, with_integer, or_stuck}
 use Rattle.shader_runs.specs.Program.{Label, Numbered, Statement, Emit, Store, Block, If, Switch, Loop, Break, Continue, Return, Kill, Barrier, Act, Statements, end, then, Cases, no_case, case}
-use Rattle.shader_runs.specs.ProgramRun.{Call, Kept, used, with_used, leave, same_label, has_label, label_if, run, run_all, run_cases, run_on}
+use Rattle.shader_runs.specs.ProgramRun.{Call, Kept, used, leave, same_label, has_label, label_if, run, run_all, run_cases, run_on}
 use Rattle.shader_runs.specs.Passes.{Region, Inner, LoopBody, Continuing, here, behind, inside, after_turns, to_body, to_continuing, body_at, statements_in, module_turn, FallsTo, this_case, next_case, ComesToCase, own_case, other_case, Comes, into_block, into_accept, into_reject, into_case, into_loop, Passes, is_here, goes_behind, goes_inside}
 use Rattle.shader_runs.specs.Ends.{end_of, is_simple, stops_early, is_early, EndsAt, EndsArePassed}
 use Rattle.shader_runs.proofs.Passes.{same_state, same_events, then_parts, one_more_turn}
@@ -77,15 +77,12 @@ module _ (c : Call) (n : ℕ) where
   if_ends : (h : ℕ) (a b : Statements) → EndsOf a → EndsOf b → EndsOne (If h a b)
   if_ends h a b in_a in_b ss kept t = go (used c kept h) refl
     where
-      go : (o : Option Value) → used c kept h ≡ o → IsTrue (is_early (with_used o t (λ v. chosen v t (run_all c n a kept t) (run_all c n b kept t)))) → EndsAt c n (then (If h a b) ss) kept t (with_used o t (λ v. chosen v t (run_all c n a kept t) (run_all c n b kept t)))
-      go None e early = not_early early
+      go : (o : Option Value) → used c kept h ≡ o → IsTrue (is_early (or_stuck o t (λ v. chosen v t (run_all c n a kept t) (run_all c n b kept t)))) → EndsAt c n (then (If h a b) ss) kept t (or_stuck o t (λ v. chosen v t (run_all c n a kept t) (run_all c n b kept t)))
       go (Some (Truth true)) e early =
           ends_inside (If h a b) _ ss kept kept t t (run_all c n a kept t) (into_accept e) (in_a kept t early)
       go (Some (Truth false)) e early =
           ends_inside (If h a b) _ ss kept kept t t (run_all c n b kept t) (into_reject e) (in_b kept t early)
-      go (Some (Whole spelling z)) e early = not_early early
-      go (Some (Pointer place)) e early = not_early early
-      go (Some (Opaque spelling payload)) e early = not_early early
+      go _ e early = not_early early
 
   -- from the first case on, the run comes to a case that ends early
   abbrev OnTo : Cases → Kept → List Event → Outcome Kept → Type 0
@@ -142,16 +139,13 @@ module _ (c : Call) (n : ℕ) where
   switch_ends : (h : ℕ) (cs : Cases) → EndsFor cs → EndsOne (Switch h cs)
   switch_ends h cs cases ss kept t = go (used c kept h) refl
     where
-      go : (o : Option Value) → used c kept h ≡ o → IsTrue (is_early (with_used o t (λ v. with_integer v t (λ z. after_switch (run_cases c n cs (label_if (has_label (Numbered z) cs) z) kept t))))) → EndsAt c n (then (Switch h cs) ss) kept t (with_used o t (λ v. with_integer v t (λ z. after_switch (run_cases c n cs (label_if (has_label (Numbered z) cs) z) kept t))))
+      go : (o : Option Value) → used c kept h ≡ o → IsTrue (is_early (or_stuck o t (λ v. with_integer v t (λ z. after_switch (run_cases c n cs (label_if (has_label (Numbered z) cs) z) kept t))))) → EndsAt c n (then (Switch h cs) ss) kept t (or_stuck o t (λ v. with_integer v t (λ z. after_switch (run_cases c n cs (label_if (has_label (Numbered z) cs) z) kept t))))
       go (Some (Whole spelling z)) e early =
           let x = label_if (has_label (Numbered z) cs) z in
           let keeps = switch_keeps (run_cases c n cs x kept t) early in
           let w = cases x kept t keeps.1 in
           subst (λ o. EndsAt c n (then (Switch h cs) ss) kept t o) (sym keeps.0) (ends_inside (Switch h cs) _ ss kept w.1 t w.2 (run_cases c n cs x kept t) (into_case e w.3) w.4)
-      go None e early = not_early early
-      go (Some (Truth b)) e early = not_early early
-      go (Some (Pointer place)) e early = not_early early
-      go (Some (Opaque spelling payload)) e early = not_early early
+      go _ e early = not_early early
 
   -- what ends a loop early
   abbrev ends_loop : Outcome Kept → Bool
@@ -183,13 +177,10 @@ module _ (c : Call) (n : ℕ) where
   leave_never None kept t early = not_early early
   leave_never (Some h) kept t early = go (used c kept h) early
     where
-      go : (o : Option Value) → IsTrue (ends_loop (with_used o t (λ v. chosen v t (Broke kept t) (Done kept t)))) → ⊥
-      go None early = not_early early
+      go : (o : Option Value) → IsTrue (ends_loop (or_stuck o t (λ v. chosen v t (Broke kept t) (Done kept t)))) → ⊥
       go (Some (Truth true)) early = not_early early
       go (Some (Truth false)) early = not_early early
-      go (Some (Whole spelling z)) early = not_early early
-      go (Some (Pointer place)) early = not_early early
-      go (Some (Opaque spelling payload)) early = not_early early
+      go _ early = not_early early
 
   -- in that turn the body or `continuing` ends early
   module _ (b d : Statements) (e : Option ℕ) (ss : Statements) (in_b : EndsOf b) (in_d : EndsOf d) (kept kept1 : Kept) (t t1 : List Event) (j : ℕ) (less : j < n) (done : after_turns (module_turn c n b d e) j kept t ≡ Done kept1 t1) where

@@ -12,6 +12,7 @@ use Rattle.shader_runs.proofs.Update.{and_left, and_right, same_bytes_true, same
 use Rattle.shader_runs.proofs.Relation.{as_denoted, stored_denoted, global_as}
 use Rattle.std.proofs.lemmas.List.{length-map}
 use Rattle.shader_runs.specs.Constants.{known, global_values}
+use Rattle.std.proofs.lemmas.Option.{none-some, same_Some}
 
 -- none of these names is x
 abbrev pub NotAmong : (ℕ → Bytes) → ℕ → ℕ → Bytes → Type 0
@@ -111,14 +112,8 @@ one_more_variable f (x ∷ os) o j k names =
     ∙ ap (λ m. bind (with_variables (variables_from f (suc j) os) k (suc j) first) (f.names.local_ m) (variable_place f k m)) there
 
 pub take_one_more : {A : Type 0} (xs : List A) (i : ℕ) (x : A) → slice_get xs i ≡ Some x → take (suc i) xs ≡ take i xs ++ x ∷ []
-take_one_more [] i x e = absurd (nothing e)
-  where
-    nothing : None ≡ Some x → ⊥
-    nothing e = cc
-take_one_more (y ∷ xs) zero x e = ap (λ z. z ∷ []) (same e)
-  where
-    same : Some y ≡ Some x → y ≡ x
-    same e = cc
+take_one_more [] i x e = absurd (none-some x e)
+take_one_more (y ∷ xs) zero x e = ap (λ z. z ∷ []) (same_Some y x e)
 take_one_more (y ∷ xs) (suc i) x e = ap (λ zs. y ∷ zs) (take_one_more xs i x e)
 
 -- a value that is held

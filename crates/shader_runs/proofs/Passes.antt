@@ -3,17 +3,17 @@ use Rattle.std.proofs.Common.{◌≡◌, ℕ, zero, suc, ◌+◌, ◌-◌, ◌�
 use Rattle.std.specs.Prelude.{IsTrue}
 use Rattle.shader_runs.specs.Value.{Bytes, Value, Truth, Whole}
 use Rattle.shader_runs.specs.World.{Event, Ask}
-use Rattle.shader_runs.specs.Outcome.{Stop, Outcome, Done, Continued, Broke, Returned, Stopped, Reached, Gives, Halts, Next, and_then, and_continue, after_switch, chosen, with_integer, closed, closed_if}
+use Rattle.shader_runs.specs.Outcome.{Stop, Outcome, Done, Continued, Broke, Returned, Stopped, Reached, Gives, Halts, Next, and_then, and_continue, after_switch, chosen, with_integer, closed, closed_if, or_stuck, reach, unless}
 use Rattle.shader_runs.specs.Program.{expression_of, handle_type, Label, Numbered, Statement, Emit, Store, Block, If, Switch, Loop, Break, Continue, Return, Kill, Barrier, Act, Statements, end, then, Cases, no_case, case, Module, binds, from, holds_continue, any_continue}
-use Rattle.shader_runs.specs.ProgramRun.{Call, Kept, used, with_used, emit, emit_as, barrier_words, ask_each, same_label, label_if, run, run_all}
+use Rattle.shader_runs.specs.ProgramRun.{Call, Kept, used, emit, emit_as, barrier_words, ask_each, same_label, label_if, run, run_all}
 use Rattle.shader_runs.specs.Text.{Tree, Line, Let, Braces, IfElse, SwitchOn, LoopOf, Lines, last, before, Groups}
-use Rattle.shader_runs.specs.TextRun.{Scope, performed, unhidden, value_of, with_value, has_continue, among, group_has, follow, follow_all, follow_groups}
+use Rattle.shader_runs.specs.TextRun.{Scope, performed, value_of, with_value, has_continue, among, group_has, follow, follow_all, follow_groups}
 use Rattle.shader_runs.specs.Scope.{usable, Handles, Names, bound_name, after_one, given_after, given_after_all, after_emit, given_by, given_by_all, after, after_all, forgotten_if}
 use Rattle.shader_runs.specs.Form.{written, value_at, value_if, value_form, own_form, let_if, lets, perform_each, form, form_all, form_cases}
 use Rattle.shader_runs.specs.Premises.{EachAsks, FallsFrom}
 use Rattle.shader_runs.specs.Passes.{Region, Point, here, behind, inside, after_turns, InTurn, to_body, to_continuing, to_break_if, body_at, statements_in, module_turn, FallsTo, this_case, next_case, ComesToCase, own_case, other_case, Comes, into_block, into_accept, into_reject, into_case, into_loop, Passes, is_here, goes_behind, goes_inside, emits, lines_at, lines_in, text_turn, GoesToGroup, own_group, other_group, into_braces, into_then, into_else, into_group, into_loop_line, TextPasses, is_here_in_text, goes_behind_line, goes_inside_line, let_count, line_count, behind_lines, group_of, region_in_text, point_in_text}
 use Rattle.shader_runs.specs.Points.{given_before, given_in, handles_in, handles_at}
-use Rattle.shader_runs.proofs.Alike.{Alike, done, continued, broke, returned_alike, stopped, mistyped, reached, weaker, continue_alike}
+use Rattle.shader_runs.proofs.Alike.{Alike, done, continued, broke, returned_alike, stopped, mistyped, weaker, continue_alike}
 use Rattle.shader_runs.proofs.Relation.{Related, Agree, agree_refl, related_agree}
 use Rattle.shader_runs.proofs.Evaluation.{naming, words, Respond, request_responds}
 use Rattle.shader_runs.proofs.Written.{Given, free, value_here}
@@ -193,7 +193,7 @@ module _ (p : Module) (c : Call) (n : Names) (d : Respond) (given : Given p c n 
       (sym (same_state kept kept1 t t1 e), λ tail q names2 t2 h. subst (λ e. Text tail q names e names2 t2) (sym (same_events kept kept1 t t1 e)) h)
   asks_all (w ∷ ws) s names kept kept1 t t1 r m e =
       let rest = asks_all ws s names kept kept1 (Ask w [] ∷ t) t1 r m.1 e in
-      let asked = ap (λ o. unhidden o t (d w [] t)) (free p c n d given s names kept r w m.0.1.1) ∙ request_responds p c n d given.responds w m.0 [] t in
+      let asked = ap (λ o. unless o t (d w [] t)) (free p c n d given s names kept r w m.0.1.1) ∙ request_responds p c n d given.responds w m.0 [] t in
       (rest.0, λ tail q names2 t2 h. goes_behind_line (ap (λ q. performed names q) asked) (rest.1 tail q names2 t2 h))
 
   -- the text's run gets behind each statement that the module's run gets behind
@@ -228,7 +228,7 @@ module _ (p : Module) (c : Call) (n : Names) (d : Respond) (given : Given p c n 
   goes_on (Return None) k s names kept kept1 t t1 r m e = absurd (not_returned None kept1 t t1 e)
   goes_on (Return (Some h)) k s names kept kept1 t t1 r m e = absurd (value_returned (used c kept h) e)
     where
-      value_returned : (o : Option Value) → with_used o t (λ v. Returned (Some v) t) ≡ Done kept1 t1 → ⊥
+      value_returned : (o : Option Value) → or_stuck o t (λ v. Returned (Some v) t) ≡ Done kept1 t1 → ⊥
       value_returned None e = not_stopped _ kept1 t t1 e
       value_returned (Some v) e = not_returned (Some v) kept1 t t1 e
   goes_on Kill k s names kept kept1 t t1 r m e = absurd (not_stopped _ kept1 _ t1 e)
@@ -254,7 +254,7 @@ module _ (p : Module) (c : Call) (n : Names) (d : Respond) (given : Given p c n 
 
   -- the value of a handle in scope, by the text
   value_there : (s : Handles) (names : Scope) (kept : Kept) (t : List Event) (h : ℕ) (v : Value) → Related c n s names kept → IsTrue (usable c.function s h) → used c kept h ≡ Some v → value_of (words c d) (value_at (naming c n) s h) names t ≡ Gives v t
-  value_there s names kept t h v r u e = value_here p c n d given s names kept r h u t ∙ ap (λ o. reached o t) e
+  value_there s names kept t h v r u e = value_here p c n d given s names kept r h u t ∙ ap (λ o. reach o t) e
 
   -- the labels that wait in front of a case, and its own
   abbrev Awaited : Label → List Label → Cases → Type 0

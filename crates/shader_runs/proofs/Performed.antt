@@ -1,11 +1,11 @@
 -- The module's run is its process, performed.
-use Rattle.std.proofs.Common.{◌≡◌, ℕ, zero, suc, ℤ, Bool, true, false, cond, nat_eq, List, [], ◌∷◌, length, Option, Some, None, refl, ap, ap₂, ◌∙◌}
-use Rattle.shader_runs.specs.Value.{Bytes, PartTypes, Place, ValueType, has_type, Value, Truth, Whole, Pointer, Opaque}
+use Rattle.std.proofs.Common.{◌≡◌, ℕ, zero, suc, Bool, true, false, cond, nat_eq, List, [], ◌∷◌, length, Option, Some, None, refl, ap, ap₂, ◌∙◌, option_and_then}
+use Rattle.shader_runs.specs.Value.{Bytes, PartTypes, ValueType, has_type, Value, truth_in, integer_in, place_in}
 use Rattle.shader_runs.specs.World.{Event, Entry, Ask, Read, Write, entries, World, Meaning, Environment, update}
-use Rattle.shader_runs.specs.Outcome.{Outcome, Done, Continued, Broke, Returned, Stopped, Reached, Gives, Halts, answer, Next, and_then, and_continue, within, turn, and_again, turns, after_switch, chosen, with_integer}
+use Rattle.shader_runs.specs.Outcome.{Outcome, Done, Continued, Broke, Returned, Stopped, Reached, Gives, Halts, answer, Next, and_then, and_continue, within, turn, and_again, turns, after_switch, chosen, with_integer, or_stuck}
 use Rattle.shader_runs.specs.Program.{Expression, Constant, Argument, Local, Global, Load, Operator, Access, AccessIndex, Logical, Swizzle, Request, Action, Asked, Called, Label, Numbered, Statement, Emit, Store, Block, If, Switch, Loop, Break, Continue, Return, Kill, Barrier, Act, Statements, end, then, Cases, no_case, case, Function, argument_count, expression_of, handle_type, operands_of, is_counted, is_asked, from}
-use Rattle.shader_runs.specs.ProgramRun.{Call, Kept, constant_values, used, used_as, also, used_all, gathered, computed, joined, if_typed, keep_typed, with_used, loaded, asked, if_counted, emit_as, emit, with_pointer, leave, returned, acted, with_result, with_all, barrier_words, ask_each, same_label, has_label, label_if, run, run_all, run_cases, run_on, constants_kept, with_first, wrapped, first_used, first_used_all, entered, run_body, called, run_call}
-use Rattle.shader_runs.proofs.Process.{Pause, DoneWith, ContinuedWith, BrokeWith, ReturnedWith, Process, gives, stuck, tells, looks, sequence, answered, resumed, again, rounds, perform, then_on, continue_on, inside, behind_switch, on_value, on_pointer, on_all, on_truth, on_integer, if_true, keeping, load_process, ask_process, asks_process, given_back, result_process, answers_call, entry_process, emit_one, emit_process, act_process, leave_process, return_process, statement_process, list_process, cases_process, on_process, body_process, call_in, call_alone, call_process}
+use Rattle.shader_runs.specs.ProgramRun.{Call, Kept, constant_values, used, used_as, also, used_all, gathered, computed, joined, if_typed, keep_typed, loaded, asked, if_counted, emit_as, emit, leave, returned, acted, with_result, barrier_words, ask_each, same_label, has_label, label_if, run, run_all, run_cases, run_on, constants_kept, with_first, wrapped, first_used, first_used_all, entered, run_body, called, run_call}
+use Rattle.shader_runs.proofs.Process.{Pause, DoneWith, ContinuedWith, BrokeWith, ReturnedWith, Process, gives, stuck, tells, looks, sequence, answered, resumed, again, rounds, perform, then_on, continue_on, inside, behind_switch, on_there, on_truth, if_true, keeping, load_process, ask_process, asks_process, given_back, result_process, answers_call, entry_process, emit_one, emit_process, act_process, leave_process, return_process, statement_process, list_process, cases_process, on_process, body_process, call_in, call_alone, call_process}
 
 -- what a performed process is as an outcome, and as what a call gives
 abbrev outcome : Reached Pause → Outcome Kept
@@ -78,46 +78,20 @@ module _ (w : World) (n : ℕ) where
       go (Gives (ReturnedWith v) e) rest = refl
       go (Halts x e) rest = refl
 
-  chosen_performed : (v : Value) (t : List Event) (a b : Outcome Kept) (p q : Process) → a ≡ outcome (perform w n p t) → b ≡ outcome (perform w n q t) → chosen v t a b ≡ outcome (perform w n (on_truth v p q) t)
-  chosen_performed (Truth true) t a b p q h k = h
-  chosen_performed (Truth false) t a b p q h k = k
-  chosen_performed (Whole s z) t a b p q h k = refl
-  chosen_performed (Pointer y) t a b p q h k = refl
-  chosen_performed (Opaque s z) t a b p q h k = refl
-
-  integer_performed : (v : Value) (t : List Event) (go : ℤ → Outcome Kept) (p : ℤ → Process) → ((z : ℤ) → go z ≡ outcome (perform w n (p z) t)) → with_integer v t go ≡ outcome (perform w n (on_integer v p) t)
-  integer_performed (Whole s z) t go p h = h z
-  integer_performed (Truth b) t go p h = refl
-  integer_performed (Pointer y) t go p h = refl
-  integer_performed (Opaque s z) t go p h = refl
-
-  used_performed : (o o' : Option Value) (t : List Event) (go : Value → Outcome Kept) (p : Value → Process) → o ≡ o' → ((v : Value) → go v ≡ outcome (perform w n (p v) t)) → with_used o t go ≡ outcome (perform w n (on_value o' p) t)
-  used_performed o o' t go p e h = ap (λ o. with_used o t go) e ∙ at o'
+  there_performed : {A : Type 0} (o o' : Option A) (t : List Event) (go : A → Outcome Kept) (p : A → Process) → o ≡ o' → ((a : A) → go a ≡ outcome (perform w n (p a) t)) → or_stuck o t go ≡ outcome (perform w n (on_there o' p) t)
+  there_performed {A} o o' t go p e h = ap (λ o. or_stuck o t go) e ∙ at o'
     where
-      at : (o : Option Value) → with_used o t go ≡ outcome (perform w n (on_value o p) t)
+      at : (o : Option A) → or_stuck o t go ≡ outcome (perform w n (on_there o p) t)
       at None = refl
-      at (Some v) = h v
-
-  pointer_performed : (o o' : Option Value) (t : List Event) (go : Place → Outcome Kept) (p : Place → Process) → o ≡ o' → ((y : Place) → go y ≡ outcome (perform w n (p y) t)) → with_pointer o t go ≡ outcome (perform w n (on_pointer o' p) t)
-  pointer_performed o o' t go p e h = ap (λ o. with_pointer o t go) e ∙ at o'
-    where
-      at : (o : Option Value) → with_pointer o t go ≡ outcome (perform w n (on_pointer o p) t)
-      at None = refl
-      at (Some (Pointer y)) = h y
-      at (Some (Truth b)) = refl
-      at (Some (Whole s z)) = refl
-      at (Some (Opaque s z)) = refl
-
-  all_performed : (o o' : Option (List Value)) (t : List Event) (go : List Value → Outcome Kept) (p : List Value → Process) → o ≡ o' → ((vs : List Value) → go vs ≡ outcome (perform w n (p vs) t)) → with_all o t go ≡ outcome (perform w n (on_all o' p) t)
-  all_performed o o' t go p e h = ap (λ o. with_all o t go) e ∙ at o'
-    where
-      at : (o : Option (List Value)) → with_all o t go ≡ outcome (perform w n (on_all o p) t)
-      at None = refl
-      at (Some vs) = h vs
+      at (Some a) = h a
 
   if_performed : (b : Bool) (t : List Event) (o o' : Outcome Kept) (p q : Process) → o ≡ outcome (perform w n p t) → o' ≡ outcome (perform w n q t) → cond b o o' ≡ outcome (perform w n (if_true b p q) t)
   if_performed true t o o' p q h k = h
   if_performed false t o o' p q h k = k
+
+  chosen_performed : (v : Value) (t : List Event) (a b : Outcome Kept) (p q : Process) → a ≡ outcome (perform w n p t) → b ≡ outcome (perform w n q t) → chosen v t a b ≡ outcome (perform w n (on_truth v p q) t)
+  chosen_performed v t a b p q h k =
+      there_performed (truth_in v) (truth_in v) t _ (λ y. if_true y p q) refl (λ y. if_performed y t a b p q h k)
 
   keeping_performed : (parts : PartTypes) (k : ValueType) (h : ℕ) (r : Event) (kept : Kept) (t : List Event) → keep_typed parts k h (w t r) kept (r ∷ t) ≡ outcome (perform w n (keeping parts k h r kept) t)
   keeping_performed parts k h r kept t = go (has_type parts k (w t r))
@@ -128,10 +102,8 @@ module _ (w : World) (n : ℕ) where
 
   load_performed : (parts : PartTypes) (k : ValueType) (h : ℕ) (kept : Kept) (t : List Event) (o : Option Value) → loaded parts k w h o kept t ≡ outcome (perform w n (load_process parts k h kept o) t)
   load_performed parts k h kept t None = refl
-  load_performed parts k h kept t (Some (Pointer p)) = keeping_performed parts k h (Read p) kept t
-  load_performed parts k h kept t (Some (Truth b)) = refl
-  load_performed parts k h kept t (Some (Whole s z)) = refl
-  load_performed parts k h kept t (Some (Opaque s z)) = refl
+  load_performed parts k h kept t (Some v) =
+      there_performed (place_in v) (place_in v) t _ (λ p. keeping parts k h (Read p) kept) refl (λ p. keeping_performed parts k h (Read p) kept t)
 
   ask_performed : (parts : PartTypes) (k : ValueType) (h : ℕ) (word : Bytes) (kept : Kept) (t : List Event) (o : Option (List Value)) → asked parts k w h word o kept t ≡ outcome (perform w n (ask_process parts k h word kept o) t)
   ask_performed parts k h word kept t None = refl
@@ -211,23 +183,23 @@ module _ (w : World) (n : ℕ) where
     leave_performed : (o : Option ℕ) → NextPerformed (leave c o) (leave_process alone callees o)
     leave_performed None kept t = refl
     leave_performed (Some h) kept t =
-        used_performed (used c kept h) (used alone kept h) t (λ v. chosen v t (Broke kept t) (Done kept t)) (λ v. on_truth v (gives (BrokeWith kept)) (gives (DoneWith kept))) (used_alone kept h) (λ v. chosen_performed v t (Broke kept t) (Done kept t) (gives (BrokeWith kept)) (gives (DoneWith kept)) refl refl)
+        there_performed (used c kept h) (used alone kept h) t (λ v. chosen v t (Broke kept t) (Done kept t)) (λ v. on_truth v (gives (BrokeWith kept)) (gives (DoneWith kept))) (used_alone kept h) (λ v. chosen_performed v t (Broke kept t) (Done kept t) (gives (BrokeWith kept)) (gives (DoneWith kept)) refl refl)
 
     return_performed : (o : Option ℕ) → NextPerformed (returned c o) (return_process alone callees o)
     return_performed None kept t = refl
     return_performed (Some h) kept t =
-        used_performed (used c kept h) (used alone kept h) t (λ v. Returned (Some v) t) (λ v. gives (ReturnedWith (Some v))) (used_alone kept h) (λ v. refl)
+        there_performed (used c kept h) (used alone kept h) t (λ v. Returned (Some v) t) (λ v. gives (ReturnedWith (Some v))) (used_alone kept h) (λ v. refl)
 
     mutual
       statement_performed : (st : Statement) → NextPerformed (run c n st) (statement_process alone callees st)
       statement_performed (Emit first count) kept t = emit_performed (from first count) kept t
       statement_performed (Store p v) kept t =
-          pointer_performed (used c kept p) (used alone kept p) t (λ place. with_used (used c kept v) t (λ value. Done kept (Write place value ∷ t))) (λ place. on_value (used alone kept v) (λ value. tells (Write place value) (gives (DoneWith kept)))) (used_alone kept p) (λ place. used_performed (used c kept v) (used alone kept v) t (λ value. Done kept (Write place value ∷ t)) (λ value. tells (Write place value) (gives (DoneWith kept))) (used_alone kept v) (λ value. refl))
+          there_performed (option_and_then place_in (used c kept p)) (option_and_then place_in (used alone kept p)) t (λ place. or_stuck (used c kept v) t (λ value. Done kept (Write place value ∷ t))) (λ place. on_there (used alone kept v) (λ value. tells (Write place value) (gives (DoneWith kept)))) (ap (option_and_then place_in) (used_alone kept p)) (λ place. there_performed (used c kept v) (used alone kept v) t (λ value. Done kept (Write place value ∷ t)) (λ value. tells (Write place value) (gives (DoneWith kept))) (used_alone kept v) (λ value. refl))
       statement_performed (Block b) kept t = list_performed b kept t
       statement_performed (If h a b) kept t =
-          used_performed (used c kept h) (used alone kept h) t (λ v. chosen v t (run_all c n a kept t) (run_all c n b kept t)) (λ v. on_truth v (list_process alone callees a kept) (list_process alone callees b kept)) (used_alone kept h) (λ v. chosen_performed v t (run_all c n a kept t) (run_all c n b kept t) (list_process alone callees a kept) (list_process alone callees b kept) (list_performed a kept t) (list_performed b kept t))
+          there_performed (used c kept h) (used alone kept h) t (λ v. chosen v t (run_all c n a kept t) (run_all c n b kept t)) (λ v. on_truth v (list_process alone callees a kept) (list_process alone callees b kept)) (used_alone kept h) (λ v. chosen_performed v t (run_all c n a kept t) (run_all c n b kept t) (list_process alone callees a kept) (list_process alone callees b kept) (list_performed a kept t) (list_performed b kept t))
       statement_performed (Switch h ks) kept t =
-          used_performed (used c kept h) (used alone kept h) t (λ v. with_integer v t (λ z. after_switch (run_cases c n ks (label_if (has_label (Numbered z) ks) z) kept t))) (λ v. on_integer v (λ z. sequence (cases_process alone callees ks (label_if (has_label (Numbered z) ks) z) kept) behind_switch)) (used_alone kept h) (λ v. integer_performed v t (λ z. after_switch (run_cases c n ks (label_if (has_label (Numbered z) ks) z) kept t)) (λ z. sequence (cases_process alone callees ks (label_if (has_label (Numbered z) ks) z) kept) behind_switch) (λ z. switch_performed (run_cases c n ks (label_if (has_label (Numbered z) ks) z) kept t) (cases_process alone callees ks (label_if (has_label (Numbered z) ks) z) kept) t (cases_performed ks (label_if (has_label (Numbered z) ks) z) kept t)))
+          there_performed (used c kept h) (used alone kept h) t (λ v. with_integer v t (λ z. after_switch (run_cases c n ks (label_if (has_label (Numbered z) ks) z) kept t))) (λ v. on_there (integer_in v) (λ z. sequence (cases_process alone callees ks (label_if (has_label (Numbered z) ks) z) kept) behind_switch)) (used_alone kept h) (λ v. there_performed (integer_in v) (integer_in v) t (λ z. after_switch (run_cases c n ks (label_if (has_label (Numbered z) ks) z) kept t)) (λ z. sequence (cases_process alone callees ks (label_if (has_label (Numbered z) ks) z) kept) behind_switch) refl (λ z. switch_performed (run_cases c n ks (label_if (has_label (Numbered z) ks) z) kept t) (cases_process alone callees ks (label_if (has_label (Numbered z) ks) z) kept) t (cases_performed ks (label_if (has_label (Numbered z) ks) z) kept t)))
       statement_performed (Loop b d o) kept t =
           turns_performed (turn (run_all c n b) (run_all c n d) (leave c o)) (λ s. sequence (list_process alone callees b s) (continue_on (λ s1. sequence (sequence (list_process alone callees d s1) inside) (then_on (leave_process alone callees o))))) (λ s e. continue_performed (run_all c n b s e) (list_process alone callees b s) e (λ s1 t1. and_then (within (run_all c n d s1 t1)) (leave c o)) (λ s1. sequence (sequence (list_process alone callees d s1) inside) (then_on (leave_process alone callees o))) (list_performed b s e) (λ s1 t1. then_performed (within (run_all c n d s1 t1)) (sequence (list_process alone callees d s1) inside) t1 (leave c o) (leave_process alone callees o) (within_performed (run_all c n d s1 t1) (list_process alone callees d s1) t1 (list_performed d s1 t1)) (leave_performed o))) n kept t
       statement_performed Break kept t = refl
@@ -236,7 +208,7 @@ module _ (w : World) (n : ℕ) where
       statement_performed Kill kept t = refl
       statement_performed (Barrier bits) kept t = asks_performed (barrier_words bits) kept t
       statement_performed (Act a xs r) kept t =
-          all_performed (used_all c kept xs) (used_all alone kept xs) t (λ us. with_result env.parts f a r kept (acted c a us t)) (act_process alone callees a r kept) (used_all_alone kept xs) (λ us. act_performed a r kept us t)
+          there_performed (used_all c kept xs) (used_all alone kept xs) t (λ us. with_result env.parts f a r kept (acted c a us t)) (act_process alone callees a r kept) (used_all_alone kept xs) (λ us. act_performed a r kept us t)
 
       list_performed : (ss : Statements) → NextPerformed (run_all c n ss) (list_process alone callees ss)
       list_performed end kept t = refl

@@ -9,7 +9,6 @@ use Rattle.shader_runs.specs.Scope.{Handles, ModuleNames, Names, Naming, at_star
 use Rattle.shader_runs.specs.Form.{form_functions, functions_of, form_all}
 use Rattle.shader_runs.specs.Premises.{AllFit, AllTypedIn, EnvironmentFits}
 use Rattle.shader_runs.specs.Points.{LinesAreTheForm, FactsHold, call_of, words_of, handles_at, PointsAgree, names_of}
-use Rattle.shader_runs.proofs.Alike.{reached}
 use Rattle.shader_runs.specs.Constants.{environment_of}
 use Rattle.shader_runs.proofs.Update.{has_types_length}
 use Rattle.shader_runs.proofs.Relation.{as_denoted, Stands, Related}
@@ -21,12 +20,13 @@ use Rattle.shader_runs.proofs.Passes.{passes}
 use Rattle.shader_runs.proofs.Names.{length-functions_of, module_names_given}
 use Rattle.shader_runs.proofs.Constants.{environment_fits}
 use Rattle.shader_runs.specs.Passes.{TextPasses, point_in_text}
+use Rattle.shader_runs.specs.Outcome.{reach}
 
 facts_hold : (p : Module) (c : Call) (n : Names) (d : Respond) → Given p c n d → (s : Handles) (names : Scope) (kept : Kept) → Related c n s names kept → FactsHold c (words c d) (naming c n) s kept names
 facts_hold p c n d given s names kept r =
     record {
       named = λ h x e. let q = subst (λ st. Stands c s names kept (handle_type c.function h) (expression_of c.function h) (kept h) st) e (r.standing h) in (q.0.0, q.0.1, q.1 ∙ ap as_denoted q.0.1);
-      written = λ h u. let v = typed_value p c n d given s names kept r h u in (v.0, v.1, λ t. value_here p c n d given s names kept r h u t ∙ ap (λ o. reached o t) v.1);
+      written = λ h u. let v = typed_value p c n d given s names kept r h u in (v.0, v.1, λ t. value_here p c n d given s names kept r h u t ∙ ap (λ o. reach o t) v.1);
     }
 
 -- what holds of all functions holds of the first ones

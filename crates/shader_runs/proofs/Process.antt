@@ -1,6 +1,6 @@
 -- A module's run as a process: what it asks for and tells, apart from any world and any bound on loop turns.
-use Rattle.std.proofs.Common.{ℕ, zero, suc, ℤ, Bool, true, false, nat_eq, List, [], ◌∷◌, length, Option, Some, None}
-use Rattle.shader_runs.specs.Value.{Bytes, PartTypes, Place, ValueType, has_type, Value, Truth, Whole, Pointer}
+use Rattle.std.proofs.Common.{ℕ, zero, suc, Bool, true, false, nat_eq, List, [], ◌∷◌, length, Option, Some, None, option_and_then}
+use Rattle.shader_runs.specs.Value.{Bytes, PartTypes, ValueType, has_type, Value, Truth, truth_in, integer_in, place_in}
 use Rattle.shader_runs.specs.World.{Event, Entry, Ask, Read, Write, Discard, entries, World, Meaning, Environment, update}
 use Rattle.shader_runs.specs.Outcome.{Stuck, Unreturned, OutOfTurns, Discarded, Mistyped, Outcome, Done, Continued, Broke, Returned, Stopped, Reached, Gives, Halts}
 use Rattle.shader_runs.specs.Program.{Expression, Load, Operator, Access, AccessIndex, Logical, Swizzle, Request, Action, Asked, Called, Label, Numbered, Statement, Emit, Store, Block, If, Switch, Loop, Break, Continue, Return, Kill, Barrier, Act, Statements, end, then, Cases, no_case, case, Function, argument_count, expression_of, handle_type, is_counted, is_asked, from}
@@ -92,38 +92,24 @@ behind_switch (ContinuedWith s) = gives (ContinuedWith s)
 behind_switch (BrokeWith s) = gives (DoneWith s)
 behind_switch (ReturnedWith v) = gives (ReturnedWith v)
 
-abbrev pub on_value : Option Value → (Value → Process) → Process
-on_value None go = stuck
-on_value (Some v) go = go v
-
-abbrev pub on_pointer : Option Value → (Place → Process) → Process
-on_pointer (Some (Pointer p)) go = go p
-on_pointer _ go = stuck
-
-abbrev pub on_all : Option (List Value) → (List Value → Process) → Process
-on_all None go = stuck
-on_all (Some vs) go = go vs
-
-abbrev pub on_truth : Value → (accept reject : Process) → Process
-on_truth (Truth true) a b = a
-on_truth (Truth false) a b = b
-on_truth _ a b = stuck
-
-abbrev pub on_integer : Value → (ℤ → Process) → Process
-on_integer (Whole s z) go = go z
-on_integer _ go = stuck
+-- goes on with what is there
+abbrev pub on_there : {A : Type 0} → Option A → (A → Process) → Process
+on_there None go = stuck
+on_there (Some a) go = go a
 
 abbrev pub if_true : Bool → Process → Process → Process
 if_true true p q = p
 if_true false p q = q
+
+abbrev pub on_truth : Value → (accept reject : Process) → Process
+on_truth v a b = on_there (truth_in v) (λ y. if_true y a b)
 
 abbrev pub keeping : PartTypes → ValueType → ℕ → Event → Kept → Process
 keeping parts k h r kept = wants parts k r (λ v. gives (DoneWith (update kept h (Some v))))
 
 abbrev pub load_process : PartTypes → ValueType → ℕ → Kept → Option Value → Process
 load_process parts k h kept None = gives (DoneWith (update kept h None))
-load_process parts k h kept (Some (Pointer p)) = keeping parts k h (Read p) kept
-load_process parts k h kept (Some _) = stuck
+load_process parts k h kept (Some v) = on_there (place_in v) (λ p. keeping parts k h (Read p) kept)
 
 abbrev pub ask_process : PartTypes → ValueType → ℕ → Bytes → Kept → Option (List Value) → Process
 ask_process parts k h word kept None = gives (DoneWith (update kept h None))
@@ -179,22 +165,22 @@ module _ (c : Call) (calls : ℕ → List Value → Process) where
   abbrev pub leave_process : Option ℕ → Kept → Process
   leave_process None kept = gives (DoneWith kept)
   leave_process (Some h) kept =
-      on_value (used c kept h) (λ v. on_truth v (gives (BrokeWith kept)) (gives (DoneWith kept)))
+      on_there (used c kept h) (λ v. on_truth v (gives (BrokeWith kept)) (gives (DoneWith kept)))
 
   abbrev pub return_process : Option ℕ → Kept → Process
   return_process None kept = gives (ReturnedWith None)
-  return_process (Some h) kept = on_value (used c kept h) (λ v. gives (ReturnedWith (Some v)))
+  return_process (Some h) kept = on_there (used c kept h) (λ v. gives (ReturnedWith (Some v)))
 
   abbrev mutual
     pub statement_process : Statement → Kept → Process
     statement_process (Emit first count) kept = emit_process (from first count) kept
     statement_process (Store p v) kept =
-        on_pointer (used c kept p) (λ place. on_value (used c kept v) (λ value. tells (Write place value) (gives (DoneWith kept))))
+        on_there (option_and_then place_in (used c kept p)) (λ place. on_there (used c kept v) (λ value. tells (Write place value) (gives (DoneWith kept))))
     statement_process (Block b) kept = list_process b kept
     statement_process (If h a b) kept =
-        on_value (used c kept h) (λ v. on_truth v (list_process a kept) (list_process b kept))
+        on_there (used c kept h) (λ v. on_truth v (list_process a kept) (list_process b kept))
     statement_process (Switch h ks) kept =
-        on_value (used c kept h) (λ v. on_integer v (λ z. sequence (cases_process ks (label_if (has_label (Numbered z) ks) z) kept) behind_switch))
+        on_there (used c kept h) (λ v. on_there (integer_in v) (λ z. sequence (cases_process ks (label_if (has_label (Numbered z) ks) z) kept) behind_switch))
     statement_process (Loop b d o) kept =
         repeats (λ s. sequence (list_process b s) (continue_on (λ s1. sequence (sequence (list_process d s1) inside) (then_on (leave_process o))))) kept
     statement_process Break kept = gives (BrokeWith kept)
@@ -202,7 +188,7 @@ module _ (c : Call) (calls : ℕ → List Value → Process) where
     statement_process (Return v) kept = return_process v kept
     statement_process Kill kept = discards
     statement_process (Barrier bits) kept = asks_process (barrier_words bits) kept
-    statement_process (Act a xs r) kept = on_all (used_all c kept xs) (act_process a r kept)
+    statement_process (Act a xs r) kept = on_there (used_all c kept xs) (act_process a r kept)
 
     pub list_process : Statements → Kept → Process
     list_process end kept = gives (DoneWith kept)

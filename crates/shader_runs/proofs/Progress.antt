@@ -4,11 +4,11 @@ use Rattle.std.specs.Prelude.{IsTrue, ℤ}
 use Rattle.std.proofs.Math.Nat.{min-le_right}
 use Rattle.std.proofs.lemmas.Bool.{ltb-true, lt-ltb}
 use Rattle.std.proofs.lemmas.List.{length-take}
-use Rattle.shader_runs.specs.Value.{Bytes, PartTypes, Place, ValueType, BooleanType, IntegerType, PointerType, OtherType, has_type, has_types, Value, Truth, Whole, Pointer, Opaque}
+use Rattle.shader_runs.specs.Value.{Bytes, PartTypes, Place, ValueType, has_type, has_types, Value, Pointer}
 use Rattle.shader_runs.specs.World.{Event, Entry, Ask, Read, World, Meaning, Environment, update}
-use Rattle.shader_runs.specs.Outcome.{Stop, Outcome, Done, Continued, Broke, Returned, Stopped, Reached, Gives, Halts, answer, Next, and_then, and_continue, within, and_again, turn, turns, after_switch, chosen, with_integer}
+use Rattle.shader_runs.specs.Outcome.{Stop, Outcome, Done, Continued, Broke, Returned, Stopped, Reached, Gives, Halts, answer, Next, and_then, and_continue, within, and_again, turn, turns, after_switch, chosen, with_integer, or_stuck}
 use Rattle.shader_runs.specs.Program.{Asking, ConstantTrees, Expression, Local, Load, Operator, Access, AccessIndex, Logical, Swizzle, Request, Action, Asked, Called, Label, Numbered, Statement, Emit, Store, Block, If, Switch, Loop, Break, Continue, Return, Kill, Barrier, Act, Statements, end, then, Cases, no_case, case, Function, argument_count, local_count, function_numbered, expression_of, handle_type, operands_of, is_counted, is_asked, binds_as, from, holds_continue, any_continue, some_case_continues, Module}
-use Rattle.shader_runs.specs.ProgramRun.{Call, Kept, constant_values, used, used_all, joined, computed, if_typed, with_used, loaded, asked, if_counted, emit_as, emit, with_pointer, leave, returned, acted, with_result, with_all, barrier_words, ask_each, same_label, has_label, label_if, run, run_all, run_cases, run_on, constants_kept, wrapped, with_first, first_used_all, entered, run_body, called, run_call}
+use Rattle.shader_runs.specs.ProgramRun.{Call, Kept, constant_values, used, used_all, joined, computed, if_typed, loaded, asked, if_counted, emit_as, emit, with_pointer, leave, returned, acted, with_result, barrier_words, ask_each, same_label, has_label, label_if, run, run_all, run_cases, run_on, constants_kept, wrapped, with_first, first_used_all, entered, run_body, called, run_call}
 use Rattle.shader_runs.specs.TextRun.{Scope, no_names}
 use Rattle.shader_runs.specs.Scope.{Standing, Absent, Barred, Everywhere, Inline, Named, Handles, ModuleNames, Names, Naming, bound_name, is_present, is_new, is_pure, is_emittable, before_local, usable, usable_as, usable_all, usable_if, unbound, emitted, after_one, given_after, given_by, given_by_all, after_emit, after_result, after, after_all, forgotten, forgotten_one, forgotten_if, start_standing, at_start, first_values_fit, fits_all}
 use Rattle.shader_runs.specs.Form.{functions_of}
@@ -17,7 +17,7 @@ use Rattle.shader_runs.specs.Premises.{LeafFits, LeafTyped, ConstantsInRange, Co
 use Rattle.shader_runs.specs.Progress.{IsPointer, IsInteger, IsBoolean, LoadFits, BreakIfFits, IsWellFormed, AreWellFormed, CasesAreWellFormed, FunctionIsWellFormed, AllWellFormed, NotStuck, IsNotStuck, RunsAreNotStuck}
 use Rattle.shader_runs.proofs.Update.{and_left, and_right, update_cases, has_types_length}
 use Rattle.shader_runs.proofs.Relation.{TypedValue, ResultTyped, Returns, Stands, Extends, extends_trans, extends_forgotten, usable_all_more}
-use Rattle.shader_runs.proofs.Evaluation.{naming, some_same}
+use Rattle.shader_runs.proofs.Evaluation.{naming, pointer_typed, integer_typed, truth_typed}
 use Rattle.shader_runs.proofs.Written.{used_typed, UsesTyped, all_typed, operator_typed, request_there}
 use Rattle.shader_runs.proofs.Checked.{MayBind, MayEmitAll, Fits, FitsAll, FitsCases}
 use Rattle.shader_runs.proofs.Emission.{extends_update, unbound_present}
@@ -29,6 +29,7 @@ use Rattle.shader_runs.proofs.Start.{start_stands}
 use Rattle.shader_runs.proofs.Calls.{runs_alike}
 use Rattle.shader_runs.specs.Constants.{environment_of}
 use Rattle.shader_runs.proofs.Constants.{environment_fits}
+use Rattle.std.proofs.lemmas.Option.{same_Some, none-some}
 
 -- a run that isn't stuck: P holds where it is done, Q where it continues, B where it breaks, R of what it returns
 pub data Proceeds {S : Type 0} (R : Option Value → Type 0) (P Q B : S → Type 0) : Outcome S → Type 0 where
@@ -98,43 +99,28 @@ answer_proceeds n q b (broke {s = s} h) = absurd (b s h)
 answer_proceeds n q b (returns r) = r
 answer_proceeds n q b (stops k) = k
 
--- a value of a pointer's type is a pointer
-pointer_of : (parts : PartTypes) (k : ValueType) → IsPointer k → (v : Value) → IsTrue (has_type parts k v) → (p : Place) × (v ≡ Pointer p)
-pointer_of parts (PointerType s) i (Pointer p) h = (p, refl)
-pointer_of parts (PointerType s) i (Truth b) h = absurd (true≢false (sym h))
-pointer_of parts (PointerType k) i (Whole s z) h = absurd (true≢false (sym h))
-pointer_of parts (PointerType k) i (Opaque s z) h = absurd (true≢false (sym h))
-pointer_of parts BooleanType i v h = absurd i
-pointer_of parts (IntegerType s) i v h = absurd i
-pointer_of parts (OtherType s) i v h = absurd i
-
 pointer_there : (parts : PartTypes) (k : ValueType) → IsPointer k → (o : Option Value) → TypedValue parts k o → (p : Place) × (o ≡ Some (Pointer p))
 pointer_there parts k i o v =
-    let q = pointer_of parts k i v.0 v.2 in
+    let q = pointer_typed parts k i v.0 v.2 in
     (q.0, v.1 ∙ ap Some q.1)
 
 chosen_proceeds : {S : Type 0} {R : Option Value → Type 0} {P Q B : S → Type 0} {a b : Outcome S} (parts : PartTypes) (k : ValueType) → IsBoolean k → (v : Value) → IsTrue (has_type parts k v) → (t : List Event) → Proceeds R P Q B a → Proceeds R P Q B b → Proceeds R P Q B (chosen v t a b)
-chosen_proceeds parts BooleanType i (Truth true) h t x y = x
-chosen_proceeds parts BooleanType i (Truth false) h t x y = y
-chosen_proceeds parts BooleanType i (Whole s z) h t x y = absurd (true≢false (sym h))
-chosen_proceeds parts BooleanType i (Pointer p) h t x y = absurd (true≢false (sym h))
-chosen_proceeds parts BooleanType i (Opaque s z) h t x y = absurd (true≢false (sym h))
-chosen_proceeds parts (IntegerType s) i v h t x y = absurd i
-chosen_proceeds parts (PointerType s) i v h t x y = absurd i
-chosen_proceeds parts (OtherType s) i v h t x y = absurd i
+chosen_proceeds {R = R} {P = P} {Q = Q} {B = B} {a = a} {b = b} parts k i v h t x y =
+    let q = truth_typed parts k i v h in
+    subst (λ o. Proceeds R P Q B (or_stuck o t (λ z. cond z a b))) (sym q.1) (go q.0)
+  where
+    go : (z : Bool) → Proceeds R P Q B (cond z a b)
+    go true = x
+    go false = y
 
 integer_proceeds : {S : Type 0} {R : Option Value → Type 0} {P Q B : S → Type 0} (parts : PartTypes) (k : ValueType) → IsInteger k → (v : Value) → IsTrue (has_type parts k v) → (t : List Event) (go : ℤ → Outcome S) → ((z : ℤ) → Proceeds R P Q B (go z)) → Proceeds R P Q B (with_integer v t go)
-integer_proceeds parts (IntegerType s) i (Whole r z) h t go each = each z
-integer_proceeds parts (IntegerType s) i (Truth b) h t go each = absurd (true≢false (sym h))
-integer_proceeds parts (IntegerType s) i (Pointer p) h t go each = absurd (true≢false (sym h))
-integer_proceeds parts (IntegerType s) i (Opaque r z) h t go each = absurd (true≢false (sym h))
-integer_proceeds parts BooleanType i v h t go each = absurd i
-integer_proceeds parts (PointerType s) i v h t go each = absurd i
-integer_proceeds parts (OtherType s) i v h t go each = absurd i
+integer_proceeds {R = R} {P = P} {Q = Q} {B = B} parts k i v h t go each =
+    let q = integer_typed parts k i v h in
+    subst (λ o. Proceeds R P Q B (or_stuck o t go)) (sym q.1) (each q.0)
 
-used_proceeds : {S : Type 0} {R : Option Value → Type 0} {P Q B : S → Type 0} (parts : PartTypes) (k : ValueType) (o : Option Value) (t : List Event) (go : Value → Outcome S) → TypedValue parts k o → ((v : Value) → IsTrue (has_type parts k v) → Proceeds R P Q B (go v)) → Proceeds R P Q B (with_used o t go)
+used_proceeds : {S : Type 0} {R : Option Value → Type 0} {P Q B : S → Type 0} (parts : PartTypes) (k : ValueType) (o : Option Value) (t : List Event) (go : Value → Outcome S) → TypedValue parts k o → ((v : Value) → IsTrue (has_type parts k v) → Proceeds R P Q B (go v)) → Proceeds R P Q B (or_stuck o t go)
 used_proceeds {R = R} {P = P} {Q = Q} {B = B} parts k o t go v each =
-    subst (λ o. Proceeds R P Q B (with_used o t go)) (sym v.1) (each v.0 v.2)
+    subst (λ o. Proceeds R P Q B (or_stuck o t go)) (sym v.1) (each v.0 v.2)
 
 pointer_proceeds : {S : Type 0} {R : Option Value → Type 0} {P Q B : S → Type 0} (parts : PartTypes) (k : ValueType) → IsPointer k → (o : Option Value) (t : List Event) (go : Place → Outcome S) → TypedValue parts k o → ((p : Place) → Proceeds R P Q B (go p)) → Proceeds R P Q B (with_pointer o t go)
 pointer_proceeds {R = R} {P = P} {Q = Q} {B = B} parts k i o t go v each =
@@ -385,10 +371,10 @@ module _ (p : Module) (c : Call) (n : Names) (sound : Sound p c) (bound : ℕ) w
       done (typed_update c s kept h (Named (n.numbered h)) (Some v) (λ i. (v, refl, called_typed c.environment.parts c.function (function_numbered c.callees g) xs h v m.2 k)) y)
   result_proceeds s breaks continues a xs (Some h) m kept y (Halts x t) k = stops k
 
-  act_proceeds : (s : Handles) (breaks continues : Bool) (a : Action) (xs : List ℕ) (r : Option ℕ) → IsTrue (usable_all c.function s xs) → ActionFits p c.callees (naming c n) a xs r → (kept : Kept) (t : List Event) → Typed c s kept → Line s (after_result n r s) breaks continues false (with_all (used_all c kept xs) t (λ vs. with_result c.environment.parts c.function a r kept (acted c a vs t)))
+  act_proceeds : (s : Handles) (breaks continues : Bool) (a : Action) (xs : List ℕ) (r : Option ℕ) → IsTrue (usable_all c.function s xs) → ActionFits p c.callees (naming c n) a xs r → (kept : Kept) (t : List Event) → Typed c s kept → Line s (after_result n r s) breaks continues false (or_stuck (used_all c kept xs) t (λ vs. with_result c.environment.parts c.function a r kept (acted c a vs t)))
   act_proceeds s breaks continues a xs r u m kept t y =
       let vs = all_typed p c s kept (uses p c n sound s kept y) xs u in
-      subst (λ o. Line s (after_result n r s) breaks continues false (with_all o t (λ vs. with_result c.environment.parts c.function a r kept (acted c a vs t)))) (sym vs.1) (result_proceeds s breaks continues a xs r m kept y (acted c a vs.0 t) (acted_proceeds a xs r m vs.0 vs.2 t))
+      subst (λ o. Line s (after_result n r s) breaks continues false (or_stuck o t (λ vs. with_result c.environment.parts c.function a r kept (acted c a vs t)))) (sym vs.1) (result_proceeds s breaks continues a xs r m kept y (acted c a vs.0 t) (acted_proceeds a xs r m vs.0 vs.2 t))
 
   store_proceeds : (s : Handles) (breaks continues : Bool) (q v : ℕ) → IsTrue (usable c.function s q) → IsTrue (usable c.function s v) → IsPointer (handle_type c.function q) → (kept : Kept) (t : List Event) → Typed c s kept → Line s s breaks continues false (run c bound (Store q v) kept t)
   store_proceeds s breaks continues q v u z w kept t y =
@@ -399,7 +385,7 @@ module _ (p : Module) (c : Call) (n : Names) (sound : Sound p c) (bound : ℕ) w
   block_proceeds s s1 breaks continues held x o b =
       weaker (λ k y. typed_less c s s1 k x y) (λ k q. (typed_less c s s1 k x q.0, q.1, q.2)) (λ k b. b) b
 
-  if_proceeds : (s s1 s2 : Handles) (breaks continues ha hb : Bool) (h : ℕ) → IsTrue (usable c.function s h) → IsBoolean (handle_type c.function h) → Extends s s1 → Extends s s2 → (a b : Outcome Kept) (kept : Kept) (t : List Event) → Typed c s kept → Body s s1 breaks continues ha a → Body s s2 breaks continues hb b → Line s s breaks continues (ha || hb) (with_used (used c kept h) t (λ v. chosen v t a b))
+  if_proceeds : (s s1 s2 : Handles) (breaks continues ha hb : Bool) (h : ℕ) → IsTrue (usable c.function s h) → IsBoolean (handle_type c.function h) → Extends s s1 → Extends s s2 → (a b : Outcome Kept) (kept : Kept) (t : List Event) → Typed c s kept → Body s s1 breaks continues ha a → Body s s2 breaks continues hb b → Line s s breaks continues (ha || hb) (or_stuck (used c kept h) t (λ v. chosen v t a b))
   if_proceeds s s1 s2 breaks continues ha hb h u w x1 x2 a b kept t y in_a in_b =
       used_proceeds c.environment.parts (handle_type c.function h) (used c kept h) t _ (uses p c n sound s kept y h u) (λ v z. chosen_proceeds c.environment.parts (handle_type c.function h) w v z t (weaker (λ k y. y) (λ k q. (q.0, or_left ha hb q.1, q.2)) (λ k b. b) (block_proceeds s s1 breaks continues ha x1 a in_a)) (weaker (λ k y. y) (λ k q. (q.0, or_right ha hb q.1, q.2)) (λ k b. b) (block_proceeds s s2 breaks continues hb x2 b in_b)))
 
@@ -550,10 +536,7 @@ module _ (p : Module) (n : ModuleNames) (env : Environment) (environment : Envir
         subst (λ b. Answered (Returns env.parts f.function) (called b (run_body c bound g vs t) t)) (sym count) (subst (λ o. Answered (Returns env.parts f.function) (entered g vs o t body)) (sym firsts.1) (answer_proceeds tt (λ k q. true≢false (sym q.2)) (λ k b. true≢false (sym b.1)) (body_proceeds p c f.names sound bound f.function.body 0 start false false start_rooted checked well.body kept (Entry g vs firsts.0 ∷ t) start_typed)))
 
   calls_proceed : (fs : List Naming) → AllFit p n fs → AllTypedIn env.parts p m (functions_of fs) → AllWellFormed (functions_of fs) → Calls_proceed fs
-  calls_proceed [] fits typed well g callee e vs h t = absurd (nothing e)
-    where
-      nothing : None ≡ Some callee → ⊥
-      nothing e = cc
+  calls_proceed [] fits typed well g callee e vs h t = absurd (none-some callee e)
   calls_proceed (f ∷ fs) fits typed well g callee e vs h t =
       go (nat_eq g (length (functions_of fs))) e (calls_proceed fs fits.1 typed.1 well.1)
     where
@@ -563,7 +546,7 @@ module _ (p : Module) (n : ModuleNames) (env : Environment) (environment : Envir
 
       go : (b : Bool) → cond b (Some f.function) (function_numbered (functions_of fs) g) ≡ Some callee → Calls_proceed fs → Answered (Returns env.parts callee) (cond b own_call (run_call env w m bound (functions_of fs) g vs t))
       go true e earlier =
-          let same = some_same f.function callee e in
+          let same = same_Some f.function callee e in
           let typed_here = subst (λ k. IsTrue (has_types env.parts k.argument_types vs)) (sym same) h in
           subst (λ k. Answered (Returns env.parts k) own_call) same (own_proceeds fs earlier f fits.0 typed.0 well.0 vs typed_here t (length (functions_of fs)))
       go false e earlier = earlier g callee e vs h t

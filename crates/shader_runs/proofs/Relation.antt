@@ -1,5 +1,5 @@
 -- What relates the module's kept values and the text's names, at each point of both runs.
-use Rattle.std.proofs.Common.{◌≡◌, ◌≢◌, ℕ, ◌<◌, Bool, true, false, cond, List, [], ◌∷◌, length, Option, Some, None, slice_get, refl, sym, ap, ◌∙◌}
+use Rattle.std.proofs.Common.{◌≡◌, ◌≢◌, ℕ, ◌<◌, Bool, true, false, cond, List, [], ◌∷◌, length, Option, Some, None, slice_get, refl, sym, ap, ◌∙◌, option_map}
 use Rattle.std.specs.Prelude.{IsTrue}
 use Rattle.shader_runs.specs.Value.{Bytes, Rooted, LocalRoot, GlobalRoot, PartTypes, ValueType, has_type, Value}
 use Rattle.shader_runs.specs.World.{GlobalValue, Stored, Held}
@@ -24,8 +24,7 @@ abbrev pub Returns : PartTypes → Function → Option Value → Type 0
 Returns parts f o = ResultTyped parts o f.result
 
 abbrev pub as_denoted : Option Value → Option Denoted
-as_denoted None = None
-as_denoted (Some v) = Some (IsValue v)
+as_denoted o = option_map IsValue o
 
 abbrev pub stored_denoted : ℕ → GlobalValue → Denoted
 stored_denoted i (Stored pointer) = IsPlace (Rooted (GlobalRoot pointer i))

@@ -1,20 +1,20 @@
 -- No call misses a result, where functions return what they promise.
-use Rattle.std.proofs.Common.{◌≡◌, ℕ, zero, suc, Bool, true, false, not, cond, nat_eq, List, [], ◌∷◌, length, Option, Some, None, ◌&&◌, ◌||◌, refl, sym, ap, ◌∙◌, subst, true≢false}
+use Rattle.std.proofs.Common.{◌≡◌, ℕ, zero, suc, Bool, true, false, not, cond, nat_eq, List, [], ◌∷◌, length, Option, Some, None, ◌&&◌, ◌||◌, refl, sym, ap, ◌∙◌, subst, true≢false, option_and_then}
 use Rattle.std.specs.Prelude.{IsTrue, ℤ, is_some}
-use Rattle.shader_runs.specs.Value.{PartTypes, Bytes, Place, ValueType, has_type, Value, Truth, Whole, Pointer, Opaque}
+use Rattle.shader_runs.specs.Value.{PartTypes, Bytes, ValueType, has_type, Value, truth_in, integer_in, place_in}
 use Rattle.shader_runs.specs.World.{Event, Entry, Ask, Read, World, Meaning, Environment, update}
-use Rattle.shader_runs.specs.Outcome.{Outcome, Done, Continued, Broke, Returned, Stopped, Reached, Gives, Halts, answer, Next, and_then, and_continue, within, and_again, turn, turns, after_switch, chosen, with_integer}
+use Rattle.shader_runs.specs.Outcome.{Outcome, Done, Continued, Broke, Returned, Stopped, Reached, Gives, Halts, answer, Next, and_then, and_continue, within, and_again, turn, turns, after_switch, chosen, or_stuck}
 use Rattle.shader_runs.specs.Program.{Expression, Load, Request, Action, Asked, Called, Label, Numbered, Default, Statement, Emit, Store, Block, If, Switch, Loop, Break, Continue, Return, Kill, Barrier, Act, Statements, end, then, Cases, no_case, case, Function, argument_count, function_numbered, expression_of, handle_type, is_counted, is_asked, from, Module}
-use Rattle.shader_runs.specs.ProgramRun.{Call, Kept, constant_values, used, used_all, joined, if_typed, with_used, loaded, asked, if_counted, emit_as, emit, with_pointer, leave, acted, with_result, with_all, barrier_words, ask_each, same_label, has_label, label_if, run, run_all, run_cases, run_on, constants_kept, first_used_all, entered, run_body, called, run_call}
+use Rattle.shader_runs.specs.ProgramRun.{Call, Kept, constant_values, used, used_all, joined, if_typed, loaded, asked, if_counted, emit_as, emit, leave, acted, with_result, barrier_words, ask_each, same_label, has_label, label_if, run, run_all, run_cases, run_on, constants_kept, first_used_all, entered, run_body, called, run_call}
 use Rattle.shader_runs.specs.Scope.{ModuleNames, Naming}
 use Rattle.shader_runs.specs.Form.{functions_of}
 use Rattle.shader_runs.specs.Points.{call_of}
 use Rattle.shader_runs.specs.Premises.{CallFits, ActionFits, FallsFrom, IsRegular, AreRegular, CasesAreRegular, AllFit}
 use Rattle.shader_runs.specs.Results.{holds_break, any_break, may_end, may_end_all, some_case_ends, has_values, all_have_values, cases_have_values, GivesResult, AllGiveResults, IsGiven, NotUnreturned, IsComplete, ResultsAreReturned}
 use Rattle.shader_runs.proofs.Update.{and_left, and_right, and_both}
-use Rattle.shader_runs.proofs.Evaluation.{some_same}
 use Rattle.shader_runs.proofs.Statements.{or_left, or_right}
 use Rattle.shader_runs.specs.Constants.{environment_of}
+use Rattle.std.proofs.lemmas.Option.{same_Some, none-some}
 
 -- a run that misses no result, with a result of this type: ends and breaks tell whether it may be done and may break
 abbrev Leads : {S : Type 0} → Option ValueType → (ends breaks : Bool) → Outcome S → Type 0
@@ -65,29 +65,16 @@ module _ (k : Option ValueType) where
   then_leads e e2 b b2 (Returned v t) f l next = l
   then_leads e e2 b b2 (Stopped x t) f l next = l
 
-  used_leads : {S : Type 0} (e b : Bool) (o : Option Value) (t : List Event) (go : Value → Outcome S) → ((v : Value) → Leads k e b (go v)) → Leads k e b (with_used o t go)
-  used_leads e b None t go each = tt
-  used_leads e b (Some v) t go each = each v
-
-  pointer_leads : {S : Type 0} (e b : Bool) (o : Option Value) (t : List Event) (go : Place → Outcome S) → ((p : Place) → Leads k e b (go p)) → Leads k e b (with_pointer o t go)
-  pointer_leads e b None t go each = tt
-  pointer_leads e b (Some (Pointer p)) t go each = each p
-  pointer_leads e b (Some (Truth z)) t go each = tt
-  pointer_leads e b (Some (Whole s z)) t go each = tt
-  pointer_leads e b (Some (Opaque s z)) t go each = tt
+  there_leads : {A S : Type 0} (e b : Bool) (o : Option A) (t : List Event) (go : A → Outcome S) → ((a : A) → Leads k e b (go a)) → Leads k e b (or_stuck o t go)
+  there_leads e b None t go each = tt
+  there_leads e b (Some a) t go each = each a
 
   chosen_leads : {S : Type 0} (e b : Bool) (v : Value) (t : List Event) (o o2 : Outcome S) → Leads k e b o → Leads k e b o2 → Leads k e b (chosen v t o o2)
-  chosen_leads e b (Truth true) t o o2 l l2 = l
-  chosen_leads e b (Truth false) t o o2 l l2 = l2
-  chosen_leads e b (Whole s z) t o o2 l l2 = tt
-  chosen_leads e b (Pointer p) t o o2 l l2 = tt
-  chosen_leads e b (Opaque s z) t o o2 l l2 = tt
-
-  integer_leads : {S : Type 0} (e b : Bool) (v : Value) (t : List Event) (go : ℤ → Outcome S) → ((z : ℤ) → Leads k e b (go z)) → Leads k e b (with_integer v t go)
-  integer_leads e b (Whole s z) t go each = each z
-  integer_leads e b (Truth z) t go each = tt
-  integer_leads e b (Pointer p) t go each = tt
-  integer_leads e b (Opaque s z) t go each = tt
+  chosen_leads e b v t o o2 l l2 = there_leads e b (truth_in v) t _ go
+    where
+      go : (y : Bool) → Leads k e b (cond y o o2)
+      go true = l
+      go false = l2
 
   switch_leads : {S : Type 0} (e b : Bool) (o : Outcome S) → (IsTrue b → IsTrue e) → Leads k e b o → Leads k e false (after_switch o)
   switch_leads e b (Done s t) f l = l
@@ -131,10 +118,8 @@ module _ (k : Option ValueType) where
     where
       go : (b : Bool) (o : Option Value) → Leads k true false (if_counted b (loaded c.environment.parts (handle_type c.function h) c.world h o) kept t)
       go true None = refl
-      go true (Some (Pointer p)) = typed_leads (has_type c.environment.parts (handle_type c.function h) (c.world t (Read p))) (Read p ∷ t) (update kept h (Some (c.world t (Read p))))
-      go true (Some (Truth b)) = tt
-      go true (Some (Whole s z)) = tt
-      go true (Some (Opaque s z)) = tt
+      go true (Some v) =
+          there_leads true false (place_in v) t _ (λ p. typed_leads (has_type c.environment.parts (handle_type c.function h) (c.world t (Read p))) (Read p ∷ t) (update kept h (Some (c.world t (Read p)))))
       go false o = refl
   emit_as_leads c h (Some (Request a w xs es)) kept t =
       go (is_asked c.function h a) (joined (used_all c kept xs) (constant_values c.environment c.meaning es))
@@ -158,7 +143,7 @@ module _ (k : Option ValueType) where
   leave_leads : (c : Call) (b : Bool) (e : Option ℕ) → (kept : Kept) (t : List Event) → Leads k true (b || is_some e) (leave c e kept t)
   leave_leads c b None kept t = refl
   leave_leads c b (Some h) kept t =
-      used_leads true (b || true) (used c kept h) t (λ v. chosen v t (Broke kept t) (Done kept t)) (λ v. chosen_leads true (b || true) v t (Broke kept t) (Done kept t) (or_right b true refl) refl)
+      there_leads true (b || true) (used c kept h) t (λ v. chosen v t (Broke kept t) (Done kept t)) (λ v. chosen_leads true (b || true) v t (Broke kept t) (Done kept t) (or_right b true refl) refl)
 
 -- a call that wants a result gets one
 result_leads : (parts : PartTypes) (k : Option ValueType) (f : Function) (callee : Option ValueType) (a : Action) (r : Option ℕ) (kept : Kept) (q : Reached (Option Value)) → ((h : ℕ) → r ≡ Some h → (z : ValueType) × (callee ≡ Some z)) → IsComplete callee q → Leads k true false (with_result parts f a r kept q)
@@ -183,7 +168,7 @@ falls_to_case true end (case l b falls cs) w h = tt
 falls_to_case true (then s ss) cs w h = absurd w
 
 module _ (p : Module) (c : Call) (f : Naming) (complete : (g : ℕ) (callee : Function) → function_numbered c.callees g ≡ Some callee → (vs : List Value) (t : List Event) → IsComplete callee.result (c.calls g vs t)) (k : Option ValueType) (bound : ℕ) where
-  act_leads : (a : Action) (xs : List ℕ) (r : Option ℕ) → ActionFits p c.callees f a xs r → (kept : Kept) (t : List Event) (o : Option (List Value)) → Leads k true false (with_all o t (λ vs. with_result c.environment.parts c.function a r kept (acted c a vs t)))
+  act_leads : (a : Action) (xs : List ℕ) (r : Option ℕ) → ActionFits p c.callees f a xs r → (kept : Kept) (t : List Event) (o : Option (List Value)) → Leads k true false (or_stuck o t (λ vs. with_result c.environment.parts c.function a r kept (acted c a vs t)))
   act_leads a xs r m kept t None = tt
   act_leads (Asked w) xs None m kept t (Some vs) = refl
   act_leads (Asked w) xs (Some h) m kept t (Some vs) = typed_leads k (has_type c.environment.parts (handle_type c.function h) (c.world t (Ask w vs))) (Ask w vs ∷ t) (update kept h (Some (c.world t (Ask w vs))))
@@ -195,10 +180,7 @@ module _ (p : Module) (c : Call) (f : Naming) (complete : (g : ℕ) (callee : Fu
           result_leads c.environment.parts k c.function callee.result (Called g) r kept (c.calls g vs t) (wanted r w) (complete g callee e vs t)
         where
           wanted : (r : Option ℕ) → CallFits f.function (Some callee) xs r → (h : ℕ) → r ≡ Some h → (z : ValueType) × (callee.result ≡ Some z)
-          wanted None w h e = absurd (nothing e)
-            where
-              nothing : None ≡ Some h → ⊥
-              nothing e = cc
+          wanted None w h e = absurd (none-some h e)
           wanted (Some j) w h e = (handle_type f.function j, w.1)
 
   -- a case and those that it falls through to
@@ -251,19 +233,19 @@ module _ (p : Module) (c : Call) (f : Naming) (complete : (g : ℕ) (callee : Fu
     line_leads : (st : Statement) → IsRegular p c.callees f st → Where k (has_values st) → (kept : Kept) (t : List Event) → Leads k (may_end st) (holds_break st) (run c bound st kept t)
     line_leads (Emit first count) m w kept t = emit_leads k c (from first count) kept t
     line_leads (Store q v) m w kept t =
-        pointer_leads k true false (used c kept q) t _ (λ place. used_leads k true false (used c kept v) t _ (λ value. refl))
+        there_leads k true false (option_and_then place_in (used c kept q)) t _ (λ place. there_leads k true false (used c kept v) t _ (λ value. refl))
     line_leads (Block b) m w kept t = body_leads b m w kept t
     line_leads (If h a b) m w kept t =
-        used_leads k (may_end_all a || may_end_all b) (any_break a || any_break b) (used c kept h) t _ (λ v. if_leads (may_end_all a) (may_end_all b) (any_break a) (any_break b) v t (run_all c bound a kept t) (run_all c bound b kept t) (body_leads a m.0 (where_left k (all_have_values a) (all_have_values b) w) kept t) (body_leads b m.1 (where_right k (all_have_values a) (all_have_values b) w) kept t))
+        there_leads k (may_end_all a || may_end_all b) (any_break a || any_break b) (used c kept h) t _ (λ v. if_leads (may_end_all a) (may_end_all b) (any_break a) (any_break b) v t (run_all c bound a kept t) (run_all c bound b kept t) (body_leads a m.0 (where_left k (all_have_values a) (all_have_values b) w) kept t) (body_leads b m.1 (where_right k (all_have_values a) (all_have_values b) w) kept t))
     line_leads (Switch h cs) m w kept t =
-        used_leads k (may_end (Switch h cs)) false (used c kept h) t _ (λ v. integer_leads k (may_end (Switch h cs)) false v t _ (λ z. one_label cs (λ x kept t. cases_lead cs m w x kept t) z kept t))
+        there_leads k (may_end (Switch h cs)) false (used c kept h) t _ (λ v. there_leads k (may_end (Switch h cs)) false (integer_in v) t _ (λ z. one_label cs (λ x kept t. cases_lead cs m w x kept t) z kept t))
     line_leads (Loop b d e) m w kept t =
         let out = any_break b || is_some e in
         turns_lead k out false (turn (run_all c bound b) (run_all c bound d) (leave c e)) (λ kept t. continue_leads k (may_end_all b) (any_break b) out (run_all c bound b kept t) _ (λ h. or_left (any_break b) (is_some e) h) (body_leads b m.0 (where_left k (all_have_values b) (all_have_values d) w) kept t) (λ kept1 t1. then_leads k true true false out (within (run_all c bound d kept1 t1)) (leave c e) (within_leads k (may_end_all d) (any_break d) (run_all c bound d kept1 t1) (body_leads d m.1 (where_right k (all_have_values b) (all_have_values d) w) kept1 t1)) (leave_leads k c (any_break b) e))) bound kept t
     line_leads Break m w kept t = refl
     line_leads Continue m w kept t = tt
     line_leads (Return None) m w kept t = given_none k w
-    line_leads (Return (Some h)) m w kept t = used_leads k false false (used c kept h) t _ (λ v. given_some k v)
+    line_leads (Return (Some h)) m w kept t = there_leads k false false (used c kept h) t _ (λ v. given_some k v)
     line_leads Kill m w kept t = tt
     line_leads (Barrier bits) m w kept t = asks_lead k (barrier_words bits) kept t
     line_leads (Act a xs r) m w kept t = act_leads a xs r m.0 kept t (used_all c kept xs)
@@ -327,10 +309,7 @@ module _ (p : Module) (n : ModuleNames) (env : Environment) (w : World) (m : Mea
           answer_complete k (may_end_all body) (any_break body) (run_all c bound body kept t1) (end_given k body gives) (body_leads p c f earlier k bound body regular (values_where k body gives) kept t1)
 
   calls_complete : (fs : List Naming) → AllFit p n fs → AllGiveResults (functions_of fs) → Calls_complete fs
-  calls_complete [] fits gives g callee e vs t = absurd (nothing e)
-    where
-      nothing : None ≡ Some callee → ⊥
-      nothing e = cc
+  calls_complete [] fits gives g callee e vs t = absurd (none-some callee e)
   calls_complete (f ∷ fs) fits gives g callee e vs t =
       go (nat_eq g (length (functions_of fs))) e (calls_complete fs fits.1 gives.1)
     where
@@ -344,7 +323,7 @@ module _ (p : Module) (n : ModuleNames) (env : Environment) (w : World) (m : Mea
       go : (b : Bool) → cond b (Some f.function) (function_numbered (functions_of fs) g) ≡ Some callee → Calls_complete fs → IsComplete callee.result (cond b (own_call (nat_eq (length vs) (argument_count f.function))) (run_call env w m bound (functions_of fs) g vs t))
       go true e earlier =
           let enough = nat_eq (length vs) (argument_count f.function) in
-          subst (λ k. IsComplete k.result (own_call enough)) (some_same f.function callee e) (own earlier enough)
+          subst (λ k. IsComplete k.result (own_call enough)) (same_Some f.function callee e) (own earlier enough)
       go false e earlier = earlier g callee e vs t
 
 pub results_are_returned : ResultsAreReturned

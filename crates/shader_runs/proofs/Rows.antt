@@ -1,12 +1,14 @@
 -- The worked functions, by computing, and the premises of the law for one of them.
-use Rattle.std.proofs.Common.{◌≡◌, ℕ, zero, suc, ◌+◌, ◌<◌, List, [], ◌∷◌, Some, None, slice_get, refl, sym, ap, subst, arith}
+use Rattle.std.proofs.Common.{◌≡◌, ℕ, zero, suc, ◌+◌, ◌<◌, List, [], ◌∷◌, Some, slice_get, refl, sym, ap, subst, arith}
 use Rattle.std.specs.Prelude.{codes}
-use Rattle.shader_runs.specs.Program.{ConstantTree, Function, expression_of, handle_type, operands_of}
+use Rattle.shader_runs.specs.Program.{Function, expression_of, handle_type, operands_of}
 use Rattle.shader_runs.specs.Scope.{given_by_all}
 use Rattle.shader_runs.specs.Premises.{AllBelow, WordFits, LeafFits, AreDistinct, FixedKey, NumberedKey, GivenKey, ArgumentName, LocalName, ConstantName, GlobalName, ConstantsFit}
 use Rattle.shader_runs.specs.Typing.{Signature, IsOneOf, IsSpelled, PartsFit, signatures_of, in_function, in_initialiser}
-use Rattle.shader_runs.specs.Rows.{RowsHold, PremisesHold, no_parts as row_parts, store_function, store_naming, store_module, numbered_name}
+use Rattle.shader_runs.specs.Rows.{RowsHold, PremisesHold, store_function, store_naming, store_module}
 use Rattle.shader_runs.specs.Progress.{LoadFits}
+use Rattle.std.proofs.lemmas.Option.{none-some, same_Some}
+use Rattle.shader_runs.specs.WorkedFunctions.{no_parts as row_parts, numbered_name}
 
 pub heads : (a b : ℕ) (xs ys : List ℕ) → a ∷ xs ≡ b ∷ ys → a ≡ b
 heads a b xs ys e = cc
@@ -24,15 +26,15 @@ numbered_local h e =
     let same : ◌≡◌ {A = ℕ} 95 97 = heads 95 97 (101 ∷ (h + 48) ∷ []) [] e in
     omega arith
 
+none_given : (k : ℕ) → k < given_by_all store_function store_function.body 0 → ⊥
+none_given k lt = omega arith
+
 -- only the one local and the handles have names
 distinct : AreDistinct store_module store_naming
 distinct (FixedKey (ArgumentName i)) b la lb e = absurd (omega arith)
 distinct (FixedKey (ConstantName i)) b la lb e = absurd (omega arith)
 distinct (FixedKey (GlobalName i)) b la lb e = absurd (omega arith)
-distinct (GivenKey k) b la lb e = absurd (none k la)
-  where
-    none : (k : ℕ) → k < given_by_all store_function store_function.body 0 → ⊥
-    none k lt = omega arith
+distinct (GivenKey k) b la lb e = absurd (none_given k la)
 distinct (FixedKey (LocalName i)) (FixedKey (ArgumentName j)) la lb e = absurd (omega arith)
 distinct (FixedKey (LocalName i)) (FixedKey (ConstantName j)) la lb e = absurd (omega arith)
 distinct (FixedKey (LocalName i)) (FixedKey (GlobalName j)) la lb e = absurd (omega arith)
@@ -41,10 +43,7 @@ distinct (FixedKey (LocalName i)) (FixedKey (LocalName j)) la lb e =
     ap (λ i. FixedKey (LocalName i)) same
 distinct (FixedKey (LocalName zero)) (NumberedKey h) la lb e = absurd (local_numbered h e)
 distinct (FixedKey (LocalName (suc i))) (NumberedKey h) la lb e = absurd (omega arith)
-distinct (FixedKey (LocalName i)) (GivenKey k) la lb e = absurd (none k lb)
-  where
-    none : (k : ℕ) → k < given_by_all store_function store_function.body 0 → ⊥
-    none k lt = omega arith
+distinct (FixedKey (LocalName i)) (GivenKey k) la lb e = absurd (none_given k lb)
 distinct (NumberedKey h) (FixedKey (ArgumentName j)) la lb e = absurd (omega arith)
 distinct (NumberedKey h) (FixedKey (ConstantName j)) la lb e = absurd (omega arith)
 distinct (NumberedKey h) (FixedKey (GlobalName j)) la lb e = absurd (omega arith)
@@ -54,10 +53,7 @@ distinct (NumberedKey h) (NumberedKey k) la lb e =
     let sum : h + 48 ≡ k + 48 = thirds (h + 48) (k + 48) e in
     let same : h ≡ k = omega arith in
     ap NumberedKey same
-distinct (NumberedKey h) (GivenKey k) la lb e = absurd (none k lb)
-  where
-    none : (k : ℕ) → k < given_by_all store_function store_function.body 0 → ⊥
-    none k lt = omega arith
+distinct (NumberedKey h) (GivenKey k) la lb e = absurd (none_given k lb)
 
 ordered : (h : ℕ) → AllBelow h (operands_of (expression_of store_function h))
 ordered zero = tt
@@ -102,14 +98,8 @@ no_parts (suc (suc (suc zero))) = tt
 no_parts (suc (suc (suc (suc h)))) = tt
 
 only_function : (i : ℕ) (f : Function) → slice_get store_module.functions i ≡ Some f → store_function ≡ f
-only_function zero f e = same_some store_function f e
-  where
-    same_some : (a b : Function) → Some a ≡ Some b → a ≡ b
-    same_some a b q = cc
-only_function (suc i) f e = absurd (none e)
-  where
-    none : None ≡ Some f → ⊥
-    none q = cc
+only_function zero f e = same_Some store_function f e
+only_function (suc i) f e = absurd (none-some f e)
 
 no_spelled : (x : Signature) → IsSpelled store_module x → ⊥
 no_spelled x (in_function place f there h k) = go f (only_function place f there) k
@@ -117,17 +107,11 @@ no_spelled x (in_function place f there h k) = go f (only_function place f there
     go : (f : Function) → store_function ≡ f → IsOneOf x (signatures_of store_module f (handle_type f h) (expression_of f h)) → ⊥
     go f e k =
         no_operator x h (subst (λ f. IsOneOf x (signatures_of store_module f (handle_type f h) (expression_of f h))) (sym e) k)
-no_spelled x (in_initialiser i e there k) = none_there e there
-  where
-    none_there : (e : ConstantTree) → None ≡ Some e → ⊥
-    none_there e q = cc
+no_spelled x (in_initialiser i e there k) = none-some e there
 
 no_constants : ConstantsFit store_module store_naming.names.outer
 no_constants =
-    record { counted = omega arith; rank = λ i. i; initialisers = λ i e q. absurd (none_there e q); distinct = λ i k lt lk e. absurd (omega arith) }
-  where
-    none_there : (e : ConstantTree) → None ≡ Some e → ⊥
-    none_there e q = cc
+    record { counted = omega arith; rank = λ i. i; initialisers = λ i e q. absurd (none-some e q); distinct = λ i k lt lk e. absurd (omega arith) }
 
 premises : PremisesHold
 premises =

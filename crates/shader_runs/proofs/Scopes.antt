@@ -80,26 +80,22 @@ among_append x [] l = or-false (same_label x l)
 among_append x (y ∷ ys) l =
     ap (λ b. same_label x y || b) (among_append x ys l) ∙ sym (or_assoc (same_label x y) (among x ys) (same_label x l))
 
+pub first_followed_by : (cs : Cases) → IsFollowed [] cs
+first_followed_by no_case = tt
+first_followed_by (case l b falls cs) = tt
+
 -- the groups have the cases' labels
 has_cases : (p : Module) (c : Call) (n : Names) (k : ℕ) (labels : List Label) (cs : Cases) (s : Handles) → FitsCases p c n k cs s → IsFollowed labels cs → (x : Label) → group_has x (form_cases (naming c n) k labels cs s) ≡ (among x labels || has_label x cs)
 has_cases p c n k [] no_case s m w x = refl
 has_cases p c n k (y ∷ ys) no_case s m w x = absurd w
 has_cases p c n k labels (case l b false cs) s m w x =
-    ap₂ (λ p q. p || q) (among_append x labels l) (has_cases p c n (given_by_all c.function b k) [] cs s m.2 (starts cs) x)
+    ap₂ (λ p q. p || q) (among_append x labels l) (has_cases p c n (given_by_all c.function b k) [] cs s m.2 (first_followed_by cs) x)
     ∙ or_assoc (among x labels) (same_label x l) (has_label x cs)
-  where
-    starts : (cs : Cases) → IsFollowed [] cs
-    starts no_case = tt
-    starts (case l b falls cs) = tt
 has_cases p c n k labels (case l end true cs) s m w x =
     has_cases p c n k (labels ++ l ∷ []) cs s m.2 (falls_followed (labels ++ l ∷ []) cs m.0) x
     ∙ ap (λ p. p || has_label x cs) (among_append x labels l)
     ∙ or_assoc (among x labels) (same_label x l) (has_label x cs)
 has_cases p c n k labels (case l (then st ss) true cs) s m w x = absurd m.0
-
-pub first_followed_by : (cs : Cases) → IsFollowed [] cs
-first_followed_by no_case = tt
-first_followed_by (case l b falls cs) = tt
 
 pub has_all_cases : (p : Module) (c : Call) (n : Names) (k : ℕ) (cs : Cases) (s : Handles) → FitsCases p c n k cs s → (x : Label) → group_has x (form_cases (naming c n) k [] cs s) ≡ has_label x cs
 has_all_cases p c n k cs s m x = has_cases p c n k [] cs s m (first_followed_by cs) x

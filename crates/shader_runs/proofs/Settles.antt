@@ -1,13 +1,13 @@
 -- A text's run with more turns is the run with fewer turns, or that one ran out of turns behind as many events.
-use Rattle.std.proofs.Common.{◌≡◌, ℕ, zero, suc, ◌+◌, ◌<◌, ◌≤◌, ◌⊎◌, inl, inr, ℤ, Bool, true, false, cond, nat_eq, List, [], ◌∷◌, length, Option, Some, None, refl, sym, ap, ◌∙◌, subst, arith}
+use Rattle.std.proofs.Common.{◌≡◌, ℕ, zero, suc, ◌+◌, ◌<◌, ◌≤◌, ◌⊎◌, inl, inr, Bool, true, false, cond, nat_eq, List, [], ◌∷◌, length, Option, Some, None, refl, sym, ap, ◌∙◌, subst, arith, option_map}
 use Rattle.std.proofs.Math.Nat.{eq-or-lt_of_le}
-use Rattle.shader_runs.specs.Value.{Bytes, same_bytes, Place, Selector, Value, Truth, Whole, Pointer, Opaque, ShortCircuit}
+use Rattle.shader_runs.specs.Value.{Bytes, same_bytes, Place, Selector, Value, ShortCircuit, truth_in, integer_in, place_in, Part, At}
 use Rattle.shader_runs.specs.World.{Event, Entry, Write, entries, World, Meaning, bind}
-use Rattle.shader_runs.specs.Outcome.{OutOfTurns, Outcome, Done, Continued, Broke, Returned, Stopped, Reached, Gives, Halts, answer, Next, and_then, and_continue, within, turn, and_again, turns, after_switch, closed, closed_if, chosen, with_integer}
+use Rattle.shader_runs.specs.Outcome.{OutOfTurns, Outcome, Done, Continued, Broke, Returned, Stopped, Reached, Gives, Halts, answer, Next, and_then, and_continue, within, turn, and_again, turns, after_switch, closed, closed_if, chosen, with_integer, or_stuck, reach, unless}
 use Rattle.shader_runs.specs.Program.{Label, Numbered}
 use Rattle.shader_runs.specs.ProgramRun.{called, decides, label_if}
 use Rattle.shader_runs.specs.Text.{Tree, Name, LiteralOf, Apply, Deref, AddressOf, Index, PartOf, LogicalOf, Trees, no_more, more, Line, Let, Assign, Braces, IfElse, SwitchOn, LoopOf, BreakLine, ContinueLine, ReturnLine, DiscardLine, Perform, Lines, last, before, Groups, no_group, group, Variable, TextFunction}
-use Rattle.shader_runs.specs.TextRun.{Denoted, IsValue, IsPlace, Scope, Words, named, valued, put_before, followed_by, responded, unhidden, word_reached, as_value, dereferenced, addressed, part_reached, index_reached, indexed, part_picked, undecided_reached, logical_reached, evaluate, evaluate_all, value_of, with_value, with_place, performed, has_continue, break_line, return_line, among, group_has, follow, follow_all, follow_groups, with_parameters, with_variables, put_first, first_followed, first_of_each, entered_by, follow_body, follow_call, WordUse, NamesFunction, AsksForEvent, Operates, respond_by_use, first_then, with_variable}
+use Rattle.shader_runs.specs.TextRun.{Denoted, IsValue, IsPlace, Scope, Words, valued, put_before, followed_by, responded, word_reached, as_value, dereferenced, addressed, part_reached, index_reached, indexed, part_picked, undecided_reached, logical_reached, evaluate, evaluate_all, value_of, with_value, with_place, performed, has_continue, break_line, return_line, among, group_has, follow, follow_all, follow_groups, with_parameters, with_variables, put_first, first_followed, first_of_each, entered_by, follow_body, follow_call, WordUse, NamesFunction, AsksForEvent, Operates, respond_by_use, first_then, with_variable}
 use Rattle.shader_runs.proofs.Process.{events_of, reached_events}
 
 -- the second history is the first with later events
@@ -53,6 +53,11 @@ onward : {X Y : Type 0} {m : Ends X} {l : Ends Y} {k : ℕ} {t : List Event} {q 
 onward F F' o next (same {q = q} h) = widen h (next q)
 onward {l = l} {k = k} {t = t} F F' o next (out_of_turns {e = e} {q = q} h) =
     subst (λ y. Settles l k t y (F' q)) (sym (o e)) (out_of_turns h)
+
+-- a turn that makes no event is followed by its like
+pub silent : {S : Type 0} (n : ℕ) (once : Next S) (s : S) (t : List Event) → once s t ≡ Done s t → turns n once s t ≡ Stopped OutOfTurns t
+silent zero once s t e = refl
+silent (suc n) once s t e = ap (λ o. and_again o (turns n once)) e ∙ silent n once s t e
 
 module _ (k : ℕ) where
   abbrev pub SettlesReached : {A : Type 0} → List Event → Reached A → Reached A → Type 0
@@ -124,27 +129,16 @@ module _ (k : ℕ) where
   closed_if_settles true s h = closed_settles s h
   closed_if_settles false s h = h
 
-  chosen_settles : {S : Type 0} (v : Value) (t : List Event) (a b a' b' : Outcome S) → SettlesOutcome t a a' → SettlesOutcome t b b' → SettlesOutcome t (chosen v t a b) (chosen v t a' b')
-  chosen_settles (Truth true) t a b a' b' h l = h
-  chosen_settles (Truth false) t a b a' b' h l = l
-  chosen_settles (Whole s z) t a b a' b' h l = same here
-  chosen_settles (Pointer p) t a b a' b' h l = same here
-  chosen_settles (Opaque s z) t a b a' b' h l = same here
-
-  integer_settles : {S : Type 0} (v : Value) (t : List Event) (go go' : ℤ → Outcome S) → ((z : ℤ) → SettlesOutcome t (go z) (go' z)) → SettlesOutcome t (with_integer v t go) (with_integer v t go')
-  integer_settles (Whole s z) t go go' h = h z
-  integer_settles (Truth b) t go go' h = same here
-  integer_settles (Pointer p) t go go' h = same here
-  integer_settles (Opaque s z) t go go' h = same here
+  there_settles : {A S : Type 0} (o : Option A) (t : List Event) (go go' : A → Outcome S) → ((a : A) → SettlesOutcome t (go a) (go' a)) → SettlesOutcome t (or_stuck o t go) (or_stuck o t go')
+  there_settles None t go go' h = same here
+  there_settles (Some a) t go go' h = h a
 
   cond_settles : {X : Type 0} {m : Ends X} {t : List Event} (b : Bool) (x y x' y' : X) → Settles m k t x x' → Settles m k t y y' → Settles m k t (cond b x y) (cond b x' y')
   cond_settles true x y x' y' h l = h
   cond_settles false x y x' y' h l = l
 
-  -- a turn that makes no event is followed by its like
-  silent : {S : Type 0} (n : ℕ) (once : Next S) (s : S) (t : List Event) → once s t ≡ Done s t → turns n once s t ≡ Stopped OutOfTurns t
-  silent zero once s t e = refl
-  silent (suc n) once s t e = ap (λ o. and_again o (turns n once)) e ∙ silent n once s t e
+  chosen_settles : {S : Type 0} (v : Value) (t : List Event) (a b a' b' : Outcome S) → SettlesOutcome t a a' → SettlesOutcome t b b' → SettlesOutcome t (chosen v t a b) (chosen v t a' b')
+  chosen_settles v t a b a' b' h l = there_settles (truth_in v) t _ _ (λ y. cond_settles y a b a' b' h l)
 
   one_more : {S : Type 0} {j : ℕ} {t e : List Event} {o o' : Outcome S} → Later t e → length t < length e → Settles outcome_ends j e o o' → Settles outcome_ends (suc j) t o o'
   one_more l lt (same h) = same (still_later l h)
@@ -203,14 +197,19 @@ module _ (k : ℕ) where
       go (Gives v e) = onward (put_before v) (put_before v) (λ e. refl) (put v) (next e)
       go (Halts x e) = same here
 
+  reach_settles : {A : Type 0} (o : Option A) (t : List Event) → SettlesReached t (reach o t) (reach o t)
+  reach_settles None t = same here
+  reach_settles (Some a) t = same here
+
+  unless_settles : {A B : Type 0} {q q' : Reached B} (o : Option A) (t : List Event) → SettlesReached t q q' → SettlesReached t (unless o t q) (unless o t q')
+  unless_settles None t h = h
+  unless_settles (Some a) t h = same here
+
   indexed_settles : {t : List Event} {q q' : Reached Denoted} (m : Meaning) (rest rest' : List Event → Reached Value) → ((e : List Event) → SettlesReached e (rest e) (rest' e)) → SettlesReached t q q' → SettlesReached t (indexed m q rest) (indexed m q' rest')
   indexed_settles m rest rest' next h = onward (λ q. indexed m q rest) (λ q. indexed m q rest') (λ e. refl) go h
     where
       into_place : (p : Place) (q : Reached Value) → SettlesReached (reached_events q) (part_reached p q) (part_reached p q)
-      into_place p (Gives (Whole s z) e) = same here
-      into_place p (Gives (Truth b) e) = same here
-      into_place p (Gives (Pointer y) e) = same here
-      into_place p (Gives (Opaque s z) e) = same here
+      into_place p (Gives v e) = reach_settles (option_map (λ z. IsPlace (Part p (At z))) (integer_in v)) e
       into_place p (Halts x e) = same here
 
       into_value : (v : Value) (q : Reached Value) → SettlesReached (reached_events q) (index_reached m v q) (index_reached m v q)
@@ -222,10 +221,7 @@ module _ (k : ℕ) where
 
       go : (q : Reached Denoted) → SettlesReached (reached_events q) (indexed m q rest) (indexed m q rest')
       go (Gives (IsPlace p) e) = onward (part_reached p) (part_reached p) (λ e. refl) (into_place p) (next e)
-      go (Gives (IsValue (Pointer p)) e) = same here
-      go (Gives (IsValue (Truth b)) e) = value_index (Truth b) e
-      go (Gives (IsValue (Whole s z)) e) = value_index (Whole s z) e
-      go (Gives (IsValue (Opaque s z)) e) = value_index (Opaque s z) e
+      go (Gives (IsValue v) e) = unless_settles (place_in v) e (value_index v e)
       go (Halts x e) = same here
 
   logical_settles : {t : List Event} {q q' : Reached Value} (m : Meaning) (j : ShortCircuit) (rest rest' : List Event → Reached Value) → ((e : List Event) → SettlesReached e (rest e) (rest' e)) → SettlesReached t q q' → SettlesReached t (logical_reached m j q rest) (logical_reached m j q' rest')
@@ -276,19 +272,11 @@ module _ (k : ℕ) where
     l' = record { world = w; meaning = m; respond = r' }
 
     word_settles : (word : Bytes) (names : Scope) {t : List Event} {q q' : Reached (List Value)} → SettlesReached t q q' → SettlesReached t (word_reached l word names t q) (word_reached l' word names t q')
-    word_settles word names {t = t} {q = q} {q' = q'} h = hidden (names word)
+    word_settles word names {t = t} h = unless_settles (names word) t (onward (responded l word) (responded l' word) (λ e. refl) go h)
       where
         go : (q : Reached (List Value)) → SettlesReached (reached_events q) (responded l word q) (responded l' word q)
         go (Gives vs e) = responds word vs e
         go (Halts x e) = same here
-
-        hidden : (o : Option Denoted) → SettlesReached t (unhidden o t (responded l word q)) (unhidden o t (responded l' word q'))
-        hidden None = onward (responded l word) (responded l' word) (λ e. refl) go h
-        hidden (Some d) = same here
-
-    named_settles : (o : Option Denoted) (t : List Event) → SettlesReached t (named o t) (named o t)
-    named_settles None t = same here
-    named_settles (Some d) t = same here
 
     as_value_next : (q : Reached (Option Value)) → SettlesReached (reached_events q) (as_value q) (as_value q)
     as_value_next (Gives None e) = same here
@@ -296,10 +284,7 @@ module _ (k : ℕ) where
     as_value_next (Halts x e) = same here
 
     dereferenced_next : (q : Reached Value) → SettlesReached (reached_events q) (dereferenced q) (dereferenced q)
-    dereferenced_next (Gives (Pointer p) e) = same here
-    dereferenced_next (Gives (Truth b) e) = same here
-    dereferenced_next (Gives (Whole s z) e) = same here
-    dereferenced_next (Gives (Opaque s z) e) = same here
+    dereferenced_next (Gives v e) = reach_settles (option_map IsPlace (place_in v)) e
     dereferenced_next (Halts x e) = same here
 
     addressed_next : (q : Reached Denoted) → SettlesReached (reached_events q) (addressed q) (addressed q)
@@ -309,15 +294,12 @@ module _ (k : ℕ) where
 
     picked_next : (x : Selector) (q : Reached Denoted) → SettlesReached (reached_events q) (part_picked m x q) (part_picked m x q)
     picked_next x (Gives (IsPlace p) e) = same here
-    picked_next x (Gives (IsValue (Pointer p)) e) = same here
-    picked_next x (Gives (IsValue (Truth b)) e) = same here
-    picked_next x (Gives (IsValue (Whole s z)) e) = same here
-    picked_next x (Gives (IsValue (Opaque s z)) e) = same here
+    picked_next x (Gives (IsValue v) e) = unless_settles (place_in v) e (same here)
     picked_next x (Halts y e) = same here
 
     mutual
       tree_settles : (a : Tree) (names : Scope) (t : List Event) → SettlesReached t (evaluate l a names t) (evaluate l' a names t)
-      tree_settles (Name x) names t = named_settles (names x) t
+      tree_settles (Name x) names t = reach_settles (names x) t
       tree_settles (LiteralOf v) names t = same here
       tree_settles (Apply word es) names t =
           onward as_value as_value (λ e. refl) as_value_next (word_settles word names (trees_settle es names t))
@@ -364,7 +346,7 @@ module _ (k : ℕ) where
         line_settles (IfElse a b c) names t =
             with_value_settles (λ v e. closed names (chosen v e (follow_all l k b names e) (follow_all l k c names e))) (λ v e. closed names (chosen v e (follow_all l' n b names e) (follow_all l' n c names e))) (λ v e. closed_settles names (chosen_settles v e (follow_all l k b names e) (follow_all l k c names e) (follow_all l' n b names e) (follow_all l' n c names e) (lines_settle b names e) (lines_settle c names e))) (value_settles a names t)
         line_settles (SwitchOn a groups) names t =
-            with_value_settles (λ v e. closed names (with_integer v e (λ z. after_switch (follow_groups l k groups (label_if (group_has (Numbered z) groups) z) names e)))) (λ v e. closed names (with_integer v e (λ z. after_switch (follow_groups l' n groups (label_if (group_has (Numbered z) groups) z) names e)))) (λ v e. closed_settles names (integer_settles v e (λ z. after_switch (follow_groups l k groups (label_if (group_has (Numbered z) groups) z) names e)) (λ z. after_switch (follow_groups l' n groups (label_if (group_has (Numbered z) groups) z) names e)) (λ z. switch_settles (groups_settle groups (label_if (group_has (Numbered z) groups) z) names e)))) (value_settles a names t)
+            with_value_settles (λ v e. closed names (with_integer v e (λ z. after_switch (follow_groups l k groups (label_if (group_has (Numbered z) groups) z) names e)))) (λ v e. closed names (with_integer v e (λ z. after_switch (follow_groups l' n groups (label_if (group_has (Numbered z) groups) z) names e)))) (λ v e. closed_settles names (there_settles (integer_in v) e (λ z. after_switch (follow_groups l k groups (label_if (group_has (Numbered z) groups) z) names e)) (λ z. after_switch (follow_groups l' n groups (label_if (group_has (Numbered z) groups) z) names e)) (λ z. switch_settles (groups_settle groups (label_if (group_has (Numbered z) groups) z) names e)))) (value_settles a names t)
         line_settles (LoopOf b d o) names t =
             turns_settle (turn (follow_all l k b) (follow_all l k d) (break_line l o)) (turn (follow_all l' n b) (follow_all l' n d) (break_line l' o)) (λ names e. and_continue_settles (λ s1 t1. and_then (within (follow_all l k d s1 t1)) (break_line l o)) (λ s1 t1. and_then (within (follow_all l' n d s1 t1)) (break_line l' o)) (λ s1 t1. and_then_settles (break_line l o) (break_line l' o) (break_settles o) (within_settles (lines_settle d s1 t1))) (lines_settle b names e)) k n less (omega arith) names t
         line_settles BreakLine names t = same here

@@ -1,15 +1,16 @@
 -- The worked functions for kinds of statements, by computing; the loop without an end by induction
 -- on the bound.
-use Rattle.std.proofs.Common.{◌≡◌, ℕ, zero, suc, true, false, List, refl, ap, ◌∙◌, arith}
+use Rattle.std.proofs.Common.{◌≡◌, ℕ, true, false, List, refl, ap, arith}
 use Rattle.std.specs.Prelude.{IsTrue, ◌∷◌, get_or, codes}
 use Rattle.shader_runs.specs.Value.{Value, Rooted, LocalRoot, ShortCircuitAnd, ShortCircuitOr}
 use Rattle.shader_runs.specs.World.{Event, Read}
-use Rattle.shader_runs.specs.Outcome.{OutOfTurns, Gives, Done, Stopped, Next, and_then, and_again, turns, answer}
+use Rattle.shader_runs.specs.Outcome.{OutOfTurns, Gives, Done, Stopped, Next, and_then, turns, answer}
 use Rattle.shader_runs.specs.Text.{TextFunction}
 use Rattle.shader_runs.specs.Form.{form_module}
-use Rattle.shader_runs.specs.Rows.{all_fit, local_i32}
 use Rattle.shader_runs.specs.WorkedModules.{Example, CallEnd, module_of, outer_of, namings_of, text_with, run_example, follow_example, IsWorked}
 use Rattle.shader_runs.specs.StatementRows.{StatementRowsHold, LogicalRow, ReadOnTheRight, SilentRow, WordIsTaken, StatementsAreToldApart, calls_end, second_local}
+use Rattle.shader_runs.proofs.Settles.{silent}
+use Rattle.shader_runs.specs.WorkedFunctions.{all_fit, local_i32}
 
 worked : {e : Example} {texts : List TextFunction} {g n : ℕ} {vs : List Value} {result : CallEnd} →
     IsTrue (all_fit (namings_of e)) → form_module (module_of e) (outer_of e) (namings_of e) ≡ text_with e texts →
@@ -67,20 +68,14 @@ told_apart =
       word_is_taken = word_is_taken;
     }
 
--- a turn that ends as it began is the same turn again
-silent_turns : {S : Type 0} (once : Next S) (s : S) (t : List Event) → once s t ≡ Done s t → (n : ℕ) →
-    turns n once s t ≡ Stopped OutOfTurns t
-silent_turns once s t e zero = refl
-silent_turns once s t e (suc n) = ap (λ o. and_again o (turns n once)) e ∙ silent_turns once s t e n
-
--- and so is the call, whose body is the loop
+-- a turn that ends as it began is the same turn again, and so is the call, whose body is the loop
 silent_call : {S : Type 0} (once : Next S) (s : S) (t : List Event) → once s t ≡ Done s t → (n : ℕ) →
     answer (and_then (turns n once s t) (λ s1 t1. Done s1 t1)) ≡ answer {S = S} (Stopped OutOfTurns t)
-silent_call once s t e n = ap (λ o. answer (and_then o (λ s1 t1. Done s1 t1))) (silent_turns once s t e n)
+silent_call once s t e n = ap (λ o. answer (and_then o (λ s1 t1. Done s1 t1))) (silent n once s t e)
 
-silent : SilentRow
-silent true n = worked refl refl (silent_call _ _ _ refl n) (silent_call _ _ _ refl n)
-silent false n = worked refl refl (silent_call _ _ _ refl n) (silent_call _ _ _ refl n)
+silent_row : SilentRow
+silent_row true n = worked refl refl (silent_call _ _ _ refl n) (silent_call _ _ _ refl n)
+silent_row false n = worked refl refl (silent_call _ _ _ refl n) (silent_call _ _ _ refl n)
 
 pub statement_rows_hold : StatementRowsHold
 statement_rows_hold =
@@ -96,7 +91,7 @@ statement_rows_hold =
       block = worked refl refl refl refl;
       calls = worked refl refl refl refl;
       discard = worked refl refl refl refl;
-      silent = silent;
+      silent = silent_row;
       swizzle = worked refl refl refl refl;
       greater = worked refl refl refl refl;
       told_apart = told_apart;

@@ -1,19 +1,19 @@
 -- LogicalOf runs of each statement, in step.
 use Rattle.std.proofs.Common.{◌≡◌, ℕ, Bool, true, false, cond, List, [], ◌∷◌, ◌++◌, Option, Some, None, ◌||◌, refl, sym, ap, ap₂, ◌∙◌, subst, true≢false}
 use Rattle.std.specs.Prelude.{IsTrue, ℤ}
-use Rattle.shader_runs.specs.Value.{Bytes, PartTypes, has_type, has_types, Value}
+use Rattle.shader_runs.specs.Value.{Bytes, PartTypes, has_type, has_types, Value, integer_in}
 use Rattle.shader_runs.specs.World.{Event, Ask, update, bind}
-use Rattle.shader_runs.specs.Outcome.{Outcome, Next, Done, Continued, Returned, Reached, Gives, Halts, and_then, within, turn, turns, after_switch, chosen, with_integer, closed, closed_if}
+use Rattle.shader_runs.specs.Outcome.{Outcome, Next, Done, Continued, Returned, Reached, Gives, Halts, and_then, within, turn, turns, after_switch, chosen, with_integer, closed, closed_if, or_stuck, reach, unless}
 use Rattle.shader_runs.specs.Program.{Expression, Result, Action, Asked, Called, Label, Numbered, Statement, Emit, Store, Block, If, Switch, Loop, Break, Continue, Return, Kill, Barrier, Act, Statements, end, then, Cases, no_case, case, from, holds_continue, any_continue, some_case_continues, expression_of, handle_type, BarrierBits, Function, function_numbered, Module}
-use Rattle.shader_runs.specs.ProgramRun.{Call, Kept, combined, used, used_as, used_all, acted, with_result, with_all, with_used, leave, returned, barrier_words, ask_each, same_label, has_label, label_if, run, run_all, run_cases, run_on}
+use Rattle.shader_runs.specs.ProgramRun.{Call, Kept, combined, used, used_as, used_all, acted, with_result, leave, returned, barrier_words, ask_each, same_label, has_label, label_if, run, run_all, run_cases, run_on}
 use Rattle.shader_runs.specs.Text.{Lines}
-use Rattle.shader_runs.specs.TextRun.{IsValue, Scope, valued, as_value, unhidden, word_reached, performed, evaluate_all, value_of, with_value, break_line, return_line, among, group_has, follow_all, follow_groups}
+use Rattle.shader_runs.specs.TextRun.{IsValue, Scope, valued, as_value, word_reached, performed, evaluate_all, value_of, with_value, break_line, return_line, among, group_has, follow_all, follow_groups}
 use Rattle.shader_runs.specs.Scope.{usable_all, is_present, Named, Handles, Names, usable, usable_if, given_by, given_by_all, after, after_all, forgotten_if}
 use Rattle.shader_runs.specs.Form.{word_of, value_forms, written, value_at, value_if, perform_each, form, form_all, form_cases}
 use Rattle.shader_runs.specs.Premises.{IsNoName, handle_types, CallFits, ActionFits, ReturnFits, IsResult, EachAsks}
-use Rattle.shader_runs.proofs.Alike.{HoldsOf, reached, Answers, same_answer, mistyped_answer, Alike, done, continued, broke, returned_alike, stopped, mistyped, typed_alike, Steps, weaker, then_alike, continue_alike, within_alike, turns_alike, switch_alike, closed_alike, chosen_alike, integer_alike, used_alike, pointer_alike}
+use Rattle.shader_runs.proofs.Alike.{HoldsOf, Answers, same_answer, mistyped_answer, Alike, done, continued, broke, returned_alike, stopped, mistyped, typed_alike, Steps, weaker, then_alike, continue_alike, within_alike, turns_alike, switch_alike, closed_alike, chosen_alike, used_alike, pointer_alike, there_alike}
 use Rattle.shader_runs.proofs.Relation.{ResultTyped, Returns, Related, Extends, Agree, extends_refl, agree_refl, agree_trans, related_agree, related_forgotten}
-use Rattle.shader_runs.proofs.Evaluation.{naming, words, Respond, request_responds, reached_all, value_forms_give}
+use Rattle.shader_runs.proofs.Evaluation.{naming, words, Respond, request_responds, value_forms_give}
 use Rattle.shader_runs.proofs.Written.{Given, free, typed_value, value_here, place_here, all_here, values_here}
 use Rattle.shader_runs.proofs.Emission.{new_event, agree_update, bind_related, emit_alike}
 use Rattle.shader_runs.proofs.Checked.{Fits, FitsAll, FitsCases, MayResult}
@@ -63,12 +63,12 @@ module _ (p : Module) (c : Call) (n : Names) (d : Respond) (given : Given p c n 
   return_alike s names kept t None u w r = returned_alike tt
   return_alike s names kept t (Some h) u w r =
       let v = typed_value p c n d given s names kept r h u in
-      let there = value_here p c n d given s names kept r h u t ∙ ap (λ o. reached o t) v.1 in
+      let there = value_here p c n d given s names kept r h u t ∙ ap (λ o. reach o t) v.1 in
       let typed : Returns c.environment.parts c.function (Some v.0) = subst (λ k. ResultTyped c.environment.parts (Some v.0) k) (sym w) v.2 in
-      subst (λ o. SameLine c n s kept false (with_used o t (λ v. Returned (Some v) t)) (return_line (words c d) (value_if (naming c n) s (Some h)) names t)) (sym v.1) (subst (λ q. SameLine c n s kept false (Returned (Some v.0) t) (with_value q (λ v t1. Returned (Some v) t1))) (sym there) (returned_alike typed))
+      subst (λ o. SameLine c n s kept false (or_stuck o t (λ v. Returned (Some v) t)) (return_line (words c d) (value_if (naming c n) s (Some h)) names t)) (sym v.1) (subst (λ q. SameLine c n s kept false (Returned (Some v.0) t) (with_value q (λ v t1. Returned (Some v) t1))) (sym there) (returned_alike typed))
 
   -- a choice, where each branch is alike
-  if_line : (s sa sb : Handles) (names : Scope) (kept : Kept) (t : List Event) (h : ℕ) (ha hb : Bool) (a b : Outcome Kept) (a' b' : List Event → Outcome Scope) → Related c n s names kept → IsTrue (usable c.function s h) → Same c n s kept sa ha a (a' t) → Same c n s kept sb hb b (b' t) → SameLine c n s kept (ha || hb) (with_used (used c kept h) t (λ v. chosen v t a b)) (with_value (value_of (words c d) (value_at (naming c n) s h) names t) (λ v t1. closed names (chosen v t1 (a' t1) (b' t1))))
+  if_line : (s sa sb : Handles) (names : Scope) (kept : Kept) (t : List Event) (h : ℕ) (ha hb : Bool) (a b : Outcome Kept) (a' b' : List Event → Outcome Scope) → Related c n s names kept → IsTrue (usable c.function s h) → Same c n s kept sa ha a (a' t) → Same c n s kept sb hb b (b' t) → SameLine c n s kept (ha || hb) (or_stuck (used c kept h) t (λ v. chosen v t a b)) (with_value (value_of (words c d) (value_at (naming c n) s h) names t) (λ v t1. closed names (chosen v t1 (a' t1) (b' t1))))
   if_line s sa sb names kept t h ha hb a b a' b' r u same_a same_b =
       used_alike _ _ (used c kept h) t (value_of (words c d) (value_at (naming c n) s h) names t) (value_here p c n d given s names kept r h u t) (λ v. closed_alike names (λ k l p. (related_agree c n s names kept k p r, p)) (λ k l q. q) (λ k l b. b) (chosen_alike {P = λ k l. Agree s kept k} {Q = λ k l. Agree s kept k × IsTrue (ha || hb)} {B = λ k l. Agree s kept k} v t (weaker (λ k l p. p.1) (λ k l q. (q.1, or_left ha hb q.2)) (λ k l b. b) same_a) (weaker (λ k l p. p.1) (λ k l q. (q.1, or_right ha hb q.2)) (λ k l b. b) same_b)))
 
@@ -150,7 +150,7 @@ module _ (p : Module) (c : Call) (n : Names) (d : Respond) (given : Given p c n 
       let a' = Follow (form_all (naming c n) k a s) names in
       let b' = Follow (form_all (naming c n) k1 b s) names in
       let held = any_continue a || any_continue b in
-      let o = with_used (used c kept h) t (λ v. chosen v t (run_all c bound a kept t) (run_all c bound b kept t)) in
+      let o = or_stuck (used c kept h) t (λ v. chosen v t (run_all c bound a kept t) (run_all c bound b kept t)) in
       let o' = with_value (value_of (words c d) (value_at (naming c n) s h) names t) (λ v t1. closed names (chosen v t1 (a' t1) (b' t1))) in
       subst (λ x. Same c n s kept (forgotten_if held s s2) (held || held2) (and_then o f) (closed_if x names (and_then o' (Follow tail)))) (sym (ap₂ (λ x y. x || y) (continue_all p c n k a s m.1) (continue_all p c n k1 b s m.2))) (row c n s names kept r held held2 s2 o o' f (Follow tail) (if_line p c n d given bound s _ _ names kept t h (any_continue a) (any_continue b) _ _ a' b' r m.0 (same_a names kept t r m.1) (same_b names kept t r m.2)) next)
 
@@ -180,7 +180,7 @@ module _ (p : Module) (c : Call) (n : Names) (d : Respond) (given : Given p c n 
   asks_alike s s2 names kept r held2 f tail [] m next t = next t
   asks_alike s s2 names kept r held2 f tail (w ∷ ws) m next t =
       let rest = Follow (perform_each ws tail) in
-      subst (λ q. Same c n s kept s2 held2 (and_then (ask_each ws kept (Ask w [] ∷ t)) f) (and_then (performed names q) rest)) (sym (ap (λ o. unhidden o t (d w [] t)) (free p c n d given s names kept r w m.0.1.1) ∙ request_responds p c n d given.responds w m.0 [] t)) (asks_alike s s2 names kept r held2 f tail ws m.1 next (Ask w [] ∷ t))
+      subst (λ q. Same c n s kept s2 held2 (and_then (ask_each ws kept (Ask w [] ∷ t)) f) (and_then (performed names q) rest)) (sym (ap (λ o. unless o t (d w [] t)) (free p c n d given s names kept r w m.0.1.1) ∙ request_responds p c n d given.responds w m.0 [] t)) (asks_alike s s2 names kept r held2 f tail ws m.1 next (Ask w [] ∷ t))
 
   barrier_row : (k : ℕ) (bits : BarrierBits) (s : Handles) → Row k (Barrier bits) s
   barrier_row k bits s names kept t held2 s2 f tail r m next =
@@ -204,8 +204,8 @@ module _ (p : Module) (c : Call) (n : Names) (d : Respond) (given : Given p c n 
 
   responded_written : (s : Handles) (names : Scope) (kept : Kept) → Related c n s names kept → (a : Action) (xs : List ℕ) (result : Option ℕ) → ActionFits p c.callees (naming c n) a xs result → IsTrue (usable_all c.function s xs) → (vs : List Value) → used_all c kept xs ≡ Some vs → IsTrue (has_types c.environment.parts (handle_types c.function xs) vs) → (t : List Event) → Answers (ActionReturns c a) (acted c a vs t) (word_reached (words c d) (word_of n a) names t (evaluate_all (words c d) (value_forms (written (naming c n) s) xs) names t))
   responded_written s names kept r a xs result m u vs e h t =
-      let there = value_forms_give c d names kept (written (naming c n) s) xs (all_here p c n d given s names kept r xs u) t ∙ ap (λ os. reached_all os t) e in
-      subst (λ q. Answers (ActionReturns c a) (acted c a vs t) (word_reached (words c d) (word_of n a) names t q)) (sym there) (subst (λ o. Answers (ActionReturns c a) (acted c a vs t) (unhidden o t (d (word_of n a) vs t))) (sym (free p c n d given s names kept r (word_of n a) (not_hidden a xs result m))) (action_responds a xs result m vs h t))
+      let there = value_forms_give c d names kept (written (naming c n) s) xs (all_here p c n d given s names kept r xs u) t ∙ ap (λ os. reach os t) e in
+      subst (λ q. Answers (ActionReturns c a) (acted c a vs t) (word_reached (words c d) (word_of n a) names t q)) (sym there) (subst (λ o. Answers (ActionReturns c a) (acted c a vs t) (unless o t (d (word_of n a) vs t))) (sym (free p c n d given s names kept r (word_of n a) (not_hidden a xs result m))) (action_responds a xs result m vs h t))
 
   performed_same : (s : Handles) (names : Scope) (kept : Kept) (a : Action) (q : Reached (Option Value)) → Related c n s names kept → SameLine c n s kept false (with_result c.environment.parts c.function a None kept q) (performed names q)
   performed_same s names kept a (Gives v t) r = done (r, agree_refl s kept)
@@ -219,7 +219,7 @@ module _ (p : Module) (c : Call) (n : Names) (d : Respond) (given : Given p c n 
   perform_row k a xs s names kept t held2 s2 f tail r m next =
       let v = values_here p c n d given s names kept r xs m.0 in
       let q' = word_reached (words c d) (word_of n a) names t (evaluate_all (words c d) (value_forms (written (naming c n) s) xs) names t) in
-      row c n s names kept r false held2 s2 _ _ f (Follow tail) (subst (λ os. SameLine c n s kept false (with_all os t (λ vs. with_result c.environment.parts c.function a None kept (acted c a vs t))) (performed names q')) (sym v.1) (performed_alike s names kept a (acted c a v.0 t) q' (responded_written s names kept r a xs None m.1 m.0 v.0 v.1 v.2 t) r)) next
+      row c n s names kept r false held2 s2 _ _ f (Follow tail) (subst (λ os. SameLine c n s kept false (or_stuck os t (λ vs. with_result c.environment.parts c.function a None kept (acted c a vs t))) (performed names q')) (sym v.1) (performed_alike s names kept a (acted c a v.0 t) q' (responded_written s names kept r a xs None m.1 m.0 v.0 v.1 v.2 t) r)) next
 
   abbrev bound_to : Scope → Bytes → Next Scope → Reached (Option Value) → Outcome Scope
   bound_to names x g q =
@@ -253,7 +253,7 @@ module _ (p : Module) (c : Call) (n : Names) (d : Respond) (given : Given p c n 
   result_row k a xs h s names kept t held2 s2 f tail r m next =
       let v = values_here p c n d given s names kept r xs m.0 in
       let q' = word_reached (words c d) (word_of n a) names t (evaluate_all (words c d) (value_forms (written (naming c n) s) xs) names t) in
-      subst (λ os. Same c n s kept s2 held2 (and_then (with_all os t (λ vs. with_result c.environment.parts c.function a (Some h) kept (acted c a vs t))) f) (bound_to names (n.numbered h) (Follow tail) q')) (sym v.1) (result_alike s s2 names kept held2 a xs h f (Follow tail) r m.1 m.2 next (acted c a v.0 t) q' (responded_written s names kept r a xs (Some h) m.1 m.0 v.0 v.1 v.2 t))
+      subst (λ os. Same c n s kept s2 held2 (and_then (or_stuck os t (λ vs. with_result c.environment.parts c.function a (Some h) kept (acted c a vs t))) f) (bound_to names (n.numbered h) (Follow tail) q')) (sym v.1) (result_alike s s2 names kept held2 a xs h f (Follow tail) r m.1 m.2 next (acted c a v.0 t) q' (responded_written s names kept r a xs (Some h) m.1 m.0 v.0 v.1 v.2 t))
 
   -- what is to be shown of the cases of a switch, behind waiting labels: entered, or on the way to the label x
   pub record Cases_row (k : ℕ) (cs : Cases) (s : Handles) : Type 0 where
@@ -336,9 +336,9 @@ module _ (p : Module) (c : Call) (n : Names) (d : Respond) (given : Given p c n 
         searching = λ labels w x e names kept t r m. absurd m.0;
       }
 
-  switch_line : (k h : ℕ) (cs : Cases) (s : Handles) → Cases_row k cs s → (names : Scope) (kept : Kept) (t : List Event) → Related c n s names kept → IsTrue (usable c.function s h) → FitsCases p c n k cs s → SameLine c n s kept (some_case_continues cs) (with_used (used c kept h) t (λ v. with_integer v t (λ z. after_switch (run_cases c bound cs (label_if (has_label (Numbered z) cs) z) kept t)))) (with_value (value_of (words c d) (value_at (naming c n) s h) names t) (λ v t1. closed names (with_integer v t1 (λ z. after_switch (follow_groups (words c d) bound (form_cases (naming c n) k [] cs s) (label_if (group_has (Numbered z) (form_cases (naming c n) k [] cs s)) z) names t1)))))
+  switch_line : (k h : ℕ) (cs : Cases) (s : Handles) → Cases_row k cs s → (names : Scope) (kept : Kept) (t : List Event) → Related c n s names kept → IsTrue (usable c.function s h) → FitsCases p c n k cs s → SameLine c n s kept (some_case_continues cs) (or_stuck (used c kept h) t (λ v. with_integer v t (λ z. after_switch (run_cases c bound cs (label_if (has_label (Numbered z) cs) z) kept t)))) (with_value (value_of (words c d) (value_at (naming c n) s h) names t) (λ v t1. closed names (with_integer v t1 (λ z. after_switch (follow_groups (words c d) bound (form_cases (naming c n) k [] cs s) (label_if (group_has (Numbered z) (form_cases (naming c n) k [] cs s)) z) names t1)))))
   switch_line k h cs s cases names kept t r u m =
-      used_alike _ _ (used c kept h) t (value_of (words c d) (value_at (naming c n) s h) names t) (value_here p c n d given s names kept r h u t) (λ v. closed_alike {P = λ k l. Agree s kept k} {Q = λ k l. Agree s kept k × IsTrue (some_case_continues cs)} {B = λ k l. Agree s kept k} names (λ k l a. (related_agree c n s names kept k a r, a)) (λ k l q. q) (λ k l b. b) (integer_alike v t _ _ one_label))
+      used_alike _ _ (used c kept h) t (value_of (words c d) (value_at (naming c n) s h) names t) (value_here p c n d given s names kept r h u t) (λ v. closed_alike {P = λ k l. Agree s kept k} {Q = λ k l. Agree s kept k × IsTrue (some_case_continues cs)} {B = λ k l. Agree s kept k} names (λ k l a. (related_agree c n s names kept k a r, a)) (λ k l q. q) (λ k l b. b) (there_alike (integer_in v) t _ _ one_label))
     where
       one_label : (z : ℤ) → SameBody c s kept (some_case_continues cs) (after_switch (run_cases c bound cs (label_if (has_label (Numbered z) cs) z) kept t)) (after_switch (follow_groups (words c d) bound (form_cases (naming c n) k [] cs s) (label_if (group_has (Numbered z) (form_cases (naming c n) k [] cs s)) z) names t))
       one_label z =
@@ -348,7 +348,7 @@ module _ (p : Module) (c : Call) (n : Names) (d : Respond) (given : Given p c n 
   switch_row k h cs s cases names kept t held2 s2 f tail r m next =
       let groups = form_cases (naming c n) k [] cs s in
       let held = some_case_continues cs in
-      let o = with_used (used c kept h) t (λ v. with_integer v t (λ z. after_switch (run_cases c bound cs (label_if (has_label (Numbered z) cs) z) kept t))) in
+      let o = or_stuck (used c kept h) t (λ v. with_integer v t (λ z. after_switch (run_cases c bound cs (label_if (has_label (Numbered z) cs) z) kept t))) in
       let o' = with_value (value_of (words c d) (value_at (naming c n) s h) names t) (λ v t1. closed names (with_integer v t1 (λ z. after_switch (follow_groups (words c d) bound groups (label_if (group_has (Numbered z) groups) z) names t1)))) in
       subst (λ x. Same c n s kept (forgotten_if held s s2) (held || held2) (and_then o f) (closed_if x names (and_then o' (Follow tail)))) (sym (continue_cases p c n k [] cs s m.1)) (row c n s names kept r held held2 s2 o o' f (Follow tail) (switch_line k h cs s cases names kept t r m.0 m.1) next)
 

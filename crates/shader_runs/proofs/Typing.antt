@@ -1,8 +1,8 @@
 -- A module whose operators are typed consistently has a typed meaning.
-use Rattle.std.proofs.Common.{◌≡◌, ◌≢◌, ◌⊎◌, inl, inr, ℕ, zero, suc, ◌+◌, ◌<◌, pos, Bool, true, false, cond, nat_eq, List, [], ◌∷◌, ◌++◌, length, Option, Some, None, ◌&&◌, slice_get, refl, sym, ap, ap₂, ◌∙◌, subst, true≢false, arith, eqb-true, eq-eqb}
+use Rattle.std.proofs.Common.{◌≡◌, ◌≢◌, ◌⊎◌, inl, inr, ℕ, zero, suc, ◌+◌, ◌<◌, pos, Bool, true, false, cond, nat_eq, List, [], ◌∷◌, ◌++◌, length, Option, Some, None, ◌&&◌, slice_get, refl, sym, ap, ap₂, ◌∙◌, subst, true≢false, arith, eqb-true, eq-eqb, option_map}
 use Rattle.std.specs.Prelude.{IsTrue}
 use Rattle.std.proofs.lemmas.Bool.{eqb-false}
-use Rattle.std.proofs.lemmas.Option.{slice_get_within}
+use Rattle.std.proofs.lemmas.Option.{slice_get_within, none-some, same_Some}
 use Rattle.shader_runs.specs.Value.{Bytes, PartTypes, Place, place_type, Step, Rooted, GlobalRoot, Part, At, Selector, MemberNamed, ElementAt, step_of, ValueType, BooleanType, IntegerType, PointerType, OtherType, type_of, same_type, has_type, has_types, same_bytes, Value, Truth, Whole, Pointer, Opaque, Word, Spelled, PartWord, IndexWord, ShortCircuit, short_circuit_word}
 use Rattle.shader_runs.specs.World.{Meaning}
 use Rattle.shader_runs.specs.Program.{ConstantTree, Fixed, NamedConstant, Constructed, ConstantTrees, no_constant, constant, Expression, Constant, Operator, Access, AccessIndex, Logical, Swizzle, Request, Function, expression_of, handle_type, operands_of, Module}
@@ -12,7 +12,7 @@ use Rattle.shader_runs.specs.Premises.{constant_types_of, handle_types, Constant
 use Rattle.shader_runs.specs.Typing.{Signature, constant_signatures, constants_signatures, signatures_of, IsOneOf, first_of, later_of, IsSpelled, in_function, in_initialiser, AccessFits, AccessIndexFits, LogicalFits, PartsFit, IsConsistent}
 use Rattle.shader_runs.specs.Correct.{HasTypedMeaning}
 use Rattle.shader_runs.proofs.Update.{and_left, and_right, and_both, same_bytes_true, same_bytes_self, same_type_true, same_type_self}
-use Rattle.shader_runs.proofs.Evaluation.{not_pointer, not_pointer_type, typed_not_pointer}
+use Rattle.shader_runs.proofs.Evaluation.{not_pointer_type, typed_not_pointer, pointer_typed, integer_typed, index_value_is, part_value_is}
 
 abbrev pub default_value : ValueType → Value
 default_value BooleanType = Truth false
@@ -33,9 +33,8 @@ same_selector _ _ = false
 
 same_selector_true : (a b : Selector) → IsTrue (same_selector a b) → a ≡ b
 same_selector_true (MemberNamed a) (MemberNamed b) e = ap MemberNamed (same_bytes_true a b e)
-same_selector_true (MemberNamed a) (ElementAt j) e = absurd (true≢false (sym e))
-same_selector_true (ElementAt i) (MemberNamed b) e = absurd (true≢false (sym e))
 same_selector_true (ElementAt i) (ElementAt j) e = ap ElementAt (eqb-true i j e)
+same_selector_true a b e = absurd (true≢false (sym e))
 
 same_selector_self : (a : Selector) → IsTrue (same_selector a a)
 same_selector_self (MemberNamed a) = same_bytes_self a
@@ -49,14 +48,9 @@ same_word _ _ = false
 
 same_word_true : (a b : Word) → IsTrue (same_word a b) → a ≡ b
 same_word_true (Spelled a) (Spelled b) e = ap Spelled (same_bytes_true a b e)
-same_word_true (Spelled a) (PartWord b) e = absurd (true≢false (sym e))
-same_word_true (Spelled a) IndexWord e = absurd (true≢false (sym e))
-same_word_true (PartWord a) (Spelled b) e = absurd (true≢false (sym e))
 same_word_true (PartWord a) (PartWord b) e = ap PartWord (same_selector_true a b e)
-same_word_true (PartWord a) IndexWord e = absurd (true≢false (sym e))
-same_word_true IndexWord (Spelled b) e = absurd (true≢false (sym e))
-same_word_true IndexWord (PartWord b) e = absurd (true≢false (sym e))
 same_word_true IndexWord IndexWord e = refl
+same_word_true a b e = absurd (true≢false (sym e))
 
 same_word_self : (a : Word) → IsTrue (same_word a a)
 same_word_self (Spelled a) = same_bytes_self a
@@ -168,18 +162,12 @@ within_list p f h x = go (expression_of f h) refl
     go (Some y) q m = slice_get_within f.expressions h y q
 
 spelled_there : (p : Module) (fs : List Function) (i : ℕ) (f : Function) → slice_get fs i ≡ Some f → (h : ℕ) (x : Signature) → IsOneOf x (at_handle p f h) → IsOneOf x (signatures_in p fs)
-spelled_there p [] i f e h x m = absurd (none_here e)
-  where
-    none_here : None ≡ Some f → ⊥
-    none_here e = cc
+spelled_there p [] i f e h x m = absurd (none-some f e)
 spelled_there p (g ∷ fs) zero f e h x m =
     one_of_left x (signatures_below p g (length g.expressions)) (signatures_in p fs) (below_there p g (length g.expressions) h x (within_list p g h x there) there)
   where
-    same : (a b : Function) → Some a ≡ Some b → a ≡ b
-    same a b q = cc
-
     there : IsOneOf x (at_handle p g h)
-    there = subst (λ f. IsOneOf x (at_handle p f h)) (sym (same g f e)) m
+    there = subst (λ f. IsOneOf x (at_handle p f h)) (sym (same_Some g f e)) m
 spelled_there p (g ∷ fs) (suc i) f e h x m =
     one_of_right x (signatures_below p g (length g.expressions)) (signatures_in p fs) (spelled_there p fs i f e h x m)
 
@@ -192,17 +180,26 @@ handle_of p f (suc n) x m =
     go (inl k) rest = (n, k)
     go (inr k) rest = rest k
 
+-- what stands at a place of the second list stands so many places later in the first
+abbrev StandsFrom : {A : Type 0} → List A → List A → ℕ → Type 0
+StandsFrom {A} xs ys shift = (i : ℕ) (a : A) → slice_get ys i ≡ Some a → slice_get xs (i + shift) ≡ Some a
+
+stands_behind : {A : Type 0} (xs : List A) (y : A) (ys : List A) (shift : ℕ) → StandsFrom xs (y ∷ ys) shift → StandsFrom xs ys (suc shift)
+stands_behind xs y ys shift at i a e =
+    let same : suc i + shift ≡ i + suc shift = omega arith in
+    subst (λ k. slice_get xs k ≡ Some a) same (at (suc i) a e)
+
+stands_at_start : {A : Type 0} (xs : List A) → StandsFrom xs xs 0
+stands_at_start xs i a e =
+    let same : i ≡ i + 0 = omega arith in
+    subst (λ k. slice_get xs k ≡ Some a) same e
+
 -- what a list of the module's last functions spells, the module spells
-spelled_in : (p : Module) (fs : List Function) (shift : ℕ) → ((i : ℕ) (f : Function) → slice_get fs i ≡ Some f → slice_get p.functions (i + shift) ≡ Some f) → (x : Signature) → IsOneOf x (signatures_in p fs) → IsSpelled p x
+spelled_in : (p : Module) (fs : List Function) (shift : ℕ) → StandsFrom p.functions fs shift → (x : Signature) → IsOneOf x (signatures_in p fs) → IsSpelled p x
 spelled_in p [] shift at x m = absurd (no_signature x m)
 spelled_in p (f ∷ fs) shift at x m =
-    go (one_of_either x (signatures_below p f (length f.expressions)) (signatures_in p fs) m) (λ k. spelled_in p fs (suc shift) later x k)
+    go (one_of_either x (signatures_below p f (length f.expressions)) (signatures_in p fs) m) (λ k. spelled_in p fs (suc shift) (stands_behind p.functions f fs shift at) x k)
   where
-    later : (i : ℕ) (g : Function) → slice_get fs i ≡ Some g → slice_get p.functions (i + suc shift) ≡ Some g
-    later i g e =
-        let same : suc i + shift ≡ i + suc shift = omega arith in
-        subst (λ k. slice_get p.functions k ≡ Some g) same (at (suc i) g e)
-
     go : IsOneOf x (signatures_below p f (length f.expressions)) ⊎ IsOneOf x (signatures_in p fs) → (IsOneOf x (signatures_in p fs) → IsSpelled p x) → IsSpelled p x
     go (inl k) rest =
         let found = handle_of p f (length f.expressions) x k in
@@ -215,29 +212,18 @@ initialiser_signatures p [] = []
 initialiser_signatures p (e ∷ es) = constant_signatures p e ++ initialiser_signatures p es
 
 initialiser_there : (p : Module) (es : List ConstantTree) (i : ℕ) (e : ConstantTree) → slice_get es i ≡ Some e → (x : Signature) → IsOneOf x (constant_signatures p e) → IsOneOf x (initialiser_signatures p es)
-initialiser_there p [] i e q x k = absurd (none_here q)
-  where
-    none_here : None ≡ Some e → ⊥
-    none_here q = cc
+initialiser_there p [] i e q x k = absurd (none-some e q)
 initialiser_there p (d ∷ es) zero e q x k =
-    one_of_left x (constant_signatures p d) (initialiser_signatures p es) (subst (λ e. IsOneOf x (constant_signatures p e)) (sym (same d e q)) k)
-  where
-    same : (a b : ConstantTree) → Some a ≡ Some b → a ≡ b
-    same a b q = cc
+    one_of_left x (constant_signatures p d) (initialiser_signatures p es) (subst (λ e. IsOneOf x (constant_signatures p e)) (sym (same_Some d e q)) k)
 initialiser_there p (d ∷ es) (suc i) e q x k =
     one_of_right x (constant_signatures p d) (initialiser_signatures p es) (initialiser_there p es i e q x k)
 
 -- what a list of the module's last initialisers spells, the module spells
-initialiser_spelled : (p : Module) (es : List ConstantTree) (shift : ℕ) → ((i : ℕ) (e : ConstantTree) → slice_get es i ≡ Some e → slice_get p.initialisers (i + shift) ≡ Some e) → (x : Signature) → IsOneOf x (initialiser_signatures p es) → IsSpelled p x
+initialiser_spelled : (p : Module) (es : List ConstantTree) (shift : ℕ) → StandsFrom p.initialisers es shift → (x : Signature) → IsOneOf x (initialiser_signatures p es) → IsSpelled p x
 initialiser_spelled p [] shift at x k = absurd (no_signature x k)
 initialiser_spelled p (d ∷ es) shift at x k =
-    go (one_of_either x (constant_signatures p d) (initialiser_signatures p es) k) (λ k. initialiser_spelled p es (suc shift) later x k)
+    go (one_of_either x (constant_signatures p d) (initialiser_signatures p es) k) (λ k. initialiser_spelled p es (suc shift) (stands_behind p.initialisers d es shift at) x k)
   where
-    later : (i : ℕ) (e : ConstantTree) → slice_get es i ≡ Some e → slice_get p.initialisers (i + suc shift) ≡ Some e
-    later i e q =
-        let same : suc i + shift ≡ i + suc shift = omega arith in
-        subst (λ k. slice_get p.initialisers k ≡ Some e) same (at (suc i) e q)
-
     go : IsOneOf x (constant_signatures p d) ⊎ IsOneOf x (initialiser_signatures p es) → (IsOneOf x (initialiser_signatures p es) → IsSpelled p x) → IsSpelled p x
     go (inl k) rest = in_initialiser (0 + shift) d (at 0 d refl) k
     go (inr k) rest = rest k
@@ -253,19 +239,9 @@ module _ (p : Module) (consistent : IsConsistent p) where
   all_spelled x k =
       go (one_of_either x (signatures_in p p.functions) (initialiser_signatures p p.initialisers) k)
     where
-      at_function : (i : ℕ) (f : Function) → slice_get p.functions i ≡ Some f → slice_get p.functions (i + 0) ≡ Some f
-      at_function i f e =
-          let same : i ≡ i + 0 = omega arith in
-          subst (λ k. slice_get p.functions k ≡ Some f) same e
-
-      at_initialiser : (i : ℕ) (e : ConstantTree) → slice_get p.initialisers i ≡ Some e → slice_get p.initialisers (i + 0) ≡ Some e
-      at_initialiser i e q =
-          let same : i ≡ i + 0 = omega arith in
-          subst (λ k. slice_get p.initialisers k ≡ Some e) same q
-
       go : IsOneOf x (signatures_in p p.functions) ⊎ IsOneOf x (initialiser_signatures p p.initialisers) → IsSpelled p x
-      go (inl k) = spelled_in p p.functions 0 at_function x k
-      go (inr k) = initialiser_spelled p p.initialisers 0 at_initialiser x k
+      go (inl k) = spelled_in p p.functions 0 (stands_at_start p.functions) x k
+      go (inr k) = initialiser_spelled p p.initialisers 0 (stands_at_start p.initialisers) x k
 
   there : (x : Signature) → IsSpelled p x → IsOneOf x All
   there x (in_function place f here h k) =
@@ -333,18 +309,6 @@ module _ (p : Module) (consistent : IsConsistent p) where
     pair_typed : (a b : ValueType) (x y : Value) → IsTrue (has_type p.parts a x) → IsTrue (has_type p.parts b y) → IsTrue (has_types p.parts (a ∷ b ∷ []) (x ∷ y ∷ []))
     pair_typed a b x y h k = and_both (has_type p.parts a x) (has_types p.parts (b ∷ []) (y ∷ [])) h (and_both (has_type p.parts b y) true k refl)
 
-    index_value_is : (x y : Value) → IsTrue (not_pointer x) → index_value_of m x y ≡ Some (m IndexWord (x ∷ y ∷ []))
-    index_value_is (Truth b) y n = refl
-    index_value_is (Whole s z) y n = refl
-    index_value_is (Opaque s z) y n = refl
-    index_value_is (Pointer q) y n = absurd (true≢false (sym n))
-
-    part_value_is : (x : Selector) (b : Value) → IsTrue (not_pointer b) → part_value m x b ≡ Some (m (PartWord x) (b ∷ []))
-    part_value_is x (Truth b) n = refl
-    part_value_is x (Whole s z) n = refl
-    part_value_is x (Opaque s z) n = refl
-    part_value_is x (Pointer q) n = absurd (true≢false (sym n))
-
     -- a pointer to a part has the type that its place has
     part_has_type : (k : ValueType) (whole : Bytes) (q : Place) (x : Step) → k ≡ PointerType (p.parts whole x) → IsTrue (has_type p.parts (PointerType whole) (Pointer q)) → IsTrue (has_type p.parts k (Pointer (Part q x)))
     part_has_type k whole q x w h =
@@ -353,21 +317,17 @@ module _ (p : Module) (consistent : IsConsistent p) where
         ∙ same_bytes_self (p.parts (place_type p.parts q) x)
 
     access_pointer : (whole : Bytes) (i k : ValueType) → AccessFits p.parts (PointerType whole) i k → (b j : ℕ) (x y : Value) → IsTrue (has_type p.parts (PointerType whole) x) → IsTrue (has_type p.parts i y) → Gives_typed k (Some (Access b j)) (x ∷ y ∷ [])
-    access_pointer whole (IntegerType s) k w b j (Pointer q) (Whole t z) h l =
-        (Pointer (Part q (At z)), refl, part_has_type k whole q (At z) (w z) h)
-    access_pointer whole (IntegerType s) k w b j (Pointer q) (Truth t) h l = absurd (true≢false (sym l))
-    access_pointer whole (IntegerType s) k w b j (Pointer q) (Pointer t) h l = absurd (true≢false (sym l))
-    access_pointer whole (IntegerType s) k w b j (Pointer q) (Opaque t z) h l = absurd (true≢false (sym l))
-    access_pointer whole i k w b j (Truth q) y h l = absurd (true≢false (sym h))
-    access_pointer whole i k w b j (Whole q z) y h l = absurd (true≢false (sym h))
-    access_pointer whole i k w b j (Opaque q z) y h l = absurd (true≢false (sym h))
-    access_pointer whole BooleanType k w b j (Pointer q) y h l = absurd w
-    access_pointer whole (PointerType s) k w b j (Pointer q) y h l = absurd w
-    access_pointer whole (OtherType s) k w b j (Pointer q) y h l = absurd w
+    access_pointer whole (IntegerType s) k w b j x y h l =
+        let q = pointer_typed p.parts (PointerType whole) tt x h in
+        let z = integer_typed p.parts (IntegerType s) tt y l in
+        (Pointer (Part q.0 (At z.0)), ap (λ x. index_value_of m x y) q.1 ∙ ap (option_map (λ z. Pointer (Part q.0 (At z)))) z.1, part_has_type k whole q.0 (At z.0) (w z.0) (subst (λ v. IsTrue (has_type p.parts (PointerType whole) v)) q.1 h))
+    access_pointer whole BooleanType k w b j x y h l = absurd w
+    access_pointer whole (PointerType s) k w b j x y h l = absurd w
+    access_pointer whole (OtherType s) k w b j x y h l = absurd w
 
     access_other : (a i k : ValueType) → IsTrue (not_pointer_type a) → ((vs : List Value) → IsTrue (has_types p.parts (a ∷ i ∷ []) vs) → IsTrue (has_type p.parts k (m IndexWord vs))) → (b j : ℕ) (x y : Value) → IsTrue (has_type p.parts a x) → IsTrue (has_type p.parts i y) → Gives_typed k (Some (Access b j)) (x ∷ y ∷ [])
     access_other a i k n g b j x y h l =
-        (m IndexWord (x ∷ y ∷ []), index_value_is x y (typed_not_pointer p.parts a x n h), g (x ∷ y ∷ []) (pair_typed a i x y h l))
+        (m IndexWord (x ∷ y ∷ []), index_value_is m x y (typed_not_pointer p.parts a x n h), g (x ∷ y ∷ []) (pair_typed a i x y h l))
 
     access_typed : (a i k : ValueType) → AccessFits p.parts a i k → ((vs : List Value) → IsTrue (has_types p.parts (a ∷ i ∷ []) vs) → IsTrue (has_type p.parts k (m IndexWord vs))) → (b j : ℕ) (x y : Value) → IsTrue (has_type p.parts a x) → IsTrue (has_type p.parts i y) → Gives_typed k (Some (Access b j)) (x ∷ y ∷ [])
     access_typed (PointerType s) i k w g b j x y h l = access_pointer s i k w b j x y h l
@@ -377,13 +337,12 @@ module _ (p : Module) (consistent : IsConsistent p) where
 
     part_other : (x : Selector) (a k : ValueType) → IsTrue (not_pointer_type a) → ((vs : List Value) → IsTrue (has_types p.parts (a ∷ []) vs) → IsTrue (has_type p.parts k (m (PartWord x) vs))) → (b : ℕ) (y : Value) → IsTrue (has_type p.parts a y) → Gives_typed k (Some (AccessIndex x b)) (y ∷ [])
     part_other x a k n g b y h =
-        (m (PartWord x) (y ∷ []), part_value_is x y (typed_not_pointer p.parts a y n h), g (y ∷ []) (and_both (has_type p.parts a y) true h refl))
+        (m (PartWord x) (y ∷ []), part_value_is m x y (typed_not_pointer p.parts a y n h), g (y ∷ []) (and_both (has_type p.parts a y) true h refl))
 
     part_pointer : (whole : Bytes) (x : Selector) (k : ValueType) → k ≡ PointerType (p.parts whole (step_of x)) → (b : ℕ) (y : Value) → IsTrue (has_type p.parts (PointerType whole) y) → Gives_typed k (Some (AccessIndex x b)) (y ∷ [])
-    part_pointer whole x k w b (Pointer q) h = (Pointer (Part q (step_of x)), refl, part_has_type k whole q (step_of x) w h)
-    part_pointer whole x k w b (Truth q) h = absurd (true≢false (sym h))
-    part_pointer whole x k w b (Whole q z) h = absurd (true≢false (sym h))
-    part_pointer whole x k w b (Opaque q z) h = absurd (true≢false (sym h))
+    part_pointer whole x k w b y h =
+        let q = pointer_typed p.parts (PointerType whole) tt y h in
+        (Pointer (Part q.0 (step_of x)), ap (part_value m x) q.1, part_has_type k whole q.0 (step_of x) w (subst (λ v. IsTrue (has_type p.parts (PointerType whole) v)) q.1 h))
 
     part_typed : (x : Selector) (a k : ValueType) → AccessIndexFits p.parts x a k → ((vs : List Value) → IsTrue (has_types p.parts (a ∷ []) vs) → IsTrue (has_type p.parts k (m (PartWord x) vs))) → (b : ℕ) (y : Value) → IsTrue (has_type p.parts a y) → Gives_typed k (Some (AccessIndex x b)) (y ∷ [])
     part_typed x (PointerType s) k w g b y h = part_pointer s x k w b y h
@@ -394,9 +353,7 @@ module _ (p : Module) (consistent : IsConsistent p) where
     -- what `&&` or `||` gives behind a truth value
     truths_typed : (j : ShortCircuit) (t k : ValueType) → k ≡ BooleanType → ((vs : List Value) → IsTrue (has_types p.parts (BooleanType ∷ t ∷ []) vs) → IsTrue (has_type p.parts k (m (Spelled (short_circuit_word j)) vs))) → (a : Bool) (y : Value) → IsTrue (has_type p.parts t y) → IsTrue (has_type p.parts k (undecided m j (Truth a) y))
     truths_typed j t k w g a (Truth b) l = ap (λ k. has_type p.parts k (Truth b)) w
-    truths_typed j t k w g a (Whole s z) l = g (Truth a ∷ Whole s z ∷ []) (pair_typed BooleanType t (Truth a) (Whole s z) refl l)
-    truths_typed j t k w g a (Pointer s) l = g (Truth a ∷ Pointer s ∷ []) (pair_typed BooleanType t (Truth a) (Pointer s) refl l)
-    truths_typed j t k w g a (Opaque s z) l = g (Truth a ∷ Opaque s z ∷ []) (pair_typed BooleanType t (Truth a) (Opaque s z) refl l)
+    truths_typed j t k w g a y l = g (Truth a ∷ y ∷ []) (pair_typed BooleanType t (Truth a) y refl l)
 
     truth_cases : (j : ShortCircuit) (t k : ValueType) → k ≡ BooleanType → ((vs : List Value) → IsTrue (has_types p.parts (BooleanType ∷ t ∷ []) vs) → IsTrue (has_type p.parts k (m (Spelled (short_circuit_word j)) vs))) → (d a : Bool) (y : Value) → IsTrue (has_type p.parts t y) → IsTrue (has_type p.parts k (cond d (Truth a) (undecided m j (Truth a) y)))
     truth_cases j t k w g true a y l = ap (λ k. has_type p.parts k (Truth a)) w
@@ -412,9 +369,7 @@ module _ (p : Module) (consistent : IsConsistent p) where
     logical_typed j a t k w g (Truth b) y h l =
         let q = boolean_of a k w b h in
         truth_cases j t k q.1 (subst (λ a. (vs : List Value) → IsTrue (has_types p.parts (a ∷ t ∷ []) vs) → IsTrue (has_type p.parts k (m (Spelled (short_circuit_word j)) vs))) q.0 g) (decides j (Truth b)) b y l
-    logical_typed j a t k w g (Whole s z) y h l = g (Whole s z ∷ y ∷ []) (pair_typed a t (Whole s z) y h l)
-    logical_typed j a t k w g (Pointer s) y h l = g (Pointer s ∷ y ∷ []) (pair_typed a t (Pointer s) y h l)
-    logical_typed j a t k w g (Opaque s z) y h l = g (Opaque s z ∷ y ∷ []) (pair_typed a t (Opaque s z) y h l)
+    logical_typed j a t k w g x y h l = g (x ∷ y ∷ []) (pair_typed a t x y h l)
 
     operator_fits : (h : ℕ) (e : Option Expression) → PartsFit p.parts f (handle_type f h) e → ((x : Signature) → IsOneOf x (signatures_of p f (handle_type f h) e) → IsHere h x) → IsTrue (is_pure e) → (vs : List Value) → IsTrue (has_types p.parts (handle_types f (operands_of e)) vs) → Gives_typed (handle_type f h) e vs
     operator_fits h (Some (Operator w xs)) fit at q vs t =
@@ -442,20 +397,10 @@ module _ (p : Module) (consistent : IsConsistent p) where
           operators = λ h q vs t. operator_fits h (expression_of f h) (consistent.parts place f here h) (λ x k. k) q vs t;
         }
 
-  all_typed : (fs : List Function) (shift : ℕ) → ((i : ℕ) (f : Function) → slice_get fs i ≡ Some f → slice_get p.functions (i + shift) ≡ Some f) → AllTypedIn p.parts p m fs
+  all_typed : (fs : List Function) (shift : ℕ) → StandsFrom p.functions fs shift → AllTypedIn p.parts p m fs
   all_typed [] shift at = tt
-  all_typed (f ∷ fs) shift at = (function_typed (0 + shift) f (at 0 f refl), all_typed fs (suc shift) later)
-    where
-      later : (i : ℕ) (g : Function) → slice_get fs i ≡ Some g → slice_get p.functions (i + suc shift) ≡ Some g
-      later i g e =
-          let same : suc i + shift ≡ i + suc shift = omega arith in
-          subst (λ k. slice_get p.functions k ≡ Some g) same (at (suc i) g e)
+  all_typed (f ∷ fs) shift at = (function_typed (0 + shift) f (at 0 f refl), all_typed fs (suc shift) (stands_behind p.functions f fs shift at))
 
 pub has_typed_meaning : HasTypedMeaning
 has_typed_meaning p consistent =
-    (m p consistent, record { functions = all_typed p consistent p.functions 0 start; initialisers = λ i e q. constant_fits p consistent e (λ x k. in_initialiser i e q k) })
-  where
-    start : (i : ℕ) (f : Function) → slice_get p.functions i ≡ Some f → slice_get p.functions (i + 0) ≡ Some f
-    start i f e =
-        let same : i ≡ i + 0 = omega arith in
-        subst (λ k. slice_get p.functions k ≡ Some f) same e
+    (m p consistent, record { functions = all_typed p consistent p.functions 0 (stands_at_start p.functions); initialisers = λ i e q. constant_fits p consistent e (λ x k. in_initialiser i e q k) })

@@ -43,21 +43,10 @@ same_bytes_apart a b n = go (same_bytes a b) refl
 
 pub same_type_true : (a b : ValueType) → IsTrue (same_type a b) → a ≡ b
 same_type_true BooleanType BooleanType e = refl
-same_type_true BooleanType (IntegerType y) e = absurd (true≢false (sym e))
-same_type_true BooleanType (PointerType y) e = absurd (true≢false (sym e))
-same_type_true BooleanType (OtherType y) e = absurd (true≢false (sym e))
-same_type_true (IntegerType x) BooleanType e = absurd (true≢false (sym e))
 same_type_true (IntegerType x) (IntegerType y) e = ap IntegerType (same_bytes_true x y e)
-same_type_true (IntegerType x) (PointerType y) e = absurd (true≢false (sym e))
-same_type_true (IntegerType x) (OtherType y) e = absurd (true≢false (sym e))
-same_type_true (PointerType x) BooleanType e = absurd (true≢false (sym e))
-same_type_true (PointerType x) (IntegerType y) e = absurd (true≢false (sym e))
 same_type_true (PointerType x) (PointerType y) e = ap PointerType (same_bytes_true x y e)
-same_type_true (PointerType x) (OtherType y) e = absurd (true≢false (sym e))
-same_type_true (OtherType x) BooleanType e = absurd (true≢false (sym e))
-same_type_true (OtherType x) (IntegerType y) e = absurd (true≢false (sym e))
-same_type_true (OtherType x) (PointerType y) e = absurd (true≢false (sym e))
 same_type_true (OtherType x) (OtherType y) e = ap OtherType (same_bytes_true x y e)
+same_type_true a b e = absurd (true≢false (sym e))
 
 pub same_type_self : (a : ValueType) → IsTrue (same_type a a)
 same_type_self BooleanType = refl

@@ -1,13 +1,12 @@
 -- Types of answers with which a process meets no mistake: at the first mistake the wanted type is put in, and so on.
 use Rattle.std.proofs.Common.{◌≡◌, ℕ, zero, suc, ◌<◌, ◌≤◌, Bool, true, false, List, ◌∷◌, length, refl, ap, ◌∙◌, arith, ◌+◌}
-use Rattle.shader_runs.specs.Value.{PartTypes, PartTypes, ValueType, has_type, Value}
+use Rattle.shader_runs.specs.Value.{PartTypes, ValueType, has_type, Value}
 use Rattle.shader_runs.specs.World.{Event, Discard, entries, World, update}
-use Rattle.shader_runs.specs.Outcome.{Stop, Stuck, Unreturned, OutOfTurns, Discarded, Mistyped, Reached, Gives, Halts, Unreturned}
+use Rattle.shader_runs.specs.Outcome.{Stop, Stuck, Unreturned, OutOfTurns, Discarded, Mistyped, Reached, Gives, Halts}
 use Rattle.shader_runs.specs.ProgramRun.{Kept}
 use Rattle.shader_runs.proofs.Update.{update_cases}
 use Rattle.shader_runs.proofs.Process.{reached_events, Pause, DoneWith, ContinuedWith, BrokeWith, ReturnedWith, Process, gives, stuck, unreturned, discards, tells, wants, looks, sequence, repeats, answered, resumed, again, rounds, perform}
 use Rattle.shader_runs.proofs.Typing.{default_value, default_typed}
-use Rattle.shader_runs.proofs.Update.{update_cases}
 
 -- the types of the answers, by the length of the history
 abbrev pub Types : Type 0

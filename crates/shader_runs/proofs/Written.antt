@@ -1,21 +1,22 @@
 -- What is written for a handle in scope gives the value that the module uses for it, with no event.
 use Rattle.std.proofs.Common.{◌≡◌, ℕ, zero, suc, ◌<◌, ◌≤◌, true, nat_lt, List, [], ◌∷◌, ◌++◌, length, Option, Some, None, slice_get, refl, sym, ap, ◌∙◌, subst, true≢false, arith, ltb-true}
 use Rattle.std.specs.Prelude.{IsTrue}
-use Rattle.std.proofs.lemmas.Option.{slice_get_within}
+use Rattle.std.proofs.lemmas.Option.{slice_get_within, same_Some, none-some}
 use Rattle.shader_runs.specs.Value.{Bytes, PartTypes, Rooted, GlobalRoot, LocalRoot, Selector, ShortCircuit, ValueType, BooleanType, IntegerType, PointerType, OtherType, type_at, has_type, has_types, Value, Pointer, Spelled}
 use Rattle.shader_runs.specs.World.{Event, GlobalValue, Stored, Held, Environment, Meaning}
 use Rattle.shader_runs.specs.Program.{ConstantTree, ConstantTrees, Expression, Constant, Argument, Local, Global, Load, Operator, Access, AccessIndex, Logical, Swizzle, Request, Result, argument_count, local_count, local_pointer, expression_of, handle_type, operands_of, Module}
 use Rattle.shader_runs.specs.ProgramRun.{Call, Kept, constant_value, constant_values, global_value, used_as, used, also, used_all, joined, applied, combined, gathered, computed}
 use Rattle.shader_runs.specs.Text.{Name}
-use Rattle.shader_runs.specs.TextRun.{Scope, named, responded, unhidden, followed_by, as_value, evaluate, evaluate_all, value_of}
+use Rattle.shader_runs.specs.TextRun.{Scope, responded, followed_by, as_value, evaluate, evaluate_all, value_of}
 use Rattle.shader_runs.specs.Scope.{Standing, Absent, Barred, Everywhere, Inline, Named, Handles, Names, usable, usable_as, usable_all, is_pure, is_present}
 use Rattle.shader_runs.specs.Form.{Plain, AsValue, AsPlace, value_form, place_form, value_forms_then, constant_form, constant_forms, global_form, own_form, standing_form, written_below, written}
 use Rattle.shader_runs.specs.Premises.{FixedName, FixedKey, NumberedKey, GivenKey, IsFixedName, IsNoName, ConstantWords, ConstantsWords, WordFits, AllBelow, constant_type, constant_types_of, ConstantInRange, ConstantsInRange, LeafFits, ConstantTyped, ConstantsTyped, LeafTyped, handle_types, IsTypedIn, ConstantName, ArgumentName, LocalName, GlobalName, global_has_type, globals_have_types, EnvironmentFits, OperatesBy}
-use Rattle.shader_runs.proofs.Alike.{reached, placed}
+use Rattle.shader_runs.proofs.Alike.{placed}
 use Rattle.shader_runs.proofs.Update.{and_left, and_right, and_both, same_type_self, has_types_length}
 use Rattle.shader_runs.proofs.Relation.{IsHere, NoName, TypedValue, stored_denoted, global_as, Stands, Related, as_denoted}
-use Rattle.shader_runs.proofs.Evaluation.{naming, Respond, words, Responds, denoted, Means, some_same, value_form_gives, place_form_gives, AllMean, reached_all, followed_reached, value_forms_give, named_denoted, applied_reached, OneOf, one_of, TwoOf, two_of, one_there, two_there, access_means, part_means, swizzle_means, logical_means}
+use Rattle.shader_runs.proofs.Evaluation.{naming, Respond, words, Responds, denoted, Means, value_form_gives, place_form_gives, AllMean, followed_reached, value_forms_give, applied_reached, OneOf, one_of, TwoOf, two_of, one_there, two_there, access_means, part_means, swizzle_means, logical_means}
 use Rattle.shader_runs.proofs.ConstantTrees.{tree_typed, trees_typed, tree_gives, trees_give}
+use Rattle.shader_runs.specs.Outcome.{reach, unless}
 
 -- what a call owes to its function's text
 pub record Given (p : Module) (c : Call) (n : Names) (d : Respond) : Type 0 where
@@ -28,10 +29,7 @@ pub record Given (p : Module) (c : Call) (n : Names) (d : Respond) : Type 0 wher
   pub typed : IsTypedIn c.environment.parts p c.meaning c.function
 
 pub no_value : (parts : PartTypes) (y : ValueType) (o : Option Value) → TypedValue parts y o → o ≡ None → ⊥
-no_value parts y o v e = not_some v.0 (sym v.1 ∙ e)
-  where
-    not_some : (v : Value) → Some v ≡ None → ⊥
-    not_some v e = cc
+no_value parts y o v e = none-some v.0 (sym e ∙ v.1)
 
 pub unwritten : (m : Meaning) (e : Option Expression) → ((vs : List Value) → combined m e vs ≡ None) → (os : Option (List Value)) → gathered m e os ≡ None
 unwritten m e h None = refl
@@ -177,14 +175,14 @@ module _ (p : Module) (c : Call) (n : Names) (d : Respond) (given : Given p c n 
   constant_here i lt =
       r.fixed (ConstantName i) (subst (λ k. i < k) (sym (has_types_length c.environment.parts p.constant_types c.environment.constants given.environment.constants)) lt)
 
-  operator_here : (w : Bytes) → OperatesBy p (naming c n) w → (os : Option (List Value)) (t : List Event) → as_value (unhidden (names w) t (responded (words c d) w (reached_all os t))) ≡ denoted (applied c.meaning (Spelled w) os) t
+  operator_here : (w : Bytes) → OperatesBy p (naming c n) w → (os : Option (List Value)) (t : List Event) → as_value (unless (names w) t (responded (words c d) w (reach os t))) ≡ denoted (applied c.meaning (Spelled w) os) t
   operator_here w o = applied_reached p c n d given.responds w o (names w) (free w o.1.1)
 
   constant_gives : (e : ConstantTree) → ConstantWords p (naming c n) e → ConstantInRange p e → (t : List Event) → evaluate (words c d) (constant_form n.outer e) names t ≡ denoted (constant_value c.environment c.meaning e) t
   constant_gives =
       tree_gives (words c d) names n.outer (slice_get c.environment.constants) (λ i. i < length p.constant_types) constant_here (OperatesBy p (naming c n)) operator_here
 
-  pub constants_give : (es : ConstantTrees) → ConstantsWords p (naming c n) es → ConstantsInRange p es → (t : List Event) → evaluate_all (words c d) (constant_forms n.outer es) names t ≡ reached_all (constant_values c.environment c.meaning es) t
+  pub constants_give : (es : ConstantTrees) → ConstantsWords p (naming c n) es → ConstantsInRange p es → (t : List Event) → evaluate_all (words c d) (constant_forms n.outer es) names t ≡ reach (constant_values c.environment c.meaning es) t
   constants_give =
       trees_give (words c d) names n.outer (slice_get c.environment.constants) (λ i. i < length p.constant_types) constant_here (OperatesBy p (naming c n)) operator_here
 
@@ -199,36 +197,36 @@ module _ (p : Module) (c : Call) (n : Names) (d : Respond) (given : Given p c n 
   joined_also (Some v) (Some vs) (Some us) = refl
 
   -- a request's operands, and the constants behind them
-  pub request_forms_give : (operand : ℕ → Plain) (xs : List ℕ) (es : ConstantTrees) → ConstantsWords p (naming c n) es → ConstantsInRange p es → AllMean c d names kept operand xs → (t : List Event) → evaluate_all (words c d) (value_forms_then operand xs (constant_forms n.outer es)) names t ≡ reached_all (joined (used_all c kept xs) (constant_values c.environment c.meaning es)) t
+  pub request_forms_give : (operand : ℕ → Plain) (xs : List ℕ) (es : ConstantTrees) → ConstantsWords p (naming c n) es → ConstantsInRange p es → AllMean c d names kept operand xs → (t : List Event) → evaluate_all (words c d) (value_forms_then operand xs (constant_forms n.outer es)) names t ≡ reach (joined (used_all c kept xs) (constant_values c.environment c.meaning es)) t
   request_forms_give operand [] es w i m t =
-      constants_give es w i t ∙ ap (λ o. reached_all o t) (sym (joined_none (constant_values c.environment c.meaning es)))
+      constants_give es w i t ∙ ap (λ o. reach o t) (sym (joined_none (constant_values c.environment c.meaning es)))
   request_forms_give operand (x ∷ xs) es w i m t =
       let rest = evaluate_all (words c d) (value_forms_then operand xs (constant_forms n.outer es)) names in
       let us = constant_values c.environment c.meaning es in
       ap (λ r. followed_by r rest) (value_form_gives c d names (operand x) (used c kept x) m.0 t)
       ∙ followed_reached (used c kept x) (joined (used_all c kept xs) us) t rest (request_forms_give operand xs es w i m.1)
-      ∙ ap (λ o. reached_all o t) (joined_also (used c kept x) (used_all c kept xs) us)
+      ∙ ap (λ o. reach o t) (joined_also (used c kept x) (used_all c kept xs) us)
 
   pub request_values : (xs : List ℕ) (es : ConstantTrees) → ConstantsInRange p es → ConstantsTyped c.environment.parts p c.meaning es → IsTrue (usable_all c.function s xs) → (vs : List Value) × (joined (used_all c kept xs) (constant_values c.environment c.meaning es) ≡ Some vs)
   request_values xs es i k u = request_there p c s kept typed_value given.environment xs es i k u
 
   argument_means : (i : ℕ) → IsTrue (nat_lt i (argument_count c.function)) → Means c d names (AsValue (Name (n.argument i))) (slice_get c.arguments i)
   argument_means i u t =
-      ap (λ z. named z t) (r.fixed (ArgumentName i) (ltb-true i (argument_count c.function) u)) ∙ named_denoted (slice_get c.arguments i) t
+      ap (λ z. reach z t) (r.fixed (ArgumentName i) (ltb-true i (argument_count c.function) u))
 
   local_means : (i : ℕ) → IsTrue (nat_lt i (local_count c.function)) → Means c d names (AsPlace (Name (n.local_ i))) (Some (Pointer (Rooted (LocalRoot (local_pointer c.function i) c.frame i))))
   local_means i u =
-      (Rooted (LocalRoot (local_pointer c.function i) c.frame i), refl, λ t. ap (λ z. named z t) (r.fixed (LocalName i) (ltb-true i (local_count c.function) u)))
+      (Rooted (LocalRoot (local_pointer c.function i) c.frame i), refl, λ t. ap (λ z. reach z t) (r.fixed (LocalName i) (ltb-true i (local_count c.function) u)))
 
   global_as_means : (k : ValueType) (i : ℕ) (g : GlobalValue) → names (n.outer.global i) ≡ Some (stored_denoted i g) → IsTrue (global_has_type c.environment.parts k g) → Means c d names (global_form k (Name (n.outer.global i))) (global_value i (Some g))
-  global_as_means (PointerType s) i (Stored q) e h = (Rooted (GlobalRoot q i), refl, λ t. ap (λ z. named z t) e)
+  global_as_means (PointerType s) i (Stored q) e h = (Rooted (GlobalRoot q i), refl, λ t. ap (λ z. reach z t) e)
   global_as_means (PointerType s) i (Held v) e h = absurd (true≢false (sym h))
   global_as_means BooleanType i (Stored q) e h = absurd (true≢false (sym h))
-  global_as_means BooleanType i (Held v) e h = λ t. ap (λ z. named z t) e
+  global_as_means BooleanType i (Held v) e h = λ t. ap (λ z. reach z t) e
   global_as_means (IntegerType s) i (Stored q) e h = absurd (true≢false (sym h))
-  global_as_means (IntegerType s) i (Held v) e h = λ t. ap (λ z. named z t) e
+  global_as_means (IntegerType s) i (Held v) e h = λ t. ap (λ z. reach z t) e
   global_as_means (OtherType s) i (Stored q) e h = absurd (true≢false (sym h))
-  global_as_means (OtherType s) i (Held v) e h = λ t. ap (λ z. named z t) e
+  global_as_means (OtherType s) i (Held v) e h = λ t. ap (λ z. reach z t) e
 
   global_means : (k : ValueType) (i : ℕ) → i < length p.global_types → k ≡ type_at p.global_types i → Means c d names (global_form k (Name (n.outer.global i))) (global_value i (slice_get c.environment.globals i))
   global_means k i lt q = go (global_at c.environment.parts p.global_types c.environment.globals given.environment.globals i lt)
@@ -243,7 +241,7 @@ module _ (p : Module) (c : Call) (n : Names) (d : Respond) (given : Given p c n 
   module _ (operand : ℕ → Plain) where
     operator_means : (w : Bytes) (xs : List ℕ) → WordFits p (naming c n) (Some (Operator w xs)) → (k : ValueType) (o : Option Value) → o ≡ computed c kept (Some (Operator w xs)) → AllMean c d names kept operand xs → Means c d names (own_form (naming c n) operand k (Some (Operator w xs))) o
     operator_means w xs f k o e m t =
-        ap (λ q. as_value (unhidden (names w) t (responded (words c d) w q))) (value_forms_give c d names kept operand xs m t)
+        ap (λ q. as_value (unless (names w) t (responded (words c d) w q))) (value_forms_give c d names kept operand xs m t)
         ∙ applied_reached p c n d given.responds w f (names w) (free w f.1.1) (used_all c kept xs) t
         ∙ ap (λ o. denoted o t) (applied_gathered (used_all c kept xs) ∙ sym e)
       where
@@ -258,7 +256,7 @@ module _ (p : Module) (c : Call) (n : Names) (d : Respond) (given : Given p c n 
     base_typed : (b : ℕ) (x : Value) → IsTrue (usable c.function s b) → used c kept b ≡ Some x → IsTrue (has_type c.environment.parts (handle_type c.function b) x)
     base_typed b x u e =
         let z = typed_value b u in
-        subst (λ x. IsTrue (has_type c.environment.parts (handle_type c.function b) x)) (some_same z.0 x (sym z.1 ∙ e)) z.2
+        subst (λ x. IsTrue (has_type c.environment.parts (handle_type c.function b) x)) (same_Some z.0 x (sym z.1 ∙ e)) z.2
 
     index_there : (b i : ℕ) (k : ValueType) (o : Option Value) (y : ValueType) → TypedValue c.environment.parts y o → o ≡ computed c kept (Some (Access b i)) → IsTrue (usable c.function s b) → AllMean c d names kept operand (b ∷ i ∷ []) → Means c d names (own_form (naming c n) operand k (Some (Access b i))) o
     index_there b i k o y v e u m =
@@ -304,7 +302,7 @@ module _ (p : Module) (c : Call) (n : Names) (d : Respond) (given : Given p c n 
     operator_there k y (Some _) i f l o v e u m = absurd (true≢false (sym i))
     operator_there k y None i f l o v e u m = absurd (true≢false (sym i))
 
-    -- an expression that isn't named
+    -- an expression that isn't reach
     inline_there : (k : ValueType) (e : Option Expression) → WordFits p (naming c n) e → LeafFits p c.function k e → (o : Option Value) → IsTrue (usable_as c.function e Inline) → IsTrue (usable_all c.function s (operands_of e)) → TypedValue c.environment.parts k o → o ≡ computed c kept e → AllMean c d names kept operand (operands_of e) → Means c d names (own_form (naming c n) operand k e) (used_as c e o)
     inline_there k (Some (Constant e)) f l o u us v q m = λ t. constant_gives e f l.0 t
     inline_there k (Some (Argument i)) f l o u us v q m = argument_means i u
@@ -346,7 +344,7 @@ module _ (p : Module) (c : Call) (n : Names) (d : Respond) (given : Given p c n 
     usable_barred (Some _) u = u
 
     own_means : (k : ValueType) (e : Option Expression) → WordFits p (naming c n) e → LeafFits p c.function k e → (o : Option Value) (st : Standing) → Stands c s names kept k e o st → IsTrue (usable_as c.function e st) → (IsTrue (usable_all c.function s (operands_of e)) → AllMean c d names kept operand (operands_of e)) → Means c d names (standing_form st (own_form (naming c n) operand k e)) (used_as c e o)
-    own_means k e w l o (Named x) q u m = λ t. ap (λ z. named z t) q.1 ∙ named_denoted (used_as c e o) t
+    own_means k e w l o (Named x) q u m = λ t. ap (λ z. reach z t) q.1
     own_means k e w l o Inline q u m = inline_there k e w l o u q.0 q.1 q.2 (m q.0)
     own_means k e w l o Everywhere q u m = inline_there k e w l o (usable_inline e Everywhere u) q.0 q.1 q.2 (m q.0)
     own_means k e w l o Absent q u m = leaf_there k e w l o u
@@ -378,7 +376,7 @@ module _ (p : Module) (c : Call) (n : Names) (d : Respond) (given : Given p c n 
   all_here (x ∷ xs) u =
       (written_means x (and_left (usable c.function s x) (usable_all c.function s xs) u), all_here xs (and_right (usable c.function s x) (usable_all c.function s xs) u))
 
-  pub value_here : (h : ℕ) → IsTrue (usable c.function s h) → (t : List Event) → value_of (words c d) (value_form (written (naming c n) s h)) names t ≡ reached (used c kept h) t
+  pub value_here : (h : ℕ) → IsTrue (usable c.function s h) → (t : List Event) → value_of (words c d) (value_form (written (naming c n) s h)) names t ≡ reach (used c kept h) t
   value_here h u = value_form_gives c d names (written (naming c n) s h) (used c kept h) (written_means h u)
 
   pub place_here : (h : ℕ) → IsTrue (usable c.function s h) → (t : List Event) → evaluate (words c d) (place_form (written (naming c n) s h)) names t ≡ placed (used c kept h) t

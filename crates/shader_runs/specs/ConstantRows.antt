@@ -1,15 +1,21 @@
--- A module with named constants and an override: what both sides compute, and what texts with other initialisers do.
-use Rattle.std.specs.Prelude.{◌≡◌, ℕ, ◌+◌, ◌*◌, pos, cond, [], ◌∷◌, get_or, Option, Some, None, codes}
-use Rattle.shader_runs.specs.Value.{Bytes, same_bytes, OtherType, PointerType, Value, Whole, Opaque, Spelled}
+-- A module with named constants and an override: what both sides compute, and what texts with other
+-- initialisers do.
+use Rattle.std.specs.Prelude.{◌≡◌, ℕ, ◌+◌, ◌*◌, pos, cond, [], ◌∷◌, get_or, Option, Some, None}
+use Rattle.std.specs.Prelude.{codes}
+use Rattle.shader_runs.specs.Value.{Bytes, same_bytes, OtherType, PointerType, Value, Whole, Opaque}
+use Rattle.shader_runs.specs.Value.{Spelled}
 use Rattle.shader_runs.specs.World.{Entry, Meaning, Settings}
 use Rattle.shader_runs.specs.Outcome.{Reached, Gives, Halts, Stuck}
-use Rattle.shader_runs.specs.Program.{ConstantTree, Fixed, NamedConstant, Constructed, no_constant, constant, Constant, Return, end, then, Function, Module}
-use Rattle.shader_runs.specs.Text.{Tree, Name, LiteralOf, Apply, no_more, more, ReturnLine, last, before, TextModule}
+use Rattle.shader_runs.specs.Program.{ConstantTree, Fixed, NamedConstant, Constructed, no_constant}
+use Rattle.shader_runs.specs.Program.{constant, Constant, Return, end, then, Function, Module}
+use Rattle.shader_runs.specs.Text.{Tree, Name, LiteralOf, Apply, no_more, more, ReturnLine, last}
+use Rattle.shader_runs.specs.Text.{before, TextModule}
 use Rattle.shader_runs.specs.Constants.{run_module, follow_module}
 use Rattle.shader_runs.specs.Scope.{ModuleNames, Naming}
 use Rattle.shader_runs.specs.Form.{form_module}
 use Rattle.shader_runs.specs.Premises.{ConstantsFit, SettingsFit}
-use Rattle.shader_runs.specs.Rows.{no_parts, i32, number, numbered_name, row_world, row_asks, text_of}
+use Rattle.shader_runs.specs.WorkedFunctions.{no_parts, i32, number, numbered_name, row_world}
+use Rattle.shader_runs.specs.WorkedFunctions.{row_asks, text_of}
 
 -- the type `vec2<i32>`
 abbrev pub pair_word : Bytes
@@ -47,9 +53,11 @@ pair_function =
 -- what P is: a pair of the constant 1 and the override, which is 2
 abbrev pub pair_initialiser : ConstantTree
 pair_initialiser =
-    Constructed pair_word (OtherType pair_word) (constant (NamedConstant 1) (constant (NamedConstant 2) no_constant))
+    Constructed pair_word (OtherType pair_word)
+    (constant (NamedConstant 1) (constant (NamedConstant 2) no_constant))
 
--- the constant P; the constant N, which P names and which is declared behind it; the override m; a variable v
+-- the constant P; the constant N, which P names and which is declared behind it; the override m; a
+-- variable v
 abbrev pub pair_module : Module
 pair_module =
     record {
@@ -114,7 +122,8 @@ run_pair b = run_module pair_module (with_override b) row_world pair_meaning 1 0
 -- what the text with this initialiser does
 abbrev pub follow_pair : Tree → ℕ → Reached (Option Value)
 follow_pair initialiser b =
-    follow_module (pair_text initialiser) (with_override b) row_world pair_meaning row_asks 1 (codes "f") [] []
+    follow_module (pair_text initialiser) (with_override b) row_world pair_meaning row_asks 1
+    (codes "f") [] []
 
 -- a pair is returned, and nothing is read
 abbrev pub returns_pair : ℕ → ℕ → Reached (Option Value)
@@ -124,12 +133,14 @@ returns_pair a b = Gives (Some (pair a b)) (Entry 0 [] [] ∷ [])
 abbrev pub without_value : Reached (Option Value)
 without_value = Halts Stuck (Entry 0 [] [] ∷ [])
 
--- the module's text, what both do, and what other texts do: another initialiser gives another value; one that leads
--- back to itself, reads, asks for an event, calls a function or names what isn't there gives none
+-- the module's text, what both do, and what other texts do: another initialiser gives another
+-- value; one that leads back to itself, reads, asks for an event, calls a function or names what
+-- isn't there gives none
 pub record ConstantRowsHold : Type 0 where
   pub fits : ConstantsFit pair_module pair_names
   pub settings : SettingsFit pair_module (with_override 7)
-  pub text : form_module pair_module pair_names (pair_naming ∷ []) ≡ pair_text (LiteralOf (number 6))
+  pub text :
+      form_module pair_module pair_names (pair_naming ∷ []) ≡ pair_text (LiteralOf (number 6))
   pub module_run : run_pair 7 ≡ returns_pair 6 7
   pub text_run : follow_pair (LiteralOf (number 6)) 7 ≡ returns_pair 6 7
   pub other_override : run_pair 8 ≡ returns_pair 6 8

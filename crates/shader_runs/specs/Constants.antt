@@ -1,13 +1,17 @@
--- Named constants: each side computes its own from their initialisers, under what the caller chooses.
-use Rattle.std.specs.Prelude.{ℕ, zero, suc, Bool, cond, List, [], ◌∷◌, ◌++◌, map, length, get_or, Option, Some, None, unwrap_or, ◌||◌}
+-- Named constants: each side computes its own from their initialisers, under what the caller
+-- chooses.
+use Rattle.std.specs.Prelude.{ℕ, zero, suc, Bool, cond, List, [], ◌∷◌, ◌++◌, map, length, get_or}
+use Rattle.std.specs.Prelude.{Option, Some, None, unwrap_or, ◌||◌}
 use Rattle.std.specs.List.{list_any}
 use Rattle.shader_runs.specs.Value.{Bytes, same_bytes, ValueType, pointer_spelling, Value, Spelled}
-use Rattle.shader_runs.specs.World.{Event, World, Meaning, GlobalValue, Stored, Held, Settings, Environment, bind}
+use Rattle.shader_runs.specs.World.{Event, World, Meaning, GlobalValue, Stored, Held, Settings}
+use Rattle.shader_runs.specs.World.{Environment, bind}
 use Rattle.shader_runs.specs.Outcome.{Stuck, Reached, Gives, Halts}
 use Rattle.shader_runs.specs.Program.{ConstantTree, Module, constant_count}
 use Rattle.shader_runs.specs.ProgramRun.{also, tree_value, run_call}
 use Rattle.shader_runs.specs.Text.{Tree, TextConstant, TextModule}
-use Rattle.shader_runs.specs.TextRun.{Denoted, IsValue, Scope, Words, evaluate, with_parameters, with_globals, no_names, names_function, word_use, follow_call}
+use Rattle.shader_runs.specs.TextRun.{Denoted, IsValue, Scope, Words, evaluate, with_parameters}
+use Rattle.shader_runs.specs.TextRun.{with_globals, no_names, names_function, word_use, follow_call}
 
 -- what is known of an item
 abbrev pub known : List (Option Value) → ℕ → Option Value
@@ -17,8 +21,8 @@ known found i = get_or found i None
 abbrev pub found_with : (ConstantTree → Option Value) → Module → Settings → List (Option Value)
 found_with value p s = map value p.initialisers ++ map Some s.overrides
 
--- what so many rounds find: at first the overrides alone have values, and each round computes the initialisers
--- over what the one before it found
+-- what so many rounds find: at first the overrides alone have values, and each round computes the
+-- initialisers over what the one before it found
 abbrev pub found_after : Module → Settings → Meaning → (rounds : ℕ) → List (Option Value)
 found_after p s m zero = found_with (λ e. None) p s
 found_after p s m (suc n) = found_with (tree_value (known (found_after p s m n)) m) p s
@@ -28,7 +32,8 @@ abbrev pub all_found : List (Option Value) → Option (List Value)
 all_found [] = Some []
 all_found (o ∷ os) = also o (all_found os)
 
--- what a variable's name stands for: the value that is held, or a place that pointers of its type lead to
+-- what a variable's name stands for: the value that is held, or a place that pointers of its type
+-- lead to
 abbrev pub global_value_by : ValueType → Option Value → GlobalValue
 global_value_by k None = Stored (pointer_spelling k)
 global_value_by k (Some v) = Held v
@@ -38,8 +43,8 @@ abbrev pub global_values : List ValueType → List (Option Value) → List Globa
 global_values (k ∷ ks) (g ∷ gs) = global_value_by k g ∷ global_values ks gs
 global_values _ _ = []
 
--- what the module's names stand for. Where no constant leads back to itself, as many rounds as there are
--- named constants find the values of all
+-- what the module's names stand for. Where no constant leads back to itself, as many rounds as
+-- there are named constants find the values of all
 abbrev pub environment_of : Module → Settings → Meaning → Environment
 environment_of p s m =
     let found = found_after p s m (constant_count p) in
@@ -51,7 +56,8 @@ environment_of p s m =
 
 -- the run of a function of the module
 abbrev pub run_module :
-    Module → Settings → World → Meaning → (turns function : ℕ) → List Value → List Event → Reached (Option Value)
+    Module → Settings → World → Meaning → (turns function : ℕ) → List Value → List Event →
+    Reached (Option Value)
 run_module p s w m n g vs t = run_call (environment_of p s m) w m n p.functions g vs t
 
 -- the word is a constant's or a function's name in the text
@@ -87,8 +93,8 @@ scope_with value text s =
 abbrev pub initialiser_value : Words → Scope → Tree → Option Denoted
 initialiser_value l names e = initialised (evaluate l e names [])
 
--- the names after so many rounds: at first no named constant has a value, and each round evaluates the initialisers
--- in the scope of the one before it
+-- the names after so many rounds: at first no named constant has a value, and each round evaluates
+-- the initialisers in the scope of the one before it
 abbrev pub scope_after : Words → TextModule → Settings → (rounds : ℕ) → Scope
 scope_after l text s zero = scope_with (λ e. None) text s
 scope_after l text s (suc n) = scope_with (initialiser_value l (scope_after l text s n)) text s
@@ -101,7 +107,8 @@ module_scope text s w m is_request =
 
 -- the run of a function of the text, by its name
 abbrev pub follow_module :
-    TextModule → Settings → World → Meaning → (is_request : Bytes → Bool) → (turns : ℕ) → (name : Bytes) →
+    TextModule → Settings → World → Meaning → (is_request : Bytes → Bool) → (turns : ℕ) →
+    (name : Bytes) →
     List Value → List Event → Reached (Option Value)
 follow_module text s w m is_request n word vs t =
     let uses = word_use text.functions is_request in

@@ -3,13 +3,15 @@ use Rattle.std.specs.Prelude.{◌≡◌, ℕ, List, [], Some, IsTrue, slice_get,
 use Rattle.shader_runs.specs.Value.{Value, has_types}
 use Rattle.shader_runs.specs.World.{World, Meaning, Event, Settings, Environment}
 use Rattle.shader_runs.specs.Outcome.{Mistyped, Reached, Gives, Halts}
-use Rattle.shader_runs.specs.Program.{Function, function_numbered, Module, ConstantTree, constant_count}
+use Rattle.shader_runs.specs.Program.{Function, function_numbered, Module, ConstantTree}
+use Rattle.shader_runs.specs.Program.{constant_count}
 use Rattle.shader_runs.specs.ProgramRun.{constant_value}
 use Rattle.shader_runs.specs.Constants.{global_values, environment_of, run_module, follow_module}
 use Rattle.shader_runs.specs.Scope.{ModuleNames, Naming}
 use Rattle.shader_runs.specs.Form.{form_module, functions_of}
 use Rattle.shader_runs.specs.Typing.{IsConsistent}
-use Rattle.shader_runs.specs.Premises.{IsTyped, AllFit, ConstantsFit, SettingsFit, EnvironmentFits, ModuleNamesAreDistinct}
+use Rattle.shader_runs.specs.Premises.{IsTyped, AllFit, ConstantsFit, SettingsFit, EnvironmentFits}
+use Rattle.shader_runs.specs.Premises.{ModuleNamesAreDistinct}
 
 -- each answer of the world that the run asks for has its type
 abbrev pub KeepsTypes : {A : Type 0} → Reached A → Type 0
@@ -24,10 +26,10 @@ pub record ModuleFits (p : Module) (n : ModuleNames) (fs : List Naming) : Type 0
   pub constants : ConstantsFit p n
   pub all : AllFit p n fs
 
--- of every module whose scope holds, in every world that keeps the types, under all values of overrides and arguments
--- of their types, every typed meaning and every bound on loop turns, a function or entry point makes by its text the
--- module's events, with their operands, ends as in the module and returns the same. Each side computes its named
--- constants from their initialisers
+-- of every module whose scope holds, in every world that keeps the types, under all values of
+-- overrides and arguments of their types, every typed meaning and every bound on loop turns, a
+-- function or entry point makes by its text the module's events, with their operands, ends as in
+-- the module and returns the same. Each side computes its named constants from their initialisers
 abbrev pub RunsAlike : Type 0
 RunsAlike =
     (p : Module) (n : ModuleNames) (fs : List Naming) →
@@ -41,8 +43,8 @@ RunsAlike =
     follow_module (form_module p n fs) settings w m n.is_request turns (n.function g) vs t
     ≡ run_module p settings w m turns g vs t
 
--- each named constant has the value of its initialiser over the values of all; the overrides behind them and the
--- variables are as the caller chose
+-- each named constant has the value of its initialiser over the values of all; the overrides behind
+-- them and the variables are as the caller chose
 pub record IsSolution (p : Module) (s : Settings) (m : Meaning) (env : Environment) : Type 0 where
   pub initialisers : (i : ℕ) (e : ConstantTree) → slice_get p.initialisers i ≡ Some e →
       slice_get env.constants i ≡ constant_value env m e
@@ -50,7 +52,8 @@ pub record IsSolution (p : Module) (s : Settings) (m : Meaning) (env : Environme
   pub globals : env.globals ≡ global_values p.global_types s.globals
   pub parts : env.parts ≡ p.parts
 
--- what a module computes for its named constants is what their initialisers say, and no other values are
+-- what a module computes for its named constants is what their initialisers say, and no other
+-- values are
 abbrev pub ConstantsAreComputed : Type 0
 ConstantsAreComputed =
     (p : Module) (n : ModuleNames) → ConstantsFit p n →
@@ -61,7 +64,8 @@ ConstantsAreComputed =
     × IsSolution p settings m env
     × ((other : Environment) → IsSolution p settings m other → other ≡ env)
 
--- the law above isn't empty: every module whose operators are typed consistently has a typed meaning
+-- the law above isn't empty: every module whose operators are typed consistently has a typed
+-- meaning
 abbrev pub HasTypedMeaning : Type 0
 HasTypedMeaning = (p : Module) → IsConsistent p → (m : Meaning) × IsTyped p m
 

@@ -1,10 +1,27 @@
 -- The abstract text that is written for a module.
-use Rattle.std.specs.Prelude.{ℕ, zero, suc, Bool, true, false, List, [], ◌∷◌, ◌++◌, length, Option, Some, None}
-use Rattle.shader_runs.specs.Value.{Bytes, Selector, MemberNamed, ValueType, PointerType, pointer_spelling, Truth}
-use Rattle.shader_runs.specs.Program.{ConstantTree, Fixed, NamedConstant, Constructed, ConstantTrees, no_constant, constant, Expression, Constant, Argument, Local, Global, Load, Operator, Access, AccessIndex, Logical, Swizzle, Request, Result, Action, Asked, Called, Label, Statement, Emit, Store, Block, If, Switch, Loop, Break, Continue, Return, Kill, Barrier, Act, Statements, end, then, Cases, no_case, case, Function, argument_count, local_pointer, expression_of, handle_type, binds, from, Module, constant_count, override_types}
+use Rattle.std.specs.Prelude.{ℕ, zero, suc, Bool, true, false, List, [], ◌∷◌, ◌++◌, length, Option}
+use Rattle.std.specs.Prelude.{Some, None}
+use Rattle.shader_runs.specs.Value.{Bytes, Selector, MemberNamed, ValueType, PointerType}
+use Rattle.shader_runs.specs.Value.{pointer_spelling, Truth}
+use Rattle.shader_runs.specs.Program.{ConstantTree, Fixed, NamedConstant, Constructed}
+use Rattle.shader_runs.specs.Program.{ConstantTrees, no_constant, constant, Expression, Constant}
+use Rattle.shader_runs.specs.Program.{Argument, Local, Global, Load, Operator, Access, AccessIndex}
+use Rattle.shader_runs.specs.Program.{Logical, Swizzle, Request, Result, Action, Asked, Called}
+use Rattle.shader_runs.specs.Program.{Label, Statement, Emit, Store, Block, If, Switch, Loop, Break}
+use Rattle.shader_runs.specs.Program.{Continue, Return, Kill, Barrier, Act, Statements, end, then}
+use Rattle.shader_runs.specs.Program.{Cases, no_case, case, Function, argument_count, local_pointer}
+use Rattle.shader_runs.specs.Program.{expression_of, handle_type, binds, from, Module}
+use Rattle.shader_runs.specs.Program.{constant_count, override_types}
 use Rattle.shader_runs.specs.ProgramRun.{barrier_words}
-use Rattle.shader_runs.specs.Text.{Tree, Name, LiteralOf, Apply, Deref, AddressOf, Index, PartOf, LogicalOf, Trees, no_more, more, Line, Let, Assign, Braces, IfElse, SwitchOn, LoopOf, BreakLine, ContinueLine, ReturnLine, DiscardLine, Perform, Lines, last, before, Groups, no_group, group, Variable, ModuleVariable, TextFunction, TextModule, TextConstant}
-use Rattle.shader_runs.specs.Scope.{Standing, Named, Handles, ModuleNames, Names, Naming, bound_name, after_one, given_after, given_by, given_by_all, after, after_all, at_start}
+use Rattle.shader_runs.specs.Text.{Tree, Name, LiteralOf, Apply, Deref, AddressOf, Index, PartOf}
+use Rattle.shader_runs.specs.Text.{LogicalOf, Trees, no_more, more, Line, Let, Assign, Braces}
+use Rattle.shader_runs.specs.Text.{IfElse, SwitchOn, LoopOf, BreakLine, ContinueLine, ReturnLine}
+use Rattle.shader_runs.specs.Text.{DiscardLine, Perform, Lines, last, before, Groups, no_group}
+use Rattle.shader_runs.specs.Text.{group, Variable, ModuleVariable, TextFunction, TextModule}
+use Rattle.shader_runs.specs.Text.{TextConstant}
+use Rattle.shader_runs.specs.Scope.{Standing, Named, Handles, ModuleNames, Names, Naming}
+use Rattle.shader_runs.specs.Scope.{bound_name, after_one, given_after, given_by, given_by_all}
+use Rattle.shader_runs.specs.Scope.{after, after_all, at_start}
 
 -- a plain form, a value or a reference
 pub data Plain : Type 0 where
@@ -29,7 +46,8 @@ value_forms operand (x ∷ xs) = more (value_form (operand x)) (value_forms oper
 -- operands in their value forms, and what stands behind them
 abbrev pub value_forms_then : (ℕ → Plain) → List ℕ → Trees → Trees
 value_forms_then operand [] tail = tail
-value_forms_then operand (x ∷ xs) tail = more (value_form (operand x)) (value_forms_then operand xs tail)
+value_forms_then operand (x ∷ xs) tail =
+    more (value_form (operand x)) (value_forms_then operand xs tail)
 
 -- through a pointer an index makes a reference
 abbrev pub access_form : ValueType → (base index : Plain) → Plain
@@ -64,11 +82,15 @@ own_form f operand k (Some (Local i)) = AsPlace (Name (f.names.local_ i))
 own_form f operand k (Some (Global i)) = global_form k (Name (f.names.outer.global i))
 own_form f operand k (Some (Load p)) = AsValue (place_form (operand p))
 own_form f operand k (Some (Operator w xs)) = AsValue (Apply w (value_forms operand xs))
-own_form f operand k (Some (Access b i)) = access_form (handle_type f.function b) (operand b) (operand i)
+own_form f operand k (Some (Access b i)) =
+    access_form (handle_type f.function b) (operand b) (operand i)
 own_form f operand k (Some (AccessIndex x b)) = part_form (handle_type f.function b) x (operand b)
-own_form f operand k (Some (Logical j l r)) = AsValue (LogicalOf j (value_form (operand l)) (value_form (operand r)))
-own_form f operand k (Some (Swizzle w v)) = AsValue (PartOf (MemberNamed w) (value_form (operand v)))
-own_form f operand k (Some (Request a w xs es)) = AsValue (Apply w (value_forms_then operand xs (constant_forms f.names.outer es)))
+own_form f operand k (Some (Logical j l r)) =
+    AsValue (LogicalOf j (value_form (operand l)) (value_form (operand r)))
+own_form f operand k (Some (Swizzle w v)) =
+    AsValue (PartOf (MemberNamed w) (value_form (operand v)))
+own_form f operand k (Some (Request a w xs es)) =
+    AsValue (Apply w (value_forms_then operand xs (constant_forms f.names.outer es)))
 own_form f operand k (Some Result) = AsValue (LiteralOf (Truth false))
 own_form f operand k None = AsValue (LiteralOf (Truth false))
 
@@ -81,7 +103,8 @@ standing_form _ own = own
 abbrev pub written_below : Naming → Handles → ℕ → ℕ → Plain
 written_below f s zero h = AsValue (LiteralOf (Truth false))
 written_below f s (suc n) h =
-    standing_form (s h) (own_form f (written_below f s n) (handle_type f.function h) (expression_of f.function h))
+    standing_form (s h)
+    (own_form f (written_below f s n) (handle_type f.function h) (expression_of f.function h))
 
 -- a handle's form: its name where it is bound, else its expression over its operands' forms
 abbrev pub written : Naming → Handles → ℕ → Plain
@@ -105,7 +128,9 @@ let_if false x e tail = tail
 abbrev pub lets : Naming → ℕ → List ℕ → Handles → Lines → Lines
 lets f k [] s tail = tail
 lets f k (h ∷ hs) s tail =
-    let_if (binds f.function h) (bound_name f k h) (value_form (own_form f (written f s) (handle_type f.function h) (expression_of f.function h))) (lets f (given_after f.function h k) hs (after_one f k h s) tail)
+    let_if (binds f.function h) (bound_name f k h)
+    (value_form (own_form f (written f s) (handle_type f.function h) (expression_of f.function h)))
+    (lets f (given_after f.function h k) hs (after_one f k h s) tail)
 
 -- what an action's line calls
 abbrev pub word_of : Names → Action → Bytes
@@ -123,28 +148,34 @@ perform_each [] tail = tail
 perform_each (w ∷ ws) tail = before (Perform w no_more) (perform_each ws tail)
 
 abbrev mutual
-  -- a statement's lines, in front of what follows: k names have been given, s are the handles in scope
+  -- a statement's lines, in front of what follows: k names have been given, s are the handles in
+  -- scope
   pub form : Naming → ℕ → Statement → Handles → Lines → Lines
   form f k (Emit first count) s tail = lets f k (from first count) s tail
   form f k (Store p v) s tail = before (Assign (place_form (written f s p)) (value_at f s v)) tail
   form f k (Block b) s tail = before (Braces (form_all f k b s)) tail
   form f k (If c a b) s tail =
-      before (IfElse (value_at f s c) (form_all f k a s) (form_all f (given_by_all f.function a k) b s)) tail
-  form f k (Switch h cases) s tail = before (SwitchOn (value_at f s h) (form_cases f k [] cases s)) tail
+      before (IfElse (value_at f s c) (form_all f k a s)
+      (form_all f (given_by_all f.function a k) b s)) tail
+  form f k (Switch h cases) s tail =
+      before (SwitchOn (value_at f s h) (form_cases f k [] cases s)) tail
   form f k (Loop b d e) s tail =
       let s1 = after_all f k b s in
       let k1 = given_by_all f.function b k in
-      before (LoopOf (form_all f k b s) (form_all f k1 d s1) (value_if f (after_all f k1 d s1) e)) tail
+      before
+      (LoopOf (form_all f k b s) (form_all f k1 d s1) (value_if f (after_all f k1 d s1) e)) tail
   form f k Break s tail = before BreakLine tail
   form f k Continue s tail = before ContinueLine tail
   form f k (Return v) s tail = before (ReturnLine (value_if f s v)) tail
   form f k Kill s tail = before DiscardLine tail
   form f k (Barrier bits) s tail = perform_each (barrier_words bits) tail
-  form f k (Act a xs r) s tail = before (act_line f.names r (word_of f.names a) (value_forms (written f s) xs)) tail
+  form f k (Act a xs r) s tail =
+      before (act_line f.names r (word_of f.names a) (value_forms (written f s) xs)) tail
 
   pub form_all : Naming → ℕ → Statements → Handles → Lines
   form_all f k end s = last
-  form_all f k (then st ss) s = form f k st s (form_all f (given_by f.function st k) ss (after f k st s))
+  form_all f k (then st ss) s =
+      form f k st s (form_all f (given_by f.function st k) ss (after f k st s))
 
   -- a case that falls through gives its label to the next one
   pub form_cases : Naming → ℕ → List Label → Cases → Handles → Groups
@@ -152,7 +183,8 @@ abbrev mutual
   form_cases f k labels (case l b true cs) s =
       form_cases f (given_by_all f.function b k) (labels ++ l ∷ []) cs s
   form_cases f k labels (case l b false cs) s =
-      group (labels ++ l ∷ []) (form_all f k b s) (form_cases f (given_by_all f.function b k) [] cs s)
+      group (labels ++ l ∷ []) (form_all f k b s)
+      (form_cases f (given_by_all f.function b k) [] cs s)
 
 -- the names from the index i on
 abbrev pub names_from : (ℕ → Bytes) → ℕ → ℕ → List Bytes
@@ -192,7 +224,8 @@ functions_of (f ∷ fs) = f.function ∷ functions_of fs
 -- the module-level variables from the index i on
 abbrev pub globals_from : (ℕ → Bytes) → ℕ → List ValueType → List ModuleVariable
 globals_from name i [] = []
-globals_from name i (k ∷ ks) = record { name = name i; pointer = pointer_spelling k } ∷ globals_from name (suc i) ks
+globals_from name i (k ∷ ks) =
+    record { name = name i; pointer = pointer_spelling k } ∷ globals_from name (suc i) ks
 
 -- the named constants from the index i on, with their initialisers
 abbrev pub constants_from : ModuleNames → ℕ → List ConstantTree → List TextConstant

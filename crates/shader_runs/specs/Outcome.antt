@@ -1,6 +1,6 @@
 -- How a stretch of a run ends, for a run that carries some state of its own.
-use Rattle.std.specs.Prelude.{ℕ, zero, suc, ℤ, Bool, true, false, List, Option, None}
-use Rattle.shader_runs.specs.Value.{Value, Truth, Whole, Pointer, Opaque}
+use Rattle.std.specs.Prelude.{ℕ, zero, suc, ℤ, Bool, true, false, List, Option, None, cond, Some}
+use Rattle.shader_runs.specs.Value.{Value, truth_in, integer_in}
 use Rattle.shader_runs.specs.World.{Event}
 
 -- why a run ends before its end: a wanted value is missing, a callee ended without the result that
@@ -50,7 +50,8 @@ within (Stopped x t) = Stopped x t
 
 -- one turn of a loop, which ends by Broke where `break if` leaves
 abbrev pub turn : {S : Type 0} → (body continuing leave : Next S) → Next S
-turn body continuing leave s t = and_continue (body s t) (λ s1 t1. and_then (within (continuing s1 t1)) leave)
+turn body continuing leave s t =
+    and_continue (body s t) (λ s1 t1. and_then (within (continuing s1 t1)) leave)
 
 -- the next turn, or what follows the loop
 abbrev pub and_again : {S : Type 0} → Outcome S → Next S → Outcome S
@@ -86,25 +87,33 @@ abbrev pub closed_if : {S : Type 0} → Bool → S → Outcome S → Outcome S
 closed_if true s o = closed s o
 closed_if false s o = o
 
+-- goes on with what is there, or is stuck
+abbrev pub or_stuck : {A S : Type 0} → Option A → List Event → (A → Outcome S) → Outcome S
+or_stuck None t go = Stopped Stuck t
+or_stuck (Some a) t go = go a
+
 -- a branch by a truth value
 abbrev pub chosen : {S : Type 0} → Value → List Event → (accept reject : Outcome S) → Outcome S
-chosen (Truth true) t accept reject = accept
-chosen (Truth false) t accept reject = reject
-chosen (Whole spelling z) t accept reject = Stopped Stuck t
-chosen (Pointer p) t accept reject = Stopped Stuck t
-chosen (Opaque spelling payload) t accept reject = Stopped Stuck t
+chosen v t accept reject = or_stuck (truth_in v) t (λ b. cond b accept reject)
 
 -- a switch goes on by an integer
 abbrev pub with_integer : {S : Type 0} → Value → List Event → (ℤ → Outcome S) → Outcome S
-with_integer (Whole spelling z) t go = go z
-with_integer (Truth b) t go = Stopped Stuck t
-with_integer (Pointer p) t go = Stopped Stuck t
-with_integer (Opaque spelling payload) t go = Stopped Stuck t
+with_integer v t go = or_stuck (integer_in v) t go
 
 -- what is reached after more events, or why nothing is
 pub data Reached (A : Type 0) : Type 0 where
   Gives : A → List Event → Reached A
   Halts : Stop → List Event → Reached A
+
+-- what is there, or a run that is stuck
+abbrev pub reach : {A : Type 0} → Option A → List Event → Reached A
+reach None t = Halts Stuck t
+reach (Some a) t = Gives a t
+
+-- what goes on, unless something is there: then the run is stuck
+abbrev pub unless : {A B : Type 0} → Option A → List Event → Reached B → Reached B
+unless None t q = q
+unless (Some a) t q = Halts Stuck t
 
 -- how a call ends, by how its body does
 abbrev pub answer : {S : Type 0} → Outcome S → Reached (Option Value)

@@ -1,11 +1,22 @@
 -- What is asked of a module, of its names, of the environment and of the meaning.
-use Rattle.std.specs.Prelude.{◌≡◌, ◌≢◌, ℕ, ◌<◌, Bool, true, false, List, [], ◌∷◌, length, Option, Some, None, ◌&&◌, IsTrue, ◌≤◌, slice_get}
-use Rattle.shader_runs.specs.Value.{Bytes, same_bytes, PartTypes, ValueType, BooleanType, IntegerType, PointerType, OtherType, type_at, Value, Truth, Whole, Pointer, Opaque, has_type, has_types, Spelled}
+use Rattle.std.specs.Prelude.{◌≡◌, ◌≢◌, ℕ, ◌<◌, Bool, true, false, List, [], ◌∷◌, length, Option}
+use Rattle.std.specs.Prelude.{Some, None, ◌&&◌, IsTrue, ◌≤◌, slice_get}
+use Rattle.shader_runs.specs.Value.{Bytes, same_bytes, PartTypes, ValueType, BooleanType}
+use Rattle.shader_runs.specs.Value.{IntegerType, PointerType, OtherType, type_at, Value, Truth}
+use Rattle.shader_runs.specs.Value.{Whole, Pointer, Opaque, has_type, has_types, Spelled}
 use Rattle.shader_runs.specs.World.{Environment, GlobalValue, Stored, Held, Meaning, Settings}
-use Rattle.shader_runs.specs.Program.{ConstantTree, Fixed, NamedConstant, Constructed, ConstantTrees, no_constant, constant, Expression, Constant, Argument, Local, Global, Operator, Swizzle, Request, Result, Action, Asked, Called, Statement, Block, If, Switch, Loop, Return, Barrier, Act, Statements, end, then, Cases, no_case, case, Function, argument_count, local_count, local_pointer, function_numbered, expression_of, handle_type, operands_of, Module, constant_count, override_types}
+use Rattle.shader_runs.specs.Program.{ConstantTree, Fixed, NamedConstant, Constructed}
+use Rattle.shader_runs.specs.Program.{ConstantTrees, no_constant, constant, Expression, Constant}
+use Rattle.shader_runs.specs.Program.{Argument, Local, Global, Operator, Swizzle, Request, Result}
+use Rattle.shader_runs.specs.Program.{Action, Asked, Called, Statement, Block, If, Switch, Loop}
+use Rattle.shader_runs.specs.Program.{Return, Barrier, Act, Statements, end, then, Cases, no_case}
+use Rattle.shader_runs.specs.Program.{case, Function, argument_count, local_count, local_pointer}
+use Rattle.shader_runs.specs.Program.{function_numbered, expression_of, handle_type, operands_of}
+use Rattle.shader_runs.specs.Program.{Module, constant_count, override_types}
 use Rattle.shader_runs.specs.ProgramRun.{combined, barrier_words}
 use Rattle.shader_runs.specs.Constants.{global_values}
-use Rattle.shader_runs.specs.Scope.{ModuleNames, Names, Naming, is_pure, given_by_all, fits_function}
+use Rattle.shader_runs.specs.Scope.{ModuleNames, Names, Naming, is_pure, given_by_all}
+use Rattle.shader_runs.specs.Scope.{fits_function}
 use Rattle.shader_runs.specs.Form.{functions_of}
 
 -- a name that a function's text uses from its start on
@@ -53,7 +64,8 @@ IsNoName p f w = (a : NameKey) → IsName p f.function a → name_at f.names a �
 
 -- a word that is the name of no function of the module, earlier or later, and of no variable
 abbrev pub StandsFree : Module → Naming → Bytes → Type 0
-StandsFree p f w = ((g : ℕ) → g < length p.functions → f.names.outer.function g ≢ w) × IsNoName p f w
+StandsFree p f w =
+    ((g : ℕ) → g < length p.functions → f.names.outer.function g ≢ w) × IsNoName p f w
 
 -- a word that asks for an event
 abbrev pub AsksBy : Module → Naming → Bytes → Type 0
@@ -117,13 +129,15 @@ ResultWanted f k (Some h) = k ≡ Some (handle_type f h)
 -- the callee wants arguments of these types
 abbrev pub CallFits : Function → Option Function → List ℕ → Option ℕ → Type 0
 CallFits f None xs r = ⊥
-CallFits f (Some callee) xs r = (handle_types f xs ≡ callee.argument_types) × ResultWanted f callee.result r
+CallFits f (Some callee) xs r =
+    (handle_types f xs ≡ callee.argument_types) × ResultWanted f callee.result r
 
 -- a callee stands before its caller, and no variable hides its name
 abbrev pub ActionFits : Module → List Function → Naming → Action → List ℕ → Option ℕ → Type 0
 ActionFits p callees f (Asked w) xs r = AsksBy p f w
 ActionFits p callees f (Called g) xs r =
-    (g < f.names.earlier) × IsNoName p f (f.names.outer.function g) × CallFits f.function (function_numbered callees g) xs r
+    (g < f.names.earlier) × IsNoName p f (f.names.outer.function g)
+    × CallFits f.function (function_numbered callees g) xs r
 
 -- a result is given to a result handle
 abbrev pub ResultFits : Function → Option ℕ → Type 0
@@ -226,7 +240,8 @@ abbrev mutual
   ConstantTyped parts p m (Fixed v) = Unit {0}
   ConstantTyped parts p m (NamedConstant i) = Unit {0}
   ConstantTyped parts p m (Constructed w ty es) =
-      ((vs : List Value) → IsTrue (has_types parts (constant_types_of p es) vs) → IsTrue (has_type parts ty (m (Spelled w) vs)))
+      ((vs : List Value) → IsTrue (has_types parts (constant_types_of p es) vs) →
+      IsTrue (has_type parts ty (m (Spelled w) vs)))
       × ConstantsTyped parts p m es
 
   pub ConstantsTyped : PartTypes → Module → Meaning → ConstantTrees → Type 0
@@ -243,8 +258,10 @@ LeafTyped parts p m _ = Unit {0}
 pub record IsTypedIn (parts : PartTypes) (p : Module) (m : Meaning) (f : Function) : Type 0 where
   pub constants : (h : ℕ) → LeafTyped parts p m (expression_of f h)
   pub operators : (h : ℕ) → IsTrue (is_pure (expression_of f h)) →
-      (vs : List Value) → IsTrue (has_types parts (handle_types f (operands_of (expression_of f h))) vs) →
-      (v : Value) × (combined m (expression_of f h) vs ≡ Some v) × IsTrue (has_type parts (handle_type f h) v)
+      (vs : List Value) →
+      IsTrue (has_types parts (handle_types f (operands_of (expression_of f h))) vs) →
+      (v : Value) × (combined m (expression_of f h) vs ≡ Some v)
+      × IsTrue (has_type parts (handle_type f h) v)
 
 -- the operators of each function
 abbrev pub AllTypedIn : PartTypes → Module → Meaning → List Function → Type 0
@@ -260,15 +277,18 @@ pub record IsTyped (p : Module) (m : Meaning) : Type 0 where
 -- no two of a function's names are equal
 abbrev pub AreDistinct : Module → Naming → Type 0
 AreDistinct p f =
-    (a b : NameKey) → IsName p f.function a → IsName p f.function b → name_at f.names a ≡ name_at f.names b → a ≡ b
+    (a b : NameKey) → IsName p f.function a → IsName p f.function b →
+    name_at f.names a ≡ name_at f.names b → a ≡ b
 
 -- one function of a module, behind these
-pub record FunctionFits (p : Module) (n : ModuleNames) (callees : List Function) (f : Naming) : Type 0 where
+pub record FunctionFits (p : Module) (n : ModuleNames) (callees : List Function)
+    (f : Naming) : Type 0 where
   pub outer : f.names.outer ≡ n
   pub earlier : f.names.earlier ≡ length callees
   pub ordered : (h : ℕ) → AllBelow h (operands_of (expression_of f.function h))
   pub words : (h : ℕ) → WordFits p f (expression_of f.function h)
-  pub leaves : (h : ℕ) → LeafFits p f.function (handle_type f.function h) (expression_of f.function h)
+  pub leaves :
+      (h : ℕ) → LeafFits p f.function (handle_type f.function h) (expression_of f.function h)
   pub regular : AreRegular p callees f f.function.body
   pub distinct : AreDistinct p f
   pub scope : IsTrue (fits_function f)
@@ -285,15 +305,17 @@ pub record OperatesOutside (p : Module) (n : ModuleNames) (w : Bytes) : Type 0 w
   pub constants : (i : ℕ) → i < length p.constant_types → n.constant i ≢ w
   pub globals : (i : ℕ) → i < length p.global_types → n.global i ≢ w
 
--- the initialiser of the constant i has its type, its words are operators, and each named constant in it has a
--- smaller rank than i
-pub record InitialiserFits (p : Module) (n : ModuleNames) (rank : ℕ → ℕ) (i : ℕ) (e : ConstantTree) : Type 0 where
+-- the initialiser of the constant i has its type, its words are operators, and each named constant
+-- in it has a smaller rank than i
+pub record InitialiserFits (p : Module) (n : ModuleNames) (rank : ℕ → ℕ) (i : ℕ)
+    (e : ConstantTree) : Type 0 where
   pub range : ConstantInRange p e
   pub type : type_at p.constant_types i ≡ constant_type p e
   pub words : EachWord (OperatesOutside p n) e
   pub before : EachLeaf (λ v. Unit {0}) (λ k. k < constant_count p → rank k < rank i) e
 
--- the named constants, in whatever order they are declared. As each has a rank, none leads back to itself
+-- the named constants, in whatever order they are declared. As each has a rank, none leads back to
+-- itself
 pub record ConstantsFit (p : Module) (n : ModuleNames) : Type 0 where
   pub counted : constant_count p ≤ length p.constant_types
   pub rank : ℕ → ℕ
@@ -314,7 +336,8 @@ abbrev pub globals_have_types : PartTypes → List ValueType → List GlobalValu
 globals_have_types parts [] [] = true
 globals_have_types parts [] (g ∷ gs) = false
 globals_have_types parts (t ∷ ts) [] = false
-globals_have_types parts (t ∷ ts) (g ∷ gs) = global_has_type parts t g && globals_have_types parts ts gs
+globals_have_types parts (t ∷ ts) (g ∷ gs) =
+    global_has_type parts t g && globals_have_types parts ts gs
 
 -- the overrides and variables have their types
 pub record SettingsFit (p : Module) (s : Settings) : Type 0 where
@@ -331,4 +354,5 @@ pub record EnvironmentFits (p : Module) (env : Environment) : Type 0 where
 
 -- no two items of a module have one name
 pub record ModuleNamesAreDistinct (p : Module) (n : ModuleNames) : Type 0 where
-  pub functions : (g k : ℕ) → g < length p.functions → k < length p.functions → n.function g ≡ n.function k → g ≡ k
+  pub functions : (g k : ℕ) → g < length p.functions → k < length p.functions →
+      n.function g ≡ n.function k → g ≡ k

@@ -1,6 +1,9 @@
 -- A module as shapes: expressions in a list, statements that name them by their index.
-use Rattle.std.specs.Prelude.{ℕ, zero, suc, ℤ, Bool, true, false, cond, ◌-◌, ◌^◌, List, [], ◌∷◌, length, Option, Some, None, ◌||◌, nat_eq, nat_le, get_or, slice_get, drop}
-use Rattle.shader_runs.specs.Value.{Bytes, PartTypes, Selector, Value, ValueType, type_at, ShortCircuit}
+use Rattle.std.specs.Prelude.{ℕ, zero, suc, ℤ, Bool, true, false, cond, ◌-◌, ◌^◌, List, [], ◌∷◌}
+use Rattle.std.specs.Prelude.{length, Option, Some, None, ◌||◌, nat_eq, nat_le, get_or, slice_get}
+use Rattle.std.specs.Prelude.{drop}
+use Rattle.shader_runs.specs.Value.{Bytes, PartTypes, Selector, Value, ValueType, type_at}
+use Rattle.shader_runs.specs.Value.{ShortCircuit}
 
 mutual
   -- an expression over constants alone that no handle of the function names inside: a literal, a
@@ -14,12 +17,14 @@ mutual
     no_constant : ConstantTrees
     constant : ConstantTree → ConstantTrees → ConstantTrees
 
--- a read of the kinds that are written by their count alone, or an image operation, which is always written
+-- a read of the kinds that are written by their count alone, or an image operation, which is always
+-- written
 pub data Asking : Type 0 where
   WhenCounted : Asking
   Always : Asking
 
--- a request's last operands may be constants, which are written out and not by a handle: a level of zero, an offset
+-- a request's last operands may be constants, which are written out and not by a handle: a level of
+-- zero, an offset
 pub data Expression : Type 0 where
   Constant : ConstantTree → Expression
   Argument : ℕ → Expression

@@ -1,9 +1,28 @@
 -- A module's run by handles: an emitted expression is evaluated once, and its value kept.
-use Rattle.std.specs.Prelude.{ℕ, zero, suc, ℤ, Bool, true, false, cond, nat_eq, List, [], ◌∷◌, ◌++◌, length, Option, Some, None, ◌||◌, slice_get, codes}
-use Rattle.shader_runs.specs.Value.{Bytes, same_integer, PartTypes, Place, Part, Rooted, GlobalRoot, LocalRoot, At, step_of, ValueType, has_type, Selector, MemberNamed, Value, Truth, Whole, Pointer, Opaque, Word, Spelled, PartWord, IndexWord, ShortCircuit, short_circuit_word, is_decided}
-use Rattle.shader_runs.specs.World.{Event, Entry, Ask, Read, Write, Discard, entries, World, Meaning, GlobalValue, Stored, Held, Environment, update}
-use Rattle.shader_runs.specs.Outcome.{Stuck, Discarded, Mistyped, Outcome, Done, Continued, Broke, Returned, Stopped, Reached, Gives, Halts, answer, Next, and_then, turn, turns, after_switch, chosen, with_integer, Unreturned}
-use Rattle.shader_runs.specs.Program.{ConstantTree, Fixed, NamedConstant, Constructed, ConstantTrees, no_constant, constant, Expression, Constant, Argument, Local, Global, Load, Operator, Access, AccessIndex, Logical, Swizzle, Request, Action, Asked, Called, BarrierBits, Label, Numbered, Default, Statement, Emit, Store, Block, If, Switch, Loop, Break, Continue, Return, Kill, Barrier, Act, Statements, end, then, Cases, no_case, case, Function, argument_count, local_pointer, expression_of, handle_type, operands_of, is_counted, is_asked, from}
+use Rattle.std.specs.Prelude.{ℕ, zero, suc, ℤ, Bool, true, false, cond, nat_eq, List, [], ◌∷◌, ◌++◌}
+use Rattle.std.specs.Prelude.{option_map, option_and_then, length, Option, Some, None, ◌||◌}
+use Rattle.std.specs.Prelude.{slice_get, codes}
+use Rattle.shader_runs.specs.Value.{Bytes, same_integer, PartTypes, Place, Part, Rooted, GlobalRoot}
+use Rattle.shader_runs.specs.Value.{truth_in, integer_in, place_in, LocalRoot, At, step_of}
+use Rattle.shader_runs.specs.Value.{ValueType, has_type, Selector, MemberNamed, Value, Truth}
+use Rattle.shader_runs.specs.Value.{Pointer, Word, Spelled, PartWord, IndexWord, ShortCircuit}
+use Rattle.shader_runs.specs.Value.{short_circuit_word, is_decided}
+use Rattle.shader_runs.specs.World.{Event, Entry, Ask, Read, Write, Discard, entries, World}
+use Rattle.shader_runs.specs.World.{Meaning, GlobalValue, Stored, Held, Environment, update}
+use Rattle.shader_runs.specs.Outcome.{Stuck, Discarded, Mistyped, Outcome, Done, Continued, Broke}
+use Rattle.shader_runs.specs.Outcome.{or_stuck, Returned, Stopped, Reached, Gives, Halts, answer}
+use Rattle.shader_runs.specs.Outcome.{Next, and_then, turn, turns, after_switch, chosen}
+use Rattle.shader_runs.specs.Outcome.{with_integer, Unreturned}
+use Rattle.shader_runs.specs.Program.{ConstantTree, Fixed, NamedConstant, Constructed}
+use Rattle.shader_runs.specs.Program.{ConstantTrees, no_constant, constant, Expression, Constant}
+use Rattle.shader_runs.specs.Program.{Argument, Local, Global, Load, Operator, Access, AccessIndex}
+use Rattle.shader_runs.specs.Program.{Logical, Swizzle, Request, Action, Asked, Called, BarrierBits}
+use Rattle.shader_runs.specs.Program.{Label, Numbered, Default, Statement, Emit, Store, Block, If}
+use Rattle.shader_runs.specs.Program.{Switch, Loop, Break, Continue, Return, Kill, Barrier, Act}
+use Rattle.shader_runs.specs.Program.{Statements, end, then, Cases, no_case, case, Function}
+use Rattle.shader_runs.specs.Program.{argument_count, local_pointer, expression_of, handle_type}
+use Rattle.shader_runs.specs.Program.{operands_of, is_counted, is_asked, from}
+use Rattle.std.specs.Option.{option_map_or}
 
 -- one call of a function: callees are the functions before it and calls what they do, frame is the
 -- number of entries before it
@@ -29,8 +48,7 @@ also (Some v) (Some vs) = Some (v ∷ vs)
 
 -- an operator's value, if all its operands have theirs
 abbrev pub applied : Meaning → Word → Option (List Value) → Option Value
-applied m w None = None
-applied m w (Some vs) = Some (m w vs)
+applied m w vs = option_map (m w) vs
 
 abbrev mutual
   -- the value of a tree over constants alone, by what is known of the named ones
@@ -61,7 +79,8 @@ global_value i (Some (Held v)) = Some v
 abbrev pub used_as : Call → Option Expression → Option Value → Option Value
 used_as c (Some (Constant e)) kept = constant_value c.environment c.meaning e
 used_as c (Some (Argument i)) kept = slice_get c.arguments i
-used_as c (Some (Local i)) kept = Some (Pointer (Rooted (LocalRoot (local_pointer c.function i) c.frame i)))
+used_as c (Some (Local i)) kept =
+    Some (Pointer (Rooted (LocalRoot (local_pointer c.function i) c.frame i)))
 used_as c (Some (Global i)) kept = global_value i (slice_get c.environment.globals i)
 used_as c None kept = None
 used_as c _ kept = kept
@@ -88,18 +107,25 @@ on_two f (x ∷ []) = None
 on_two f (x ∷ y ∷ []) = f x y
 on_two f (x ∷ y ∷ z ∷ vs) = None
 
--- an index through a pointer makes a pointer to the part; into another value it gives what the meaning says
-abbrev pub index_value_of : Meaning → Value → Value → Option Value
-index_value_of m (Pointer p) (Whole spelling z) = Some (Pointer (Part p (At z)))
-index_value_of m (Pointer p) (Truth b) = None
-index_value_of m (Pointer p) (Pointer q) = None
-index_value_of m (Pointer p) (Opaque spelling payload) = None
-index_value_of m v i = Some (m IndexWord (v ∷ i ∷ []))
+-- an index through a pointer makes a pointer to the part; into another value it gives what the
+-- meaning says
+abbrev pub index_value_by : Meaning → Option Place → Value → Value → Option Value
+index_value_by m (Some p) v i = option_map (λ z. Pointer (Part p (At z))) (integer_in i)
+index_value_by m None v i = Some (m IndexWord (v ∷ i ∷ []))
 
--- a member or an element through a pointer makes a pointer to the part; of another value it is what the meaning says
+-- an index into a value
+abbrev pub index_value_of : Meaning → Value → Value → Option Value
+index_value_of m v i = index_value_by m (place_in v) v i
+
+-- a member or an element through a pointer makes a pointer to the part; of another value it is what
+-- the meaning says
+abbrev pub part_value_by : Meaning → Selector → Option Place → Value → Option Value
+part_value_by m x (Some p) v = Some (Pointer (Part p (step_of x)))
+part_value_by m x None v = Some (m (PartWord x) (v ∷ []))
+
+-- a part of a value
 abbrev pub part_value : Meaning → Selector → Value → Option Value
-part_value m x (Pointer p) = Some (Pointer (Part p (step_of x)))
-part_value m x v = Some (m (PartWord x) (v ∷ []))
+part_value m x v = part_value_by m x (place_in v) v
 
 -- the components of a vector by their letters
 abbrev pub swizzle_value : Meaning → Bytes → Value → Option Value
@@ -107,10 +133,7 @@ swizzle_value m letters v = Some (m (PartWord (MemberNamed letters)) (v ∷ []))
 
 -- whether the left side's value decides
 abbrev pub decides : ShortCircuit → Value → Bool
-decides j (Truth a) = is_decided j a
-decides j (Whole spelling z) = false
-decides j (Pointer p) = false
-decides j (Opaque spelling payload) = false
+decides j v = option_map_or (is_decided j) (truth_in v) false
 
 -- where it doesn't: the right side's truth value, and what the meaning says of other values
 abbrev pub undecided : Meaning → ShortCircuit → Value → Value → Value
@@ -132,8 +155,7 @@ combined m _ vs = None
 
 -- an operator without all its operands has no value
 abbrev pub gathered : Meaning → Option Expression → Option (List Value) → Option Value
-gathered m e None = None
-gathered m e (Some vs) = combined m e vs
+gathered m e vs = option_and_then (combined m e) vs
 
 -- an expression's value now, over the kept values
 abbrev pub computed : Call → Kept → Option Expression → Option Value
@@ -148,18 +170,11 @@ if_typed false t o = Stopped Mistyped t
 abbrev pub keep_typed : PartTypes → ValueType → ℕ → Value → Next Kept
 keep_typed parts k h v kept t = if_typed (has_type parts k v) t (Done (update kept h (Some v)) t)
 
--- goes on with a value, or is stuck
-abbrev pub with_used : {S : Type 0} → Option Value → List Event → (Value → Outcome S) → Outcome S
-with_used None t go = Stopped Stuck t
-with_used (Some v) t go = go v
-
 -- a handle without its pointer's value gets none
 abbrev pub loaded : PartTypes → ValueType → World → ℕ → Option Value → Next Kept
 loaded parts k w h None kept t = Done (update kept h None) t
-loaded parts k w h (Some (Pointer p)) kept t = keep_typed parts k h (w t (Read p)) kept (Read p ∷ t)
-loaded parts k w h (Some (Truth b)) kept t = Stopped Stuck t
-loaded parts k w h (Some (Whole spelling z)) kept t = Stopped Stuck t
-loaded parts k w h (Some (Opaque spelling payload)) kept t = Stopped Stuck t
+loaded parts k w h (Some v) kept t =
+    or_stuck (place_in v) t (λ p. keep_typed parts k h (w t (Read p)) kept (Read p ∷ t))
 
 -- the operands' values, and those of the constants behind them
 abbrev pub joined : Option (List Value) → Option (List Value) → Option (List Value)
@@ -170,7 +185,8 @@ joined (Some vs) (Some us) = Some (vs ++ us)
 -- a handle without its operands' values gets none
 abbrev pub asked : PartTypes → ValueType → World → ℕ → Bytes → Option (List Value) → Next Kept
 asked parts k w h word None kept t = Done (update kept h None) t
-asked parts k w h word (Some vs) kept t = keep_typed parts k h (w t (Ask word vs)) kept (Ask word vs ∷ t)
+asked parts k w h word (Some vs) kept t =
+    keep_typed parts k h (w t (Ask word vs)) kept (Ask word vs ∷ t)
 
 -- what isn't written is no event
 abbrev pub if_counted : Bool → Next Kept → Next Kept
@@ -179,13 +195,22 @@ if_counted false next kept t = Done kept t
 
 -- an emitted expression: an event is asked for, an operator computed
 abbrev pub emit_as : Call → ℕ → Option Expression → Next Kept
-emit_as c h (Some (Load p)) kept t = if_counted (is_counted c.function 1 h) (loaded c.environment.parts (handle_type c.function h) c.world h (used c kept p)) kept t
-emit_as c h (Some (Request a w xs es)) kept t = if_counted (is_asked c.function h a) (asked c.environment.parts (handle_type c.function h) c.world h w (joined (used_all c kept xs) (constant_values c.environment c.meaning es))) kept t
-emit_as c h (Some (Operator w xs)) kept t = Done (update kept h (computed c kept (Some (Operator w xs)))) t
-emit_as c h (Some (Access b i)) kept t = Done (update kept h (computed c kept (Some (Access b i)))) t
-emit_as c h (Some (AccessIndex x b)) kept t = Done (update kept h (computed c kept (Some (AccessIndex x b)))) t
-emit_as c h (Some (Logical j l r)) kept t = Done (update kept h (computed c kept (Some (Logical j l r)))) t
-emit_as c h (Some (Swizzle w v)) kept t = Done (update kept h (computed c kept (Some (Swizzle w v)))) t
+emit_as c h (Some (Load p)) kept t =
+    if_counted (is_counted c.function 1 h)
+    (loaded c.environment.parts (handle_type c.function h) c.world h (used c kept p)) kept t
+emit_as c h (Some (Request a w xs es)) kept t =
+    if_counted (is_asked c.function h a) (asked c.environment.parts (handle_type c.function h)
+    c.world h w (joined (used_all c kept xs) (constant_values c.environment c.meaning es))) kept t
+emit_as c h (Some (Operator w xs)) kept t =
+    Done (update kept h (computed c kept (Some (Operator w xs)))) t
+emit_as c h (Some (Access b i)) kept t =
+    Done (update kept h (computed c kept (Some (Access b i)))) t
+emit_as c h (Some (AccessIndex x b)) kept t =
+    Done (update kept h (computed c kept (Some (AccessIndex x b)))) t
+emit_as c h (Some (Logical j l r)) kept t =
+    Done (update kept h (computed c kept (Some (Logical j l r)))) t
+emit_as c h (Some (Swizzle w v)) kept t =
+    Done (update kept h (computed c kept (Some (Swizzle w v)))) t
 emit_as c h _ kept t = Done kept t
 
 -- handles are emitted in order
@@ -195,21 +220,17 @@ emit c (h ∷ hs) kept t = and_then (emit_as c h (expression_of c.function h) ke
 
 -- goes on with a place, or is stuck
 abbrev pub with_pointer : {S : Type 0} → Option Value → List Event → (Place → Outcome S) → Outcome S
-with_pointer (Some (Pointer p)) t go = go p
-with_pointer None t go = Stopped Stuck t
-with_pointer (Some (Truth b)) t go = Stopped Stuck t
-with_pointer (Some (Whole spelling z)) t go = Stopped Stuck t
-with_pointer (Some (Opaque spelling payload)) t go = Stopped Stuck t
+with_pointer o t go = or_stuck (option_and_then place_in o) t go
 
 -- after `continuing`: Broke where the loop is left
 abbrev pub leave : Call → Option ℕ → Next Kept
 leave c None kept t = Done kept t
-leave c (Some h) kept t = with_used (used c kept h) t (λ v. chosen v t (Broke kept t) (Done kept t))
+leave c (Some h) kept t = or_stuck (used c kept h) t (λ v. chosen v t (Broke kept t) (Done kept t))
 
 -- what is returned
 abbrev pub returned : Call → Option ℕ → Next Kept
 returned c None kept t = Returned None t
-returned c (Some h) kept t = with_used (used c kept h) t (λ v. Returned (Some v) t)
+returned c (Some h) kept t = or_stuck (used c kept h) t (λ v. Returned (Some v) t)
 
 -- what an action does with its operands' values
 abbrev pub acted : Call → Action → List Value → List Event → Reached (Option Value)
@@ -217,18 +238,15 @@ acted c (Asked w) vs t = Gives (Some (c.world t (Ask w vs))) (Ask w vs ∷ t)
 acted c (Called g) vs t = c.calls g vs t
 
 -- an action's result is kept where one is wanted
-abbrev pub with_result : PartTypes → Function → Action → Option ℕ → Kept → Reached (Option Value) → Outcome Kept
+abbrev pub with_result :
+    PartTypes → Function → Action → Option ℕ → Kept → Reached (Option Value) → Outcome Kept
 with_result parts f a None kept (Gives v t) = Done kept t
 with_result parts f a None kept (Halts x t) = Stopped x t
 with_result parts f a (Some h) kept (Gives None t) = Stopped Unreturned t
-with_result parts f (Asked w) (Some h) kept (Gives (Some v) t) = keep_typed parts (handle_type f h) h v kept t
+with_result parts f (Asked w) (Some h) kept (Gives (Some v) t) =
+    keep_typed parts (handle_type f h) h v kept t
 with_result parts f (Called g) (Some h) kept (Gives (Some v) t) = Done (update kept h (Some v)) t
 with_result parts f a (Some h) kept (Halts x t) = Stopped x t
-
--- goes on with all operands' values, or is stuck
-abbrev pub with_all : {S : Type 0} → Option (List Value) → List Event → (List Value → Outcome S) → Outcome S
-with_all None t go = Stopped Stuck t
-with_all (Some vs) t go = go vs
 
 -- the word of a set bit
 abbrev pub word_if : Bool → Bytes → List Bytes → List Bytes
@@ -238,7 +256,9 @@ word_if false w ws = ws
 -- a barrier's words, one for each set bit
 abbrev pub barrier_words : BarrierBits → List Bytes
 barrier_words bits =
-    word_if bits.storage (codes "storageBarrier") (word_if bits.work_group (codes "workgroupBarrier") (word_if bits.sub_group (codes "subgroupBarrier") (word_if bits.texture (codes "textureBarrier") [])))
+    word_if bits.storage (codes "storageBarrier")
+    (word_if bits.work_group (codes "workgroupBarrier") (word_if bits.sub_group
+    (codes "subgroupBarrier") (word_if bits.texture (codes "textureBarrier") [])))
 
 -- one event for each word
 abbrev pub ask_each : List Bytes → Next Kept
@@ -266,18 +286,23 @@ abbrev mutual
   pub run : Call → ℕ → Statement → Next Kept
   run c n (Emit first count) kept t = emit c (from first count) kept t
   run c n (Store p v) kept t =
-      with_pointer (used c kept p) t (λ place. with_used (used c kept v) t (λ value. Done kept (Write place value ∷ t)))
+      with_pointer (used c kept p) t
+      (λ place. or_stuck (used c kept v) t (λ value. Done kept (Write place value ∷ t)))
   run c n (Block b) kept t = run_all c n b kept t
-  run c n (If h a b) kept t = with_used (used c kept h) t (λ v. chosen v t (run_all c n a kept t) (run_all c n b kept t))
+  run c n (If h a b) kept t =
+      or_stuck (used c kept h) t (λ v. chosen v t (run_all c n a kept t) (run_all c n b kept t))
   run c n (Switch h cases) kept t =
-      with_used (used c kept h) t (λ v. with_integer v t (λ z. after_switch (run_cases c n cases (label_if (has_label (Numbered z) cases) z) kept t)))
+      or_stuck (used c kept h) t (λ v. with_integer v t
+      (λ z. after_switch (run_cases c n cases (label_if (has_label (Numbered z) cases) z) kept t)))
   run c n (Loop b d e) kept t = turns n (turn (run_all c n b) (run_all c n d) (leave c e)) kept t
   run c n Break kept t = Broke kept t
   run c n Continue kept t = Continued kept t
   run c n (Return v) kept t = returned c v kept t
   run c n Kill kept t = Stopped Discarded (Discard ∷ t)
   run c n (Barrier bits) kept t = ask_each (barrier_words bits) kept t
-  run c n (Act a xs r) kept t = with_all (used_all c kept xs) t (λ vs. with_result c.environment.parts c.function a r kept (acted c a vs t))
+  run c n (Act a xs r) kept t =
+      or_stuck (used_all c kept xs) t
+      (λ vs. with_result c.environment.parts c.function a r kept (acted c a vs t))
 
   pub run_all : Call → ℕ → Statements → Next Kept
   run_all c n end kept t = Done kept t
@@ -287,13 +312,15 @@ abbrev mutual
   pub run_cases : Call → ℕ → Cases → Label → Next Kept
   run_cases c n no_case x kept t = Done kept t
   run_cases c n (case l b falls cs) x kept t =
-      cond (same_label x l) (and_then (run_all c n b kept t) (λ kept1 t1. cond falls (run_on c n cs kept1 t1) (Done kept1 t1))) (run_cases c n cs x kept t)
+      cond (same_label x l) (and_then (run_all c n b kept t)
+      (λ kept1 t1. cond falls (run_on c n cs kept1 t1) (Done kept1 t1))) (run_cases c n cs x kept t)
 
   -- on from a case that fell through
   pub run_on : Call → ℕ → Cases → Next Kept
   run_on c n no_case kept t = Done kept t
   run_on c n (case l b falls cs) kept t =
-      and_then (run_all c n b kept t) (λ kept1 t1. cond falls (run_on c n cs kept1 t1) (Done kept1 t1))
+      and_then (run_all c n b kept t)
+      (λ kept1 t1. cond falls (run_on c n cs kept1 t1) (Done kept1 t1))
 
 -- all values, if they are there
 abbrev pub all_of : (ℕ → Option Value) → List ℕ → Option (List Value)
@@ -306,7 +333,8 @@ or_constant env m (Some (Constant e)) o = constant_value env m e
 or_constant env m _ o = o
 
 -- the value of a constant tree, over its operands' values
-abbrev pub constant_as : Environment → Meaning → (ℕ → Option Value) → Option Expression → Option Value
+abbrev pub constant_as :
+    Environment → Meaning → (ℕ → Option Value) → Option Expression → Option Value
 constant_as env m value e = or_constant env m e (gathered m e (all_of value (operands_of e)))
 
 -- the values of constant trees up to a bound on their handles
@@ -319,7 +347,8 @@ abbrev pub constants_kept : Function → Environment → Meaning → Kept
 constants_kept f env m = constant_below f env m (length f.expressions)
 
 -- one more first value
-abbrev pub with_first : Option (Option Value) → Option (List (Option Value)) → Option (List (Option Value))
+abbrev pub with_first :
+    Option (Option Value) → Option (List (Option Value)) → Option (List (Option Value))
 with_first None firsts = None
 with_first (Some v) None = None
 with_first (Some v) (Some firsts) = Some (v ∷ firsts)
@@ -340,7 +369,8 @@ first_used_all c kept [] = Some []
 first_used_all c kept (o ∷ os) = with_first (first_used c kept o) (first_used_all c kept os)
 
 -- a body's run behind the entry, with the first values of the locals
-abbrev pub entered : ℕ → List Value → Option (List (Option Value)) → List Event → (List Event → Reached (Option Value)) → Reached (Option Value)
+abbrev pub entered : ℕ → List Value → Option (List (Option Value)) → List Event →
+    (List Event → Reached (Option Value)) → Reached (Option Value)
 entered g vs None t body = Halts Stuck t
 entered g vs (Some firsts) t body = body (Entry g vs firsts ∷ t)
 
@@ -348,18 +378,30 @@ entered g vs (Some firsts) t body = body (Entry g vs firsts ∷ t)
 abbrev pub run_body : Call → ℕ → ℕ → List Value → List Event → Reached (Option Value)
 run_body c n g vs t =
     let kept = constants_kept c.function c.environment c.meaning in
-    entered g vs (first_used_all c kept c.function.first_values) t (λ t1. answer (run_all c n c.function.body kept t1))
+    entered g vs (first_used_all c kept c.function.first_values) t
+    (λ t1. answer (run_all c n c.function.body kept t1))
 
 -- a call with another number of arguments is stuck
 abbrev pub called : Bool → Reached (Option Value) → List Event → Reached (Option Value)
 called true a t = a
 called false a t = Halts Stuck t
 
--- a call of one of these functions, the last one first: its number is that of the functions behind it
-abbrev pub run_call : Environment → World → Meaning → ℕ → List Function → ℕ → List Value → List Event → Reached (Option Value)
+-- a call of one of these functions, the last one first: its number is that of the functions behind
+-- it
+abbrev pub run_call : Environment → World → Meaning → ℕ → List Function → ℕ → List Value →
+    List Event → Reached (Option Value)
 run_call env w m n [] g vs t = Halts Stuck t
 run_call env w m n (f ∷ fs) g vs t =
-    let c : Call = record { function = f; callees = fs; environment = env; world = w; meaning = m; arguments = vs; frame = entries t; calls = run_call env w m n fs } in
+    let c : Call = record {
+      function = f;
+      callees = fs;
+      environment = env;
+      world = w;
+      meaning = m;
+      arguments = vs;
+      frame = entries t;
+      calls = run_call env w m n fs;
+    } in
     let own = called (nat_eq (length vs) (argument_count f)) (run_body c n (length fs) vs t) t in
     let other = run_call env w m n fs g vs t in
     cond (nat_eq g (length fs)) own other

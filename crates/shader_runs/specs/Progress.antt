@@ -1,9 +1,13 @@
 -- The law of progress: a call isn't stuck, neither in the module nor in its text.
 use Rattle.std.specs.Prelude.{◌≡◌, ℕ, Bool, true, false, List, [], ◌∷◌, Option, Some, None, IsTrue}
-use Rattle.shader_runs.specs.Value.{ValueType, BooleanType, IntegerType, PointerType, Value, has_types}
+use Rattle.shader_runs.specs.Value.{ValueType, BooleanType, IntegerType, PointerType, Value}
+use Rattle.shader_runs.specs.Value.{has_types}
 use Rattle.shader_runs.specs.World.{World, Meaning, Event, Settings}
 use Rattle.shader_runs.specs.Outcome.{Stop, Stuck, Reached, Gives, Halts}
-use Rattle.shader_runs.specs.Program.{Expression, Load, Statement, Store, Block, If, Switch, Loop, Break, Continue, Statements, end, then, Cases, no_case, case, Function, function_numbered, expression_of, handle_type, Module}
+use Rattle.shader_runs.specs.Program.{Expression, Load, Statement, Store, Block, If, Switch, Loop}
+use Rattle.shader_runs.specs.Program.{Break, Continue, Statements, end, then, Cases, no_case, case}
+use Rattle.shader_runs.specs.Program.{Function, function_numbered, expression_of, handle_type}
+use Rattle.shader_runs.specs.Program.{Module}
 use Rattle.shader_runs.specs.Constants.{run_module, follow_module}
 use Rattle.shader_runs.specs.Scope.{ModuleNames, Naming}
 use Rattle.shader_runs.specs.Form.{form_module}
@@ -36,14 +40,15 @@ BreakIfFits f None = Unit {0}
 BreakIfFits f (Some h) = IsBoolean (handle_type f h)
 
 abbrev mutual
-  -- a condition is a truth value, a selector is an integer, and a store goes to a pointer. `break` stands
-  -- in a loop's body or in a case, `continue` in a loop's body, and neither leaves a `continuing`:
-  -- breaks and continues tell which of them may stand here
+  -- a condition is a truth value, a selector is an integer, and a store goes to a pointer. `break`
+  -- stands in a loop's body or in a case, `continue` in a loop's body, and neither leaves a
+  -- `continuing`: breaks and continues tell which of them may stand here
   pub IsWellFormed : Function → (breaks continues : Bool) → Statement → Type 0
   IsWellFormed f breaks continues (Store p v) = IsPointer (handle_type f p)
   IsWellFormed f breaks continues (Block b) = AreWellFormed f breaks continues b
   IsWellFormed f breaks continues (If c a b) =
-      IsBoolean (handle_type f c) × AreWellFormed f breaks continues a × AreWellFormed f breaks continues b
+      IsBoolean (handle_type f c) × AreWellFormed f breaks continues a
+      × AreWellFormed f breaks continues b
   IsWellFormed f breaks continues (Switch h cases) =
       IsInteger (handle_type f h) × CasesAreWellFormed f continues cases
   IsWellFormed f breaks continues (Loop b d e) =
@@ -77,14 +82,14 @@ abbrev pub NotStuck : Stop → Type 0
 NotStuck Stuck = ⊥
 NotStuck _ = Unit {0}
 
--- a call returns, or it ends by a discard, out of turns, for want of a callee's result or at an answer
--- of a wrong type
+-- a call returns, or it ends by a discard, out of turns, for want of a callee's result or at an
+-- answer of a wrong type
 abbrev pub IsNotStuck : Reached (Option Value) → Type 0
 IsNotStuck (Gives v t) = Unit {0}
 IsNotStuck (Halts x t) = NotStuck x
 
--- in a module whose scope holds, and which is well-formed, no call with arguments of the right types is
--- stuck: in no world the module's run, and in no world that keeps the types the text's
+-- in a module whose scope holds, and which is well-formed, no call with arguments of the right
+-- types is stuck: in no world the module's run, and in no world that keeps the types the text's
 abbrev pub RunsAreNotStuck : Type 0
 RunsAreNotStuck =
     (p : Module) (n : ModuleNames) (fs : List Naming) →

@@ -1,9 +1,12 @@
 -- The law of results: where functions return what they promise, no call misses a result.
-use Rattle.std.specs.Prelude.{◌≡◌, ℕ, Bool, true, false, not, is_some, List, [], ◌∷◌, Option, Some, None, ◌&&◌, ◌||◌, IsTrue}
+use Rattle.std.specs.Prelude.{◌≡◌, ℕ, Bool, true, false, not, is_some, List, [], ◌∷◌, Option, Some}
+use Rattle.std.specs.Prelude.{None, ◌&&◌, ◌||◌, IsTrue}
 use Rattle.shader_runs.specs.Value.{ValueType, Value}
 use Rattle.shader_runs.specs.World.{World, Meaning, Event, Settings}
 use Rattle.shader_runs.specs.Outcome.{Stop, Unreturned, Reached, Gives, Halts}
-use Rattle.shader_runs.specs.Program.{Default, Statement, Block, If, Switch, Loop, Break, Continue, Return, Kill, Statements, end, then, Cases, no_case, case, Function, function_numbered, Module}
+use Rattle.shader_runs.specs.Program.{Default, Statement, Block, If, Switch, Loop, Break, Continue}
+use Rattle.shader_runs.specs.Program.{Return, Kill, Statements, end, then, Cases, no_case, case}
+use Rattle.shader_runs.specs.Program.{Function, function_numbered, Module}
 use Rattle.shader_runs.specs.ProgramRun.{has_label}
 use Rattle.shader_runs.specs.Constants.{run_module}
 use Rattle.shader_runs.specs.Scope.{ModuleNames, Naming}
@@ -41,7 +44,8 @@ abbrev mutual
   -- a case that falls through ends as the next one does
   pub some_case_ends : Cases → Bool
   some_case_ends no_case = false
-  some_case_ends (case l b falls cs) = any_break b || ((not falls && may_end_all b) || some_case_ends cs)
+  some_case_ends (case l b falls cs) =
+      any_break b || ((not falls && may_end_all b) || some_case_ends cs)
 
 abbrev mutual
   -- each `return` has a value

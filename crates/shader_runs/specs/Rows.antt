@@ -1,373 +1,386 @@
 -- Worked functions: each with its text, and what both runs of it do in one world. Then texts that
 -- other writers would give, which do something else.
-use Rattle.std.specs.Prelude.{◌≡◌, ℕ, ◌+◌, ◌*◌, pos, Bool, true, false, cond, List, [], ◌∷◌, ◌++◌, Option, Some, None, ◌&&◌, ◌||◌, nat_eq, get_or, IsTrue, codes}
-use Rattle.shader_runs.specs.Value.{Bytes, PartTypes, same_bytes, same_integer, MemberNamed, ElementAt, step_of, At, Field, Rooted, GlobalRoot, LocalRoot, Part, Place, ValueType, BooleanType, IntegerType, PointerType, Value, Truth, Whole, Pointer, Spelled}
-use Rattle.shader_runs.specs.World.{Event, Entry, Ask, Read, Write, Discard, World, Meaning, Settings}
+use Rattle.std.specs.Prelude.{◌≡◌, pos, Bool, true, false, cond, List, [], ◌∷◌, Option}
+use Rattle.std.specs.Prelude.{Some, None, IsTrue, codes}
+use Rattle.shader_runs.specs.Value.{Bytes, PartTypes, same_bytes, MemberNamed, ElementAt, step_of}
+use Rattle.shader_runs.specs.Value.{At, Field, Rooted, GlobalRoot, LocalRoot, Part, Place}
+use Rattle.shader_runs.specs.Value.{ValueType, BooleanType, PointerType, Value, Truth, Pointer}
+use Rattle.shader_runs.specs.World.{Event, Entry, Ask, Read, Write, Settings}
 use Rattle.shader_runs.specs.Outcome.{Reached, Gives, Halts, Stuck, Unreturned, OutOfTurns}
-use Rattle.shader_runs.specs.Program.{Fixed, NamedConstant, Module, Expression, Constant, Argument, Local, Global, Load, Operator, Access, AccessIndex, Result, Called, Numbered, Default, Statements, Emit, Store, If, Switch, Loop, Break, Continue, Return, Act, Barrier, end, then, no_case, case, Function}
-use Rattle.shader_runs.specs.Text.{Tree, Name, LiteralOf, Apply, Deref, AddressOf, Index, PartOf, no_more, more, Let, Assign, IfElse, SwitchOn, LoopOf, ContinueLine, ReturnLine, Perform, Lines, last, before, no_group, group, Variable, TextFunction, TextModule}
-use Rattle.shader_runs.specs.Constants.{run_module, follow_module}
-use Rattle.shader_runs.specs.Scope.{ModuleNames, Naming, fits_function}
+use Rattle.shader_runs.specs.Program.{BarrierBits, Fixed, NamedConstant, Module, Expression}
+use Rattle.shader_runs.specs.Program.{Constant, Argument, Local, Global, Load, Operator, Access}
+use Rattle.shader_runs.specs.Program.{AccessIndex, Result, Called, Numbered, Default, Statements}
+use Rattle.shader_runs.specs.Program.{Emit, Store, If, Switch, Loop, Break, Continue, Return, Act}
+use Rattle.shader_runs.specs.Program.{Barrier, end, then, no_case, case, Function, Statement}
+use Rattle.shader_runs.specs.Text.{Tree, Name, LiteralOf, Deref, Index, PartOf, Let, Assign, IfElse}
+use Rattle.shader_runs.specs.Text.{SwitchOn, LoopOf, ContinueLine, Lines, last, before, no_group}
+use Rattle.shader_runs.specs.Text.{group, Variable, TextFunction, TextModule, Line}
+use Rattle.shader_runs.specs.Constants.{run_module}
+use Rattle.shader_runs.specs.Scope.{Naming, fits_function}
 use Rattle.shader_runs.specs.Premises.{SettingsFit}
 use Rattle.shader_runs.specs.Typing.{IsConsistent}
 use Rattle.shader_runs.specs.Correct.{ModuleFits}
 use Rattle.shader_runs.specs.Progress.{AllWellFormed}
 use Rattle.shader_runs.specs.Results.{may_end_all, AllGiveResults}
-use Rattle.shader_runs.specs.Form.{form_functions, form_module, functions_of}
+use Rattle.shader_runs.specs.Form.{form_module}
+use Rattle.shader_runs.specs.WorkedFunctions.{i32, local_i32, i32_pointer, number, literal}
+use Rattle.shader_runs.specs.WorkedFunctions.{numbered_name, described, statements, function_with}
+use Rattle.shader_runs.specs.WorkedFunctions.{lines, call_of, perform, let_own, return_of, digits}
+use Rattle.shader_runs.specs.WorkedFunctions.{pointer_of, variable, number_variable, sum_of}
+use Rattle.shader_runs.specs.WorkedFunctions.{product_of, named_by, text_of, row_world}
+use Rattle.shader_runs.specs.WorkedFunctions.{row_meaning, row_asks, nothing, functions_alone}
+use Rattle.shader_runs.specs.WorkedFunctions.{with_names, only, follow_text, follow_row, IsShown}
+use Rattle.shader_runs.specs.WorkedFunctions.{IsShownAlone, Follows}
 
--- the type `i32`
-abbrev pub i32 : ValueType
-i32 = IntegerType (codes "i32")
+-- ---- a local, and sums
 
--- a pointer to a local of type `i32`, by its spelling and as a type
-abbrev pub local_i32 : Bytes
-local_i32 = codes "ptr<function, i32>"
+-- the local's name, and its variable: without a first value, and one that starts with 1
+abbrev pub a_name : Bytes
+a_name = codes "a"
 
-abbrev pub i32_pointer : ValueType
-i32_pointer = PointerType local_i32
-
--- a number of type `i32`
-abbrev pub number : ℕ → Value
-number n = Whole (codes "i32") (pos n)
-
--- such a literal
-abbrev pub literal : ℕ → Expression
-literal n = Constant (Fixed (number n))
-
--- the one world of the rows: a read of a place gives what was last stored there, or 7
-abbrev pub same_place : Place → Place → Bool
-same_place (Part p (At i)) (Part q (At j)) = same_place p q && same_integer i j
-same_place (Rooted (GlobalRoot a i)) (Rooted (GlobalRoot b j)) = nat_eq i j
-same_place (Rooted (LocalRoot a i j)) (Rooted (LocalRoot b k l)) =
-    nat_eq i k && nat_eq j l
-same_place _ _ = false
-
--- what was last stored at a place
-abbrev pub stored : Place → List Event → Value
-stored p [] = number 7
-stored p (Write q v ∷ t) = cond (same_place p q) v (stored p t)
-stored p (Entry g vs firsts ∷ t) = stored p t
-stored p (Ask w vs ∷ t) = stored p t
-stored p (Read q ∷ t) = stored p t
-stored p (Discard ∷ t) = stored p t
-
--- a read gives what was stored, any other request 7
-abbrev pub row_world : World
-row_world t (Read p) = stored p t
-row_world t _ = number 7
-
--- the one meaning of the rows: sums and products
-abbrev pub arithmetic : Bytes → ℕ → ℕ → Value
-arithmetic w a b = cond (same_bytes w (codes "+")) (number (a + b)) (cond (same_bytes w (codes "*")) (number (a * b)) (number 0))
-
--- sums and products of numbers, and `select`
-abbrev pub row_meaning : Meaning
-row_meaning (Spelled w) (Whole s (pos a) ∷ Whole r (pos b) ∷ []) = arithmetic w a b
-row_meaning (Spelled w) (x ∷ y ∷ Truth true ∷ []) = y
-row_meaning (Spelled w) (x ∷ y ∷ Truth false ∷ []) = x
-row_meaning w vs = number 0
-
--- the words of the rows that ask for events
-abbrev pub row_asks : Bytes → Bool
-row_asks w = same_bytes w (codes "storageBarrier") || same_bytes w (codes "textureBarrier")
-
--- no type has parts
-abbrev pub no_parts : PartTypes
-no_parts whole step = []
-
--- no override and no variable
-abbrev pub nothing : Settings
-nothing = record { overrides = []; globals = [] }
-
--- a module of functions alone
-abbrev pub functions_alone : List Function → Module
-functions_alone fs =
-    record {
-      constant_types = [];
-      initialisers = [];
-      global_types = [];
-      parts = no_parts;
-      functions = fs;
-    }
-
--- `_e` and a digit
-abbrev pub numbered_name : ℕ → Bytes
-numbered_name h = codes "_e" ++ (h + 48) ∷ []
-
--- the names of functions alone
-abbrev pub function_names : List Bytes → ModuleNames
-function_names fs =
-    record { constant = λ i. []; global = λ i. []; function = λ g. get_or fs g []; is_request = row_asks }
-
--- a function with the names of its arguments, its locals and its given expressions
-abbrev pub with_names : List Bytes → (earlier : ℕ) → (arguments locals given : List Bytes) → Function → Naming
-with_names fs earlier xs ls gs f =
-    record {
-      function = f;
-      names = record {
-        outer = function_names fs;
-        argument = λ i. get_or xs i [];
-        local_ = λ i. get_or ls i [];
-        given = λ k. get_or gs k [];
-        numbered = numbered_name;
-        earlier = earlier;
-      };
-    }
-
--- `(a + b)`
-abbrev pub sum_of : Tree → Tree → Tree
-sum_of a b = Apply (codes "+") (more a (more b no_more))
-
--- `(a * b)`
-abbrev pub product_of : Tree → Tree → Tree
-product_of a b = Apply (codes "*") (more a (more b no_more))
-
--- a handle's own name
-abbrev pub named_by : ℕ → Tree
-named_by h = Name (numbered_name h)
-
--- each function passes the check of scope
-abbrev pub all_fit : List Naming → Bool
-all_fit [] = true
-all_fit (f ∷ fs) = fits_function f && all_fit fs
-
--- the run of this text, from a function by its name
-abbrev pub follow_text : Settings → TextModule → Bytes → List Value → Reached (Option Value)
-follow_text settings text name vs =
-    follow_module text settings row_world row_meaning row_asks 3 name vs []
-
--- the run of functions alone
-abbrev pub follow_row : List TextFunction → Bytes → List Value → Reached (Option Value)
-follow_row texts =
-    follow_text nothing (record { constants = []; overrides = []; globals = []; functions = texts })
-
--- a module's functions, last first, with their texts, and how the last one runs
-pub record IsShown (fs : List Naming) (texts : List TextFunction) (g : ℕ) (name : Bytes) (vs : List Value) (result : Reached (Option Value)) : Type 0 where
-  pub fits : IsTrue (all_fit fs)
-  pub text : form_functions fs ≡ texts
-  pub module_run :
-      run_module (functions_alone (functions_of fs)) nothing row_world row_meaning 3 g vs [] ≡ result
-  pub text_run : follow_row texts name vs ≡ result
-
--- a local without a first value
 abbrev pub local_a : Variable
-local_a = record { name = codes "a"; pointer = local_i32; first_value = None }
+local_a = variable a_name local_i32 None
+
+abbrev pub a_first : Variable
+a_first = number_variable a_name 1
 
 -- the first local of the first call
 abbrev pub a_place : Place
 a_place = Rooted (LocalRoot local_i32 0 0)
 
--- [store]: a read, a store over what was read, and what was read is returned
-abbrev pub store_function : Function
-store_function =
-    record {
-      argument_types = [];
-      result = Some i32;
-      first_values = Some 0 ∷ [];
-      local_pointers = local_i32 ∷ [];
-      expressions = literal 1 ∷ Local 0 ∷ Load 1 ∷ literal 2 ∷ [];
-      types = i32 ∷ i32_pointer ∷ i32 ∷ i32 ∷ [];
-      counts = 0 ∷ 2 ∷ 1 ∷ 1 ∷ [];
-      given_names = [];
-      body = then (Emit 2 1) (then (Store 1 3) (then (Return (Some 2)) end));
-    }
-
--- a function's text
-abbrev pub text_of : Bytes → List Bytes → List Variable → Lines → TextFunction
-text_of name xs ls lines = record { name = name; parameters = xs; variables = ls; lines = lines }
-
--- a local that starts with 1
-abbrev pub a_first : Variable
-a_first = record { name = codes "a"; pointer = local_i32; first_value = Some (LiteralOf (number 1)) }
-
--- a bound read, a store, a return
-abbrev pub store_text : List TextFunction
-store_text =
-    text_of (codes "g") [] (a_first ∷ []) (before (Let (numbered_name 2) (Name (codes "a"))) (before (Assign (Name (codes "a")) (LiteralOf (number 2))) (before (ReturnLine (Some (named_by 2))) last))) ∷ []
-
 -- the entry of a start
 abbrev pub entered_with : List Value → List (Option Value) → List Event
 entered_with vs firsts = Entry 0 vs firsts ∷ []
 
--- [store] as it is written and runs
+-- that of a function whose local starts with 1
+abbrev pub entered_with_one : List Event
+entered_with_one = entered_with [] (Some (number 1) ∷ [])
+
+-- a read, a store over what was read, and what was read is returned
+abbrev pub store_function : Function
+store_function =
+    function_with [] (Some i32) ((local_i32, Some 0) ∷ []) (
+    described (literal 1) i32 0
+    ∷ described (Local 0) i32_pointer 2
+    ∷ described (Load 1) i32 1
+    ∷ described (literal 2) i32 1 ∷ []) (
+    Emit 2 1
+    ∷ Store 1 3
+    ∷ Return (Some 2) ∷ [])
+
+abbrev pub store_text : TextFunction
+store_text =
+    text_of (codes "g") [] (a_first ∷ []) (lines (
+    let_own 2 (Name a_name)
+    ∷ Assign (Name a_name) (digits 2)
+    ∷ return_of (named_by 2) ∷ []))
+
+-- its names
+abbrev pub store_naming : Naming
+store_naming = only (codes "g") [] (a_name ∷ []) store_function
+
+-- [store]: the read is bound in front of the store
 abbrev pub StoreRow : Type 0
 StoreRow =
-    IsShown (with_names (codes "g" ∷ []) 0 [] (codes "a" ∷ []) [] store_function ∷ []) store_text 0 (codes "g") [] (Gives (Some (number 7)) (Write a_place (number 2) ∷ Read a_place ∷ entered_with [] (Some (number 1) ∷ [])))
+    let events = Write a_place (number 2) ∷ Read a_place ∷ entered_with_one in
+    IsShownAlone store_naming store_text [] (Gives (Some (number 7)) events)
+
+-- the read is used nowhere
+abbrev pub unused_function : Function
+unused_function =
+    function_with [] (Some i32) ((local_i32, Some 0) ∷ []) (
+    described (literal 1) i32 0
+    ∷ described (Local 0) i32_pointer 2
+    ∷ described (Load 1) i32 0
+    ∷ described (literal 2) i32 2 ∷ []) (
+    Emit 2 1
+    ∷ Store 1 3
+    ∷ Return (Some 3) ∷ [])
+
+abbrev pub unused_text : TextFunction
+unused_text =
+    text_of (codes "g") [] (a_first ∷ []) (lines (
+    Assign (Name a_name) (digits 2)
+    ∷ return_of (digits 2) ∷ []))
 
 -- [unused]: the read counts nowhere, is not written, and is no event
 abbrev pub UnusedRow : Type 0
 UnusedRow =
-    IsShown (with_names (codes "g" ∷ []) 0 [] (codes "a" ∷ []) [] (record store_function { counts = 0 ∷ 2 ∷ 0 ∷ 2 ∷ []; body = then (Emit 2 1) (then (Store 1 3) (then (Return (Some 3)) end)) }) ∷ []) (text_of (codes "g") [] (a_first ∷ []) (before (Assign (Name (codes "a")) (LiteralOf (number 2))) (before (ReturnLine (Some (LiteralOf (number 2)))) last)) ∷ []) 0 (codes "g") [] (Gives (Some (number 2)) (Write a_place (number 2) ∷ entered_with [] (Some (number 1) ∷ [])))
+    let events = Write a_place (number 2) ∷ entered_with_one in
+    IsShownAlone (only (codes "g") [] (a_name ∷ []) unused_function) unused_text [] (
+    Gives (Some (number 2)) events)
 
--- [late]: a sum of what was read, written behind the store
+-- a sum of what was read
+abbrev pub late_function : Function
+late_function =
+    function_with [] (Some i32) ((local_i32, Some 0) ∷ []) (
+    described (literal 1) i32 1
+    ∷ described (Local 0) i32_pointer 2
+    ∷ described (Load 1) i32 1
+    ∷ described (Operator (codes "+") (2 ∷ 0 ∷ [])) i32 1
+    ∷ described (literal 2) i32 1 ∷ []) (
+    Emit 2 2
+    ∷ Store 1 4
+    ∷ Return (Some 3) ∷ [])
+
+abbrev pub late_text : TextFunction
+late_text =
+    text_of (codes "p") [] (a_first ∷ []) (lines (
+    let_own 2 (Name a_name)
+    ∷ Assign (Name a_name) (digits 2)
+    ∷ return_of (sum_of (named_by 2) (digits 1)) ∷ []))
+
+-- [late]: the sum is written behind the store
 abbrev pub LateRow : Type 0
 LateRow =
-    IsShown (with_names (codes "p" ∷ []) 0 [] (codes "a" ∷ []) [] (record store_function { expressions = literal 1 ∷ Local 0 ∷ Load 1 ∷ Operator (codes "+") (2 ∷ 0 ∷ []) ∷ literal 2 ∷ []; types = i32 ∷ i32_pointer ∷ i32 ∷ i32 ∷ i32 ∷ []; counts = 1 ∷ 2 ∷ 1 ∷ 1 ∷ 1 ∷ []; body = then (Emit 2 2) (then (Store 1 4) (then (Return (Some 3)) end)) }) ∷ []) (text_of (codes "p") [] (a_first ∷ []) (before (Let (numbered_name 2) (Name (codes "a"))) (before (Assign (Name (codes "a")) (LiteralOf (number 2))) (before (ReturnLine (Some (sum_of (named_by 2) (LiteralOf (number 1))))) last))) ∷ []) 0 (codes "p") [] (Gives (Some (number 8)) (Write a_place (number 2) ∷ Read a_place ∷ entered_with [] (Some (number 1) ∷ [])))
+    let events = Write a_place (number 2) ∷ Read a_place ∷ entered_with_one in
+    IsShownAlone (only (codes "p") [] (a_name ∷ []) late_function) late_text [] (
+    Gives (Some (number 8)) events)
+
+-- the parameters of the rows
+abbrev pub x_name : Bytes
+x_name = codes "x"
+
+abbrev pub c_name : Bytes
+c_name = codes "c"
+
+-- `(x + x)`
+abbrev pub x_plus_x : Tree
+x_plus_x = sum_of (Name x_name) (Name x_name)
 
 -- a sum that is stored, and a read
 abbrev pub inline_function : Function
 inline_function =
-    record {
-      argument_types = i32 ∷ [];
-      result = Some i32;
-      first_values = None ∷ [];
-      local_pointers = local_i32 ∷ [];
-      expressions = Argument 0 ∷ Local 0 ∷ Operator (codes "+") (0 ∷ 0 ∷ []) ∷ Load 1 ∷ [];
-      types = i32 ∷ i32_pointer ∷ i32 ∷ i32 ∷ [];
-      counts = 2 ∷ 2 ∷ 1 ∷ 1 ∷ [];
-      given_names = [];
-      body = then (Emit 2 1) (then (Store 1 2) (then (Emit 3 1) (then (Return (Some 3)) end)));
-    }
+    function_with (i32 ∷ []) (Some i32) ((local_i32, None) ∷ []) (
+    described (Argument 0) i32 2
+    ∷ described (Local 0) i32_pointer 2
+    ∷ described (Operator (codes "+") (0 ∷ 0 ∷ [])) i32 1
+    ∷ described (Load 1) i32 1 ∷ []) (
+    Emit 2 1
+    ∷ Store 1 2
+    ∷ Emit 3 1
+    ∷ Return (Some 3) ∷ [])
 
--- `(x + x)`
-abbrev pub x_plus_x : Tree
-x_plus_x = sum_of (Name (codes "x")) (Name (codes "x"))
+abbrev pub inline_text : TextFunction
+inline_text =
+    text_of (codes "q") (x_name ∷ []) (local_a ∷ []) (lines (
+    Assign (Name a_name) x_plus_x
+    ∷ let_own 3 (Name a_name)
+    ∷ return_of (named_by 3) ∷ []))
+
+-- what the sum's store and the read are behind the entry
+abbrev pub sum_events : List Event
+sum_events = Read a_place ∷ Write a_place (number 8) ∷ entered_with (number 4 ∷ []) (None ∷ [])
 
 -- [inline]: a sum that is used once is written where it is used
 abbrev pub InlineRow : Type 0
 InlineRow =
-    IsShown (with_names (codes "q" ∷ []) 0 (codes "x" ∷ []) (codes "a" ∷ []) [] inline_function ∷ []) (text_of (codes "q") (codes "x" ∷ []) (local_a ∷ []) (before (Assign (Name (codes "a")) x_plus_x) (before (Let (numbered_name 3) (Name (codes "a"))) (before (ReturnLine (Some (named_by 3))) last))) ∷ []) 0 (codes "q") (number 4 ∷ []) (Gives (Some (number 8)) (Read a_place ∷ Write a_place (number 8) ∷ entered_with (number 4 ∷ []) (None ∷ [])))
+    let naming = only (codes "q") (x_name ∷ []) (a_name ∷ []) inline_function in
+    IsShownAlone naming inline_text (number 4 ∷ []) (Gives (Some (number 8)) sum_events)
+
+-- the sum is used again in a product
+abbrev pub twofold_function : Function
+twofold_function =
+    function_with (i32 ∷ []) (Some i32) ((local_i32, None) ∷ []) (
+    described (Argument 0) i32 2
+    ∷ described (Local 0) i32_pointer 2
+    ∷ described (Operator (codes "+") (0 ∷ 0 ∷ [])) i32 2
+    ∷ described (Load 1) i32 1
+    ∷ described (Operator (codes "*") (2 ∷ 3 ∷ [])) i32 1 ∷ []) (
+    Emit 2 1
+    ∷ Store 1 2
+    ∷ Emit 3 2
+    ∷ Return (Some 4) ∷ [])
+
+abbrev pub twofold_text : TextFunction
+twofold_text =
+    text_of (codes "q") (x_name ∷ []) (local_a ∷ []) (lines (
+    let_own 2 x_plus_x
+    ∷ Assign (Name a_name) (named_by 2)
+    ∷ let_own 3 (Name a_name)
+    ∷ return_of (product_of (named_by 2) (named_by 3)) ∷ []))
 
 -- [twofold]: a sum that is used twice is bound
 abbrev pub TwofoldRow : Type 0
 TwofoldRow =
-    IsShown (with_names (codes "q" ∷ []) 0 (codes "x" ∷ []) (codes "a" ∷ []) [] (record inline_function { expressions = Argument 0 ∷ Local 0 ∷ Operator (codes "+") (0 ∷ 0 ∷ []) ∷ Load 1 ∷ Operator (codes "*") (2 ∷ 3 ∷ []) ∷ []; types = i32 ∷ i32_pointer ∷ i32 ∷ i32 ∷ i32 ∷ []; counts = 2 ∷ 2 ∷ 2 ∷ 1 ∷ 1 ∷ []; body = then (Emit 2 1) (then (Store 1 2) (then (Emit 3 2) (then (Return (Some 4)) end))) }) ∷ []) (text_of (codes "q") (codes "x" ∷ []) (local_a ∷ []) (before (Let (numbered_name 2) x_plus_x) (before (Assign (Name (codes "a")) (named_by 2)) (before (Let (numbered_name 3) (Name (codes "a"))) (before (ReturnLine (Some (product_of (named_by 2) (named_by 3)))) last)))) ∷ []) 0 (codes "q") (number 4 ∷ []) (Gives (Some (number 64)) (Read a_place ∷ Write a_place (number 8) ∷ entered_with (number 4 ∷ []) (None ∷ [])))
+    let naming = only (codes "q") (x_name ∷ []) (a_name ∷ []) twofold_function in
+    IsShownAlone naming twofold_text (number 4 ∷ []) (Gives (Some (number 64)) sum_events)
+
+-- ---- branches
 
 -- the same sum in both branches
 abbrev pub sibling_function : Function
 sibling_function =
-    record {
-      argument_types = BooleanType ∷ i32 ∷ [];
-      result = Some i32;
-      first_values = [];
-      local_pointers = [];
-      expressions = Argument 0 ∷ Argument 1 ∷ Operator (codes "+") (1 ∷ 1 ∷ []) ∷ [];
-      types = BooleanType ∷ i32 ∷ i32 ∷ [];
-      counts = 1 ∷ 2 ∷ 2 ∷ [];
-      given_names = [];
-      body = then (If 0 (then (Emit 2 1) (then (Return (Some 2)) end)) (then (Emit 2 1) (then (Return (Some 2)) end))) end;
-    }
+    let branch = statements (Emit 2 1 ∷ Return (Some 2) ∷ []) in
+    function_with (BooleanType ∷ i32 ∷ []) (Some i32) [] (
+    described (Argument 0) BooleanType 1
+    ∷ described (Argument 1) i32 2
+    ∷ described (Operator (codes "+") (1 ∷ 1 ∷ [])) i32 2 ∷ []) (
+    If 0 branch branch ∷ [])
 
 -- a sum bound under this name, and returned
 abbrev pub let_and_return : Bytes → Lines
-let_and_return x = before (Let x x_plus_x) (before (ReturnLine (Some (Name x))) last)
+let_and_return name = lines (Let name x_plus_x ∷ return_of (Name name) ∷ [])
 
 -- a choice between these branches
-abbrev pub sibling_text : (accept reject : Lines) → List TextFunction
+abbrev pub sibling_text : (accept reject : Lines) → TextFunction
 sibling_text accept reject =
-    text_of (codes "k") (codes "c" ∷ codes "x" ∷ []) [] (before (IfElse (Name (codes "c")) accept reject) last) ∷ []
+    text_of (codes "k") (c_name ∷ x_name ∷ []) [] (lines (
+    IfElse (Name c_name) accept reject ∷ []))
 
 -- [sibling]: each branch binds its own name
 abbrev pub SiblingRow : Type 0
 SiblingRow =
-    IsShown (with_names (codes "k" ∷ []) 0 (codes "c" ∷ codes "x" ∷ []) [] [] sibling_function ∷ []) (sibling_text (let_and_return (numbered_name 2)) (let_and_return (numbered_name 2))) 0 (codes "k") (Truth false ∷ number 4 ∷ []) (Gives (Some (number 8)) (entered_with (Truth false ∷ number 4 ∷ []) []))
+    let vs = Truth false ∷ number 4 ∷ [] in
+    let branch = let_and_return (numbered_name 2) in
+    let naming = only (codes "k") (c_name ∷ x_name ∷ []) [] sibling_function in
+    IsShownAlone naming (sibling_text branch branch) vs (
+    Gives (Some (number 8)) (entered_with vs []))
+
+-- the sum, named by a front end
+abbrev pub twice_naming : Naming
+twice_naming =
+    with_names (codes "k" ∷ []) 0 (c_name ∷ x_name ∷ []) [] (codes "y" ∷ codes "y_1" ∷ []) (
+    record sibling_function { given_names = false ∷ false ∷ true ∷ [] })
 
 -- [twice]: a given name is given anew in each branch
 abbrev pub TwiceRow : Type 0
 TwiceRow =
-    IsShown (with_names (codes "k" ∷ []) 0 (codes "c" ∷ codes "x" ∷ []) [] (codes "y" ∷ codes "y_1" ∷ []) (record sibling_function { given_names = false ∷ false ∷ true ∷ [] }) ∷ []) (sibling_text (let_and_return (codes "y")) (let_and_return (codes "y_1"))) 0 (codes "k") (Truth true ∷ number 4 ∷ []) (Gives (Some (number 8)) (entered_with (Truth true ∷ number 4 ∷ []) []))
+    let vs = Truth true ∷ number 4 ∷ [] in
+    let text = sibling_text (let_and_return (codes "y")) (let_and_return (codes "y_1")) in
+    IsShownAlone twice_naming text vs (Gives (Some (number 8)) (entered_with vs []))
+
+-- ---- loops
+
+-- a sum of a loop's body is stored again in `continuing`
+abbrev pub tail_function : Function
+tail_function =
+    let body = statements (Emit 2 1 ∷ Store 1 2 ∷ []) in
+    let continuing = statements (Store 1 2 ∷ []) in
+    function_with (i32 ∷ []) None ((local_i32, None) ∷ []) (
+    described (Argument 0) i32 2
+    ∷ described (Local 0) i32_pointer 2
+    ∷ described (Operator (codes "+") (0 ∷ 0 ∷ [])) i32 2
+    ∷ described (Constant (Fixed (Truth true))) BooleanType 1 ∷ []) (
+    Loop body continuing (Some 3) ∷ [])
+
+abbrev pub tail_text : TextFunction
+tail_text =
+    let body = lines (let_own 2 x_plus_x ∷ Assign (Name a_name) (named_by 2) ∷ []) in
+    let continuing = lines (Assign (Name a_name) (named_by 2) ∷ []) in
+    text_of (codes "lp") (x_name ∷ []) (local_a ∷ []) (lines (
+    LoopOf body continuing (Some (LiteralOf (Truth true))) ∷ []))
 
 -- [tail]: `continuing` uses a name of the body
 abbrev pub TailRow : Type 0
 TailRow =
-    IsShown (with_names (codes "lp" ∷ []) 0 (codes "x" ∷ []) (codes "a" ∷ []) [] (record { argument_types = i32 ∷ []; result = None; first_values = None ∷ []; local_pointers = local_i32 ∷ []; expressions = Argument 0 ∷ Local 0 ∷ Operator (codes "+") (0 ∷ 0 ∷ []) ∷ Constant (Fixed (Truth true)) ∷ []; types = i32 ∷ i32_pointer ∷ i32 ∷ BooleanType ∷ []; counts = 2 ∷ 2 ∷ 2 ∷ 1 ∷ []; given_names = []; body = then (Loop (then (Emit 2 1) (then (Store 1 2) end)) (then (Store 1 2) end) (Some 3)) end }) ∷ []) (text_of (codes "lp") (codes "x" ∷ []) (local_a ∷ []) (before (LoopOf (before (Let (numbered_name 2) x_plus_x) (before (Assign (Name (codes "a")) (named_by 2)) last)) (before (Assign (Name (codes "a")) (named_by 2)) last) (Some (LiteralOf (Truth true)))) last) ∷ []) 0 (codes "lp") (number 4 ∷ []) (Gives None (Write a_place (number 8) ∷ Write a_place (number 8) ∷ entered_with (number 4 ∷ []) (None ∷ [])))
+    let stored = Write a_place (number 8) in
+    let events = stored ∷ stored ∷ entered_with (number 4 ∷ []) (None ∷ []) in
+    let naming = only (codes "lp") (x_name ∷ []) (a_name ∷ []) tail_function in
+    IsShownAlone naming tail_text (number 4 ∷ []) (Gives None events)
 
 -- a sum of constants in a loop
 abbrev pub folded_function : Function
 folded_function =
-    record {
-      argument_types = BooleanType ∷ [];
-      result = None;
-      first_values = None ∷ [];
-      local_pointers = local_i32 ∷ [];
-      expressions = Argument 0 ∷ Local 0 ∷ literal 1 ∷ Operator (codes "+") (2 ∷ 2 ∷ []) ∷ [];
-      types = BooleanType ∷ i32_pointer ∷ i32 ∷ i32 ∷ [];
-      counts = 2 ∷ 2 ∷ 2 ∷ 2 ∷ [];
-      given_names = [];
-      body = then (Loop (then (If 0 (then Continue end) end) (then (Emit 3 1) (then (Store 1 3) end))) (then (Store 1 3) end) (Some 0)) end;
-    }
+    let body = statements (If 0 (then Continue end) end ∷ Emit 3 1 ∷ Store 1 3 ∷ []) in
+    let continuing = statements (Store 1 3 ∷ []) in
+    function_with (BooleanType ∷ []) None ((local_i32, None) ∷ []) (
+    described (Argument 0) BooleanType 2
+    ∷ described (Local 0) i32_pointer 2
+    ∷ described (literal 1) i32 2
+    ∷ described (Operator (codes "+") (2 ∷ 2 ∷ [])) i32 2 ∷ []) (
+    Loop body continuing (Some 0) ∷ [])
 
 -- `(1i + 1i)`
 abbrev pub one_plus_one : Tree
-one_plus_one = sum_of (LiteralOf (number 1)) (LiteralOf (number 1))
+one_plus_one = sum_of (digits 1) (digits 1)
 
 -- its text, with this in `continuing`
-abbrev pub folded_text : Tree → List TextFunction
+abbrev pub folded_text : Tree → TextFunction
 folded_text e =
-    text_of (codes "cf") (codes "c" ∷ []) (local_a ∷ []) (before (LoopOf (before (IfElse (Name (codes "c")) (before ContinueLine last) last) (before (Let (numbered_name 3) one_plus_one) (before (Assign (Name (codes "a")) (named_by 3)) last))) (before (Assign (Name (codes "a")) e) last) (Some (Name (codes "c")))) last) ∷ []
+    let leaving = IfElse (Name c_name) (before ContinueLine last) last in
+    let body =
+    lines (leaving ∷ let_own 3 one_plus_one ∷ Assign (Name a_name) (named_by 3) ∷ []) in
+    let continuing = lines (Assign (Name a_name) e ∷ []) in
+    text_of (codes "cf") (c_name ∷ []) (local_a ∷ []) (lines (
+    LoopOf body continuing (Some (Name c_name)) ∷ []))
 
 -- [folded]: a sum of constants has a name that a `continue` may skip, so `continuing` writes it out
 abbrev pub FoldedRow : Type 0
 FoldedRow =
-    IsShown (with_names (codes "cf" ∷ []) 0 (codes "c" ∷ []) (codes "a" ∷ []) [] folded_function ∷ []) (folded_text one_plus_one) 0 (codes "cf") (Truth true ∷ []) (Gives None (Write a_place (number 2) ∷ entered_with (Truth true ∷ []) (None ∷ [])))
+    let vs = Truth true ∷ [] in
+    let naming = only (codes "cf") (c_name ∷ []) (a_name ∷ []) folded_function in
+    IsShownAlone naming (folded_text one_plus_one) vs (
+    Gives None (Write a_place (number 2) ∷ entered_with vs (None ∷ [])))
+
+-- ---- calls
 
 -- adds one through a pointer
 abbrev pub increment : Function
 increment =
-    record {
-      argument_types = i32_pointer ∷ [];
-      result = None;
-      first_values = [];
-      local_pointers = [];
-      expressions = Argument 0 ∷ literal 1 ∷ Load 0 ∷ Operator (codes "+") (2 ∷ 1 ∷ []) ∷ [];
-      types = i32_pointer ∷ i32 ∷ i32 ∷ i32 ∷ [];
-      counts = 2 ∷ 1 ∷ 1 ∷ 1 ∷ [];
-      given_names = [];
-      body = then (Emit 2 2) (then (Store 0 3) end);
-    }
+    function_with (i32_pointer ∷ []) None [] (
+    described (Argument 0) i32_pointer 2
+    ∷ described (literal 1) i32 1
+    ∷ described (Load 0) i32 1
+    ∷ described (Operator (codes "+") (2 ∷ 1 ∷ [])) i32 1 ∷ []) (
+    Emit 2 2
+    ∷ Store 0 3 ∷ [])
 
 -- calls it with its local
 abbrev pub run_function : Function
 run_function =
-    record {
-      argument_types = [];
-      result = Some i32;
-      first_values = None ∷ [];
-      local_pointers = local_i32 ∷ [];
-      expressions = Local 0 ∷ Load 0 ∷ [];
-      types = i32_pointer ∷ i32 ∷ [];
-      counts = 2 ∷ 1 ∷ [];
-      given_names = [];
-      body = then (Act (Called 0) (0 ∷ []) None) (then (Emit 1 1) (then (Return (Some 1)) end));
-    }
+    function_with [] (Some i32) ((local_i32, None) ∷ []) (
+    described (Local 0) i32_pointer 2
+    ∷ described (Load 0) i32 1 ∷ []) (
+    Act (Called 0) (0 ∷ []) None
+    ∷ Emit 1 1
+    ∷ Return (Some 1) ∷ [])
 
 -- their texts, with this for the argument
 abbrev pub call_texts : Tree → List TextFunction
 call_texts p =
-    text_of (codes "run") [] (local_a ∷ []) (before (Perform (codes "inc") (more (AddressOf (Name (codes "a"))) no_more)) (before (Let (numbered_name 1) (Name (codes "a"))) (before (ReturnLine (Some (named_by 1))) last)))
-    ∷ text_of (codes "inc") (codes "p" ∷ []) [] (before (Let (numbered_name 2) p) (before (Assign p (sum_of (named_by 2) (LiteralOf (number 1)))) last)) ∷ []
+    text_of (codes "run") [] (local_a ∷ []) (lines (
+    perform (codes "inc") (pointer_of a_name ∷ [])
+    ∷ let_own 1 (Name a_name)
+    ∷ return_of (named_by 1) ∷ []))
+    ∷ text_of (codes "inc") (codes "p" ∷ []) [] (lines (
+    let_own 2 p
+    ∷ Assign p (sum_of (named_by 2) (digits 1)) ∷ [])) ∷ []
+
+-- their names
+abbrev pub call_namings : List Naming
+call_namings =
+    let functions = codes "inc" ∷ codes "run" ∷ [] in
+    with_names functions 1 [] (a_name ∷ []) [] run_function
+    ∷ with_names functions 0 (codes "p" ∷ []) [] [] increment ∷ []
 
 -- [call]: a callee reads and stores through a pointer to its caller's local
 abbrev pub CallRow : Type 0
 CallRow =
-    let functions = codes "inc" ∷ codes "run" ∷ [] in
-    IsShown (with_names functions 1 [] (codes "a" ∷ []) [] run_function ∷ with_names functions 0 (codes "p" ∷ []) [] [] increment ∷ []) (call_texts (Deref (Name (codes "p")))) 1 (codes "run") [] (Gives (Some (number 8)) (Read a_place ∷ Write a_place (number 8) ∷ Read a_place ∷ Entry 0 (Pointer a_place ∷ []) [] ∷ Entry 1 [] (None ∷ []) ∷ []))
+    let entries = Entry 0 (Pointer a_place ∷ []) [] ∷ Entry 1 [] (None ∷ []) ∷ [] in
+    let events = Read a_place ∷ Write a_place (number 8) ∷ Read a_place ∷ entries in
+    IsShown call_namings (call_texts (Deref (Name (codes "p")))) 1 (codes "run") [] (
+    Gives (Some (number 8)) events)
 
--- a function with this body, over the handle of a number
+-- a function with this body, over this expression
 abbrev pub body_of : Expression → Option ValueType → Statements → Function
 body_of e result body =
-    record {
-      argument_types = [];
-      result = result;
-      first_values = [];
-      local_pointers = [];
-      expressions = e ∷ [];
-      types = i32 ∷ [];
-      counts = 1 ∷ [];
-      given_names = [];
-      body = body;
-    }
+    record (function_with [] result [] (described e i32 1 ∷ []) []) { body = body }
 
 -- [unreturned]: a callee ends without the result that its caller wants
 abbrev pub UnreturnedRow : Type 0
 UnreturnedRow =
     let functions = codes "idle" ∷ codes "run" ∷ [] in
     let idle = body_of (literal 1) (Some i32) end in
-    let caller = body_of Result (Some i32) (then (Act (Called 0) [] (Some 0)) (then (Return (Some 0)) end)) in
-    let called = before (Let (numbered_name 0) (Apply (codes "idle") no_more)) (before (ReturnLine (Some (named_by 0))) last) in
+    let calls = statements (Act (Called 0) [] (Some 0) ∷ Return (Some 0) ∷ []) in
+    let caller = body_of Result (Some i32) calls in
+    let called = lines (let_own 0 (call_of (codes "idle") []) ∷ return_of (named_by 0) ∷ []) in
     let texts = text_of (codes "run") [] [] called ∷ text_of (codes "idle") [] [] last ∷ [] in
-    let namings = with_names functions 1 [] [] [] caller ∷ with_names functions 0 [] [] [] idle ∷ [] in
+    let calling = with_names functions 1 [] [] [] caller in
+    let namings = calling ∷ with_names functions 0 [] [] [] idle ∷ [] in
     IsShown namings texts 1 (codes "run") [] (Halts Unreturned (Entry 0 [] [] ∷ Entry 1 [] [] ∷ []))
+
+-- ---- bodies
 
 -- the run of this body is stuck where it starts
 abbrev pub IsStuck : Statements → Type 0
@@ -385,84 +398,138 @@ pub record AreStuck : Type 0 where
   pub number_as_break_if : IsStuck (then (Loop end end (Some 0)) end)
   pub number_as_pointer : IsStuck (then (Store 0 0) end)
 
--- a body that returns
+-- a body that returns, and one that breaks
 abbrev pub returning : Statements
 returning = then (Return (Some 0)) end
 
+abbrev pub breaking : Statements
+breaking = then (If 0 (then Break end) end) end
+
+-- whether a run may come to the end of a body of one statement
+abbrev pub ends_behind : Statement → Bool
+ends_behind st = may_end_all (then st end)
+
+-- the first case is empty or returns, and the default returns
+abbrev pub with_default : Statement
+with_default = Switch 0 (case (Numbered (pos 1)) end true (case Default returning false no_case))
+
+abbrev pub without_default : Statement
+without_default = Switch 0 (case (Numbered (pos 1)) returning false no_case)
+
 -- where a run may come to the end of a body
 pub record EndsAreTold : Type 0 where
-  pub both_return : may_end_all (then (If 0 returning returning) end) ≡ false
-  pub one_returns : may_end_all (then (If 0 returning end) end) ≡ true
-  pub loop_without_break : may_end_all (then (Loop end end None) end) ≡ false
-  pub loop_with_break : may_end_all (then (Loop (then (If 0 (then Break end) end) end) end None) end) ≡ true
-  pub loop_with_break_if : may_end_all (then (Loop end end (Some 0)) end) ≡ true
-  pub with_default : may_end_all (then (Switch 0 (case (Numbered (pos 1)) end true (case Default returning false no_case))) end) ≡ false
-  pub without_default : may_end_all (then (Switch 0 (case (Numbered (pos 1)) returning false no_case)) end) ≡ true
+  pub both_return : ends_behind (If 0 returning returning) ≡ false
+  pub one_returns : ends_behind (If 0 returning end) ≡ true
+  pub loop_without_break : ends_behind (Loop end end None) ≡ false
+  pub loop_with_break : ends_behind (Loop breaking end None) ≡ true
+  pub loop_with_break_if : ends_behind (Loop end end (Some 0)) ≡ true
+  pub with_default : ends_behind with_default ≡ false
+  pub without_default : ends_behind without_default ≡ true
+
+-- ---- switches, and a loop that a condition leaves
 
 -- cases 1 and 2 fall through to a default with this body
-abbrev pub switch_function : Statements → Function
-switch_function b =
-    record {
-      argument_types = i32 ∷ [];
-      result = None;
-      first_values = [];
-      local_pointers = [];
-      expressions = Argument 0 ∷ [];
-      types = i32 ∷ [];
-      counts = 1 ∷ [];
-      given_names = [];
-      body = then (Switch 0 (case (Numbered (pos 1)) end true (case (Numbered (pos 2)) end true (case Default b false no_case)))) end;
-    }
+abbrev pub switch_function : Option ValueType → List Statement → Function
+switch_function result body =
+    let joined = case Default (statements body) false no_case in
+    let second = case (Numbered (pos 2)) end true joined in
+    function_with (i32 ∷ []) result [] (described (Argument 0) i32 1 ∷ []) (
+    Switch 0 (case (Numbered (pos 1)) end true second) ∷ [])
+
+abbrev pub switch_text : List Line → TextFunction
+switch_text body =
+    let labels = Numbered (pos 1) ∷ Numbered (pos 2) ∷ Default ∷ [] in
+    text_of (codes "s") (x_name ∷ []) [] (lines (
+    SwitchOn (Name x_name) (group labels (lines body) no_group) ∷ []))
 
 -- [switch]: empty cases that fall through are joined
 abbrev pub SwitchRow : Type 0
 SwitchRow =
-    IsShown (with_names (codes "s" ∷ []) 0 (codes "x" ∷ []) [] [] (switch_function end) ∷ []) (text_of (codes "s") (codes "x" ∷ []) [] (before (SwitchOn (Name (codes "x")) (group (Numbered (pos 1) ∷ Numbered (pos 2) ∷ Default ∷ []) last no_group)) last) ∷ []) 0 (codes "s") (number 1 ∷ []) (Gives None (entered_with (number 1 ∷ []) []))
+    let naming = only (codes "s") (x_name ∷ []) [] (switch_function None []) in
+    IsShownAlone naming (switch_text []) (number 1 ∷ []) (
+    Gives None (entered_with (number 1 ∷ []) []))
 
 -- the joined case runs for each of its labels
 abbrev pub JoinedRow : Type 0
 JoinedRow =
-    IsShown (with_names (codes "s" ∷ []) 0 (codes "x" ∷ []) [] [] (record (switch_function (then (Return (Some 0)) end)) { result = Some i32 }) ∷ []) (text_of (codes "s") (codes "x" ∷ []) [] (before (SwitchOn (Name (codes "x")) (group (Numbered (pos 1) ∷ Numbered (pos 2) ∷ Default ∷ []) (before (ReturnLine (Some (Name (codes "x")))) last) no_group)) last) ∷ []) 0 (codes "s") (number 1 ∷ []) (Gives (Some (number 1)) (entered_with (number 1 ∷ []) []))
+    let function = switch_function (Some i32) (Return (Some 0) ∷ []) in
+    let text = switch_text (return_of (Name x_name) ∷ []) in
+    IsShownAlone (only (codes "s") (x_name ∷ []) [] function) text (number 1 ∷ []) (
+    Gives (Some (number 1)) (entered_with (number 1 ∷ []) []))
 
 -- a loop that a condition leaves
 abbrev pub loop_function : Function
 loop_function =
-    record {
-      argument_types = BooleanType ∷ [];
-      result = None;
-      first_values = [];
-      local_pointers = [];
-      expressions = Argument 0 ∷ [];
-      types = BooleanType ∷ [];
-      counts = 1 ∷ [];
-      given_names = [];
-      body = then (Loop end end (Some 0)) end;
-    }
+    function_with (BooleanType ∷ []) None [] (described (Argument 0) BooleanType 1 ∷ []) (
+    Loop end end (Some 0) ∷ [])
 
--- its text
-abbrev pub loop_text : List TextFunction
+abbrev pub loop_text : TextFunction
 loop_text =
-    text_of (codes "l") (codes "c" ∷ []) [] (before (LoopOf last last (Some (Name (codes "c")))) last) ∷ []
+    text_of (codes "l") (c_name ∷ []) [] (lines (LoopOf last last (Some (Name c_name)) ∷ []))
+
+-- it runs so where the condition has this value
+abbrev pub LoopRuns : Bool → (List Event → Reached (Option Value)) → Type 0
+LoopRuns b result =
+    let vs = Truth b ∷ [] in
+    IsShownAlone (only (codes "l") (c_name ∷ []) [] loop_function) loop_text vs (
+    result (entered_with vs []))
 
 -- [loop]: it is left at once, or has its three turns
 abbrev pub LoopRow : Type 0
-LoopRow =
-    IsShown (with_names (codes "l" ∷ []) 0 (codes "c" ∷ []) [] [] loop_function ∷ []) loop_text 0 (codes "l") (Truth true ∷ []) (Gives None (entered_with (Truth true ∷ []) [])) × IsShown (with_names (codes "l" ∷ []) 0 (codes "c" ∷ []) [] [] loop_function ∷ []) loop_text 0 (codes "l") (Truth false ∷ []) (Halts OutOfTurns (entered_with (Truth false ∷ []) []))
+LoopRow = LoopRuns true (λ t. Gives None t) × LoopRuns false (λ t. Halts OutOfTurns t)
+
+-- ---- a barrier, and `select`
 
 -- a barrier with two of its bits set
+abbrev pub barrier_function : Function
+barrier_function =
+    let bits : BarrierBits =
+    record { storage = true; work_group = false; sub_group = false; texture = true } in
+    function_with [] None [] [] (Barrier bits ∷ [])
+
+abbrev pub barrier_text : TextFunction
+barrier_text =
+    text_of (codes "b") [] [] (lines (
+    perform (codes "storageBarrier") []
+    ∷ perform (codes "textureBarrier") [] ∷ []))
+
+-- [barrier]: an event for each bit
 abbrev pub BarrierRow : Type 0
 BarrierRow =
-    IsShown (with_names (codes "b" ∷ []) 0 [] [] [] (record { argument_types = []; result = None; first_values = []; local_pointers = []; expressions = []; types = []; counts = []; given_names = []; body = then (Barrier (record { storage = true; work_group = false; sub_group = false; texture = true })) end }) ∷ []) (text_of (codes "b") [] [] (before (Perform (codes "storageBarrier") no_more) (before (Perform (codes "textureBarrier") no_more) last)) ∷ []) 0 (codes "b") [] (Gives None (Ask (codes "textureBarrier") [] ∷ Ask (codes "storageBarrier") [] ∷ entered_with [] []))
+    let storage = Ask (codes "storageBarrier") [] in
+    let texture = Ask (codes "textureBarrier") [] in
+    IsShownAlone (only (codes "b") [] [] barrier_function) barrier_text [] (
+    Gives None (texture ∷ storage ∷ entered_with [] []))
+
+-- takes its second argument where the first holds
+abbrev pub select_function : Function
+select_function =
+    function_with (BooleanType ∷ i32 ∷ i32 ∷ []) (Some i32) [] (
+    described (Argument 0) BooleanType 1
+    ∷ described (Argument 1) i32 1
+    ∷ described (Argument 2) i32 1
+    ∷ described (Operator (codes "select") (2 ∷ 1 ∷ 0 ∷ [])) i32 1 ∷ []) (
+    Emit 3 1
+    ∷ Return (Some 3) ∷ [])
 
 -- a call of `select` with these operands in front
-abbrev pub select_text : (reject accept : Bytes) → List TextFunction
+abbrev pub select_text : (reject accept : Bytes) → TextFunction
 select_text reject accept =
-    text_of (codes "sel") (codes "c" ∷ codes "a" ∷ codes "b" ∷ []) [] (before (ReturnLine (Some (Apply (codes "select") (more (Name reject) (more (Name accept) (more (Name (codes "c")) no_more)))))) last) ∷ []
+    text_of (codes "sel") (c_name ∷ codes "a" ∷ codes "b" ∷ []) [] (lines (
+    return_of (call_of (codes "select") (Name reject ∷ Name accept ∷ Name c_name ∷ [])) ∷ []))
 
--- the operand that is taken where the condition holds stands behind the other
+-- the arguments of its runs
+abbrev pub select_values : List Value
+select_values = Truth true ∷ number 1 ∷ number 2 ∷ []
+
+-- [select]: the operand that is taken where the condition holds stands behind the other
 abbrev pub SelectRow : Type 0
 SelectRow =
-    IsShown (with_names (codes "sel" ∷ []) 0 (codes "c" ∷ codes "a" ∷ codes "b" ∷ []) [] [] (record { argument_types = BooleanType ∷ i32 ∷ i32 ∷ []; result = Some i32; first_values = []; local_pointers = []; expressions = Argument 0 ∷ Argument 1 ∷ Argument 2 ∷ Operator (codes "select") (2 ∷ 1 ∷ 0 ∷ []) ∷ []; types = BooleanType ∷ i32 ∷ i32 ∷ i32 ∷ []; counts = 1 ∷ 1 ∷ 1 ∷ 1 ∷ []; given_names = []; body = then (Emit 3 1) (then (Return (Some 3)) end) }) ∷ []) (select_text (codes "b") (codes "a")) 0 (codes "sel") (Truth true ∷ number 1 ∷ number 2 ∷ []) (Gives (Some (number 1)) (entered_with (Truth true ∷ number 1 ∷ number 2 ∷ []) []))
+    let naming = only (codes "sel") (c_name ∷ codes "a" ∷ codes "b" ∷ []) [] select_function in
+    IsShownAlone naming (select_text (codes "b") (codes "a")) select_values (
+    Gives (Some (number 1)) (entered_with select_values []))
+
+-- ---- places
 
 -- a variable of two components, and these: their pointers
 abbrev pub private_vector : Bytes
@@ -480,17 +547,17 @@ vector_parts whole (Field word) = []
 -- one place where i is 0
 abbrev pub places_function : Function
 places_function =
-    record {
-      argument_types = i32 ∷ [];
-      result = Some i32;
-      first_values = [];
-      local_pointers = [];
-      expressions = Argument 0 ∷ Global 0 ∷ Constant (NamedConstant 0) ∷ AccessIndex (MemberNamed (codes "x")) 1 ∷ Access 1 0 ∷ Load 4 ∷ [];
-      types = i32 ∷ PointerType private_vector ∷ i32 ∷ PointerType private_i32 ∷ PointerType private_i32 ∷ i32 ∷ [];
-      counts = 1 ∷ 2 ∷ 1 ∷ 1 ∷ 1 ∷ 1 ∷ [];
-      given_names = [];
-      body = then (Emit 3 1) (then (Store 3 2) (then (Emit 4 2) (then (Return (Some 5)) end)));
-    }
+    function_with (i32 ∷ []) (Some i32) [] (
+    described (Argument 0) i32 1
+    ∷ described (Global 0) (PointerType private_vector) 2
+    ∷ described (Constant (NamedConstant 0)) i32 1
+    ∷ described (AccessIndex (MemberNamed x_name) 1) (PointerType private_i32) 1
+    ∷ described (Access 1 0) (PointerType private_i32) 1
+    ∷ described (Load 4) i32 1 ∷ []) (
+    Emit 3 1
+    ∷ Store 3 2
+    ∷ Emit 4 2
+    ∷ Return (Some 5) ∷ [])
 
 -- the variable is stored
 abbrev pub places_settings : Settings
@@ -528,13 +595,20 @@ places_module =
     }
 
 -- its text
+abbrev pub places_lines : TextFunction
+places_lines =
+    text_of (codes "h") (codes "i" ∷ []) [] (lines (
+    Assign (PartOf (MemberNamed x_name) (Name (codes "v"))) (Name (codes "N"))
+    ∷ let_own 5 (Index (Name (codes "v")) (Name (codes "i")))
+    ∷ return_of (named_by 5) ∷ []))
+
 abbrev pub places_text : TextModule
 places_text =
     record {
-      constants = record { name = codes "N"; initialiser = LiteralOf (number 5) } ∷ [];
+      constants = record { name = codes "N"; initialiser = digits 5 } ∷ [];
       overrides = [];
       globals = record { name = codes "v"; pointer = private_vector } ∷ [];
-      functions = text_of (codes "h") (codes "i" ∷ []) [] (before (Assign (PartOf (MemberNamed (codes "x")) (Name (codes "v"))) (Name (codes "N"))) (before (Let (numbered_name 5) (Index (Name (codes "v")) (Name (codes "i")))) (before (ReturnLine (Some (named_by 5))) last))) ∷ [];
+      functions = places_lines ∷ [];
     }
 
 -- the first component of the variable
@@ -544,7 +618,8 @@ x_place = Part (Rooted (GlobalRoot private_vector 0)) (At (pos 0))
 -- what both runs give
 abbrev pub places_result : Reached (Option Value)
 places_result =
-    Gives (Some (number 5)) (Read x_place ∷ Write x_place (number 5) ∷ entered_with (number 0 ∷ []) [])
+    let entry = entered_with (number 0 ∷ []) [] in
+    Gives (Some (number 5)) (Read x_place ∷ Write x_place (number 5) ∷ entry)
 
 -- the module and its text run so
 pub record PlacesRow : Type 0 where
@@ -555,39 +630,39 @@ pub record PlacesRow : Type 0 where
       ≡ places_result
   pub text_run : follow_text places_settings places_text (codes "h") (number 0 ∷ []) ≡ places_result
 
+-- ---- what the check of scope refuses
+
 -- [continue]: `continuing` uses a sum that a `continue` may skip
 abbrev pub continue_function : Function
 continue_function =
-    record {
-      argument_types = BooleanType ∷ i32 ∷ [];
-      result = None;
-      first_values = None ∷ [];
-      local_pointers = local_i32 ∷ [];
-      expressions = Argument 0 ∷ Argument 1 ∷ Local 0 ∷ Operator (codes "+") (1 ∷ 1 ∷ []) ∷ [];
-      types = BooleanType ∷ i32 ∷ i32_pointer ∷ i32 ∷ [];
-      counts = 2 ∷ 2 ∷ 1 ∷ 1 ∷ [];
-      given_names = [];
-      body = then (Loop (then (If 0 (then Continue end) end) (then (Emit 3 1) end)) (then (Store 2 3) end) (Some 0)) end;
-    }
+    let body = statements (If 0 (then Continue end) end ∷ Emit 3 1 ∷ []) in
+    let continuing = statements (Store 2 3 ∷ []) in
+    function_with (BooleanType ∷ i32 ∷ []) None ((local_i32, None) ∷ []) (
+    described (Argument 0) BooleanType 2
+    ∷ described (Argument 1) i32 2
+    ∷ described (Local 0) i32_pointer 1
+    ∷ described (Operator (codes "+") (1 ∷ 1 ∷ [])) i32 1 ∷ []) (
+    Loop body continuing (Some 0) ∷ [])
 
 -- a sum of a loop's body is used behind the loop
 abbrev pub after_loop_function : Function
 after_loop_function =
+    let body = statements (Emit 3 1 ∷ Store 2 3 ∷ []) in
     record continue_function {
       result = Some i32;
-      body = then (Loop (then (Emit 3 1) (then (Store 2 3) end)) end (Some 0)) (then (Return (Some 3)) end);
+      body = statements (Loop body end (Some 0) ∷ Return (Some 3) ∷ []);
     }
 
 -- a sum of constants is emitted in a loop's body and again in its `continuing`
 abbrev pub again_function : Function
 again_function =
-    record folded_function {
-      body = then (Loop (then (If 0 (then Continue end) end) (then (Emit 3 1) end)) (then (Emit 3 1) end) (Some 0)) end;
-    }
+    let body = statements (If 0 (then Continue end) end ∷ Emit 3 1 ∷ []) in
+    let continuing = statements (Emit 3 1 ∷ []) in
+    record folded_function { body = statements (Loop body continuing (Some 0) ∷ []) }
 
 -- the check of a function
 abbrev pub check_of : Function → Bool
-check_of f = fits_function (with_names (codes "n" ∷ []) 0 (codes "c" ∷ codes "x" ∷ []) (codes "a" ∷ []) [] f)
+check_of f = fits_function (only (codes "n") (c_name ∷ x_name ∷ []) (a_name ∷ []) f)
 
 -- what the check of scope refuses
 pub record AreRefused : Type 0 where
@@ -595,27 +670,93 @@ pub record AreRefused : Type 0 where
   pub after_loop : check_of after_loop_function ≡ false
   pub emitted_again : check_of again_function ≡ false
 
--- what other writers would give for these functions, and what it does
+-- ---- what other writers would give for these functions, and what it does
+
+-- stuck behind the entry
+abbrev pub stuck_behind_entry : List Value → Reached (Option Value)
+stuck_behind_entry vs = Halts Stuck (entered_with vs [])
+
+-- what [store] reads is written out behind the store
+abbrev pub load_inlined_text : TextFunction
+load_inlined_text =
+    text_of (codes "g") [] (a_first ∷ []) (lines (
+    Assign (Name a_name) (digits 2)
+    ∷ return_of (Name a_name) ∷ []))
+
+-- what [unused] reads is bound
+abbrev pub every_emit_text : TextFunction
+every_emit_text =
+    text_of (codes "g") [] (a_first ∷ []) (lines (
+    let_own 2 (Name a_name)
+    ∷ Assign (Name a_name) (digits 2)
+    ∷ return_of (digits 2) ∷ []))
+
+-- the second branch of [sibling] uses the name that the first one bound
+abbrev pub used_in_sibling_text : TextFunction
+used_in_sibling_text =
+    sibling_text (let_and_return (numbered_name 2)) (lines (return_of (named_by 2) ∷ []))
+
+-- or binds its own to it
+abbrev pub copied_in_sibling_text : TextFunction
+copied_in_sibling_text =
+    sibling_text (let_and_return (numbered_name 2)) (lines (
+    let_own 2 (named_by 2)
+    ∷ return_of (named_by 2) ∷ []))
+
+-- a name of a loop's body is used behind the loop
+abbrev pub after_loop_text : TextFunction
+after_loop_text =
+    let body = lines (let_own 3 x_plus_x ∷ []) in
+    text_of (codes "n") (c_name ∷ x_name ∷ []) [] (lines (
+    LoopOf body last (Some (Name c_name))
+    ∷ return_of (named_by 3) ∷ []))
+
+-- a local has the name of the function that is called
+abbrev pub hidden_texts : List TextFunction
+hidden_texts =
+    text_of (codes "run") [] (variable (codes "inc") local_i32 None ∷ []) (lines (
+    perform (codes "inc") [] ∷ []))
+    ∷ text_of (codes "inc") [] [] last ∷ []
+
+-- an element of a pointer that isn't followed
+abbrev pub not_dereferenced_text : TextFunction
+not_dereferenced_text =
+    text_of (codes "h") (codes "p" ∷ []) [] (lines (
+    return_of (Index (Name (codes "p")) (digits 0)) ∷ []))
+
 pub record AreToldApart : Type 0 where
-  pub load_inlined_past_store : follow_row (text_of (codes "g") [] (a_first ∷ []) (before (Assign (Name (codes "a")) (LiteralOf (number 2))) (before (ReturnLine (Some (Name (codes "a")))) last)) ∷ []) (codes "g") [] ≡ Gives (Some (number 2)) (Read a_place ∷ Write a_place (number 2) ∷ entered_with [] (Some (number 1) ∷ []))
-  pub every_emit_bound : follow_row (text_of (codes "g") [] (a_first ∷ []) (before (Let (numbered_name 2) (Name (codes "a"))) (before (Assign (Name (codes "a")) (LiteralOf (number 2))) (before (ReturnLine (Some (LiteralOf (number 2)))) last))) ∷ []) (codes "g") [] ≡ Gives (Some (number 2)) (Write a_place (number 2) ∷ Read a_place ∷ entered_with [] (Some (number 1) ∷ []))
-  pub name_used_in_sibling_block : follow_row (sibling_text (let_and_return (numbered_name 2)) (before (ReturnLine (Some (named_by 2))) last)) (codes "k") (Truth false ∷ number 4 ∷ []) ≡ Halts Stuck (entered_with (Truth false ∷ number 4 ∷ []) [])
-  pub name_of_sibling_copied : follow_row (sibling_text (let_and_return (numbered_name 2)) (before (Let (numbered_name 2) (named_by 2)) (before (ReturnLine (Some (named_by 2))) last))) (codes "k") (Truth false ∷ number 4 ∷ []) ≡ Halts Stuck (entered_with (Truth false ∷ number 4 ∷ []) [])
-  pub continuing_uses_skipped_constant_name : follow_row (folded_text (named_by 3)) (codes "cf") (Truth true ∷ []) ≡ Halts Stuck (entered_with (Truth true ∷ []) (None ∷ []))
-  pub loop_names_kept_after_loop : follow_row (text_of (codes "n") (codes "c" ∷ codes "x" ∷ []) [] (before (LoopOf (before (Let (numbered_name 3) x_plus_x) last) last (Some (Name (codes "c")))) (before (ReturnLine (Some (named_by 3))) last)) ∷ []) (codes "n") (Truth true ∷ number 4 ∷ []) ≡ Halts Stuck (entered_with (Truth true ∷ number 4 ∷ []) [])
-  pub function_hidden_by_local : follow_row (text_of (codes "run") [] (record { name = codes "inc"; pointer = local_i32; first_value = None } ∷ []) (before (Perform (codes "inc") no_more) last) ∷ text_of (codes "inc") [] [] last ∷ []) (codes "run") [] ≡ Halts Stuck (Entry 1 [] (None ∷ []) ∷ [])
-  pub pointer_argument_not_dereferenced : follow_row (text_of (codes "h") (codes "p" ∷ []) [] (before (ReturnLine (Some (Index (Name (codes "p")) (LiteralOf (number 0))))) last) ∷ []) (codes "h") (Pointer a_place ∷ []) ≡ Halts Stuck (entered_with (Pointer a_place ∷ []) [])
-  pub select_accept_first : follow_row (select_text (codes "a") (codes "b")) (codes "sel") (Truth true ∷ number 1 ∷ number 2 ∷ []) ≡ Gives (Some (number 2)) (entered_with (Truth true ∷ number 1 ∷ number 2 ∷ []) [])
+  pub load_inlined_past_store : Follows load_inlined_text [] (
+      Gives (Some (number 2)) (Read a_place ∷ Write a_place (number 2) ∷ entered_with_one))
+  pub every_emit_bound : Follows every_emit_text [] (
+      Gives (Some (number 2)) (Write a_place (number 2) ∷ Read a_place ∷ entered_with_one))
+  pub name_used_in_sibling_block :
+      let vs = Truth false ∷ number 4 ∷ [] in
+      Follows used_in_sibling_text vs (stuck_behind_entry vs)
+  pub name_of_sibling_copied :
+      let vs = Truth false ∷ number 4 ∷ [] in
+      Follows copied_in_sibling_text vs (stuck_behind_entry vs)
+  pub continuing_uses_skipped_constant_name :
+      let vs = Truth true ∷ [] in
+      Follows (folded_text (named_by 3)) vs (Halts Stuck (entered_with vs (None ∷ [])))
+  pub loop_names_kept_after_loop :
+      let vs = Truth true ∷ number 4 ∷ [] in
+      Follows after_loop_text vs (stuck_behind_entry vs)
+  pub function_hidden_by_local :
+      follow_row hidden_texts (codes "run") [] ≡ Halts Stuck (Entry 1 [] (None ∷ []) ∷ [])
+  pub pointer_argument_not_dereferenced :
+      let vs = Pointer a_place ∷ [] in
+      Follows not_dereferenced_text vs (stuck_behind_entry vs)
+  pub select_accept_first :
+      Follows (select_text (codes "a") (codes "b")) select_values (
+      Gives (Some (number 2)) (entered_with select_values []))
+
+-- ---- the rows together
 
 -- `.x` and `[0]` are one step into a place
 abbrev pub SameStep : Type 0
 SameStep = step_of (MemberNamed (codes "x")) ≡ step_of (ElementAt 0)
 
--- what the law asks of a module, of its names, its environment and its operators holds of a function
-abbrev pub store_naming : Naming
-store_naming = with_names (codes "g" ∷ []) 0 [] (codes "a" ∷ []) [] store_function
-
--- its module
+-- the module of [store]
 abbrev pub store_module : Module
 store_module = functions_alone (store_function ∷ [])
 

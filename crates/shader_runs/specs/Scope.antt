@@ -1,8 +1,14 @@
 -- What is bound and what is in scope at each point of a function, and the check of both.
-use Rattle.std.specs.Prelude.{ℕ, zero, suc, Bool, true, false, cond, not, nat_lt, List, [], ◌∷◌, take, length, Option, Some, None, ◌&&◌, ◌||◌}
+use Rattle.std.specs.Prelude.{ℕ, zero, suc, Bool, true, false, cond, not, nat_lt, List, [], ◌∷◌}
+use Rattle.std.specs.Prelude.{take, length, Option, Some, None, ◌&&◌, ◌||◌}
 use Rattle.shader_runs.specs.Value.{Bytes}
 use Rattle.shader_runs.specs.World.{update}
-use Rattle.shader_runs.specs.Program.{Expression, Constant, Argument, Local, Global, Load, Operator, Access, AccessIndex, Logical, Swizzle, Request, Statement, Emit, Store, Block, If, Switch, Loop, Return, Act, Statements, end, then, Cases, no_case, case, Function, argument_count, local_count, expression_of, operands_of, is_given, binds, from, holds_continue}
+use Rattle.shader_runs.specs.Program.{Expression, Constant, Argument, Local, Global, Load, Operator}
+use Rattle.shader_runs.specs.Program.{Access, AccessIndex, Logical, Swizzle, Request, Statement}
+use Rattle.shader_runs.specs.Program.{Emit, Store, Block, If, Switch, Loop, Return, Act, Statements}
+use Rattle.shader_runs.specs.Program.{end, then, Cases, no_case, case, Function, argument_count}
+use Rattle.shader_runs.specs.Program.{local_count, expression_of, operands_of, is_given, binds}
+use Rattle.shader_runs.specs.Program.{from, holds_continue}
 
 -- a handle at a point: not emitted here; emitted where an operand was out of scope; a constant tree
 -- that wasn't emitted here; written where it is used; or bound under a name
@@ -24,8 +30,8 @@ pub record ModuleNames : Type 0 where
   pub function : ℕ → Bytes
   pub is_request : Bytes → Bool
 
--- the names that a function's text uses. given: the front ends' names, in text order; numbered: those by the handle;
--- earlier: how many functions stand before this one
+-- the names that a function's text uses. given: the front ends' names, in text order; numbered:
+-- those by the handle; earlier: how many functions stand before this one
 pub record Names : Type 0 where
   pub outer : ModuleNames
   pub argument : ℕ → Bytes
@@ -139,7 +145,8 @@ emitted false false u x s h = s
 abbrev pub after_one : Naming → ℕ → ℕ → Handles → Handles
 after_one f k h s =
     let e = expression_of f.function h in
-    emitted (binds f.function h) (is_pure e) (usable_all f.function s (operands_of e)) (bound_name f k h) s h
+    emitted (binds f.function h) (is_pure e) (usable_all f.function s (operands_of e))
+    (bound_name f k h) s h
 
 -- how many names are given after a handle
 abbrev pub given_after : Function → ℕ → ℕ → ℕ
@@ -201,7 +208,8 @@ abbrev pub forgotten_if : Bool → Handles → Handles → Handles
 forgotten_if true s now = forgotten s now
 forgotten_if false s now = now
 
--- those that a list leaves to its loop's `continuing`: no name from the first statement with a `continue` on
+-- those that a list leaves to its loop's `continuing`: no name from the first statement with a
+-- `continue` on
 abbrev pub after_all : Naming → ℕ → Statements → Handles → Handles
 after_all f k end s = s
 after_all f k (then st ss) s =
@@ -216,7 +224,8 @@ is_emittable e = is_pure e
 -- a handle may be emitted, and what a name binds has its operands in scope
 abbrev pub may_emit : Function → ℕ → Handles → Bool
 may_emit f h s =
-    is_new (s h) && (is_emittable (expression_of f h) && (not (binds f h) || usable_all f s (operands_of (expression_of f h))))
+    is_new (s h) && (is_emittable (expression_of f h) && (not (binds f h) ||
+    usable_all f s (operands_of (expression_of f h))))
 
 -- an Emit of these handles
 abbrev pub may_emit_all : Naming → ℕ → List ℕ → Handles → Bool
@@ -248,23 +257,28 @@ abbrev mutual
 
   pub fits_all : Naming → ℕ → Statements → Handles → Bool
   fits_all f k end s = true
-  fits_all f k (then st ss) s = fits f k st s && fits_all f (given_by f.function st k) ss (after f k st s)
+  fits_all f k (then st ss) s =
+      fits f k st s && fits_all f (given_by f.function st k) ss (after f k st s)
 
   pub fits_cases : Naming → ℕ → Cases → Handles → Bool
   fits_cases f k no_case s = true
-  fits_cases f k (case l b falls cs) s = fits_all f k b s && fits_cases f (given_by_all f.function b k) cs s
+  fits_cases f k (case l b falls cs) s =
+      fits_all f k b s && fits_cases f (given_by_all f.function b k) cs s
 
 -- the function with its first locals alone, as many as these: what is in scope in front of the
 -- declaration of the next one
 abbrev pub before_local : Function → ℕ → Function
 before_local f i = record f { first_values = take i f.first_values }
 
--- the initialisers of locals, from this one on, are in scope at the start, where the locals before them are
+-- the initialisers of locals, from this one on, are in scope at the start, where the locals before
+-- them are
 abbrev pub first_values_fit : Function → ℕ → List (Option ℕ) → Bool
 first_values_fit f i [] = true
-first_values_fit f i (o ∷ os) = usable_if (before_local f i) (at_start f) o && first_values_fit f (suc i) os
+first_values_fit f i (o ∷ os) =
+    usable_if (before_local f i) (at_start f) o && first_values_fit f (suc i) os
 
 -- the check of a function: false is the refusal 'operand out of scope'
 abbrev pub fits_function : Naming → Bool
 fits_function f =
-    first_values_fit f.function 0 f.function.first_values && fits_all f 0 f.function.body (at_start f.function)
+    first_values_fit f.function 0 f.function.first_values &&
+    fits_all f 0 f.function.body (at_start f.function)

@@ -1,13 +1,25 @@
 -- A text's run: each expression is evaluated anew where it stands, and names are looked up.
-use Rattle.std.specs.Prelude.{ℕ, suc, Bool, true, false, cond, nat_eq, List, [], ◌∷◌, length, Option, Some, None, ◌||◌}
-use Rattle.shader_runs.specs.Value.{Bytes, same_bytes, Place, Rooted, GlobalRoot, LocalRoot, Part, At, Selector, step_of, Value, Truth, Whole, Pointer, Opaque, Spelled, PartWord, IndexWord, ShortCircuit}
-use Rattle.shader_runs.specs.World.{Event, Entry, Ask, Read, Write, Discard, entries, World, Meaning, bind}
-use Rattle.shader_runs.specs.Outcome.{Stuck, Unreturned, Discarded, Outcome, Done, Continued, Broke, Returned, Stopped, Reached, Gives, Halts, answer, Next, and_then, turn, turns, after_switch, chosen, with_integer, closed, closed_if}
+use Rattle.std.specs.Prelude.{ℕ, suc, Bool, true, false, cond, nat_eq, List, [], ◌∷◌, length}
+use Rattle.std.specs.Prelude.{option_map, Option, Some, None, ◌||◌}
+use Rattle.shader_runs.specs.Value.{Bytes, same_bytes, Place, Rooted, GlobalRoot, LocalRoot, Part}
+use Rattle.shader_runs.specs.Value.{integer_in, place_in, At, Selector, step_of, Value, Pointer}
+use Rattle.shader_runs.specs.Value.{Spelled, PartWord, IndexWord, ShortCircuit}
+use Rattle.shader_runs.specs.World.{Event, Entry, Ask, Read, Write, Discard, entries, World}
+use Rattle.shader_runs.specs.World.{Meaning, bind}
+use Rattle.shader_runs.specs.Outcome.{Stuck, Unreturned, Discarded, Outcome, Done, Continued, Broke}
+use Rattle.shader_runs.specs.Outcome.{reach, unless, Returned, Stopped, Reached, Gives, Halts}
+use Rattle.shader_runs.specs.Outcome.{answer, Next, and_then, turn, turns, after_switch, chosen}
+use Rattle.shader_runs.specs.Outcome.{with_integer, closed, closed_if}
 use Rattle.shader_runs.specs.Program.{Label, Numbered}
 use Rattle.shader_runs.specs.ProgramRun.{called, decides, undecided, same_label, label_if}
-use Rattle.shader_runs.specs.Text.{Tree, Name, LiteralOf, Apply, Deref, AddressOf, Index, PartOf, LogicalOf, Trees, no_more, more, Line, Let, Assign, Braces, IfElse, SwitchOn, LoopOf, BreakLine, ContinueLine, ReturnLine, DiscardLine, Perform, Lines, last, before, Groups, no_group, group, Variable, ModuleVariable, TextFunction}
+use Rattle.shader_runs.specs.Text.{Tree, Name, LiteralOf, Apply, Deref, AddressOf, Index, PartOf}
+use Rattle.shader_runs.specs.Text.{LogicalOf, Trees, no_more, more, Line, Let, Assign, Braces}
+use Rattle.shader_runs.specs.Text.{IfElse, SwitchOn, LoopOf, BreakLine, ContinueLine, ReturnLine}
+use Rattle.shader_runs.specs.Text.{DiscardLine, Perform, Lines, last, before, Groups, no_group}
+use Rattle.shader_runs.specs.Text.{group, Variable, ModuleVariable, TextFunction}
 
--- what an expression stands for: a value, or a reference, the place of a variable or of a part of one
+-- what an expression stands for: a value, or a reference, the place of a variable or of a part of
+-- one
 pub data Denoted : Type 0 where
   IsValue : Value → Denoted
   IsPlace : Place → Denoted
@@ -21,11 +33,6 @@ pub record Words : Type 0 where
   pub world : World
   pub meaning : Meaning
   pub respond : Bytes → List Value → List Event → Reached (Option Value)
-
--- a name that stands for nothing
-abbrev pub named : Option Denoted → List Event → Reached Denoted
-named None t = Halts Stuck t
-named (Some d) t = Gives d t
 
 -- a reference where a value is wanted is read
 abbrev pub valued : World → Reached Denoted → Reached Value
@@ -48,14 +55,10 @@ abbrev pub responded : Words → Bytes → Reached (List Value) → Reached (Opt
 responded l w (Halts x t) = Halts x t
 responded l w (Gives vs t) = l.respond w vs t
 
--- a variable's name hides a function or an operator of that name
-abbrev pub unhidden : Option Denoted → List Event → Reached (Option Value) → Reached (Option Value)
-unhidden None t q = q
-unhidden (Some d) t q = Halts Stuck t
-
--- a word where it stands
-abbrev pub word_reached : Words → Bytes → Scope → List Event → Reached (List Value) → Reached (Option Value)
-word_reached l word names t vs = unhidden (names word) t (responded l word vs)
+-- a word where it stands. A variable's name hides a function or an operator of that name
+abbrev pub word_reached :
+    Words → Bytes → Scope → List Event → Reached (List Value) → Reached (Option Value)
+word_reached l word names t vs = unless (names word) t (responded l word vs)
 
 -- a value is wanted: operators and requests give one, and so does a function that returns one
 abbrev pub as_value : Reached (Option Value) → Reached Denoted
@@ -66,10 +69,7 @@ as_value (Gives (Some v) t) = Gives (IsValue v) t
 -- `*` makes a reference of a pointer
 abbrev pub dereferenced : Reached Value → Reached Denoted
 dereferenced (Halts x t) = Halts x t
-dereferenced (Gives (Pointer p) t) = Gives (IsPlace p) t
-dereferenced (Gives (Truth b) t) = Halts Stuck t
-dereferenced (Gives (Whole spelling z) t) = Halts Stuck t
-dereferenced (Gives (Opaque spelling payload) t) = Halts Stuck t
+dereferenced (Gives v t) = reach (option_map IsPlace (place_in v)) t
 
 -- `&` makes a pointer of a reference
 abbrev pub addressed : Reached Denoted → Reached Denoted
@@ -77,13 +77,10 @@ addressed (Halts x t) = Halts x t
 addressed (Gives (IsPlace p) t) = Gives (IsValue (Pointer p)) t
 addressed (Gives (IsValue v) t) = Halts Stuck t
 
--- an integer leads to a part
+-- an integer leads to an element
 abbrev pub part_reached : Place → Reached Value → Reached Denoted
 part_reached p (Halts x t) = Halts x t
-part_reached p (Gives (Whole spelling z) t) = Gives (IsPlace (Part p (At z))) t
-part_reached p (Gives (Truth b) t) = Halts Stuck t
-part_reached p (Gives (Pointer q) t) = Halts Stuck t
-part_reached p (Gives (Opaque spelling payload) t) = Halts Stuck t
+part_reached p (Gives v t) = reach (option_map (λ z. IsPlace (Part p (At z))) (integer_in v)) t
 
 -- an index into a value
 abbrev pub index_reached : Meaning → Value → Reached Value → Reached Denoted
@@ -94,19 +91,14 @@ index_reached m v (Gives i t) = Gives (IsValue (m IndexWord (v ∷ i ∷ []))) t
 abbrev pub indexed : Meaning → Reached Denoted → (List Event → Reached Value) → Reached Denoted
 indexed m (Halts x t) rest = Halts x t
 indexed m (Gives (IsPlace p) t) rest = part_reached p (rest t)
-indexed m (Gives (IsValue (Pointer p)) t) rest = Halts Stuck t
-indexed m (Gives (IsValue (Truth b)) t) rest = index_reached m (Truth b) (rest t)
-indexed m (Gives (IsValue (Whole spelling z)) t) rest = index_reached m (Whole spelling z) (rest t)
-indexed m (Gives (IsValue (Opaque spelling payload)) t) rest = index_reached m (Opaque spelling payload) (rest t)
+indexed m (Gives (IsValue v) t) rest = unless (place_in v) t (index_reached m v (rest t))
 
 -- a member or an element; a pointer has none
 abbrev pub part_picked : Meaning → Selector → Reached Denoted → Reached Denoted
 part_picked m x (Halts y t) = Halts y t
 part_picked m x (Gives (IsPlace p) t) = Gives (IsPlace (Part p (step_of x))) t
-part_picked m x (Gives (IsValue (Pointer p)) t) = Halts Stuck t
-part_picked m x (Gives (IsValue (Truth b)) t) = Gives (IsValue (m (PartWord x) (Truth b ∷ []))) t
-part_picked m x (Gives (IsValue (Whole spelling z)) t) = Gives (IsValue (m (PartWord x) (Whole spelling z ∷ []))) t
-part_picked m x (Gives (IsValue (Opaque spelling payload)) t) = Gives (IsValue (m (PartWord x) (Opaque spelling payload ∷ []))) t
+part_picked m x (Gives (IsValue v) t) =
+    unless (place_in v) t (Gives (IsValue (m (PartWord x) (v ∷ []))) t)
 
 -- the right side was evaluated
 abbrev pub undecided_reached : Meaning → ShortCircuit → Value → Reached Value → Reached Denoted
@@ -114,25 +106,31 @@ undecided_reached m j l (Halts x t) = Halts x t
 undecided_reached m j l (Gives r t) = Gives (IsValue (undecided m j l r)) t
 
 -- the right side is evaluated only where it decides
-abbrev pub logical_reached : Meaning → ShortCircuit → Reached Value → (List Event → Reached Value) → Reached Denoted
+abbrev pub logical_reached :
+    Meaning → ShortCircuit → Reached Value → (List Event → Reached Value) → Reached Denoted
 logical_reached m j (Halts x t) rest = Halts x t
 logical_reached m j (Gives l t) rest =
     elim (decides j l) [ true ↦ Gives (IsValue l) t | false ↦ undecided_reached m j l (rest t) ]
 
 abbrev mutual
   pub evaluate : Words → Tree → Scope → List Event → Reached Denoted
-  evaluate l (Name x) names t = named (names x) t
+  evaluate l (Name x) names t = reach (names x) t
   evaluate l (LiteralOf v) names t = Gives (IsValue v) t
-  evaluate l (Apply word es) names t = as_value (word_reached l word names t (evaluate_all l es names t))
+  evaluate l (Apply word es) names t =
+      as_value (word_reached l word names t (evaluate_all l es names t))
   evaluate l (Deref e) names t = dereferenced (valued l.world (evaluate l e names t))
   evaluate l (AddressOf e) names t = addressed (evaluate l e names t)
-  evaluate l (Index e i) names t = indexed l.meaning (evaluate l e names t) (λ t1. valued l.world (evaluate l i names t1))
+  evaluate l (Index e i) names t =
+      indexed l.meaning (evaluate l e names t) (λ t1. valued l.world (evaluate l i names t1))
   evaluate l (PartOf x e) names t = part_picked l.meaning x (evaluate l e names t)
-  evaluate l (LogicalOf j a b) names t = logical_reached l.meaning j (valued l.world (evaluate l a names t)) (λ t1. valued l.world (evaluate l b names t1))
+  evaluate l (LogicalOf j a b) names t =
+      logical_reached l.meaning j (valued l.world (evaluate l a names t))
+      (λ t1. valued l.world (evaluate l b names t1))
 
   pub evaluate_all : Words → Trees → Scope → List Event → Reached (List Value)
   evaluate_all l no_more names t = Gives [] t
-  evaluate_all l (more e es) names t = followed_by (valued l.world (evaluate l e names t)) (evaluate_all l es names)
+  evaluate_all l (more e es) names t =
+      followed_by (valued l.world (evaluate l e names t)) (evaluate_all l es names)
 
 -- a tree in a value's position
 abbrev pub value_of : Words → Tree → Scope → List Event → Reached Value
@@ -144,7 +142,8 @@ with_value (Halts x t) go = Stopped x t
 with_value (Gives v t) go = go v t
 
 -- goes on with a reference
-abbrev pub with_place : {S : Type 0} → Reached Denoted → (Place → List Event → Outcome S) → Outcome S
+abbrev pub with_place :
+    {S : Type 0} → Reached Denoted → (Place → List Event → Outcome S) → Outcome S
 with_place (Halts x t) go = Stopped x t
 with_place (Gives (IsValue v) t) go = Stopped Stuck t
 with_place (Gives (IsPlace p) t) go = go p t
@@ -203,24 +202,31 @@ abbrev mutual
   follow l n (Let x e) names t =
       with_value (value_of l e names t) (λ v t1. Done (bind names x (Some (IsValue v))) t1)
   follow l n (Assign p e) names t =
-      with_place (evaluate l p names t) (λ place t1. with_value (value_of l e names t1) (λ v t2. Done names (Write place v ∷ t2)))
+      with_place (evaluate l p names t)
+      (λ place t1. with_value (value_of l e names t1) (λ v t2. Done names (Write place v ∷ t2)))
   follow l n (Braces b) names t = closed names (follow_all l n b names t)
   follow l n (IfElse e a b) names t =
-      with_value (value_of l e names t) (λ v t1. closed names (chosen v t1 (follow_all l n a names t1) (follow_all l n b names t1)))
+      with_value (value_of l e names t)
+      (λ v t1. closed names (chosen v t1 (follow_all l n a names t1) (follow_all l n b names t1)))
   follow l n (SwitchOn e groups) names t =
-      with_value (value_of l e names t) (λ v t1. closed names (with_integer v t1 (λ z. after_switch (follow_groups l n groups (label_if (group_has (Numbered z) groups) z) names t1))))
+      with_value (value_of l e names t) (λ v t1. closed names (with_integer v t1 (λ z. after_switch
+      (follow_groups l n groups (label_if (group_has (Numbered z) groups) z) names t1))))
   follow l n (LoopOf b d e) names t =
-      turns n (λ names1 t1. closed names1 (turn (follow_all l n b) (follow_all l n d) (break_line l e) names1 t1)) names t
+      turns n (λ names1 t1.
+      closed names1 (turn (follow_all l n b) (follow_all l n d) (break_line l e) names1 t1)) names t
   follow l n BreakLine names t = Broke names t
   follow l n ContinueLine names t = Continued names t
   follow l n (ReturnLine e) names t = return_line l e names t
   follow l n DiscardLine names t = Stopped Discarded (Discard ∷ t)
-  follow l n (Perform w es) names t = performed names (word_reached l w names t (evaluate_all l es names t))
+  follow l n (Perform w es) names t =
+      performed names (word_reached l w names t (evaluate_all l es names t))
 
-  -- the names that a list leaves are those for its loop's `continuing`: none from the first line with a `continue` on
+  -- the names that a list leaves are those for its loop's `continuing`: none from the first line
+  -- with a `continue` on
   pub follow_all : Words → ℕ → Lines → Next Scope
   follow_all l n last names t = Done names t
-  follow_all l n (before x ls) names t = closed_if (has_continue x) names (and_then (follow l n x names t) (follow_all l n ls))
+  follow_all l n (before x ls) names t =
+      closed_if (has_continue x) names (and_then (follow l n x names t) (follow_all l n ls))
 
   -- the first group with this label
   pub follow_groups : Words → ℕ → Groups → Label → Next Scope
@@ -243,7 +249,8 @@ abbrev pub with_variables : List Variable → (entries index : ℕ) → Scope �
 with_variables [] k i names = names
 with_variables (x ∷ xs) k i names = with_variables xs k (suc i) (with_variable x k i names)
 
--- what a module-level variable's name stands for: the value that is held, or a place of the declared type
+-- what a module-level variable's name stands for: the value that is held, or a place of the
+-- declared type
 abbrev pub global_denoted : (pointer : Bytes) → ℕ → Option Value → Denoted
 global_denoted pointer i None = IsPlace (Rooted (GlobalRoot pointer i))
 global_denoted pointer i (Some v) = IsValue v
@@ -252,7 +259,8 @@ global_denoted pointer i (Some v) = IsValue v
 abbrev pub with_globals : List ModuleVariable → List (Option Value) → ℕ → Scope → Scope
 with_globals [] gs i names = names
 with_globals (x ∷ xs) [] i names = names
-with_globals (x ∷ xs) (g ∷ gs) i names = bind (with_globals xs gs (suc i) names) x.name (Some (global_denoted x.pointer i g))
+with_globals (x ∷ xs) (g ∷ gs) i names =
+    bind (with_globals xs gs (suc i) names) x.name (Some (global_denoted x.pointer i g))
 
 -- nothing is in scope
 abbrev pub no_names : Scope
@@ -265,8 +273,10 @@ pub data WordUse : Type 0 where
   AsksForEvent : WordUse
   Operates : WordUse
 
--- what a word does that is the name of no function which stands before. A function behind can't be called
-abbrev pub respond_by_use : WordUse → World → Meaning → Bytes → List Value → List Event → Reached (Option Value)
+-- what a word does that is the name of no function which stands before. A function behind can't be
+-- called
+abbrev pub respond_by_use :
+    WordUse → World → Meaning → Bytes → List Value → List Event → Reached (Option Value)
 respond_by_use NamesFunction w m word vs t = Halts Stuck t
 respond_by_use AsksForEvent w m word vs t = Gives (Some (w t (Ask word vs))) (Ask word vs ∷ t)
 respond_by_use Operates w m word vs t = Gives (Some (m (Spelled word) vs)) t
@@ -278,7 +288,8 @@ names_function (f ∷ fs) word = same_bytes word f.name || names_function fs wor
 
 -- what each word is in a text, by a test for those that ask for events
 abbrev pub word_use : List TextFunction → (Bytes → Bool) → Bytes → WordUse
-word_use fs is_request word = cond (names_function fs word) NamesFunction (cond (is_request word) AsksForEvent Operates)
+word_use fs is_request word =
+    cond (names_function fs word) NamesFunction (cond (is_request word) AsksForEvent Operates)
 
 -- one more first value
 abbrev pub put_first : Option Value → Reached (List (Option Value)) → Reached (List (Option Value))
@@ -286,37 +297,46 @@ put_first v (Halts x t) = Halts x t
 put_first v (Gives vs t) = Gives (v ∷ vs) t
 
 -- first values are evaluated in their order
-abbrev pub first_followed : Reached Value → (List Event → Reached (List (Option Value))) → Reached (List (Option Value))
+abbrev pub first_followed :
+    Reached Value → (List Event → Reached (List (Option Value))) → Reached (List (Option Value))
 first_followed (Halts x t) rest = Halts x t
 first_followed (Gives v t) rest = put_first (Some v) (rest t)
 
 -- a variable's first value, if it has one, and those of the variables behind it
-abbrev pub first_then : Words → Option Tree → Scope → List Event → (List Event → Reached (List (Option Value))) → Reached (List (Option Value))
+abbrev pub first_then : Words → Option Tree → Scope → List Event →
+    (List Event → Reached (List (Option Value))) → Reached (List (Option Value))
 first_then l None names t rest = put_first None (rest t)
 first_then l (Some e) names t rest = first_followed (value_of l e names t) rest
 
 -- the first values of a function's variables, in their order: each is evaluated where the variables
 -- before it are in scope
-abbrev pub first_of_each : Words → List Variable → (entries index : ℕ) → Scope → List Event → Reached (List (Option Value))
+abbrev pub first_of_each :
+    Words → List Variable → (entries index : ℕ) → Scope → List Event → Reached (List (Option Value))
 first_of_each l [] k i names t = Gives [] t
 first_of_each l (x ∷ xs) k i names t =
     first_then l x.first_value names t (first_of_each l xs k (suc i) (with_variable x k i names))
 
 -- the entry, with the first values
-abbrev pub entered_by : ℕ → List Value → Reached (List (Option Value)) → (List Event → Reached (Option Value)) → Reached (Option Value)
+abbrev pub entered_by : ℕ → List Value → Reached (List (Option Value)) →
+    (List Event → Reached (Option Value)) → Reached (Option Value)
 entered_by g vs (Halts x t) body = Halts x t
 entered_by g vs (Gives firsts t) body = body (Entry g vs firsts ∷ t)
 
 -- a body, from the first values of its variables on, in the scope of its parameters
-abbrev pub follow_body : Words → ℕ → ℕ → TextFunction → List Value → Scope → List Event → Reached (Option Value)
+abbrev pub follow_body :
+    Words → ℕ → ℕ → TextFunction → List Value → Scope → List Event → Reached (Option Value)
 follow_body l n g f vs names t =
-    entered_by g vs (first_of_each l f.variables (entries t) 0 names t) (λ t1. answer (follow_all l n f.lines (with_variables f.variables (entries t) 0 names) t1))
+    entered_by g vs (first_of_each l f.variables (entries t) 0 names t)
+    (λ t1. answer (follow_all l n f.lines (with_variables f.variables (entries t) 0 names) t1))
 
--- a word among these functions, the last one first; uses tells what a word is that names none of these functions
-abbrev pub follow_call : Scope → World → Meaning → (uses : Bytes → WordUse) → ℕ → List TextFunction → Bytes → List Value → List Event → Reached (Option Value)
+-- a word among these functions, the last one first; uses tells what a word is that names none of
+-- these functions
+abbrev pub follow_call : Scope → World → Meaning → (uses : Bytes → WordUse) → ℕ →
+    List TextFunction → Bytes → List Value → List Event → Reached (Option Value)
 follow_call outer w m uses n [] word vs t = respond_by_use (uses word) w m word vs t
 follow_call outer w m uses n (f ∷ fs) word vs t =
     let l : Words = record { world = w; meaning = m; respond = follow_call outer w m uses n fs } in
-    let own = called (nat_eq (length vs) (length f.parameters)) (follow_body l n (length fs) f vs (with_parameters f.parameters vs outer) t) t in
+    let own = called (nat_eq (length vs) (length f.parameters))
+    (follow_body l n (length fs) f vs (with_parameters f.parameters vs outer) t) t in
     let other = follow_call outer w m uses n fs word vs t in
     cond (same_bytes word f.name) own other

@@ -1,7 +1,12 @@
 -- When a module's operators are typed consistently.
 use Rattle.std.specs.Prelude.{◌≡◌, ℕ, ℤ, List, [], ◌∷◌, ◌++◌, Option, Some, slice_get}
-use Rattle.shader_runs.specs.Value.{PartTypes, At, Selector, MemberNamed, step_of, ValueType, BooleanType, IntegerType, PointerType, Word, Spelled, PartWord, IndexWord, short_circuit_word}
-use Rattle.shader_runs.specs.Program.{ConstantTree, Fixed, NamedConstant, Constructed, ConstantTrees, no_constant, constant, Expression, Constant, Operator, Access, AccessIndex, Logical, Swizzle, Request, Function, expression_of, handle_type, Module}
+use Rattle.shader_runs.specs.Value.{PartTypes, At, Selector, MemberNamed, step_of, ValueType}
+use Rattle.shader_runs.specs.Value.{BooleanType, IntegerType, PointerType, Word, Spelled, PartWord}
+use Rattle.shader_runs.specs.Value.{IndexWord, short_circuit_word}
+use Rattle.shader_runs.specs.Program.{ConstantTree, Fixed, NamedConstant, Constructed}
+use Rattle.shader_runs.specs.Program.{ConstantTrees, no_constant, constant, Expression, Constant}
+use Rattle.shader_runs.specs.Program.{Operator, Access, AccessIndex, Logical, Swizzle, Request}
+use Rattle.shader_runs.specs.Program.{Function, expression_of, handle_type, Module}
 use Rattle.shader_runs.specs.Premises.{constant_types_of, handle_types}
 
 -- a spelled operator with its operands' types and its result's
@@ -15,7 +20,8 @@ abbrev mutual
   constant_signatures p (Fixed v) = []
   constant_signatures p (NamedConstant i) = []
   constant_signatures p (Constructed w ty es) =
-      record { word = Spelled w; operands = constant_types_of p es; result = ty } ∷ constants_signatures p es
+      record { word = Spelled w; operands = constant_types_of p es; result = ty } ∷
+      constants_signatures p es
 
   pub constants_signatures : Module → ConstantTrees → List Signature
   constants_signatures p no_constant = []
@@ -24,11 +30,20 @@ abbrev mutual
 -- the operators that an expression of this type spells
 abbrev pub signatures_of : Module → Function → ValueType → Option Expression → List Signature
 signatures_of p f k (Some (Constant e)) = constant_signatures p e
-signatures_of p f k (Some (Operator w xs)) = record { word = Spelled w; operands = handle_types f xs; result = k } ∷ []
-signatures_of p f k (Some (Access b i)) = record { word = IndexWord; operands = handle_types f (b ∷ i ∷ []); result = k } ∷ []
-signatures_of p f k (Some (AccessIndex x b)) = record { word = PartWord x; operands = handle_types f (b ∷ []); result = k } ∷ []
-signatures_of p f k (Some (Logical j l r)) = record { word = Spelled (short_circuit_word j); operands = handle_types f (l ∷ r ∷ []); result = k } ∷ []
-signatures_of p f k (Some (Swizzle w v)) = record { word = PartWord (MemberNamed w); operands = handle_types f (v ∷ []); result = k } ∷ []
+signatures_of p f k (Some (Operator w xs)) =
+    record { word = Spelled w; operands = handle_types f xs; result = k } ∷ []
+signatures_of p f k (Some (Access b i)) =
+    record { word = IndexWord; operands = handle_types f (b ∷ i ∷ []); result = k } ∷ []
+signatures_of p f k (Some (AccessIndex x b)) =
+    record { word = PartWord x; operands = handle_types f (b ∷ []); result = k } ∷ []
+signatures_of p f k (Some (Logical j l r)) =
+    record {
+      word = Spelled (short_circuit_word j);
+      operands = handle_types f (l ∷ r ∷ []);
+      result = k;
+    } ∷ []
+signatures_of p f k (Some (Swizzle w v)) =
+    record { word = PartWord (MemberNamed w); operands = handle_types f (v ∷ []); result = k } ∷ []
 signatures_of p f k (Some (Request a w xs es)) = constants_signatures p es
 signatures_of p f k _ = []
 
@@ -44,9 +59,11 @@ pub data IsSpelled (p : Module) (x : Signature) : Type 0 where
   in_initialiser : (i : ℕ) (e : ConstantTree) → slice_get p.initialisers i ≡ Some e →
       IsOneOf x (constant_signatures p e) → IsSpelled p x
 
--- an integer's index through a pointer gives a pointer to the part, which is of one type whatever the index is
+-- an integer's index through a pointer gives a pointer to the part, which is of one type whatever
+-- the index is
 abbrev pub AccessFits : PartTypes → (base index result : ValueType) → Type 0
-AccessFits parts (PointerType whole) (IntegerType spelling) k = (z : ℤ) → k ≡ PointerType (parts whole (At z))
+AccessFits parts (PointerType whole) (IntegerType spelling) k =
+    (z : ℤ) → k ≡ PointerType (parts whole (At z))
 AccessFits parts (PointerType whole) i k = ⊥
 AccessFits parts b i k = Unit {0}
 
@@ -69,5 +86,7 @@ PartsFit parts f k _ = Unit {0}
 
 -- what is spelled alike over operands of types alike has a result of types alike
 pub record IsConsistent (p : Module) : Type 0 where
-  pub alike : (x y : Signature) → IsSpelled p x → IsSpelled p y → x.word ≡ y.word → x.operands ≡ y.operands → x.result ≡ y.result
-  pub parts : (place : ℕ) (f : Function) → slice_get p.functions place ≡ Some f → (h : ℕ) → PartsFit p.parts f (handle_type f h) (expression_of f h)
+  pub alike : (x y : Signature) → IsSpelled p x → IsSpelled p y → x.word ≡ y.word →
+      x.operands ≡ y.operands → x.result ≡ y.result
+  pub parts : (place : ℕ) (f : Function) → slice_get p.functions place ≡ Some f → (h : ℕ) →
+      PartsFit p.parts f (handle_type f h) (expression_of f h)

@@ -1,5 +1,6 @@
 -- Spelled words, places and values with their types.
-use Rattle.std.specs.Prelude.{ℕ, ℤ, pos, negsuc, Bool, true, false, cond, nat_eq, List, [], ◌∷◌, ◌&&◌, get_or, codes}
+use Rattle.std.specs.Prelude.{ℕ, ℤ, pos, negsuc, Bool, true, false, cond, nat_eq, List, [], ◌∷◌}
+use Rattle.std.specs.Prelude.{Option, Some, None, ◌&&◌, get_or, codes}
 
 -- the bytes of a name or of a spelled word
 abbrev pub Bytes : Type 0
@@ -36,7 +37,8 @@ step_of (ElementAt index) = At (pos index)
 step_of (MemberNamed word) =
     cond (same_bytes word (codes "x")) (At (pos 0)) (
     cond (same_bytes word (codes "y")) (At (pos 1)) (
-    cond (same_bytes word (codes "z")) (At (pos 2)) (cond (same_bytes word (codes "w")) (At (pos 3)) (Field word))
+    cond (same_bytes word (codes "z")) (At (pos 2))
+    (cond (same_bytes word (codes "w")) (At (pos 3)) (Field word))
     )
     )
 
@@ -51,7 +53,8 @@ pub data Place : Type 0 where
   Rooted : Root → Place
   Part : Place → Step → Place
 
--- how a pointer to a part is spelled, by the spelling of a pointer to the whole and the step that leads to the part
+-- how a pointer to a part is spelled, by the spelling of a pointer to the whole and the step that
+-- leads to the part
 abbrev pub PartTypes : Type 0
 PartTypes = Bytes → Step → Bytes
 
@@ -84,6 +87,21 @@ pub data Value : Type 0 where
   Pointer : Place → Value
   Opaque : (spelling : Bytes) → (payload : ℕ) → Value
 
+-- a value's truth value
+abbrev pub truth_in : Value → Option Bool
+truth_in (Truth b) = Some b
+truth_in _ = None
+
+-- a value's integer
+abbrev pub integer_in : Value → Option ℤ
+integer_in (Whole spelling z) = Some z
+integer_in _ = None
+
+-- a value's place
+abbrev pub place_in : Value → Option Place
+place_in (Pointer p) = Some p
+place_in _ = None
+
 -- a value's type
 abbrev pub type_of : PartTypes → Value → ValueType
 type_of parts (Truth b) = BooleanType
@@ -114,7 +132,8 @@ has_types parts (t ∷ ts) (v ∷ vs) = has_type parts t v && has_types parts ts
 abbrev pub type_at : List ValueType → ℕ → ValueType
 type_at ts i = get_or ts i BooleanType
 
--- an operator: a sign, a function or a type by its spelling, a member or element of a value, or an index into a value
+-- an operator: a sign, a function or a type by its spelling, a member or element of a value, or an
+-- index into a value
 pub data Word : Type 0 where
   Spelled : Bytes → Word
   PartWord : Selector → Word

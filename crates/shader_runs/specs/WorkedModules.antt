@@ -1,15 +1,20 @@
 -- Worked modules by their tables: one world, where a read gives what was stored or added last, one
 -- meaning, and that a module and its text do the same in them.
-use Rattle.std.specs.Prelude.{◌≡◌, ℕ, ◌+◌, ◌*◌, ◌/◌, ◌%◌, max, pos, Bool, false, cond, List, [], ◌∷◌, length, map, reverse, Option, Some, None, ◌||◌, nat_eq, get_or, unwrap_or, IsTrue, codes}
-use Rattle.shader_runs.specs.Value.{Bytes, same_bytes, Place, Rooted, LocalRoot, ValueType, PointerType, OtherType, pointer_spelling, Value, Whole, Pointer, Opaque, Spelled, PartWord, IndexWord, MemberNamed}
-use Rattle.shader_runs.specs.World.{Event, Entry, Ask, Read, Write, Discard, entries, World, Meaning, Settings}
+use Rattle.std.specs.Prelude.{◌≡◌, ℕ, ◌+◌, ◌*◌, ◌/◌, ◌%◌, max, pos, Bool, false, cond, List, []}
+use Rattle.std.specs.Prelude.{◌∷◌, length, map, reverse, Option, Some, None, ◌||◌, nat_eq, get_or}
+use Rattle.std.specs.Prelude.{unwrap_or, IsTrue, codes}
+use Rattle.shader_runs.specs.Value.{Bytes, same_bytes, Place, Rooted, LocalRoot, ValueType}
+use Rattle.shader_runs.specs.Value.{PointerType, OtherType, pointer_spelling, Value, Whole, Pointer}
+use Rattle.shader_runs.specs.Value.{Opaque, Spelled, PartWord, IndexWord, MemberNamed}
+use Rattle.shader_runs.specs.World.{Event, Entry, Ask, Read, Write, Discard, entries, World}
+use Rattle.shader_runs.specs.World.{Meaning, Settings}
 use Rattle.shader_runs.specs.Outcome.{Reached}
-use Rattle.shader_runs.specs.Program.{Fixed, Module, Expression, Label, Statement, Statements, Cases, end, then, no_case, case, Function}
-use Rattle.shader_runs.specs.Text.{Tree, Trees, Name, LiteralOf, Apply, AddressOf, no_more, more, Line, Let, ReturnLine, Perform, Lines, last, before, Variable, TextFunction, TextModule}
+use Rattle.shader_runs.specs.Program.{Fixed, Module, Function}
+use Rattle.shader_runs.specs.Text.{LiteralOf, TextFunction, TextModule}
 use Rattle.shader_runs.specs.Constants.{run_module, follow_module}
 use Rattle.shader_runs.specs.Scope.{ModuleNames, Naming}
 use Rattle.shader_runs.specs.Form.{form_module}
-use Rattle.shader_runs.specs.Rows.{local_i32, number, same_place, no_parts, numbered_name, all_fit}
+use Rattle.shader_runs.specs.WorkedFunctions.{number, same_place, no_parts, numbered_name, all_fit}
 
 -- ---- the world
 
@@ -116,93 +121,6 @@ memory_meaning (PartWord (MemberNamed letters)) (Opaque s a ∷ []) =
 memory_meaning IndexWord (Opaque s a ∷ Whole r (pos b) ∷ []) =
     Opaque (codes "texture_2d<f32>") (a + b)
 memory_meaning word vs = number 0
-
--- ---- shapes and texts by their lists
-
--- an expression with its type and how often it is used
-pub record Described : Type 0 where
-  pub expression : Expression
-  pub type : ValueType
-  pub count : ℕ
-
--- one row of a table of expressions
-abbrev pub described : Expression → ValueType → ℕ → Described
-described e k n = record { expression = e; type = k; count = n }
-
--- statements in their order
-abbrev pub statements : List Statement → Statements
-statements [] = end
-statements (s ∷ ss) = then s (statements ss)
-
--- a case's label and statements
-abbrev pub Labelled : Type 0
-Labelled = Label × List Statement
-
--- cases, none of which falls through
-abbrev pub cases : List Labelled → Cases
-cases [] = no_case
-cases (c ∷ cs) = case c.0 (statements c.1) false (cases cs)
-
--- a local with the spelling of a pointer to it, and its initialiser
-abbrev pub Declared : Type 0
-Declared = Bytes × Option ℕ
-
--- a function by its table of expressions and its statements
-abbrev pub function_with : (arguments : List ValueType) → (result : Option ValueType) →
-    List Declared → List Described → List Statement → Function
-function_with arguments result locals expressions body =
-    record {
-      argument_types = arguments;
-      result = result;
-      first_values = map (λ l. l.1) locals;
-      local_pointers = map (λ l. l.0) locals;
-      expressions = map (λ x. x.expression) expressions;
-      types = map (λ x. x.type) expressions;
-      counts = map (λ x. x.count) expressions;
-      given_names = [];
-      body = statements body;
-    }
-
--- operands in their order
-abbrev pub operands : List Tree → Trees
-operands [] = no_more
-operands (e ∷ es) = more e (operands es)
-
--- lines in their order
-abbrev pub lines : List Line → Lines
-lines [] = last
-lines (l ∷ ls) = before l (lines ls)
-
--- a call where a value is wanted, and one where none is
-abbrev pub call_of : Bytes → List Tree → Tree
-call_of word es = Apply word (operands es)
-
-abbrev pub perform : Bytes → List Tree → Line
-perform word es = Perform word (operands es)
-
--- a handle is bound to its own name
-abbrev pub let_own : ℕ → Tree → Line
-let_own h e = Let (numbered_name h) e
-
--- a value is returned
-abbrev pub return_of : Tree → Line
-return_of e = ReturnLine (Some e)
-
--- `1i` and such
-abbrev pub digits : ℕ → Tree
-digits n = LiteralOf (number n)
-
--- a pointer to a variable
-abbrev pub pointer_of : Bytes → Tree
-pointer_of x = AddressOf (Name x)
-
--- a variable of a function with its first value
-abbrev pub variable : Bytes → Bytes → Option Tree → Variable
-variable x pointer first = record { name = x; pointer = pointer; first_value = first }
-
--- one of type `i32` that starts with this number
-abbrev pub number_variable : Bytes → ℕ → Variable
-number_variable x n = variable x local_i32 (Some (digits n))
 
 -- ---- modules with their texts
 

@@ -19,7 +19,8 @@ use Rattle.naga_enumerations.specs.declared.types.CooperativeSize.TheVariants.{E
 use Rattle.naga_enumerations.specs.declared.types.Scalar.{Scalar}
 use Rattle.naga_enumerations.specs.declared.types.VectorSize.{VectorSize}
 use Rattle.naga_enumerations.specs.declared.types.VectorSize.TheVariants.{Bi, Tri, Quad}
-use Rattle.naga_info.proofs.Options.{map_some, same_some}
+use Rattle.std.proofs.lemmas.Option.{same_Some}
+use Rattle.naga_info.proofs.Options.{map_some}
 use Rattle.naga_info.specs.declared.info.TypeResolution.{TypeResolution}
 use Rattle.naga_info.specs.declared.info.TypeResolution.TheVariants as resolution
 use Rattle.naga_ir.specs.declared.types.ArraySize.{ArraySize}
@@ -189,12 +190,12 @@ image_tree_is dim arrayed (class.Sampled k multi) t e =
     subst IsType (ap (of_one word) w.2 ∙ x.2)
     (record { part = (rw (sampled_rule multi dim arrayed) (value_words.sampled.each k w.0 w.1), (table_word scalar_words w.0 scalars_free (value_words.scalars.each (record { kind = k; width = 4 }) w.0 w.1), tt)); whole = refl })
 image_tree_is dim arrayed (class.Depth multi) t e =
-    subst IsType (same_some (Named (image_word (codes "texture_depth_") multi dim arrayed)) t e) (plain_is (image_word (codes "texture_depth_") multi dim arrayed) (depth_is_plain multi dim arrayed))
-image_tree_is dim arrayed class.External t e = subst IsType (same_some (Named (codes "texture_external")) t e) (plain_is (codes "texture_external") refl)
+    subst IsType (same_Some (Named (image_word (codes "texture_depth_") multi dim arrayed)) t e) (plain_is (image_word (codes "texture_depth_") multi dim arrayed) (depth_is_plain multi dim arrayed))
+image_tree_is dim arrayed class.External t e = subst IsType (same_Some (Named (codes "texture_external")) t e) (plain_is (codes "texture_external") refl)
 image_tree_is dim arrayed (class.Storage f a) t e =
     let format = value_words.formats.each f (format_word f) refl in
     let access = value_words.accesses.each a (image_access_word a) refl in
-    subst IsType (same_some (of_two (image_word (codes "texture_storage_") false dim arrayed) (Named (format_word f)) (Named (image_access_word a))) t e)
+    subst IsType (same_Some (of_two (image_word (codes "texture_storage_") false dim arrayed) (Named (format_word f)) (Named (image_access_word a))) t e)
     (record {
       part = (
         rw (storage_rule dim arrayed) (and_from (stands_in format_words (format_word f)) (stands_in access_words (image_access_word a)) format access),
@@ -240,13 +241,13 @@ module _ (n : Names) (count : ℕ) (named : AreNamed n count) where
   inner_is f all (inner.Array base l stride) within t e = array_tree_is (codes "array") refl l within (f base) (all base) t e
   inner_is f all (inner.Struct members span) within t e = absurd (cc)
   inner_is f all (inner.Image dim arrayed c) within t e = image_tree_is dim arrayed c t e
-  inner_is f all (inner.Sampler comparison) within t e = subst IsType (same_some (Named (sampler_word comparison)) t e) (sampler_is comparison)
-  inner_is f all (inner.AccelerationStructure b) within t e = subst IsType (same_some (ray_tree (codes "acceleration_structure") b) t e) (structure_is b)
-  inner_is f all (inner.RayQuery b) within t e = subst IsType (same_some (ray_tree (codes "ray_query") b) t e) (query_is b)
+  inner_is f all (inner.Sampler comparison) within t e = subst IsType (same_Some (Named (sampler_word comparison)) t e) (sampler_is comparison)
+  inner_is f all (inner.AccelerationStructure b) within t e = subst IsType (same_Some (ray_tree (codes "acceleration_structure") b) t e) (structure_is b)
+  inner_is f all (inner.RayQuery b) within t e = subst IsType (same_Some (ray_tree (codes "ray_query") b) t e) (query_is b)
   inner_is f all (inner.BindingArray base l) within t e = array_tree_is (codes "binding_array") refl l within (f base) (all base) t e
 
   named_is : (f : ℕ → Option TypeSpecifier) → ((b : ℕ) (x : TypeSpecifier) → f b ≡ Some x → IsType x) → (h : ℕ) (y : Type_) → slice_get n.types h ≡ Some y → (b : Bool) → is_struct y.inner ≡ b → (t : TypeSpecifier) → (if b then Some (Named (n.struct_name h)) else inner_tree_by n f y.inner) ≡ Some t → IsType t
-  named_is f all h y at true struct t e = subst IsType (same_some (Named (n.struct_name h)) t e) (name_is (n.struct_name h) (named.structs h y at struct))
+  named_is f all h y at true struct t e = subst IsType (same_Some (Named (n.struct_name h)) t e) (name_is (n.struct_name h) (named.structs h y at struct))
   named_is f all h y at false struct t e = inner_is f all y.inner (named.lengths h y at) t e
 
   found_is : (k h : ℕ) → ((b : ℕ) (x : TypeSpecifier) → tree_within k n b ≡ Some x → IsType x) → (o : Option Type_) → slice_get n.types h ≡ o → (t : TypeSpecifier) → found_tree_by n (tree_within k n) h o ≡ Some t → IsType t

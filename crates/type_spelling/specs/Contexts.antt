@@ -1,5 +1,6 @@
 -- What each context knows.
-use Rattle.std.specs.Prelude.{ℕ, true, false, List, [], ◌∷◌, Option, Some, None, codes, slice_get, length, nat_lt, string_bytes}
+use Rattle.std.specs.Prelude.{ℕ, true, false, List, [], ◌∷◌, Option, Some, None, codes, slice_get}
+use Rattle.std.specs.Prelude.{length, nat_lt, string_bytes}
 use Rattle.std.specs.Option.{option_map, option_map_or}
 use Rattle.naga_ir.specs.declared.types.Type_.{Type_}
 use Rattle.naga_ir.specs.declared.module.Override.{Override}

@@ -31,9 +31,11 @@ InnerIsWithin overrides (inner.Array base size stride) = LengthIsWithin override
 InnerIsWithin overrides (inner.BindingArray base size) = LengthIsWithin overrides size
 InnerIsWithin overrides _ = ⊤
 
--- Each struct and each of so many overrides has an identifier for a name, and lengths are such numbers or overrides.
+-- Each struct and each of so many overrides has an identifier for a name, and lengths are such
+-- numbers or overrides.
 pub record AreNamed (n : Names) (count : ℕ) : Type 0 where
-  pub structs : (h : ℕ) (t : Type_) → slice_get n.types h ≡ Some t → is_struct t.inner ≡ true → IsIdentifier (n.struct_name h)
+  pub structs : (h : ℕ) (t : Type_) → slice_get n.types h ≡ Some t → is_struct t.inner ≡ true →
+      IsIdentifier (n.struct_name h)
   pub overrides : (o : ℕ) → o < count → IsIdentifier (n.override_name o)
   pub lengths : (h : ℕ) (t : Type_) → slice_get n.types h ≡ Some t → InnerIsWithin count t.inner
 
@@ -42,12 +44,19 @@ abbrev pub ResolutionIsWithin : (overrides : ℕ) → TypeResolution → Type 0
 ResolutionIsWithin overrides (resolution.Handle h) = ⊤
 ResolutionIsWithin overrides (resolution.Value it) = InnerIsWithin overrides it
 
--- names that tell handles apart: a word of one number, the handle. A text of the handle would tell apart only numbers below 2 ^ 64
+-- names that tell handles apart: a word of one number, the handle. A text of the handle would tell
+-- apart only numbers below 2 ^ 64
 abbrev pub handle_names : List Type_ → Names
-handle_names types = record { types = types; struct_name = λ h. h ∷ []; override_name = λ h. h ∷ [] }
+handle_names types =
+    record { types = types; struct_name = λ h. h ∷ []; override_name = λ h. h ∷ [] }
 
--- Types are alike that are spelled alike, where each struct and each override stands for its handle. A type without a form is
--- a type of its own.
+-- Types are alike that are spelled alike, where each struct and each override stands for its
+-- handle. A type without a form is a type of its own.
 pub data AreAlike (types : List Type_) : TypeResolution → TypeResolution → Type 0 where
-  SpelledAlike : {a b : TypeResolution} (t : TypeSpecifier) → resolution_tree (handle_names types) a ≡ Some t → resolution_tree (handle_names types) b ≡ Some t → AreAlike types a b
-  Formless : {a b : TypeResolution} → resolution_tree (handle_names types) a ≡ None → resolution_tree (handle_names types) b ≡ None → inner_of a types ≡ inner_of b types → AreAlike types a b
+  SpelledAlike : {a b : TypeResolution} (t : TypeSpecifier) →
+      resolution_tree (handle_names types) a ≡ Some t →
+      resolution_tree (handle_names types) b ≡ Some t → AreAlike types a b
+  Formless : {a b : TypeResolution} →
+      resolution_tree (handle_names types) a ≡ None →
+      resolution_tree (handle_names types) b ≡ None →
+      inner_of a types ≡ inner_of b types → AreAlike types a b

@@ -6,12 +6,14 @@ use Rattle.naga_info.specs.declared.rules.Conclusion.TheVariants.{Value, Predecl
 use Rattle.naga_info.specs.declared.rules.Rule.{Rule}
 use Rattle.spelling_parts.specs.Parts.{Part, Word}
 use Rattle.spelling_parts.specs.Predeclared.{predeclared_name}
-use Rattle.type_spelling.specs.Spelling.{Context, Fits, FitsResolution, inner_parts, resolution_parts}
+use Rattle.type_spelling.specs.Spelling.{Context, Fits, FitsResolution, inner_parts}
+use Rattle.type_spelling.specs.Spelling.{resolution_parts}
 
 -- the types behind the first
 abbrev pub more_arguments_parts : Context → List TypeResolution → List Part
 more_arguments_parts c [] = []
-more_arguments_parts c (r ∷ rs) = Word (codes ", ") ∷ (resolution_parts c r ++ more_arguments_parts c rs)
+more_arguments_parts c (r ∷ rs) =
+    Word (codes ", ") ∷ (resolution_parts c r ++ more_arguments_parts c rs)
 
 -- the types of arguments, joined by commas
 abbrev pub arguments_parts : Context → List TypeResolution → List Part
@@ -26,7 +28,9 @@ conclusion_parts c (Predeclared p) = Word (predeclared_name p) ∷ []
 -- a rule, by the function's name: `fn dot(vec3<f32>, vec3<f32>) -> f32`
 abbrev pub rule_parts : Context → List ℕ → Rule → List Part
 rule_parts c name rule =
-    Word (codes "fn ") ∷ Word name ∷ Word (codes "(") ∷ (arguments_parts c rule.arguments.items ++ (Word (codes ") -> ") ∷ conclusion_parts c rule.conclusion))
+    Word (codes "fn ") ∷ Word name ∷ Word (codes "(") ∷
+    (arguments_parts c rule.arguments.items ++
+    (Word (codes ") -> ") ∷ conclusion_parts c rule.conclusion))
 
 -- What the arguments name is known to the context.
 abbrev pub AllFit : Context → List TypeResolution → Type 0

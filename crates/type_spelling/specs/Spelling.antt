@@ -1,6 +1,8 @@
--- What a type is spelled as: its text, part by part, in a context that says how structs and overrides are named and
--- whether what has no form is refused or shown in braces.
-use Rattle.std.specs.Prelude.{◌≡◌, ℕ, zero, suc, IsTrue, nat_lt, ◌≤◌, ◌<◌, ◌+◌, Bool, true, false, if◌then◌else◌, List, [], ◌∷◌, ◌++◌, Option, Some, None, codes, slice_get, length}
+-- What a type is spelled as: its text, part by part, in a context that says how structs and
+-- overrides are named and whether what has no form is refused or shown in braces.
+use Rattle.std.specs.Prelude.{◌≡◌, ℕ, zero, suc, IsTrue, nat_lt, ◌≤◌, ◌<◌, ◌+◌, Bool, true, false}
+use Rattle.std.specs.Prelude.{if◌then◌else◌, List, [], ◌∷◌, ◌++◌, Option, Some, None, codes}
+use Rattle.std.specs.Prelude.{slice_get, length}
 use Rattle.std.specs.Int.NonZero.{non_zero_u32_get}
 use Rattle.naga_ir.specs.declared.types.Type_.{Type_}
 use Rattle.naga_ir.specs.declared.types.TypeInner.{TypeInner}
@@ -12,8 +14,11 @@ use Rattle.naga_info.specs.declared.info.TypeResolution.TheVariants.{Handle, Val
 use Rattle.std.specs.Option.{is_none}
 use Rattle.wgsl_words.specs.Words.{space_word, space_access_word}
 use Rattle.spelling_parts.specs.Parts.{Part, Word, Missing}
-use Rattle.spelling_parts.specs.Words.{matrix_word, cooperative_word, role_tail, sampler_word, acceleration_structure_text, ray_query_text}
-use Rattle.spelling_parts.specs.Values.{scalar_parts, vector_parts, template_parts, pointer_in, value_parts, value_pointer_parts, length_of_number, image_parts}
+use Rattle.spelling_parts.specs.Words.{matrix_word, cooperative_word, role_tail, sampler_word}
+use Rattle.spelling_parts.specs.Words.{acceleration_structure_text, ray_query_text}
+use Rattle.spelling_parts.specs.Values.{scalar_parts, vector_parts, template_parts, pointer_in}
+use Rattle.spelling_parts.specs.Values.{value_parts, value_pointer_parts, length_of_number}
+use Rattle.spelling_parts.specs.Values.{image_parts}
 
 -- how a context spells what is its own
 pub record Context : Type 0 where
@@ -40,7 +45,8 @@ length_of_override name = Word (codes ", ") ∷ (name ++ (Word (codes ">") ∷ [
 -- the length of an array, with the bracket that closes it
 abbrev pub length_parts : Context → ArraySize → List Part
 length_parts c (size.Constant number) = length_of_number (non_zero_u32_get number)
-length_parts c (size.Pending override_handle) = length_of_override (c.override_parts override_handle)
+length_parts c (size.Pending override_handle) =
+    length_of_override (c.override_parts override_handle)
 length_parts c size.Dynamic = Word (codes ">") ∷ []
 
 -- an array of this word, by its length
@@ -51,20 +57,26 @@ array_parts c word element size = Word word ∷ Word (codes "<") ∷ (element ++
 abbrev pub inner_parts_by : Context → (ℕ → List Part) → TypeInner → List Part
 inner_parts_by c f (inner.Scalar scalar) = scalar_parts c.refuses scalar
 inner_parts_by c f (inner.Vector size scalar) = vector_parts c.refuses size scalar
-inner_parts_by c f (inner.Matrix columns rows scalar) = template_parts (matrix_word columns rows) (scalar_parts c.refuses scalar) (codes ">")
+inner_parts_by c f (inner.Matrix columns rows scalar) =
+    template_parts (matrix_word columns rows) (scalar_parts c.refuses scalar) (codes ">")
 inner_parts_by c f (inner.CooperativeMatrix columns rows scalar role) =
     template_parts (cooperative_word columns rows) (scalar_parts c.refuses scalar) (role_tail role)
-inner_parts_by c f (inner.Atomic scalar) = template_parts (codes "atomic") (scalar_parts c.refuses scalar) (codes ">")
-inner_parts_by c f (inner.Pointer base space) = pointer_parts (space_word space) (space_access_word space) (f base)
+inner_parts_by c f (inner.Atomic scalar) =
+    template_parts (codes "atomic") (scalar_parts c.refuses scalar) (codes ">")
+inner_parts_by c f (inner.Pointer base space) =
+    pointer_parts (space_word space) (space_access_word space) (f base)
 inner_parts_by c f (inner.ValuePointer size scalar space) =
-    value_pointer_parts c.refuses (space_word space) (space_access_word space) (value_parts c.refuses size scalar)
+    value_pointer_parts c.refuses (space_word space) (space_access_word space)
+    (value_parts c.refuses size scalar)
 inner_parts_by c f (inner.Array base size stride) = array_parts c (codes "array") (f base) size
 inner_parts_by c f (inner.Struct members span) = c.unnamed_parts
 inner_parts_by c f (inner.Image dim arrayed class) = image_parts c.refuses dim arrayed class
 inner_parts_by c f (inner.Sampler comparison) = Word (sampler_word comparison) ∷ []
-inner_parts_by c f (inner.AccelerationStructure vertex_return) = Word (acceleration_structure_text vertex_return) ∷ []
+inner_parts_by c f (inner.AccelerationStructure vertex_return) =
+    Word (acceleration_structure_text vertex_return) ∷ []
 inner_parts_by c f (inner.RayQuery vertex_return) = Word (ray_query_text vertex_return) ∷ []
-inner_parts_by c f (inner.BindingArray base size) = array_parts c (codes "binding_array") (f base) size
+inner_parts_by c f (inner.BindingArray base size) =
+    array_parts c (codes "binding_array") (f base) size
 
 abbrev pub is_struct : TypeInner → Bool
 is_struct (inner.Struct members span) = true
@@ -72,7 +84,8 @@ is_struct _ = false
 
 -- the type at a handle: a struct by its name
 abbrev pub named_parts_by : Context → (ℕ → List Part) → ℕ → TypeInner → List Part
-named_parts_by c f handle it = if is_struct it then Word (c.name handle) ∷ [] else inner_parts_by c f it
+named_parts_by c f handle it =
+    if is_struct it then Word (c.name handle) ∷ [] else inner_parts_by c f it
 
 abbrev pub found_parts_by : Context → (ℕ → List Part) → ℕ → Option Type_ → List Part
 found_parts_by c f handle None = Missing ∷ []
@@ -81,7 +94,8 @@ found_parts_by c f handle (Some t) = named_parts_by c f handle t.inner
 -- the type at a handle, at most so many levels deep
 abbrev pub parts_within : ℕ → Context → ℕ → List Part
 parts_within zero c handle = Missing ∷ []
-parts_within (suc levels) c handle = found_parts_by c (parts_within levels c) handle (slice_get c.types handle)
+parts_within (suc levels) c handle =
+    found_parts_by c (parts_within levels c) handle (slice_get c.types handle)
 
 -- the spelling of the type at a handle, whose parts stand before it
 unfoldable pub type_parts : Context → ℕ → List Part
@@ -129,8 +143,10 @@ FitsResolution c (Value it) = Fits c it
 
 -- A type's parts stand before it, and the context knows the overrides of their lengths.
 pub record IsInOrder (c : Context) : Type 0 where
-  pub before : (handle : ℕ) (t : Type_) → slice_get c.types handle ≡ Some t → end_of_base t.inner ≤ handle
-  pub known : (handle : ℕ) (t : Type_) → slice_get c.types handle ≡ Some t → IsTrue (knows_override c t.inner)
+  pub before :
+      (handle : ℕ) (t : Type_) → slice_get c.types handle ≡ Some t → end_of_base t.inner ≤ handle
+  pub known : (handle : ℕ) (t : Type_) → slice_get c.types handle ≡ Some t →
+      IsTrue (knows_override c t.inner)
 
 -- Is the override of the length one of so many?
 abbrev pub size_within : ℕ → ArraySize → Bool

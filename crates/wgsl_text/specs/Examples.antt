@@ -2,7 +2,19 @@
 use Prim.Native.String.{String}
 use Rattle.std.specs.Prelude.{◌≡◌, ℕ, true, false, List, [], ◌∷◌, ◌++◌, codes, Option, None, Some}
 use Rattle.wgsl_text.specs.Token.{SuffixI, SuffixU, SuffixLi}
-use Rattle.wgsl_text.specs.Tree.{Truth, Suffixed, Add, Multiply, Negate, TypeSpecifier, Named, Template, TypeParts, NoParts, TypePart, SizePart, Expression, Constant, Name, Binary, Unary, Call, Member, IndexAt, AddressOf, Dereference, Arguments, NoArguments, Argument, ZeroArgument, DefaultLabel, SignedLabel, LastLabel, MoreLabels, Let, TypedLet, Assign, CallStatement, ReturnValue, Continue, If, LoopBreakIf, Switch, Statement, Statements, NoStatements, Then, NoCases, Case, Vertex, Fragment, Compute, Location, Id, Group, Binding, Size, Builtin, Interpolate, Plain, Numbered, Worded, Interpolated, WorkgroupSize, Attribute, WordedAttribute, Parameter, Result, NoResult, ResultOf, Local, Function, EntryPoint, StructMember, Struct, NamedConstant, Override, Space, Global, SpaceAlone, SpaceAndAccess, Program, no_declarations, operands}
+use Rattle.wgsl_text.specs.Tree.{Truth, Suffixed, Add, Multiply, Negate, TypeSpecifier, Named}
+use Rattle.wgsl_text.specs.Tree.{Template, TypeParts, NoParts, TypePart, SizePart, Expression}
+use Rattle.wgsl_text.specs.Tree.{Constant, Name, Binary, Unary, Call, Member, IndexAt, AddressOf}
+use Rattle.wgsl_text.specs.Tree.{Dereference, Arguments, NoArguments, Argument, ZeroArgument}
+use Rattle.wgsl_text.specs.Tree.{DefaultLabel, SignedLabel, LastLabel, MoreLabels, Let, TypedLet}
+use Rattle.wgsl_text.specs.Tree.{Assign, CallStatement, ReturnValue, Continue, If, LoopBreakIf}
+use Rattle.wgsl_text.specs.Tree.{Switch, Statement, Statements, NoStatements, Then, NoCases, Case}
+use Rattle.wgsl_text.specs.Tree.{Vertex, Fragment, Compute, Location, Id, Group, Binding, Size}
+use Rattle.wgsl_text.specs.Tree.{Builtin, Interpolate, Plain, Numbered, Worded, Interpolated}
+use Rattle.wgsl_text.specs.Tree.{WorkgroupSize, Attribute, WordedAttribute, Parameter, Result}
+use Rattle.wgsl_text.specs.Tree.{NoResult, ResultOf, Local, Function, EntryPoint, StructMember}
+use Rattle.wgsl_text.specs.Tree.{Struct, NamedConstant, Override, Space, Global, SpaceAlone}
+use Rattle.wgsl_text.specs.Tree.{SpaceAndAccess, Program, no_declarations, operands}
 use Rattle.wgsl_text.specs.GrammarOfLines.{IsProgram}
 use Rattle.wgsl_text.specs.Reading.{layout}
 
@@ -10,6 +22,11 @@ use Rattle.wgsl_text.specs.Reading.{layout}
 pub record IsText (program : Program) (bytes : List ℕ) : Type 0 where
   pub form : IsProgram program
   pub text : layout program ≡ bytes
+
+-- lines, each with its end
+abbrev pub lines : List String → List ℕ
+lines [] = []
+lines (line ∷ more) = codes line ++ (codes "\n" ++ lines more)
 
 -- short words for trees
 abbrev pub named : String → TypeSpecifier
@@ -22,11 +39,22 @@ parts (t ∷ more) = TypePart t (parts more)
 abbrev pub template : String → List TypeSpecifier → TypeSpecifier
 template w list = Template (codes w) (parts list)
 
+abbrev pub named_parts : List String → TypeParts
+named_parts [] = NoParts
+named_parts (w ∷ more) = TypePart (named w) (named_parts more)
+
+abbrev pub template_of : String → List String → TypeSpecifier
+template_of w words = Template (codes w) (named_parts words)
+
 abbrev pub sized : String → TypeSpecifier → ℕ → TypeSpecifier
 sized w t n = Template (codes w) (TypePart t (SizePart n NoParts))
 
 abbrev pub name : String → Expression
 name w = Name (codes w)
+
+abbrev pub names : List String → Arguments
+names [] = NoArguments
+names (w ∷ more) = Argument (name w) (names more)
 
 abbrev pub integer : ℕ → Expression
 integer n = Constant (Suffixed false n SuffixI)
@@ -56,11 +84,21 @@ parameter w t = record { attributes = []; name = codes w; type = t }
 abbrev pub bound_parameter : List Attribute → String → TypeSpecifier → Parameter
 bound_parameter attributes w t = record { attributes = attributes; name = codes w; type = t }
 
+abbrev pub gives : String → Result
+gives w = ResultOf [] (named w)
+
 abbrev pub local : String → TypeSpecifier → Option Expression → Local
 local w t value = record { name = codes w; type = t; value = value }
 
 abbrev pub function : String → List Parameter → Result → List Local → List Statement → Function
-function w parameters result locals body = record { name = codes w; parameters = parameters; result = result; locals = locals; body = statements body }
+function w parameters result locals body =
+    record {
+      name = codes w;
+      parameters = parameters;
+      result = result;
+      locals = locals;
+      body = statements body;
+    }
 
 abbrev pub worded : WordedAttribute → String → Attribute
 worded a w = Worded a (codes w)
@@ -78,7 +116,8 @@ abbrev pub constant : String → TypeSpecifier → Expression → NamedConstant
 constant w t e = record { name = codes w; type = t; value = e }
 
 abbrev pub override : List Attribute → String → TypeSpecifier → Option Expression → Override
-override attributes w t value = record { attributes = attributes; name = codes w; type = t; value = value }
+override attributes w t value =
+    record { attributes = attributes; name = codes w; type = t; value = value }
 
 abbrev pub space : String → Space
 space a = SpaceAlone (codes a)
@@ -87,7 +126,8 @@ abbrev pub space_and_access : String → String → Space
 space_and_access a m = SpaceAndAccess (codes a) (codes m)
 
 abbrev pub global : List Attribute → Space → String → TypeSpecifier → Option Expression → Global
-global attributes s w t value = record { attributes = attributes; space = s; name = codes w; type = t; value = value }
+global attributes s w t value =
+    record { attributes = attributes; space = s; name = codes w; type = t; value = value }
 
 abbrev pub entry_point : List Attribute → Function → EntryPoint
 entry_point stage f = record { stage = stage; function = f }
@@ -97,92 +137,230 @@ of_functions functions = record no_declarations { functions = functions }
 
 abbrev pub identity : Program
 identity = of_functions (
-    function "f" (parameter "x" (named "i32") ∷ []) (ResultOf [] (named "i32")) [] (
+    function "f" (parameter "x" (named "i32") ∷ []) (gives "i32") [] (
     ReturnValue (name "x") ∷ []) ∷ [])
+
+abbrev pub identity_text : List ℕ
+identity_text = lines (
+    "fn f(x: i32) -> i32 {" ∷
+    "    return x;" ∷
+    "}" ∷
+    "" ∷ [])
 
 abbrev pub negative : Program
 negative = of_functions (
-    function "r" (parameter "b" (named "bool") ∷ []) (ResultOf [] (named "i64")) [] (
+    function "r" (parameter "b" (named "bool") ∷ []) (gives "i64") [] (
     ReturnValue (Constant (Suffixed true 7 SuffixLi)) ∷ []) ∷ [])
+
+abbrev pub negative_text : List ℕ
+negative_text = lines (
+    "fn r(b: bool) -> i64 {" ∷
+    "    return -7li;" ∷
+    "}" ∷
+    "" ∷ [])
 
 abbrev pub same_labels : Program
 same_labels = of_functions (
-    function "f" (parameter "x" (named "i32") ∷ parameter "x_1" (named "i32") ∷ []) (ResultOf [] (named "i32")) [] (
+    function "f" (parameter "x" (named "i32") ∷ parameter "x_1" (named "i32") ∷ [])
+    (gives "i32") [] (
     ReturnValue (name "x_1") ∷ []) ∷ [])
+
+abbrev pub same_labels_text : List ℕ
+same_labels_text = lines (
+    "fn f(x: i32, x_1: i32) -> i32 {" ∷
+    "    return x_1;" ∷
+    "}" ∷
+    "" ∷ [])
 
 abbrev pub type_label : Program
 type_label = of_functions (
-    function "type_1" (parameter "x" (named "i32") ∷ []) (ResultOf [] (named "i32")) [] (
+    function "type_1" (parameter "x" (named "i32") ∷ []) (gives "i32") [] (
     ReturnValue (name "x") ∷ []) ∷ [])
+
+abbrev pub type_label_text : List ℕ
+type_label_text = lines (
+    "fn type_1(x: i32) -> i32 {" ∷
+    "    return x;" ∷
+    "}" ∷
+    "" ∷ [])
 
 abbrev pub hostile_labels : Program
 hostile_labels = of_functions (
-    function "gen__naga" (parameter "u00e9_" (named "i32") ∷ []) (ResultOf [] (named "i32")) [] (
+    function "gen__naga" (parameter "u00e9_" (named "i32") ∷ []) (gives "i32") [] (
     ReturnValue (name "u00e9_") ∷ []) ∷ [])
+
+abbrev pub hostile_labels_text : List ℕ
+hostile_labels_text = lines (
+    "fn gen__naga(u00e9_: i32) -> i32 {" ∷
+    "    return u00e9_;" ∷
+    "}" ∷
+    "" ∷ [])
 
 abbrev pub store : Program
 store = of_functions (
-    function "g" [] (ResultOf [] (named "i32")) (local "a" (named "i32") (Some (integer 1)) ∷ []) (
+    function "g" [] (gives "i32") (local "a" (named "i32") (Some (integer 1)) ∷ []) (
     bound "_e2" (name "a") ∷
     Assign (name "a") (integer 2) ∷
     ReturnValue (name "_e2") ∷ []) ∷ [])
 
+abbrev pub store_text : List ℕ
+store_text = lines (
+    "fn g() -> i32 {" ∷
+    "    var a: i32 = 1i;" ∷
+    "" ∷
+    "    let _e2 = a;" ∷
+    "    a = 2i;" ∷
+    "    return _e2;" ∷
+    "}" ∷
+    "" ∷ [])
+
 abbrev pub store_explicit : Program
 store_explicit = of_functions (
-    function "g" [] (ResultOf [] (named "i32")) (local "a" (named "i32") (Some (integer 1)) ∷ []) (
+    function "g" [] (gives "i32") (local "a" (named "i32") (Some (integer 1)) ∷ []) (
     typed "_e2" (named "i32") (name "a") ∷
     Assign (name "a") (integer 2) ∷
     ReturnValue (name "_e2") ∷ []) ∷ [])
 
+abbrev pub store_explicit_text : List ℕ
+store_explicit_text = lines (
+    "fn g() -> i32 {" ∷
+    "    var a: i32 = 1i;" ∷
+    "" ∷
+    "    let _e2: i32 = a;" ∷
+    "    a = 2i;" ∷
+    "    return _e2;" ∷
+    "}" ∷
+    "" ∷ [])
+
 abbrev pub unused_read : Program
 unused_read = of_functions (
-    function "g" [] (ResultOf [] (named "i32")) (local "a" (named "i32") (Some (integer 1)) ∷ []) (
+    function "g" [] (gives "i32") (local "a" (named "i32") (Some (integer 1)) ∷ []) (
     Assign (name "a") (integer 2) ∷
     ReturnValue (integer 2) ∷ []) ∷ [])
 
+abbrev pub unused_read_text : List ℕ
+unused_read_text = lines (
+    "fn g() -> i32 {" ∷
+    "    var a: i32 = 1i;" ∷
+    "" ∷
+    "    a = 2i;" ∷
+    "    return 2i;" ∷
+    "}" ∷
+    "" ∷ [])
+
 abbrev pub late_use : Program
 late_use = of_functions (
-    function "p" [] (ResultOf [] (named "i32")) (local "a" (named "i32") (Some (integer 1)) ∷ []) (
+    function "p" [] (gives "i32") (local "a" (named "i32") (Some (integer 1)) ∷ []) (
     bound "_e2" (name "a") ∷
     Assign (name "a") (integer 2) ∷
     ReturnValue (Binary (name "_e2") Add (integer 1)) ∷ []) ∷ [])
 
+abbrev pub late_use_text : List ℕ
+late_use_text = lines (
+    "fn p() -> i32 {" ∷
+    "    var a: i32 = 1i;" ∷
+    "" ∷
+    "    let _e2 = a;" ∷
+    "    a = 2i;" ∷
+    "    return (_e2 + 1i);" ∷
+    "}" ∷
+    "" ∷ [])
+
 abbrev pub inlined : Program
 inlined = of_functions (
-    function "q" (parameter "x" (named "i32") ∷ []) (ResultOf [] (named "i32")) (local "a" (named "i32") None ∷ []) (
+    function "q" (parameter "x" (named "i32") ∷ []) (gives "i32")
+    (local "a" (named "i32") None ∷ []) (
     Assign (name "a") (Binary (name "x") Add (name "x")) ∷
     bound "_e3" (name "a") ∷
     ReturnValue (name "_e3") ∷ []) ∷ [])
 
+abbrev pub inlined_text : List ℕ
+inlined_text = lines (
+    "fn q(x: i32) -> i32 {" ∷
+    "    var a: i32;" ∷
+    "" ∷
+    "    a = (x + x);" ∷
+    "    let _e3 = a;" ∷
+    "    return _e3;" ∷
+    "}" ∷
+    "" ∷ [])
+
 abbrev pub used_twice : Program
 used_twice = of_functions (
-    function "q" (parameter "x" (named "i32") ∷ []) (ResultOf [] (named "i32")) (local "a" (named "i32") None ∷ []) (
+    function "q" (parameter "x" (named "i32") ∷ []) (gives "i32")
+    (local "a" (named "i32") None ∷ []) (
     bound "_e2" (Binary (name "x") Add (name "x")) ∷
     Assign (name "a") (name "_e2") ∷
     bound "_e3" (name "a") ∷
     ReturnValue (Binary (name "_e2") Multiply (name "_e3")) ∷ []) ∷ [])
 
+abbrev pub used_twice_text : List ℕ
+used_twice_text = lines (
+    "fn q(x: i32) -> i32 {" ∷
+    "    var a: i32;" ∷
+    "" ∷
+    "    let _e2 = (x + x);" ∷
+    "    a = _e2;" ∷
+    "    let _e3 = a;" ∷
+    "    return (_e2 * _e3);" ∷
+    "}" ∷
+    "" ∷ [])
+
 abbrev pub select_call : Program
 select_call = of_functions (
-    function "sel" (parameter "c" (named "bool") ∷ parameter "a" (named "i32") ∷ parameter "b" (named "i32") ∷ []) (ResultOf [] (named "i32")) [] (
-    ReturnValue (call "select" (operands (name "b" ∷ name "a" ∷ name "c" ∷ []))) ∷ []) ∷ [])
+    function "sel" (parameter "c" (named "bool") ∷ parameter "a" (named "i32") ∷
+    parameter "b" (named "i32") ∷ []) (gives "i32") [] (
+    ReturnValue (call "select" (names ("b" ∷ "a" ∷ "c" ∷ []))) ∷ []) ∷ [])
+
+abbrev pub select_call_text : List ℕ
+select_call_text = lines (
+    "fn sel(c: bool, a: i32, b: i32) -> i32 {" ∷
+    "    return select(b, a, c);" ∷
+    "}" ∷
+    "" ∷ [])
 
 abbrev pub named_expression : Program
 named_expression = of_functions (
-    function "e" (parameter "x" (named "i32") ∷ []) (ResultOf [] (named "i32")) [] (
+    function "e" (parameter "x" (named "i32") ∷ []) (gives "i32") [] (
     bound "x_1" (Binary (name "x") Add (name "x")) ∷
     ReturnValue (name "x_1") ∷ []) ∷ [])
 
+abbrev pub named_expression_text : List ℕ
+named_expression_text = lines (
+    "fn e(x: i32) -> i32 {" ∷
+    "    let x_1 = (x + x);" ∷
+    "    return x_1;" ∷
+    "}" ∷
+    "" ∷ [])
+
 abbrev pub idle_literal : Program
 idle_literal = of_functions (
-    function "u" [] (ResultOf [] (named "i32")) [] (
+    function "u" [] (gives "i32") [] (
     ReturnValue (integer 1) ∷ []) ∷ [])
+
+abbrev pub idle_literal_text : List ℕ
+idle_literal_text = lines (
+    "fn u() -> i32 {" ∷
+    "    return 1i;" ∷
+    "}" ∷
+    "" ∷ [])
 
 abbrev pub sample_at_zero : Program
 sample_at_zero = of_functions (
-    function "sp" (parameter "t" (template "texture_2d" (named "f32" ∷ [])) ∷ parameter "s" (named "sampler") ∷ parameter "p" (template "vec2" (named "f32" ∷ [])) ∷ []) (ResultOf [] (template "vec4" (named "f32" ∷ []))) [] (
-    bound "_e3" (call "textureSampleLevel" (Argument (name "t") (Argument (name "s") (Argument (name "p") (ZeroArgument NoArguments))))) ∷
+    function "sp" (parameter "t" (template_of "texture_2d" ("f32" ∷ [])) ∷
+    parameter "s" (named "sampler") ∷ parameter "p" (template_of "vec2" ("f32" ∷ [])) ∷ [])
+    (ResultOf [] (template_of "vec4" ("f32" ∷ []))) [] (
+    bound "_e3" (call "textureSampleLevel"
+    (Argument (name "t") (Argument (name "s") (Argument (name "p") (ZeroArgument NoArguments))))) ∷
     ReturnValue (name "_e3") ∷ []) ∷ [])
+
+abbrev pub sample_at_zero_text : List ℕ
+sample_at_zero_text = lines (
+    "fn sp(t: texture_2d<f32>, s: sampler, p: vec2<f32>) -> vec4<f32> {" ∷
+    "    let _e3 = textureSampleLevel(t, s, p, 0.0);" ∷
+    "    return _e3;" ∷
+    "}" ∷
+    "" ∷ [])
 
 abbrev pub pointer : Program
 pointer = of_functions (
@@ -190,49 +368,136 @@ pointer = of_functions (
     bound "p" (AddressOf (IndexAt (name "arr") 0)) ∷
     Assign (Dereference (name "p")) (integer 2) ∷ []) ∷ [])
 
+abbrev pub pointer_text : List ℕ
+pointer_text = lines (
+    "fn h() {" ∷
+    "    var arr: array<i32, 4>;" ∷
+    "" ∷
+    "    let p = (&arr[0]);" ∷
+    "    (*p) = 2i;" ∷
+    "}" ∷
+    "" ∷ [])
+
 abbrev pub negate : Program
 negate = of_functions (
-    function "neg" (parameter "v" (template "vec3" (named "i32" ∷ [])) ∷ []) (ResultOf [] (named "i32")) [] (
+    function "neg" (parameter "v" (template_of "vec3" ("i32" ∷ [])) ∷ []) (gives "i32") [] (
     ReturnValue (member_of (Unary Negate (name "v")) "x") ∷ []) ∷ [])
+
+abbrev pub negate_text : List ℕ
+negate_text = lines (
+    "fn neg(v: vec3<i32>) -> i32 {" ∷
+    "    return (-(v)).x;" ∷
+    "}" ∷
+    "" ∷ [])
 
 abbrev pub modf_members : Program
 modf_members = of_functions (
-    function "m" (parameter "x" (named "f32") ∷ []) (ResultOf [] (named "f32")) [] (
-    bound "_e1" (call "modf" (operands (name "x" ∷ []))) ∷
-    ReturnValue (Binary (member_of (name "_e1") "fract") Add (member_of (name "_e1") "whole")) ∷ []) ∷ [])
+    function "m" (parameter "x" (named "f32") ∷ []) (gives "f32") [] (
+    bound "_e1" (call "modf" (names ("x" ∷ []))) ∷
+    ReturnValue
+    (Binary (member_of (name "_e1") "fract") Add (member_of (name "_e1") "whole")) ∷ []) ∷ [])
+
+abbrev pub modf_members_text : List ℕ
+modf_members_text = lines (
+    "fn m(x: f32) -> f32 {" ∷
+    "    let _e1 = modf(x);" ∷
+    "    return (_e1.fract + _e1.whole);" ∷
+    "}" ∷
+    "" ∷ [])
 
 abbrev pub siblings : Program
 siblings = of_functions (
-    function "k" (parameter "c" (named "bool") ∷ parameter "x" (named "i32") ∷ []) (ResultOf [] (named "i32")) [] (
+    function "k" (parameter "c" (named "bool") ∷ parameter "x" (named "i32") ∷ [])
+    (gives "i32") [] (
     If (name "c") (statements (
     bound "_e2" (Binary (name "x") Add (name "x")) ∷
     ReturnValue (name "_e2") ∷ [])) (statements (
     bound "_e2" (Binary (name "x") Add (name "x")) ∷
     ReturnValue (name "_e2") ∷ [])) ∷ []) ∷ [])
 
+abbrev pub siblings_text : List ℕ
+siblings_text = lines (
+    "fn k(c: bool, x: i32) -> i32 {" ∷
+    "    if c {" ∷
+    "        let _e2 = (x + x);" ∷
+    "        return _e2;" ∷
+    "    } else {" ∷
+    "        let _e2 = (x + x);" ∷
+    "        return _e2;" ∷
+    "    }" ∷
+    "}" ∷
+    "" ∷ [])
+
 abbrev pub named_siblings : Program
 named_siblings = of_functions (
-    function "k" (parameter "c" (named "bool") ∷ parameter "x" (named "i32") ∷ []) (ResultOf [] (named "i32")) [] (
+    function "k" (parameter "c" (named "bool") ∷ parameter "x" (named "i32") ∷ [])
+    (gives "i32") [] (
     If (name "c") (statements (
     bound "y" (Binary (name "x") Add (name "x")) ∷
     ReturnValue (name "y") ∷ [])) (statements (
     bound "y_1" (Binary (name "x") Add (name "x")) ∷
     ReturnValue (name "y_1") ∷ [])) ∷ []) ∷ [])
 
+abbrev pub named_siblings_text : List ℕ
+named_siblings_text = lines (
+    "fn k(c: bool, x: i32) -> i32 {" ∷
+    "    if c {" ∷
+    "        let y = (x + x);" ∷
+    "        return y;" ∷
+    "    } else {" ∷
+    "        let y_1 = (x + x);" ∷
+    "        return y_1;" ∷
+    "    }" ∷
+    "}" ∷
+    "" ∷ [])
+
 abbrev pub switch_joined : Program
 switch_joined = of_functions (
     function "s" (parameter "x" (named "i32") ∷ []) NoResult [] (
-    Switch (name "x") (Case (MoreLabels (SignedLabel false 1) (MoreLabels (SignedLabel false 2) (LastLabel DefaultLabel))) NoStatements NoCases) ∷ []) ∷ [])
+    Switch (name "x") (Case (MoreLabels (SignedLabel false 1)
+    (MoreLabels (SignedLabel false 2) (LastLabel DefaultLabel))) NoStatements NoCases) ∷ []) ∷ [])
+
+abbrev pub switch_joined_text : List ℕ
+switch_joined_text = lines (
+    "fn s(x: i32) {" ∷
+    "    switch x {" ∷
+    "        case 1, 2, default: {" ∷
+    "        }" ∷
+    "    }" ∷
+    "}" ∷
+    "" ∷ [])
 
 abbrev pub switch_default_first : Program
 switch_default_first = of_functions (
     function "dflt" (parameter "x" (named "i32") ∷ []) NoResult [] (
-    Switch (name "x") (Case (MoreLabels DefaultLabel (LastLabel (SignedLabel false 3))) NoStatements NoCases) ∷ []) ∷ [])
+    Switch (name "x") (Case (MoreLabels DefaultLabel (LastLabel (SignedLabel false 3))) NoStatements
+    NoCases) ∷ []) ∷ [])
+
+abbrev pub switch_default_first_text : List ℕ
+switch_default_first_text = lines (
+    "fn dflt(x: i32) {" ∷
+    "    switch x {" ∷
+    "        case default, 3: {" ∷
+    "        }" ∷
+    "    }" ∷
+    "}" ∷
+    "" ∷ [])
 
 abbrev pub loop_break_if : Program
 loop_break_if = of_functions (
     function "l" (parameter "c" (named "bool") ∷ []) NoResult [] (
     LoopBreakIf NoStatements NoStatements (name "c") ∷ []) ∷ [])
+
+abbrev pub loop_break_if_text : List ℕ
+loop_break_if_text = lines (
+    "fn l(c: bool) {" ∷
+    "    loop {" ∷
+    "        continuing {" ∷
+    "            break if c;" ∷
+    "        }" ∷
+    "    }" ∷
+    "}" ∷
+    "" ∷ [])
 
 abbrev pub loop_tail : Program
 loop_tail = of_functions (
@@ -241,6 +506,22 @@ loop_tail = of_functions (
     bound "_e2" (Binary (name "x") Add (name "x")) ∷
     Assign (name "a") (name "_e2") ∷ [])) (statements (
     Assign (name "a") (name "_e2") ∷ [])) (Constant (Truth true)) ∷ []) ∷ [])
+
+abbrev pub loop_tail_text : List ℕ
+loop_tail_text = lines (
+    "fn lp(x: i32) {" ∷
+    "    var a: i32;" ∷
+    "" ∷
+    "    loop {" ∷
+    "        let _e2 = (x + x);" ∷
+    "        a = _e2;" ∷
+    "        continuing {" ∷
+    "            a = _e2;" ∷
+    "            break if true;" ∷
+    "        }" ∷
+    "    }" ∷
+    "}" ∷
+    "" ∷ [])
 
 abbrev pub loop_folded : Program
 loop_folded = of_functions (
@@ -252,6 +533,25 @@ loop_folded = of_functions (
     Assign (name "a") (name "_e3") ∷ [])) (statements (
     Assign (name "a") (Binary (integer 1) Add (integer 1)) ∷ [])) (name "c") ∷ []) ∷ [])
 
+abbrev pub loop_folded_text : List ℕ
+loop_folded_text = lines (
+    "fn cf(c: bool) {" ∷
+    "    var a: i32;" ∷
+    "" ∷
+    "    loop {" ∷
+    "        if c {" ∷
+    "            continue;" ∷
+    "        }" ∷
+    "        let _e3 = (1i + 1i);" ∷
+    "        a = _e3;" ∷
+    "        continuing {" ∷
+    "            a = (1i + 1i);" ∷
+    "            break if c;" ∷
+    "        }" ∷
+    "    }" ∷
+    "}" ∷
+    "" ∷ [])
+
 abbrev pub barriers : Program
 barriers = of_functions (
     function "b" [] NoResult [] (
@@ -260,20 +560,54 @@ barriers = of_functions (
     CallStatement (named "subgroupBarrier") NoArguments ∷
     CallStatement (named "textureBarrier") NoArguments ∷ []) ∷ [])
 
+abbrev pub barriers_text : List ℕ
+barriers_text = lines (
+    "fn b() {" ∷
+    "    storageBarrier();" ∷
+    "    workgroupBarrier();" ∷
+    "    subgroupBarrier();" ∷
+    "    textureBarrier();" ∷
+    "}" ∷
+    "" ∷ [])
+
 abbrev pub call_of_function : Program
 call_of_function = of_functions (
-    function "inc" (parameter "p" (template "ptr" (named "function" ∷ named "i32" ∷ [])) ∷ []) NoResult [] (
+    function "inc" (parameter "p" (template_of "ptr" ("function" ∷ "i32" ∷ [])) ∷ []) NoResult [] (
     bound "_e2" (Dereference (name "p")) ∷
     Assign (Dereference (name "p")) (Binary (name "_e2") Add (integer 1)) ∷ []) ∷
-    function "run" [] (ResultOf [] (named "i32")) (local "a" (named "i32") None ∷ []) (
+    function "run" [] (gives "i32") (local "a" (named "i32") None ∷ []) (
     CallStatement (named "inc") (operands (AddressOf (name "a") ∷ [])) ∷
     bound "_e1" (name "a") ∷
     ReturnValue (name "_e1") ∷ []) ∷ [])
 
+abbrev pub call_of_function_text : List ℕ
+call_of_function_text = lines (
+    "fn inc(p: ptr<function, i32>) {" ∷
+    "    let _e2 = (*p);" ∷
+    "    (*p) = (_e2 + 1i);" ∷
+    "}" ∷
+    "" ∷
+    "fn run() -> i32 {" ∷
+    "    var a: i32;" ∷
+    "" ∷
+    "    inc((&a));" ∷
+    "    let _e1 = a;" ∷
+    "    return _e1;" ∷
+    "}" ∷
+    "" ∷ [])
+
 abbrev pub compute : Program
 compute = record no_declarations {
-  entry_points = entry_point (Plain Compute ∷ WorkgroupSize 64 1 1 ∷ []) (function "main" [] NoResult [] []) ∷ [];
+  entry_points =
+      entry_point (Plain Compute ∷ WorkgroupSize 64 1 1 ∷ [])
+      (function "main" [] NoResult [] []) ∷ [];
 }
+
+abbrev pub compute_text : List ℕ
+compute_text = lines (
+    "@compute @workgroup_size(64, 1, 1) " ∷
+    "fn main() {" ∷
+    "}" ∷ [])
 
 abbrev pub struct_names : Program
 struct_names = record no_declarations {
@@ -283,57 +617,127 @@ struct_names = record no_declarations {
       member [] "fn_" (named "i32") ∷ []) ∷ [];
 }
 
+abbrev pub struct_names_text : List ℕ
+struct_names_text = lines (
+    "struct S {" ∷
+    "    fract: i32," ∷
+    "    fn_: i32," ∷
+    "}" ∷
+    "" ∷ [])
+
 abbrev pub override_with_id : Program
 override_with_id = record no_declarations {
   overrides = override (Numbered Id 3 ∷ []) "override_type" (named "u32") None ∷ [];
 }
 
+abbrev pub override_with_id_text : List ℕ
+override_with_id_text = lines (
+    "@id(3) override override_type: u32;" ∷
+    "" ∷ [])
+
 abbrev pub global_buffer : Program
 global_buffer = record no_declarations {
-  globals = global (Numbered Group 0 ∷ Numbered Binding 1 ∷ []) (space_and_access "storage" "read_write") "buf" (template "array" (named "u32" ∷ [])) None ∷ [];
+  globals =
+      global (Numbered Group 0 ∷ Numbered Binding 1 ∷ []) (space_and_access "storage" "read_write")
+      "buf" (template_of "array" ("u32" ∷ [])) None ∷ [];
 }
+
+abbrev pub global_buffer_text : List ℕ
+global_buffer_text = lines (
+    "@group(0) @binding(1) " ∷
+    "var<storage, read_write> buf: array<u32>;" ∷
+    "" ∷ [])
 
 abbrev pub vertex_output : Program
 vertex_output = record no_declarations {
   structs =
       struct "VertexOutput" (
-      member (worded Builtin "position" ∷ []) "pos" (template "vec4" (named "f32" ∷ [])) ∷ []) ∷ [];
+      member (worded Builtin "position" ∷ []) "pos" (template_of "vec4" ("f32" ∷ [])) ∷ []) ∷ [];
   entry_points =
-      entry_point (Plain Vertex ∷ []) (function "main" [] (ResultOf [] (named "VertexOutput")) [] (
+      entry_point (Plain Vertex ∷ []) (function "main" [] (gives "VertexOutput") [] (
       ReturnValue (call "VertexOutput" NoArguments) ∷ [])) ∷ [];
 }
+
+abbrev pub vertex_output_text : List ℕ
+vertex_output_text = lines (
+    "struct VertexOutput {" ∷
+    "    @builtin(position) pos: vec4<f32>," ∷
+    "}" ∷
+    "" ∷
+    "@vertex " ∷
+    "fn main() -> VertexOutput {" ∷
+    "    return VertexOutput();" ∷
+    "}" ∷ [])
 
 abbrev pub enable_f16 : Program
 enable_f16 = record no_declarations {
   enables = codes "f16" ∷ [];
 }
 
+abbrev pub enable_f16_text : List ℕ
+enable_f16_text = lines (
+    "enable f16;" ∷
+    "" ∷ [])
+
 abbrev pub named_constant : Program
 named_constant = record no_declarations {
   constants = constant "N" (named "i32") (integer 7) ∷ [];
 }
 
+abbrev pub named_constant_text : List ℕ
+named_constant_text = lines (
+    "const N: i32 = 7i;" ∷
+    "" ∷ [])
+
 abbrev pub flat_input : Program
 flat_input = record no_declarations {
-  entry_points = entry_point (Plain Fragment ∷ []) (function "main" (bound_parameter (Numbered Location 0 ∷ worded Interpolate "flat" ∷ []) "i" (named "u32") ∷ []) NoResult [] []) ∷ [];
+  entry_points =
+      entry_point (Plain Fragment ∷ [])
+      (function "main" (bound_parameter (Numbered Location 0 ∷ worded Interpolate "flat" ∷ []) "i"
+      (named "u32") ∷ []) NoResult [] []) ∷ [];
 }
+
+abbrev pub flat_input_text : List ℕ
+flat_input_text = lines (
+    "@fragment " ∷
+    "fn main(@location(0) @interpolate(flat) i: u32) {" ∷
+    "}" ∷ [])
 
 abbrev pub atomic_add : Program
 atomic_add = record no_declarations {
-  globals = global [] (space "workgroup") "c" (template "atomic" (named "u32" ∷ [])) None ∷ [];
+  globals = global [] (space "workgroup") "c" (template_of "atomic" ("u32" ∷ [])) None ∷ [];
   entry_points =
       entry_point (Plain Compute ∷ WorkgroupSize 1 1 1 ∷ []) (function "main" [] NoResult [] (
-      bound "_e2" (call "atomicAdd" (operands (AddressOf (name "c") ∷ unsigned 1 ∷ []))) ∷ [])) ∷ [];
+      bound "_e2"
+      (call "atomicAdd" (operands (AddressOf (name "c") ∷ unsigned 1 ∷ []))) ∷ [])) ∷ [];
 }
+
+abbrev pub atomic_add_text : List ℕ
+atomic_add_text = lines (
+    "var<workgroup> c: atomic<u32>;" ∷
+    "" ∷
+    "@compute @workgroup_size(1, 1, 1) " ∷
+    "fn main() {" ∷
+    "    let _e2 = atomicAdd((&c), 1u);" ∷
+    "}" ∷ [])
 
 abbrev pub natural_offsets : Program
 natural_offsets = record no_declarations {
   structs =
       struct "P" (
       member [] "a" (named "f32") ∷
-      member [] "b" (template "vec3" (named "f32" ∷ [])) ∷
+      member [] "b" (template_of "vec3" ("f32" ∷ [])) ∷
       member [] "c" (named "f32") ∷ []) ∷ [];
 }
+
+abbrev pub natural_offsets_text : List ℕ
+natural_offsets_text = lines (
+    "struct P {" ∷
+    "    a: f32," ∷
+    "    b: vec3<f32>," ∷
+    "    c: f32," ∷
+    "}" ∷
+    "" ∷ [])
 
 abbrev pub gap_by_size : Program
 gap_by_size = record no_declarations {
@@ -342,6 +746,14 @@ gap_by_size = record no_declarations {
       member (Numbered Size 16 ∷ []) "a" (named "u32") ∷
       member [] "b" (named "u32") ∷ []) ∷ [];
 }
+
+abbrev pub gap_by_size_text : List ℕ
+gap_by_size_text = lines (
+    "struct Q {" ∷
+    "    @size(16) a: u32," ∷
+    "    b: u32," ∷
+    "}" ∷
+    "" ∷ [])
 
 abbrev pub stride_by_size : Program
 stride_by_size = record no_declarations {
@@ -352,56 +764,56 @@ stride_by_size = record no_declarations {
       member [] "v" (sized "array" (named "I") 2) ∷ []) ∷ [];
 }
 
+abbrev pub stride_by_size_text : List ℕ
+stride_by_size_text = lines (
+    "struct I {" ∷
+    "    @size(16) a: u32," ∷
+    "}" ∷
+    "" ∷
+    "struct O {" ∷
+    "    v: array<I, 2>," ∷
+    "}" ∷
+    "" ∷ [])
+
 -- each program has its text
 pub record WorkedPrograms : Type 0 where
   pub empty : IsText no_declarations []
-  pub identity : IsText identity (codes "fn f(x: i32) -> i32 {\n    return x;\n}\n\n")
-  pub negative : IsText negative (codes "fn r(b: bool) -> i64 {\n    return -7li;\n}\n\n")
-  pub same_labels : IsText same_labels (codes "fn f(x: i32, x_1: i32) -> i32 {\n    return x_1;\n}\n\n")
-  pub type_label : IsText type_label (codes "fn type_1(x: i32) -> i32 {\n    return x;\n}\n\n")
-  pub hostile_labels : IsText hostile_labels (codes "fn gen__naga(u00e9_: i32) -> i32 {\n    return u00e9_;\n}\n\n")
-  pub store : IsText store (codes "fn g() -> i32 {\n    var a: i32 = 1i;\n\n    let _e2 = a;\n    a = 2i;\n    return _e2;\n}\n\n")
-  pub store_explicit : IsText store_explicit (codes "fn g() -> i32 {\n    var a: i32 = 1i;\n\n    let _e2: i32 = a;\n    a = 2i;\n    return _e2;\n}\n\n")
-  pub unused_read : IsText unused_read (codes "fn g() -> i32 {\n    var a: i32 = 1i;\n\n    a = 2i;\n    return 2i;\n}\n\n")
-  pub late_use : IsText late_use (codes "fn p() -> i32 {\n    var a: i32 = 1i;\n\n    let _e2 = a;\n    a = 2i;\n    return (_e2 + 1i);\n}\n\n")
-  pub inlined : IsText inlined (codes "fn q(x: i32) -> i32 {\n    var a: i32;\n\n    a = (x + x);\n    let _e3 = a;\n    return _e3;\n}\n\n")
-  pub used_twice : IsText used_twice (codes "fn q(x: i32) -> i32 {\n    var a: i32;\n\n    let _e2 = (x + x);\n    a = _e2;\n    let _e3 = a;\n    return (_e2 * _e3);\n}\n\n")
-  pub select_call : IsText select_call (codes "fn sel(c: bool, a: i32, b: i32) -> i32 {\n    return select(b, a, c);\n}\n\n")
-  pub named_expression : IsText named_expression (codes "fn e(x: i32) -> i32 {\n    let x_1 = (x + x);\n    return x_1;\n}\n\n")
-  pub idle_literal : IsText idle_literal (codes "fn u() -> i32 {\n    return 1i;\n}\n\n")
-  pub sample_at_zero : IsText sample_at_zero (codes "fn sp(t: texture_2d<f32>, s: sampler, p: vec2<f32>) -> vec4<f32> {\n    let _e3 = textureSampleLevel(t, s, p, 0.0);\n    return _e3;\n}\n\n")
-  pub pointer : IsText pointer (codes "fn h() {\n    var arr: array<i32, 4>;\n\n    let p = (&arr[0]);\n    (*p) = 2i;\n}\n\n")
-  pub negate : IsText negate (codes "fn neg(v: vec3<i32>) -> i32 {\n    return (-(v)).x;\n}\n\n")
-  pub modf_members : IsText modf_members (codes "fn m(x: f32) -> f32 {\n    let _e1 = modf(x);\n    return (_e1.fract + _e1.whole);\n}\n\n")
-  pub siblings : IsText siblings (
-      codes "fn k(c: bool, x: i32) -> i32 {\n    if c {\n        let _e2 = (x + x);\n        return _e2;\n    } else {\n" ++
-      codes "        let _e2 = (x + x);\n        return _e2;\n    }\n}\n\n")
-  pub named_siblings : IsText named_siblings (
-      codes "fn k(c: bool, x: i32) -> i32 {\n    if c {\n        let y = (x + x);\n        return y;\n    } else {\n" ++
-      codes "        let y_1 = (x + x);\n        return y_1;\n    }\n}\n\n")
-  pub switch_joined : IsText switch_joined (codes "fn s(x: i32) {\n    switch x {\n        case 1, 2, default: {\n        }\n    }\n}\n\n")
-  pub switch_default_first : IsText switch_default_first (codes "fn dflt(x: i32) {\n    switch x {\n        case default, 3: {\n        }\n    }\n}\n\n")
-  pub loop_break_if : IsText loop_break_if (codes "fn l(c: bool) {\n    loop {\n        continuing {\n            break if c;\n        }\n    }\n}\n\n")
-  pub loop_tail : IsText loop_tail (
-      codes "fn lp(x: i32) {\n    var a: i32;\n\n    loop {\n        let _e2 = (x + x);\n        a = _e2;\n        continuing {\n" ++
-      codes "            a = _e2;\n            break if true;\n        }\n    }\n}\n\n")
-  pub loop_folded : IsText loop_folded (
-      codes "fn cf(c: bool) {\n    var a: i32;\n\n    loop {\n        if c {\n            continue;\n        }\n" ++ (
-      codes "        let _e3 = (1i + 1i);\n        a = _e3;\n        continuing {\n            a = (1i + 1i);\n" ++
-      codes "            break if c;\n        }\n    }\n}\n\n"))
-  pub barriers : IsText barriers (codes "fn b() {\n    storageBarrier();\n    workgroupBarrier();\n    subgroupBarrier();\n    textureBarrier();\n}\n\n")
-  pub call_of_function : IsText call_of_function (
-      codes "fn inc(p: ptr<function, i32>) {\n    let _e2 = (*p);\n    (*p) = (_e2 + 1i);\n}\n\nfn run() -> i32 {\n" ++
-      codes "    var a: i32;\n\n    inc((&a));\n    let _e1 = a;\n    return _e1;\n}\n\n")
-  pub compute : IsText compute (codes "@compute @workgroup_size(64, 1, 1) \nfn main() {\n}\n")
-  pub struct_names : IsText struct_names (codes "struct S {\n    fract: i32,\n    fn_: i32,\n}\n\n")
-  pub override_with_id : IsText override_with_id (codes "@id(3) override override_type: u32;\n\n")
-  pub global_buffer : IsText global_buffer (codes "@group(0) @binding(1) \nvar<storage, read_write> buf: array<u32>;\n\n")
-  pub vertex_output : IsText vertex_output (codes "struct VertexOutput {\n    @builtin(position) pos: vec4<f32>,\n}\n\n@vertex \nfn main() -> VertexOutput {\n    return VertexOutput();\n}\n")
-  pub enable_f16 : IsText enable_f16 (codes "enable f16;\n\n")
-  pub named_constant : IsText named_constant (codes "const N: i32 = 7i;\n\n")
-  pub flat_input : IsText flat_input (codes "@fragment \nfn main(@location(0) @interpolate(flat) i: u32) {\n}\n")
-  pub atomic_add : IsText atomic_add (codes "var<workgroup> c: atomic<u32>;\n\n@compute @workgroup_size(1, 1, 1) \nfn main() {\n    let _e2 = atomicAdd((&c), 1u);\n}\n")
-  pub natural_offsets : IsText natural_offsets (codes "struct P {\n    a: f32,\n    b: vec3<f32>,\n    c: f32,\n}\n\n")
-  pub gap_by_size : IsText gap_by_size (codes "struct Q {\n    @size(16) a: u32,\n    b: u32,\n}\n\n")
-  pub stride_by_size : IsText stride_by_size (codes "struct I {\n    @size(16) a: u32,\n}\n\nstruct O {\n    v: array<I, 2>,\n}\n\n")
+  pub identity : IsText identity identity_text
+  pub negative : IsText negative negative_text
+  pub same_labels : IsText same_labels same_labels_text
+  pub type_label : IsText type_label type_label_text
+  pub hostile_labels : IsText hostile_labels hostile_labels_text
+  pub store : IsText store store_text
+  pub store_explicit : IsText store_explicit store_explicit_text
+  pub unused_read : IsText unused_read unused_read_text
+  pub late_use : IsText late_use late_use_text
+  pub inlined : IsText inlined inlined_text
+  pub used_twice : IsText used_twice used_twice_text
+  pub select_call : IsText select_call select_call_text
+  pub named_expression : IsText named_expression named_expression_text
+  pub idle_literal : IsText idle_literal idle_literal_text
+  pub sample_at_zero : IsText sample_at_zero sample_at_zero_text
+  pub pointer : IsText pointer pointer_text
+  pub negate : IsText negate negate_text
+  pub modf_members : IsText modf_members modf_members_text
+  pub siblings : IsText siblings siblings_text
+  pub named_siblings : IsText named_siblings named_siblings_text
+  pub switch_joined : IsText switch_joined switch_joined_text
+  pub switch_default_first : IsText switch_default_first switch_default_first_text
+  pub loop_break_if : IsText loop_break_if loop_break_if_text
+  pub loop_tail : IsText loop_tail loop_tail_text
+  pub loop_folded : IsText loop_folded loop_folded_text
+  pub barriers : IsText barriers barriers_text
+  pub call_of_function : IsText call_of_function call_of_function_text
+  pub compute : IsText compute compute_text
+  pub struct_names : IsText struct_names struct_names_text
+  pub override_with_id : IsText override_with_id override_with_id_text
+  pub global_buffer : IsText global_buffer global_buffer_text
+  pub vertex_output : IsText vertex_output vertex_output_text
+  pub enable_f16 : IsText enable_f16 enable_f16_text
+  pub named_constant : IsText named_constant named_constant_text
+  pub flat_input : IsText flat_input flat_input_text
+  pub atomic_add : IsText atomic_add atomic_add_text
+  pub natural_offsets : IsText natural_offsets natural_offsets_text
+  pub gap_by_size : IsText gap_by_size gap_by_size_text
+  pub stride_by_size : IsText stride_by_size stride_by_size_text

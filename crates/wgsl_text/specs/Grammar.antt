@@ -1,10 +1,20 @@
 -- Which types and expressions the grammar has.
-use Rattle.std.specs.Prelude.{ℕ, ◌<◌, ◌≤◌, ◌^◌, Bool, true, false, not, ◌&&◌, ◌||◌, if◌then◌else◌, List, [], ◌∷◌, ◌++◌, ⊤, codes, nat_lt, IsTrue}
+use Rattle.std.specs.Prelude.{ℕ, ◌<◌, ◌≤◌, ◌^◌, Bool, true, false, not, ◌&&◌, ◌||◌, if◌then◌else◌}
+use Rattle.std.specs.Prelude.{List, [], ◌∷◌, ◌++◌, ⊤, codes, nat_lt, IsTrue}
 use Rattle.std.specs.Str.{bytes_eq}
 use Rattle.wgsl_text.specs.Token.{Suffix, SuffixI, SuffixU, SuffixLi, SuffixLu}
 use Rattle.wgsl_text.specs.Words.{stands_in, is_builtin, IsWord, IsIdentifier}
-use Rattle.wgsl_text.specs.Tables.{scalar_words, sampled_words, vector_words, matrix_words, sampled_image_words, depth_image_words, storage_image_words, cooperative_matrix_words, sampler_words, ray_words, address_space_words, access_words, format_words, role_words, atomic_words, array_words, pointer_words, type_taking_words, gather_words, level_words}
-use Rattle.wgsl_text.specs.Tree.{Literal, Truth, Suffixed, SignedShort, UnsignedShort, LeastInteger, LeastLong, TypeSpecifier, Named, Template, TypeParts, NoParts, TypePart, SizePart, Expression, Constant, Name, Binary, Unary, Call, Member, Index, IndexAt, AddressOf, Dereference, Arguments, NoArguments, Argument, NumberArgument, ZeroArgument}
+use Rattle.wgsl_text.specs.Tables.{scalar_words, sampled_words, vector_words, matrix_words}
+use Rattle.wgsl_text.specs.Tables.{sampled_image_words, depth_image_words, storage_image_words}
+use Rattle.wgsl_text.specs.Tables.{cooperative_matrix_words, sampler_words, ray_words}
+use Rattle.wgsl_text.specs.Tables.{address_space_words, access_words, format_words, role_words}
+use Rattle.wgsl_text.specs.Tables.{atomic_words, array_words, pointer_words, type_taking_words}
+use Rattle.wgsl_text.specs.Tables.{gather_words, level_words}
+use Rattle.wgsl_text.specs.Tree.{Literal, Truth, Suffixed, SignedShort, UnsignedShort, LeastInteger}
+use Rattle.wgsl_text.specs.Tree.{LeastLong, TypeSpecifier, Named, Template, TypeParts, NoParts}
+use Rattle.wgsl_text.specs.Tree.{TypePart, SizePart, Expression, Constant, Name, Binary, Unary}
+use Rattle.wgsl_text.specs.Tree.{Call, Member, Index, IndexAt, AddressOf, Dereference, Arguments}
+use Rattle.wgsl_text.specs.Tree.{NoArguments, Argument, NumberArgument, ZeroArgument}
 
 -- a size, an index, or a number of an attribute
 abbrev pub IsPlainNumber : ℕ → Type 0
@@ -42,7 +52,8 @@ is_type (Template w parts) = true
 
 -- what parts a word takes
 pub data PartsRule : Type 0 where
-  TakesNone TakesScalar TakesSampled TakesElements TakesPointee TakesFormat TakesVertexReturn TakesRole TakesType : PartsRule
+  TakesNone TakesScalar TakesSampled TakesElements TakesPointee : PartsRule
+  TakesFormat TakesVertexReturn TakesRole TakesType : PartsRule
 
 abbrev pub rule_among : List (List (List ℕ) × PartsRule) → List ℕ → PartsRule
 rule_among [] w = TakesNone
@@ -51,8 +62,14 @@ rule_among (row ∷ rows) w = if stands_in row.0 w then row.1 else rule_among ro
 -- the words of types with parts
 abbrev pub type_templates : List (List (List ℕ) × PartsRule)
 type_templates =
-    (vector_words, TakesScalar) ∷ (matrix_words, TakesScalar) ∷ (atomic_words, TakesScalar) ∷ (sampled_image_words, TakesSampled) ∷
-    (array_words, TakesElements) ∷ (pointer_words, TakesPointee) ∷ (storage_image_words, TakesFormat) ∷ (ray_words, TakesVertexReturn) ∷
+    (vector_words, TakesScalar) ∷
+    (matrix_words, TakesScalar) ∷
+    (atomic_words, TakesScalar) ∷
+    (sampled_image_words, TakesSampled) ∷
+    (array_words, TakesElements) ∷
+    (pointer_words, TakesPointee) ∷
+    (storage_image_words, TakesFormat) ∷
+    (ray_words, TakesVertexReturn) ∷
     (cooperative_matrix_words, TakesRole) ∷ []
 
 -- the words of calls with parts: these, and types
@@ -68,11 +85,15 @@ fits TakesElements (TypePart t NoParts) = is_type t
 fits TakesElements (TypePart t (SizePart n NoParts)) = is_type t
 fits TakesElements (TypePart t (TypePart (Named w) NoParts)) = is_type t && not (is_builtin w)
 -- an address space and a type, and in the space `storage` perhaps an access mode
-fits TakesPointee (TypePart (Named a) (TypePart t NoParts)) = stands_in address_space_words a && is_type t
-fits TakesPointee (TypePart (Named a) (TypePart t (TypePart (Named m) NoParts))) = bytes_eq (codes "storage") a && (is_type t && stands_in access_words m)
-fits TakesFormat (TypePart (Named f) (TypePart (Named m) NoParts)) = stands_in format_words f && stands_in access_words m
+fits TakesPointee (TypePart (Named a) (TypePart t NoParts)) =
+    stands_in address_space_words a && is_type t
+fits TakesPointee (TypePart (Named a) (TypePart t (TypePart (Named m) NoParts))) =
+    bytes_eq (codes "storage") a && (is_type t && stands_in access_words m)
+fits TakesFormat (TypePart (Named f) (TypePart (Named m) NoParts)) =
+    stands_in format_words f && stands_in access_words m
 fits TakesVertexReturn (TypePart (Named v) NoParts) = bytes_eq (codes "vertex_return") v
-fits TakesRole (TypePart (Named s) (TypePart (Named r) NoParts)) = stands_in scalar_words s && stands_in role_words r
+fits TakesRole (TypePart (Named s) (TypePart (Named r) NoParts)) =
+    stands_in scalar_words s && stands_in role_words r
 fits TakesType (TypePart t NoParts) = is_type t
 fits _ _ = false
 
@@ -91,7 +112,8 @@ pub record IsType (t : TypeSpecifier) : Type 0 where
   pub part : IsPart t
   pub whole : IsTrue (is_type t)
 
--- what stands before the parenthesis of a call: a function's name, a word outside the reserved ones, or a type
+-- what stands before the parenthesis of a call: a function's name, a word outside the reserved
+-- ones, or a type
 abbrev pub IsCallee : TypeSpecifier → Type 0
 IsCallee (Named w) = IsWord w
 IsCallee (Template w parts) = IsTrue (fits (rule_among call_templates w) parts) × IsParts parts
@@ -115,8 +137,10 @@ have_a_level _ = false
 
 -- A plain number is the component of a gather, and `0.0` the level of a sampling, and nothing else.
 abbrev pub may_take : TypeSpecifier → Arguments → Bool
-may_take (Named w) (NumberArgument n more) = stands_in gather_words w && (nat_lt n 4 && are_expressions more)
-may_take (Named w) arguments = are_expressions arguments || (stands_in level_words w && have_a_level arguments)
+may_take (Named w) (NumberArgument n more) =
+    stands_in gather_words w && (nat_lt n 4 && are_expressions more)
+may_take (Named w) arguments =
+    are_expressions arguments || (stands_in level_words w && have_a_level arguments)
 may_take (Template w parts) arguments = are_expressions arguments
 
 abbrev pub IsSome : Arguments → Type 0

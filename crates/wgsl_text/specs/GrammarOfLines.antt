@@ -1,11 +1,25 @@
 -- Which statements and declarations the grammar has.
-use Rattle.std.specs.Prelude.{ℕ, ◌<◌, ◌^◌, Bool, true, false, ◌&&◌, List, [], ◌∷◌, ⊤, codes, IsTrue, Option, None, Some}
+use Rattle.std.specs.Prelude.{ℕ, ◌<◌, ◌^◌, Bool, true, false, ◌&&◌, List, [], ◌∷◌, ⊤, codes, IsTrue}
+use Rattle.std.specs.Prelude.{Option, None, Some}
 use Rattle.std.specs.Str.{bytes_eq}
 use Rattle.wgsl_text.specs.Words.{stands_in, IsWord, IsIdentifier}
-use Rattle.wgsl_text.specs.Tables.{address_space_words, access_words, builtin_value_words, interpolation_words, sampling_words, enable_words}
-use Rattle.wgsl_text.specs.Tree.{Expression, Name, Member, Index, IndexAt, Dereference, Label, DefaultLabel, SignedLabel, UnsignedLabel, Labels, LastLabel, MoreLabels, Statement, Let, TypedLet, Assign, CallStatement, ReturnValue, If, Loop, LoopBreakIf, Switch, Block, Statements, NoStatements, Then, Cases, NoCases, Case}
-use Rattle.wgsl_text.specs.Tree.{Invariant, PerPrimitive, Coherent, Volatile, Vertex, Fragment, Compute, Task, RayGeneration, AnyHit, ClosestHit, Miss, Location, BlendSource, Id, Group, Binding, Size, Align, Builtin, Interpolate, Mesh, Payload, IncomingPayload, Attribute, Plain, Numbered, Worded, Interpolated, WorkgroupSize, Parameter, Result, NoResult, ResultOf, Local, Function, EntryPoint, StructMember, Struct, NamedConstant, Override, Space, NoSpace, SpaceAlone, SpaceAndAccess, Global, Program}
-use Rattle.wgsl_text.specs.Grammar.{IsPlainNumber, IsSigned, IsType, IsCallee, may_take, IsExpression, IsArguments}
+use Rattle.wgsl_text.specs.Tables.{address_space_words, access_words, builtin_value_words}
+use Rattle.wgsl_text.specs.Tables.{interpolation_words, sampling_words, enable_words}
+use Rattle.wgsl_text.specs.Tree.{Expression, Name, Member, Index, IndexAt, Dereference, Label}
+use Rattle.wgsl_text.specs.Tree.{DefaultLabel, SignedLabel, UnsignedLabel, Labels, LastLabel}
+use Rattle.wgsl_text.specs.Tree.{MoreLabels, Statement, Let, TypedLet, Assign, CallStatement}
+use Rattle.wgsl_text.specs.Tree.{ReturnValue, If, Loop, LoopBreakIf, Switch, Block, Statements}
+use Rattle.wgsl_text.specs.Tree.{NoStatements, Then, Cases, NoCases, Case, Invariant, PerPrimitive}
+use Rattle.wgsl_text.specs.Tree.{Coherent, Volatile, Vertex, Fragment, Compute, Task, RayGeneration}
+use Rattle.wgsl_text.specs.Tree.{AnyHit, ClosestHit, Miss, Location, BlendSource, Id, Group}
+use Rattle.wgsl_text.specs.Tree.{Binding, Size, Align, Builtin, Interpolate, Mesh, Payload}
+use Rattle.wgsl_text.specs.Tree.{IncomingPayload, Attribute, Plain, Numbered, Worded, Interpolated}
+use Rattle.wgsl_text.specs.Tree.{WorkgroupSize, Parameter, Result, NoResult, ResultOf, Local}
+use Rattle.wgsl_text.specs.Tree.{Function, EntryPoint, StructMember, Struct, NamedConstant}
+use Rattle.wgsl_text.specs.Tree.{Override, Space, NoSpace, SpaceAlone, SpaceAndAccess, Global}
+use Rattle.wgsl_text.specs.Tree.{Program}
+use Rattle.wgsl_text.specs.Grammar.{IsPlainNumber, IsSigned, IsType, IsCallee, may_take}
+use Rattle.wgsl_text.specs.Grammar.{IsExpression, IsArguments}
 
 -- what may stand on the left of an assignment
 abbrev pub is_reference : Expression → Bool
@@ -59,7 +73,8 @@ IsAttribute (Numbered a n) = IsPlainNumber n
 IsAttribute (Worded Builtin w) = IsTrue (stands_in builtin_value_words w)
 IsAttribute (Worded Interpolate w) = IsTrue (stands_in interpolation_words w)
 IsAttribute (Worded _ w) = IsIdentifier w
-IsAttribute (Interpolated i s) = IsTrue (stands_in interpolation_words i) × IsTrue (stands_in sampling_words s)
+IsAttribute (Interpolated i s) =
+    IsTrue (stands_in interpolation_words i) × IsTrue (stands_in sampling_words s)
 IsAttribute (WorkgroupSize x y z) = IsPlainNumber x × IsPlainNumber y × IsPlainNumber z
 
 abbrev pub IsAttributes : List Attribute → Type 0
@@ -89,7 +104,8 @@ is_io_binding (Worded Builtin w ∷ Plain Invariant ∷ []) = bytes_eq (codes "p
 is_io_binding (Numbered Location n ∷ more) = behind_location more
 is_io_binding _ = false
 
--- what may stand on a member: a size, an alignment and a binding, each if it is there, in this order
+-- what may stand on a member: a size, an alignment and a binding, each if it is there, in this
+-- order
 abbrev pub behind_size : List Attribute → Bool
 behind_size (Numbered Align n ∷ more) = is_io_binding more
 behind_size more = is_io_binding more
@@ -141,7 +157,8 @@ pub record IsParameter (p : Parameter) : Type 0 where
 
 abbrev pub IsResult : Result → Type 0
 IsResult NoResult = ⊤
-IsResult (ResultOf attributes t) = IsAttributes attributes × IsTrue (is_io_binding attributes) × IsType t
+IsResult (ResultOf attributes t) =
+    IsAttributes attributes × IsTrue (is_io_binding attributes) × IsType t
 
 pub record IsLocal (l : Local) : Type 0 where
   pub name : IsIdentifier l.name

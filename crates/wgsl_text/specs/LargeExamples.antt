@@ -1,6 +1,8 @@
 -- Worked programs that are too large to be written out: their texts by recursion.
 use Rattle.std.specs.Prelude.{◌≡◌, ℕ, zero, suc, ◌*◌, List, [], ◌∷◌, ◌++◌, codes, length, replicate}
-use Rattle.wgsl_text.specs.Tree.{Add, Template, NoParts, TypePart, Expression, Binary, Index, ReturnValue, Block, Statements, NoStatements, Then, NoResult, ResultOf, Program}
+use Rattle.wgsl_text.specs.Tree.{Add, Template, NoParts, TypePart, Expression, Binary, Index}
+use Rattle.wgsl_text.specs.Tree.{ReturnValue, Block, Statements, NoStatements, Then, NoResult}
+use Rattle.wgsl_text.specs.Tree.{ResultOf, Program}
 use Rattle.wgsl_text.specs.Examples.{IsText, named, name, parameter, function, of_functions}
 
 -- blocks, each inside the one before
@@ -9,12 +11,21 @@ nested zero = NoStatements
 nested (suc n) = Then (Block (nested n)) NoStatements
 
 abbrev pub deep : Program
-deep = of_functions (record { name = codes "deep"; parameters = []; result = NoResult; locals = []; body = nested 32 } ∷ [])
+deep =
+    of_functions (record {
+      name = codes "deep";
+      parameters = [];
+      result = NoResult;
+      locals = [];
+      body = nested 32;
+    } ∷ [])
 
 -- their lines, from a level on
 abbrev pub nested_text : ℕ → ℕ → List ℕ
 nested_text zero level = []
-nested_text (suc n) level = replicate (4 * level) 32 ++ (codes "{\n" ++ (nested_text n (suc level) ++ (replicate (4 * level) 32 ++ codes "}\n")))
+nested_text (suc n) level =
+    replicate (4 * level) 32 ++ (codes "{\n" ++ (nested_text n (suc level) ++
+    (replicate (4 * level) 32 ++ codes "}\n")))
 
 abbrev pub deep_text : List ℕ
 deep_text = codes "fn deep() {\n" ++ (nested_text 32 1 ++ codes "}\n\n")
@@ -26,15 +37,19 @@ doubled (suc n) = Index (name "t") (Binary (doubled n) Add (doubled n))
 
 abbrev pub double : Program
 double = of_functions (
-    function "d" (parameter "t" (Template (codes "vec4") (TypePart (named "i32") NoParts)) ∷ parameter "x" (named "i32") ∷ []) (ResultOf [] (named "i32")) [] (
+    function "d" (parameter "t" (Template (codes "vec4") (TypePart (named "i32") NoParts)) ∷
+    parameter "x" (named "i32") ∷ []) (ResultOf [] (named "i32")) [] (
     ReturnValue (doubled 12) ∷ []) ∷ [])
 
 abbrev pub doubled_text : ℕ → List ℕ
 doubled_text zero = codes "t[x]"
-doubled_text (suc n) = codes "t[(" ++ (doubled_text n ++ (codes " + " ++ (doubled_text n ++ codes ")]")))
+doubled_text (suc n) =
+    codes "t[(" ++ (doubled_text n ++ (codes " + " ++ (doubled_text n ++ codes ")]")))
 
 abbrev pub double_text : List ℕ
-double_text = codes "fn d(t: vec4<i32>, x: i32) -> i32 {\n    return " ++ (doubled_text 12 ++ codes ";\n}\n\n")
+double_text =
+    codes "fn d(t: vec4<i32>, x: i32) -> i32 {\n    return " ++ (doubled_text 12 ++
+    codes ";\n}\n\n")
 
 pub record LargePrograms : Type 0 where
   pub deep : IsText deep deep_text

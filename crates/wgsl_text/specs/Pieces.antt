@@ -1,10 +1,23 @@
--- The grammar of types and expressions, a clause for each row: the tokens of a tree, with the blanks between them.
+-- The grammar of types and expressions, a clause for each row: the tokens of a tree, with the
+-- blanks between them.
 use Rattle.std.specs.Prelude.{ℕ, Bool, true, false, not, ◌||◌, List, [], ◌∷◌, ◌++◌, codes}
-use Rattle.wgsl_text.specs.Token.{Mark, OpenParen, CloseParen, OpenBracket, CloseBracket, Comma, Dot, Equals, LessThan, GreaterThan, Plus, Minus, Star, Slash, Percent, Ampersand, Bar, Caret, Not, Tilde, EqualsEquals, NotEquals, LessEquals, AndAnd, BarBar, LessLess, KeywordTrue, KeywordFalse}
-use Rattle.wgsl_text.specs.Token.{NoSuffix, Fixed, Word, Number, ZeroPointZero, Piece, TokenPiece, Blank}
+use Rattle.wgsl_text.specs.Token.{Mark, OpenParen, CloseParen, OpenBracket, CloseBracket, Comma}
+use Rattle.wgsl_text.specs.Token.{Dot, Equals, LessThan, GreaterThan, Plus, Minus, Star, Slash}
+use Rattle.wgsl_text.specs.Token.{Percent, Ampersand, Bar, Caret, Not, Tilde, EqualsEquals}
+use Rattle.wgsl_text.specs.Token.{NotEquals, LessEquals, AndAnd, BarBar, LessLess, KeywordTrue}
+use Rattle.wgsl_text.specs.Token.{KeywordFalse, NoSuffix, Fixed, Word, Number, ZeroPointZero, Piece}
+use Rattle.wgsl_text.specs.Token.{TokenPiece, Blank}
 use Rattle.wgsl_text.specs.Words.{stands_in}
 use Rattle.wgsl_text.specs.Tables.{storage_image_words, cooperative_matrix_words}
-use Rattle.wgsl_text.specs.Tree.{BinaryOperator, Add, Subtract, Multiply, Divide, Modulo, Equal, NotEqual, Less, LessEqual, Greater, GreaterEqual, And, ExclusiveOr, InclusiveOr, LogicalAnd, LogicalOr, ShiftLeft, ShiftRight, UnaryOperator, Negate, LogicalNot, BitwiseNot, Literal, Truth, Suffixed, SignedShort, UnsignedShort, LeastInteger, LeastLong, TypeSpecifier, Named, Template, TypeParts, NoParts, TypePart, SizePart, Expression, Constant, Name, Binary, Unary, Call, Member, Index, IndexAt, AddressOf, Dereference, Arguments, NoArguments, Argument, NumberArgument, ZeroArgument}
+use Rattle.wgsl_text.specs.Tree.{BinaryOperator, Add, Subtract, Multiply, Divide, Modulo, Equal}
+use Rattle.wgsl_text.specs.Tree.{NotEqual, Less, LessEqual, Greater, GreaterEqual, And, ExclusiveOr}
+use Rattle.wgsl_text.specs.Tree.{InclusiveOr, LogicalAnd, LogicalOr, ShiftLeft, ShiftRight}
+use Rattle.wgsl_text.specs.Tree.{UnaryOperator, Negate, LogicalNot, BitwiseNot, Literal, Truth}
+use Rattle.wgsl_text.specs.Tree.{Suffixed, SignedShort, UnsignedShort, LeastInteger, LeastLong}
+use Rattle.wgsl_text.specs.Tree.{TypeSpecifier, Named, Template, TypeParts, NoParts, TypePart}
+use Rattle.wgsl_text.specs.Tree.{SizePart, Expression, Constant, Name, Binary, Unary, Call, Member}
+use Rattle.wgsl_text.specs.Tree.{Index, IndexAt, AddressOf, Dereference, Arguments, NoArguments}
+use Rattle.wgsl_text.specs.Tree.{Argument, NumberArgument, ZeroArgument}
 
 abbrev pub mark : Mark → Piece
 mark m = TokenPiece (Fixed m)
@@ -43,7 +56,8 @@ unary_mark BitwiseNot = Tilde
 
 -- a word with a plain number in parentheses
 abbrev pub wrapped_pieces : List ℕ → Bool → ℕ → List Piece
-wrapped_pieces w negative n = word w ∷ mark OpenParen ∷ TokenPiece (Number negative n NoSuffix) ∷ mark CloseParen ∷ []
+wrapped_pieces w negative n =
+    word w ∷ mark OpenParen ∷ TokenPiece (Number negative n NoSuffix) ∷ mark CloseParen ∷ []
 
 abbrev pub literal_pieces : Literal → List Piece
 literal_pieces (Truth true) = mark KeywordTrue ∷ []
@@ -53,7 +67,8 @@ literal_pieces (SignedShort negative n) = wrapped_pieces (codes "i16") negative 
 literal_pieces (UnsignedShort n) = wrapped_pieces (codes "u16") false n
 literal_pieces LeastInteger = wrapped_pieces (codes "i32") true 2147483648
 literal_pieces LeastLong =
-    word (codes "i64") ∷ mark OpenParen ∷ TokenPiece (Number true 9223372036854775807 NoSuffix) ∷ Blank ∷ mark Minus ∷ Blank ∷ plain 1 ∷ mark CloseParen ∷ []
+    word (codes "i64") ∷ mark OpenParen ∷ TokenPiece (Number true 9223372036854775807 NoSuffix) ∷
+    Blank ∷ mark Minus ∷ Blank ∷ plain 1 ∷ mark CloseParen ∷ []
 
 -- Does a blank stand behind the commas between the parts of a type?
 abbrev pub has_gaps : List ℕ → Bool
@@ -76,8 +91,10 @@ abbrev mutual
 
   pub more_parts_pieces : TypeParts → Bool → List Piece
   more_parts_pieces NoParts gaps = mark GreaterThan ∷ []
-  more_parts_pieces (TypePart t more) gaps = mark Comma ∷ (gap_if gaps ++ (type_pieces t ++ more_parts_pieces more gaps))
-  more_parts_pieces (SizePart n more) gaps = mark Comma ∷ (gap_if gaps ++ (plain n ∷ more_parts_pieces more gaps))
+  more_parts_pieces (TypePart t more) gaps =
+      mark Comma ∷ (gap_if gaps ++ (type_pieces t ++ more_parts_pieces more gaps))
+  more_parts_pieces (SizePart n more) gaps =
+      mark Comma ∷ (gap_if gaps ++ (plain n ∷ more_parts_pieces more gaps))
 
 -- a unary expression stands in parentheses of its own where a member or an index follows
 abbrev pub base_pieces : Expression → List Piece → List Piece
@@ -90,14 +107,21 @@ abbrev mutual
   expression_pieces (Constant l) = literal_pieces l
   expression_pieces (Name w) = word w ∷ []
   expression_pieces (Binary a op b) =
-      mark OpenParen ∷ (expression_pieces a ++ (Blank ∷ (binary_pieces op ++ (Blank ∷ (expression_pieces b ++ (mark CloseParen ∷ []))))))
-  expression_pieces (Unary op e) = mark (unary_mark op) ∷ mark OpenParen ∷ (expression_pieces e ++ (mark CloseParen ∷ []))
+      mark OpenParen ∷ (expression_pieces a ++ (Blank ∷ (binary_pieces op ++ (Blank ∷
+      (expression_pieces b ++ (mark CloseParen ∷ []))))))
+  expression_pieces (Unary op e) =
+      mark (unary_mark op) ∷ mark OpenParen ∷ (expression_pieces e ++ (mark CloseParen ∷ []))
   expression_pieces (Call t args) = type_pieces t ++ (mark OpenParen ∷ arguments_pieces args)
   expression_pieces (Member e w) = base_pieces e (expression_pieces e) ++ (mark Dot ∷ word w ∷ [])
-  expression_pieces (Index e i) = base_pieces e (expression_pieces e) ++ (mark OpenBracket ∷ (expression_pieces i ++ (mark CloseBracket ∷ [])))
-  expression_pieces (IndexAt e n) = base_pieces e (expression_pieces e) ++ (mark OpenBracket ∷ plain n ∷ mark CloseBracket ∷ [])
-  expression_pieces (AddressOf e) = mark OpenParen ∷ mark Ampersand ∷ (expression_pieces e ++ (mark CloseParen ∷ []))
-  expression_pieces (Dereference e) = mark OpenParen ∷ mark Star ∷ (expression_pieces e ++ (mark CloseParen ∷ []))
+  expression_pieces (Index e i) =
+      base_pieces e (expression_pieces e) ++ (mark OpenBracket ∷ (expression_pieces i ++
+      (mark CloseBracket ∷ [])))
+  expression_pieces (IndexAt e n) =
+      base_pieces e (expression_pieces e) ++ (mark OpenBracket ∷ plain n ∷ mark CloseBracket ∷ [])
+  expression_pieces (AddressOf e) =
+      mark OpenParen ∷ mark Ampersand ∷ (expression_pieces e ++ (mark CloseParen ∷ []))
+  expression_pieces (Dereference e) =
+      mark OpenParen ∷ mark Star ∷ (expression_pieces e ++ (mark CloseParen ∷ []))
 
   pub arguments_pieces : Arguments → List Piece
   arguments_pieces NoArguments = mark CloseParen ∷ []
@@ -107,6 +131,9 @@ abbrev mutual
 
   pub more_arguments_pieces : Arguments → List Piece
   more_arguments_pieces NoArguments = mark CloseParen ∷ []
-  more_arguments_pieces (Argument e more) = mark Comma ∷ Blank ∷ (expression_pieces e ++ more_arguments_pieces more)
-  more_arguments_pieces (NumberArgument n more) = mark Comma ∷ Blank ∷ plain n ∷ more_arguments_pieces more
-  more_arguments_pieces (ZeroArgument more) = mark Comma ∷ Blank ∷ TokenPiece ZeroPointZero ∷ more_arguments_pieces more
+  more_arguments_pieces (Argument e more) =
+      mark Comma ∷ Blank ∷ (expression_pieces e ++ more_arguments_pieces more)
+  more_arguments_pieces (NumberArgument n more) =
+      mark Comma ∷ Blank ∷ plain n ∷ more_arguments_pieces more
+  more_arguments_pieces (ZeroArgument more) =
+      mark Comma ∷ Blank ∷ TokenPiece ZeroPointZero ∷ more_arguments_pieces more

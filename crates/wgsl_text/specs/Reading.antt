@@ -52,6 +52,7 @@ abbrev pub layout : Program → List ℕ
 layout program = text (program_pieces program)
 
 -- Of all trees the text is read as this one, and as no other.
-pub record HasOneReading {A : Type 0} (reads : List Token → A → Type 0) (bytes : List ℕ) (tree : A) : Type 0 where
+pub record HasOneReading {A : Type 0} (reads : List Token → A → Type 0) (bytes : List ℕ)
+    (tree : A) : Type 0 where
   pub read : reads (tokens bytes) tree
   pub only : (other : A) → reads (tokens bytes) other → other ≡ tree

@@ -1,6 +1,7 @@
 -- Texts without a reading.
-use Rattle.std.specs.Prelude.{ℕ, List, ◌++◌, codes}
+use Rattle.std.specs.Prelude.{ℕ, List, [], ◌∷◌, codes}
 use Rattle.wgsl_text.specs.Tree.{TypeSpecifier, Expression, Program}
+use Rattle.wgsl_text.specs.Examples.{lines}
 use Rattle.wgsl_text.specs.Reading.{ReadsType, ReadsExpression, Reads}
 use Rattle.wgsl_text.specs.Text.{tokens}
 
@@ -39,9 +40,16 @@ pub record Refused : Type 0 where
   -- a text that is cut in the middle
   pub cut : IsNoProgram (codes "fn f(x: i32) -> i32 {\n    return x")
   -- `break if` before another statement of `continuing`
-  pub break_if_first : IsNoProgram (
-      codes "fn f(c: bool) {\n    loop {\n        continuing {\n            break if c;\n            g();\n" ++
-      codes "        }\n    }\n}\n\n")
+  pub break_if_first : IsNoProgram (lines (
+      "fn f(c: bool) {" ∷
+      "    loop {" ∷
+      "        continuing {" ∷
+      "            break if c;" ∷
+      "            g();" ∷
+      "        }" ∷
+      "    }" ∷
+      "}" ∷
+      "" ∷ []))
   -- a member with two sizes, with two alignments, and with its size behind its alignment or binding
   pub two_sizes : IsNoProgram (codes "struct S {\n    @size(16) @size(16) a: f32,\n}\n\n")
   pub two_alignments : IsNoProgram (codes "struct S {\n    @align(8) @align(8) a: f32,\n}\n\n")

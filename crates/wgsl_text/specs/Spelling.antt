@@ -1,8 +1,14 @@
 -- Which bytes spell which token, and how the tokens of a text follow from its front.
-use Rattle.std.specs.Prelude.{◌≡◌, ℕ, ◌<◌, ◌≤◌, ◌||◌, ◌==◌, Bool, true, false, List, ◌∷◌, ◌++◌, length, codes, IsTrue, IsFalse}
+use Rattle.std.specs.Prelude.{◌≡◌, ℕ, ◌<◌, ◌≤◌, ◌||◌, ◌==◌, Bool, true, false, List, ◌∷◌, ◌++◌}
+use Rattle.std.specs.Prelude.{length, codes, IsTrue, IsFalse}
 use Rattle.std.specs.Str.{all_ascii_digits}
 use Rattle.std.specs.Str.Parse.{digits_value}
-use Rattle.wgsl_text.specs.Token.{Mark, OpenParen, CloseParen, OpenBracket, CloseBracket, OpenBrace, CloseBrace, Comma, Semicolon, Colon, Dot, At, Equals, LessThan, GreaterThan, Plus, Minus, Star, Slash, Percent, Ampersand, Bar, Caret, Not, Tilde, EqualsEquals, NotEquals, LessEquals, AndAnd, BarBar, LessLess, Suffix, Token, Fixed, Number, ZeroPointZero, Foreign}
+use Rattle.wgsl_text.specs.Token.{Mark, OpenParen, CloseParen, OpenBracket, CloseBracket, OpenBrace}
+use Rattle.wgsl_text.specs.Token.{CloseBrace, Comma, Semicolon, Colon, Dot, At, Equals, LessThan}
+use Rattle.wgsl_text.specs.Token.{GreaterThan, Plus, Minus, Star, Slash, Percent, Ampersand, Bar}
+use Rattle.wgsl_text.specs.Token.{Caret, Not, Tilde, EqualsEquals, NotEquals, LessEquals, AndAnd}
+use Rattle.wgsl_text.specs.Token.{BarBar, LessLess, Suffix, Token, Fixed, Number, ZeroPointZero}
+use Rattle.wgsl_text.specs.Token.{Foreign}
 use Rattle.wgsl_text.specs.Words.{is_word_text}
 use Rattle.wgsl_text.specs.Text.{mark_text, suffix_text, word_token, tokens}
 
@@ -45,11 +51,13 @@ abbrev pub number_text : Bool → List ℕ → Suffix → List ℕ
 number_text true digits suffix = codes "-" ++ (digits ++ suffix_text suffix)
 number_text false digits suffix = digits ++ suffix_text suffix
 
--- These bytes spell this token. There is no sign `->`, `>>` or `>=`, so `>` is always a token by itself.
+-- These bytes spell this token. There is no sign `->`, `>>` or `>=`, so `>` is always a token by
+-- itself.
 pub data Spells : List ℕ → Token → Type 0 where
   -- letters, digits and `_`, no digit first: a keyword that the grammar uses, or a word of its own
   SpellsWord : (w : List ℕ) → IsTrue (is_word_text w) → Spells w (word_token w)
-  SpellsNumber : (negative : Bool) (digits : List ℕ) (suffix : Suffix) → 0 < length digits → IsTrue (all_ascii_digits digits) →
+  SpellsNumber : (negative : Bool) (digits : List ℕ) (suffix : Suffix) → 0 < length digits →
+      IsTrue (all_ascii_digits digits) →
       Spells (number_text negative digits suffix) (Number negative (digits_value 10 digits) suffix)
   SpellsZeroPointZero : Spells (codes "0.0") ZeroPointZero
   SpellsSign : (m : Mark) → IsTrue (is_sign m) → Spells (mark_text m) (Fixed m)
@@ -62,13 +70,15 @@ is_blank b = b == 32 || b == 10
 pub record IsLongest (bytes front rest : List ℕ) (t : Token) : Type 0 where
   pub begins : bytes ≡ front ++ rest
   pub spells : Spells front t
-  pub longest : (other behind : List ℕ) (u : Token) → bytes ≡ other ++ behind → Spells other u → length other ≤ length front
+  pub longest : (other behind : List ℕ) (u : Token) → bytes ≡ other ++ behind → Spells other u →
+      length other ≤ length front
 
--- How a text begins, and what its tokens are: a blank carries no meaning, the longest front that spells a token
--- is the first token, and a byte that begins no token is foreign.
+-- How a text begins, and what its tokens are: a blank carries no meaning, the longest front that
+-- spells a token is the first token, and a byte that begins no token is foreign.
 pub data Begins (b : ℕ) (bytes : List ℕ) : Type 0 where
   AtBlank : IsTrue (is_blank b) → tokens (b ∷ bytes) ≡ tokens bytes → Begins b bytes
-  AtToken : (front rest : List ℕ) (t : Token) → IsLongest (b ∷ bytes) front rest t → tokens (b ∷ bytes) ≡ t ∷ tokens rest → Begins b bytes
+  AtToken : (front rest : List ℕ) (t : Token) → IsLongest (b ∷ bytes) front rest t →
+      tokens (b ∷ bytes) ≡ t ∷ tokens rest → Begins b bytes
   AtForeign : IsFalse (is_blank b) →
       ((front rest : List ℕ) (t : Token) → b ∷ bytes ≡ front ++ rest → Spells front t → ⊥) →
       tokens (b ∷ bytes) ≡ Foreign b ∷ tokens bytes → Begins b bytes

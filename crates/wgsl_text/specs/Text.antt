@@ -1,11 +1,22 @@
 -- The text of pieces, and the tokens of a text.
-use Rattle.std.specs.Prelude.{ℕ, zero, suc, ◌*◌, Bool, true, false, not, ◌&&◌, ◌||◌, if◌then◌else◌, List, [], ◌∷◌, ◌++◌, codes, ◌==◌, length, take, drop, replicate}
+use Rattle.std.specs.Prelude.{ℕ, zero, suc, ◌*◌, Bool, true, false, not, ◌&&◌, ◌||◌, if◌then◌else◌}
+use Rattle.std.specs.Prelude.{List, [], ◌∷◌, ◌++◌, codes, ◌==◌, length, take, drop, replicate}
 use Rattle.std.specs.Str.{bytes_eq}
 use Rattle.std.specs.Char.{is_ascii_digit}
 use Rattle.std.specs.Str.Parse.{digits_value}
 use Rattle.std.specs.Fmt.{decimal}
-use Rattle.wgsl_text.specs.Token.{Mark, OpenParen, CloseParen, OpenBracket, CloseBracket, OpenBrace, CloseBrace, Comma, Semicolon, Colon, Dot, At, Equals, LessThan, GreaterThan, Plus, Minus, Star, Slash, Percent, Ampersand, Bar, Caret, Not, Tilde, EqualsEquals, NotEquals, LessEquals, AndAnd, BarBar, LessLess, KeywordTrue, KeywordFalse, KeywordLet, KeywordVar, KeywordIf, KeywordElse, KeywordLoop, KeywordContinuing, KeywordBreak, KeywordContinue, KeywordSwitch, KeywordCase, KeywordDefault, KeywordReturn, KeywordDiscard, KeywordFn, KeywordStruct, KeywordConst, KeywordEnable, KeywordOverride}
-use Rattle.wgsl_text.specs.Token.{Suffix, NoSuffix, SuffixI, SuffixU, SuffixLi, SuffixLu, Token, Fixed, Word, Number, ZeroPointZero, Foreign, Piece, TokenPiece, Blank, LineEnd, Indent}
+use Rattle.wgsl_text.specs.Token.{Mark, OpenParen, CloseParen, OpenBracket, CloseBracket, OpenBrace}
+use Rattle.wgsl_text.specs.Token.{CloseBrace, Comma, Semicolon, Colon, Dot, At, Equals, LessThan}
+use Rattle.wgsl_text.specs.Token.{GreaterThan, Plus, Minus, Star, Slash, Percent, Ampersand, Bar}
+use Rattle.wgsl_text.specs.Token.{Caret, Not, Tilde, EqualsEquals, NotEquals, LessEquals, AndAnd}
+use Rattle.wgsl_text.specs.Token.{BarBar, LessLess, KeywordTrue, KeywordFalse, KeywordLet}
+use Rattle.wgsl_text.specs.Token.{KeywordVar, KeywordIf, KeywordElse, KeywordLoop}
+use Rattle.wgsl_text.specs.Token.{KeywordContinuing, KeywordBreak, KeywordContinue, KeywordSwitch}
+use Rattle.wgsl_text.specs.Token.{KeywordCase, KeywordDefault, KeywordReturn, KeywordDiscard}
+use Rattle.wgsl_text.specs.Token.{KeywordFn, KeywordStruct, KeywordConst, KeywordEnable}
+use Rattle.wgsl_text.specs.Token.{KeywordOverride, Suffix, NoSuffix, SuffixI, SuffixU, SuffixLi}
+use Rattle.wgsl_text.specs.Token.{SuffixLu, Token, Fixed, Word, Number, ZeroPointZero, Foreign}
+use Rattle.wgsl_text.specs.Token.{Piece, TokenPiece, Blank, LineEnd, Indent}
 use Rattle.wgsl_text.specs.Words.{is_letter, is_word_byte, is_reserved}
 
 abbrev pub mark_text : Mark → List ℕ
@@ -108,8 +119,10 @@ digits_length (b ∷ bytes) = if is_ascii_digit b then suc (digits_length bytes)
 -- the words that the grammar uses; each of them is reserved
 abbrev pub keywords : List Mark
 keywords =
-    KeywordTrue ∷ KeywordFalse ∷ KeywordLet ∷ KeywordVar ∷ KeywordIf ∷ KeywordElse ∷ KeywordLoop ∷ KeywordContinuing ∷ KeywordBreak ∷ KeywordContinue ∷
-    KeywordSwitch ∷ KeywordCase ∷ KeywordDefault ∷ KeywordReturn ∷ KeywordDiscard ∷ KeywordFn ∷ KeywordStruct ∷ KeywordConst ∷ KeywordEnable ∷ KeywordOverride ∷ []
+    KeywordTrue ∷ KeywordFalse ∷ KeywordLet ∷ KeywordVar ∷ KeywordIf ∷ KeywordElse ∷ KeywordLoop ∷
+    KeywordContinuing ∷ KeywordBreak ∷ KeywordContinue ∷
+    KeywordSwitch ∷ KeywordCase ∷ KeywordDefault ∷ KeywordReturn ∷ KeywordDiscard ∷ KeywordFn ∷
+    KeywordStruct ∷ KeywordConst ∷ KeywordEnable ∷ KeywordOverride ∷ []
 
 abbrev pub keyword_among : List Mark → List ℕ → Token
 keyword_among [] w = Word w
@@ -123,10 +136,14 @@ word_lexeme b bytes = Takes (word_token (b ∷ take (word_length bytes) bytes)) 
 
 -- the suffix that the bytes begin with: by what stands behind an `l`, by a letter, by any byte
 abbrev pub long_suffix : List ℕ → Suffix
-long_suffix bytes = if starts_with 105 bytes then SuffixLi else (if starts_with 117 bytes then SuffixLu else NoSuffix)
+long_suffix bytes =
+    if starts_with 105 bytes then SuffixLi else (if starts_with 117 bytes then SuffixLu
+    else NoSuffix)
 
 abbrev pub letter_suffix : ℕ → List ℕ → Suffix
-letter_suffix b bytes = if b == 105 then SuffixI else (if b == 117 then SuffixU else (if b == 108 then long_suffix bytes else NoSuffix))
+letter_suffix b bytes =
+    if b == 105 then SuffixI else (if b == 117 then SuffixU else (if b == 108 then long_suffix bytes
+    else NoSuffix))
 
 abbrev pub suffix_at : List ℕ → Suffix
 suffix_at [] = NoSuffix
@@ -146,10 +163,12 @@ abbrev pub number_of : Bool → ℕ → List ℕ → List ℕ → Lexeme
 number_of negative b ds bytes =
     if is_point_zero bytes && (not negative && (b == 48 && is_empty ds))
     then Takes ZeroPointZero 2
-    else Takes (Number negative (digits_value 10 (b ∷ ds)) (suffix_at bytes)) (length (ds ++ suffix_text (suffix_at bytes)))
+    else Takes (Number negative (digits_value 10 (b ∷ ds)) (suffix_at bytes))
+    (length (ds ++ suffix_text (suffix_at bytes)))
 
 abbrev pub number_lexeme : Bool → ℕ → List ℕ → Lexeme
-number_lexeme negative b bytes = number_of negative b (take (digits_length bytes) bytes) (drop (digits_length bytes) bytes)
+number_lexeme negative b bytes =
+    number_of negative b (take (digits_length bytes) bytes) (drop (digits_length bytes) bytes)
 
 abbrev pub one_more : Lexeme → Lexeme
 one_more (Takes t n) = Takes t (suc n)
@@ -157,7 +176,8 @@ one_more Skips = Skips
 
 abbrev pub minus_lexeme : List ℕ → Lexeme
 minus_lexeme [] = Takes (Fixed Minus) 0
-minus_lexeme (b ∷ bytes) = if is_ascii_digit b then one_more (number_lexeme true b bytes) else Takes (Fixed Minus) 0
+minus_lexeme (b ∷ bytes) =
+    if is_ascii_digit b then one_more (number_lexeme true b bytes) else Takes (Fixed Minus) 0
 
 -- a sign that the second byte may make longer
 abbrev pub sign_or : Mark → Bool → Mark → Lexeme
@@ -170,7 +190,8 @@ single b (m ∷ marks) = if bytes_eq (mark_text m) (b ∷ []) then Takes (Fixed 
 -- the signs that no second byte makes longer; `>` is always a token by itself
 abbrev pub single_signs : List Mark
 single_signs =
-    OpenParen ∷ CloseParen ∷ OpenBracket ∷ CloseBracket ∷ OpenBrace ∷ CloseBrace ∷ Comma ∷ Semicolon ∷ Colon ∷ Dot ∷ At ∷
+    OpenParen ∷ CloseParen ∷ OpenBracket ∷ CloseBracket ∷ OpenBrace ∷ CloseBrace ∷ Comma ∷
+    Semicolon ∷ Colon ∷ Dot ∷ At ∷
     GreaterThan ∷ Plus ∷ Star ∷ Slash ∷ Percent ∷ Caret ∷ Tilde ∷ []
 
 abbrev pub sign_lexeme : ℕ → List ℕ → Lexeme
@@ -179,7 +200,8 @@ sign_lexeme b bytes =
     if b == 33 then sign_or Not (starts_with 61 bytes) NotEquals else (
     if b == 38 then sign_or Ampersand (starts_with 38 bytes) AndAnd else (
     if b == 124 then sign_or Bar (starts_with 124 bytes) BarBar else (
-    if b == 60 then (if starts_with 61 bytes then Takes (Fixed LessEquals) 1 else sign_or LessThan (starts_with 60 bytes) LessLess) else
+    if b == 60 then (if starts_with 61 bytes then Takes (Fixed LessEquals) 1
+    else sign_or LessThan (starts_with 60 bytes) LessLess) else
     single b single_signs))))
 
 -- the longest match at the front

@@ -188,4 +188,13 @@ pub record Program : Type 0 where
   pub entry_points : List EntryPoint
 
 abbrev pub no_declarations : Program
-no_declarations = record { enables = []; structs = []; constants = []; overrides = []; globals = []; functions = []; entry_points = [] }
+no_declarations =
+    record {
+      enables = [];
+      structs = [];
+      constants = [];
+      overrides = [];
+      globals = [];
+      functions = [];
+      entry_points = [];
+    }
