@@ -1,5 +1,7 @@
 -- A module with named constants and an override: what both sides compute, and what texts with other
 -- initialisers do.
+--
+-- Throughout, b is the value of the override.
 use Rattle.std.specs.Prelude.{◌≡◌, ℕ, ◌+◌, ◌*◌, pos, cond, [], ◌∷◌, get_or, Option, Some, None}
 use Rattle.std.specs.Prelude.{codes}
 use Rattle.shader_runs.specs.Value.{Bytes, same_bytes, OtherType, PointerType, Value, Whole, Opaque}

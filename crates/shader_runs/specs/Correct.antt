@@ -1,4 +1,8 @@
 -- The laws: a call runs alike by the text and by the module, event by event.
+--
+-- Throughout, p is a module, n are its names and fs its functions with theirs, m is the meaning, w
+-- the world, g the number of a function f, vs are its arguments and t the events so far, i is an
+-- index and e an initialiser.
 use Rattle.std.specs.Prelude.{◌≡◌, ℕ, List, [], Some, IsTrue, slice_get, drop}
 use Rattle.shader_runs.specs.Value.{Value, has_types}
 use Rattle.shader_runs.specs.World.{World, Meaning, Event, Settings, Environment}

@@ -1,4 +1,9 @@
 -- The abstract text that is written for a module.
+--
+-- Throughout, f is a function with its names, n are names, s the handles in scope (s1 those behind
+-- a part), k is how many names have been given, or a type, h a handle, e an expression or a
+-- constant tree, st a statement, b a body, i an index, j a short circuit, w a word, x a name, a
+-- selector or a handle, and l a label or a local.
 use Rattle.std.specs.Prelude.{ℕ, zero, suc, Bool, true, false, List, [], ◌∷◌, ◌++◌, length, Option}
 use Rattle.std.specs.Prelude.{Some, None}
 use Rattle.shader_runs.specs.Value.{Bytes, Selector, MemberNamed, ValueType, PointerType}

@@ -1,4 +1,8 @@
 -- A module as shapes: expressions in a list, statements that name them by their index.
+--
+-- Throughout, p is a module, f a function, g the number of a function and h the handle of an
+-- expression; of an expression w is the word, and xs are the operands; of a statement a and b are
+-- the bodies, and c, d and e what its constructor tells.
 use Rattle.std.specs.Prelude.{ℕ, zero, suc, ℤ, Bool, true, false, cond, ◌-◌, ◌^◌, List, [], ◌∷◌}
 use Rattle.std.specs.Prelude.{length, Option, Some, None, ◌||◌, nat_eq, nat_le, get_or, slice_get}
 use Rattle.std.specs.Prelude.{drop}

@@ -1,5 +1,8 @@
 -- The rules of scope: at which points of a function a handle may be used, and which handles a
 -- statement may give. They speak of a function alone, not of names or of how the rules are checked.
+--
+-- Throughout, f is a function, h a handle, g are the handles that are given, e is an expression, st
+-- a statement, a, b and d are bodies and i is an index.
 use Rattle.std.specs.Prelude.{◌≡◌, ℕ, suc, ◌<◌, Bool, true, false, cond, not, List, [], ◌∷◌, Option}
 use Rattle.std.specs.Prelude.{Some, None, ◌⊎◌, ◌↔◌, IsTrue, IsFalse}
 use Rattle.shader_runs.specs.Program.{ConstantTree, Expression, Constant, Argument, Local, Global}

@@ -1,4 +1,7 @@
 -- When a module's operators are typed consistently.
+--
+-- Throughout, p is a module, f a function, h a handle, e a constant tree, w a word, xs are
+-- operands, k is a type, x and y are signatures, i is an index and z an integer.
 use Rattle.std.specs.Prelude.{◌≡◌, ℕ, ℤ, List, [], ◌∷◌, ◌++◌, Option, Some, slice_get}
 use Rattle.shader_runs.specs.Value.{PartTypes, At, Selector, MemberNamed, step_of, ValueType}
 use Rattle.shader_runs.specs.Value.{BooleanType, IntegerType, PointerType, Word, Spelled, PartWord}
