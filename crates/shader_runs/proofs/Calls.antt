@@ -21,7 +21,7 @@ use Rattle.shader_runs.proofs.Alike.{Answers, same_answer, mistyped_answer, alik
 use Rattle.shader_runs.proofs.Update.{and_left, and_right, same_bytes_equal, same_bytes_apart, has_types_length}
 use Rattle.shader_runs.proofs.Relation.{Returns, global_as, IsHere, NoName, fixed_denoted, Related}
 use Rattle.shader_runs.proofs.Evaluation.{words, Respond, Responds}
-use Rattle.shader_runs.proofs.Written.{Given, globals_length, value_here}
+use Rattle.shader_runs.proofs.Form.{Given, globals_length, value_here}
 use Rattle.shader_runs.proofs.Checked.{FitsAll}
 use Rattle.shader_runs.proofs.Statements.{Same, same_all}
 use Rattle.shader_runs.proofs.Fresh.{all_fresh, start_sources}

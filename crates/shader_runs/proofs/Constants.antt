@@ -20,7 +20,7 @@ use Rattle.shader_runs.proofs.Update.{and_both, same_bytes_apart, has_types_leng
 use Rattle.shader_runs.proofs.Relation.{TypedValue, as_denoted}
 use Rattle.shader_runs.proofs.Evaluation.{denoted}
 use Rattle.shader_runs.proofs.ConstantTrees.{each_both, tree_typed, tree_same, tree_gives}
-use Rattle.shader_runs.proofs.Written.{has_type_at}
+use Rattle.shader_runs.proofs.Form.{has_type_at}
 use Rattle.shader_runs.proofs.Ranks.{count_below, count_rises, count_misses}
 use Rattle.shader_runs.proofs.Names.{with_known, known_at, known_other, parameters_known, known_some, globals_other, held_values, module_names_given, no_name_among}
 

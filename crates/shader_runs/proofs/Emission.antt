@@ -15,7 +15,7 @@ use Rattle.shader_runs.proofs.Alike.{Alike, stopped, typed_alike, placed}
 use Rattle.shader_runs.proofs.Update.{and_left, update_cases, bind_same, bind_other}
 use Rattle.shader_runs.proofs.Relation.{TypedValue, as_denoted, IsHere, NoName, Stands, Related, Extends, Agree, extends_refl, agree_refl, extends_trans, agree_trans, computed_agree, usable_all_more, KeepsName, keeps_all, stands_on, related_agree}
 use Rattle.shader_runs.proofs.Evaluation.{naming, words, Respond, value_form_gives, request_responds}
-use Rattle.shader_runs.proofs.Written.{Given, free, request_forms_give, request_values, no_value, unwritten, typed_value, operator_typed, operator_there, place_here, all_here}
+use Rattle.shader_runs.proofs.Form.{Given, free, request_forms_give, request_values, no_value, unwritten, typed_value, operator_typed, operator_there, place_here, all_here}
 use Rattle.shader_runs.proofs.Checked.{IsFresh, MayBind, MayEmitAll}
 use Rattle.std.proofs.lemmas.Option.{none-some}
 

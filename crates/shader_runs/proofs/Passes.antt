@@ -16,10 +16,10 @@ use Rattle.shader_runs.specs.Points.{given_before, given_in, handles_in, handles
 use Rattle.shader_runs.proofs.Alike.{Alike, done, continued, broke, returned_alike, stopped, mistyped, weaker, continue_alike}
 use Rattle.shader_runs.proofs.Relation.{Related, Agree, agree_refl, related_agree}
 use Rattle.shader_runs.proofs.Evaluation.{naming, words, Respond, request_responds}
-use Rattle.shader_runs.proofs.Written.{Given, free, value_here}
+use Rattle.shader_runs.proofs.Form.{Given, free, value_here}
 use Rattle.shader_runs.proofs.Emission.{emit_alike}
 use Rattle.shader_runs.proofs.Statements.{or_left, or_right, turns_keep, same_one, same_all}
-use Rattle.shader_runs.proofs.Scopes.{IsFollowed, falls_followed, among_append, has_all_cases, extends_all}
+use Rattle.shader_runs.proofs.Scope.{IsFollowed, falls_followed, among_append, has_all_cases, extends_all}
 use Rattle.shader_runs.proofs.Places.{from_split}
 use Rattle.shader_runs.proofs.Checked.{Fits, FitsAll, FitsCases, MayEmitAll}
 

@@ -18,10 +18,10 @@ use Rattle.shader_runs.specs.Progress.{IsPointer, IsInteger, IsBoolean, LoadFits
 use Rattle.shader_runs.proofs.Update.{and_left, and_right, update_cases, has_types_length}
 use Rattle.shader_runs.proofs.Relation.{TypedValue, ResultTyped, Returns, Stands, Extends, extends_trans, extends_forgotten, usable_all_more}
 use Rattle.shader_runs.proofs.Evaluation.{naming, pointer_typed, integer_typed, truth_typed}
-use Rattle.shader_runs.proofs.Written.{used_typed, UsesTyped, all_typed, operator_typed, request_there}
+use Rattle.shader_runs.proofs.Form.{used_typed, UsesTyped, all_typed, operator_typed, request_there}
 use Rattle.shader_runs.proofs.Checked.{MayBind, MayEmitAll, Fits, FitsAll, FitsCases}
 use Rattle.shader_runs.proofs.Emission.{extends_update, unbound_present}
-use Rattle.shader_runs.proofs.Scopes.{extends_after, extends_all}
+use Rattle.shader_runs.proofs.Scope.{extends_after, extends_all}
 use Rattle.shader_runs.proofs.Statements.{ReturnsOf, ActionReturns, called_typed, or_left, or_right}
 use Rattle.shader_runs.proofs.Fresh.{all_fresh, start_sources}
 use Rattle.shader_runs.proofs.ScopeRules.{everywhere_forgotten}

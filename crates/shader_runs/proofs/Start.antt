@@ -11,7 +11,7 @@ use Rattle.shader_runs.specs.Scope.{is_pure, all_constant, is_constant_leaf, con
 use Rattle.shader_runs.specs.Premises.{AllBelow, LeafFits, LeafTyped, handle_types, IsTypedIn, EnvironmentFits}
 use Rattle.shader_runs.proofs.Update.{and_left, and_right, and_both}
 use Rattle.shader_runs.proofs.Relation.{TypedValue, Stands}
-use Rattle.shader_runs.proofs.Written.{constant_typed}
+use Rattle.shader_runs.proofs.Form.{constant_typed}
 
 leaf_value : (p : Module) (env : Environment) → EnvironmentFits p env → (m : Meaning) (f : Function) (k : ValueType) (e : Option Expression) (o : Option Value) → LeafFits p f k e → LeafTyped env.parts p m e → IsTrue (is_constant_leaf e) → TypedValue env.parts k (or_constant env m e o)
 leaf_value p env fits m f k (Some (Constant e)) o l t i =

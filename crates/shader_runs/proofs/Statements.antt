@@ -14,10 +14,10 @@ use Rattle.shader_runs.specs.Premises.{IsNoName, handle_types, CallFits, ActionF
 use Rattle.shader_runs.proofs.Alike.{HoldsOf, Answers, same_answer, mistyped_answer, Alike, done, continued, broke, returned_alike, stopped, mistyped, typed_alike, Steps, weaker, then_alike, continue_alike, within_alike, turns_alike, switch_alike, closed_alike, chosen_alike, used_alike, pointer_alike, there_alike}
 use Rattle.shader_runs.proofs.Relation.{ResultTyped, Returns, Related, Extends, Agree, extends_refl, agree_refl, agree_trans, related_agree, related_forgotten}
 use Rattle.shader_runs.proofs.Evaluation.{naming, words, Respond, request_responds, value_forms_give}
-use Rattle.shader_runs.proofs.Written.{Given, free, typed_value, value_here, place_here, all_here, values_here}
+use Rattle.shader_runs.proofs.Form.{Given, free, typed_value, value_here, place_here, all_here, values_here}
 use Rattle.shader_runs.proofs.Emission.{new_event, agree_update, bind_related, emit_alike}
 use Rattle.shader_runs.proofs.Checked.{Fits, FitsAll, FitsCases, MayResult}
-use Rattle.shader_runs.proofs.Scopes.{IsFollowed, falls_followed, continue_all, continue_cases, among_append, first_followed_by, has_all_cases, extends_after, extends_all}
+use Rattle.shader_runs.proofs.Scope.{IsFollowed, falls_followed, continue_all, continue_cases, among_append, first_followed_by, has_all_cases, extends_after, extends_all}
 
 -- both runs of a list from the scope s end alike, in the scope s2; held: it holds a `continue`
 abbrev pub Same : Call → Names → Handles → Kept → Handles → Bool → Outcome Kept → Outcome Scope → Type 0

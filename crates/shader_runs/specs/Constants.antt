@@ -1,5 +1,5 @@
--- Named constants: each side computes its own from their initialisers, under what the caller
--- chooses.
+-- Named constants: each side computes its own from
+-- their initialisers, under what the caller chooses.
 --
 -- Throughout, p is a module, s are the settings of its caller, m is the meaning, w the world, n the
 -- bound on turns or the number of rounds, g the number of a function or what holds of a variable, k
@@ -37,8 +37,8 @@ abbrev pub all_found : List (Option Value) → Option (List Value)
 all_found [] = Some []
 all_found (o ∷ os) = also o (all_found os)
 
--- what a variable's name stands for: the value that is held, or a place that pointers of its type
--- lead to
+-- what a variable's name stands for: the value that is
+-- held, or a place that pointers of its type lead to
 abbrev pub global_value_by : ValueType → Option Value → GlobalValue
 global_value_by k None = Stored (pointer_spelling k)
 global_value_by k (Some v) = Held v

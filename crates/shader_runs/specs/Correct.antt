@@ -56,8 +56,8 @@ pub record IsSolution (p : Module) (s : Settings) (m : Meaning) (env : Environme
   pub globals : env.globals ≡ global_values p.global_types s.globals
   pub parts : env.parts ≡ p.parts
 
--- what a module computes for its named constants is what their initialisers say, and no other
--- values are
+-- what a module computes for its named constants is
+-- what their initialisers say, and no other values are
 abbrev pub ConstantsAreComputed : Type 0
 ConstantsAreComputed =
     (p : Module) (n : ModuleNames) → ConstantsFit p n →
@@ -68,8 +68,8 @@ ConstantsAreComputed =
     × IsSolution p settings m env
     × ((other : Environment) → IsSolution p settings m other → other ≡ env)
 
--- the law above isn't empty: every module whose operators are typed consistently has a typed
--- meaning
+-- the law above isn't empty: every module whose
+-- operators are typed consistently has a typed meaning
 abbrev pub HasTypedMeaning : Type 0
 HasTypedMeaning = (p : Module) → IsConsistent p → (m : Meaning) × IsTyped p m
 

@@ -153,8 +153,8 @@ perform_each [] tail = tail
 perform_each (w ∷ ws) tail = before (Perform w no_more) (perform_each ws tail)
 
 abbrev mutual
-  -- a statement's lines, in front of what follows: k names have been given, s are the handles in
-  -- scope
+  -- a statement's lines, in front of what follows: k
+  -- names have been given, s are the handles in scope
   pub form : Naming → ℕ → Statement → Handles → Lines → Lines
   form f k (Emit first count) s tail = lets f k (from first count) s tail
   form f k (Store p v) s tail = before (Assign (place_form (written f s p)) (value_at f s v)) tail

@@ -1,8 +1,8 @@
 -- How a stretch of a run ends, for a run that carries some state of its own.
 --
--- Throughout, s is the state of a run and t the events so far (s1 and t1 are later ones), v a
--- value, x why a run stops, o an outcome, q what is reached, b a truth value, z an integer and n a
--- bound on turns.
+-- Throughout, s is the state of a run and t the events so far (s1 and t1
+-- are later ones), v a value, x why a run stops, o an outcome, q what is
+-- reached, b a truth value, z an integer and n a bound on turns.
 use Rattle.std.specs.Prelude.{ℕ, zero, suc, ℤ, Bool, true, false, List, Option, None, cond, Some}
 use Rattle.shader_runs.specs.Value.{Value, truth_in, integer_in}
 use Rattle.shader_runs.specs.World.{Event}

@@ -1,10 +1,10 @@
 -- The two facts that hold at each point that a run of a function passes.
 --
--- Throughout, p is a module, n are its names, f is a function with its names and fs are those
--- before it, c is a call, l is what words do, m the meaning, w the world, s are the handles in
--- scope, k is how many names have been given, q a point, h a handle, x a name, v a value (vs are
--- several), t are the events so far, b and d bodies, i and j an index of a case and the number of a
--- turn.
+-- Throughout, p is a module, n are its names, f is a function with its names
+-- and fs are those before it, c is a call, l is what words do, m the meaning, w
+-- the world, s are the handles in scope, k is how many names have been given, q
+-- a point, h a handle, x a name, v a value (vs are several), t are the events
+-- so far, b and d bodies, i and j an index of a case and the number of a turn.
 use Rattle.std.specs.Prelude.{◌≡◌, ℕ, zero, suc, false, List, ◌∷◌, ◌++◌, Some, IsTrue}
 use Rattle.shader_runs.specs.Value.{Bytes, Value, has_types}
 use Rattle.shader_runs.specs.World.{Event, entries, World, Meaning, Environment, Settings}
@@ -52,8 +52,8 @@ call_of env w m turns f fs vs t =
       calls = run_call env w m turns (functions_of fs);
     }
 
--- what words do in its text, inside these module-level names, where these are all functions of the
--- module
+-- what words do in its text, inside these module-level
+-- names, where these are all functions of the module
 abbrev pub words_of :
     (outer : Scope) → ModuleNames → (all : List Naming) → World → Meaning → (turns : ℕ) →
     List Naming →

@@ -1,9 +1,9 @@
 -- What is asked of a module, of its names, of the environment and of the meaning.
 --
--- Throughout, p is a module, f a function, mostly with its names, n are names, g is the number of a
--- function, h a handle, e an expression or a constant tree, i an index, m the meaning, w a word, xs
--- are operands, r is a result, k a type, s are settings, v is a value, and a and b are keys of
--- names or bodies.
+-- Throughout, p is a module, f a function, mostly with its names, n are names, g
+-- is the number of a function, h a handle, e an expression or a constant tree, i
+-- an index, m the meaning, w a word, xs are operands, r is a result, k a type, s
+-- are settings, v is a value, and a and b are keys of names or bodies.
 use Rattle.std.specs.Prelude.{◌≡◌, ◌≢◌, ℕ, ◌<◌, Bool, true, false, List, [], ◌∷◌, length, Option}
 use Rattle.std.specs.Prelude.{Some, None, ◌&&◌, IsTrue, ◌≤◌, slice_get}
 use Rattle.shader_runs.specs.Value.{Bytes, same_bytes, PartTypes, ValueType, BooleanType}
@@ -319,8 +319,8 @@ pub record InitialiserFits (p : Module) (n : ModuleNames) (rank : ℕ → ℕ) (
   pub words : EachWord (OperatesOutside p n) e
   pub before : EachLeaf (λ v. Unit {0}) (λ k. k < constant_count p → rank k < rank i) e
 
--- the named constants, in whatever order they are declared. As each has a rank, none leads back to
--- itself
+-- the named constants, in whatever order they are
+-- declared. As each has a rank, none leads back to itself
 pub record ConstantsFit (p : Module) (n : ModuleNames) : Type 0 where
   pub counted : constant_count p ≤ length p.constant_types
   pub rank : ℕ → ℕ

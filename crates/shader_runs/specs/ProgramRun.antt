@@ -113,8 +113,8 @@ on_two f (x ∷ []) = None
 on_two f (x ∷ y ∷ []) = f x y
 on_two f (x ∷ y ∷ z ∷ vs) = None
 
--- an index through a pointer makes a pointer to the part; into another value it gives what the
--- meaning says
+-- an index through a pointer makes a pointer to the part;
+-- into another value it gives what the meaning says
 abbrev pub index_value_by : Meaning → Option Place → Value → Value → Option Value
 index_value_by m (Some p) v i = option_map (λ z. Pointer (Part p (At z))) (integer_in i)
 index_value_by m None v i = Some (m IndexWord (v ∷ i ∷ []))
@@ -123,8 +123,8 @@ index_value_by m None v i = Some (m IndexWord (v ∷ i ∷ []))
 abbrev pub index_value_of : Meaning → Value → Value → Option Value
 index_value_of m v i = index_value_by m (place_in v) v i
 
--- a member or an element through a pointer makes a pointer to the part; of another value it is what
--- the meaning says
+-- a member or an element through a pointer makes a pointer
+-- to the part; of another value it is what the meaning says
 abbrev pub part_value_by : Meaning → Selector → Option Place → Value → Option Value
 part_value_by m x (Some p) v = Some (Pointer (Part p (step_of x)))
 part_value_by m x None v = Some (m (PartWord x) (v ∷ []))
@@ -393,8 +393,8 @@ abbrev pub called : Bool → Reached (Option Value) → List Event → Reached (
 called true a t = a
 called false a t = Halts Stuck t
 
--- a call of one of these functions, the last one first: its number is that of the functions behind
--- it
+-- a call of one of these functions, the last one
+-- first: its number is that of the functions behind it
 abbrev pub run_call : Environment → World → Meaning → ℕ → List Function → ℕ → List Value →
     List Event → Reached (Option Value)
 run_call env w m n [] g vs t = Halts Stuck t

@@ -74,8 +74,8 @@ AtomicRow =
 
 -- ---- images
 
--- the types of an image with layers, of a sampler, of what is taken from an image, and of a
--- coordinate
+-- the types of an image with layers, of a sampler, of
+-- what is taken from an image, and of a coordinate
 abbrev pub layers_type : Bytes
 layers_type = codes "texture_2d_array<f32>"
 
@@ -292,8 +292,8 @@ EdgeRow =
 
 -- ---- collectives, barriers, a ballot and a ray trace
 
--- a number of the work group, the payload of a ray, and the types of a scene, of a ray and of a
--- ballot
+-- a number of the work group, the payload of a ray,
+-- and the types of a scene, of a ray and of a ballot
 abbrev pub cell_type : Bytes
 cell_type = codes "ptr<workgroup, i32>"
 

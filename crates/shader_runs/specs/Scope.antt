@@ -212,8 +212,8 @@ abbrev pub forgotten_if : Bool → Handles → Handles → Handles
 forgotten_if true s now = forgotten_handles s now
 forgotten_if false s now = now
 
--- those that a list leaves to its loop's `continuing`: no name from the first statement with a
--- `continue` on
+-- those that a list leaves to its loop's `continuing`:
+-- no name from the first statement with a `continue` on
 abbrev pub after_all : Naming → ℕ → Statements → Handles → Handles
 after_all f k end s = s
 after_all f k (then st ss) s =
@@ -274,8 +274,8 @@ abbrev mutual
 abbrev pub before_local : Function → ℕ → Function
 before_local f i = record f { first_values = take i f.first_values }
 
--- the initialisers of locals, from this one on, are in scope at the start, where the locals before
--- them are
+-- the initialisers of locals, from this one on, are in
+-- scope at the start, where the locals before them are
 abbrev pub first_values_fit : Function → ℕ → List (Option ℕ) → Bool
 first_values_fit f i [] = true
 first_values_fit f i (o ∷ os) =

@@ -24,8 +24,8 @@ use Rattle.shader_runs.specs.Text.{IfElse, SwitchOn, LoopOf, BreakLine, Continue
 use Rattle.shader_runs.specs.Text.{DiscardLine, Perform, Lines, last, before, Groups, no_group}
 use Rattle.shader_runs.specs.Text.{group, Variable, ModuleVariable, TextFunction}
 
--- what an expression stands for: a value, or a reference, the place of a variable or of a part of
--- one
+-- what an expression stands for: a value, or a
+-- reference, the place of a variable or of a part of one
 pub data Denoted : Type 0 where
   IsValue : Value → Denoted
   IsPlace : Place → Denoted
@@ -258,8 +258,8 @@ abbrev pub with_variables : List Variable → (entries index : ℕ) → Scope �
 with_variables [] k i names = names
 with_variables (x ∷ xs) k i names = with_variables xs k (suc i) (with_variable x k i names)
 
--- what a module-level variable's name stands for: the value that is held, or a place of the
--- declared type
+-- what a module-level variable's name stands for: the
+-- value that is held, or a place of the declared type
 abbrev pub global_denoted : (pointer : Bytes) → ℕ → Option Value → Denoted
 global_denoted pointer i None = IsPlace (Rooted (GlobalRoot pointer i))
 global_denoted pointer i (Some v) = IsValue v
@@ -282,8 +282,8 @@ pub data WordUse : Type 0 where
   AsksForEvent : WordUse
   Operates : WordUse
 
--- what a word does that is the name of no function which stands before. A function behind can't be
--- called
+-- what a word does that is the name of no function which
+-- stands before. A function behind can't be called
 abbrev pub respond_by_use :
     WordUse → World → Meaning → Bytes → List Value → List Event → Reached (Option Value)
 respond_by_use NamesFunction w m word vs t = Halts Stuck t
@@ -338,8 +338,8 @@ follow_body l n g f vs names t =
     entered_by g vs (first_of_each l f.variables (entries t) 0 names t)
     (λ t1. answer (follow_all l n f.lines (with_variables f.variables (entries t) 0 names) t1))
 
--- a word among these functions, the last one first; uses tells what a word is that names none of
--- these functions
+-- a word among these functions, the last one first; uses
+-- tells what a word is that names none of these functions
 abbrev pub follow_call : Scope → World → Meaning → (uses : Bytes → WordUse) → ℕ →
     List TextFunction → Bytes → List Value → List Event → Reached (Option Value)
 follow_call outer w m uses n [] word vs t = respond_by_use (uses word) w m word vs t

@@ -62,8 +62,8 @@ pub data IsSpelled (p : Module) (x : Signature) : Type 0 where
   in_initialiser : (i : ℕ) (e : ConstantTree) → slice_get p.initialisers i ≡ Some e →
       IsOneOf x (constant_signatures p e) → IsSpelled p x
 
--- an integer's index through a pointer gives a pointer to the part, which is of one type whatever
--- the index is
+-- an integer's index through a pointer gives a pointer to
+-- the part, which is of one type whatever the index is
 abbrev pub AccessFits : PartTypes → (base index result : ValueType) → Type 0
 AccessFits parts (PointerType whole) (IntegerType spelling) k =
     (z : ℤ) → k ≡ PointerType (parts whole (At z))

@@ -1,4 +1,7 @@
 -- Worked programs, and beside each its text.
+--
+-- Throughout, w is a word, t a type, e an expression, s a statement or an address space, n a
+-- number, f a function, a an attribute or a space, m an access, and i an interpolation.
 use Prim.Native.String.{String}
 use Rattle.std.specs.Prelude.{◌≡◌, ℕ, true, false, List, [], ◌∷◌, ◌++◌, codes, Option, None, Some}
 use Rattle.wgsl_text.specs.Token.{SuffixI, SuffixU, SuffixLi}

@@ -1,4 +1,6 @@
 -- Worked programs that are too large to be written out: their texts by recursion.
+--
+-- Throughout, n is the depth.
 use Rattle.std.specs.Prelude.{◌≡◌, ℕ, zero, suc, ◌*◌, List, [], ◌∷◌, ◌++◌, codes, length, replicate}
 use Rattle.wgsl_text.specs.Tree.{Add, Template, NoParts, TypePart, Expression, Binary, Index}
 use Rattle.wgsl_text.specs.Tree.{ReturnValue, Block, Statements, NoStatements, Then, NoResult}

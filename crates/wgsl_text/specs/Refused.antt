@@ -1,4 +1,6 @@
 -- Texts without a reading.
+--
+-- Throughout, t is a type, and e an expression.
 use Rattle.std.specs.Prelude.{ℕ, List, [], ◌∷◌, codes}
 use Rattle.wgsl_text.specs.Tree.{TypeSpecifier, Expression, Program}
 use Rattle.wgsl_text.specs.Examples.{lines}

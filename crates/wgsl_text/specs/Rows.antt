@@ -1,4 +1,6 @@
 -- A tree for each row of the grammar, and beside it its text.
+--
+-- Throughout, t is a type, and e an expression.
 use Prim.Native.String.{String}
 use Rattle.std.specs.Prelude.{◌≡◌, ℕ, true, false, List, [], ◌∷◌, codes, None, Some}
 use Rattle.wgsl_text.specs.Token.{SuffixI, SuffixLi, SuffixLu}

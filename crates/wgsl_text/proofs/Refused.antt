@@ -11,7 +11,7 @@ use Rattle.wgsl_text.specs.Reading.{ReadsType, ReadsExpression, Reads}
 use Rattle.wgsl_text.specs.Refused.{Refused, IsNoExpression}
 use Rattle.wgsl_text.proofs.Machine.{State, Want, WantType, Got, GotType, Bottom, InProgram}
 use Rattle.wgsl_text.proofs.DeclarationRuns.{newest_first, newest_twice}
-use Rattle.wgsl_text.proofs.OneReading.{read, type_read, expression_read, program_read, same_type, same_expression, same_program}
+use Rattle.wgsl_text.proofs.Reading.{read, type_read, expression_read, program_read, same_type, same_expression, same_program}
 
 abbrev is_type : State → Bool
 is_type (GotType t Bottom) = true
