@@ -5,6 +5,11 @@
 -- declares more than scalar types and functions, or whose expressions are others than literals,
 -- arguments, locals, loads of locals and sums, differences and products, or whose statements are
 -- others than `Emit`, `Store` and `Return`.
+--
+-- Throughout, m is a module, f a function (fs are several), es is what is known of its expressions
+-- (ess are those of several functions), h a handle, e an expression (xs are several), k what is
+-- known of it, l a local, a an argument, r a result, t a type, s a statement or the special types,
+-- and b the rest of a block.
 use Rattle.std.specs.Prelude.{ℕ, Bool, true, false, ◌&&◌, List, [], ◌∷◌, length, Option, Some, None}
 use Rattle.std.specs.Prelude.{◌==◌, nat_lt, nat_le, ◌+◌, if◌then◌else◌, slice_get}
 use Rattle.std.specs.List.{list_all}

@@ -1,5 +1,9 @@
--- Operators that are spelled alike, over operands of types alike, have types alike, across a whole
--- module.
+-- Operators that are spelled alike, over operands of
+-- types alike, have types alike, across a whole module.
+--
+-- Throughout, a and b are two operations, o is one (os are several),
+-- f is a function (fs are several), xs are its expressions, es what
+-- is known of them, and p is an index with its expression.
 use Rattle.std.specs.Prelude.{ℕ, Bool, true, ◌&&◌, List, [], ◌∷◌, ◌++◌, Option, Some, if◌then◌else◌}
 use Rattle.std.specs.List.{list_all, flat_map, enumerate_from}
 use Rattle.std.specs.Str.{bytes_eq}
@@ -10,8 +14,8 @@ use Rattle.naga_ir.specs.declared.types.Type_.{Type_}
 use Rattle.naga_info.specs.declared.info.ExpressionInfo.{ExpressionInfo}
 use Rattle.accepted_modules.specs.Types.{spelling_at, operator_word}
 
--- an operator where it is used: its word, and the spellings of the types of its operands and of its
--- result
+-- an operator where it is used: its word, and the
+-- spellings of the types of its operands and of its result
 pub record Operation : Type 0 where
   pub operator : List ℕ
   pub left : List ℕ

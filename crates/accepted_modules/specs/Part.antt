@@ -1,4 +1,7 @@
 -- What is written so far of the modules. Others are refused as not yet written.
+--
+-- Throughout, m is a module, f a function, es are its expressions, h is a handle, l a local, a an
+-- argument, r a result, s a statement, and b the rest of a block.
 use Rattle.std.specs.Prelude.{Bool, true, false, ◌&&◌, List, length, ◌==◌, Option, Some, slice_get}
 use Rattle.std.specs.List.{list_all}
 use Rattle.std.specs.Option.{option_map_or, is_some, is_none}
@@ -14,8 +17,8 @@ use Rattle.naga_ir.specs.declared.module.Module.{Module}
 use Rattle.accepted_modules.specs.Types.{literal_word, operator_word}
 use Rattle.accepted_modules.specs.Accepted.{declares_functions, is_scalar_type}
 
--- a literal of one of the scalar types, an argument, a local, a load, or a sum, a difference or a
--- product
+-- a literal of one of the scalar types, an argument, a
+-- local, a load, or a sum, a difference or a product
 abbrev pub expression_is_written : Expression → Bool
 expression_is_written (Literal value) = is_some (literal_word value)
 expression_is_written (FunctionArgument number) = true

@@ -1,5 +1,8 @@
--- How types are spelled, of those that are told apart so far. Types are alike where they are
--- spelled alike.
+-- How types are spelled, of those that are told apart
+-- so far. Types are alike where they are spelled alike.
+--
+-- Throughout, s is a scalar, w the width of one, t a type, es is what is known of a function's
+-- expressions, e what is known of one, and n a number; a and b are two spellings.
 use Rattle.std.specs.Prelude.{ℕ, ℤ, pos, negsuc, ◌^◌, nat_lt, Bool, true, false, List, ◌++◌, Option}
 use Rattle.std.specs.Prelude.{Some, None, ◌==◌, if◌then◌else◌, codes, slice_get}
 use Rattle.std.specs.Option.{option_map, option_and_then}

@@ -1,4 +1,6 @@
 -- The base of a label: the part of an identifier that comes from the label alone.
+--
+-- Throughout, c is a character (cs are several), d the next one, and n a number.
 use Rattle.std.specs.Prelude.{ℕ, ◌-◌, Bool, false, not, ◌||◌, ◌&&◌, ◌==◌, if◌then◌else◌, List, []}
 use Rattle.std.specs.Prelude.{◌∷◌, ◌++◌, length, drop, replicate, codes}
 use Rattle.std.specs.Fmt.{digits}
@@ -54,8 +56,8 @@ abbrev pub begins_foreign : List ℕ → Bool
 begins_foreign [] = false
 begins_foreign (c ∷ cs) = is_foreign c
 
--- the characters spelled one after another and squeezed, without the `_` of a foreign first
--- character
+-- the characters spelled one after another and squeezed,
+-- without the `_` of a foreign first character
 unfoldable pub spelling : List ℕ → List ℕ
 spelling characters =
     let text = squeezed (flat_map spelled characters) in

@@ -1,4 +1,7 @@
 -- What holds of every name, after whatever was named before.
+--
+-- Throughout, t is the handle of a type ty, n and k are indexes of its members, i and j those of
+-- items; a and b are labels, items or members, and h is the handle of an expression.
 use Rattle.std.specs.Prelude.{◌≡◌, ℕ, ◌<◌, ◌≤◌, ◌^◌, map, List, [], ◌∷◌, nat_eq, ◌++◌, take, true}
 use Rattle.std.specs.Prelude.{false, codes, decimal, slice_get, Some}
 use Rattle.std.specs.List.{starts_with}
@@ -16,15 +19,15 @@ use Rattle.naga_ir.specs.declared.types.Type_.{Type_}
 use Rattle.naga_keywords.specs.declared.keywords.TheConstants.{RESERVED}
 use Rattle.name_keys.specs.declared.key.NameKey.TheVariants as key
 
--- a name has ASCII letters, digits and `_` alone, begins with no digit and not with `__`, and is
--- not `_`
+-- a name has ASCII letters, digits and `_` alone, begins
+-- with no digit and not with `__`, and is not `_`
 abbrev pub NamesAreIdentifiers : Type 0
 NamesAreIdentifiers =
     (start : Names) (earlier : List (List ℕ)) (label : List ℕ) →
     is_identifier (name_after start earlier label) ≡ true
 
--- where identifiers keep off the prefixes `__` and `_naga`, no name begins with `_naga`; none ever
--- begins with `__`
+-- where identifiers keep off the prefixes `__` and `_naga`,
+-- no name begins with `_naga`; none ever begins with `__`
 abbrev pub NamesKeepOffNaga : Type 0
 NamesKeepOffNaga =
     (start : Names) (earlier : List (List ℕ)) (label : List ℕ) →
@@ -56,8 +59,8 @@ NamesAreNotNumbered =
     (start : Names) (earlier : List (List ℕ)) (label : List ℕ) (h : ℕ) →
     name_after start earlier label ≡ codes "_e" ++ decimal h → ⊥
 
--- labels at two places have different names, as long as no base comes more often than can be
--- counted
+-- labels at two places have different names, as long
+-- as no base comes more often than can be counted
 abbrev pub NamesDiffer : Type 0
 NamesDiffer =
     (start : Names) (first : List (List ℕ)) (a : List ℕ) (middle : List (List ℕ)) (b : List ℕ)

@@ -1,4 +1,6 @@
 -- The names that a `Namer` gives.
+--
+-- Throughout, n are names, and p their parts as a pair.
 use Rattle.std.specs.Prelude.{◌≡◌, ℕ, ◌+◌, ◌-◌, ◌^◌, ◌≤◌, Bool, ◌||◌, ◌==◌, if◌then◌else◌, List}
 use Rattle.std.specs.Prelude.{◌++◌, length, slice_index, [], codes, count_by, unwrap_or, decimal}
 use Rattle.std.specs.Prelude.{refl, string_bytes}
@@ -93,8 +95,8 @@ is_taken names word =
 abbrev pub ends_in_digit : List ℕ → Bool
 ends_in_digit text = is_ascii_digit (slice_index text (length text - 1))
 
--- the first name of a base has a `_` behind it where the base ends in a digit or is in one of the
--- sets
+-- the first name of a base has a `_` behind it where
+-- the base ends in a digit or is in one of the sets
 abbrev pub first_name : Names → List ℕ → List ℕ
 first_name names base =
     if ends_in_digit base || is_taken names base then base ++ codes "_" else base

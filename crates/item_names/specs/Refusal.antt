@@ -12,8 +12,8 @@ use Rattle.name_keys.specs.Keys.{NameMap}
 use Rattle.item_names.specs.Reset.{Labelled, members_of, is_member, labels_of, keys_fit}
 use Rattle.item_names.specs.Reset.{labelled_items, HasNamedItems, PutsBeginning}
 
--- `Full` comes only where the label's base is full, `KeyFull` never, and `Memory` may come at any
--- time
+-- `Full` comes only where the label's base is full,
+-- `KeyFull` never, and `Memory` may come at any time
 abbrev pub IsRefusalOf : Names → List ℕ → NamerError → Type 0
 IsRefusalOf names label Full = IsFull names label
 IsRefusalOf names label KeyFull = ⊥
@@ -55,8 +55,8 @@ pub record HasLongEntryPoint (module_ : Module) : Type 0 where
   pub there : slice_get module_.entry_points.items place ≡ Some entry_point
   pub long : 2 ^ 32 < length entry_point.function.arguments.items
 
--- the module has more than 65,536 entry points, or an index of a member or of an argument that is
--- no `u32`
+-- the module has more than 65,536 entry points, or an
+-- index of a member or of an argument that is no `u32`
 abbrev pub KeysRunOut : Module → Type 0
 KeysRunOut module_ =
     (2 ^ 16 < length module_.entry_points.items)
@@ -73,8 +73,8 @@ IsRefusalOfItems start items (Memory e) = ⊤
 abbrev pub IsResetRefusal : Names → Module → NamerError → Type 0
 IsResetRefusal start module_ error = IsRefusalOfItems start (labelled_items start module_) error
 
--- after any items that were named before, these are refused for a reason, and the map has the names
--- of some beginning
+-- after any items that were named before, these are refused
+-- for a reason, and the map has the names of some beginning
 pub record RefusesItems (old : Names) (before : NameMap) (items : List Labelled) (now : NameMap)
     (error : NamerError) : Type 0 where
   pub some : (start : Names) (first : NameMap) (earlier : List Labelled) →

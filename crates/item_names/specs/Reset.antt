@@ -1,4 +1,8 @@
 -- What `reset` names, and in which order.
+--
+-- Throughout, t is the handle of a type, f that of a function, g that
+-- of a global, e the index of an entry point, l and n those of a
+-- local and of an argument or a member, and p an index with its item.
 use Rattle.std.specs.Prelude.{◌≡◌, ℕ, ◌-◌, ◌^◌, List, [], ◌∷◌, ◌++◌, length, drop, map, Option}
 use Rattle.std.specs.Prelude.{Some, None, Bool, true, false, ◌&&◌, ◌==◌, if◌then◌else◌, nat_lt}
 use Rattle.std.specs.Prelude.{unwrap_or, slice_get, codes, string_bytes}
@@ -57,8 +61,8 @@ abbrev pub is_struct : TypeInner → Bool
 is_struct (Struct members span) = true
 is_struct other = false
 
--- the label of a type, or what it is labelled without one: a struct by the entry points that return
--- it
+-- the label of a type, or what it is labelled without
+-- one: a struct by the entry points that return it
 abbrev pub type_label : List EntryPoint → ℕ → Type_ → List ℕ
 type_label entry_points t ty =
     label_or ty.name
@@ -174,8 +178,8 @@ labelled_declarations module_ =
     (labelled_functions module_.types module_.functions ++
     labelled_globals module_.types module_.global_variables))
 
--- the key can be told: the index of an entry point is a `u16`, and that of a member or an argument
--- a `u32`
+-- the key can be told: the index of an entry point is
+-- a `u16`, and that of a member or an argument a `u32`
 abbrev pub key_fits : NameKey → Bool
 key_fits (key.StructMember t n) = nat_lt n (2 ^ 32)
 key_fits (key.FunctionArgument f n) = nat_lt n (2 ^ 32)
@@ -206,8 +210,8 @@ labels_beside (key.StructMember t n) earlier =
     map (λ item. item.1) (drop (length earlier - n) earlier)
 labels_beside other earlier = labels_of earlier
 
--- what the members of structs are named by: the same words and prefixes, but no builtin words, and
--- no uses
+-- what the members of structs are named by: the same
+-- words and prefixes, but no builtin words, and no uses
 abbrev pub member_names : Names → Names
 member_names names = record names { builtin_identifiers = set.empty; uses = finite.empty }
 
@@ -268,8 +272,8 @@ labelled_items start module_ =
 abbrev pub type_names_in : NameMap → ℕ → ℕ → List ℕ
 type_names_in names count t = if nat_lt t count then unwrap_or (names (key.Type_ t)) [] else []
 
--- a `Namer` that began as `start`, with no uses, and gave these items their names, which were put
--- into a map
+-- a `Namer` that began as `start`, with no uses, and gave
+-- these items their names, which were put into a map
 pub record HasNamedItems (start : Names) (before : NameMap) (items : List Labelled) (names : Names)
     (now : NameMap) : Type 0 where
   pub words : names ≡ record start { uses = names.uses }

@@ -1,4 +1,6 @@
 -- What a `TypeResolution` stands for, by a module's types.
+--
+-- Throughout, h is the handle of a type, and t a type.
 use Rattle.std.specs.Prelude.{ℕ, ◌<◌, List, length, Option, Some, None, slice_get}
 use Rattle.std.specs.Option.{option_map}
 use Rattle.naga_ir.specs.declared.types.Type_.{Type_}

@@ -1,4 +1,7 @@
 -- Where the expressions of a function stand at a point of its text, as the code keeps it.
+--
+-- Throughout, h is a handle, es are a function's expressions, o tells whether one is an operator,
+-- and u whether its operands are usable.
 use Rattle.std.specs.Prelude.{ℕ, Bool, true, false, List, Option, Some, None, nat_lt, slice_get}
 use Rattle.std.specs.Prelude.{get_or, ◌||◌}
 use Rattle.std.specs.Option.{option_map}
@@ -20,8 +23,8 @@ standing_of name Everywhere = runs.Everywhere
 standing_of name Inline = runs.Inline
 standing_of name Named = runs.Named name
 
--- what a table of one cell for each expression says of each handle; one past the table's end is
--- absent
+-- what a table of one cell for each expression says
+-- of each handle; one past the table's end is absent
 abbrev pub handles_of : List Standing → runs.Handles
 handles_of table h = standing_of (numbered_name h) (get_or table h Absent)
 

@@ -13,7 +13,7 @@ use Rattle.name_keys.specs.Keys.{NameMap}
 use Rattle.wgsl_text.specs.Reading.{Reads, HasOneReading}
 use Rattle.wgsl_text.specs.Text.{tokens}
 use Rattle.wgsl_text.specs.Tree.{Program}
-use Rattle.wgsl_text.proofs.OneReading.{program_has_one_reading}
+use Rattle.wgsl_text.proofs.Reading.{program_has_one_reading}
 use Rattle.naga_form.specs.Faithful.{HasInterfaceOf, RunsAs}
 use Rattle.naga_form.specs.Form.{written_program}
 use Rattle.naga_form.specs.Premises.{nothing_named, scope_holds, handles_are_counted}

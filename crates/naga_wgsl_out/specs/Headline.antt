@@ -1,4 +1,6 @@
 -- Faithful writing: what is promised of each call that writes an accepted module.
+--
+-- Throughout, m is the module.
 use Rattle.std.specs.Prelude.{◌≡◌, ℕ, List, [], ◌++◌, string_bytes, Result, Ok, Err, OnOk}
 use Rattle.std.specs.declared.string.String.{String}
 use Rattle.naga_ir.specs.declared.module.Module.{Module}

@@ -1,4 +1,6 @@
 -- Why a module is refused, each reason with what it says.
+--
+-- Throughout, m is the module, and e an error of memory.
 use Rattle.std.specs.Prelude.{◌≡◌, ⊤, ℕ, List, ◌⊎◌, codes, string_bytes, IsTrue, IsFalse, Result}
 use Rattle.std.specs.Prelude.{Ok, Err}
 use Rattle.naga_ir.specs.declared.module.Module.{Module}

@@ -1,4 +1,6 @@
 -- What contracts see of a writer, and the text that it writes.
+--
+-- Throughout, m is the module, and p a handle with its function.
 use Rattle.std.specs.Prelude.{ℕ, List, ◌++◌, codes}
 use Rattle.std.specs.List.{flat_map}
 use Rattle.naga_ir.specs.declared.module.Function.{Function}

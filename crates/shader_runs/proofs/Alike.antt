@@ -2,7 +2,7 @@
 use Rattle.std.proofs.Common.{◌≡◌, ℕ, zero, suc, Bool, true, false, List, Option, Some, None, refl, sym, subst, cond, option_map, option_and_then}
 use Rattle.shader_runs.specs.Value.{Place, Value, truth_in, place_in}
 use Rattle.shader_runs.specs.World.{Event}
-use Rattle.shader_runs.specs.Outcome.{Stop, Mistyped, Outcome, Done, Continued, Broke, Returned, Stopped, Reached, Gives, Halts, answer, Next, and_then, and_continue, within, and_again, turns, after_switch, closed, chosen, or_stuck, reach}
+use Rattle.shader_runs.specs.Outcome.{Stop, Mistyped, Outcome, Done, Continued, Broke, Returned, Stopped, Reached, Gives, Halts, answer, Next, and_then, and_continue, within, and_again, turns, after_switch, closed_outcome, branch_by, or_stuck, reach}
 use Rattle.shader_runs.specs.ProgramRun.{if_typed, with_pointer}
 use Rattle.shader_runs.specs.TextRun.{Denoted, IsPlace, with_value, with_place}
 
@@ -73,7 +73,7 @@ turns_alike once zero s t e i = stopped
 turns_alike once (suc n) s t e i = again_alike (turns_alike once n) (once s t e i)
 
 -- the second run's state is put back
-pub closed_alike : {S T : Type 0} {R : Option Value → Type 0} {P Q B P' Q' B' : S → T → Type 0} {o : Outcome S} {o' : Outcome T} → (t : T) → ((s : S) (t1 : T) → P s t1 → P' s t) → ((s : S) (t1 : T) → Q s t1 → Q' s t) → ((s : S) (t1 : T) → B s t1 → B' s t) → Alike R P Q B o o' → Alike R P' Q' B' o (closed t o')
+pub closed_alike : {S T : Type 0} {R : Option Value → Type 0} {P Q B P' Q' B' : S → T → Type 0} {o : Outcome S} {o' : Outcome T} → (t : T) → ((s : S) (t1 : T) → P s t1 → P' s t) → ((s : S) (t1 : T) → Q s t1 → Q' s t) → ((s : S) (t1 : T) → B s t1 → B' s t) → Alike R P Q B o o' → Alike R P' Q' B' o (closed_outcome t o')
 closed_alike t p q b (done {s = s} {t = t1} h) = done (p s t1 h)
 closed_alike t p q b (continued {s = s} {t = t1} h) = continued (q s t1 h)
 closed_alike t p q b (broke {s = s} {t = t1} h) = broke (b s t1 h)
@@ -86,7 +86,7 @@ pub there_alike : {A S T : Type 0} {R : Option Value → Type 0} {P Q B : S → 
 there_alike None e f g h = stopped
 there_alike (Some a) e f g h = h a
 
-pub chosen_alike : {S T : Type 0} {R : Option Value → Type 0} {P Q B : S → T → Type 0} {a b : Outcome S} {a' b' : Outcome T} → (v : Value) (e : List Event) → Alike R P Q B a a' → Alike R P Q B b b' → Alike R P Q B (chosen v e a b) (chosen v e a' b')
+pub chosen_alike : {S T : Type 0} {R : Option Value → Type 0} {P Q B : S → T → Type 0} {a b : Outcome S} {a' b' : Outcome T} → (v : Value) (e : List Event) → Alike R P Q B a a' → Alike R P Q B b b' → Alike R P Q B (branch_by v e a b) (branch_by v e a' b')
 chosen_alike {R = R} {P = P} {Q = Q} {B = B} {a = a} {b = b} {a' = a'} {b' = b'} v e h k = there_alike (truth_in v) e _ _ go
   where
     go : (y : Bool) → Alike R P Q B (cond y a b) (cond y a' b')

@@ -1,5 +1,5 @@
 -- Calls, by the functions of a module in their order.
-use Rattle.std.proofs.Common.{◌≡◌, ◌≢◌, ℕ, suc, ◌+◌, ◌<◌, ◌≤◌, min, Bool, true, false, cond, nat_eq, List, [], ◌∷◌, take, length, Option, Some, None, slice_get, refl, sym, ap, ◌∙◌, subst, add-zero, zero-add, arith, eqb-true, map}
+use Rattle.std.proofs.Common.{◌≡◌, ◌≢◌, ℕ, suc, ◌+◌, ◌<◌, ◌≤◌, min, Bool, true, false, cond, nat_eq, List, [], ◌∷◌, take, length, Option, Some, None, slice_get, refl, sym, ap, ◌∙◌, subst, add-zero, zero-add, arith, eqb-true, map, option_map}
 use Rattle.std.proofs.Math.Nat.{min-le_right}
 use Rattle.std.proofs.lemmas.List.{length-take, length-take-le}
 use Rattle.std.proofs.lemmas.Option.{slice_get_within, none-some, same_Some}
@@ -9,7 +9,7 @@ use Rattle.shader_runs.specs.Value.{Bytes, same_bytes, PartTypes, ValueType, has
 use Rattle.shader_runs.specs.World.{Event, Entry, entries, World, Meaning, Environment, bind, Settings}
 use Rattle.shader_runs.specs.Outcome.{Stuck, Reached, Gives, Halts, answer, reach}
 use Rattle.shader_runs.specs.Program.{ConstantTree, Fixed, NamedConstant, Constructed, ConstantTrees, no_constant, constant, Expression, Constant, Operator, Request, Function, argument_count, local_count, function_numbered, expression_of, handle_type, operands_of, from, Statement, Emit, Store, Block, If, Switch, Loop, Break, Continue, Return, Kill, Barrier, Act, Statements, end, then, Cases, no_case, case, Module, any_continue}
-use Rattle.shader_runs.specs.ProgramRun.{Call, Kept, constants_kept, called, used, wrapped, with_first, first_used, first_used_all, entered, run_all, run_body, run_call}
+use Rattle.shader_runs.specs.ProgramRun.{Call, Kept, constants_kept, called, used_value, with_first, first_used, first_used_all, entered, run_all, run_body, run_call}
 use Rattle.shader_runs.specs.TextRun.{Scope, Words, WordUse, NamesFunction, AsksForEvent, Operates, value_of, with_parameters, with_variables, with_globals, no_names, respond_by_use, word_use, put_first, first_followed, first_then, first_of_each, entered_by, follow_all, follow_body, follow_call}
 use Rattle.shader_runs.specs.Scope.{ModuleNames, Naming, usable, usable_if, given_after, given_after_all, given_by, given_by_all, given_by_cases, at_start, before_local, first_values_fit, fits_all, after_all}
 use Rattle.shader_runs.specs.Form.{names_from, variables_from, globals_from, value_at, value_if, form_all, form_function, form_functions, form_module, functions_of}
@@ -21,7 +21,7 @@ use Rattle.shader_runs.proofs.Alike.{Answers, same_answer, mistyped_answer, alik
 use Rattle.shader_runs.proofs.Update.{and_left, and_right, same_bytes_equal, same_bytes_apart, has_types_length}
 use Rattle.shader_runs.proofs.Relation.{Returns, global_as, IsHere, NoName, fixed_denoted, Related}
 use Rattle.shader_runs.proofs.Evaluation.{words, Respond, Responds}
-use Rattle.shader_runs.proofs.Written.{Given, globals_length, value_here}
+use Rattle.shader_runs.proofs.Form.{Given, globals_length, value_here}
 use Rattle.shader_runs.proofs.Checked.{FitsAll}
 use Rattle.shader_runs.proofs.Statements.{Same, same_all}
 use Rattle.shader_runs.proofs.Fresh.{all_fresh, start_sources}
@@ -69,7 +69,7 @@ put_reached : (o : Option (List (Option Value))) (t : List Event) → put_first 
 put_reached None t = refl
 put_reached (Some firsts) t = refl
 
-followed_firsts : (o : Option Value) (os : Option (List (Option Value))) (t : List Event) (rest : List Event → Reached (List (Option Value))) → ((t : List Event) → rest t ≡ reached_firsts os t) → first_followed (reach o t) rest ≡ reached_firsts (with_first (wrapped o) os) t
+followed_firsts : (o : Option Value) (os : Option (List (Option Value))) (t : List Event) (rest : List Event → Reached (List (Option Value))) → ((t : List Event) → rest t ≡ reached_firsts os t) → first_followed (reach o t) rest ≡ reached_firsts (with_first (option_map Some o) os) t
 followed_firsts None os t rest h = refl
 followed_firsts (Some v) None t rest h = ap (put_first (Some v)) (h t)
 followed_firsts (Some v) (Some firsts) t rest h = ap (put_first (Some v)) (h t)
@@ -348,7 +348,7 @@ module _ (p : Module) (n : ModuleNames) (uses : Bytes → WordUse) (uses_fit : U
         }
 
     -- a handle at the start
-    pub first_value_here : IsTrue (has_types env.parts f.function.argument_types vs) → length vs ≡ argument_count f.function → (h : ℕ) → IsTrue (usable f.function (at_start f.function) h) → (t1 : List Event) → value_of (words (call_of fs f vs t) (responses fs)) (value_at f (at_start f.function) h) (first_names n f vs t) t1 ≡ reach (used (call_of fs f vs t) (constants_kept f.function env m) h) t1
+    pub first_value_here : IsTrue (has_types env.parts f.function.argument_types vs) → length vs ≡ argument_count f.function → (h : ℕ) → IsTrue (usable f.function (at_start f.function) h) → (t1 : List Event) → value_of (words (call_of fs f vs t) (responses fs)) (value_at f (at_start f.function) h) (first_names n f vs t) t1 ≡ reach (used_value (call_of fs f vs t) (constants_kept f.function env m) h) t1
     first_value_here k e h u t1 =
         value_here p (call_of fs f vs t) f.names (responses fs) (given k) (at_start f.function) (first_names n f vs t) (constants_kept f.function env m) (starts e) h u t1
 
@@ -385,7 +385,7 @@ module _ (p : Module) (n : ModuleNames) (uses : Bytes → WordUse) (uses_fit : U
         let value = first_value_here fs within fits earlier (before f i) fit1 (typed_before p f i env.parts m typed) vs t k e h u t1 in
         ap (λ z. first_followed (value_of spelled (value_at f (at_start f.function) h) z t1) rest) q
         ∙ ap (λ q. first_followed q rest) value
-        ∙ followed_firsts (used (call_of fs f vs t) kept h) os t1 rest r
+        ∙ followed_firsts (used_value (call_of fs f vs t) kept h) os t1 rest r
 
     firsts_reached : IsTrue (has_types env.parts f.function.argument_types vs) → length vs ≡ argument_count f.function → (os : List (Option ℕ)) (i : ℕ) → ((k : ℕ) → slice_get os k ≡ slice_get all (k + i)) → IsTrue (first_values_fit f.function i os) → (names : Scope) → names ≡ names_before i → (t1 : List Event) → first_of_each spelled (variables_from f i os) (entries t) i names t1 ≡ reached_firsts (first_used_all (call_of fs f vs t) kept os) t1
     firsts_reached k e [] i at u names q t1 = refl

@@ -4,8 +4,8 @@ use Rattle.std.specs.Prelude.{IsTrue}
 use Rattle.shader_runs.specs.Value.{Bytes, PartTypes, IntegerType, OtherType, type_at, has_type, has_types, Value, Truth, Whole, Pointer, Opaque, Spelled}
 use Rattle.shader_runs.specs.World.{Event, Meaning}
 use Rattle.shader_runs.specs.Program.{ConstantTree, Fixed, NamedConstant, Constructed, ConstantTrees, no_constant, constant, Module}
-use Rattle.shader_runs.specs.ProgramRun.{also, applied, tree_value, tree_values}
-use Rattle.shader_runs.specs.TextRun.{Words, Scope, valued, responded, followed_by, as_value, evaluate, evaluate_all}
+use Rattle.shader_runs.specs.ProgramRun.{also, operator_value, tree_value, tree_values}
+use Rattle.shader_runs.specs.TextRun.{Words, Scope, read_value, word_answer, followed_by, as_value, evaluate, evaluate_all}
 use Rattle.shader_runs.specs.Scope.{ModuleNames}
 use Rattle.shader_runs.specs.Form.{constant_form, constant_forms}
 use Rattle.shader_runs.specs.Premises.{EachWord, EachWordOf, EachLeaf, EachLeafOf, IsLiteral, literal_type, constant_type, constant_types_of, ConstantTyped, ConstantsTyped}
@@ -39,7 +39,7 @@ module _ (parts : PartTypes) (p : Module) (known : ℕ → Option Value) (m : Me
     tree_typed (NamedConstant i) r t = typed i r
     tree_typed (Constructed w ty es) r t =
         let vs = trees_typed es r t.1 in
-        (m (Spelled w) vs.0, ap (applied m (Spelled w)) vs.1, t.0 vs.0 vs.2)
+        (m (Spelled w) vs.0, ap (operator_value m (Spelled w)) vs.1, t.0 vs.0 vs.2)
 
     pub trees_typed : (es : ConstantTrees) → EachLeafOf IsLiteral P es → ConstantsTyped parts p m es → (vs : List Value) × (tree_values known m es ≡ Some vs) × IsTrue (has_types parts (constant_types_of p es) vs)
     trees_typed no_constant r t = ([], refl, refl)
@@ -54,20 +54,20 @@ module _ (known known' : ℕ → Option Value) (m : Meaning) (P : ℕ → Type 0
     pub tree_same : (e : ConstantTree) → EachLeaf IsLiteral P e → tree_value known m e ≡ tree_value known' m e
     tree_same (Fixed v) r = refl
     tree_same (NamedConstant i) r = same i r
-    tree_same (Constructed w ty es) r = ap (applied m (Spelled w)) (trees_same es r)
+    tree_same (Constructed w ty es) r = ap (operator_value m (Spelled w)) (trees_same es r)
 
     trees_same : (es : ConstantTrees) → EachLeafOf IsLiteral P es → tree_values known m es ≡ tree_values known' m es
     trees_same no_constant r = refl
     trees_same (constant e es) r = ap₂ also (tree_same e r.0) (trees_same es r.1)
 
 -- where the names of the constants stand for what is known of them, and no name hides a word, the text of a tree gives its value and makes no event
-module _ (l : Words) (names : Scope) (n : ModuleNames) (known : ℕ → Option Value) (P : ℕ → Type 0) (here : (i : ℕ) → P i → names (n.constant i) ≡ as_denoted (known i)) (Q : Bytes → Type 0) (operates : (w : Bytes) → Q w → (os : Option (List Value)) (t : List Event) → as_value (unless (names w) t (responded l w (reach os t))) ≡ denoted (applied l.meaning (Spelled w) os) t) where
+module _ (l : Words) (names : Scope) (n : ModuleNames) (known : ℕ → Option Value) (P : ℕ → Type 0) (here : (i : ℕ) → P i → names (n.constant i) ≡ as_denoted (known i)) (Q : Bytes → Type 0) (operates : (w : Bytes) → Q w → (os : Option (List Value)) (t : List Event) → as_value (unless (names w) t (word_answer l w (reach os t))) ≡ denoted (operator_value l.meaning (Spelled w) os) t) where
   mutual
     pub tree_gives : (e : ConstantTree) → EachWord Q e → EachLeaf IsLiteral P e → (t : List Event) → evaluate l (constant_form n e) names t ≡ denoted (tree_value known l.meaning e) t
     tree_gives (Fixed v) w r t = refl
     tree_gives (NamedConstant i) w r t = ap (λ z. reach z t) (here i r)
     tree_gives (Constructed word ty es) w r t =
-        ap (λ q. as_value (unless (names word) t (responded l word q))) (trees_give es w.1 r t)
+        ap (λ q. as_value (unless (names word) t (word_answer l word q))) (trees_give es w.1 r t)
         ∙ operates word w.0 (tree_values known l.meaning es) t
 
     pub trees_give : (es : ConstantTrees) → EachWordOf Q es → EachLeafOf IsLiteral P es → (t : List Event) → evaluate_all l (constant_forms n es) names t ≡ reach (tree_values known l.meaning es) t
@@ -75,6 +75,6 @@ module _ (l : Words) (names : Scope) (n : ModuleNames) (known : ℕ → Option V
     trees_give (constant e es) w r t =
         let rest = evaluate_all l (constant_forms n es) names in
         let o = tree_value known l.meaning e in
-        ap (λ q. followed_by (valued l.world q) rest) (tree_gives e w.0 r.0 t)
+        ap (λ q. followed_by (read_value l.world q) rest) (tree_gives e w.0 r.0 t)
         ∙ ap (λ q. followed_by q rest) (valued_denoted l.world o t)
         ∙ followed_reached o (tree_values known l.meaning es) t rest (trees_give es w.1 r.1)

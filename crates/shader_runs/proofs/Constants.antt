@@ -8,10 +8,10 @@ use Rattle.shader_runs.specs.Value.{Bytes, same_bytes, PartTypes, ValueType, typ
 use Rattle.shader_runs.specs.World.{Event, World, Meaning, Settings, Environment, bind}
 use Rattle.shader_runs.specs.Outcome.{Stuck, Gives, Halts, reach, unless}
 use Rattle.shader_runs.specs.Program.{ConstantTree, Module, constant_count, override_types}
-use Rattle.shader_runs.specs.ProgramRun.{also, applied, tree_value, constant_value}
+use Rattle.shader_runs.specs.ProgramRun.{also, operator_value, tree_value, constant_value}
 use Rattle.shader_runs.specs.Text.{Tree, TextModule}
-use Rattle.shader_runs.specs.TextRun.{Denoted, Words, Scope, as_value, responded, with_parameters, with_globals, no_names, names_function}
-use Rattle.shader_runs.specs.Constants.{known, found_with, found_after, all_found, environment_of, is_declared, operate, initialised, with_constants, scope_with, initialiser_value, scope_after, module_scope}
+use Rattle.shader_runs.specs.TextRun.{Denoted, Words, Scope, as_value, word_answer, with_parameters, with_globals, no_names, names_function}
+use Rattle.shader_runs.specs.Constants.{known, found_with, found_after, all_found, environment_of, is_declared, operate, initialised_name, with_constants, scope_with, initialiser_value, scope_after, module_scope}
 use Rattle.shader_runs.specs.Scope.{ModuleNames, Naming}
 use Rattle.shader_runs.specs.Form.{constant_form, names_from, globals_from, constants_from, form_functions, form_module}
 use Rattle.shader_runs.specs.Premises.{OperatesOutside, EachLeaf, IsLiteral, ConstantsFit, SettingsFit, EnvironmentFits, IsTyped, AllFit}
@@ -20,7 +20,7 @@ use Rattle.shader_runs.proofs.Update.{and_both, same_bytes_apart, has_types_leng
 use Rattle.shader_runs.proofs.Relation.{TypedValue, as_denoted}
 use Rattle.shader_runs.proofs.Evaluation.{denoted}
 use Rattle.shader_runs.proofs.ConstantTrees.{each_both, tree_typed, tree_same, tree_gives}
-use Rattle.shader_runs.proofs.Written.{has_type_at}
+use Rattle.shader_runs.proofs.Form.{has_type_at}
 use Rattle.shader_runs.proofs.Ranks.{count_below, count_rises, count_misses}
 use Rattle.shader_runs.proofs.Names.{with_known, known_at, known_other, parameters_known, known_some, globals_other, held_values, module_names_given, no_name_among}
 
@@ -121,7 +121,7 @@ no_constant_called n word (e ∷ es) j other =
     ap (λ b. b || list_any (λ c. same_bytes word c.name) (constants_from n (suc j) es)) (same_bytes_apart word (n.constant j) (λ q. other j (omega arith) (omega arith) (sym q)))
     ∙ no_constant_called n word es (suc j) (λ i le lt. other i (omega (arith, le)) (omega (arith, lt)))
 
-initialised_denoted : (o : Option Value) → initialised (denoted o []) ≡ as_denoted o
+initialised_denoted : (o : Option Value) → initialised_name (denoted o []) ≡ as_denoted o
 initialised_denoted None = refl
 initialised_denoted (Some v) = refl
 
@@ -299,21 +299,21 @@ module _ (p : Module) (n : ModuleNames) (fits : ConstantsFit p n) (s : Settings)
           ap (λ b. b || names_function (form_functions fs) word) (no_constant_called n word p.initialisers 0 (λ i le lt e. let counted = fits.counted in o.constants i (omega (arith, lt, counted)) e))
           ∙ no_name_among p n fs within all word o.functions
 
-      operates : (word : Bytes) → OperatesOutside p n word → (os : Option (List Value)) (t : List Event) → as_value (unless (here word) t (responded l word (reach os t))) ≡ denoted (applied m (Spelled word) os) t
+      operates : (word : Bytes) → OperatesOutside p n word → (os : Option (List Value)) (t : List Event) → as_value (unless (here word) t (word_answer l word (reach os t))) ≡ denoted (operator_value m (Spelled word) os) t
       operates word o os t =
-          ap (λ d. as_value (unless d t (responded l word (reach os t)))) (free word o) ∙ given os
+          ap (λ d. as_value (unless d t (word_answer l word (reach os t)))) (free word o) ∙ given os
         where
           tests : (is_declared text word || n.is_request word) ≡ false
           tests = ap (λ b. b || n.is_request word) (undeclared word o) ∙ o.asks_nothing
 
-          given : (os : Option (List Value)) → as_value (responded l word (reach os t)) ≡ denoted (applied m (Spelled word) os) t
+          given : (os : Option (List Value)) → as_value (word_answer l word (reach os t)) ≡ denoted (operator_value m (Spelled word) os) t
           given None = refl
           given (Some vs) = ap (λ b. as_value (cond b (Halts Stuck t) (Gives (Some (m (Spelled word) vs)) t))) tests
 
       gives : (i : ℕ) (e : ConstantTree) → slice_get p.initialisers i ≡ Some e → initialiser_value l here (constant_form n e) ≡ as_denoted (tree_value (known found) m e)
       gives i e q =
           let f = fits.initialisers i e q in
-          ap initialised (tree_gives l here n (known found) (λ k. k < length p.constant_types) constant_here (OperatesOutside p n) operates e f.words f.range [])
+          ap initialised_name (tree_gives l here n (known found) (λ k. k < length p.constant_types) constant_here (OperatesOutside p n) operates e f.words f.range [])
           ∙ initialised_denoted (tree_value (known found) m e)
 
     -- each round of the text knows what the module's knows

@@ -5,9 +5,9 @@ use Rattle.shader_runs.specs.Value.{Bytes, PartTypes, ValueType, has_type, Value
 use Rattle.shader_runs.specs.World.{Event, Ask, Read, update, bind}
 use Rattle.shader_runs.specs.Outcome.{Outcome, Done, Next, and_then, Continued, Broke, Returned, Stopped, Reached, Gives, or_stuck, reach, unless}
 use Rattle.shader_runs.specs.Program.{Expression, Constant, Argument, Local, Global, Load, Operator, Access, AccessIndex, Logical, Swizzle, Request, Asking, ConstantTrees, expression_of, handle_type, operands_of, is_counted, is_asked, binds, binds_as, greatest_count, Module}
-use Rattle.shader_runs.specs.ProgramRun.{Call, Kept, used_as, constant_values, used, used_all, joined, combined, computed, loaded, asked, if_counted, emit_as, emit, keep_typed}
+use Rattle.shader_runs.specs.ProgramRun.{Call, Kept, used_value_as, constant_values, used_value, used_values, joined_values, combined_value, computed_value, after_load, after_request, if_counted, emit_as, emit, keep_typed}
 use Rattle.shader_runs.specs.Text.{Apply, Lines}
-use Rattle.shader_runs.specs.TextRun.{Denoted, IsValue, Scope, valued, as_value, responded, evaluate_all, value_of, with_value, follow_all, IsPlace}
+use Rattle.shader_runs.specs.TextRun.{Denoted, IsValue, Scope, read_value, as_value, word_answer, evaluate_all, value_of, with_value, follow_all, IsPlace}
 use Rattle.shader_runs.specs.Scope.{Standing, Absent, Barred, Everywhere, is_present, is_new, Inline, Named, Handles, Names, bound_name, is_pure, is_emittable, usable, usable_all, unbound, emitted, after_one, given_after, after_emit}
 use Rattle.shader_runs.specs.Form.{value_form, place_form, value_forms_then, constant_forms, own_form, written, let_if, lets}
 use Rattle.shader_runs.specs.Premises.{FixedName, fixed_name, WordFits, LeafFits, LeafTyped, ConstantsInRange, ConstantsTyped}
@@ -15,7 +15,7 @@ use Rattle.shader_runs.proofs.Alike.{Alike, stopped, typed_alike, placed}
 use Rattle.shader_runs.proofs.Update.{and_left, update_cases, bind_same, bind_other}
 use Rattle.shader_runs.proofs.Relation.{TypedValue, as_denoted, IsHere, NoName, Stands, Related, Extends, Agree, extends_refl, agree_refl, extends_trans, agree_trans, computed_agree, usable_all_more, KeepsName, keeps_all, stands_on, related_agree}
 use Rattle.shader_runs.proofs.Evaluation.{naming, words, Respond, value_form_gives, request_responds}
-use Rattle.shader_runs.proofs.Written.{Given, free, request_forms_give, request_values, no_value, unwritten, typed_value, operator_typed, operator_there, place_here, all_here}
+use Rattle.shader_runs.proofs.Form.{Given, free, request_forms_give, request_values, no_value, unwritten, typed_value, operator_typed, operator_there, place_here, all_here}
 use Rattle.shader_runs.proofs.Checked.{IsFresh, MayBind, MayEmitAll}
 use Rattle.std.proofs.lemmas.Option.{none-some}
 
@@ -28,14 +28,14 @@ agree_update s kept h o a k p =
     update_cases (λ z. z ≡ kept k) kept h o k (λ e. a (subst (λ k. IsTrue (is_present (s k))) e p) ∙ ap kept (sym e)) (λ e. refl)
 
 -- an event's handle wasn't in scope, and an operator's has the value that it had
-pub new_event : (c : Call) (s : Handles) (names : Scope) (kept : Kept) (y : ValueType) (e : Option Expression) (o : Option Value) → ((vs : List Value) → combined c.meaning e vs ≡ None) → (st : Standing) → IsTrue (is_new st) → Stands c s names kept y e o st → IsTrue (is_present st) → ⊥
+pub new_event : (c : Call) (s : Handles) (names : Scope) (kept : Kept) (y : ValueType) (e : Option Expression) (o : Option Value) → ((vs : List Value) → combined_value c.meaning e vs ≡ None) → (st : Standing) → IsTrue (is_new st) → Stands c s names kept y e o st → IsTrue (is_present st) → ⊥
 new_event c s names kept y e o f Absent i d p = true≢false (sym p)
 new_event c s names kept y e o f Barred i d p = true≢false (sym p)
-new_event c s names kept y e o f Everywhere i d p = no_value c.environment.parts y o d.1 (d.2 ∙ unwritten c.meaning e f (used_all c kept (operands_of e)))
+new_event c s names kept y e o f Everywhere i d p = no_value c.environment.parts y o d.1 (d.2 ∙ unwritten c.meaning e f (used_values c kept (operands_of e)))
 new_event c s names kept y e o f Inline i d p = true≢false (sym i)
 new_event c s names kept y e o f (Named x) i d p = true≢false (sym i)
 
-new_operator : (c : Call) (s : Handles) (names : Scope) (kept : Kept) (y : ValueType) (e : Option Expression) (o : Option Value) (st : Standing) → IsTrue (is_new st) → Stands c s names kept y e o st → IsTrue (is_present st) → computed c kept e ≡ o
+new_operator : (c : Call) (s : Handles) (names : Scope) (kept : Kept) (y : ValueType) (e : Option Expression) (o : Option Value) (st : Standing) → IsTrue (is_new st) → Stands c s names kept y e o st → IsTrue (is_present st) → computed_value c kept e ≡ o
 new_operator c s names kept y e o Absent i d p = absurd (true≢false (sym p))
 new_operator c s names kept y e o Barred i d p = absurd (true≢false (sym p))
 new_operator c s names kept y e o Everywhere i d p = sym d.2
@@ -63,7 +63,7 @@ keeps_fresh names x d Everywhere f = tt
 keeps_fresh names x d Inline f = tt
 keeps_fresh names x d (Named y) f = bind_other names x d y (λ e. f (ap Named e))
 
-pub emitted_used : (c : Call) (e : Option Expression) (o : Option Value) → IsTrue (is_emittable e) → used_as c e o ≡ o
+pub emitted_used : (c : Call) (e : Option Expression) (o : Option Value) → IsTrue (is_emittable e) → used_value_as c e o ≡ o
 emitted_used c (Some (Constant v)) o i = absurd (true≢false (sym i))
 emitted_used c (Some (Argument v)) o i = absurd (true≢false (sym i))
 emitted_used c (Some (Local v)) o i = absurd (true≢false (sym i))
@@ -72,13 +72,13 @@ emitted_used c None o i = absurd (true≢false (sym i))
 emitted_used c (Some _) o i = refl
 
 -- a handle under a fresh name
-pub bind_related : (c : Call) (n : Names) (s : Handles) (names : Scope) (kept : Kept) (h : ℕ) (x : Bytes) (v : Value) → Related c n s names kept → (IsTrue (is_present (s h)) → Some v ≡ kept h) → ((o : Option Value) → used_as c (expression_of c.function h) o ≡ o) → IsFresh c n s x → IsTrue (has_type c.environment.parts (handle_type c.function h) v) → Related c n (update s h (Named x)) (bind names x (Some (IsValue v))) (update kept h (Some v))
+pub bind_related : (c : Call) (n : Names) (s : Handles) (names : Scope) (kept : Kept) (h : ℕ) (x : Bytes) (v : Value) → Related c n s names kept → (IsTrue (is_present (s h)) → Some v ≡ kept h) → ((o : Option Value) → used_value_as c (expression_of c.function h) o ≡ o) → IsFresh c n s x → IsTrue (has_type c.environment.parts (handle_type c.function h) v) → Related c n (update s h (Named x)) (bind names x (Some (IsValue v))) (update kept h (Some v))
 bind_related c n s names kept h x v r a i f y =
     let same = i (Some v) in
     related_new c n s names (bind names x (Some (IsValue v))) kept h (Named x) (Some v) r a (λ p. refl) (λ k. keeps_fresh names x (Some (IsValue v)) (s k) (f.handles k)) (λ z here. bind_other names x (Some (IsValue v)) (fixed_name n z) (f.fixed z here)) (λ w k. bind_other names x (Some (IsValue v)) w (f.words w k)) ((v, same, y), bind_same names x (Some (IsValue v)) ∙ ap as_denoted (sym same))
 
 -- an operator that is written where it is used
-inline_related : (c : Call) (n : Names) (s : Handles) (names : Scope) (kept : Kept) (h : ℕ) (o : Option Value) → Related c n s names kept → (IsTrue (is_present (s h)) → o ≡ kept h) → IsTrue (usable_all c.function s (operands_of (expression_of c.function h))) → TypedValue c.environment.parts (handle_type c.function h) o → o ≡ computed c kept (expression_of c.function h) → Related c n (update s h Inline) names (update kept h o)
+inline_related : (c : Call) (n : Names) (s : Handles) (names : Scope) (kept : Kept) (h : ℕ) (o : Option Value) → Related c n s names kept → (IsTrue (is_present (s h)) → o ≡ kept h) → IsTrue (usable_all c.function s (operands_of (expression_of c.function h))) → TypedValue c.environment.parts (handle_type c.function h) o → o ≡ computed_value c kept (expression_of c.function h) → Related c n (update s h Inline) names (update kept h o)
 inline_related c n s names kept h o r a u v e =
     let x = expression_of c.function h in
     related_new c n s names names kept h Inline o r a (λ p. refl) (λ k. keeps_all names (s k)) (λ z here. refl) (λ w k. refl) (usable_all_more c.function s (update s h Inline) (extends_update s h Inline (λ p. refl)) (operands_of x) u, v, e ∙ sym (computed_agree c s kept (update kept h o) (agree_update s kept h o a) x u))
@@ -129,21 +129,21 @@ value_only : (parts : PartTypes) (k : ValueType) (o : Option Value) → TypedVal
 value_only parts k o v = (v.0, v.1)
 
 module _ (p : Module) (c : Call) (n : Names) (d : Respond) (given : Given p c n d) (R : Option Value → Type 0) (P Q B : Kept → Scope → Type 0) (bound : ℕ) (f : Next Kept) (tail : Lines) where
-  module _ (s : Handles) (names : Scope) (kept : Kept) (r : Related c n s names kept) (h : ℕ) (x : Bytes) (a : IsTrue (is_new (s h))) (i : (o : Option Value) → used_as c (expression_of c.function h) o ≡ o) (t : List Event) where
-    load_place : (IsTrue (is_present (s h)) → ⊥) → IsFresh c n s x → GoesOn c n R P Q B s kept (update s h (Named x)) f (follow_all (words c d) bound tail) → (o : Option Place) → Alike R P Q B (and_then (or_stuck o t (λ p. keep_typed c.environment.parts (handle_type c.function h) h (c.world t (Read p)) kept (Read p ∷ t))) f) (bound_next (valued c.world (reach (option_map IsPlace o) t)) x names (follow_all (words c d) bound tail))
+  module _ (s : Handles) (names : Scope) (kept : Kept) (r : Related c n s names kept) (h : ℕ) (x : Bytes) (a : IsTrue (is_new (s h))) (i : (o : Option Value) → used_value_as c (expression_of c.function h) o ≡ o) (t : List Event) where
+    load_place : (IsTrue (is_present (s h)) → ⊥) → IsFresh c n s x → GoesOn c n R P Q B s kept (update s h (Named x)) f (follow_all (words c d) bound tail) → (o : Option Place) → Alike R P Q B (and_then (or_stuck o t (λ p. keep_typed c.environment.parts (handle_type c.function h) h (c.world t (Read p)) kept (Read p ∷ t))) f) (bound_next (read_value c.world (reach (option_map IsPlace o) t)) x names (follow_all (words c d) bound tail))
     load_place none fresh next None = stopped
     load_place none fresh next (Some q) =
         let value = c.world t (Read q) in
         typed_alike (has_type c.environment.parts (handle_type c.function h) value) (Read q ∷ t) (Done (update kept h (Some value)) (Read q ∷ t)) f (λ y. next (update kept h (Some value)) (bind names x (Some (IsValue value))) (Read q ∷ t) (bind_related c n s names kept h x value r (λ p. absurd (none p)) i fresh y) (agree_update s kept h (Some value) (λ p. absurd (none p))))
 
-    load_at : (IsTrue (is_present (s h)) → ⊥) → IsFresh c n s x → GoesOn c n R P Q B s kept (update s h (Named x)) f (follow_all (words c d) bound tail) → (o : Option Value) → (v : Value) × (o ≡ Some v) → Alike R P Q B (and_then (loaded c.environment.parts (handle_type c.function h) c.world h o kept t) f) (bound_next (valued c.world (placed o t)) x names (follow_all (words c d) bound tail))
+    load_at : (IsTrue (is_present (s h)) → ⊥) → IsFresh c n s x → GoesOn c n R P Q B s kept (update s h (Named x)) f (follow_all (words c d) bound tail) → (o : Option Value) → (v : Value) × (o ≡ Some v) → Alike R P Q B (and_then (after_load c.environment.parts (handle_type c.function h) c.world h o kept t) f) (bound_next (read_value c.world (placed o t)) x names (follow_all (words c d) bound tail))
     load_at none fresh next None v = absurd (none-some v.0 v.1)
     load_at none fresh next (Some u) v = load_place none fresh next (place_in u)
 
-    emit_load : (IsTrue (is_present (s h)) → ⊥) → (b : Bool) (q : ℕ) → MayBind c n b s x (Some (Load q)) → GoesOn c n R P Q B s kept (emitted b false (usable_all c.function s (q ∷ [])) x s h) f (follow_all (words c d) bound tail) → Alike R P Q B (and_then (if_counted b (loaded c.environment.parts (handle_type c.function h) c.world h (used c kept q)) kept t) f) (follow_all (words c d) bound (let_if b x (place_form (written (naming c n) s q)) tail) names t)
+    emit_load : (IsTrue (is_present (s h)) → ⊥) → (b : Bool) (q : ℕ) → MayBind c n b s x (Some (Load q)) → GoesOn c n R P Q B s kept (emitted b false (usable_all c.function s (q ∷ [])) x s h) f (follow_all (words c d) bound tail) → Alike R P Q B (and_then (if_counted b (after_load c.environment.parts (handle_type c.function h) c.world h (used_value c kept q)) kept t) f) (follow_all (words c d) bound (let_if b x (place_form (written (naming c n) s q)) tail) names t)
     emit_load none true q m next =
         let u = and_left (usable c.function s q) true m.0 in
-        subst (λ z. Alike R P Q B (and_then (loaded c.environment.parts (handle_type c.function h) c.world h (used c kept q) kept t) f) (bound_next (valued c.world z) x names (follow_all (words c d) bound tail))) (sym (place_here p c n d given s names kept r q u t)) (load_at none m.1 next (used c kept q) (value_only c.environment.parts (handle_type c.function q) (used c kept q) (typed_value p c n d given s names kept r q u)))
+        subst (λ z. Alike R P Q B (and_then (after_load c.environment.parts (handle_type c.function h) c.world h (used_value c kept q) kept t) f) (bound_next (read_value c.world z) x names (follow_all (words c d) bound tail))) (sym (place_here p c n d given s names kept r q u t)) (load_at none m.1 next (used_value c kept q) (value_only c.environment.parts (handle_type c.function q) (used_value c kept q) (typed_value p c n d given s names kept r q u)))
     emit_load none false q m next = next kept names t r (agree_refl s kept)
 
     let_at : IsFresh c n s x → GoesOn c n R P Q B s kept (update s h (Named x)) f (follow_all (words c d) bound tail) → (o : Option Value) → (IsTrue (is_present (s h)) → o ≡ kept h) → TypedValue c.environment.parts (handle_type c.function h) o → (q : Reached Value) → q ≡ reach o t → Alike R P Q B (f (update kept h o) t) (bound_next q x names (follow_all (words c d) bound tail))
@@ -152,13 +152,13 @@ module _ (p : Module) (c : Call) (n : Names) (d : Respond) (given : Given p c n 
         let there = next (update kept h (Some v.0)) (bind names x (Some (IsValue v.0))) t (bind_related c n s names kept h x v.0 r (λ p. sym v.1 ∙ un p) i fresh v.2) (agree_update s kept h (Some v.0) (λ p. sym v.1 ∙ un p)) in
         subst (λ o. Alike R P Q B (f (update kept h o) t) (bound_next q x names (follow_all (words c d) bound tail))) (sym v.1) (subst (λ q. Alike R P Q B (f (update kept h (Some v.0)) t) (bound_next q x names (follow_all (words c d) bound tail))) (sym same) there)
 
-    inline_at : (u : Bool) → (IsTrue u → IsTrue (usable_all c.function s (operands_of (expression_of c.function h)))) → (o : Option Value) → (IsTrue (is_present (s h)) → o ≡ kept h) → (IsTrue u → TypedValue c.environment.parts (handle_type c.function h) o) → o ≡ computed c kept (expression_of c.function h) → GoesOn c n R P Q B s kept (emitted false true u x s h) f (follow_all (words c d) bound tail) → Alike R P Q B (f (update kept h o) t) (follow_all (words c d) bound tail names t)
+    inline_at : (u : Bool) → (IsTrue u → IsTrue (usable_all c.function s (operands_of (expression_of c.function h)))) → (o : Option Value) → (IsTrue (is_present (s h)) → o ≡ kept h) → (IsTrue u → TypedValue c.environment.parts (handle_type c.function h) o) → o ≡ computed_value c kept (expression_of c.function h) → GoesOn c n R P Q B s kept (emitted false true u x s h) f (follow_all (words c d) bound tail) → Alike R P Q B (f (update kept h o) t) (follow_all (words c d) bound tail names t)
     inline_at true u o un v e next =
         next (update kept h o) names t (inline_related c n s names kept h o r un (u refl) (v refl) e) (agree_update s kept h o un)
     inline_at false u o un v e next =
         next (update kept h o) names t (barred_related c n s names kept h o r un) (agree_update s kept h o un)
 
-    pure_used : (e : Option Expression) → IsTrue (is_pure e) → (o : Option Value) → used_as c e o ≡ o
+    pure_used : (e : Option Expression) → IsTrue (is_pure e) → (o : Option Value) → used_value_as c e o ≡ o
     pure_used (Some (Operator w xs)) q o = refl
     pure_used (Some (Access y z)) q o = refl
     pure_used (Some (AccessIndex y z)) q o = refl
@@ -167,40 +167,40 @@ module _ (p : Module) (c : Call) (n : Names) (d : Respond) (given : Given p c n 
     pure_used (Some _) q o = absurd (true≢false (sym q))
     pure_used None q o = absurd (true≢false (sym q))
 
-    value_there_own : IsTrue (is_pure (expression_of c.function h)) → IsTrue (usable_all c.function s (operands_of (expression_of c.function h))) → TypedValue c.environment.parts (handle_type c.function h) (computed c kept (expression_of c.function h))
+    value_there_own : IsTrue (is_pure (expression_of c.function h)) → IsTrue (usable_all c.function s (operands_of (expression_of c.function h))) → TypedValue c.environment.parts (handle_type c.function h) (computed_value c kept (expression_of c.function h))
     value_there_own q u = operator_typed p c s kept (typed_value p c n d given s names kept r) given.typed h q u
 
-    value_there : (e : Option Expression) → expression_of c.function h ≡ e → IsTrue (is_pure e) → IsTrue (usable_all c.function s (operands_of e)) → TypedValue c.environment.parts (handle_type c.function h) (computed c kept e)
+    value_there : (e : Option Expression) → expression_of c.function h ≡ e → IsTrue (is_pure e) → IsTrue (usable_all c.function s (operands_of e)) → TypedValue c.environment.parts (handle_type c.function h) (computed_value c kept e)
     value_there e q =
-        subst (λ e. IsTrue (is_pure e) → IsTrue (usable_all c.function s (operands_of e)) → TypedValue c.environment.parts (handle_type c.function h) (computed c kept e)) q value_there_own
+        subst (λ e. IsTrue (is_pure e) → IsTrue (usable_all c.function s (operands_of e)) → TypedValue c.environment.parts (handle_type c.function h) (computed_value c kept e)) q value_there_own
 
-    unchanged : (e : Option Expression) → expression_of c.function h ≡ e → IsTrue (is_present (s h)) → computed c kept e ≡ kept h
+    unchanged : (e : Option Expression) → expression_of c.function h ≡ e → IsTrue (is_present (s h)) → computed_value c kept e ≡ kept h
     unchanged e q =
-        subst (λ e. IsTrue (is_present (s h)) → computed c kept e ≡ kept h) q (new_operator c s names kept (handle_type c.function h) (expression_of c.function h) (kept h) (s h) a (r.standing h))
+        subst (λ e. IsTrue (is_present (s h)) → computed_value c kept e ≡ kept h) q (new_operator c s names kept (handle_type c.function h) (expression_of c.function h) (kept h) (s h) a (r.standing h))
 
-    no_event : (e : Option Expression) → expression_of c.function h ≡ e → ((vs : List Value) → combined c.meaning e vs ≡ None) → IsTrue (is_present (s h)) → ⊥
+    no_event : (e : Option Expression) → expression_of c.function h ≡ e → ((vs : List Value) → combined_value c.meaning e vs ≡ None) → IsTrue (is_present (s h)) → ⊥
     no_event e q g =
-        new_event c s names kept (handle_type c.function h) (expression_of c.function h) (kept h) (subst (λ e. (vs : List Value) → combined c.meaning e vs ≡ None) (sym q) g) (s h) a (r.standing h)
+        new_event c s names kept (handle_type c.function h) (expression_of c.function h) (kept h) (subst (λ e. (vs : List Value) → combined_value c.meaning e vs ≡ None) (sym q) g) (s h) a (r.standing h)
 
-    emit_pure : (b : Bool) (e : Option Expression) → expression_of c.function h ≡ e → IsTrue (is_pure e) → WordFits p (naming c n) e → LeafFits p c.function (handle_type c.function h) e → MayBind c n b s x e → GoesOn c n R P Q B s kept (emitted b true (usable_all c.function s (operands_of e)) x s h) f (follow_all (words c d) bound tail) → Alike R P Q B (f (update kept h (computed c kept e)) t) (follow_all (words c d) bound (let_if b x (value_form (own_form (naming c n) (written (naming c n) s) (handle_type c.function h) e)) tail) names t)
+    emit_pure : (b : Bool) (e : Option Expression) → expression_of c.function h ≡ e → IsTrue (is_pure e) → WordFits p (naming c n) e → LeafFits p c.function (handle_type c.function h) e → MayBind c n b s x e → GoesOn c n R P Q B s kept (emitted b true (usable_all c.function s (operands_of e)) x s h) f (follow_all (words c d) bound tail) → Alike R P Q B (f (update kept h (computed_value c kept e)) t) (follow_all (words c d) bound (let_if b x (value_form (own_form (naming c n) (written (naming c n) s) (handle_type c.function h) e)) tail) names t)
     emit_pure true e q z y l m next =
         let v = value_there e q z m.0 in
         let own = own_form (naming c n) (written (naming c n) s) (handle_type c.function h) e in
-        let means = operator_there p c n d given s names kept r (written (naming c n) s) (handle_type c.function h) (handle_type c.function h) e z y l (computed c kept e) v refl m.0 (all_here p c n d given s names kept r (operands_of e) m.0) in
-        let_at m.1 next (computed c kept e) (unchanged e q) v (value_of (words c d) (value_form own) names t) (value_form_gives c d names own (computed c kept e) means t)
+        let means = operator_there p c n d given s names kept r (written (naming c n) s) (handle_type c.function h) (handle_type c.function h) e z y l (computed_value c kept e) v refl m.0 (all_here p c n d given s names kept r (operands_of e) m.0) in
+        let_at m.1 next (computed_value c kept e) (unchanged e q) v (value_of (words c d) (value_form own) names t) (value_form_gives c d names own (computed_value c kept e) means t)
     emit_pure false e q z y l m next =
-        inline_at (usable_all c.function s (operands_of e)) (λ u. subst (λ e. IsTrue (usable_all c.function s (operands_of e))) (sym q) u) (computed c kept e) (unchanged e q) (λ u. value_there e q z u) (ap (computed c kept) (sym q)) next
+        inline_at (usable_all c.function s (operands_of e)) (λ u. subst (λ e. IsTrue (usable_all c.function s (operands_of e))) (sym q) u) (computed_value c kept e) (unchanged e q) (λ u. value_there e q z u) (ap (computed_value c kept) (sym q)) next
 
-    request_at : (IsTrue (is_present (s h)) → ⊥) → (w : Bytes) → IsFresh c n s x → GoesOn c n R P Q B s kept (update s h (Named x)) f (follow_all (words c d) bound tail) → (os : Option (List Value)) → (vs : List Value) × (os ≡ Some vs) → (q : Reached Value) → ((vs : List Value) → os ≡ Some vs → q ≡ Gives (c.world t (Ask w vs)) (Ask w vs ∷ t)) → Alike R P Q B (and_then (asked c.environment.parts (handle_type c.function h) c.world h w os kept t) f) (bound_next q x names (follow_all (words c d) bound tail))
+    request_at : (IsTrue (is_present (s h)) → ⊥) → (w : Bytes) → IsFresh c n s x → GoesOn c n R P Q B s kept (update s h (Named x)) f (follow_all (words c d) bound tail) → (os : Option (List Value)) → (vs : List Value) × (os ≡ Some vs) → (q : Reached Value) → ((vs : List Value) → os ≡ Some vs → q ≡ Gives (c.world t (Ask w vs)) (Ask w vs ∷ t)) → Alike R P Q B (and_then (after_request c.environment.parts (handle_type c.function h) c.world h w os kept t) f) (bound_next q x names (follow_all (words c d) bound tail))
     request_at none w fresh next None v q e = absurd (none-some v.0 v.1)
     request_at none w fresh next (Some vs) v q e =
         let value = c.world t (Ask w vs) in
         typed_alike (has_type c.environment.parts (handle_type c.function h) value) (Ask w vs ∷ t) (Done (update kept h (Some value)) (Ask w vs ∷ t)) f (λ y. subst (λ q. Alike R P Q B (f (update kept h (Some value)) (Ask w vs ∷ t)) (bound_next q x names (follow_all (words c d) bound tail))) (sym (e vs refl)) (next (update kept h (Some value)) (bind names x (Some (IsValue value))) (Ask w vs ∷ t) (bind_related c n s names kept h x value r (λ p. absurd (none p)) i fresh y) (agree_update s kept h (Some value) (λ p. absurd (none p)))))
 
-    emit_request : (IsTrue (is_present (s h)) → ⊥) → (b : Bool) (q : Asking) (w : Bytes) (xs : List ℕ) (es : ConstantTrees) → WordFits p (naming c n) (Some (Request q w xs es)) → ConstantsInRange p es → ConstantsTyped c.environment.parts p c.meaning es → MayBind c n b s x (Some (Request q w xs es)) → GoesOn c n R P Q B s kept (emitted b false (usable_all c.function s xs) x s h) f (follow_all (words c d) bound tail) → Alike R P Q B (and_then (if_counted b (asked c.environment.parts (handle_type c.function h) c.world h w (joined (used_all c kept xs) (constant_values c.environment c.meaning es))) kept t) f) (follow_all (words c d) bound (let_if b x (Apply w (value_forms_then (written (naming c n) s) xs (constant_forms n.outer es))) tail) names t)
+    emit_request : (IsTrue (is_present (s h)) → ⊥) → (b : Bool) (q : Asking) (w : Bytes) (xs : List ℕ) (es : ConstantTrees) → WordFits p (naming c n) (Some (Request q w xs es)) → ConstantsInRange p es → ConstantsTyped c.environment.parts p c.meaning es → MayBind c n b s x (Some (Request q w xs es)) → GoesOn c n R P Q B s kept (emitted b false (usable_all c.function s xs) x s h) f (follow_all (words c d) bound tail) → Alike R P Q B (and_then (if_counted b (after_request c.environment.parts (handle_type c.function h) c.world h w (joined_values (used_values c kept xs) (constant_values c.environment c.meaning es))) kept t) f) (follow_all (words c d) bound (let_if b x (Apply w (value_forms_then (written (naming c n) s) xs (constant_forms n.outer es))) tail) names t)
     emit_request none true q w xs es y i k m next =
         let forms = value_forms_then (written (naming c n) s) xs (constant_forms n.outer es) in
-        request_at none w m.1 next (joined (used_all c kept xs) (constant_values c.environment c.meaning es)) (request_values p c n d given s names kept r xs es i k m.0) (value_of (words c d) (Apply w forms) names t) (λ vs e. ap (λ o. valued c.world (as_value (unless o t (responded (words c d) w (evaluate_all (words c d) forms names t))))) (free p c n d given s names kept r w y.0.1.1) ∙ ap (λ q. valued c.world (as_value (responded (words c d) w q))) (request_forms_give p c n d given s names kept r (written (naming c n) s) xs es y.1 i (all_here p c n d given s names kept r xs m.0) t ∙ ap (λ os. reach os t) e) ∙ ap (λ q. valued c.world (as_value q)) (request_responds p c n d given.responds w y.0 vs t))
+        request_at none w m.1 next (joined_values (used_values c kept xs) (constant_values c.environment c.meaning es)) (request_values p c n d given s names kept r xs es i k m.0) (value_of (words c d) (Apply w forms) names t) (λ vs e. ap (λ o. read_value c.world (as_value (unless o t (word_answer (words c d) w (evaluate_all (words c d) forms names t))))) (free p c n d given s names kept r w y.0.1.1) ∙ ap (λ q. read_value c.world (as_value (word_answer (words c d) w q))) (request_forms_give p c n d given s names kept r (written (naming c n) s) xs es y.1 i (all_here p c n d given s names kept r xs m.0) t ∙ ap (λ os. reach os t) e) ∙ ap (λ q. read_value c.world (as_value q)) (request_responds p c n d given.responds w y.0 vs t))
     emit_request none false q w xs es y i k m next = next kept names t r (agree_refl s kept)
 
     emit_one_as : (e : Option Expression) → WordFits p (naming c n) e → LeafFits p c.function (handle_type c.function h) e → LeafTyped c.environment.parts p c.meaning e → expression_of c.function h ≡ e → IsTrue (is_emittable e) → MayBind c n (binds_as c.function h e) s x e → GoesOn c n R P Q B s kept (emitted (binds_as c.function h e) (is_pure e) (usable_all c.function s (operands_of e)) x s h) f (follow_all (words c d) bound tail) → Alike R P Q B (and_then (emit_as c h e kept t) f) (follow_all (words c d) bound (let_if (binds_as c.function h e) x (value_form (own_form (naming c n) (written (naming c n) s) (handle_type c.function h) e)) tail) names t)

@@ -3,9 +3,9 @@ use Rattle.std.proofs.Common.{◌≡◌, ℕ, zero, suc, ◌<◌, Bool, true, fa
 use Rattle.std.specs.Prelude.{IsTrue}
 use Rattle.shader_runs.specs.Value.{Value, Truth, Whole}
 use Rattle.shader_runs.specs.World.{Event}
-use Rattle.shader_runs.specs.Outcome.{Outcome, Done, Continued, Broke, Returned, Stopped, Next, and_then, and_continue, within, turns, and_again, after_switch, chosen, with_integer, or_stuck}
+use Rattle.shader_runs.specs.Outcome.{Outcome, Done, Continued, Broke, Returned, Stopped, Next, and_then, and_continue, within, turns, and_again, after_switch, branch_by, with_integer, or_stuck}
 use Rattle.shader_runs.specs.Program.{Label, Numbered, Statement, Emit, Store, Block, If, Switch, Loop, Break, Continue, Return, Kill, Barrier, Act, Statements, end, then, Cases, no_case, case}
-use Rattle.shader_runs.specs.ProgramRun.{Call, Kept, used, leave, same_label, has_label, label_if, run, run_all, run_cases, run_on}
+use Rattle.shader_runs.specs.ProgramRun.{Call, Kept, used_value, leave, same_label, has_label, label_if, run, run_all, run_cases, run_on}
 use Rattle.shader_runs.specs.Passes.{Region, Inner, LoopBody, Continuing, here, behind, inside, after_turns, to_body, to_continuing, body_at, statements_in, module_turn, FallsTo, this_case, next_case, ComesToCase, own_case, other_case, Comes, into_block, into_accept, into_reject, into_case, into_loop, Passes, is_here, goes_behind, goes_inside}
 use Rattle.shader_runs.specs.Ends.{end_of, is_simple, stops_early, is_early, EndsAt, EndsArePassed}
 use Rattle.shader_runs.proofs.Passes.{same_state, same_events, then_parts, one_more_turn}
@@ -75,9 +75,9 @@ module _ (c : Call) (n : ℕ) where
       go (Stopped x t1) e own early = own early
 
   if_ends : (h : ℕ) (a b : Statements) → EndsOf a → EndsOf b → EndsOne (If h a b)
-  if_ends h a b in_a in_b ss kept t = go (used c kept h) refl
+  if_ends h a b in_a in_b ss kept t = go (used_value c kept h) refl
     where
-      go : (o : Option Value) → used c kept h ≡ o → IsTrue (is_early (or_stuck o t (λ v. chosen v t (run_all c n a kept t) (run_all c n b kept t)))) → EndsAt c n (then (If h a b) ss) kept t (or_stuck o t (λ v. chosen v t (run_all c n a kept t) (run_all c n b kept t)))
+      go : (o : Option Value) → used_value c kept h ≡ o → IsTrue (is_early (or_stuck o t (λ v. branch_by v t (run_all c n a kept t) (run_all c n b kept t)))) → EndsAt c n (then (If h a b) ss) kept t (or_stuck o t (λ v. branch_by v t (run_all c n a kept t) (run_all c n b kept t)))
       go (Some (Truth true)) e early =
           ends_inside (If h a b) _ ss kept kept t t (run_all c n a kept t) (into_accept e) (in_a kept t early)
       go (Some (Truth false)) e early =
@@ -137,9 +137,9 @@ module _ (c : Call) (n : ℕ) where
   switch_keeps (Stopped x t) early = (refl, early)
 
   switch_ends : (h : ℕ) (cs : Cases) → EndsFor cs → EndsOne (Switch h cs)
-  switch_ends h cs cases ss kept t = go (used c kept h) refl
+  switch_ends h cs cases ss kept t = go (used_value c kept h) refl
     where
-      go : (o : Option Value) → used c kept h ≡ o → IsTrue (is_early (or_stuck o t (λ v. with_integer v t (λ z. after_switch (run_cases c n cs (label_if (has_label (Numbered z) cs) z) kept t))))) → EndsAt c n (then (Switch h cs) ss) kept t (or_stuck o t (λ v. with_integer v t (λ z. after_switch (run_cases c n cs (label_if (has_label (Numbered z) cs) z) kept t))))
+      go : (o : Option Value) → used_value c kept h ≡ o → IsTrue (is_early (or_stuck o t (λ v. with_integer v t (λ z. after_switch (run_cases c n cs (label_if (has_label (Numbered z) cs) z) kept t))))) → EndsAt c n (then (Switch h cs) ss) kept t (or_stuck o t (λ v. with_integer v t (λ z. after_switch (run_cases c n cs (label_if (has_label (Numbered z) cs) z) kept t))))
       go (Some (Whole spelling z)) e early =
           let x = label_if (has_label (Numbered z) cs) z in
           let keeps = switch_keeps (run_cases c n cs x kept t) early in
@@ -175,9 +175,9 @@ module _ (c : Call) (n : ℕ) where
 
   leave_never : (e : Option ℕ) (kept : Kept) (t : List Event) → IsTrue (ends_loop (leave c e kept t)) → ⊥
   leave_never None kept t early = not_early early
-  leave_never (Some h) kept t early = go (used c kept h) early
+  leave_never (Some h) kept t early = go (used_value c kept h) early
     where
-      go : (o : Option Value) → IsTrue (ends_loop (or_stuck o t (λ v. chosen v t (Broke kept t) (Done kept t)))) → ⊥
+      go : (o : Option Value) → IsTrue (ends_loop (or_stuck o t (λ v. branch_by v t (Broke kept t) (Done kept t)))) → ⊥
       go (Some (Truth true)) early = not_early early
       go (Some (Truth false)) early = not_early early
       go _ early = not_early early

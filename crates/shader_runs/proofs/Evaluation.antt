@@ -5,9 +5,9 @@ use Rattle.shader_runs.specs.Value.{Bytes, PartTypes, Part, At, Selector, Member
 use Rattle.shader_runs.specs.World.{Event, Ask, World, Meaning}
 use Rattle.shader_runs.specs.Outcome.{Reached, Gives, reach, unless}
 use Rattle.shader_runs.specs.Program.{Module, Function, function_numbered, Expression}
-use Rattle.shader_runs.specs.ProgramRun.{Call, Kept, used, also, used_all, applied, index_value_of, part_value, swizzle_value, decides, undecided, combined, gathered, index_value_by, part_value_by}
+use Rattle.shader_runs.specs.ProgramRun.{Call, Kept, used_value, also, used_values, operator_value, index_value_of, part_value, swizzle_value, decides, undecided_value, combined_value, gathered_value, index_value_by, part_value_by}
 use Rattle.shader_runs.specs.Text.{Index, PartOf, LogicalOf}
-use Rattle.shader_runs.specs.TextRun.{part_reached, index_reached, indexed, part_picked, undecided_reached, logical_reached, Denoted, IsValue, IsPlace, Words, Scope, valued, responded, as_value, dereferenced, addressed, put_before, followed_by, evaluate, evaluate_all, value_of, AsksForEvent, Operates, respond_by_use}
+use Rattle.shader_runs.specs.TextRun.{part_reached, index_reached, index_into, part_picked, undecided_reached, logical_reached, Denoted, IsValue, IsPlace, Words, Scope, read_value, word_answer, as_value, dereference, address_reached, put_before, followed_by, evaluate, evaluate_all, value_of, AsksForEvent, Operates, respond_by_use}
 use Rattle.shader_runs.specs.Scope.{Names, Naming}
 use Rattle.shader_runs.specs.Form.{Plain, AsValue, AsPlace, value_form, place_form, value_forms, access_form, part_form}
 use Rattle.shader_runs.specs.Premises.{IsNoPointer, OperatesBy, AsksBy}
@@ -41,43 +41,43 @@ Means c d names (AsValue e) o = (t : List Event) → evaluate (words c d) e name
 Means c d names (AsPlace e) o =
     (p : _) × (o ≡ Some (Pointer p)) × ((t : List Event) → evaluate (words c d) e names t ≡ Gives (IsPlace p) t)
 
-pub valued_denoted : (w : World) (o : Option Value) (t : List Event) → valued w (denoted o t) ≡ reach o t
+pub valued_denoted : (w : World) (o : Option Value) (t : List Event) → read_value w (denoted o t) ≡ reach o t
 valued_denoted w None t = refl
 valued_denoted w (Some v) t = refl
 
-dereferenced_reached : (o : Option Value) (t : List Event) → dereferenced (reach o t) ≡ placed o t
+dereferenced_reached : (o : Option Value) (t : List Event) → dereference (reach o t) ≡ placed o t
 dereferenced_reached None t = refl
 dereferenced_reached (Some v) t = refl
 
 pub value_form_denotes : (c : Call) (d : Respond) (names : Scope) (p : Plain) (o : Option Value) → Means c d names p o → (t : List Event) → evaluate (words c d) (value_form p) names t ≡ denoted o t
 value_form_denotes c d names (AsValue e) o m t = m t
-value_form_denotes c d names (AsPlace e) o m t = ap addressed (m.2 t) ∙ ap (λ o. denoted o t) (sym m.1)
+value_form_denotes c d names (AsPlace e) o m t = ap address_reached (m.2 t) ∙ ap (λ o. denoted o t) (sym m.1)
 
 pub value_form_gives : (c : Call) (d : Respond) (names : Scope) (p : Plain) (o : Option Value) → Means c d names p o → (t : List Event) → value_of (words c d) (value_form p) names t ≡ reach o t
 value_form_gives c d names p o m t =
-    ap (valued c.world) (value_form_denotes c d names p o m t) ∙ valued_denoted c.world o t
+    ap (read_value c.world) (value_form_denotes c d names p o m t) ∙ valued_denoted c.world o t
 
 pub place_form_gives : (c : Call) (d : Respond) (names : Scope) (p : Plain) (o : Option Value) → Means c d names p o → (t : List Event) → evaluate (words c d) (place_form p) names t ≡ placed o t
 place_form_gives c d names (AsValue e) o m t =
-    ap dereferenced (ap (valued c.world) (m t) ∙ valued_denoted c.world o t) ∙ dereferenced_reached o t
+    ap dereference (ap (read_value c.world) (m t) ∙ valued_denoted c.world o t) ∙ dereferenced_reached o t
 place_form_gives c d names (AsPlace e) o m t = m.2 t ∙ ap (λ o. placed o t) (sym m.1)
 
 abbrev pub AllMean : Call → Respond → Scope → Kept → (ℕ → Plain) → List ℕ → Type 0
 AllMean c d names kept operand [] = Unit {0}
 AllMean c d names kept operand (x ∷ xs) =
-    Means c d names (operand x) (used c kept x) × AllMean c d names kept operand xs
+    Means c d names (operand x) (used_value c kept x) × AllMean c d names kept operand xs
 
 pub followed_reached : (o : Option Value) (os : Option (List Value)) (t : List Event) (rest : List Event → Reached (List Value)) → ((t : List Event) → rest t ≡ reach os t) → followed_by (reach o t) rest ≡ reach (also o os) t
 followed_reached None os t rest h = refl
 followed_reached (Some v) None t rest h = ap (put_before v) (h t)
 followed_reached (Some v) (Some vs) t rest h = ap (put_before v) (h t)
 
-pub value_forms_give : (c : Call) (d : Respond) (names : Scope) (kept : Kept) (operand : ℕ → Plain) (xs : List ℕ) → AllMean c d names kept operand xs → (t : List Event) → evaluate_all (words c d) (value_forms operand xs) names t ≡ reach (used_all c kept xs) t
+pub value_forms_give : (c : Call) (d : Respond) (names : Scope) (kept : Kept) (operand : ℕ → Plain) (xs : List ℕ) → AllMean c d names kept operand xs → (t : List Event) → evaluate_all (words c d) (value_forms operand xs) names t ≡ reach (used_values c kept xs) t
 value_forms_give c d names kept operand [] m t = refl
 value_forms_give c d names kept operand (x ∷ xs) m t =
     let rest = evaluate_all (words c d) (value_forms operand xs) names in
-    ap (λ r. followed_by r rest) (value_form_gives c d names (operand x) (used c kept x) m.0 t)
-    ∙ followed_reached (used c kept x) (used_all c kept xs) t rest (value_forms_give c d names kept operand xs m.1)
+    ap (λ r. followed_by r rest) (value_form_gives c d names (operand x) (used_value c kept x) m.0 t)
+    ∙ followed_reached (used_value c kept x) (used_values c kept xs) t rest (value_forms_give c d names kept operand xs m.1)
 
 pub operator_responds : (p : Module) (c : Call) (n : Names) (d : Respond) → Responds p c n d → (w : Bytes) → OperatesBy p (naming c n) w → (vs : List Value) (t : List Event) → d w vs t ≡ Gives (Some (c.meaning (Spelled w) vs)) t
 operator_responds p c n d r w f vs t = r.operators w f vs t
@@ -85,27 +85,27 @@ operator_responds p c n d r w f vs t = r.operators w f vs t
 pub request_responds : (p : Module) (c : Call) (n : Names) (d : Respond) → Responds p c n d → (w : Bytes) → AsksBy p (naming c n) w → (vs : List Value) (t : List Event) → d w vs t ≡ Gives (Some (c.world t (Ask w vs))) (Ask w vs ∷ t)
 request_responds p c n d r w f vs t = r.requests w f vs t
 
-operated : (p : Module) (c : Call) (n : Names) (d : Respond) → Responds p c n d → (w : Bytes) → OperatesBy p (naming c n) w → (os : Option (List Value)) (t : List Event) → as_value (responded (words c d) w (reach os t)) ≡ denoted (applied c.meaning (Spelled w) os) t
+operated : (p : Module) (c : Call) (n : Names) (d : Respond) → Responds p c n d → (w : Bytes) → OperatesBy p (naming c n) w → (os : Option (List Value)) (t : List Event) → as_value (word_answer (words c d) w (reach os t)) ≡ denoted (operator_value c.meaning (Spelled w) os) t
 operated p c n d r w f None t = refl
 operated p c n d r w f (Some vs) t = ap as_value (operator_responds p c n d r w f vs t)
 
 -- an operator's word on what its operands give
-pub applied_reached : (p : Module) (c : Call) (n : Names) (d : Respond) → Responds p c n d → (w : Bytes) → OperatesBy p (naming c n) w → (o : Option Denoted) → o ≡ None → (os : Option (List Value)) (t : List Event) → as_value (unless o t (responded (words c d) w (reach os t))) ≡ denoted (applied c.meaning (Spelled w) os) t
+pub applied_reached : (p : Module) (c : Call) (n : Names) (d : Respond) → Responds p c n d → (w : Bytes) → OperatesBy p (naming c n) w → (o : Option Denoted) → o ≡ None → (os : Option (List Value)) (t : List Event) → as_value (unless o t (word_answer (words c d) w (reach os t))) ≡ denoted (operator_value c.meaning (Spelled w) os) t
 applied_reached p c n d r w f o e os t =
-    ap (λ o. as_value (unless o t (responded (words c d) w (reach os t)))) e ∙ operated p c n d r w f os t
+    ap (λ o. as_value (unless o t (word_answer (words c d) w (reach os t)))) e ∙ operated p c n d r w f os t
 
 -- the operands' values, where there is a value
 pub data OneOf (m : Meaning) (e : Option Expression) (a : Option Value) (v : Value) : Type 0 where
-  one_of : (x : Value) → a ≡ Some x → combined m e (x ∷ []) ≡ Some v → OneOf m e a v
+  one_of : (x : Value) → a ≡ Some x → combined_value m e (x ∷ []) ≡ Some v → OneOf m e a v
 
 pub data TwoOf (m : Meaning) (e : Option Expression) (a b : Option Value) (v : Value) : Type 0 where
-  two_of : (x y : Value) → a ≡ Some x → b ≡ Some y → combined m e (x ∷ y ∷ []) ≡ Some v → TwoOf m e a b v
+  two_of : (x y : Value) → a ≡ Some x → b ≡ Some y → combined_value m e (x ∷ y ∷ []) ≡ Some v → TwoOf m e a b v
 
-pub one_there : (m : Meaning) (e : Option Expression) (a : Option Value) (v : Value) → gathered m e (also a (Some [])) ≡ Some v → OneOf m e a v
+pub one_there : (m : Meaning) (e : Option Expression) (a : Option Value) (v : Value) → gathered_value m e (also a (Some [])) ≡ Some v → OneOf m e a v
 one_there m e None v q = absurd (none-some v q)
 one_there m e (Some x) v q = one_of x refl q
 
-pub two_there : (m : Meaning) (e : Option Expression) (a b : Option Value) (v : Value) → gathered m e (also a (also b (Some []))) ≡ Some v → TwoOf m e a b v
+pub two_there : (m : Meaning) (e : Option Expression) (a b : Option Value) (v : Value) → gathered_value m e (also a (also b (Some []))) ≡ Some v → TwoOf m e a b v
 two_there m e None b v q = absurd (none-some v q)
 two_there m e (Some x) None v q = absurd (none-some v q)
 two_there m e (Some x) (Some y) v q = two_of x y refl refl q
@@ -148,10 +148,10 @@ index_value_is m x y n = ap (λ o. index_value_by m o x y) n
 pub part_value_is : (m : Meaning) (x : Selector) (b : Value) → place_in b ≡ None → part_value m x b ≡ Some (m (PartWord x) (b ∷ []))
 part_value_is m x b n = ap (λ o. part_value_by m x o b) n
 
-pub index_value : (m : Meaning) (x y v : Value) → place_in x ≡ None → index_value_of m x y ≡ Some v → (p : Reached Denoted) (rest : List Event → Reached Value) (t : List Event) → p ≡ Gives (IsValue x) t → rest t ≡ Gives y t → indexed m p rest ≡ Gives (IsValue v) t
+pub index_value : (m : Meaning) (x y v : Value) → place_in x ≡ None → index_value_of m x y ≡ Some v → (p : Reached Denoted) (rest : List Event → Reached Value) (t : List Event) → p ≡ Gives (IsValue x) t → rest t ≡ Gives y t → index_into m p rest ≡ Gives (IsValue v) t
 index_value m x y v n e p rest t q r =
     let same = same_Some (m IndexWord (x ∷ y ∷ [])) v (sym (index_value_is m x y n) ∙ e) in
-    ap (λ p. indexed m p rest) q ∙ ap (λ o. unless o t (index_reached m x (rest t))) n ∙ ap (index_reached m x) r ∙ ap (λ v. Gives (IsValue v) t) same
+    ap (λ p. index_into m p rest) q ∙ ap (λ o. unless o t (index_reached m x (rest t))) n ∙ ap (index_reached m x) r ∙ ap (λ v. Gives (IsValue v) t) same
 
 pub part_picked_value : (m : Meaning) (x : Selector) (b v : Value) → place_in b ≡ None → part_value m x b ≡ Some v → (p : Reached Denoted) (t : List Event) → p ≡ Gives (IsValue b) t → part_picked m x p ≡ Gives (IsValue v) t
 part_picked_value m x b v n e p t q =
@@ -159,10 +159,10 @@ part_picked_value m x b v n e p t q =
     ap (part_picked m x) q ∙ ap (λ o. unless o t (Gives (IsValue (m (PartWord x) (b ∷ []))) t)) n ∙ ap (λ v. Gives (IsValue v) t) same
 
 -- the two sides of `&&` and `||`
-pub logical_reached_value : (m : Meaning) (j : ShortCircuit) (l r : Value) (p : Reached Value) (rest : List Event → Reached Value) (t : List Event) → p ≡ Gives l t → rest t ≡ Gives r t → logical_reached m j p rest ≡ Gives (IsValue (cond (decides j l) l (undecided m j l r))) t
+pub logical_reached_value : (m : Meaning) (j : ShortCircuit) (l r : Value) (p : Reached Value) (rest : List Event → Reached Value) (t : List Event) → p ≡ Gives l t → rest t ≡ Gives r t → logical_reached m j p rest ≡ Gives (IsValue (cond (decides j l) l (undecided_value m j l r))) t
 logical_reached_value m j l r p rest t e q = ap (λ p. logical_reached m j p rest) e ∙ go (decides j l)
   where
-    go : (b : Bool) → elim b as (λ _. Reached Denoted) [ true ↦ Gives (IsValue l) t | false ↦ undecided_reached m j l (rest t) ] ≡ Gives (IsValue (cond b l (undecided m j l r))) t
+    go : (b : Bool) → elim b as (λ _. Reached Denoted) [ true ↦ Gives (IsValue l) t | false ↦ undecided_reached m j l (rest t) ] ≡ Gives (IsValue (cond b l (undecided_value m j l r))) t
     go true = refl
     go false = ap (undecided_reached m j l) q
 
@@ -176,7 +176,7 @@ module _ (c : Call) (d : Respond) (names : Scope) where
       element p q None s e = absurd (none-some v e)
       element p q (Some z) s e =
           let rest = value_of (words c d) (value_form i) names in
-          (Part p (At z), sym e, λ t. ap (λ r. indexed c.meaning r rest) (place_form_gives c d names b (Some x) mb t ∙ ap (λ o. reach (option_map IsPlace o) t) q) ∙ ap (part_reached p) (value_form_gives c d names i (Some y) mi t) ∙ ap (λ o. reach (option_map (λ z. IsPlace (Part p (At z))) o) t) s)
+          (Part p (At z), sym e, λ t. ap (λ r. index_into c.meaning r rest) (place_form_gives c d names b (Some x) mb t ∙ ap (λ o. reach (option_map IsPlace o) t) q) ∙ ap (part_reached p) (value_form_gives c d names i (Some y) mi t) ∙ ap (λ o. reach (option_map (λ z. IsPlace (Part p (At z))) o) t) s)
 
   index_means : (b i : Plain) (x y v : Value) → Means c d names b (Some x) → Means c d names i (Some y) → place_in x ≡ None → index_value_of c.meaning x y ≡ Some v → Means c d names (AsValue (Index (value_form b) (value_form i))) (Some v)
   index_means b i x y v mb mi h e t =
@@ -218,6 +218,6 @@ module _ (c : Call) (d : Respond) (names : Scope) where
       let other = typed_not_pointer c.environment.parts k y (no_pointer_type k n) h in
       part_value_means (MemberNamed letters) b y v mb other (swizzled_value letters y v other e)
 
-  pub logical_means : (j : ShortCircuit) (a b : Plain) (l r : Value) → Means c d names a (Some l) → Means c d names b (Some r) → Means c d names (AsValue (LogicalOf j (value_form a) (value_form b))) (Some (cond (decides j l) l (undecided c.meaning j l r)))
+  pub logical_means : (j : ShortCircuit) (a b : Plain) (l r : Value) → Means c d names a (Some l) → Means c d names b (Some r) → Means c d names (AsValue (LogicalOf j (value_form a) (value_form b))) (Some (cond (decides j l) l (undecided_value c.meaning j l r)))
   logical_means j a b l r ma mb t =
       logical_reached_value c.meaning j l r (value_of (words c d) (value_form a) names t) (value_of (words c d) (value_form b) names) t (value_form_gives c d names a (Some l) ma t) (value_form_gives c d names b (Some r) mb t)

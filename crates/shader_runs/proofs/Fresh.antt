@@ -9,7 +9,7 @@ use Rattle.shader_runs.specs.Scope.{Standing, Absent, Barred, Everywhere, Inline
 use Rattle.shader_runs.specs.Premises.{FixedName, FixedKey, NumberedKey, GivenKey, AreDistinct, EnvironmentFits, ResultFits, IsRegular, AreRegular, CasesAreRegular}
 use Rattle.shader_runs.proofs.Update.{update_cases, and_left, and_right}
 use Rattle.shader_runs.proofs.Evaluation.{naming}
-use Rattle.shader_runs.proofs.Written.{in_range}
+use Rattle.shader_runs.proofs.Form.{in_range}
 use Rattle.shader_runs.proofs.Checked.{IsFresh, MayBind, MayEmitAll, MayGive, Fits, FitsAll, FitsCases}
 
 same_name : (x y : Bytes) → Named x ≡ Named y → x ≡ y

@@ -3,11 +3,11 @@ use Rattle.std.proofs.Common.{◌≡◌, ℕ, zero, suc, ◌+◌, ◌-◌, ◌�
 use Rattle.std.specs.Prelude.{IsTrue}
 use Rattle.shader_runs.specs.Value.{Bytes, Value, Truth, Whole}
 use Rattle.shader_runs.specs.World.{Event, Ask}
-use Rattle.shader_runs.specs.Outcome.{Stop, Outcome, Done, Continued, Broke, Returned, Stopped, Reached, Gives, Halts, Next, and_then, and_continue, after_switch, chosen, with_integer, closed, closed_if, or_stuck, reach, unless}
+use Rattle.shader_runs.specs.Outcome.{Stop, Outcome, Done, Continued, Broke, Returned, Stopped, Reached, Gives, Halts, Next, and_then, and_continue, after_switch, branch_by, with_integer, closed_outcome, closed_if, or_stuck, reach, unless}
 use Rattle.shader_runs.specs.Program.{expression_of, handle_type, Label, Numbered, Statement, Emit, Store, Block, If, Switch, Loop, Break, Continue, Return, Kill, Barrier, Act, Statements, end, then, Cases, no_case, case, Module, binds, from, holds_continue, any_continue}
-use Rattle.shader_runs.specs.ProgramRun.{Call, Kept, used, emit, emit_as, barrier_words, ask_each, same_label, label_if, run, run_all}
+use Rattle.shader_runs.specs.ProgramRun.{Call, Kept, used_value, emit, emit_as, barrier_words, ask_each, same_label, label_if, run, run_all}
 use Rattle.shader_runs.specs.Text.{Tree, Line, Let, Braces, IfElse, SwitchOn, LoopOf, Lines, last, before, Groups}
-use Rattle.shader_runs.specs.TextRun.{Scope, performed, value_of, with_value, has_continue, among, group_has, follow, follow_all, follow_groups}
+use Rattle.shader_runs.specs.TextRun.{Scope, perform_outcome, value_of, with_value, has_continue, among, group_has, follow, follow_all, follow_groups}
 use Rattle.shader_runs.specs.Scope.{usable, Handles, Names, bound_name, after_one, given_after, given_after_all, after_emit, given_by, given_by_all, after, after_all, forgotten_if}
 use Rattle.shader_runs.specs.Form.{written, value_at, value_if, value_form, own_form, let_if, lets, perform_each, form, form_all, form_cases}
 use Rattle.shader_runs.specs.Premises.{EachAsks, FallsFrom}
@@ -16,10 +16,10 @@ use Rattle.shader_runs.specs.Points.{given_before, given_in, handles_in, handles
 use Rattle.shader_runs.proofs.Alike.{Alike, done, continued, broke, returned_alike, stopped, mistyped, weaker, continue_alike}
 use Rattle.shader_runs.proofs.Relation.{Related, Agree, agree_refl, related_agree}
 use Rattle.shader_runs.proofs.Evaluation.{naming, words, Respond, request_responds}
-use Rattle.shader_runs.proofs.Written.{Given, free, value_here}
+use Rattle.shader_runs.proofs.Form.{Given, free, value_here}
 use Rattle.shader_runs.proofs.Emission.{emit_alike}
 use Rattle.shader_runs.proofs.Statements.{or_left, or_right, turns_keep, same_one, same_all}
-use Rattle.shader_runs.proofs.Scopes.{IsFollowed, falls_followed, among_append, has_all_cases, extends_all}
+use Rattle.shader_runs.proofs.Scope.{IsFollowed, falls_followed, among_append, has_all_cases, extends_all}
 use Rattle.shader_runs.proofs.Places.{from_split}
 use Rattle.shader_runs.proofs.Checked.{Fits, FitsAll, FitsCases, MayEmitAll}
 
@@ -74,15 +74,15 @@ one_more_line true m q = refl
 one_more_line false m q = refl
 
 -- what closes its names leaves them, with or without a `continue` in it
-closed_again : {S : Type 0} (b : Bool) (s : S) (o : Outcome S) → closed_if b s (and_then (closed s o) (λ s t. Done s t)) ≡ closed s o
+closed_again : {S : Type 0} (b : Bool) (s : S) (o : Outcome S) → closed_if b s (and_then (closed_outcome s o) (λ s t. Done s t)) ≡ closed_outcome s o
 closed_again true s (Done s1 t) = refl
 closed_again true s (Continued s1 t) = refl
 closed_again true s (Broke s1 t) = refl
 closed_again true s (Returned v t) = refl
 closed_again true s (Stopped x t) = refl
-closed_again false s o = then_done (closed s o)
+closed_again false s o = then_done (closed_outcome s o)
 
-closed_done : {S : Type 0} (s s1 : S) (t : List Event) (o : Outcome S) → closed s o ≡ Done s1 t → s1 ≡ s
+closed_done : {S : Type 0} (s s1 : S) (t : List Event) (o : Outcome S) → closed_outcome s o ≡ Done s1 t → s1 ≡ s
 closed_done s s1 t (Done s2 e) q = sym (same_state s s1 e t q)
 closed_done s s1 t (Continued s2 e) q = absurd (not_continued s s1 e t q)
 closed_done s s1 t (Broke s2 e) q = absurd (not_broke s s1 e t q)
@@ -90,12 +90,12 @@ closed_done s s1 t (Returned v e) q = absurd (not_returned v s1 e t q)
 closed_done s s1 t (Stopped x e) q = absurd (not_stopped x s1 e t q)
 
 -- the same behind a value
-closed_value_again : {S : Type 0} (b : Bool) (s : S) (r : Reached Value) (g : Value → List Event → Outcome S) → closed_if b s (and_then (with_value r (λ v t. closed s (g v t))) (λ s t. Done s t)) ≡ with_value r (λ v t. closed s (g v t))
+closed_value_again : {S : Type 0} (b : Bool) (s : S) (r : Reached Value) (g : Value → List Event → Outcome S) → closed_if b s (and_then (with_value r (λ v t. closed_outcome s (g v t))) (λ s t. Done s t)) ≡ with_value r (λ v t. closed_outcome s (g v t))
 closed_value_again true s (Halts x t) g = refl
 closed_value_again false s (Halts x t) g = refl
 closed_value_again b s (Gives v t) g = closed_again b s (g v t)
 
-closed_value_done : {S : Type 0} (s s1 : S) (t : List Event) (r : Reached Value) (g : Value → List Event → Outcome S) → with_value r (λ v t. closed s (g v t)) ≡ Done s1 t → s1 ≡ s
+closed_value_done : {S : Type 0} (s s1 : S) (t : List Event) (r : Reached Value) (g : Value → List Event → Outcome S) → with_value r (λ v t. closed_outcome s (g v t)) ≡ Done s1 t → s1 ≡ s
 closed_value_done s s1 t (Halts x e) g q = absurd (not_stopped x s1 e t q)
 closed_value_done s s1 t (Gives v e) g q = closed_done s s1 t (g v e) q
 
@@ -135,7 +135,7 @@ module _ (p : Module) (c : Call) (n : Names) (d : Respond) (given : Given p c n 
       (closed_if (has_continue x) names (and_then (follow (words c d) bound x names t) (λ s t. Done s t)) ≡ follow (words c d) bound x names t)
       × ((names1 : Scope) (t1 : List Event) → follow (words c d) bound x names t ≡ Done names1 t1 → names1 ≡ names)
 
-  closes : (x : Line) (names : Scope) (t : List Event) (r : Reached Value) (g : Value → List Event → Outcome Scope) → follow (words c d) bound x names t ≡ with_value r (λ v t. closed names (g v t)) → Closes x names t
+  closes : (x : Line) (names : Scope) (t : List Event) (r : Reached Value) (g : Value → List Event → Outcome Scope) → follow (words c d) bound x names t ≡ with_value r (λ v t. closed_outcome names (g v t)) → Closes x names t
   closes x names t r g e =
       subst (λ o. (closed_if (has_continue x) names (and_then o (λ s t. Done s t)) ≡ o) × ((names1 : Scope) (t1 : List Event) → o ≡ Done names1 t1 → names1 ≡ names)) (sym e) (closed_value_again (has_continue x) names r g, λ names1 t1. closed_value_done names names1 t1 r g)
 
@@ -146,7 +146,7 @@ module _ (p : Module) (c : Call) (n : Names) (d : Respond) (given : Given p c n 
   if_closes : (e : Tree) (a b : Lines) (names : Scope) (t : List Event) → Closes (IfElse e a b) names t
   if_closes e a b names t =
       let run = follow_all (words c d) bound in
-      closes (IfElse e a b) names t (value_of (words c d) e names t) (λ v t1. chosen v t1 (run a names t1) (run b names t1)) refl
+      closes (IfElse e a b) names t (value_of (words c d) e names t) (λ v t1. branch_by v t1 (run a names t1) (run b names t1)) refl
 
   switch_closes : (e : Tree) (gs : Groups) (names : Scope) (t : List Event) → Closes (SwitchOn e gs) names t
   switch_closes e gs names t =
@@ -194,7 +194,7 @@ module _ (p : Module) (c : Call) (n : Names) (d : Respond) (given : Given p c n 
   asks_all (w ∷ ws) s names kept kept1 t t1 r m e =
       let rest = asks_all ws s names kept kept1 (Ask w [] ∷ t) t1 r m.1 e in
       let asked = ap (λ o. unless o t (d w [] t)) (free p c n d given s names kept r w m.0.1.1) ∙ request_responds p c n d given.responds w m.0 [] t in
-      (rest.0, λ tail q names2 t2 h. goes_behind_line (ap (λ q. performed names q) asked) (rest.1 tail q names2 t2 h))
+      (rest.0, λ tail q names2 t2 h. goes_behind_line (ap (λ q. perform_outcome names q) asked) (rest.1 tail q names2 t2 h))
 
   -- the text's run gets behind each statement that the module's run gets behind
   goes_on : (st : Statement) (k : ℕ) (s : Handles) (names : Scope) (kept kept1 : Kept) (t t1 : List Event) → Related c n s names kept → Fits p c n k st s → run c bound st kept t ≡ Done kept1 t1 → Behind k st s names t kept1 t1
@@ -226,7 +226,7 @@ module _ (p : Module) (c : Call) (n : Names) (d : Respond) (given : Given p c n 
   goes_on Break k s names kept kept1 t t1 r m e = absurd (not_broke kept kept1 t t1 e)
   goes_on Continue k s names kept kept1 t t1 r m e = absurd (not_continued kept kept1 t t1 e)
   goes_on (Return None) k s names kept kept1 t t1 r m e = absurd (not_returned None kept1 t t1 e)
-  goes_on (Return (Some h)) k s names kept kept1 t t1 r m e = absurd (value_returned (used c kept h) e)
+  goes_on (Return (Some h)) k s names kept kept1 t t1 r m e = absurd (value_returned (used_value c kept h) e)
     where
       value_returned : (o : Option Value) → or_stuck o t (λ v. Returned (Some v) t) ≡ Done kept1 t1 → ⊥
       value_returned None e = not_stopped _ kept1 t t1 e
@@ -253,7 +253,7 @@ module _ (p : Module) (c : Call) (n : Names) (d : Respond) (given : Given p c n 
       go (goes_inside_line {x = x} {ls = rest} a b) e = absurd (some_line x rest e)
 
   -- the value of a handle in scope, by the text
-  value_there : (s : Handles) (names : Scope) (kept : Kept) (t : List Event) (h : ℕ) (v : Value) → Related c n s names kept → IsTrue (usable c.function s h) → used c kept h ≡ Some v → value_of (words c d) (value_at (naming c n) s h) names t ≡ Gives v t
+  value_there : (s : Handles) (names : Scope) (kept : Kept) (t : List Event) (h : ℕ) (v : Value) → Related c n s names kept → IsTrue (usable c.function s h) → used_value c kept h ≡ Some v → value_of (words c d) (value_at (naming c n) s h) names t ≡ Gives v t
   value_there s names kept t h v r u e = value_here p c n d given s names kept r h u t ∙ ap (λ o. reach o t) e
 
   -- the labels that wait in front of a case, and its own

@@ -1,10 +1,10 @@
 -- The module's run is its process, performed.
-use Rattle.std.proofs.Common.{◌≡◌, ℕ, zero, suc, Bool, true, false, cond, nat_eq, List, [], ◌∷◌, length, Option, Some, None, refl, ap, ap₂, ◌∙◌, option_and_then}
+use Rattle.std.proofs.Common.{◌≡◌, ℕ, zero, suc, Bool, true, false, cond, nat_eq, List, [], ◌∷◌, length, Option, Some, None, refl, ap, ap₂, ◌∙◌, option_and_then, option_map}
 use Rattle.shader_runs.specs.Value.{Bytes, PartTypes, ValueType, has_type, Value, truth_in, integer_in, place_in}
 use Rattle.shader_runs.specs.World.{Event, Entry, Ask, Read, Write, entries, World, Meaning, Environment, update}
-use Rattle.shader_runs.specs.Outcome.{Outcome, Done, Continued, Broke, Returned, Stopped, Reached, Gives, Halts, answer, Next, and_then, and_continue, within, turn, and_again, turns, after_switch, chosen, with_integer, or_stuck}
+use Rattle.shader_runs.specs.Outcome.{Outcome, Done, Continued, Broke, Returned, Stopped, Reached, Gives, Halts, answer, Next, and_then, and_continue, within, turn, and_again, turns, after_switch, branch_by, with_integer, or_stuck}
 use Rattle.shader_runs.specs.Program.{Expression, Constant, Argument, Local, Global, Load, Operator, Access, AccessIndex, Logical, Swizzle, Request, Action, Asked, Called, Label, Numbered, Statement, Emit, Store, Block, If, Switch, Loop, Break, Continue, Return, Kill, Barrier, Act, Statements, end, then, Cases, no_case, case, Function, argument_count, expression_of, handle_type, operands_of, is_counted, is_asked, from}
-use Rattle.shader_runs.specs.ProgramRun.{Call, Kept, constant_values, used, used_as, also, used_all, gathered, computed, joined, if_typed, keep_typed, loaded, asked, if_counted, emit_as, emit, leave, returned, acted, with_result, barrier_words, ask_each, same_label, has_label, label_if, run, run_all, run_cases, run_on, constants_kept, with_first, wrapped, first_used, first_used_all, entered, run_body, called, run_call}
+use Rattle.shader_runs.specs.ProgramRun.{Call, Kept, constant_values, used_value, used_value_as, also, used_values, gathered_value, computed_value, joined_values, if_typed, keep_typed, after_load, after_request, if_counted, emit_as, emit, leave, return_outcome, action_answer, with_result, barrier_words, ask_each, same_label, has_label, label_if, run, run_all, run_cases, run_on, constants_kept, with_first, first_used, first_used_all, entered, run_body, called, run_call}
 use Rattle.shader_runs.proofs.Process.{Pause, DoneWith, ContinuedWith, BrokeWith, ReturnedWith, Process, gives, stuck, tells, looks, sequence, answered, resumed, again, rounds, perform, then_on, continue_on, inside, behind_switch, on_there, on_truth, if_true, keeping, load_process, ask_process, asks_process, given_back, result_process, answers_call, entry_process, emit_one, emit_process, act_process, leave_process, return_process, statement_process, list_process, cases_process, on_process, body_process, call_in, call_alone, call_process}
 
 -- what a performed process is as an outcome, and as what a call gives
@@ -89,7 +89,7 @@ module _ (w : World) (n : ℕ) where
   if_performed true t o o' p q h k = h
   if_performed false t o o' p q h k = k
 
-  chosen_performed : (v : Value) (t : List Event) (a b : Outcome Kept) (p q : Process) → a ≡ outcome (perform w n p t) → b ≡ outcome (perform w n q t) → chosen v t a b ≡ outcome (perform w n (on_truth v p q) t)
+  chosen_performed : (v : Value) (t : List Event) (a b : Outcome Kept) (p q : Process) → a ≡ outcome (perform w n p t) → b ≡ outcome (perform w n q t) → branch_by v t a b ≡ outcome (perform w n (on_truth v p q) t)
   chosen_performed v t a b p q h k =
       there_performed (truth_in v) (truth_in v) t _ (λ y. if_true y p q) refl (λ y. if_performed y t a b p q h k)
 
@@ -100,12 +100,12 @@ module _ (w : World) (n : ℕ) where
       go true = refl
       go false = refl
 
-  load_performed : (parts : PartTypes) (k : ValueType) (h : ℕ) (kept : Kept) (t : List Event) (o : Option Value) → loaded parts k w h o kept t ≡ outcome (perform w n (load_process parts k h kept o) t)
+  load_performed : (parts : PartTypes) (k : ValueType) (h : ℕ) (kept : Kept) (t : List Event) (o : Option Value) → after_load parts k w h o kept t ≡ outcome (perform w n (load_process parts k h kept o) t)
   load_performed parts k h kept t None = refl
   load_performed parts k h kept t (Some v) =
       there_performed (place_in v) (place_in v) t _ (λ p. keeping parts k h (Read p) kept) refl (λ p. keeping_performed parts k h (Read p) kept t)
 
-  ask_performed : (parts : PartTypes) (k : ValueType) (h : ℕ) (word : Bytes) (kept : Kept) (t : List Event) (o : Option (List Value)) → asked parts k w h word o kept t ≡ outcome (perform w n (ask_process parts k h word kept o) t)
+  ask_performed : (parts : PartTypes) (k : ValueType) (h : ℕ) (word : Bytes) (kept : Kept) (t : List Event) (o : Option (List Value)) → after_request parts k w h word o kept t ≡ outcome (perform w n (ask_process parts k h word kept o) t)
   ask_performed parts k h word kept t None = refl
   ask_performed parts k h word kept t (Some vs) = keeping_performed parts k h (Ask word vs) kept t
 
@@ -124,7 +124,7 @@ module _ (w : World) (n : ℕ) where
     abbrev alone : Call
     alone = call_alone f fs env m vs frame
 
-    used_as_alone : (e : Option Expression) (o : Option Value) → used_as c e o ≡ used_as alone e o
+    used_as_alone : (e : Option Expression) (o : Option Value) → used_value_as c e o ≡ used_value_as alone e o
     used_as_alone (Some (Constant e)) o = refl
     used_as_alone (Some (Argument i)) o = refl
     used_as_alone (Some (Local i)) o = refl
@@ -132,22 +132,22 @@ module _ (w : World) (n : ℕ) where
     used_as_alone (Some _) o = refl
     used_as_alone None o = refl
 
-    used_alone : (kept : Kept) (h : ℕ) → used c kept h ≡ used alone kept h
+    used_alone : (kept : Kept) (h : ℕ) → used_value c kept h ≡ used_value alone kept h
     used_alone kept h = used_as_alone (expression_of f h) (kept h)
 
-    used_all_alone : (kept : Kept) (xs : List ℕ) → used_all c kept xs ≡ used_all alone kept xs
+    used_all_alone : (kept : Kept) (xs : List ℕ) → used_values c kept xs ≡ used_values alone kept xs
     used_all_alone kept [] = refl
     used_all_alone kept (x ∷ xs) = ap₂ also (used_alone kept x) (used_all_alone kept xs)
 
-    computed_performed : (h : ℕ) (e : Option Expression) (kept : Kept) (t : List Event) → Done (update kept h (computed c kept e)) t ≡ Done (update kept h (computed alone kept e)) t
+    computed_performed : (h : ℕ) (e : Option Expression) (kept : Kept) (t : List Event) → Done (update kept h (computed_value c kept e)) t ≡ Done (update kept h (computed_value alone kept e)) t
     computed_performed h e kept t =
-        ap (λ o. Done (update kept h (gathered m e o)) t) (used_all_alone kept (operands_of e))
+        ap (λ o. Done (update kept h (gathered_value m e o)) t) (used_all_alone kept (operands_of e))
 
     one_performed : (h : ℕ) (e : Option Expression) (kept : Kept) (t : List Event) → emit_as c h e kept t ≡ outcome (perform w n (emit_one alone callees h e kept) t)
     one_performed h (Some (Load p)) kept t =
-        counted_performed (is_counted f 1 h) (loaded env.parts (handle_type f h) w h (used c kept p)) kept t (load_process env.parts (handle_type f h) h kept (used alone kept p)) (ap (λ o. loaded env.parts (handle_type f h) w h o kept t) (used_alone kept p) ∙ load_performed env.parts (handle_type f h) h kept t (used alone kept p))
+        counted_performed (is_counted f 1 h) (after_load env.parts (handle_type f h) w h (used_value c kept p)) kept t (load_process env.parts (handle_type f h) h kept (used_value alone kept p)) (ap (λ o. after_load env.parts (handle_type f h) w h o kept t) (used_alone kept p) ∙ load_performed env.parts (handle_type f h) h kept t (used_value alone kept p))
     one_performed h (Some (Request a word xs es)) kept t =
-        counted_performed (is_asked f h a) (asked env.parts (handle_type f h) w h word (joined (used_all c kept xs) (constant_values env m es))) kept t (ask_process env.parts (handle_type f h) h word kept (joined (used_all alone kept xs) (constant_values env m es))) (ap (λ o. asked env.parts (handle_type f h) w h word (joined o (constant_values env m es)) kept t) (used_all_alone kept xs) ∙ ask_performed env.parts (handle_type f h) h word kept t (joined (used_all alone kept xs) (constant_values env m es)))
+        counted_performed (is_asked f h a) (after_request env.parts (handle_type f h) w h word (joined_values (used_values c kept xs) (constant_values env m es))) kept t (ask_process env.parts (handle_type f h) h word kept (joined_values (used_values alone kept xs) (constant_values env m es))) (ap (λ o. after_request env.parts (handle_type f h) w h word (joined_values o (constant_values env m es)) kept t) (used_all_alone kept xs) ∙ ask_performed env.parts (handle_type f h) h word kept t (joined_values (used_values alone kept xs) (constant_values env m es)))
     one_performed h (Some (Operator word xs)) kept t = computed_performed h (Some (Operator word xs)) kept t
     one_performed h (Some (Access x y)) kept t = computed_performed h (Some (Access x y)) kept t
     one_performed h (Some (AccessIndex x y)) kept t = computed_performed h (Some (AccessIndex x y)) kept t
@@ -161,7 +161,7 @@ module _ (w : World) (n : ℕ) where
     emit_performed (h ∷ hs) kept t =
         then_performed (emit_as c h (expression_of f h) kept t) (emit_one alone callees h (expression_of f h) kept) t (emit c hs) (emit_process alone callees hs) (one_performed h (expression_of f h) kept t) (emit_performed hs)
 
-    act_performed : (a : Action) (r : Option ℕ) (kept : Kept) (us : List Value) (t : List Event) → with_result env.parts f a r kept (acted c a us t) ≡ outcome (perform w n (act_process alone callees a r kept us) t)
+    act_performed : (a : Action) (r : Option ℕ) (kept : Kept) (us : List Value) (t : List Event) → with_result env.parts f a r kept (action_answer c a us t) ≡ outcome (perform w n (act_process alone callees a r kept us) t)
     act_performed (Asked word) None kept us t = refl
     act_performed (Asked word) (Some h) kept us t = keeping_performed env.parts (handle_type f h) h (Ask word us) kept t
     act_performed (Called g) r kept us t =
@@ -183,23 +183,23 @@ module _ (w : World) (n : ℕ) where
     leave_performed : (o : Option ℕ) → NextPerformed (leave c o) (leave_process alone callees o)
     leave_performed None kept t = refl
     leave_performed (Some h) kept t =
-        there_performed (used c kept h) (used alone kept h) t (λ v. chosen v t (Broke kept t) (Done kept t)) (λ v. on_truth v (gives (BrokeWith kept)) (gives (DoneWith kept))) (used_alone kept h) (λ v. chosen_performed v t (Broke kept t) (Done kept t) (gives (BrokeWith kept)) (gives (DoneWith kept)) refl refl)
+        there_performed (used_value c kept h) (used_value alone kept h) t (λ v. branch_by v t (Broke kept t) (Done kept t)) (λ v. on_truth v (gives (BrokeWith kept)) (gives (DoneWith kept))) (used_alone kept h) (λ v. chosen_performed v t (Broke kept t) (Done kept t) (gives (BrokeWith kept)) (gives (DoneWith kept)) refl refl)
 
-    return_performed : (o : Option ℕ) → NextPerformed (returned c o) (return_process alone callees o)
+    return_performed : (o : Option ℕ) → NextPerformed (return_outcome c o) (return_process alone callees o)
     return_performed None kept t = refl
     return_performed (Some h) kept t =
-        there_performed (used c kept h) (used alone kept h) t (λ v. Returned (Some v) t) (λ v. gives (ReturnedWith (Some v))) (used_alone kept h) (λ v. refl)
+        there_performed (used_value c kept h) (used_value alone kept h) t (λ v. Returned (Some v) t) (λ v. gives (ReturnedWith (Some v))) (used_alone kept h) (λ v. refl)
 
     mutual
       statement_performed : (st : Statement) → NextPerformed (run c n st) (statement_process alone callees st)
       statement_performed (Emit first count) kept t = emit_performed (from first count) kept t
       statement_performed (Store p v) kept t =
-          there_performed (option_and_then place_in (used c kept p)) (option_and_then place_in (used alone kept p)) t (λ place. or_stuck (used c kept v) t (λ value. Done kept (Write place value ∷ t))) (λ place. on_there (used alone kept v) (λ value. tells (Write place value) (gives (DoneWith kept)))) (ap (option_and_then place_in) (used_alone kept p)) (λ place. there_performed (used c kept v) (used alone kept v) t (λ value. Done kept (Write place value ∷ t)) (λ value. tells (Write place value) (gives (DoneWith kept))) (used_alone kept v) (λ value. refl))
+          there_performed (option_and_then place_in (used_value c kept p)) (option_and_then place_in (used_value alone kept p)) t (λ place. or_stuck (used_value c kept v) t (λ value. Done kept (Write place value ∷ t))) (λ place. on_there (used_value alone kept v) (λ value. tells (Write place value) (gives (DoneWith kept)))) (ap (option_and_then place_in) (used_alone kept p)) (λ place. there_performed (used_value c kept v) (used_value alone kept v) t (λ value. Done kept (Write place value ∷ t)) (λ value. tells (Write place value) (gives (DoneWith kept))) (used_alone kept v) (λ value. refl))
       statement_performed (Block b) kept t = list_performed b kept t
       statement_performed (If h a b) kept t =
-          there_performed (used c kept h) (used alone kept h) t (λ v. chosen v t (run_all c n a kept t) (run_all c n b kept t)) (λ v. on_truth v (list_process alone callees a kept) (list_process alone callees b kept)) (used_alone kept h) (λ v. chosen_performed v t (run_all c n a kept t) (run_all c n b kept t) (list_process alone callees a kept) (list_process alone callees b kept) (list_performed a kept t) (list_performed b kept t))
+          there_performed (used_value c kept h) (used_value alone kept h) t (λ v. branch_by v t (run_all c n a kept t) (run_all c n b kept t)) (λ v. on_truth v (list_process alone callees a kept) (list_process alone callees b kept)) (used_alone kept h) (λ v. chosen_performed v t (run_all c n a kept t) (run_all c n b kept t) (list_process alone callees a kept) (list_process alone callees b kept) (list_performed a kept t) (list_performed b kept t))
       statement_performed (Switch h ks) kept t =
-          there_performed (used c kept h) (used alone kept h) t (λ v. with_integer v t (λ z. after_switch (run_cases c n ks (label_if (has_label (Numbered z) ks) z) kept t))) (λ v. on_there (integer_in v) (λ z. sequence (cases_process alone callees ks (label_if (has_label (Numbered z) ks) z) kept) behind_switch)) (used_alone kept h) (λ v. there_performed (integer_in v) (integer_in v) t (λ z. after_switch (run_cases c n ks (label_if (has_label (Numbered z) ks) z) kept t)) (λ z. sequence (cases_process alone callees ks (label_if (has_label (Numbered z) ks) z) kept) behind_switch) refl (λ z. switch_performed (run_cases c n ks (label_if (has_label (Numbered z) ks) z) kept t) (cases_process alone callees ks (label_if (has_label (Numbered z) ks) z) kept) t (cases_performed ks (label_if (has_label (Numbered z) ks) z) kept t)))
+          there_performed (used_value c kept h) (used_value alone kept h) t (λ v. with_integer v t (λ z. after_switch (run_cases c n ks (label_if (has_label (Numbered z) ks) z) kept t))) (λ v. on_there (integer_in v) (λ z. sequence (cases_process alone callees ks (label_if (has_label (Numbered z) ks) z) kept) behind_switch)) (used_alone kept h) (λ v. there_performed (integer_in v) (integer_in v) t (λ z. after_switch (run_cases c n ks (label_if (has_label (Numbered z) ks) z) kept t)) (λ z. sequence (cases_process alone callees ks (label_if (has_label (Numbered z) ks) z) kept) behind_switch) refl (λ z. switch_performed (run_cases c n ks (label_if (has_label (Numbered z) ks) z) kept t) (cases_process alone callees ks (label_if (has_label (Numbered z) ks) z) kept) t (cases_performed ks (label_if (has_label (Numbered z) ks) z) kept t)))
       statement_performed (Loop b d o) kept t =
           turns_performed (turn (run_all c n b) (run_all c n d) (leave c o)) (λ s. sequence (list_process alone callees b s) (continue_on (λ s1. sequence (sequence (list_process alone callees d s1) inside) (then_on (leave_process alone callees o))))) (λ s e. continue_performed (run_all c n b s e) (list_process alone callees b s) e (λ s1 t1. and_then (within (run_all c n d s1 t1)) (leave c o)) (λ s1. sequence (sequence (list_process alone callees d s1) inside) (then_on (leave_process alone callees o))) (list_performed b s e) (λ s1 t1. then_performed (within (run_all c n d s1 t1)) (sequence (list_process alone callees d s1) inside) t1 (leave c o) (leave_process alone callees o) (within_performed (run_all c n d s1 t1) (list_process alone callees d s1) t1 (list_performed d s1 t1)) (leave_performed o))) n kept t
       statement_performed Break kept t = refl
@@ -208,7 +208,7 @@ module _ (w : World) (n : ℕ) where
       statement_performed Kill kept t = refl
       statement_performed (Barrier bits) kept t = asks_performed (barrier_words bits) kept t
       statement_performed (Act a xs r) kept t =
-          there_performed (used_all c kept xs) (used_all alone kept xs) t (λ us. with_result env.parts f a r kept (acted c a us t)) (act_process alone callees a r kept) (used_all_alone kept xs) (λ us. act_performed a r kept us t)
+          there_performed (used_values c kept xs) (used_values alone kept xs) t (λ us. with_result env.parts f a r kept (action_answer c a us t)) (act_process alone callees a r kept) (used_all_alone kept xs) (λ us. act_performed a r kept us t)
 
       list_performed : (ss : Statements) → NextPerformed (run_all c n ss) (list_process alone callees ss)
       list_performed end kept t = refl
@@ -227,7 +227,7 @@ module _ (w : World) (n : ℕ) where
 
     first_alone : (kept : Kept) (o : Option ℕ) → first_used c kept o ≡ first_used alone kept o
     first_alone kept None = refl
-    first_alone kept (Some h) = ap wrapped (used_alone kept h)
+    first_alone kept (Some h) = ap (option_map Some) (used_alone kept h)
 
     firsts_alone : (kept : Kept) (os : List (Option ℕ)) → first_used_all c kept os ≡ first_used_all alone kept os
     firsts_alone kept [] = refl

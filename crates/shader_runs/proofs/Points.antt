@@ -13,7 +13,7 @@ use Rattle.shader_runs.specs.Constants.{environment_of}
 use Rattle.shader_runs.proofs.Update.{has_types_length}
 use Rattle.shader_runs.proofs.Relation.{as_denoted, Stands, Related}
 use Rattle.shader_runs.proofs.Evaluation.{naming, words, Respond}
-use Rattle.shader_runs.proofs.Written.{Given, typed_value, value_here}
+use Rattle.shader_runs.proofs.Form.{Given, typed_value, value_here}
 use Rattle.shader_runs.proofs.Calls.{starting, given, starts, body_fits, calls_alike, uses_fit, module_within, names_are}
 use Rattle.shader_runs.proofs.Places.{lines_there}
 use Rattle.shader_runs.proofs.Passes.{passes}

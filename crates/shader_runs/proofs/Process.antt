@@ -4,7 +4,7 @@ use Rattle.shader_runs.specs.Value.{Bytes, PartTypes, ValueType, has_type, Value
 use Rattle.shader_runs.specs.World.{Event, Entry, Ask, Read, Write, Discard, entries, World, Meaning, Environment, update}
 use Rattle.shader_runs.specs.Outcome.{Stuck, Unreturned, OutOfTurns, Discarded, Mistyped, Outcome, Done, Continued, Broke, Returned, Stopped, Reached, Gives, Halts}
 use Rattle.shader_runs.specs.Program.{Expression, Load, Operator, Access, AccessIndex, Logical, Swizzle, Request, Action, Asked, Called, Label, Numbered, Statement, Emit, Store, Block, If, Switch, Loop, Break, Continue, Return, Kill, Barrier, Act, Statements, end, then, Cases, no_case, case, Function, argument_count, expression_of, handle_type, is_counted, is_asked, from}
-use Rattle.shader_runs.specs.ProgramRun.{Call, Kept, constant_values, used, used_all, computed, joined, barrier_words, same_label, has_label, label_if, constants_kept, first_used_all}
+use Rattle.shader_runs.specs.ProgramRun.{Call, Kept, constant_values, used_value, used_values, computed_value, joined_values, barrier_words, same_label, has_label, label_if, constants_kept, first_used_all}
 
 abbrev pub events_of : {S : Type 0} → Outcome S → List Event
 events_of (Done s t) = t
@@ -143,14 +143,14 @@ entry_process g vs (Some firsts) p = tells (Entry g vs firsts) p
 module _ (c : Call) (calls : ℕ → List Value → Process) where
   abbrev pub emit_one : ℕ → Option Expression → Kept → Process
   emit_one h (Some (Load p)) kept =
-      if_true (is_counted c.function 1 h) (load_process c.environment.parts (handle_type c.function h) h kept (used c kept p)) (gives (DoneWith kept))
+      if_true (is_counted c.function 1 h) (load_process c.environment.parts (handle_type c.function h) h kept (used_value c kept p)) (gives (DoneWith kept))
   emit_one h (Some (Request a w xs es)) kept =
-      if_true (is_asked c.function h a) (ask_process c.environment.parts (handle_type c.function h) h w kept (joined (used_all c kept xs) (constant_values c.environment c.meaning es))) (gives (DoneWith kept))
-  emit_one h (Some (Operator w xs)) kept = gives (DoneWith (update kept h (computed c kept (Some (Operator w xs)))))
-  emit_one h (Some (Access b i)) kept = gives (DoneWith (update kept h (computed c kept (Some (Access b i)))))
-  emit_one h (Some (AccessIndex x b)) kept = gives (DoneWith (update kept h (computed c kept (Some (AccessIndex x b)))))
-  emit_one h (Some (Logical j l r)) kept = gives (DoneWith (update kept h (computed c kept (Some (Logical j l r)))))
-  emit_one h (Some (Swizzle l r)) kept = gives (DoneWith (update kept h (computed c kept (Some (Swizzle l r)))))
+      if_true (is_asked c.function h a) (ask_process c.environment.parts (handle_type c.function h) h w kept (joined_values (used_values c kept xs) (constant_values c.environment c.meaning es))) (gives (DoneWith kept))
+  emit_one h (Some (Operator w xs)) kept = gives (DoneWith (update kept h (computed_value c kept (Some (Operator w xs)))))
+  emit_one h (Some (Access b i)) kept = gives (DoneWith (update kept h (computed_value c kept (Some (Access b i)))))
+  emit_one h (Some (AccessIndex x b)) kept = gives (DoneWith (update kept h (computed_value c kept (Some (AccessIndex x b)))))
+  emit_one h (Some (Logical j l r)) kept = gives (DoneWith (update kept h (computed_value c kept (Some (Logical j l r)))))
+  emit_one h (Some (Swizzle l r)) kept = gives (DoneWith (update kept h (computed_value c kept (Some (Swizzle l r)))))
   emit_one h _ kept = gives (DoneWith kept)
 
   abbrev pub emit_process : List ℕ → Kept → Process
@@ -165,22 +165,22 @@ module _ (c : Call) (calls : ℕ → List Value → Process) where
   abbrev pub leave_process : Option ℕ → Kept → Process
   leave_process None kept = gives (DoneWith kept)
   leave_process (Some h) kept =
-      on_there (used c kept h) (λ v. on_truth v (gives (BrokeWith kept)) (gives (DoneWith kept)))
+      on_there (used_value c kept h) (λ v. on_truth v (gives (BrokeWith kept)) (gives (DoneWith kept)))
 
   abbrev pub return_process : Option ℕ → Kept → Process
   return_process None kept = gives (ReturnedWith None)
-  return_process (Some h) kept = on_there (used c kept h) (λ v. gives (ReturnedWith (Some v)))
+  return_process (Some h) kept = on_there (used_value c kept h) (λ v. gives (ReturnedWith (Some v)))
 
   abbrev mutual
     pub statement_process : Statement → Kept → Process
     statement_process (Emit first count) kept = emit_process (from first count) kept
     statement_process (Store p v) kept =
-        on_there (option_and_then place_in (used c kept p)) (λ place. on_there (used c kept v) (λ value. tells (Write place value) (gives (DoneWith kept))))
+        on_there (option_and_then place_in (used_value c kept p)) (λ place. on_there (used_value c kept v) (λ value. tells (Write place value) (gives (DoneWith kept))))
     statement_process (Block b) kept = list_process b kept
     statement_process (If h a b) kept =
-        on_there (used c kept h) (λ v. on_truth v (list_process a kept) (list_process b kept))
+        on_there (used_value c kept h) (λ v. on_truth v (list_process a kept) (list_process b kept))
     statement_process (Switch h ks) kept =
-        on_there (used c kept h) (λ v. on_there (integer_in v) (λ z. sequence (cases_process ks (label_if (has_label (Numbered z) ks) z) kept) behind_switch))
+        on_there (used_value c kept h) (λ v. on_there (integer_in v) (λ z. sequence (cases_process ks (label_if (has_label (Numbered z) ks) z) kept) behind_switch))
     statement_process (Loop b d o) kept =
         repeats (λ s. sequence (list_process b s) (continue_on (λ s1. sequence (sequence (list_process d s1) inside) (then_on (leave_process o))))) kept
     statement_process Break kept = gives (BrokeWith kept)
@@ -188,7 +188,7 @@ module _ (c : Call) (calls : ℕ → List Value → Process) where
     statement_process (Return v) kept = return_process v kept
     statement_process Kill kept = discards
     statement_process (Barrier bits) kept = asks_process (barrier_words bits) kept
-    statement_process (Act a xs r) kept = on_there (used_all c kept xs) (act_process a r kept)
+    statement_process (Act a xs r) kept = on_there (used_values c kept xs) (act_process a r kept)
 
     pub list_process : Statements → Kept → Process
     list_process end kept = gives (DoneWith kept)

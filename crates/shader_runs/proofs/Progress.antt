@@ -1,16 +1,16 @@
 -- No run of a module is stuck: at each point of it, each handle in scope has a value of its type.
-use Rattle.std.proofs.Common.{◌≡◌, ℕ, zero, suc, min, Bool, true, false, cond, nat_eq, List, [], ◌∷◌, length, Option, Some, None, ◌||◌, refl, sym, ap, ◌∙◌, subst, true≢false, arith, eqb-true, eq-eqb}
+use Rattle.std.proofs.Common.{◌≡◌, ℕ, zero, suc, min, Bool, true, false, cond, nat_eq, List, [], ◌∷◌, length, Option, Some, None, ◌||◌, refl, sym, ap, ◌∙◌, subst, true≢false, arith, eqb-true, eq-eqb, option_map}
 use Rattle.std.specs.Prelude.{IsTrue, ℤ}
 use Rattle.std.proofs.Math.Nat.{min-le_right}
 use Rattle.std.proofs.lemmas.Bool.{ltb-true, lt-ltb}
 use Rattle.std.proofs.lemmas.List.{length-take}
 use Rattle.shader_runs.specs.Value.{Bytes, PartTypes, Place, ValueType, has_type, has_types, Value, Pointer}
 use Rattle.shader_runs.specs.World.{Event, Entry, Ask, Read, World, Meaning, Environment, update}
-use Rattle.shader_runs.specs.Outcome.{Stop, Outcome, Done, Continued, Broke, Returned, Stopped, Reached, Gives, Halts, answer, Next, and_then, and_continue, within, and_again, turn, turns, after_switch, chosen, with_integer, or_stuck}
+use Rattle.shader_runs.specs.Outcome.{Stop, Outcome, Done, Continued, Broke, Returned, Stopped, Reached, Gives, Halts, answer, Next, and_then, and_continue, within, and_again, turn, turns, after_switch, branch_by, with_integer, or_stuck}
 use Rattle.shader_runs.specs.Program.{Asking, ConstantTrees, Expression, Local, Load, Operator, Access, AccessIndex, Logical, Swizzle, Request, Action, Asked, Called, Label, Numbered, Statement, Emit, Store, Block, If, Switch, Loop, Break, Continue, Return, Kill, Barrier, Act, Statements, end, then, Cases, no_case, case, Function, argument_count, local_count, function_numbered, expression_of, handle_type, operands_of, is_counted, is_asked, binds_as, from, holds_continue, any_continue, some_case_continues, Module}
-use Rattle.shader_runs.specs.ProgramRun.{Call, Kept, constant_values, used, used_all, joined, computed, if_typed, loaded, asked, if_counted, emit_as, emit, with_pointer, leave, returned, acted, with_result, barrier_words, ask_each, same_label, has_label, label_if, run, run_all, run_cases, run_on, constants_kept, wrapped, with_first, first_used_all, entered, run_body, called, run_call}
+use Rattle.shader_runs.specs.ProgramRun.{Call, Kept, constant_values, used_value, used_values, joined_values, computed_value, if_typed, after_load, after_request, if_counted, emit_as, emit, with_pointer, leave, return_outcome, action_answer, with_result, barrier_words, ask_each, same_label, has_label, label_if, run, run_all, run_cases, run_on, constants_kept, with_first, first_used_all, entered, run_body, called, run_call}
 use Rattle.shader_runs.specs.TextRun.{Scope, no_names}
-use Rattle.shader_runs.specs.Scope.{Standing, Absent, Barred, Everywhere, Inline, Named, Handles, ModuleNames, Names, Naming, bound_name, is_present, is_new, is_pure, is_emittable, before_local, usable, usable_as, usable_all, usable_if, unbound, emitted, after_one, given_after, given_by, given_by_all, after_emit, after_result, after, after_all, forgotten, forgotten_one, forgotten_if, start_standing, at_start, first_values_fit, fits_all}
+use Rattle.shader_runs.specs.Scope.{Standing, Absent, Barred, Everywhere, Inline, Named, Handles, ModuleNames, Names, Naming, bound_name, is_present, is_new, is_pure, is_emittable, before_local, usable, usable_as, usable_all, usable_if, unbound, emitted, after_one, given_after, given_by, given_by_all, after_emit, after_result, after, after_all, forgotten_handles, forgotten_one, forgotten_if, start_standing, at_start, first_values_fit, fits_all}
 use Rattle.shader_runs.specs.Form.{functions_of}
 use Rattle.shader_runs.specs.Points.{call_of}
 use Rattle.shader_runs.specs.Premises.{LeafFits, LeafTyped, ConstantsInRange, ConstantsTyped, IsTypedIn, EnvironmentFits, handle_types, CallFits, ActionFits, ReturnFits, FunctionFits, AllFit, AllTypedIn}
@@ -18,10 +18,10 @@ use Rattle.shader_runs.specs.Progress.{IsPointer, IsInteger, IsBoolean, LoadFits
 use Rattle.shader_runs.proofs.Update.{and_left, and_right, update_cases, has_types_length}
 use Rattle.shader_runs.proofs.Relation.{TypedValue, ResultTyped, Returns, Stands, Extends, extends_trans, extends_forgotten, usable_all_more}
 use Rattle.shader_runs.proofs.Evaluation.{naming, pointer_typed, integer_typed, truth_typed}
-use Rattle.shader_runs.proofs.Written.{used_typed, UsesTyped, all_typed, operator_typed, request_there}
+use Rattle.shader_runs.proofs.Form.{used_typed, UsesTyped, all_typed, operator_typed, request_there}
 use Rattle.shader_runs.proofs.Checked.{MayBind, MayEmitAll, Fits, FitsAll, FitsCases}
 use Rattle.shader_runs.proofs.Emission.{extends_update, unbound_present}
-use Rattle.shader_runs.proofs.Scopes.{extends_after, extends_all}
+use Rattle.shader_runs.proofs.Scope.{extends_after, extends_all}
 use Rattle.shader_runs.proofs.Statements.{ReturnsOf, ActionReturns, called_typed, or_left, or_right}
 use Rattle.shader_runs.proofs.Fresh.{all_fresh, start_sources}
 use Rattle.shader_runs.proofs.ScopeRules.{everywhere_forgotten}
@@ -104,7 +104,7 @@ pointer_there parts k i o v =
     let q = pointer_typed parts k i v.0 v.2 in
     (q.0, v.1 ∙ ap Some q.1)
 
-chosen_proceeds : {S : Type 0} {R : Option Value → Type 0} {P Q B : S → Type 0} {a b : Outcome S} (parts : PartTypes) (k : ValueType) → IsBoolean k → (v : Value) → IsTrue (has_type parts k v) → (t : List Event) → Proceeds R P Q B a → Proceeds R P Q B b → Proceeds R P Q B (chosen v t a b)
+chosen_proceeds : {S : Type 0} {R : Option Value → Type 0} {P Q B : S → Type 0} {a b : Outcome S} (parts : PartTypes) (k : ValueType) → IsBoolean k → (v : Value) → IsTrue (has_type parts k v) → (t : List Event) → Proceeds R P Q B a → Proceeds R P Q B b → Proceeds R P Q B (branch_by v t a b)
 chosen_proceeds {R = R} {P = P} {Q = Q} {B = B} {a = a} {b = b} parts k i v h t x y =
     let q = truth_typed parts k i v h in
     subst (λ o. Proceeds R P Q B (or_stuck o t (λ z. cond z a b))) (sym q.1) (go q.0)
@@ -166,7 +166,7 @@ forgotten_present Inline now p = p
 forgotten_present (Named x) now p = p
 forgotten_present Everywhere now p = refl
 
-typed_forgotten : (c : Call) (s now : Handles) (kept : Kept) → Typed c s kept → Typed c (forgotten s now) kept
+typed_forgotten : (c : Call) (s now : Handles) (kept : Kept) → Typed c s kept → Typed c (forgotten_handles s now) kept
 typed_forgotten c s now kept y h p = y h (forgotten_present (s h) (now h) p)
 
 named_everywhere : (x : Bytes) → Named x ≡ Everywhere → ⊥
@@ -220,7 +220,7 @@ module _ (c : Call) (n : Names) where
 
   rooted_if : (b : Bool) (s s2 : Handles) → Rooted c s → Rooted c s2 → Rooted c (forgotten_if b s s2)
   rooted_if true s s2 r r2 h e =
-      usable_all_more c.function s (forgotten s s2) (extends_forgotten s s2) (operands_of (expression_of c.function h)) (r h (everywhere_forgotten (s h) (s2 h) e))
+      usable_all_more c.function s (forgotten_handles s s2) (extends_forgotten s s2) (operands_of (expression_of c.function h)) (r h (everywhere_forgotten (s h) (s2 h) e))
   rooted_if false s s2 r r2 h e = r2 h e
 
   rooted_all : (k : ℕ) (ss : Statements) (s : Handles) → Rooted c s → Rooted c (after_all (naming c n) k ss s)
@@ -253,34 +253,34 @@ module _ (p : Module) (c : Call) (n : Names) (sound : Sound p c) where
     answer_kept v e =
         typed_proceeds (has_type c.environment.parts (handle_type c.function h) v) (e ∷ t) (Done (update kept h (Some v)) (e ∷ t)) (λ z. done (typed_update c s kept h (Named x) (Some v) (λ i. (v, refl, z)) y))
 
-    emit_load : (b u : Bool) (q : ℕ) → IsPointer (handle_type c.function q) → MayBind c n b s x (Some (Load q)) → Emits (emitted b false u x s h) (if_counted b (loaded c.environment.parts (handle_type c.function h) c.world h (used c kept q)) kept t)
+    emit_load : (b u : Bool) (q : ℕ) → IsPointer (handle_type c.function q) → MayBind c n b s x (Some (Load q)) → Emits (emitted b false u x s h) (if_counted b (after_load c.environment.parts (handle_type c.function h) c.world h (used_value c kept q)) kept t)
     emit_load true u q l m =
-        let place = pointer_there c.environment.parts (handle_type c.function q) l (used c kept q) (uses s kept y q (and_left (usable c.function s q) true m.0)) in
-        subst (λ o. Emits (update s h (Named x)) (loaded c.environment.parts (handle_type c.function h) c.world h o kept t)) (sym place.1) (answer_kept (c.world t (Read place.0)) (Read place.0))
+        let place = pointer_there c.environment.parts (handle_type c.function q) l (used_value c kept q) (uses s kept y q (and_left (usable c.function s q) true m.0)) in
+        subst (λ o. Emits (update s h (Named x)) (after_load c.environment.parts (handle_type c.function h) c.world h o kept t)) (sym place.1) (answer_kept (c.world t (Read place.0)) (Read place.0))
     emit_load false u q l m = done y
 
-    emit_request : (b u : Bool) (a : Asking) (w : Bytes) (xs : List ℕ) (es : ConstantTrees) → ConstantsInRange p es → ConstantsTyped c.environment.parts p c.meaning es → MayBind c n b s x (Some (Request a w xs es)) → Emits (emitted b false u x s h) (if_counted b (asked c.environment.parts (handle_type c.function h) c.world h w (joined (used_all c kept xs) (constant_values c.environment c.meaning es))) kept t)
+    emit_request : (b u : Bool) (a : Asking) (w : Bytes) (xs : List ℕ) (es : ConstantTrees) → ConstantsInRange p es → ConstantsTyped c.environment.parts p c.meaning es → MayBind c n b s x (Some (Request a w xs es)) → Emits (emitted b false u x s h) (if_counted b (after_request c.environment.parts (handle_type c.function h) c.world h w (joined_values (used_values c kept xs) (constant_values c.environment c.meaning es))) kept t)
     emit_request true u a w xs es i k m =
         let vs = request_there p c s kept (uses s kept y) sound.environment xs es i k m.0 in
-        subst (λ os. Emits (update s h (Named x)) (asked c.environment.parts (handle_type c.function h) c.world h w os kept t)) (sym vs.1) (answer_kept (c.world t (Ask w vs.0)) (Ask w vs.0))
+        subst (λ os. Emits (update s h (Named x)) (after_request c.environment.parts (handle_type c.function h) c.world h w os kept t)) (sym vs.1) (answer_kept (c.world t (Ask w vs.0)) (Ask w vs.0))
     emit_request false u a w xs es i k m = done y
 
-    value : (e : Option Expression) → expression_of c.function h ≡ e → IsTrue (is_pure e) → IsTrue (usable_all c.function s (operands_of e)) → TypedValue c.environment.parts (handle_type c.function h) (computed c kept e)
+    value : (e : Option Expression) → expression_of c.function h ≡ e → IsTrue (is_pure e) → IsTrue (usable_all c.function s (operands_of e)) → TypedValue c.environment.parts (handle_type c.function h) (computed_value c kept e)
     value e q =
-        subst (λ e. IsTrue (is_pure e) → IsTrue (usable_all c.function s (operands_of e)) → TypedValue c.environment.parts (handle_type c.function h) (computed c kept e)) q (operator_typed p c s kept (uses s kept y) sound.typed h)
+        subst (λ e. IsTrue (is_pure e) → IsTrue (usable_all c.function s (operands_of e)) → TypedValue c.environment.parts (handle_type c.function h) (computed_value c kept e)) q (operator_typed p c s kept (uses s kept y) sound.typed h)
 
-    emit_pure : (b : Bool) (e : Option Expression) → expression_of c.function h ≡ e → IsTrue (is_pure e) → MayBind c n b s x e → Emits (emitted b true (usable_all c.function s (operands_of e)) x s h) (Done (update kept h (computed c kept e)) t)
-    emit_pure true e q z m = done (typed_update c s kept h (Named x) (computed c kept e) (λ i. value e q z m.0) y)
+    emit_pure : (b : Bool) (e : Option Expression) → expression_of c.function h ≡ e → IsTrue (is_pure e) → MayBind c n b s x e → Emits (emitted b true (usable_all c.function s (operands_of e)) x s h) (Done (update kept h (computed_value c kept e)) t)
+    emit_pure true e q z m = done (typed_update c s kept h (Named x) (computed_value c kept e) (λ i. value e q z m.0) y)
     emit_pure false e q z m = go (usable_all c.function s (operands_of e)) refl
       where
         operands_here : IsTrue (is_present (unbound false (s h))) → IsTrue (usable_all c.function s (operands_of e))
         operands_here i =
             subst (λ e. IsTrue (usable_all c.function s (operands_of e))) q (r h (new_everywhere (s h) new i))
 
-        go : (u : Bool) → usable_all c.function s (operands_of e) ≡ u → Emits (update s h (unbound u (s h))) (Done (update kept h (computed c kept e)) t)
-        go true k = done (typed_update c s kept h Inline (computed c kept e) (λ i. value e q z k) y)
+        go : (u : Bool) → usable_all c.function s (operands_of e) ≡ u → Emits (update s h (unbound u (s h))) (Done (update kept h (computed_value c kept e)) t)
+        go true k = done (typed_update c s kept h Inline (computed_value c kept e) (λ i. value e q z k) y)
         go false k =
-            done (typed_update c s kept h (unbound false (s h)) (computed c kept e) (λ i. value e q z (operands_here i)) y)
+            done (typed_update c s kept h (unbound false (s h)) (computed_value c kept e) (λ i. value e q z (operands_here i)) y)
 
     emit_as_proceeds : (e : Option Expression) → expression_of c.function h ≡ e → LoadFits c.function e → LeafFits p c.function (handle_type c.function h) e → LeafTyped c.environment.parts p c.meaning e → IsTrue (is_emittable e) → MayBind c n (binds_as c.function h e) s x e → Emits (emitted (binds_as c.function h e) (is_pure e) (usable_all c.function s (operands_of e)) x s h) (emit_as c h e kept t)
     emit_as_proceeds (Some (Load q)) e l i k z m = emit_load (is_counted c.function 1 h) (usable_all c.function s (q ∷ [])) q l m
@@ -318,9 +318,9 @@ module _ (p : Module) (c : Call) (n : Names) (sound : Sound p c) (bound : ℕ) w
   -- a statement and what follows it
   row : (s s1 s2 : Handles) (breaks continues held held2 : Bool) → Extends s s1 → Extends s1 s2 → (o : Outcome Kept) (f : Next Kept) → Line s s1 breaks continues held o → ((kept : Kept) (t : List Event) → Typed c s1 kept → Body s1 s2 breaks continues held2 (f kept t)) → Body s (forgotten_if held s s2) breaks continues (held || held2) (and_then o f)
   row s s1 s2 breaks continues true held2 x x2 o f line next =
-      weaker (λ k y. back k y) (λ k q. (q.0, refl, q.1)) (λ k b. b) (then_proceeds {P = Typed c s1} {Q = λ k. Typed c (forgotten s s2) k × IsTrue continues} {B = λ k. Typed c s k × IsTrue breaks} (λ k t y. weaker (λ k y. y) (λ k q. (back k q.0, q.2)) (λ k b. (typed_less c s s1 k x b.0, b.1)) (next k t y)) (weaker (λ k y. y) (λ k q. (typed_forgotten c s s2 k q.0, q.2)) (λ k b. b) line))
+      weaker (λ k y. back k y) (λ k q. (q.0, refl, q.1)) (λ k b. b) (then_proceeds {P = Typed c s1} {Q = λ k. Typed c (forgotten_handles s s2) k × IsTrue continues} {B = λ k. Typed c s k × IsTrue breaks} (λ k t y. weaker (λ k y. y) (λ k q. (back k q.0, q.2)) (λ k b. (typed_less c s s1 k x b.0, b.1)) (next k t y)) (weaker (λ k y. y) (λ k q. (typed_forgotten c s s2 k q.0, q.2)) (λ k b. b) line))
     where
-      back : (k : Kept) → Typed c s2 k → Typed c (forgotten s s2) k
+      back : (k : Kept) → Typed c s2 k → Typed c (forgotten_handles s s2) k
       back k y = typed_forgotten c s s2 k (typed_less c s s2 k (extends_trans s s1 s2 x x2) y)
   row s s1 s2 breaks continues false held2 x x2 o f line next =
       then_proceeds {P = Typed c s1} (λ k t y. weaker (λ k y. y) (λ k q. q) (λ k b. (typed_less c s s1 k x b.0, b.1)) (next k t y)) (weaker (λ k y. y) (λ k q. absurd (true≢false (sym q.1))) (λ k b. b) line)
@@ -329,7 +329,7 @@ module _ (p : Module) (c : Call) (n : Names) (sound : Sound p c) (bound : ℕ) w
   leave_proceeds s s2 x None u w kept t y = done (typed_less c s s2 kept x y)
   leave_proceeds s s2 x (Some h) u w kept t y =
       let k = handle_type c.function h in
-      used_proceeds c.environment.parts k (used c kept h) t _ (uses p c n sound s2 kept y h u) (λ v z. chosen_proceeds c.environment.parts k w v z t (broke (typed_less c s s2 kept x y)) (done (typed_less c s s2 kept x y)))
+      used_proceeds c.environment.parts k (used_value c kept h) t _ (uses p c n sound s2 kept y h u) (λ v z. chosen_proceeds c.environment.parts k w v z t (broke (typed_less c s s2 kept x y)) (done (typed_less c s s2 kept x y)))
 
   -- a loop: each turn starts in the loop's own scope
   loop_proceeds : (s s1 s2 : Handles) (hb hd breaks continues : Bool) (body continuing : Next Kept) (e : Option ℕ) → Extends s s1 → Extends s1 s2 → IsTrue (usable_if c.function s2 e) → BreakIfFits c.function e → ((kept : Kept) (t : List Event) → Typed c s kept → Body s s1 true true hb (body kept t)) → ((kept : Kept) (t : List Event) → Typed c s1 kept → Body s1 s2 false false hd (continuing kept t)) → (kept : Kept) (t : List Event) → Typed c s kept → Line s s breaks continues false (turns bound (turn body continuing (leave c e)) kept t)
@@ -343,17 +343,17 @@ module _ (p : Module) (c : Call) (n : Names) (sound : Sound p c) (bound : ℕ) w
       once kept t y =
           continue_proceeds {P = Typed c s1} tail (weaker (λ k y. y) (λ k q. q.0) (λ k b. b.0) (in_body kept t y))
 
-  return_proceeds : (s : Handles) (breaks continues : Bool) (e : Option ℕ) → IsTrue (usable_if c.function s e) → ReturnFits c.function e → (kept : Kept) (t : List Event) → Typed c s kept → Line s s breaks continues false (returned c e kept t)
+  return_proceeds : (s : Handles) (breaks continues : Bool) (e : Option ℕ) → IsTrue (usable_if c.function s e) → ReturnFits c.function e → (kept : Kept) (t : List Event) → Typed c s kept → Line s s breaks continues false (return_outcome c e kept t)
   return_proceeds s breaks continues None u w kept t y = returns tt
   return_proceeds s breaks continues (Some h) u w kept t y =
-      used_proceeds c.environment.parts (handle_type c.function h) (used c kept h) t _ (uses p c n sound s kept y h u) (λ v z. returns (subst (λ k. ResultTyped c.environment.parts (Some v) k) (sym w) z))
+      used_proceeds c.environment.parts (handle_type c.function h) (used_value c kept h) t _ (uses p c n sound s kept y h u) (λ v z. returns (subst (λ k. ResultTyped c.environment.parts (Some v) k) (sym w) z))
 
   asks_proceed : (s : Handles) (breaks continues : Bool) (ws : List Bytes) (kept : Kept) (t : List Event) → Typed c s kept → Line s s breaks continues false (ask_each ws kept t)
   asks_proceed s breaks continues [] kept t y = done y
   asks_proceed s breaks continues (w ∷ ws) kept t y = asks_proceed s breaks continues ws kept (Ask w [] ∷ t) y
 
   -- a request is answered, and a call of an earlier function isn't stuck
-  acted_proceeds : (a : Action) (xs : List ℕ) (r : Option ℕ) → ActionFits p c.callees (naming c n) a xs r → (vs : List Value) → IsTrue (has_types c.environment.parts (handle_types c.function xs) vs) → (t : List Event) → Answered (ActionReturns c a) (acted c a vs t)
+  acted_proceeds : (a : Action) (xs : List ℕ) (r : Option ℕ) → ActionFits p c.callees (naming c n) a xs r → (vs : List Value) → IsTrue (has_types c.environment.parts (handle_types c.function xs) vs) → (t : List Event) → Answered (ActionReturns c a) (action_answer c a vs t)
   acted_proceeds (Asked w) xs r m vs z t = tt
   acted_proceeds (Called g) xs r m vs z t = go (function_numbered c.callees g) refl m.2
     where
@@ -371,23 +371,23 @@ module _ (p : Module) (c : Call) (n : Names) (sound : Sound p c) (bound : ℕ) w
       done (typed_update c s kept h (Named (n.numbered h)) (Some v) (λ i. (v, refl, called_typed c.environment.parts c.function (function_numbered c.callees g) xs h v m.2 k)) y)
   result_proceeds s breaks continues a xs (Some h) m kept y (Halts x t) k = stops k
 
-  act_proceeds : (s : Handles) (breaks continues : Bool) (a : Action) (xs : List ℕ) (r : Option ℕ) → IsTrue (usable_all c.function s xs) → ActionFits p c.callees (naming c n) a xs r → (kept : Kept) (t : List Event) → Typed c s kept → Line s (after_result n r s) breaks continues false (or_stuck (used_all c kept xs) t (λ vs. with_result c.environment.parts c.function a r kept (acted c a vs t)))
+  act_proceeds : (s : Handles) (breaks continues : Bool) (a : Action) (xs : List ℕ) (r : Option ℕ) → IsTrue (usable_all c.function s xs) → ActionFits p c.callees (naming c n) a xs r → (kept : Kept) (t : List Event) → Typed c s kept → Line s (after_result n r s) breaks continues false (or_stuck (used_values c kept xs) t (λ vs. with_result c.environment.parts c.function a r kept (action_answer c a vs t)))
   act_proceeds s breaks continues a xs r u m kept t y =
       let vs = all_typed p c s kept (uses p c n sound s kept y) xs u in
-      subst (λ o. Line s (after_result n r s) breaks continues false (or_stuck o t (λ vs. with_result c.environment.parts c.function a r kept (acted c a vs t)))) (sym vs.1) (result_proceeds s breaks continues a xs r m kept y (acted c a vs.0 t) (acted_proceeds a xs r m vs.0 vs.2 t))
+      subst (λ o. Line s (after_result n r s) breaks continues false (or_stuck o t (λ vs. with_result c.environment.parts c.function a r kept (action_answer c a vs t)))) (sym vs.1) (result_proceeds s breaks continues a xs r m kept y (action_answer c a vs.0 t) (acted_proceeds a xs r m vs.0 vs.2 t))
 
   store_proceeds : (s : Handles) (breaks continues : Bool) (q v : ℕ) → IsTrue (usable c.function s q) → IsTrue (usable c.function s v) → IsPointer (handle_type c.function q) → (kept : Kept) (t : List Event) → Typed c s kept → Line s s breaks continues false (run c bound (Store q v) kept t)
   store_proceeds s breaks continues q v u z w kept t y =
-      pointer_proceeds c.environment.parts (handle_type c.function q) w (used c kept q) t _ (uses p c n sound s kept y q u) (λ place. used_proceeds c.environment.parts (handle_type c.function v) (used c kept v) t _ (uses p c n sound s kept y v z) (λ value i. done y))
+      pointer_proceeds c.environment.parts (handle_type c.function q) w (used_value c kept q) t _ (uses p c n sound s kept y q u) (λ place. used_proceeds c.environment.parts (handle_type c.function v) (used_value c kept v) t _ (uses p c n sound s kept y v z) (λ value i. done y))
 
   -- what holds behind a block
   block_proceeds : (s s1 : Handles) (breaks continues held : Bool) → Extends s s1 → (o : Outcome Kept) → Body s s1 breaks continues held o → Line s s breaks continues held o
   block_proceeds s s1 breaks continues held x o b =
       weaker (λ k y. typed_less c s s1 k x y) (λ k q. (typed_less c s s1 k x q.0, q.1, q.2)) (λ k b. b) b
 
-  if_proceeds : (s s1 s2 : Handles) (breaks continues ha hb : Bool) (h : ℕ) → IsTrue (usable c.function s h) → IsBoolean (handle_type c.function h) → Extends s s1 → Extends s s2 → (a b : Outcome Kept) (kept : Kept) (t : List Event) → Typed c s kept → Body s s1 breaks continues ha a → Body s s2 breaks continues hb b → Line s s breaks continues (ha || hb) (or_stuck (used c kept h) t (λ v. chosen v t a b))
+  if_proceeds : (s s1 s2 : Handles) (breaks continues ha hb : Bool) (h : ℕ) → IsTrue (usable c.function s h) → IsBoolean (handle_type c.function h) → Extends s s1 → Extends s s2 → (a b : Outcome Kept) (kept : Kept) (t : List Event) → Typed c s kept → Body s s1 breaks continues ha a → Body s s2 breaks continues hb b → Line s s breaks continues (ha || hb) (or_stuck (used_value c kept h) t (λ v. branch_by v t a b))
   if_proceeds s s1 s2 breaks continues ha hb h u w x1 x2 a b kept t y in_a in_b =
-      used_proceeds c.environment.parts (handle_type c.function h) (used c kept h) t _ (uses p c n sound s kept y h u) (λ v z. chosen_proceeds c.environment.parts (handle_type c.function h) w v z t (weaker (λ k y. y) (λ k q. (q.0, or_left ha hb q.1, q.2)) (λ k b. b) (block_proceeds s s1 breaks continues ha x1 a in_a)) (weaker (λ k y. y) (λ k q. (q.0, or_right ha hb q.1, q.2)) (λ k b. b) (block_proceeds s s2 breaks continues hb x2 b in_b)))
+      used_proceeds c.environment.parts (handle_type c.function h) (used_value c kept h) t _ (uses p c n sound s kept y h u) (λ v z. chosen_proceeds c.environment.parts (handle_type c.function h) w v z t (weaker (λ k y. y) (λ k q. (q.0, or_left ha hb q.1, q.2)) (λ k b. b) (block_proceeds s s1 breaks continues ha x1 a in_a)) (weaker (λ k y. y) (λ k q. (q.0, or_right ha hb q.1, q.2)) (λ k b. b) (block_proceeds s s2 breaks continues hb x2 b in_b)))
 
   -- a case, which a `break` ends
   abbrev In_case : Handles → (continues held : Bool) → Outcome Kept → Type 0
@@ -396,7 +396,7 @@ module _ (p : Module) (c : Call) (n : Names) (sound : Sound p c) (bound : ℕ) w
 
   switch_line : (s : Handles) (breaks continues held : Bool) (h : ℕ) (cs : Cases) → IsTrue (usable c.function s h) → IsInteger (handle_type c.function h) → (kept : Kept) (t : List Event) → Typed c s kept → ((x : Label) → In_case s continues held (run_cases c bound cs x kept t)) → Line s s breaks continues held (run c bound (Switch h cs) kept t)
   switch_line s breaks continues held h cs u w kept t y each =
-      used_proceeds c.environment.parts (handle_type c.function h) (used c kept h) t _ (uses p c n sound s kept y h u) (λ v i. integer_proceeds c.environment.parts (handle_type c.function h) w v i t _ (λ z. switch_proceeds (each (label_if (has_label (Numbered z) cs) z))))
+      used_proceeds c.environment.parts (handle_type c.function h) (used_value c kept h) t _ (uses p c n sound s kept y h u) (λ v i. integer_proceeds c.environment.parts (handle_type c.function h) w v i t _ (λ z. switch_proceeds (each (label_if (has_label (Numbered z) cs) z))))
 
   -- a case and those that it falls through to
   case_proceeds : (s s1 : Handles) (continues held held2 falls : Bool) → Extends s s1 → (o : Outcome Kept) (on : Next Kept) → Body s s1 true continues held o → ((kept : Kept) (t : List Event) → Typed c s kept → In_case s continues held2 (on kept t)) → In_case s continues (held || held2) (and_then o (λ kept1 t1. cond falls (on kept1 t1) (Done kept1 t1)))
@@ -523,7 +523,7 @@ module _ (p : Module) (n : ModuleNames) (env : Environment) (environment : Envir
         let more = first_values_fit f.function (suc i) os in
         let v = uses p c f.names sound start kept start_typed h (usable_sooner f.function i (expression_of f.function h) (start h) (and_left here more u)) in
         let rest = firsts_there (suc i) os (and_right here more u) in
-        (Some v.0 ∷ rest.0, ap (λ o. with_first (wrapped o) (first_used_all c kept os)) v.1 ∙ ap (with_first (Some (Some v.0))) rest.1)
+        (Some v.0 ∷ rest.0, ap (λ o. with_first (option_map Some o) (first_used_all c kept os)) v.1 ∙ ap (with_first (Some (Some v.0))) rest.1)
 
     own_proceeds : (g : ℕ) → Answered (Returns env.parts f.function) (called (nat_eq (length vs) (argument_count f.function)) (run_body c bound g vs t) t)
     own_proceeds g =

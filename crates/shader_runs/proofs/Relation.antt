@@ -4,9 +4,9 @@ use Rattle.std.specs.Prelude.{IsTrue}
 use Rattle.shader_runs.specs.Value.{Bytes, Rooted, LocalRoot, GlobalRoot, PartTypes, ValueType, has_type, Value}
 use Rattle.shader_runs.specs.World.{GlobalValue, Stored, Held}
 use Rattle.shader_runs.specs.Program.{Expression, Constant, Argument, Local, Global, Function, argument_count, local_count, local_pointer, expression_of, handle_type, operands_of}
-use Rattle.shader_runs.specs.ProgramRun.{Call, Kept, used_as, used, also, used_all, gathered, computed}
+use Rattle.shader_runs.specs.ProgramRun.{Call, Kept, used_value_as, used_value, also, used_values, gathered_value, computed_value}
 use Rattle.shader_runs.specs.TextRun.{Denoted, IsValue, IsPlace, Scope}
-use Rattle.shader_runs.specs.Scope.{Standing, Absent, Barred, Everywhere, Inline, Named, Handles, Names, usable, usable_as, usable_all, is_present, is_new, forgotten, forgotten_one, given_by_all}
+use Rattle.shader_runs.specs.Scope.{Standing, Absent, Barred, Everywhere, Inline, Named, Handles, Names, usable, usable_as, usable_all, is_present, is_new, forgotten_handles, forgotten_one, given_by_all}
 use Rattle.shader_runs.specs.Premises.{FixedName, ArgumentName, LocalName, ConstantName, GlobalName, fixed_name}
 use Rattle.shader_runs.proofs.Update.{and_left, and_right, and_both}
 
@@ -58,9 +58,9 @@ pub record NoName (c : Call) (n : Names) (w : Bytes) : Type 0 where
 abbrev pub Stands : Call → Handles → Scope → Kept → ValueType → Option Expression → Option Value → Standing → Type 0
 Stands c s names kept y e o Absent = Unit {0}
 Stands c s names kept y e o Barred = Unit {0}
-Stands c s names kept y e o Inline = IsTrue (usable_all c.function s (operands_of e)) × TypedValue c.environment.parts y o × (o ≡ computed c kept e)
-Stands c s names kept y e o Everywhere = IsTrue (usable_all c.function s (operands_of e)) × TypedValue c.environment.parts y o × (o ≡ computed c kept e)
-Stands c s names kept y e o (Named x) = TypedValue c.environment.parts y (used_as c e o) × (names x ≡ as_denoted (used_as c e o))
+Stands c s names kept y e o Inline = IsTrue (usable_all c.function s (operands_of e)) × TypedValue c.environment.parts y o × (o ≡ computed_value c kept e)
+Stands c s names kept y e o Everywhere = IsTrue (usable_all c.function s (operands_of e)) × TypedValue c.environment.parts y o × (o ≡ computed_value c kept e)
+Stands c s names kept y e o (Named x) = TypedValue c.environment.parts y (used_value_as c e o) × (names x ≡ as_denoted (used_value_as c e o))
 
 pub record Related (c : Call) (n : Names) (s : Handles) (names : Scope) (kept : Kept) : Type 0 where
   pub standing : (h : ℕ) → Stands c s names kept (handle_type c.function h) (expression_of c.function h) (kept h) (s h)
@@ -87,7 +87,7 @@ extends_trans s s1 s2 a b h p = b h (a h p)
 pub agree_trans : (s s1 : Handles) (k k1 k2 : Kept) → Extends s s1 → Agree s k k1 → Agree s1 k1 k2 → Agree s k k2
 agree_trans s s1 k k1 k2 x a b h p = b h (x h p) ∙ a h p
 
-used_agree_as : (c : Call) (e : Option Expression) (st : Standing) (o o' : Option Value) → IsTrue (usable_as c.function e st) → (IsTrue (is_present st) → o' ≡ o) → used_as c e o' ≡ used_as c e o
+used_agree_as : (c : Call) (e : Option Expression) (st : Standing) (o o' : Option Value) → IsTrue (usable_as c.function e st) → (IsTrue (is_present st) → o' ≡ o) → used_value_as c e o' ≡ used_value_as c e o
 used_agree_as c (Some (Constant v)) st o o' u a = refl
 used_agree_as c (Some (Argument i)) st o o' u a = refl
 used_agree_as c (Some (Local i)) st o o' u a = refl
@@ -95,19 +95,19 @@ used_agree_as c (Some (Global i)) st o o' u a = refl
 used_agree_as c None st o o' u a = refl
 used_agree_as c _ st o o' u a = a u
 
-pub used_agree : (c : Call) (s : Handles) (kept kept' : Kept) → Agree s kept kept' → (x : ℕ) → IsTrue (usable c.function s x) → used c kept' x ≡ used c kept x
+pub used_agree : (c : Call) (s : Handles) (kept kept' : Kept) → Agree s kept kept' → (x : ℕ) → IsTrue (usable c.function s x) → used_value c kept' x ≡ used_value c kept x
 used_agree c s kept kept' a x u =
     used_agree_as c (expression_of c.function x) (s x) (kept x) (kept' x) u (a x)
 
-pub used_all_agree : (c : Call) (s : Handles) (kept kept' : Kept) → Agree s kept kept' → (xs : List ℕ) → IsTrue (usable_all c.function s xs) → used_all c kept' xs ≡ used_all c kept xs
+pub used_all_agree : (c : Call) (s : Handles) (kept kept' : Kept) → Agree s kept kept' → (xs : List ℕ) → IsTrue (usable_all c.function s xs) → used_values c kept' xs ≡ used_values c kept xs
 used_all_agree c s kept kept' a [] u = refl
 used_all_agree c s kept kept' a (x ∷ xs) u =
     let h = used_agree c s kept kept' a x (and_left (usable c.function s x) (usable_all c.function s xs) u) in
     let t = used_all_agree c s kept kept' a xs (and_right (usable c.function s x) (usable_all c.function s xs) u) in
-    ap (λ v. also v (used_all c kept' xs)) h ∙ ap (also (used c kept x)) t
+    ap (λ v. also v (used_values c kept' xs)) h ∙ ap (also (used_value c kept x)) t
 
-pub computed_agree : (c : Call) (s : Handles) (kept kept' : Kept) → Agree s kept kept' → (e : Option Expression) → IsTrue (usable_all c.function s (operands_of e)) → computed c kept' e ≡ computed c kept e
-computed_agree c s kept kept' a e u = ap (gathered c.meaning e) (used_all_agree c s kept kept' a (operands_of e) u)
+pub computed_agree : (c : Call) (s : Handles) (kept kept' : Kept) → Agree s kept kept' → (e : Option Expression) → IsTrue (usable_all c.function s (operands_of e)) → computed_value c kept' e ≡ computed_value c kept e
+computed_agree c s kept kept' a e u = ap (gathered_value c.meaning e) (used_all_agree c s kept kept' a (operands_of e) u)
 
 usable_more_as : (f : Function) (e : Option Expression) (st st' : Standing) → (IsTrue (is_present st) → IsTrue (is_present st')) → IsTrue (usable_as f e st) → IsTrue (usable_as f e st')
 usable_more_as f (Some (Constant v)) st st' x u = u
@@ -138,7 +138,7 @@ stands_on c s s' names names' kept kept' x a y e o o' Everywhere w n d =
     let same = w refl in
     (usable_all_more c.function s s' x (operands_of e) d.0, (d.1.0, same ∙ d.1.1, d.1.2), same ∙ d.2 ∙ sym (computed_agree c s kept kept' a e d.0))
 stands_on c s s' names names' kept kept' x a y e o o' (Named z) w n d =
-    let same = ap (used_as c e) (w refl) in
+    let same = ap (used_value_as c e) (w refl) in
     ((d.0.0, same ∙ d.0.1, d.0.2), n ∙ d.1 ∙ ap as_denoted (sym same))
 
 pub keeps_all : (names : Scope) (st : Standing) → KeepsName names names st
@@ -168,7 +168,7 @@ present_forgotten Everywhere now = go (is_new now)
     go true = refl
     go false = refl
 
-pub extends_forgotten : (s now : Handles) → Extends s (forgotten s now)
+pub extends_forgotten : (s now : Handles) → Extends s (forgotten_handles s now)
 extends_forgotten s now h p = present_forgotten (s h) (now h) ∙ p
 
 stands_forgotten : (c : Call) (s : Handles) (names : Scope) (kept : Kept) (y : ValueType) (e : Option Expression) (o : Option Value) (st now : Standing) → Stands c s names kept y e o st → Stands c s names kept y e o (forgotten_one st now)
@@ -183,10 +183,10 @@ stands_forgotten c s names kept y e o Everywhere now d = go (is_new now)
     go false = d
 
 -- a constant tree that was emitted meanwhile
-pub related_forgotten : (c : Call) (n : Names) (s now : Handles) (names : Scope) (kept : Kept) → Related c n s names kept → Related c n (forgotten s now) names kept
+pub related_forgotten : (c : Call) (n : Names) (s now : Handles) (names : Scope) (kept : Kept) → Related c n s names kept → Related c n (forgotten_handles s now) names kept
 related_forgotten c n s now names kept r =
     record {
-      standing = λ h. let y = handle_type c.function h in let e = expression_of c.function h in let st = forgotten_one (s h) (now h) in stands_on c s (forgotten s now) names names kept kept (extends_forgotten s now) (agree_refl s kept) y e (kept h) (kept h) st (λ p. refl) (keeps_all names st) (stands_forgotten c s names kept y e (kept h) (s h) (now h) (r.standing h));
+      standing = λ h. let y = handle_type c.function h in let e = expression_of c.function h in let st = forgotten_one (s h) (now h) in stands_on c s (forgotten_handles s now) names names kept kept (extends_forgotten s now) (agree_refl s kept) y e (kept h) (kept h) st (λ p. refl) (keeps_all names st) (stands_forgotten c s names kept y e (kept h) (s h) (now h) (r.standing h));
       fixed = r.fixed;
       words = r.words;
     }

@@ -3,9 +3,9 @@ use Rattle.std.proofs.Common.{◌≡◌, ℕ, zero, suc, Bool, true, false, not,
 use Rattle.std.specs.Prelude.{IsTrue, ℤ, is_some}
 use Rattle.shader_runs.specs.Value.{PartTypes, Bytes, ValueType, has_type, Value, truth_in, integer_in, place_in}
 use Rattle.shader_runs.specs.World.{Event, Entry, Ask, Read, World, Meaning, Environment, update}
-use Rattle.shader_runs.specs.Outcome.{Outcome, Done, Continued, Broke, Returned, Stopped, Reached, Gives, Halts, answer, Next, and_then, and_continue, within, and_again, turn, turns, after_switch, chosen, or_stuck}
+use Rattle.shader_runs.specs.Outcome.{Outcome, Done, Continued, Broke, Returned, Stopped, Reached, Gives, Halts, answer, Next, and_then, and_continue, within, and_again, turn, turns, after_switch, branch_by, or_stuck}
 use Rattle.shader_runs.specs.Program.{Expression, Load, Request, Action, Asked, Called, Label, Numbered, Default, Statement, Emit, Store, Block, If, Switch, Loop, Break, Continue, Return, Kill, Barrier, Act, Statements, end, then, Cases, no_case, case, Function, argument_count, function_numbered, expression_of, handle_type, is_counted, is_asked, from, Module}
-use Rattle.shader_runs.specs.ProgramRun.{Call, Kept, constant_values, used, used_all, joined, if_typed, loaded, asked, if_counted, emit_as, emit, leave, acted, with_result, barrier_words, ask_each, same_label, has_label, label_if, run, run_all, run_cases, run_on, constants_kept, first_used_all, entered, run_body, called, run_call}
+use Rattle.shader_runs.specs.ProgramRun.{Call, Kept, constant_values, used_value, used_values, joined_values, if_typed, after_load, after_request, if_counted, emit_as, emit, leave, action_answer, with_result, barrier_words, ask_each, same_label, has_label, label_if, run, run_all, run_cases, run_on, constants_kept, first_used_all, entered, run_body, called, run_call}
 use Rattle.shader_runs.specs.Scope.{ModuleNames, Naming}
 use Rattle.shader_runs.specs.Form.{functions_of}
 use Rattle.shader_runs.specs.Points.{call_of}
@@ -69,7 +69,7 @@ module _ (k : Option ValueType) where
   there_leads e b None t go each = tt
   there_leads e b (Some a) t go each = each a
 
-  chosen_leads : {S : Type 0} (e b : Bool) (v : Value) (t : List Event) (o o2 : Outcome S) → Leads k e b o → Leads k e b o2 → Leads k e b (chosen v t o o2)
+  chosen_leads : {S : Type 0} (e b : Bool) (v : Value) (t : List Event) (o o2 : Outcome S) → Leads k e b o → Leads k e b o2 → Leads k e b (branch_by v t o o2)
   chosen_leads e b v t o o2 l l2 = there_leads e b (truth_in v) t _ go
     where
       go : (y : Bool) → Leads k e b (cond y o o2)
@@ -114,17 +114,17 @@ module _ (k : Option ValueType) where
 
   -- an Emit is done, or ends by an answer of a wrong type or a value that is no pointer
   emit_as_leads : (c : Call) (h : ℕ) (e : Option Expression) (kept : Kept) (t : List Event) → Leads k true false (emit_as c h e kept t)
-  emit_as_leads c h (Some (Load p)) kept t = go (is_counted c.function 1 h) (used c kept p)
+  emit_as_leads c h (Some (Load p)) kept t = go (is_counted c.function 1 h) (used_value c kept p)
     where
-      go : (b : Bool) (o : Option Value) → Leads k true false (if_counted b (loaded c.environment.parts (handle_type c.function h) c.world h o) kept t)
+      go : (b : Bool) (o : Option Value) → Leads k true false (if_counted b (after_load c.environment.parts (handle_type c.function h) c.world h o) kept t)
       go true None = refl
       go true (Some v) =
           there_leads true false (place_in v) t _ (λ p. typed_leads (has_type c.environment.parts (handle_type c.function h) (c.world t (Read p))) (Read p ∷ t) (update kept h (Some (c.world t (Read p)))))
       go false o = refl
   emit_as_leads c h (Some (Request a w xs es)) kept t =
-      go (is_asked c.function h a) (joined (used_all c kept xs) (constant_values c.environment c.meaning es))
+      go (is_asked c.function h a) (joined_values (used_values c kept xs) (constant_values c.environment c.meaning es))
     where
-      go : (b : Bool) (os : Option (List Value)) → Leads k true false (if_counted b (asked c.environment.parts (handle_type c.function h) c.world h w os) kept t)
+      go : (b : Bool) (os : Option (List Value)) → Leads k true false (if_counted b (after_request c.environment.parts (handle_type c.function h) c.world h w os) kept t)
       go true None = refl
       go true (Some vs) = typed_leads (has_type c.environment.parts (handle_type c.function h) (c.world t (Ask w vs))) (Ask w vs ∷ t) (update kept h (Some (c.world t (Ask w vs))))
       go false os = refl
@@ -143,7 +143,7 @@ module _ (k : Option ValueType) where
   leave_leads : (c : Call) (b : Bool) (e : Option ℕ) → (kept : Kept) (t : List Event) → Leads k true (b || is_some e) (leave c e kept t)
   leave_leads c b None kept t = refl
   leave_leads c b (Some h) kept t =
-      there_leads true (b || true) (used c kept h) t (λ v. chosen v t (Broke kept t) (Done kept t)) (λ v. chosen_leads true (b || true) v t (Broke kept t) (Done kept t) (or_right b true refl) refl)
+      there_leads true (b || true) (used_value c kept h) t (λ v. branch_by v t (Broke kept t) (Done kept t)) (λ v. chosen_leads true (b || true) v t (Broke kept t) (Done kept t) (or_right b true refl) refl)
 
 -- a call that wants a result gets one
 result_leads : (parts : PartTypes) (k : Option ValueType) (f : Function) (callee : Option ValueType) (a : Action) (r : Option ℕ) (kept : Kept) (q : Reached (Option Value)) → ((h : ℕ) → r ≡ Some h → (z : ValueType) × (callee ≡ Some z)) → IsComplete callee q → Leads k true false (with_result parts f a r kept q)
@@ -168,7 +168,7 @@ falls_to_case true end (case l b falls cs) w h = tt
 falls_to_case true (then s ss) cs w h = absurd w
 
 module _ (p : Module) (c : Call) (f : Naming) (complete : (g : ℕ) (callee : Function) → function_numbered c.callees g ≡ Some callee → (vs : List Value) (t : List Event) → IsComplete callee.result (c.calls g vs t)) (k : Option ValueType) (bound : ℕ) where
-  act_leads : (a : Action) (xs : List ℕ) (r : Option ℕ) → ActionFits p c.callees f a xs r → (kept : Kept) (t : List Event) (o : Option (List Value)) → Leads k true false (or_stuck o t (λ vs. with_result c.environment.parts c.function a r kept (acted c a vs t)))
+  act_leads : (a : Action) (xs : List ℕ) (r : Option ℕ) → ActionFits p c.callees f a xs r → (kept : Kept) (t : List Event) (o : Option (List Value)) → Leads k true false (or_stuck o t (λ vs. with_result c.environment.parts c.function a r kept (action_answer c a vs t)))
   act_leads a xs r m kept t None = tt
   act_leads (Asked w) xs None m kept t (Some vs) = refl
   act_leads (Asked w) xs (Some h) m kept t (Some vs) = typed_leads k (has_type c.environment.parts (handle_type c.function h) (c.world t (Ask w vs))) (Ask w vs ∷ t) (update kept h (Some (c.world t (Ask w vs))))
@@ -213,7 +213,7 @@ module _ (p : Module) (c : Call) (f : Naming) (complete : (g : ℕ) (callee : Fu
   picked_leads false there ends later o o2 up l l2 =
       more k (not there || later) (not there || ends) later ends o2 (λ h. or_either (not there) later (not there || ends) (λ n. or_left (not there) ends n) (λ n. or_right (not there) ends (up n)) h) up l2
 
-  if_leads : (ea eb ba bb : Bool) (v : Value) (t : List Event) (a b : Outcome Kept) → Leads k ea ba a → Leads k eb bb b → Leads k (ea || eb) (ba || bb) (chosen v t a b)
+  if_leads : (ea eb ba bb : Bool) (v : Value) (t : List Event) (a b : Outcome Kept) → Leads k ea ba a → Leads k eb bb b → Leads k (ea || eb) (ba || bb) (branch_by v t a b)
   if_leads ea eb ba bb v t a b l l2 =
       chosen_leads k (ea || eb) (ba || bb) v t a b (more k ea (ea || eb) ba (ba || bb) a (λ h. or_left ea eb h) (λ h. or_left ba bb h) l) (more k eb (ea || eb) bb (ba || bb) b (λ h. or_right ea eb h) (λ h. or_right ba bb h) l2)
 
@@ -233,22 +233,22 @@ module _ (p : Module) (c : Call) (f : Naming) (complete : (g : ℕ) (callee : Fu
     line_leads : (st : Statement) → IsRegular p c.callees f st → Where k (has_values st) → (kept : Kept) (t : List Event) → Leads k (may_end st) (holds_break st) (run c bound st kept t)
     line_leads (Emit first count) m w kept t = emit_leads k c (from first count) kept t
     line_leads (Store q v) m w kept t =
-        there_leads k true false (option_and_then place_in (used c kept q)) t _ (λ place. there_leads k true false (used c kept v) t _ (λ value. refl))
+        there_leads k true false (option_and_then place_in (used_value c kept q)) t _ (λ place. there_leads k true false (used_value c kept v) t _ (λ value. refl))
     line_leads (Block b) m w kept t = body_leads b m w kept t
     line_leads (If h a b) m w kept t =
-        there_leads k (may_end_all a || may_end_all b) (any_break a || any_break b) (used c kept h) t _ (λ v. if_leads (may_end_all a) (may_end_all b) (any_break a) (any_break b) v t (run_all c bound a kept t) (run_all c bound b kept t) (body_leads a m.0 (where_left k (all_have_values a) (all_have_values b) w) kept t) (body_leads b m.1 (where_right k (all_have_values a) (all_have_values b) w) kept t))
+        there_leads k (may_end_all a || may_end_all b) (any_break a || any_break b) (used_value c kept h) t _ (λ v. if_leads (may_end_all a) (may_end_all b) (any_break a) (any_break b) v t (run_all c bound a kept t) (run_all c bound b kept t) (body_leads a m.0 (where_left k (all_have_values a) (all_have_values b) w) kept t) (body_leads b m.1 (where_right k (all_have_values a) (all_have_values b) w) kept t))
     line_leads (Switch h cs) m w kept t =
-        there_leads k (may_end (Switch h cs)) false (used c kept h) t _ (λ v. there_leads k (may_end (Switch h cs)) false (integer_in v) t _ (λ z. one_label cs (λ x kept t. cases_lead cs m w x kept t) z kept t))
+        there_leads k (may_end (Switch h cs)) false (used_value c kept h) t _ (λ v. there_leads k (may_end (Switch h cs)) false (integer_in v) t _ (λ z. one_label cs (λ x kept t. cases_lead cs m w x kept t) z kept t))
     line_leads (Loop b d e) m w kept t =
         let out = any_break b || is_some e in
         turns_lead k out false (turn (run_all c bound b) (run_all c bound d) (leave c e)) (λ kept t. continue_leads k (may_end_all b) (any_break b) out (run_all c bound b kept t) _ (λ h. or_left (any_break b) (is_some e) h) (body_leads b m.0 (where_left k (all_have_values b) (all_have_values d) w) kept t) (λ kept1 t1. then_leads k true true false out (within (run_all c bound d kept1 t1)) (leave c e) (within_leads k (may_end_all d) (any_break d) (run_all c bound d kept1 t1) (body_leads d m.1 (where_right k (all_have_values b) (all_have_values d) w) kept1 t1)) (leave_leads k c (any_break b) e))) bound kept t
     line_leads Break m w kept t = refl
     line_leads Continue m w kept t = tt
     line_leads (Return None) m w kept t = given_none k w
-    line_leads (Return (Some h)) m w kept t = there_leads k false false (used c kept h) t _ (λ v. given_some k v)
+    line_leads (Return (Some h)) m w kept t = there_leads k false false (used_value c kept h) t _ (λ v. given_some k v)
     line_leads Kill m w kept t = tt
     line_leads (Barrier bits) m w kept t = asks_lead k (barrier_words bits) kept t
-    line_leads (Act a xs r) m w kept t = act_leads a xs r m.0 kept t (used_all c kept xs)
+    line_leads (Act a xs r) m w kept t = act_leads a xs r m.0 kept t (used_values c kept xs)
 
     body_leads : (ss : Statements) → AreRegular p c.callees f ss → Where k (all_have_values ss) → (kept : Kept) (t : List Event) → Leads k (may_end_all ss) (any_break ss) (run_all c bound ss kept t)
     body_leads end m w kept t = refl

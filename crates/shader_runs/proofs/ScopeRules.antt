@@ -6,7 +6,7 @@ use Rattle.std.proofs.lemmas.Option.{slice_get_within}
 use Rattle.shader_runs.specs.Value.{Bytes}
 use Rattle.shader_runs.specs.World.{update}
 use Rattle.shader_runs.specs.Program.{Expression, Constant, Argument, Local, Global, Load, Request, Result, Statement, Emit, Store, Block, If, Switch, Loop, Return, Act, Statements, end, then, Cases, no_case, case, Function, argument_count, local_count, expression_of, operands_of, is_counted, is_asked, binds_as, binds, from, holds_continue}
-use Rattle.shader_runs.specs.Scope.{Standing, Absent, Barred, Everywhere, Inline, Named, Handles, Naming, before_local, bound_name, is_present, is_new, usable_as, usable, usable_all, usable_if, is_pure, all_constant, is_constant_leaf, constant_test, is_constant_below, start_standing, at_start, unbound, emitted, after_one, given_after, given_by, given_by_all, after_emit, after, forgotten, forgotten_one, forgotten_if, after_all, is_emittable, may_emit, may_emit_all, may_give, fits, fits_all, fits_cases, first_values_fit}
+use Rattle.shader_runs.specs.Scope.{Standing, Absent, Barred, Everywhere, Inline, Named, Handles, Naming, before_local, bound_name, is_present, is_new, usable_as, usable, usable_all, usable_if, is_pure, all_constant, is_constant_leaf, constant_test, is_constant_below, start_standing, at_start, unbound, emitted, after_one, given_after, given_by, given_by_all, after_emit, after, forgotten_handles, forgotten_one, forgotten_if, after_all, is_emittable, may_emit, may_emit_all, may_give, fits, fits_all, fits_cases, first_values_fit}
 use Rattle.shader_runs.specs.Premises.{AllBelow}
 use Rattle.shader_runs.specs.ScopeRules.{Given, Emitted, AsResult, handle_of, IsAmong, IsConstantTree, one_constant, over_constants, AreConstantTrees, no_tree, and_tree, can_be_given, InScope, constant_tree, argument, local, global, bound, written_out, result, still, EachInScope, no_handle, and_handle, InScopeIf, is_unwritten, with_one, with_emitted, with_statement, with_statements, unskipped, Point, entry_point, behind_one, behind, behind_turn, WasGiven, in_sight, as_a_tree, MayEmit, MayEmitEach, MayResult, StatementHolds, StatementsHold, CasesHold, FirstValuesHold, ScopeCheckIsTheRules}
 use Rattle.shader_runs.proofs.Update.{and_left, and_right, and_both, update_cases}
@@ -499,13 +499,13 @@ module _ (f : Function) (at later : Point) (s now : Handles) (t : Tracks f at s)
   given_forgotten h Inline q = subst (GivenSkipped h) q (other_given h (λ p. ap is_new q))
   given_forgotten h (Named x) q = subst (GivenSkipped h) q (other_given h (λ p. ap is_new q))
 
-  used_forgotten : (h : ℕ) → (IsTrue (usable f (forgotten s now) h) ↔ InScope f at.visible h)
+  used_forgotten : (h : ℕ) → (IsTrue (usable f (forgotten_handles s now) h) ↔ InScope f at.visible h)
   used_forgotten h =
       let st = forgotten_one (s h) (now h) in
       let same = usable_alike f (expression_of f h) st (s h) (present_forgotten (s h) (now h)) in
       (λ u. (t.used h).0 (sym same ∙ u), λ d. same ∙ (t.used h).1 d)
 
-  tracks_forgotten : Tracks f Skipped (forgotten s now)
+  tracks_forgotten : Tracks f Skipped (forgotten_handles s now)
   tracks_forgotten =
       record {
         used = used_forgotten;

@@ -3,11 +3,11 @@ use Rattle.std.proofs.Common.{◌≡◌, ℕ, zero, suc, ◌+◌, ◌<◌, ◌�
 use Rattle.std.proofs.Math.Nat.{eq-or-lt_of_le}
 use Rattle.shader_runs.specs.Value.{Bytes, same_bytes, Place, Selector, Value, ShortCircuit, truth_in, integer_in, place_in, Part, At}
 use Rattle.shader_runs.specs.World.{Event, Entry, Write, entries, World, Meaning, bind}
-use Rattle.shader_runs.specs.Outcome.{OutOfTurns, Outcome, Done, Continued, Broke, Returned, Stopped, Reached, Gives, Halts, answer, Next, and_then, and_continue, within, turn, and_again, turns, after_switch, closed, closed_if, chosen, with_integer, or_stuck, reach, unless}
+use Rattle.shader_runs.specs.Outcome.{OutOfTurns, Outcome, Done, Continued, Broke, Returned, Stopped, Reached, Gives, Halts, answer, Next, and_then, and_continue, within, turn, and_again, turns, after_switch, closed_outcome, closed_if, branch_by, with_integer, or_stuck, reach, unless}
 use Rattle.shader_runs.specs.Program.{Label, Numbered}
 use Rattle.shader_runs.specs.ProgramRun.{called, decides, label_if}
 use Rattle.shader_runs.specs.Text.{Tree, Name, LiteralOf, Apply, Deref, AddressOf, Index, PartOf, LogicalOf, Trees, no_more, more, Line, Let, Assign, Braces, IfElse, SwitchOn, LoopOf, BreakLine, ContinueLine, ReturnLine, DiscardLine, Perform, Lines, last, before, Groups, no_group, group, Variable, TextFunction}
-use Rattle.shader_runs.specs.TextRun.{Denoted, IsValue, IsPlace, Scope, Words, valued, put_before, followed_by, responded, word_reached, as_value, dereferenced, addressed, part_reached, index_reached, indexed, part_picked, undecided_reached, logical_reached, evaluate, evaluate_all, value_of, with_value, with_place, performed, has_continue, break_line, return_line, among, group_has, follow, follow_all, follow_groups, with_parameters, with_variables, put_first, first_followed, first_of_each, entered_by, follow_body, follow_call, WordUse, NamesFunction, AsksForEvent, Operates, respond_by_use, first_then, with_variable}
+use Rattle.shader_runs.specs.TextRun.{Denoted, IsValue, IsPlace, Scope, Words, read_value, put_before, followed_by, word_answer, word_reached, as_value, dereference, address_reached, part_reached, index_reached, index_into, part_picked, undecided_reached, logical_reached, evaluate, evaluate_all, value_of, with_value, with_place, perform_outcome, has_continue, break_line, return_line, among, group_has, follow, follow_all, follow_groups, with_parameters, with_variables, put_first, first_followed, first_of_each, entered_by, follow_body, follow_call, WordUse, NamesFunction, AsksForEvent, Operates, respond_by_use, first_then, with_variable}
 use Rattle.shader_runs.proofs.Process.{events_of, reached_events}
 
 -- the second history is the first with later events
@@ -109,7 +109,7 @@ module _ (k : ℕ) where
   switch_events (Returned v e) = refl
   switch_events (Stopped x e) = refl
 
-  closed_events : {S : Type 0} (s : S) (o : Outcome S) → events_of (closed s o) ≡ events_of o
+  closed_events : {S : Type 0} (s : S) (o : Outcome S) → events_of (closed_outcome s o) ≡ events_of o
   closed_events s (Done s1 e) = refl
   closed_events s (Continued s1 e) = refl
   closed_events s (Broke s1 e) = refl
@@ -122,8 +122,8 @@ module _ (k : ℕ) where
   switch_settles : {S : Type 0} {t : List Event} {o o' : Outcome S} → SettlesOutcome t o o' → SettlesOutcome t (after_switch o) (after_switch o')
   switch_settles h = changed_settles after_switch (λ e. refl) switch_events h
 
-  closed_settles : {S : Type 0} {t : List Event} {o o' : Outcome S} (s : S) → SettlesOutcome t o o' → SettlesOutcome t (closed s o) (closed s o')
-  closed_settles s h = changed_settles (closed s) (λ e. refl) (closed_events s) h
+  closed_settles : {S : Type 0} {t : List Event} {o o' : Outcome S} (s : S) → SettlesOutcome t o o' → SettlesOutcome t (closed_outcome s o) (closed_outcome s o')
+  closed_settles s h = changed_settles (closed_outcome s) (λ e. refl) (closed_events s) h
 
   closed_if_settles : {S : Type 0} {t : List Event} {o o' : Outcome S} (b : Bool) (s : S) → SettlesOutcome t o o' → SettlesOutcome t (closed_if b s o) (closed_if b s o')
   closed_if_settles true s h = closed_settles s h
@@ -137,7 +137,7 @@ module _ (k : ℕ) where
   cond_settles true x y x' y' h l = h
   cond_settles false x y x' y' h l = l
 
-  chosen_settles : {S : Type 0} (v : Value) (t : List Event) (a b a' b' : Outcome S) → SettlesOutcome t a a' → SettlesOutcome t b b' → SettlesOutcome t (chosen v t a b) (chosen v t a' b')
+  chosen_settles : {S : Type 0} (v : Value) (t : List Event) (a b a' b' : Outcome S) → SettlesOutcome t a a' → SettlesOutcome t b b' → SettlesOutcome t (branch_by v t a b) (branch_by v t a' b')
   chosen_settles v t a b a' b' h l = there_settles (truth_in v) t _ _ (λ y. cond_settles y a b a' b' h l)
 
   one_more : {S : Type 0} {j : ℕ} {t e : List Event} {o o' : Outcome S} → Later t e → length t < length e → Settles outcome_ends j e o o' → Settles outcome_ends (suc j) t o o'
@@ -146,7 +146,7 @@ module _ (k : ℕ) where
 
   -- a turn that puts the state back
   abbrev putting_back : {S : Type 0} → Next S → Next S
-  putting_back turn s t = closed s (turn s t)
+  putting_back turn s t = closed_outcome s (turn s t)
 
   -- where a turn makes no event, both loops are out of turns where they began
   quiet : {S : Type 0} (once once' : Next S) (j n : ℕ) (s : S) (t e : List Event) → t ≡ e → once s t ≡ Done s e → once' s t ≡ Done s e → Settles outcome_ends (suc j) t (turns j once s e) (turns n once' s e)
@@ -162,26 +162,26 @@ module _ (k : ℕ) where
   turns_settle {S} turn turn' each (suc j) (suc n) le lk s t =
       go (turn s t) (turn' s t) refl refl (each s t) (turns_settle turn turn' each j n (omega (arith, le)) (omega (arith, lk)) s)
     where
-      settled : (o : Outcome S) → turn s t ≡ o → turn' s t ≡ o → Later t (events_of o) → ((e : List Event) → Settles outcome_ends j e (turns j (putting_back turn) s e) (turns n (putting_back turn') s e)) → Settles outcome_ends (suc j) t (and_again (closed s o) (turns j (putting_back turn))) (and_again (closed s o) (turns n (putting_back turn')))
+      settled : (o : Outcome S) → turn s t ≡ o → turn' s t ≡ o → Later t (events_of o) → ((e : List Event) → Settles outcome_ends j e (turns j (putting_back turn) s e) (turns n (putting_back turn') s e)) → Settles outcome_ends (suc j) t (and_again (closed_outcome s o) (turns j (putting_back turn))) (and_again (closed_outcome s o) (turns n (putting_back turn')))
       settled (Done s1 e) p p' l rest = grown (eq-or-lt_of_le (later_length l))
         where
           grown : ((length t ≡ length e) ⊎ (length t < length e)) → Settles outcome_ends (suc j) t (turns j (putting_back turn) s e) (turns n (putting_back turn') s e)
           grown (inl q) =
-              quiet (putting_back turn) (putting_back turn') j n s t e (no_later l q) (ap (closed s) p) (ap (closed s) p')
+              quiet (putting_back turn) (putting_back turn') j n s t e (no_later l q) (ap (closed_outcome s) p) (ap (closed_outcome s) p')
           grown (inr lt) = one_more l lt (rest e)
       settled (Continued s1 e) p p' l rest = same l
       settled (Broke s1 e) p p' l rest = same l
       settled (Returned v e) p p' l rest = same l
       settled (Stopped x e) p p' l rest = same l
 
-      go : (o o' : Outcome S) → turn s t ≡ o → turn' s t ≡ o' → SettlesOutcome t o o' → ((e : List Event) → Settles outcome_ends j e (turns j (putting_back turn) s e) (turns n (putting_back turn') s e)) → Settles outcome_ends (suc j) t (and_again (closed s o) (turns j (putting_back turn))) (and_again (closed s o') (turns n (putting_back turn')))
+      go : (o o' : Outcome S) → turn s t ≡ o → turn' s t ≡ o' → SettlesOutcome t o o' → ((e : List Event) → Settles outcome_ends j e (turns j (putting_back turn) s e) (turns n (putting_back turn') s e)) → Settles outcome_ends (suc j) t (and_again (closed_outcome s o) (turns j (putting_back turn))) (and_again (closed_outcome s o') (turns n (putting_back turn')))
       go o o' p p' (same {q = q} l) rest = settled q p p' l rest
       go o o' p p' (out_of_turns h) rest = out_of_turns (omega (arith, h, lk))
 
-  valued_settles : {t : List Event} {q q' : Reached Denoted} (w : World) → SettlesReached t q q' → SettlesReached t (valued w q) (valued w q')
-  valued_settles w h = onward (valued w) (valued w) (λ e. refl) go h
+  valued_settles : {t : List Event} {q q' : Reached Denoted} (w : World) → SettlesReached t q q' → SettlesReached t (read_value w q) (read_value w q')
+  valued_settles w h = onward (read_value w) (read_value w) (λ e. refl) go h
     where
-      go : (q : Reached Denoted) → SettlesReached (reached_events q) (valued w q) (valued w q)
+      go : (q : Reached Denoted) → SettlesReached (reached_events q) (read_value w q) (read_value w q)
       go (Gives (IsValue v) e) = same here
       go (Gives (IsPlace p) e) = same (later here)
       go (Halts x e) = same here
@@ -205,8 +205,8 @@ module _ (k : ℕ) where
   unless_settles None t h = h
   unless_settles (Some a) t h = same here
 
-  indexed_settles : {t : List Event} {q q' : Reached Denoted} (m : Meaning) (rest rest' : List Event → Reached Value) → ((e : List Event) → SettlesReached e (rest e) (rest' e)) → SettlesReached t q q' → SettlesReached t (indexed m q rest) (indexed m q' rest')
-  indexed_settles m rest rest' next h = onward (λ q. indexed m q rest) (λ q. indexed m q rest') (λ e. refl) go h
+  indexed_settles : {t : List Event} {q q' : Reached Denoted} (m : Meaning) (rest rest' : List Event → Reached Value) → ((e : List Event) → SettlesReached e (rest e) (rest' e)) → SettlesReached t q q' → SettlesReached t (index_into m q rest) (index_into m q' rest')
+  indexed_settles m rest rest' next h = onward (λ q. index_into m q rest) (λ q. index_into m q rest') (λ e. refl) go h
     where
       into_place : (p : Place) (q : Reached Value) → SettlesReached (reached_events q) (part_reached p q) (part_reached p q)
       into_place p (Gives v e) = reach_settles (option_map (λ z. IsPlace (Part p (At z))) (integer_in v)) e
@@ -219,7 +219,7 @@ module _ (k : ℕ) where
       value_index : (v : Value) (e : List Event) → SettlesReached e (index_reached m v (rest e)) (index_reached m v (rest' e))
       value_index v e = onward (index_reached m v) (index_reached m v) (λ e. refl) (into_value v) (next e)
 
-      go : (q : Reached Denoted) → SettlesReached (reached_events q) (indexed m q rest) (indexed m q rest')
+      go : (q : Reached Denoted) → SettlesReached (reached_events q) (index_into m q rest) (index_into m q rest')
       go (Gives (IsPlace p) e) = onward (part_reached p) (part_reached p) (λ e. refl) (into_place p) (next e)
       go (Gives (IsValue v) e) = unless_settles (place_in v) e (value_index v e)
       go (Halts x e) = same here
@@ -272,9 +272,9 @@ module _ (k : ℕ) where
     l' = record { world = w; meaning = m; respond = r' }
 
     word_settles : (word : Bytes) (names : Scope) {t : List Event} {q q' : Reached (List Value)} → SettlesReached t q q' → SettlesReached t (word_reached l word names t q) (word_reached l' word names t q')
-    word_settles word names {t = t} h = unless_settles (names word) t (onward (responded l word) (responded l' word) (λ e. refl) go h)
+    word_settles word names {t = t} h = unless_settles (names word) t (onward (word_answer l word) (word_answer l' word) (λ e. refl) go h)
       where
-        go : (q : Reached (List Value)) → SettlesReached (reached_events q) (responded l word q) (responded l' word q)
+        go : (q : Reached (List Value)) → SettlesReached (reached_events q) (word_answer l word q) (word_answer l' word q)
         go (Gives vs e) = responds word vs e
         go (Halts x e) = same here
 
@@ -283,11 +283,11 @@ module _ (k : ℕ) where
     as_value_next (Gives (Some v) e) = same here
     as_value_next (Halts x e) = same here
 
-    dereferenced_next : (q : Reached Value) → SettlesReached (reached_events q) (dereferenced q) (dereferenced q)
+    dereferenced_next : (q : Reached Value) → SettlesReached (reached_events q) (dereference q) (dereference q)
     dereferenced_next (Gives v e) = reach_settles (option_map IsPlace (place_in v)) e
     dereferenced_next (Halts x e) = same here
 
-    addressed_next : (q : Reached Denoted) → SettlesReached (reached_events q) (addressed q) (addressed q)
+    addressed_next : (q : Reached Denoted) → SettlesReached (reached_events q) (address_reached q) (address_reached q)
     addressed_next (Gives (IsPlace p) e) = same here
     addressed_next (Gives (IsValue v) e) = same here
     addressed_next (Halts x e) = same here
@@ -304,14 +304,14 @@ module _ (k : ℕ) where
       tree_settles (Apply word es) names t =
           onward as_value as_value (λ e. refl) as_value_next (word_settles word names (trees_settle es names t))
       tree_settles (Deref a) names t =
-          onward dereferenced dereferenced (λ e. refl) dereferenced_next (valued_settles w (tree_settles a names t))
-      tree_settles (AddressOf a) names t = onward addressed addressed (λ e. refl) addressed_next (tree_settles a names t)
+          onward dereference dereference (λ e. refl) dereferenced_next (valued_settles w (tree_settles a names t))
+      tree_settles (AddressOf a) names t = onward address_reached address_reached (λ e. refl) addressed_next (tree_settles a names t)
       tree_settles (Index a i) names t =
-          indexed_settles m (λ e. valued w (evaluate l i names e)) (λ e. valued w (evaluate l' i names e)) (λ e. valued_settles w (tree_settles i names e)) (tree_settles a names t)
+          indexed_settles m (λ e. read_value w (evaluate l i names e)) (λ e. read_value w (evaluate l' i names e)) (λ e. valued_settles w (tree_settles i names e)) (tree_settles a names t)
       tree_settles (PartOf x a) names t =
           onward (part_picked m x) (part_picked m x) (λ e. refl) (picked_next x) (tree_settles a names t)
       tree_settles (LogicalOf j a b) names t =
-          logical_settles m j (λ e. valued w (evaluate l b names e)) (λ e. valued w (evaluate l' b names e)) (λ e. valued_settles w (tree_settles b names e)) (valued_settles w (tree_settles a names t))
+          logical_settles m j (λ e. read_value w (evaluate l b names e)) (λ e. read_value w (evaluate l' b names e)) (λ e. valued_settles w (tree_settles b names e)) (valued_settles w (tree_settles a names t))
 
       trees_settle : (es : Trees) (names : Scope) (t : List Event) → SettlesReached t (evaluate_all l es names t) (evaluate_all l' es names t)
       trees_settle no_more names t = same here
@@ -321,14 +321,14 @@ module _ (k : ℕ) where
     value_settles : (a : Tree) (names : Scope) (t : List Event) → SettlesReached t (value_of l a names t) (value_of l' a names t)
     value_settles a names t = valued_settles w (tree_settles a names t)
 
-    performed_next : (names : Scope) (q : Reached (Option Value)) → SettlesOutcome (reached_events q) (performed names q) (performed names q)
+    performed_next : (names : Scope) (q : Reached (Option Value)) → SettlesOutcome (reached_events q) (perform_outcome names q) (perform_outcome names q)
     performed_next names (Gives v e) = same here
     performed_next names (Halts x e) = same here
 
     break_settles : (o : Option Tree) → SettlesNext (break_line l o) (break_line l' o)
     break_settles None names t = same here
     break_settles (Some a) names t =
-        with_value_settles (λ v e. chosen v e (Broke names e) (Done names e)) (λ v e. chosen v e (Broke names e) (Done names e)) (λ v e. chosen_settles v e (Broke names e) (Done names e) (Broke names e) (Done names e) (same here) (same here)) (value_settles a names t)
+        with_value_settles (λ v e. branch_by v e (Broke names e) (Done names e)) (λ v e. branch_by v e (Broke names e) (Done names e)) (λ v e. chosen_settles v e (Broke names e) (Done names e) (Broke names e) (Done names e) (same here) (same here)) (value_settles a names t)
 
     return_settles : (o : Option Tree) → SettlesNext (return_line l o) (return_line l' o)
     return_settles None names t = same here
@@ -344,9 +344,9 @@ module _ (k : ℕ) where
             with_place_settles (λ place t1. with_value (value_of l a names t1) (λ v t2. Done names (Write place v ∷ t2))) (λ place t1. with_value (value_of l' a names t1) (λ v t2. Done names (Write place v ∷ t2))) (λ place e. with_value_settles (λ v t2. Done names (Write place v ∷ t2)) (λ v t2. Done names (Write place v ∷ t2)) (λ v e. same (later here)) (value_settles a names e)) (tree_settles p names t)
         line_settles (Braces b) names t = closed_settles names (lines_settle b names t)
         line_settles (IfElse a b c) names t =
-            with_value_settles (λ v e. closed names (chosen v e (follow_all l k b names e) (follow_all l k c names e))) (λ v e. closed names (chosen v e (follow_all l' n b names e) (follow_all l' n c names e))) (λ v e. closed_settles names (chosen_settles v e (follow_all l k b names e) (follow_all l k c names e) (follow_all l' n b names e) (follow_all l' n c names e) (lines_settle b names e) (lines_settle c names e))) (value_settles a names t)
+            with_value_settles (λ v e. closed_outcome names (branch_by v e (follow_all l k b names e) (follow_all l k c names e))) (λ v e. closed_outcome names (branch_by v e (follow_all l' n b names e) (follow_all l' n c names e))) (λ v e. closed_settles names (chosen_settles v e (follow_all l k b names e) (follow_all l k c names e) (follow_all l' n b names e) (follow_all l' n c names e) (lines_settle b names e) (lines_settle c names e))) (value_settles a names t)
         line_settles (SwitchOn a groups) names t =
-            with_value_settles (λ v e. closed names (with_integer v e (λ z. after_switch (follow_groups l k groups (label_if (group_has (Numbered z) groups) z) names e)))) (λ v e. closed names (with_integer v e (λ z. after_switch (follow_groups l' n groups (label_if (group_has (Numbered z) groups) z) names e)))) (λ v e. closed_settles names (there_settles (integer_in v) e (λ z. after_switch (follow_groups l k groups (label_if (group_has (Numbered z) groups) z) names e)) (λ z. after_switch (follow_groups l' n groups (label_if (group_has (Numbered z) groups) z) names e)) (λ z. switch_settles (groups_settle groups (label_if (group_has (Numbered z) groups) z) names e)))) (value_settles a names t)
+            with_value_settles (λ v e. closed_outcome names (with_integer v e (λ z. after_switch (follow_groups l k groups (label_if (group_has (Numbered z) groups) z) names e)))) (λ v e. closed_outcome names (with_integer v e (λ z. after_switch (follow_groups l' n groups (label_if (group_has (Numbered z) groups) z) names e)))) (λ v e. closed_settles names (there_settles (integer_in v) e (λ z. after_switch (follow_groups l k groups (label_if (group_has (Numbered z) groups) z) names e)) (λ z. after_switch (follow_groups l' n groups (label_if (group_has (Numbered z) groups) z) names e)) (λ z. switch_settles (groups_settle groups (label_if (group_has (Numbered z) groups) z) names e)))) (value_settles a names t)
         line_settles (LoopOf b d o) names t =
             turns_settle (turn (follow_all l k b) (follow_all l k d) (break_line l o)) (turn (follow_all l' n b) (follow_all l' n d) (break_line l' o)) (λ names e. and_continue_settles (λ s1 t1. and_then (within (follow_all l k d s1 t1)) (break_line l o)) (λ s1 t1. and_then (within (follow_all l' n d s1 t1)) (break_line l' o)) (λ s1 t1. and_then_settles (break_line l o) (break_line l' o) (break_settles o) (within_settles (lines_settle d s1 t1))) (lines_settle b names e)) k n less (omega arith) names t
         line_settles BreakLine names t = same here
@@ -354,7 +354,7 @@ module _ (k : ℕ) where
         line_settles (ReturnLine o) names t = return_settles o names t
         line_settles DiscardLine names t = same (later here)
         line_settles (Perform word es) names t =
-            onward (performed names) (performed names) (λ e. refl) (performed_next names) (word_settles word names (trees_settle es names t))
+            onward (perform_outcome names) (perform_outcome names) (λ e. refl) (performed_next names) (word_settles word names (trees_settle es names t))
 
         lines_settle : (ls : Lines) → SettlesNext (follow_all l k ls) (follow_all l' n ls)
         lines_settle last names t = same here

@@ -5,13 +5,13 @@ use Rattle.std.proofs.lemmas.Option.{slice_get_within}
 use Rattle.shader_runs.specs.Value.{ValueType, Value, has_type, has_types}
 use Rattle.shader_runs.specs.World.{Environment, Meaning}
 use Rattle.shader_runs.specs.Program.{Expression, Constant, Operator, Access, AccessIndex, Logical, Swizzle, Function, expression_of, handle_type, operands_of, Module}
-use Rattle.shader_runs.specs.ProgramRun.{Call, used_as, used, also, used_all, gathered, all_of, or_constant, constant_as, constant_below, constants_kept}
+use Rattle.shader_runs.specs.ProgramRun.{Call, used_value_as, used_value, also, used_values, gathered_value, all_of, or_constant, constant_as, constant_below, constants_kept}
 use Rattle.shader_runs.specs.TextRun.{Scope}
 use Rattle.shader_runs.specs.Scope.{is_pure, all_constant, is_constant_leaf, constant_test, is_constant_below, start_standing, at_start, is_present, usable, usable_as, usable_all}
 use Rattle.shader_runs.specs.Premises.{AllBelow, LeafFits, LeafTyped, handle_types, IsTypedIn, EnvironmentFits}
 use Rattle.shader_runs.proofs.Update.{and_left, and_right, and_both}
 use Rattle.shader_runs.proofs.Relation.{TypedValue, Stands}
-use Rattle.shader_runs.proofs.Written.{constant_typed}
+use Rattle.shader_runs.proofs.Form.{constant_typed}
 
 leaf_value : (p : Module) (env : Environment) → EnvironmentFits p env → (m : Meaning) (f : Function) (k : ValueType) (e : Option Expression) (o : Option Value) → LeafFits p f k e → LeafTyped env.parts p m e → IsTrue (is_constant_leaf e) → TypedValue env.parts k (or_constant env m e o)
 leaf_value p env fits m f k (Some (Constant e)) o l t i =
@@ -44,7 +44,7 @@ module _ (p : Module) (env : Environment) (fits : EnvironmentFits p env) (f : Fu
       let e = expression_of f h in
       let test = is_constant_below f n in
       let value = constant_below f env m n in
-      or_cases (is_constant_leaf e) (is_pure e && all_constant test (operands_of e)) t (leaf_value p env fits m f (handle_type f h) e (gathered m e (all_of value (operands_of e))) (leaves h) (typed.constants h)) (λ u. let q = and_left (is_pure e) (all_constant test (operands_of e)) u in let vs = typed_list value test h (λ x lt. constant_has_type n x) (operands_of e) (below h) (and_right (is_pure e) (all_constant test (operands_of e)) u) in let v = typed.operators h q vs.0 vs.2 in (v.0, pure_value env m e (gathered m e (all_of value (operands_of e))) q ∙ ap (gathered m e) vs.1 ∙ v.1, v.2))
+      or_cases (is_constant_leaf e) (is_pure e && all_constant test (operands_of e)) t (leaf_value p env fits m f (handle_type f h) e (gathered_value m e (all_of value (operands_of e))) (leaves h) (typed.constants h)) (λ u. let q = and_left (is_pure e) (all_constant test (operands_of e)) u in let vs = typed_list value test h (λ x lt. constant_has_type n x) (operands_of e) (below h) (and_right (is_pure e) (all_constant test (operands_of e)) u) in let v = typed.operators h q vs.0 vs.2 in (v.0, pure_value env m e (gathered_value m e (all_of value (operands_of e))) q ∙ ap (gathered_value m e) vs.1 ∙ v.1, v.2))
 
   -- the bound doesn't matter past the handle
   same_list : (a b : ℕ → Option Value) (h : ℕ) → ((x : ℕ) → x < h → a x ≡ b x) → (xs : List ℕ) → AllBelow h xs → all_of a xs ≡ all_of b xs
@@ -52,7 +52,7 @@ module _ (p : Module) (env : Environment) (fits : EnvironmentFits p env) (f : Fu
   same_list a b h each (x ∷ xs) l = ap₂ also (each x l.0) (same_list a b h each xs l.1)
 
   same_as : (a b : ℕ → Option Value) (h : ℕ) → ((x : ℕ) → x < h → a x ≡ b x) → (e : Option Expression) → AllBelow h (operands_of e) → constant_as env m a e ≡ constant_as env m b e
-  same_as a b h each e l = ap (λ os. or_constant env m e (gathered m e os)) (same_list a b h each (operands_of e) l)
+  same_as a b h each e l = ap (λ os. or_constant env m e (gathered_value m e os)) (same_list a b h each (operands_of e) l)
 
   same_bound : (n k h : ℕ) → h < n → h < k → constant_below f env m n h ≡ constant_below f env m k h
   same_bound zero k h ln lk = absurd (omega arith)
@@ -104,7 +104,7 @@ usable_start f (Some _) t i (inr c) = absurd (true≢false (sym c))
 usable_start f None t i (inl c) = absurd (true≢false (sym c))
 usable_start f None t i (inr c) = absurd (true≢false (sym c))
 
-used_start : (c : Call) (e : Option Expression) (o o' : Option Value) → o ≡ or_constant c.environment c.meaning e o' → IsTrue (is_constant_leaf e) ⊎ IsTrue (is_pure e) → used_as c e o ≡ o
+used_start : (c : Call) (e : Option Expression) (o o' : Option Value) → o ≡ or_constant c.environment c.meaning e o' → IsTrue (is_constant_leaf e) ⊎ IsTrue (is_pure e) → used_value_as c e o ≡ o
 used_start c (Some (Constant v)) o o' q t = sym q
 used_start c (Some (Operator w xs)) o o' q t = refl
 used_start c (Some (Access x y)) o o' q t = refl
@@ -147,10 +147,10 @@ module _ (p : Module) (c : Call) (fits : EnvironmentFits p c.environment) (below
   each_usable x t =
       usable_start c.function (expression_of c.function x) (is_constant_below c.function Top x) t (kind_of_constant (is_constant_below c.function Top) (expression_of c.function x) (tested x t))
 
-  each_used : (x : ℕ) → IsTrue (is_constant_below c.function Top x) → used c values x ≡ values x
+  each_used : (x : ℕ) → IsTrue (is_constant_below c.function Top x) → used_value c values x ≡ values x
   each_used x t =
       let e = expression_of c.function x in
-      used_start c e (values x) (gathered c.meaning e (all_of values (operands_of e))) (unfold_value p c.environment fits c.function c.meaning below leaves typed Top x (within x t)) (kind_of_constant (is_constant_below c.function Top) e (tested x t))
+      used_start c e (values x) (gathered_value c.meaning e (all_of values (operands_of e))) (unfold_value p c.environment fits c.function c.meaning below leaves typed Top x (within x t)) (kind_of_constant (is_constant_below c.function Top) e (tested x t))
 
   list_usable : (xs : List ℕ) → IsTrue (all_constant (is_constant_below c.function Top) xs) → IsTrue (usable_all c.function (at_start c.function) xs)
   list_usable [] t = refl
@@ -158,7 +158,7 @@ module _ (p : Module) (c : Call) (fits : EnvironmentFits p c.environment) (below
       let test = is_constant_below c.function Top in
       and_both (usable c.function (at_start c.function) x) (usable_all c.function (at_start c.function) xs) (each_usable x (and_left (test x) (all_constant test xs) t)) (list_usable xs (and_right (test x) (all_constant test xs) t))
 
-  list_used : (xs : List ℕ) → IsTrue (all_constant (is_constant_below c.function Top) xs) → used_all c values xs ≡ all_of values xs
+  list_used : (xs : List ℕ) → IsTrue (all_constant (is_constant_below c.function Top) xs) → used_values c values xs ≡ all_of values xs
   list_used [] t = refl
   list_used (x ∷ xs) t =
       let test = is_constant_below c.function Top in
@@ -175,4 +175,4 @@ module _ (p : Module) (c : Call) (fits : EnvironmentFits p c.environment) (below
           let q1 = and_left (is_pure e) (test h) q in
           let t = and_right (is_pure e) (test h) q in
           let each = pure_test test e q1 (tested h t) in
-          (list_usable (operands_of e) each, constant_has_type p c.environment fits c.function c.meaning below leaves typed Top h t, unfold_value p c.environment fits c.function c.meaning below leaves typed Top h (within h t) ∙ pure_value c.environment c.meaning e (gathered c.meaning e (all_of values (operands_of e))) q1 ∙ ap (gathered c.meaning e) (sym (list_used (operands_of e) each)))
+          (list_usable (operands_of e) each, constant_has_type p c.environment fits c.function c.meaning below leaves typed Top h t, unfold_value p c.environment fits c.function c.meaning below leaves typed Top h (within h t) ∙ pure_value c.environment c.meaning e (gathered_value c.meaning e (all_of values (operands_of e))) q1 ∙ ap (gathered_value c.meaning e) (sym (list_used (operands_of e) each)))

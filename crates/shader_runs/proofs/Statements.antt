@@ -3,21 +3,21 @@ use Rattle.std.proofs.Common.{◌≡◌, ℕ, Bool, true, false, cond, List, [],
 use Rattle.std.specs.Prelude.{IsTrue, ℤ}
 use Rattle.shader_runs.specs.Value.{Bytes, PartTypes, has_type, has_types, Value, integer_in}
 use Rattle.shader_runs.specs.World.{Event, Ask, update, bind}
-use Rattle.shader_runs.specs.Outcome.{Outcome, Next, Done, Continued, Returned, Reached, Gives, Halts, and_then, within, turn, turns, after_switch, chosen, with_integer, closed, closed_if, or_stuck, reach, unless}
+use Rattle.shader_runs.specs.Outcome.{Outcome, Next, Done, Continued, Returned, Reached, Gives, Halts, and_then, within, turn, turns, after_switch, branch_by, with_integer, closed_outcome, closed_if, or_stuck, reach, unless}
 use Rattle.shader_runs.specs.Program.{Expression, Result, Action, Asked, Called, Label, Numbered, Statement, Emit, Store, Block, If, Switch, Loop, Break, Continue, Return, Kill, Barrier, Act, Statements, end, then, Cases, no_case, case, from, holds_continue, any_continue, some_case_continues, expression_of, handle_type, BarrierBits, Function, function_numbered, Module}
-use Rattle.shader_runs.specs.ProgramRun.{Call, Kept, combined, used, used_as, used_all, acted, with_result, leave, returned, barrier_words, ask_each, same_label, has_label, label_if, run, run_all, run_cases, run_on}
+use Rattle.shader_runs.specs.ProgramRun.{Call, Kept, combined_value, used_value, used_value_as, used_values, action_answer, with_result, leave, return_outcome, barrier_words, ask_each, same_label, has_label, label_if, run, run_all, run_cases, run_on}
 use Rattle.shader_runs.specs.Text.{Lines}
-use Rattle.shader_runs.specs.TextRun.{IsValue, Scope, valued, as_value, word_reached, performed, evaluate_all, value_of, with_value, break_line, return_line, among, group_has, follow_all, follow_groups}
+use Rattle.shader_runs.specs.TextRun.{IsValue, Scope, read_value, as_value, word_reached, perform_outcome, evaluate_all, value_of, with_value, break_line, return_line, among, group_has, follow_all, follow_groups}
 use Rattle.shader_runs.specs.Scope.{usable_all, is_present, Named, Handles, Names, usable, usable_if, given_by, given_by_all, after, after_all, forgotten_if}
 use Rattle.shader_runs.specs.Form.{word_of, value_forms, written, value_at, value_if, perform_each, form, form_all, form_cases}
 use Rattle.shader_runs.specs.Premises.{IsNoName, handle_types, CallFits, ActionFits, ReturnFits, IsResult, EachAsks}
 use Rattle.shader_runs.proofs.Alike.{HoldsOf, Answers, same_answer, mistyped_answer, Alike, done, continued, broke, returned_alike, stopped, mistyped, typed_alike, Steps, weaker, then_alike, continue_alike, within_alike, turns_alike, switch_alike, closed_alike, chosen_alike, used_alike, pointer_alike, there_alike}
 use Rattle.shader_runs.proofs.Relation.{ResultTyped, Returns, Related, Extends, Agree, extends_refl, agree_refl, agree_trans, related_agree, related_forgotten}
 use Rattle.shader_runs.proofs.Evaluation.{naming, words, Respond, request_responds, value_forms_give}
-use Rattle.shader_runs.proofs.Written.{Given, free, typed_value, value_here, place_here, all_here, values_here}
+use Rattle.shader_runs.proofs.Form.{Given, free, typed_value, value_here, place_here, all_here, values_here}
 use Rattle.shader_runs.proofs.Emission.{new_event, agree_update, bind_related, emit_alike}
 use Rattle.shader_runs.proofs.Checked.{Fits, FitsAll, FitsCases, MayResult}
-use Rattle.shader_runs.proofs.Scopes.{IsFollowed, falls_followed, continue_all, continue_cases, among_append, first_followed_by, has_all_cases, extends_after, extends_all}
+use Rattle.shader_runs.proofs.Scope.{IsFollowed, falls_followed, continue_all, continue_cases, among_append, first_followed_by, has_all_cases, extends_after, extends_all}
 
 -- both runs of a list from the scope s end alike, in the scope s2; held: it holds a `continue`
 abbrev pub Same : Call → Names → Handles → Kept → Handles → Bool → Outcome Kept → Outcome Scope → Type 0
@@ -50,16 +50,16 @@ or_right false b e = e
 
 module _ (p : Module) (c : Call) (n : Names) (d : Respond) (given : Given p c n d) (bound : ℕ) where
   -- a block leaves the scope as it was
-  block_line : (s s1 : Handles) (names : Scope) (kept : Kept) (held : Bool) (o : Outcome Kept) (o' : Outcome Scope) → Related c n s names kept → Same c n s kept s1 held o o' → SameLine c n s kept held o (closed names o')
+  block_line : (s s1 : Handles) (names : Scope) (kept : Kept) (held : Bool) (o : Outcome Kept) (o' : Outcome Scope) → Related c n s names kept → Same c n s kept s1 held o o' → SameLine c n s kept held o (closed_outcome names o')
   block_line s s1 names kept held o o' r same =
       closed_alike names (λ k l p. (related_agree c n s names kept k p.1 r, p.1)) (λ k l q. (q.1, q.2)) (λ k l b. b) same
 
   leave_alike : (s s2 : Handles) (kept0 : Kept) (e : Option ℕ) → IsTrue (usable_if c.function s2 e) → (kept : Kept) (names : Scope) (t : List Event) → Related c n s2 names kept → Agree s kept0 kept → Alike (Returns c.environment.parts c.function) (λ k l. Agree s kept0 k) (λ k l. Agree s kept0 k) (λ k l. Agree s kept0 k) (leave c e kept t) (break_line (words c d) (value_if (naming c n) s2 e) names t)
   leave_alike s s2 kept0 None u kept names t r a = done a
   leave_alike s s2 kept0 (Some h) u kept names t r a =
-      used_alike _ _ (used c kept h) t (value_of (words c d) (value_at (naming c n) s2 h) names t) (value_here p c n d given s2 names kept r h u t) (λ v. chosen_alike v t (broke a) (done a))
+      used_alike _ _ (used_value c kept h) t (value_of (words c d) (value_at (naming c n) s2 h) names t) (value_here p c n d given s2 names kept r h u t) (λ v. chosen_alike v t (broke a) (done a))
 
-  return_alike : (s : Handles) (names : Scope) (kept : Kept) (t : List Event) (e : Option ℕ) → IsTrue (usable_if c.function s e) → ReturnFits c.function e → Related c n s names kept → SameLine c n s kept false (returned c e kept t) (return_line (words c d) (value_if (naming c n) s e) names t)
+  return_alike : (s : Handles) (names : Scope) (kept : Kept) (t : List Event) (e : Option ℕ) → IsTrue (usable_if c.function s e) → ReturnFits c.function e → Related c n s names kept → SameLine c n s kept false (return_outcome c e kept t) (return_line (words c d) (value_if (naming c n) s e) names t)
   return_alike s names kept t None u w r = returned_alike tt
   return_alike s names kept t (Some h) u w r =
       let v = typed_value p c n d given s names kept r h u in
@@ -68,9 +68,9 @@ module _ (p : Module) (c : Call) (n : Names) (d : Respond) (given : Given p c n 
       subst (λ o. SameLine c n s kept false (or_stuck o t (λ v. Returned (Some v) t)) (return_line (words c d) (value_if (naming c n) s (Some h)) names t)) (sym v.1) (subst (λ q. SameLine c n s kept false (Returned (Some v.0) t) (with_value q (λ v t1. Returned (Some v) t1))) (sym there) (returned_alike typed))
 
   -- a choice, where each branch is alike
-  if_line : (s sa sb : Handles) (names : Scope) (kept : Kept) (t : List Event) (h : ℕ) (ha hb : Bool) (a b : Outcome Kept) (a' b' : List Event → Outcome Scope) → Related c n s names kept → IsTrue (usable c.function s h) → Same c n s kept sa ha a (a' t) → Same c n s kept sb hb b (b' t) → SameLine c n s kept (ha || hb) (or_stuck (used c kept h) t (λ v. chosen v t a b)) (with_value (value_of (words c d) (value_at (naming c n) s h) names t) (λ v t1. closed names (chosen v t1 (a' t1) (b' t1))))
+  if_line : (s sa sb : Handles) (names : Scope) (kept : Kept) (t : List Event) (h : ℕ) (ha hb : Bool) (a b : Outcome Kept) (a' b' : List Event → Outcome Scope) → Related c n s names kept → IsTrue (usable c.function s h) → Same c n s kept sa ha a (a' t) → Same c n s kept sb hb b (b' t) → SameLine c n s kept (ha || hb) (or_stuck (used_value c kept h) t (λ v. branch_by v t a b)) (with_value (value_of (words c d) (value_at (naming c n) s h) names t) (λ v t1. closed_outcome names (branch_by v t1 (a' t1) (b' t1))))
   if_line s sa sb names kept t h ha hb a b a' b' r u same_a same_b =
-      used_alike _ _ (used c kept h) t (value_of (words c d) (value_at (naming c n) s h) names t) (value_here p c n d given s names kept r h u t) (λ v. closed_alike names (λ k l p. (related_agree c n s names kept k p r, p)) (λ k l q. q) (λ k l b. b) (chosen_alike {P = λ k l. Agree s kept k} {Q = λ k l. Agree s kept k × IsTrue (ha || hb)} {B = λ k l. Agree s kept k} v t (weaker (λ k l p. p.1) (λ k l q. (q.1, or_left ha hb q.2)) (λ k l b. b) same_a) (weaker (λ k l p. p.1) (λ k l q. (q.1, or_right ha hb q.2)) (λ k l b. b) same_b)))
+      used_alike _ _ (used_value c kept h) t (value_of (words c d) (value_at (naming c n) s h) names t) (value_here p c n d given s names kept r h u t) (λ v. closed_alike names (λ k l p. (related_agree c n s names kept k p r, p)) (λ k l q. q) (λ k l b. b) (chosen_alike {P = λ k l. Agree s kept k} {Q = λ k l. Agree s kept k × IsTrue (ha || hb)} {B = λ k l. Agree s kept k} v t (weaker (λ k l p. p.1) (λ k l q. (q.1, or_left ha hb q.2)) (λ k l b. b) same_a) (weaker (λ k l p. p.1) (λ k l q. (q.1, or_right ha hb q.2)) (λ k l b. b) same_b)))
 
   -- a loop, of which each turn starts in the loop's own scope
   module _ (s s1 s2 : Handles) (hb hd : Bool) (body continuing : Next Kept) (body' continuing' : Next Scope) (e : Option ℕ) (x : Extends s s1) (u : IsTrue (usable_if c.function s2 e)) (same_b : (kept : Kept) (names : Scope) (t : List Event) → Related c n s names kept → Same c n s kept s1 hb (body kept t) (body' names t)) (same_d : (kept : Kept) (names : Scope) (t : List Event) → Related c n s1 names kept → Same c n s1 kept s2 hd (continuing kept t) (continuing' names t)) where
@@ -82,14 +82,14 @@ module _ (p : Module) (c : Call) (n : Names) (d : Respond) (given : Given p c n 
     turn_alike k1 l1 t1 r1 =
         continue_alike {P = λ k l. Related c n s1 l k × Agree s k1 k} (λ k l t p. tail_alike k1 k l t p.0 p.1) (weaker (λ k l p. p) (λ k l q. (q.0, q.1)) (λ k l b. b) (same_b k1 l1 t1 r1))
 
-    pub turns_keep : (kept : Kept) → Steps (Returns c.environment.parts c.function) (λ k l. Related c n s l k × Agree s kept k) (λ k l. Related c n s l k × Agree s kept k) (λ k l. Related c n s l k × Agree s kept k) (λ k l. Related c n s l k × Agree s kept k) (turn body continuing (leave c e)) (λ names1 t1. closed names1 (turn body' continuing' (break_line (words c d) (value_if (naming c n) s2 e)) names1 t1))
+    pub turns_keep : (kept : Kept) → Steps (Returns c.environment.parts c.function) (λ k l. Related c n s l k × Agree s kept k) (λ k l. Related c n s l k × Agree s kept k) (λ k l. Related c n s l k × Agree s kept k) (λ k l. Related c n s l k × Agree s kept k) (turn body continuing (leave c e)) (λ names1 t1. closed_outcome names1 (turn body' continuing' (break_line (words c d) (value_if (naming c n) s2 e)) names1 t1))
     turns_keep kept k1 l1 t1 i =
         closed_alike l1 (λ k l a. kept_on k a) (λ k l a. kept_on k a) (λ k l a. kept_on k a) (turn_alike k1 l1 t1 i.0)
       where
         kept_on : (k : Kept) → Agree s k1 k → Related c n s l1 k × Agree s kept k
         kept_on k a = (related_agree c n s l1 k1 k a i.0, agree_trans s s kept k1 k (extends_refl s) i.1 a)
 
-    loop_line : (names : Scope) (kept : Kept) (t : List Event) → Related c n s names kept → SameLine c n s kept false (turns bound (turn body continuing (leave c e)) kept t) (turns bound (λ names1 t1. closed names1 (turn body' continuing' (break_line (words c d) (value_if (naming c n) s2 e)) names1 t1)) names t)
+    loop_line : (names : Scope) (kept : Kept) (t : List Event) → Related c n s names kept → SameLine c n s kept false (turns bound (turn body continuing (leave c e)) kept t) (turns bound (λ names1 t1. closed_outcome names1 (turn body' continuing' (break_line (words c d) (value_if (naming c n) s2 e)) names1 t1)) names t)
     loop_line names kept t r =
         turns_alike {I = λ k l. Related c n s l k × Agree s kept k} {P = λ k l. Related c n s l k × Agree s kept k} (turns_keep kept) bound kept names t (r, agree_refl s kept)
 
@@ -107,12 +107,12 @@ pub called_typed : (parts : PartTypes) (f : Function) (o : Option Function) (xs 
 called_typed parts f None xs h v w q = absurd w
 called_typed parts f (Some callee) xs h v w q = subst (λ k. ResultTyped parts (Some v) k) w.1 q
 
-result_combined : (c : Call) (e : Option Expression) → IsResult e → (vs : List Value) → combined c.meaning e vs ≡ None
+result_combined : (c : Call) (e : Option Expression) → IsResult e → (vs : List Value) → combined_value c.meaning e vs ≡ None
 result_combined c (Some Result) i vs = refl
 result_combined c (Some _) i vs = absurd i
 result_combined c None i vs = absurd i
 
-result_used : (c : Call) (e : Option Expression) (o : Option Value) → IsResult e → used_as c e o ≡ o
+result_used : (c : Call) (e : Option Expression) (o : Option Value) → IsResult e → used_value_as c e o ≡ o
 result_used c (Some Result) o i = refl
 result_used c (Some _) o i = absurd i
 result_used c None o i = absurd i
@@ -132,7 +132,7 @@ module _ (p : Module) (c : Call) (n : Names) (d : Respond) (given : Given p c n 
 
   store_row : (k q v : ℕ) (s : Handles) → Row k (Store q v) s
   store_row k q v s names kept t held2 s2 f tail r m next =
-      row c n s names kept r false held2 s2 _ _ f (Follow tail) (pointer_alike _ _ (used c kept q) t _ (place_here p c n d given s names kept r q m.0 t) (λ place. used_alike _ _ (used c kept v) t _ (value_here p c n d given s names kept r v m.1 t) (λ value. done (r, agree_refl s kept)))) next
+      row c n s names kept r false held2 s2 _ _ f (Follow tail) (pointer_alike _ _ (used_value c kept q) t _ (place_here p c n d given s names kept r q m.0 t) (λ place. used_alike _ _ (used_value c kept v) t _ (value_here p c n d given s names kept r v m.1 t) (λ value. done (r, agree_refl s kept)))) next
 
   -- what is to be shown of a list
   abbrev List_row : ℕ → Statements → Handles → Type 0
@@ -141,7 +141,7 @@ module _ (p : Module) (c : Call) (n : Names) (d : Respond) (given : Given p c n 
 
   block_row : (k : ℕ) (b : Statements) (s : Handles) → List_row k b s → Row k (Block b) s
   block_row k b s same names kept t held2 s2 f tail r m next =
-      let o' = closed names (Follow (form_all (naming c n) k b s) names t) in
+      let o' = closed_outcome names (Follow (form_all (naming c n) k b s) names t) in
       subst (λ held. Same c n s kept (forgotten_if (any_continue b) s s2) (any_continue b || held2) (and_then (run_all c bound b kept t) f) (closed_if held names (and_then o' (Follow tail)))) (sym (continue_all p c n k b s m)) (row c n s names kept r (any_continue b) held2 s2 (run_all c bound b kept t) o' f (Follow tail) (block_line p c n d given bound s _ names kept (any_continue b) _ _ r (same names kept t r m)) next)
 
   if_row : (k h : ℕ) (a b : Statements) (s : Handles) → List_row k a s → List_row (given_by_all c.function a k) b s → Row k (If h a b) s
@@ -150,8 +150,8 @@ module _ (p : Module) (c : Call) (n : Names) (d : Respond) (given : Given p c n 
       let a' = Follow (form_all (naming c n) k a s) names in
       let b' = Follow (form_all (naming c n) k1 b s) names in
       let held = any_continue a || any_continue b in
-      let o = or_stuck (used c kept h) t (λ v. chosen v t (run_all c bound a kept t) (run_all c bound b kept t)) in
-      let o' = with_value (value_of (words c d) (value_at (naming c n) s h) names t) (λ v t1. closed names (chosen v t1 (a' t1) (b' t1))) in
+      let o = or_stuck (used_value c kept h) t (λ v. branch_by v t (run_all c bound a kept t) (run_all c bound b kept t)) in
+      let o' = with_value (value_of (words c d) (value_at (naming c n) s h) names t) (λ v t1. closed_outcome names (branch_by v t1 (a' t1) (b' t1))) in
       subst (λ x. Same c n s kept (forgotten_if held s s2) (held || held2) (and_then o f) (closed_if x names (and_then o' (Follow tail)))) (sym (ap₂ (λ x y. x || y) (continue_all p c n k a s m.1) (continue_all p c n k1 b s m.2))) (row c n s names kept r held held2 s2 o o' f (Follow tail) (if_line p c n d given bound s _ _ names kept t h (any_continue a) (any_continue b) _ _ a' b' r m.0 (same_a names kept t r m.1) (same_b names kept t r m.2)) next)
 
   loop_row : (k : ℕ) (b b2 : Statements) (e : Option ℕ) (s : Handles) → List_row k b s → List_row (given_by_all c.function b k) b2 (after_all (naming c n) k b s) → Row k (Loop b b2 e) s
@@ -180,7 +180,7 @@ module _ (p : Module) (c : Call) (n : Names) (d : Respond) (given : Given p c n 
   asks_alike s s2 names kept r held2 f tail [] m next t = next t
   asks_alike s s2 names kept r held2 f tail (w ∷ ws) m next t =
       let rest = Follow (perform_each ws tail) in
-      subst (λ q. Same c n s kept s2 held2 (and_then (ask_each ws kept (Ask w [] ∷ t)) f) (and_then (performed names q) rest)) (sym (ap (λ o. unless o t (d w [] t)) (free p c n d given s names kept r w m.0.1.1) ∙ request_responds p c n d given.responds w m.0 [] t)) (asks_alike s s2 names kept r held2 f tail ws m.1 next (Ask w [] ∷ t))
+      subst (λ q. Same c n s kept s2 held2 (and_then (ask_each ws kept (Ask w [] ∷ t)) f) (and_then (perform_outcome names q) rest)) (sym (ap (λ o. unless o t (d w [] t)) (free p c n d given s names kept r w m.0.1.1) ∙ request_responds p c n d given.responds w m.0 [] t)) (asks_alike s s2 names kept r held2 f tail ws m.1 next (Ask w [] ∷ t))
 
   barrier_row : (k : ℕ) (bits : BarrierBits) (s : Handles) → Row k (Barrier bits) s
   barrier_row k bits s names kept t held2 s2 f tail r m next =
@@ -190,8 +190,8 @@ module _ (p : Module) (c : Call) (n : Names) (d : Respond) (given : Given p c n 
   as_answer q q' e h = subst (λ x. Answers (λ o. Unit {0}) q x) (sym e) (same_answer h)
 
   -- an action's word does the same in the text
-  action_responds : (a : Action) (xs : List ℕ) (result : Option ℕ) → ActionFits p c.callees (naming c n) a xs result → (vs : List Value) → IsTrue (has_types c.environment.parts (handle_types c.function xs) vs) → (t : List Event) → Answers (ActionReturns c a) (acted c a vs t) (d (word_of n a) vs t)
-  action_responds (Asked w) xs result m vs h t = as_answer (acted c (Asked w) vs t) (d w vs t) (request_responds p c n d given.responds w m vs t) tt
+  action_responds : (a : Action) (xs : List ℕ) (result : Option ℕ) → ActionFits p c.callees (naming c n) a xs result → (vs : List Value) → IsTrue (has_types c.environment.parts (handle_types c.function xs) vs) → (t : List Event) → Answers (ActionReturns c a) (action_answer c a vs t) (d (word_of n a) vs t)
+  action_responds (Asked w) xs result m vs h t = as_answer (action_answer c (Asked w) vs t) (d w vs t) (request_responds p c n d given.responds w m vs t) tt
   action_responds (Called g) xs result m vs h t = go (function_numbered c.callees g) refl m.2
     where
       go : (o : Option Function) → function_numbered c.callees g ≡ o → CallFits c.function o xs result → Answers (ReturnsOf c.environment.parts o) (c.calls g vs t) (d (n.outer.function g) vs t)
@@ -202,16 +202,16 @@ module _ (p : Module) (c : Call) (n : Names) (d : Respond) (given : Given p c n 
   not_hidden (Asked w) xs result m = m.1.1
   not_hidden (Called g) xs result m = m.1
 
-  responded_written : (s : Handles) (names : Scope) (kept : Kept) → Related c n s names kept → (a : Action) (xs : List ℕ) (result : Option ℕ) → ActionFits p c.callees (naming c n) a xs result → IsTrue (usable_all c.function s xs) → (vs : List Value) → used_all c kept xs ≡ Some vs → IsTrue (has_types c.environment.parts (handle_types c.function xs) vs) → (t : List Event) → Answers (ActionReturns c a) (acted c a vs t) (word_reached (words c d) (word_of n a) names t (evaluate_all (words c d) (value_forms (written (naming c n) s) xs) names t))
+  responded_written : (s : Handles) (names : Scope) (kept : Kept) → Related c n s names kept → (a : Action) (xs : List ℕ) (result : Option ℕ) → ActionFits p c.callees (naming c n) a xs result → IsTrue (usable_all c.function s xs) → (vs : List Value) → used_values c kept xs ≡ Some vs → IsTrue (has_types c.environment.parts (handle_types c.function xs) vs) → (t : List Event) → Answers (ActionReturns c a) (action_answer c a vs t) (word_reached (words c d) (word_of n a) names t (evaluate_all (words c d) (value_forms (written (naming c n) s) xs) names t))
   responded_written s names kept r a xs result m u vs e h t =
       let there = value_forms_give c d names kept (written (naming c n) s) xs (all_here p c n d given s names kept r xs u) t ∙ ap (λ os. reach os t) e in
-      subst (λ q. Answers (ActionReturns c a) (acted c a vs t) (word_reached (words c d) (word_of n a) names t q)) (sym there) (subst (λ o. Answers (ActionReturns c a) (acted c a vs t) (unless o t (d (word_of n a) vs t))) (sym (free p c n d given s names kept r (word_of n a) (not_hidden a xs result m))) (action_responds a xs result m vs h t))
+      subst (λ q. Answers (ActionReturns c a) (action_answer c a vs t) (word_reached (words c d) (word_of n a) names t q)) (sym there) (subst (λ o. Answers (ActionReturns c a) (action_answer c a vs t) (unless o t (d (word_of n a) vs t))) (sym (free p c n d given s names kept r (word_of n a) (not_hidden a xs result m))) (action_responds a xs result m vs h t))
 
-  performed_same : (s : Handles) (names : Scope) (kept : Kept) (a : Action) (q : Reached (Option Value)) → Related c n s names kept → SameLine c n s kept false (with_result c.environment.parts c.function a None kept q) (performed names q)
+  performed_same : (s : Handles) (names : Scope) (kept : Kept) (a : Action) (q : Reached (Option Value)) → Related c n s names kept → SameLine c n s kept false (with_result c.environment.parts c.function a None kept q) (perform_outcome names q)
   performed_same s names kept a (Gives v t) r = done (r, agree_refl s kept)
   performed_same s names kept a (Halts x t) r = stopped
 
-  performed_alike : (s : Handles) (names : Scope) (kept : Kept) (a : Action) (q q' : Reached (Option Value)) → Answers (ActionReturns c a) q q' → Related c n s names kept → SameLine c n s kept false (with_result c.environment.parts c.function a None kept q) (performed names q')
+  performed_alike : (s : Handles) (names : Scope) (kept : Kept) (a : Action) (q q' : Reached (Option Value)) → Answers (ActionReturns c a) q q' → Related c n s names kept → SameLine c n s kept false (with_result c.environment.parts c.function a None kept q) (perform_outcome names q')
   performed_alike s names kept a q q' (same_answer h) r = performed_same s names kept a q r
   performed_alike s names kept a q q' mistyped_answer r = mistyped
 
@@ -219,11 +219,11 @@ module _ (p : Module) (c : Call) (n : Names) (d : Respond) (given : Given p c n 
   perform_row k a xs s names kept t held2 s2 f tail r m next =
       let v = values_here p c n d given s names kept r xs m.0 in
       let q' = word_reached (words c d) (word_of n a) names t (evaluate_all (words c d) (value_forms (written (naming c n) s) xs) names t) in
-      row c n s names kept r false held2 s2 _ _ f (Follow tail) (subst (λ os. SameLine c n s kept false (or_stuck os t (λ vs. with_result c.environment.parts c.function a None kept (acted c a vs t))) (performed names q')) (sym v.1) (performed_alike s names kept a (acted c a v.0 t) q' (responded_written s names kept r a xs None m.1 m.0 v.0 v.1 v.2 t) r)) next
+      row c n s names kept r false held2 s2 _ _ f (Follow tail) (subst (λ os. SameLine c n s kept false (or_stuck os t (λ vs. with_result c.environment.parts c.function a None kept (action_answer c a vs t))) (perform_outcome names q')) (sym v.1) (performed_alike s names kept a (action_answer c a v.0 t) q' (responded_written s names kept r a xs None m.1 m.0 v.0 v.1 v.2 t) r)) next
 
   abbrev bound_to : Scope → Bytes → Next Scope → Reached (Option Value) → Outcome Scope
   bound_to names x g q =
-      and_then (with_value (valued c.world (as_value q)) (λ v t1. Done (bind names x (Some (IsValue v))) t1)) g
+      and_then (with_value (read_value c.world (as_value q)) (λ v t1. Done (bind names x (Some (IsValue v))) t1)) g
 
   abbrev ResultNext : Handles → Kept → Handles → Bool → ℕ → Next Kept → Next Scope → Type 0
   ResultNext s kept s2 held2 h f g =
@@ -253,7 +253,7 @@ module _ (p : Module) (c : Call) (n : Names) (d : Respond) (given : Given p c n 
   result_row k a xs h s names kept t held2 s2 f tail r m next =
       let v = values_here p c n d given s names kept r xs m.0 in
       let q' = word_reached (words c d) (word_of n a) names t (evaluate_all (words c d) (value_forms (written (naming c n) s) xs) names t) in
-      subst (λ os. Same c n s kept s2 held2 (and_then (or_stuck os t (λ vs. with_result c.environment.parts c.function a (Some h) kept (acted c a vs t))) f) (bound_to names (n.numbered h) (Follow tail) q')) (sym v.1) (result_alike s s2 names kept held2 a xs h f (Follow tail) r m.1 m.2 next (acted c a v.0 t) q' (responded_written s names kept r a xs (Some h) m.1 m.0 v.0 v.1 v.2 t))
+      subst (λ os. Same c n s kept s2 held2 (and_then (or_stuck os t (λ vs. with_result c.environment.parts c.function a (Some h) kept (action_answer c a vs t))) f) (bound_to names (n.numbered h) (Follow tail) q')) (sym v.1) (result_alike s s2 names kept held2 a xs h f (Follow tail) r m.1 m.2 next (action_answer c a v.0 t) q' (responded_written s names kept r a xs (Some h) m.1 m.0 v.0 v.1 v.2 t))
 
   -- what is to be shown of the cases of a switch, behind waiting labels: entered, or on the way to the label x
   pub record Cases_row (k : ℕ) (cs : Cases) (s : Handles) : Type 0 where
@@ -336,9 +336,9 @@ module _ (p : Module) (c : Call) (n : Names) (d : Respond) (given : Given p c n 
         searching = λ labels w x e names kept t r m. absurd m.0;
       }
 
-  switch_line : (k h : ℕ) (cs : Cases) (s : Handles) → Cases_row k cs s → (names : Scope) (kept : Kept) (t : List Event) → Related c n s names kept → IsTrue (usable c.function s h) → FitsCases p c n k cs s → SameLine c n s kept (some_case_continues cs) (or_stuck (used c kept h) t (λ v. with_integer v t (λ z. after_switch (run_cases c bound cs (label_if (has_label (Numbered z) cs) z) kept t)))) (with_value (value_of (words c d) (value_at (naming c n) s h) names t) (λ v t1. closed names (with_integer v t1 (λ z. after_switch (follow_groups (words c d) bound (form_cases (naming c n) k [] cs s) (label_if (group_has (Numbered z) (form_cases (naming c n) k [] cs s)) z) names t1)))))
+  switch_line : (k h : ℕ) (cs : Cases) (s : Handles) → Cases_row k cs s → (names : Scope) (kept : Kept) (t : List Event) → Related c n s names kept → IsTrue (usable c.function s h) → FitsCases p c n k cs s → SameLine c n s kept (some_case_continues cs) (or_stuck (used_value c kept h) t (λ v. with_integer v t (λ z. after_switch (run_cases c bound cs (label_if (has_label (Numbered z) cs) z) kept t)))) (with_value (value_of (words c d) (value_at (naming c n) s h) names t) (λ v t1. closed_outcome names (with_integer v t1 (λ z. after_switch (follow_groups (words c d) bound (form_cases (naming c n) k [] cs s) (label_if (group_has (Numbered z) (form_cases (naming c n) k [] cs s)) z) names t1)))))
   switch_line k h cs s cases names kept t r u m =
-      used_alike _ _ (used c kept h) t (value_of (words c d) (value_at (naming c n) s h) names t) (value_here p c n d given s names kept r h u t) (λ v. closed_alike {P = λ k l. Agree s kept k} {Q = λ k l. Agree s kept k × IsTrue (some_case_continues cs)} {B = λ k l. Agree s kept k} names (λ k l a. (related_agree c n s names kept k a r, a)) (λ k l q. q) (λ k l b. b) (there_alike (integer_in v) t _ _ one_label))
+      used_alike _ _ (used_value c kept h) t (value_of (words c d) (value_at (naming c n) s h) names t) (value_here p c n d given s names kept r h u t) (λ v. closed_alike {P = λ k l. Agree s kept k} {Q = λ k l. Agree s kept k × IsTrue (some_case_continues cs)} {B = λ k l. Agree s kept k} names (λ k l a. (related_agree c n s names kept k a r, a)) (λ k l q. q) (λ k l b. b) (there_alike (integer_in v) t _ _ one_label))
     where
       one_label : (z : ℤ) → SameBody c s kept (some_case_continues cs) (after_switch (run_cases c bound cs (label_if (has_label (Numbered z) cs) z) kept t)) (after_switch (follow_groups (words c d) bound (form_cases (naming c n) k [] cs s) (label_if (group_has (Numbered z) (form_cases (naming c n) k [] cs s)) z) names t))
       one_label z =
@@ -348,8 +348,8 @@ module _ (p : Module) (c : Call) (n : Names) (d : Respond) (given : Given p c n 
   switch_row k h cs s cases names kept t held2 s2 f tail r m next =
       let groups = form_cases (naming c n) k [] cs s in
       let held = some_case_continues cs in
-      let o = or_stuck (used c kept h) t (λ v. with_integer v t (λ z. after_switch (run_cases c bound cs (label_if (has_label (Numbered z) cs) z) kept t))) in
-      let o' = with_value (value_of (words c d) (value_at (naming c n) s h) names t) (λ v t1. closed names (with_integer v t1 (λ z. after_switch (follow_groups (words c d) bound groups (label_if (group_has (Numbered z) groups) z) names t1)))) in
+      let o = or_stuck (used_value c kept h) t (λ v. with_integer v t (λ z. after_switch (run_cases c bound cs (label_if (has_label (Numbered z) cs) z) kept t))) in
+      let o' = with_value (value_of (words c d) (value_at (naming c n) s h) names t) (λ v t1. closed_outcome names (with_integer v t1 (λ z. after_switch (follow_groups (words c d) bound groups (label_if (group_has (Numbered z) groups) z) names t1)))) in
       subst (λ x. Same c n s kept (forgotten_if held s s2) (held || held2) (and_then o f) (closed_if x names (and_then o' (Follow tail)))) (sym (continue_cases p c n k [] cs s m.1)) (row c n s names kept r held held2 s2 o o' f (Follow tail) (switch_line k h cs s cases names kept t r m.0 m.1) next)
 
   -- a statement, and a list that goes on with it

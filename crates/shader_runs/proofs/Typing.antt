@@ -6,7 +6,7 @@ use Rattle.std.proofs.lemmas.Option.{slice_get_within, none-some, same_Some}
 use Rattle.shader_runs.specs.Value.{Bytes, PartTypes, Place, place_type, Step, Rooted, GlobalRoot, Part, At, Selector, MemberNamed, ElementAt, step_of, ValueType, BooleanType, IntegerType, PointerType, OtherType, type_of, same_type, has_type, has_types, same_bytes, Value, Truth, Whole, Pointer, Opaque, Word, Spelled, PartWord, IndexWord, ShortCircuit, short_circuit_word}
 use Rattle.shader_runs.specs.World.{Meaning}
 use Rattle.shader_runs.specs.Program.{ConstantTree, Fixed, NamedConstant, Constructed, ConstantTrees, no_constant, constant, Expression, Constant, Operator, Access, AccessIndex, Logical, Swizzle, Request, Function, expression_of, handle_type, operands_of, Module}
-use Rattle.shader_runs.specs.ProgramRun.{index_value_of, part_value, decides, undecided, combined}
+use Rattle.shader_runs.specs.ProgramRun.{index_value_of, part_value, decides, undecided_value, combined_value}
 use Rattle.shader_runs.specs.Scope.{is_pure}
 use Rattle.shader_runs.specs.Premises.{constant_types_of, handle_types, ConstantTyped, ConstantsTyped, LeafTyped, IsTypedIn, AllTypedIn}
 use Rattle.shader_runs.specs.Typing.{Signature, constant_signatures, constants_signatures, signatures_of, IsOneOf, first_of, later_of, IsSpelled, in_function, in_initialiser, AccessFits, AccessIndexFits, LogicalFits, PartsFit, IsConsistent}
@@ -285,7 +285,7 @@ module _ (p : Module) (consistent : IsConsistent p) where
 
     -- an operator's value, over values of its operands' types
     abbrev Gives_typed : ValueType → Option Expression → List Value → Type 0
-    Gives_typed k e vs = (v : Value) × (combined m e vs ≡ Some v) × IsTrue (has_type p.parts k v)
+    Gives_typed k e vs = (v : Value) × (combined_value m e vs ≡ Some v) × IsTrue (has_type p.parts k v)
 
     abbrev pair_types : ValueType → ValueType → List Value → Bool
     pair_types a b vs = has_types p.parts (a ∷ b ∷ []) vs
@@ -351,11 +351,11 @@ module _ (p : Module) (consistent : IsConsistent p) where
     part_typed x (OtherType s) k w g b y h = part_other x (OtherType s) k refl g b y h
 
     -- what `&&` or `||` gives behind a truth value
-    truths_typed : (j : ShortCircuit) (t k : ValueType) → k ≡ BooleanType → ((vs : List Value) → IsTrue (has_types p.parts (BooleanType ∷ t ∷ []) vs) → IsTrue (has_type p.parts k (m (Spelled (short_circuit_word j)) vs))) → (a : Bool) (y : Value) → IsTrue (has_type p.parts t y) → IsTrue (has_type p.parts k (undecided m j (Truth a) y))
+    truths_typed : (j : ShortCircuit) (t k : ValueType) → k ≡ BooleanType → ((vs : List Value) → IsTrue (has_types p.parts (BooleanType ∷ t ∷ []) vs) → IsTrue (has_type p.parts k (m (Spelled (short_circuit_word j)) vs))) → (a : Bool) (y : Value) → IsTrue (has_type p.parts t y) → IsTrue (has_type p.parts k (undecided_value m j (Truth a) y))
     truths_typed j t k w g a (Truth b) l = ap (λ k. has_type p.parts k (Truth b)) w
     truths_typed j t k w g a y l = g (Truth a ∷ y ∷ []) (pair_typed BooleanType t (Truth a) y refl l)
 
-    truth_cases : (j : ShortCircuit) (t k : ValueType) → k ≡ BooleanType → ((vs : List Value) → IsTrue (has_types p.parts (BooleanType ∷ t ∷ []) vs) → IsTrue (has_type p.parts k (m (Spelled (short_circuit_word j)) vs))) → (d a : Bool) (y : Value) → IsTrue (has_type p.parts t y) → IsTrue (has_type p.parts k (cond d (Truth a) (undecided m j (Truth a) y)))
+    truth_cases : (j : ShortCircuit) (t k : ValueType) → k ≡ BooleanType → ((vs : List Value) → IsTrue (has_types p.parts (BooleanType ∷ t ∷ []) vs) → IsTrue (has_type p.parts k (m (Spelled (short_circuit_word j)) vs))) → (d a : Bool) (y : Value) → IsTrue (has_type p.parts t y) → IsTrue (has_type p.parts k (cond d (Truth a) (undecided_value m j (Truth a) y)))
     truth_cases j t k w g true a y l = ap (λ k. has_type p.parts k (Truth a)) w
     truth_cases j t k w g false a y l = truths_typed j t k w g a y l
 
@@ -365,7 +365,7 @@ module _ (p : Module) (consistent : IsConsistent p) where
     boolean_of (PointerType s) k w b h = absurd (true≢false (sym h))
     boolean_of (OtherType s) k w b h = absurd (true≢false (sym h))
 
-    logical_typed : (j : ShortCircuit) (a t k : ValueType) → LogicalFits a k → ((vs : List Value) → IsTrue (has_types p.parts (a ∷ t ∷ []) vs) → IsTrue (has_type p.parts k (m (Spelled (short_circuit_word j)) vs))) → (x y : Value) → IsTrue (has_type p.parts a x) → IsTrue (has_type p.parts t y) → IsTrue (has_type p.parts k (cond (decides j x) x (undecided m j x y)))
+    logical_typed : (j : ShortCircuit) (a t k : ValueType) → LogicalFits a k → ((vs : List Value) → IsTrue (has_types p.parts (a ∷ t ∷ []) vs) → IsTrue (has_type p.parts k (m (Spelled (short_circuit_word j)) vs))) → (x y : Value) → IsTrue (has_type p.parts a x) → IsTrue (has_type p.parts t y) → IsTrue (has_type p.parts k (cond (decides j x) x (undecided_value m j x y)))
     logical_typed j a t k w g (Truth b) y h l =
         let q = boolean_of a k w b h in
         truth_cases j t k q.1 (subst (λ a. (vs : List Value) → IsTrue (has_types p.parts (a ∷ t ∷ []) vs) → IsTrue (has_type p.parts k (m (Spelled (short_circuit_word j)) vs))) q.0 g) (decides j (Truth b)) b y l
@@ -383,7 +383,7 @@ module _ (p : Module) (consistent : IsConsistent p) where
         by_one (handle_type f h) (handle_type f b) (Some (AccessIndex s b)) (part_typed s (handle_type f b) (handle_type f h) fit (λ vs k. spelled_typed x (spelled h x (at x first_of)) vs k) b) vs t
     operator_fits h (Some (Logical j l r)) fit at q vs t =
         let x : Signature = record { word = Spelled (short_circuit_word j); operands = handle_types f (l ∷ r ∷ []); result = handle_type f h } in
-        by_pair (handle_type f h) (handle_type f l) (handle_type f r) (Some (Logical j l r)) (λ a b ta tb. (cond (decides j a) a (undecided m j a b), refl, logical_typed j (handle_type f l) (handle_type f r) (handle_type f h) fit (λ vs k. spelled_typed x (spelled h x (at x first_of)) vs k) a b ta tb)) vs t
+        by_pair (handle_type f h) (handle_type f l) (handle_type f r) (Some (Logical j l r)) (λ a b ta tb. (cond (decides j a) a (undecided_value m j a b), refl, logical_typed j (handle_type f l) (handle_type f r) (handle_type f h) fit (λ vs k. spelled_typed x (spelled h x (at x first_of)) vs k) a b ta tb)) vs t
     operator_fits h (Some (Swizzle s v)) fit at q vs t =
         let x : Signature = record { word = PartWord (MemberNamed s); operands = handle_types f (v ∷ []); result = handle_type f h } in
         by_one (handle_type f h) (handle_type f v) (Some (Swizzle s v)) (λ y k. (m (PartWord (MemberNamed s)) (y ∷ []), refl, spelled_typed x (spelled h x (at x first_of)) (y ∷ []) (and_both (has_type p.parts (handle_type f v) y) true k refl))) vs t

@@ -1,5 +1,7 @@
--- A module with named constants and an override: what both sides compute, and what texts with other
--- initialisers do.
+-- A module with named constants and an override: what both
+-- sides compute, and what texts with other initialisers do.
+--
+-- Throughout, b is the value of the override.
 use Rattle.std.specs.Prelude.{◌≡◌, ℕ, ◌+◌, ◌*◌, pos, cond, [], ◌∷◌, get_or, Option, Some, None}
 use Rattle.std.specs.Prelude.{codes}
 use Rattle.shader_runs.specs.Value.{Bytes, same_bytes, OtherType, PointerType, Value, Whole, Opaque}
@@ -56,8 +58,8 @@ pair_initialiser =
     Constructed pair_word (OtherType pair_word)
     (constant (NamedConstant 1) (constant (NamedConstant 2) no_constant))
 
--- the constant P; the constant N, which P names and which is declared behind it; the override m; a
--- variable v
+-- the constant P; the constant N, which P names and which
+-- is declared behind it; the override m; a variable v
 abbrev pub pair_module : Module
 pair_module =
     record {

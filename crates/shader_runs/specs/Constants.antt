@@ -1,5 +1,10 @@
--- Named constants: each side computes its own from their initialisers, under what the caller
--- chooses.
+-- Named constants: each side computes its own from
+-- their initialisers, under what the caller chooses.
+--
+-- Throughout, p is a module, s are the settings of its caller, m is the meaning, w the world, n the
+-- bound on turns or the number of rounds, g the number of a function or what holds of a variable, k
+-- a type, o a value that may be missing, l is what words do, e an initialiser, i an index and t are
+-- the events so far.
 use Rattle.std.specs.Prelude.{ℕ, zero, suc, Bool, cond, List, [], ◌∷◌, ◌++◌, map, length, get_or}
 use Rattle.std.specs.Prelude.{Option, Some, None, unwrap_or, ◌||◌}
 use Rattle.std.specs.List.{list_any}
@@ -32,8 +37,8 @@ abbrev pub all_found : List (Option Value) → Option (List Value)
 all_found [] = Some []
 all_found (o ∷ os) = also o (all_found os)
 
--- what a variable's name stands for: the value that is held, or a place that pointers of its type
--- lead to
+-- what a variable's name stands for: the value that is
+-- held, or a place that pointers of its type lead to
 abbrev pub global_value_by : ValueType → Option Value → GlobalValue
 global_value_by k None = Stored (pointer_spelling k)
 global_value_by k (Some v) = Held v
@@ -73,9 +78,9 @@ operate text m is_request word vs t =
     cond refused (Halts Stuck t) (Gives (Some (m (Spelled word) vs)) t)
 
 -- an initialiser gives a value, and makes no event
-abbrev pub initialised : Reached Denoted → Option Denoted
-initialised (Gives (IsValue v) []) = Some (IsValue v)
-initialised _ = None
+abbrev pub initialised_name : Reached Denoted → Option Denoted
+initialised_name (Gives (IsValue v) []) = Some (IsValue v)
+initialised_name _ = None
 
 -- named constants, each with what its initialiser gives
 abbrev pub with_constants : (Tree → Option Denoted) → List TextConstant → Scope → Scope
@@ -91,7 +96,7 @@ scope_with value text s =
 
 -- what an initialiser gives where these names are in scope
 abbrev pub initialiser_value : Words → Scope → Tree → Option Denoted
-initialiser_value l names e = initialised (evaluate l e names [])
+initialiser_value l names e = initialised_name (evaluate l e names [])
 
 -- the names after so many rounds: at first no named constant has a value, and each round evaluates
 -- the initialisers in the scope of the one before it

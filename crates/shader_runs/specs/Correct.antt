@@ -1,4 +1,8 @@
 -- The laws: a call runs alike by the text and by the module, event by event.
+--
+-- Throughout, p is a module, n are its names and fs its functions with theirs, m is the meaning, w
+-- the world, g the number of a function f, vs are its arguments and t the events so far, i is an
+-- index and e an initialiser.
 use Rattle.std.specs.Prelude.{◌≡◌, ℕ, List, [], Some, IsTrue, slice_get, drop}
 use Rattle.shader_runs.specs.Value.{Value, has_types}
 use Rattle.shader_runs.specs.World.{World, Meaning, Event, Settings, Environment}
@@ -52,8 +56,8 @@ pub record IsSolution (p : Module) (s : Settings) (m : Meaning) (env : Environme
   pub globals : env.globals ≡ global_values p.global_types s.globals
   pub parts : env.parts ≡ p.parts
 
--- what a module computes for its named constants is what their initialisers say, and no other
--- values are
+-- what a module computes for its named constants is
+-- what their initialisers say, and no other values are
 abbrev pub ConstantsAreComputed : Type 0
 ConstantsAreComputed =
     (p : Module) (n : ModuleNames) → ConstantsFit p n →
@@ -64,8 +68,8 @@ ConstantsAreComputed =
     × IsSolution p settings m env
     × ((other : Environment) → IsSolution p settings m other → other ≡ env)
 
--- the law above isn't empty: every module whose operators are typed consistently has a typed
--- meaning
+-- the law above isn't empty: every module whose
+-- operators are typed consistently has a typed meaning
 abbrev pub HasTypedMeaning : Type 0
 HasTypedMeaning = (p : Module) → IsConsistent p → (m : Meaning) × IsTyped p m
 

@@ -1,4 +1,7 @@
 -- No end of a module's run is missed by the points that it passes.
+--
+-- Throughout, c is a call, n the bound on turns, t are the events so far, o is an outcome, ss are
+-- statements, b and d bodies.
 use Rattle.std.specs.Prelude.{◌≡◌, ℕ, Bool, true, false, List, IsTrue}
 use Rattle.shader_runs.specs.World.{Event}
 use Rattle.shader_runs.specs.Outcome.{Stop, Stuck, Unreturned, OutOfTurns, Discarded, Mistyped}

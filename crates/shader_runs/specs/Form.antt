@@ -1,4 +1,9 @@
 -- The abstract text that is written for a module.
+--
+-- Throughout, f is a function with its names, n are names, s the handles in scope (s1 those behind
+-- a part), k is how many names have been given, or a type, h a handle, e an expression or a
+-- constant tree, st a statement, b a body, i an index, j a short circuit, w a word, x a name, a
+-- selector or a handle, and l a label or a local.
 use Rattle.std.specs.Prelude.{ℕ, zero, suc, Bool, true, false, List, [], ◌∷◌, ◌++◌, length, Option}
 use Rattle.std.specs.Prelude.{Some, None}
 use Rattle.shader_runs.specs.Value.{Bytes, Selector, MemberNamed, ValueType, PointerType}
@@ -148,8 +153,8 @@ perform_each [] tail = tail
 perform_each (w ∷ ws) tail = before (Perform w no_more) (perform_each ws tail)
 
 abbrev mutual
-  -- a statement's lines, in front of what follows: k names have been given, s are the handles in
-  -- scope
+  -- a statement's lines, in front of what follows: k
+  -- names have been given, s are the handles in scope
   pub form : Naming → ℕ → Statement → Handles → Lines → Lines
   form f k (Emit first count) s tail = lets f k (from first count) s tail
   form f k (Store p v) s tail = before (Assign (place_form (written f s p)) (value_at f s v)) tail

@@ -1,4 +1,8 @@
 -- How a stretch of a run ends, for a run that carries some state of its own.
+--
+-- Throughout, s is the state of a run and t the events so far (s1 and t1
+-- are later ones), v a value, x why a run stops, o an outcome, q what is
+-- reached, b a truth value, z an integer and n a bound on turns.
 use Rattle.std.specs.Prelude.{ℕ, zero, suc, ℤ, Bool, true, false, List, Option, None, cond, Some}
 use Rattle.shader_runs.specs.Value.{Value, truth_in, integer_in}
 use Rattle.shader_runs.specs.World.{Event}
@@ -75,16 +79,16 @@ after_switch (Returned v t) = Returned v t
 after_switch (Stopped x t) = Stopped x t
 
 -- what a block leaves to what follows it: the state from outside
-abbrev pub closed : {S : Type 0} → S → Outcome S → Outcome S
-closed s (Done _ t) = Done s t
-closed s (Continued _ t) = Continued s t
-closed s (Broke _ t) = Broke s t
-closed s (Returned v t) = Returned v t
-closed s (Stopped x t) = Stopped x t
+abbrev pub closed_outcome : {S : Type 0} → S → Outcome S → Outcome S
+closed_outcome s (Done _ t) = Done s t
+closed_outcome s (Continued _ t) = Continued s t
+closed_outcome s (Broke _ t) = Broke s t
+closed_outcome s (Returned v t) = Returned v t
+closed_outcome s (Stopped x t) = Stopped x t
 
 -- the state from outside where the test holds
 abbrev pub closed_if : {S : Type 0} → Bool → S → Outcome S → Outcome S
-closed_if true s o = closed s o
+closed_if true s o = closed_outcome s o
 closed_if false s o = o
 
 -- goes on with what is there, or is stuck
@@ -93,8 +97,8 @@ or_stuck None t go = Stopped Stuck t
 or_stuck (Some a) t go = go a
 
 -- a branch by a truth value
-abbrev pub chosen : {S : Type 0} → Value → List Event → (accept reject : Outcome S) → Outcome S
-chosen v t accept reject = or_stuck (truth_in v) t (λ b. cond b accept reject)
+abbrev pub branch_by : {S : Type 0} → Value → List Event → (accept reject : Outcome S) → Outcome S
+branch_by v t accept reject = or_stuck (truth_in v) t (λ b. cond b accept reject)
 
 -- a switch goes on by an integer
 abbrev pub with_integer : {S : Type 0} → Value → List Event → (ℤ → Outcome S) → Outcome S

@@ -1,14 +1,20 @@
 -- The points that a run comes by: those of a module's run, and those of its text's run.
+--
+-- Throughout, c is a call, l is what words do, n the bound on turns, t are the events so far (t1
+-- and t2 are later ones), s is a state (s1 and s2 are later ones), q a point, g a region, h a
+-- handle, i the index of a case, j the number of a turn, x a label or a name, z an integer, e a
+-- tree or an optional handle, b, d and a are bodies, ss statements, ls lines.
 use Rattle.std.specs.Prelude.{◌≡◌, ℕ, zero, suc, ℤ, Bool, true, false, cond, ◌||◌, ◌+◌, ◌-◌, ◌<◌}
 use Rattle.std.specs.Prelude.{◌≤◌, List, [], ◌∷◌, length, Option, Some, IsTrue}
 use Rattle.shader_runs.specs.Value.{Bytes, Truth, Whole}
 use Rattle.shader_runs.specs.World.{Event}
-use Rattle.shader_runs.specs.Outcome.{Done, Gives, Next, and_then, and_continue, turn, closed}
+use Rattle.shader_runs.specs.Outcome.{Done, Gives, Next, and_then, and_continue, turn}
+use Rattle.shader_runs.specs.Outcome.{closed_outcome}
 use Rattle.shader_runs.specs.Program.{Label, Numbered, Statement, Emit, Block, If, Switch, Loop}
 use Rattle.shader_runs.specs.Program.{Barrier, Statements, end, then, Cases, no_case, case}
 use Rattle.shader_runs.specs.Program.{Function, binds, from}
-use Rattle.shader_runs.specs.ProgramRun.{Call, Kept, used, emit, leave, barrier_words, same_label}
-use Rattle.shader_runs.specs.ProgramRun.{has_label, label_if, run, run_all}
+use Rattle.shader_runs.specs.ProgramRun.{Call, Kept, used_value, emit, leave, barrier_words}
+use Rattle.shader_runs.specs.ProgramRun.{same_label, has_label, label_if, run, run_all}
 use Rattle.shader_runs.specs.Text.{Tree, Line, Braces, IfElse, SwitchOn, LoopOf, Lines, last}
 use Rattle.shader_runs.specs.Text.{before, Groups, no_group, group}
 use Rattle.shader_runs.specs.TextRun.{Scope, Words, value_of, break_line, among, group_has, follow}
@@ -118,14 +124,14 @@ pub data Comes (c : Call) (n : ℕ) :
   into_block : {b : Statements} {kept : Kept} {t : List Event} →
       Comes c n (Block b) Inner kept t kept t
   into_accept : {h : ℕ} {a b : Statements} {kept : Kept} {t : List Event} →
-      used c kept h ≡ Some (Truth true) →
+      used_value c kept h ≡ Some (Truth true) →
       Comes c n (If h a b) Accept kept t kept t
   into_reject : {h : ℕ} {a b : Statements} {kept : Kept} {t : List Event} →
-      used c kept h ≡ Some (Truth false) →
+      used_value c kept h ≡ Some (Truth false) →
       Comes c n (If h a b) Reject kept t kept t
   into_case : {h i : ℕ} {cases : Cases} {spelling : Bytes} {z : ℤ}
       {kept kept1 : Kept} {t t1 : List Event} →
-      used c kept h ≡ Some (Whole spelling z) →
+      used_value c kept h ≡ Some (Whole spelling z) →
       ComesToCase c n (label_if (has_label (Numbered z) cases) z) cases i kept t kept1 t1 →
       Comes c n (Switch h cases) (CaseBody i) kept t kept1 t1
   into_loop : {b d : Statements} {e : Option ℕ} {g : Region}
@@ -179,7 +185,7 @@ lines_behind (before x ls) (emitting i) = ls
 -- one turn of a text's loop, which leaves the names that it began with
 abbrev pub text_turn : Words → ℕ → (body continuing : Lines) → Option Tree → Next Scope
 text_turn l n b d e names t =
-    closed names (turn (follow_all l n b) (follow_all l n d) (break_line l e) names t)
+    closed_outcome names (turn (follow_all l n b) (follow_all l n d) (break_line l e) names t)
 
 -- this label is one of the group with this index, and of no group before it
 pub data GoesToGroup (x : Label) : Groups → ℕ → Type 0 where

@@ -1,11 +1,17 @@
 -- The two facts that hold at each point that a run of a function passes.
+--
+-- Throughout, p is a module, n are its names, f is a function with its names
+-- and fs are those before it, c is a call, l is what words do, m the meaning, w
+-- the world, s are the handles in scope, k is how many names have been given, q
+-- a point, h a handle, x a name, v a value (vs are several), t are the events
+-- so far, b and d bodies, i and j an index of a case and the number of a turn.
 use Rattle.std.specs.Prelude.{◌≡◌, ℕ, zero, suc, false, List, ◌∷◌, ◌++◌, Some, IsTrue}
 use Rattle.shader_runs.specs.Value.{Bytes, Value, has_types}
 use Rattle.shader_runs.specs.World.{Event, entries, World, Meaning, Environment, Settings}
 use Rattle.shader_runs.specs.Outcome.{Gives}
 use Rattle.shader_runs.specs.Program.{Statement, Emit, If, Switch, Loop, Statements, end, then}
 use Rattle.shader_runs.specs.Program.{Cases, no_case, case, Function, from, Module}
-use Rattle.shader_runs.specs.ProgramRun.{Call, Kept, used, constants_kept, run_call}
+use Rattle.shader_runs.specs.ProgramRun.{Call, Kept, used_value, constants_kept, run_call}
 use Rattle.shader_runs.specs.TextRun.{IsValue, Scope, Words, value_of, with_parameters}
 use Rattle.shader_runs.specs.TextRun.{with_variables, word_use, follow_call}
 use Rattle.shader_runs.specs.Scope.{Named, Handles, ModuleNames, Naming, usable, given_by}
@@ -25,10 +31,10 @@ use Rattle.shader_runs.specs.Passes.{lines_behind, Passes, TextPasses, point_in_
 pub record FactsHold (c : Call) (l : Words) (f : Naming) (s : Handles) (kept : Kept)
     (names : Scope) : Type 0 where
   pub named : (h : ℕ) (x : Bytes) → s h ≡ Named x →
-      (v : Value) × (used c kept h ≡ Some v) × (names x ≡ Some (IsValue v))
+      (v : Value) × (used_value c kept h ≡ Some v) × (names x ≡ Some (IsValue v))
   pub written : (h : ℕ) → IsTrue (usable c.function s h) →
       (v : Value)
-      × (used c kept h ≡ Some v)
+      × (used_value c kept h ≡ Some v)
       × ((t : List Event) → value_of l (value_at f s h) names t ≡ Gives v t)
 
 -- a call of f, which stands behind these functions
@@ -46,8 +52,8 @@ call_of env w m turns f fs vs t =
       calls = run_call env w m turns (functions_of fs);
     }
 
--- what words do in its text, inside these module-level names, where these are all functions of the
--- module
+-- what words do in its text, inside these module-level
+-- names, where these are all functions of the module
 abbrev pub words_of :
     (outer : Scope) → ModuleNames → (all : List Naming) → World → Meaning → (turns : ℕ) →
     List Naming →

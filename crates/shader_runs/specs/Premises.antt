@@ -1,4 +1,9 @@
 -- What is asked of a module, of its names, of the environment and of the meaning.
+--
+-- Throughout, p is a module, f a function, mostly with its names, n are names, g
+-- is the number of a function, h a handle, e an expression or a constant tree, i
+-- an index, m the meaning, w a word, xs are operands, r is a result, k a type, s
+-- are settings, v is a value, and a and b are keys of names or bodies.
 use Rattle.std.specs.Prelude.{◌≡◌, ◌≢◌, ℕ, ◌<◌, Bool, true, false, List, [], ◌∷◌, length, Option}
 use Rattle.std.specs.Prelude.{Some, None, ◌&&◌, IsTrue, ◌≤◌, slice_get}
 use Rattle.shader_runs.specs.Value.{Bytes, same_bytes, PartTypes, ValueType, BooleanType}
@@ -13,7 +18,7 @@ use Rattle.shader_runs.specs.Program.{Return, Barrier, Act, Statements, end, the
 use Rattle.shader_runs.specs.Program.{case, Function, argument_count, local_count, local_pointer}
 use Rattle.shader_runs.specs.Program.{function_numbered, expression_of, handle_type, operands_of}
 use Rattle.shader_runs.specs.Program.{Module, constant_count, override_types}
-use Rattle.shader_runs.specs.ProgramRun.{combined, barrier_words}
+use Rattle.shader_runs.specs.ProgramRun.{combined_value, barrier_words}
 use Rattle.shader_runs.specs.Constants.{global_values}
 use Rattle.shader_runs.specs.Scope.{ModuleNames, Names, Naming, is_pure, given_by_all}
 use Rattle.shader_runs.specs.Scope.{fits_function}
@@ -260,7 +265,7 @@ pub record IsTypedIn (parts : PartTypes) (p : Module) (m : Meaning) (f : Functio
   pub operators : (h : ℕ) → IsTrue (is_pure (expression_of f h)) →
       (vs : List Value) →
       IsTrue (has_types parts (handle_types f (operands_of (expression_of f h))) vs) →
-      (v : Value) × (combined m (expression_of f h) vs ≡ Some v)
+      (v : Value) × (combined_value m (expression_of f h) vs ≡ Some v)
       × IsTrue (has_type parts (handle_type f h) v)
 
 -- the operators of each function
@@ -314,8 +319,8 @@ pub record InitialiserFits (p : Module) (n : ModuleNames) (rank : ℕ → ℕ) (
   pub words : EachWord (OperatesOutside p n) e
   pub before : EachLeaf (λ v. Unit {0}) (λ k. k < constant_count p → rank k < rank i) e
 
--- the named constants, in whatever order they are declared. As each has a rank, none leads back to
--- itself
+-- the named constants, in whatever order they are
+-- declared. As each has a rank, none leads back to itself
 pub record ConstantsFit (p : Module) (n : ModuleNames) : Type 0 where
   pub counted : constant_count p ≤ length p.constant_types
   pub rank : ℕ → ℕ

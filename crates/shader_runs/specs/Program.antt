@@ -1,4 +1,8 @@
 -- A module as shapes: expressions in a list, statements that name them by their index.
+--
+-- Throughout, p is a module, f a function, g the number of a function and h the handle of an
+-- expression; of an expression w is the word, and xs are the operands; of a statement a and b are
+-- the bodies, and c, d and e what its constructor tells.
 use Rattle.std.specs.Prelude.{ℕ, zero, suc, ℤ, Bool, true, false, cond, ◌-◌, ◌^◌, List, [], ◌∷◌}
 use Rattle.std.specs.Prelude.{length, Option, Some, None, ◌||◌, nat_eq, nat_le, get_or, slice_get}
 use Rattle.std.specs.Prelude.{drop}
@@ -17,14 +21,14 @@ mutual
     no_constant : ConstantTrees
     constant : ConstantTree → ConstantTrees → ConstantTrees
 
--- a read of the kinds that are written by their count alone, or an image operation, which is always
--- written
+-- a read of the kinds that are written by their count
+-- alone, or an image operation, which is always written
 pub data Asking : Type 0 where
   WhenCounted : Asking
   Always : Asking
 
--- a request's last operands may be constants, which are written out and not by a handle: a level of
--- zero, an offset
+-- a request's last operands may be constants, which are
+-- written out and not by a handle: a level of zero, an offset
 pub data Expression : Type 0 where
   Constant : ConstantTree → Expression
   Argument : ℕ → Expression
@@ -191,10 +195,10 @@ abbrev mutual
   some_case_continues no_case = false
   some_case_continues (case l b falls cs) = any_continue b || some_case_continues cs
 
--- a module: the types of its named constants and, behind them, of its overrides; the initialisers
--- of the named constants; the types of what its variables' names stand for; how pointers to parts
--- of its types are spelled; and its functions, then its entry points, in their order, the last one
--- first
+-- a module: the types of its named constants and, behind them, of its
+-- overrides; the initialisers of the named constants; the types of what its
+-- variables' names stand for; how pointers to parts of its types are spelled;
+-- and its functions, then its entry points, in their order, the last one first
 pub record Module : Type 0 where
   pub constant_types : List ValueType
   pub initialisers : List ConstantTree

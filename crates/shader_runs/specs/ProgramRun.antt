@@ -1,4 +1,10 @@
 -- A module's run by handles: an emitted expression is evaluated once, and its value kept.
+--
+-- Throughout, c is a call, n the bound on turns, t are the events so far, h is a handle, e its
+-- expression or a constant tree, m the meaning, w the world or a word, v a value (vs are several),
+-- o one that may be missing, p a place or the handle of a pointer, k a type, z an integer, i an
+-- index, j a short circuit, x a selector, a label, a handle or why a run stops, g the number of a
+-- function and r a result.
 use Rattle.std.specs.Prelude.{ℕ, zero, suc, ℤ, Bool, true, false, cond, nat_eq, List, [], ◌∷◌, ◌++◌}
 use Rattle.std.specs.Prelude.{option_map, option_and_then, length, Option, Some, None, ◌||◌}
 use Rattle.std.specs.Prelude.{slice_get, codes}
@@ -11,7 +17,7 @@ use Rattle.shader_runs.specs.World.{Event, Entry, Ask, Read, Write, Discard, ent
 use Rattle.shader_runs.specs.World.{Meaning, GlobalValue, Stored, Held, Environment, update}
 use Rattle.shader_runs.specs.Outcome.{Stuck, Discarded, Mistyped, Outcome, Done, Continued, Broke}
 use Rattle.shader_runs.specs.Outcome.{or_stuck, Returned, Stopped, Reached, Gives, Halts, answer}
-use Rattle.shader_runs.specs.Outcome.{Next, and_then, turn, turns, after_switch, chosen}
+use Rattle.shader_runs.specs.Outcome.{Next, and_then, turn, turns, after_switch, branch_by}
 use Rattle.shader_runs.specs.Outcome.{with_integer, Unreturned}
 use Rattle.shader_runs.specs.Program.{ConstantTree, Fixed, NamedConstant, Constructed}
 use Rattle.shader_runs.specs.Program.{ConstantTrees, no_constant, constant, Expression, Constant}
@@ -47,15 +53,15 @@ also (Some v) None = None
 also (Some v) (Some vs) = Some (v ∷ vs)
 
 -- an operator's value, if all its operands have theirs
-abbrev pub applied : Meaning → Word → Option (List Value) → Option Value
-applied m w vs = option_map (m w) vs
+abbrev pub operator_value : Meaning → Word → Option (List Value) → Option Value
+operator_value m w vs = option_map (m w) vs
 
 abbrev mutual
   -- the value of a tree over constants alone, by what is known of the named ones
   pub tree_value : (ℕ → Option Value) → Meaning → ConstantTree → Option Value
   tree_value known m (Fixed v) = Some v
   tree_value known m (NamedConstant i) = known i
-  tree_value known m (Constructed w ty es) = applied m (Spelled w) (tree_values known m es)
+  tree_value known m (Constructed w ty es) = operator_value m (Spelled w) (tree_values known m es)
 
   pub tree_values : (ℕ → Option Value) → Meaning → ConstantTrees → Option (List Value)
   tree_values known m no_constant = Some []
@@ -76,23 +82,23 @@ global_value i (Some (Stored pointer)) = Some (Pointer (Rooted (GlobalRoot point
 global_value i (Some (Held v)) = Some v
 
 -- what a use of a handle takes
-abbrev pub used_as : Call → Option Expression → Option Value → Option Value
-used_as c (Some (Constant e)) kept = constant_value c.environment c.meaning e
-used_as c (Some (Argument i)) kept = slice_get c.arguments i
-used_as c (Some (Local i)) kept =
+abbrev pub used_value_as : Call → Option Expression → Option Value → Option Value
+used_value_as c (Some (Constant e)) kept = constant_value c.environment c.meaning e
+used_value_as c (Some (Argument i)) kept = slice_get c.arguments i
+used_value_as c (Some (Local i)) kept =
     Some (Pointer (Rooted (LocalRoot (local_pointer c.function i) c.frame i)))
-used_as c (Some (Global i)) kept = global_value i (slice_get c.environment.globals i)
-used_as c None kept = None
-used_as c _ kept = kept
+used_value_as c (Some (Global i)) kept = global_value i (slice_get c.environment.globals i)
+used_value_as c None kept = None
+used_value_as c _ kept = kept
 
 -- what a use of this handle takes
-abbrev pub used : Call → Kept → ℕ → Option Value
-used c kept h = used_as c (expression_of c.function h) (kept h)
+abbrev pub used_value : Call → Kept → ℕ → Option Value
+used_value c kept h = used_value_as c (expression_of c.function h) (kept h)
 
 -- what uses of these handles take
-abbrev pub used_all : Call → Kept → List ℕ → Option (List Value)
-used_all c kept [] = Some []
-used_all c kept (x ∷ xs) = also (used c kept x) (used_all c kept xs)
+abbrev pub used_values : Call → Kept → List ℕ → Option (List Value)
+used_values c kept [] = Some []
+used_values c kept (x ∷ xs) = also (used_value c kept x) (used_values c kept xs)
 
 -- of one operand
 abbrev pub on_one : (Value → Option Value) → List Value → Option Value
@@ -107,8 +113,8 @@ on_two f (x ∷ []) = None
 on_two f (x ∷ y ∷ []) = f x y
 on_two f (x ∷ y ∷ z ∷ vs) = None
 
--- an index through a pointer makes a pointer to the part; into another value it gives what the
--- meaning says
+-- an index through a pointer makes a pointer to the part;
+-- into another value it gives what the meaning says
 abbrev pub index_value_by : Meaning → Option Place → Value → Value → Option Value
 index_value_by m (Some p) v i = option_map (λ z. Pointer (Part p (At z))) (integer_in i)
 index_value_by m None v i = Some (m IndexWord (v ∷ i ∷ []))
@@ -117,8 +123,8 @@ index_value_by m None v i = Some (m IndexWord (v ∷ i ∷ []))
 abbrev pub index_value_of : Meaning → Value → Value → Option Value
 index_value_of m v i = index_value_by m (place_in v) v i
 
--- a member or an element through a pointer makes a pointer to the part; of another value it is what
--- the meaning says
+-- a member or an element through a pointer makes a pointer
+-- to the part; of another value it is what the meaning says
 abbrev pub part_value_by : Meaning → Selector → Option Place → Value → Option Value
 part_value_by m x (Some p) v = Some (Pointer (Part p (step_of x)))
 part_value_by m x None v = Some (m (PartWord x) (v ∷ []))
@@ -136,30 +142,30 @@ abbrev pub decides : ShortCircuit → Value → Bool
 decides j v = option_map_or (is_decided j) (truth_in v) false
 
 -- where it doesn't: the right side's truth value, and what the meaning says of other values
-abbrev pub undecided : Meaning → ShortCircuit → Value → Value → Value
-undecided m j (Truth a) (Truth b) = Truth b
-undecided m j l r = m (Spelled (short_circuit_word j)) (l ∷ r ∷ [])
+abbrev pub undecided_value : Meaning → ShortCircuit → Value → Value → Value
+undecided_value m j (Truth a) (Truth b) = Truth b
+undecided_value m j l r = m (Spelled (short_circuit_word j)) (l ∷ r ∷ [])
 
 -- `&&` and `||`
 abbrev pub logical_value : Meaning → ShortCircuit → Value → Value → Option Value
-logical_value m j l r = Some (cond (decides j l) l (undecided m j l r))
+logical_value m j l r = Some (cond (decides j l) l (undecided_value m j l r))
 
 -- an operator's value at its operands' values
-abbrev pub combined : Meaning → Option Expression → List Value → Option Value
-combined m (Some (Operator w xs)) vs = Some (m (Spelled w) vs)
-combined m (Some (Access b i)) vs = on_two (index_value_of m) vs
-combined m (Some (AccessIndex x b)) vs = on_one (part_value m x) vs
-combined m (Some (Logical j l r)) vs = on_two (logical_value m j) vs
-combined m (Some (Swizzle letters v)) vs = on_one (swizzle_value m letters) vs
-combined m _ vs = None
+abbrev pub combined_value : Meaning → Option Expression → List Value → Option Value
+combined_value m (Some (Operator w xs)) vs = Some (m (Spelled w) vs)
+combined_value m (Some (Access b i)) vs = on_two (index_value_of m) vs
+combined_value m (Some (AccessIndex x b)) vs = on_one (part_value m x) vs
+combined_value m (Some (Logical j l r)) vs = on_two (logical_value m j) vs
+combined_value m (Some (Swizzle letters v)) vs = on_one (swizzle_value m letters) vs
+combined_value m _ vs = None
 
 -- an operator without all its operands has no value
-abbrev pub gathered : Meaning → Option Expression → Option (List Value) → Option Value
-gathered m e vs = option_and_then (combined m e) vs
+abbrev pub gathered_value : Meaning → Option Expression → Option (List Value) → Option Value
+gathered_value m e vs = option_and_then (combined_value m e) vs
 
 -- an expression's value now, over the kept values
-abbrev pub computed : Call → Kept → Option Expression → Option Value
-computed c kept e = gathered c.meaning e (used_all c kept (operands_of e))
+abbrev pub computed_value : Call → Kept → Option Expression → Option Value
+computed_value c kept e = gathered_value c.meaning e (used_values c kept (operands_of e))
 
 -- an answer of another type than the module's
 abbrev pub if_typed : {S : Type 0} → Bool → List Event → Outcome S → Outcome S
@@ -171,21 +177,22 @@ abbrev pub keep_typed : PartTypes → ValueType → ℕ → Value → Next Kept
 keep_typed parts k h v kept t = if_typed (has_type parts k v) t (Done (update kept h (Some v)) t)
 
 -- a handle without its pointer's value gets none
-abbrev pub loaded : PartTypes → ValueType → World → ℕ → Option Value → Next Kept
-loaded parts k w h None kept t = Done (update kept h None) t
-loaded parts k w h (Some v) kept t =
+abbrev pub after_load : PartTypes → ValueType → World → ℕ → Option Value → Next Kept
+after_load parts k w h None kept t = Done (update kept h None) t
+after_load parts k w h (Some v) kept t =
     or_stuck (place_in v) t (λ p. keep_typed parts k h (w t (Read p)) kept (Read p ∷ t))
 
 -- the operands' values, and those of the constants behind them
-abbrev pub joined : Option (List Value) → Option (List Value) → Option (List Value)
-joined None us = None
-joined (Some vs) None = None
-joined (Some vs) (Some us) = Some (vs ++ us)
+abbrev pub joined_values : Option (List Value) → Option (List Value) → Option (List Value)
+joined_values None us = None
+joined_values (Some vs) None = None
+joined_values (Some vs) (Some us) = Some (vs ++ us)
 
 -- a handle without its operands' values gets none
-abbrev pub asked : PartTypes → ValueType → World → ℕ → Bytes → Option (List Value) → Next Kept
-asked parts k w h word None kept t = Done (update kept h None) t
-asked parts k w h word (Some vs) kept t =
+abbrev pub after_request :
+    PartTypes → ValueType → World → ℕ → Bytes → Option (List Value) → Next Kept
+after_request parts k w h word None kept t = Done (update kept h None) t
+after_request parts k w h word (Some vs) kept t =
     keep_typed parts k h (w t (Ask word vs)) kept (Ask word vs ∷ t)
 
 -- what isn't written is no event
@@ -197,20 +204,23 @@ if_counted false next kept t = Done kept t
 abbrev pub emit_as : Call → ℕ → Option Expression → Next Kept
 emit_as c h (Some (Load p)) kept t =
     if_counted (is_counted c.function 1 h)
-    (loaded c.environment.parts (handle_type c.function h) c.world h (used c kept p)) kept t
+    (after_load c.environment.parts (handle_type c.function h) c.world h (used_value c kept p)) kept
+    t
 emit_as c h (Some (Request a w xs es)) kept t =
-    if_counted (is_asked c.function h a) (asked c.environment.parts (handle_type c.function h)
-    c.world h w (joined (used_all c kept xs) (constant_values c.environment c.meaning es))) kept t
+    if_counted (is_asked c.function h a)
+    (after_request c.environment.parts (handle_type c.function h)
+    c.world h w
+    (joined_values (used_values c kept xs) (constant_values c.environment c.meaning es))) kept t
 emit_as c h (Some (Operator w xs)) kept t =
-    Done (update kept h (computed c kept (Some (Operator w xs)))) t
+    Done (update kept h (computed_value c kept (Some (Operator w xs)))) t
 emit_as c h (Some (Access b i)) kept t =
-    Done (update kept h (computed c kept (Some (Access b i)))) t
+    Done (update kept h (computed_value c kept (Some (Access b i)))) t
 emit_as c h (Some (AccessIndex x b)) kept t =
-    Done (update kept h (computed c kept (Some (AccessIndex x b)))) t
+    Done (update kept h (computed_value c kept (Some (AccessIndex x b)))) t
 emit_as c h (Some (Logical j l r)) kept t =
-    Done (update kept h (computed c kept (Some (Logical j l r)))) t
+    Done (update kept h (computed_value c kept (Some (Logical j l r)))) t
 emit_as c h (Some (Swizzle w v)) kept t =
-    Done (update kept h (computed c kept (Some (Swizzle w v)))) t
+    Done (update kept h (computed_value c kept (Some (Swizzle w v)))) t
 emit_as c h _ kept t = Done kept t
 
 -- handles are emitted in order
@@ -225,17 +235,18 @@ with_pointer o t go = or_stuck (option_and_then place_in o) t go
 -- after `continuing`: Broke where the loop is left
 abbrev pub leave : Call → Option ℕ → Next Kept
 leave c None kept t = Done kept t
-leave c (Some h) kept t = or_stuck (used c kept h) t (λ v. chosen v t (Broke kept t) (Done kept t))
+leave c (Some h) kept t =
+    or_stuck (used_value c kept h) t (λ v. branch_by v t (Broke kept t) (Done kept t))
 
 -- what is returned
-abbrev pub returned : Call → Option ℕ → Next Kept
-returned c None kept t = Returned None t
-returned c (Some h) kept t = or_stuck (used c kept h) t (λ v. Returned (Some v) t)
+abbrev pub return_outcome : Call → Option ℕ → Next Kept
+return_outcome c None kept t = Returned None t
+return_outcome c (Some h) kept t = or_stuck (used_value c kept h) t (λ v. Returned (Some v) t)
 
 -- what an action does with its operands' values
-abbrev pub acted : Call → Action → List Value → List Event → Reached (Option Value)
-acted c (Asked w) vs t = Gives (Some (c.world t (Ask w vs))) (Ask w vs ∷ t)
-acted c (Called g) vs t = c.calls g vs t
+abbrev pub action_answer : Call → Action → List Value → List Event → Reached (Option Value)
+action_answer c (Asked w) vs t = Gives (Some (c.world t (Ask w vs))) (Ask w vs ∷ t)
+action_answer c (Called g) vs t = c.calls g vs t
 
 -- an action's result is kept where one is wanted
 abbrev pub with_result :
@@ -286,23 +297,24 @@ abbrev mutual
   pub run : Call → ℕ → Statement → Next Kept
   run c n (Emit first count) kept t = emit c (from first count) kept t
   run c n (Store p v) kept t =
-      with_pointer (used c kept p) t
-      (λ place. or_stuck (used c kept v) t (λ value. Done kept (Write place value ∷ t)))
+      with_pointer (used_value c kept p) t
+      (λ place. or_stuck (used_value c kept v) t (λ value. Done kept (Write place value ∷ t)))
   run c n (Block b) kept t = run_all c n b kept t
   run c n (If h a b) kept t =
-      or_stuck (used c kept h) t (λ v. chosen v t (run_all c n a kept t) (run_all c n b kept t))
+      or_stuck (used_value c kept h) t
+      (λ v. branch_by v t (run_all c n a kept t) (run_all c n b kept t))
   run c n (Switch h cases) kept t =
-      or_stuck (used c kept h) t (λ v. with_integer v t
+      or_stuck (used_value c kept h) t (λ v. with_integer v t
       (λ z. after_switch (run_cases c n cases (label_if (has_label (Numbered z) cases) z) kept t)))
   run c n (Loop b d e) kept t = turns n (turn (run_all c n b) (run_all c n d) (leave c e)) kept t
   run c n Break kept t = Broke kept t
   run c n Continue kept t = Continued kept t
-  run c n (Return v) kept t = returned c v kept t
+  run c n (Return v) kept t = return_outcome c v kept t
   run c n Kill kept t = Stopped Discarded (Discard ∷ t)
   run c n (Barrier bits) kept t = ask_each (barrier_words bits) kept t
   run c n (Act a xs r) kept t =
-      or_stuck (used_all c kept xs) t
-      (λ vs. with_result c.environment.parts c.function a r kept (acted c a vs t))
+      or_stuck (used_values c kept xs) t
+      (λ vs. with_result c.environment.parts c.function a r kept (action_answer c a vs t))
 
   pub run_all : Call → ℕ → Statements → Next Kept
   run_all c n end kept t = Done kept t
@@ -335,7 +347,7 @@ or_constant env m _ o = o
 -- the value of a constant tree, over its operands' values
 abbrev pub constant_as :
     Environment → Meaning → (ℕ → Option Value) → Option Expression → Option Value
-constant_as env m value e = or_constant env m e (gathered m e (all_of value (operands_of e)))
+constant_as env m value e = or_constant env m e (gathered_value m e (all_of value (operands_of e)))
 
 -- the values of constant trees up to a bound on their handles
 abbrev pub constant_below : Function → Environment → Meaning → ℕ → Kept
@@ -353,15 +365,10 @@ with_first None firsts = None
 with_first (Some v) None = None
 with_first (Some v) (Some firsts) = Some (v ∷ firsts)
 
--- a first value that is there
-abbrev pub wrapped : Option Value → Option (Option Value)
-wrapped None = None
-wrapped (Some v) = Some (Some v)
-
 -- a local has no first value, or that of its initialiser
 abbrev pub first_used : Call → Kept → Option ℕ → Option (Option Value)
 first_used c kept None = Some None
-first_used c kept (Some h) = wrapped (used c kept h)
+first_used c kept (Some h) = option_map Some (used_value c kept h)
 
 -- the first values of all locals
 abbrev pub first_used_all : Call → Kept → List (Option ℕ) → Option (List (Option Value))
@@ -386,8 +393,8 @@ abbrev pub called : Bool → Reached (Option Value) → List Event → Reached (
 called true a t = a
 called false a t = Halts Stuck t
 
--- a call of one of these functions, the last one first: its number is that of the functions behind
--- it
+-- a call of one of these functions, the last one
+-- first: its number is that of the functions behind it
 abbrev pub run_call : Environment → World → Meaning → ℕ → List Function → ℕ → List Value →
     List Event → Reached (Option Value)
 run_call env w m n [] g vs t = Halts Stuck t

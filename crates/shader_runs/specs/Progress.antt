@@ -1,4 +1,8 @@
 -- The law of progress: a call isn't stuck, neither in the module nor in its text.
+--
+-- Throughout, p is a module, n are its names and fs its functions with theirs, f is a function, h a
+-- handle, st and ss are statements, a and b bodies, m is the meaning, w the world, g the number of
+-- a function, vs are its arguments and t the events so far.
 use Rattle.std.specs.Prelude.{◌≡◌, ℕ, Bool, true, false, List, [], ◌∷◌, Option, Some, None, IsTrue}
 use Rattle.shader_runs.specs.Value.{ValueType, BooleanType, IntegerType, PointerType, Value}
 use Rattle.shader_runs.specs.Value.{has_types}

@@ -11,10 +11,10 @@ use Rattle.shader_runs.specs.Program.{Asked, Emit, Store, Return, Barrier, Barri
 use Rattle.shader_runs.specs.Program.{Function}
 use Rattle.shader_runs.specs.Text.{Tree, Name, LiteralOf, Index, Assign, TextFunction}
 use Rattle.shader_runs.specs.WorkedModules.{texel, ballot, pair_type, pair, in_memory, resource}
-use Rattle.shader_runs.specs.WorkedModules.{named_function, Example, IsWorked, started}
-use Rattle.shader_runs.specs.WorkedFunctions.{i32, number, literal, named_by, sum_of, text_of}
-use Rattle.shader_runs.specs.WorkedFunctions.{described, function_with, lines, call_of, perform}
-use Rattle.shader_runs.specs.WorkedFunctions.{let_own, return_of, digits, pointer_of}
+use Rattle.shader_runs.specs.WorkedModules.{named_function, Example, IsWorked, start_events}
+use Rattle.shader_runs.specs.WorkedFunctions.{i32, number, literal, named_by, sum_of, text_of, row}
+use Rattle.shader_runs.specs.WorkedFunctions.{function_with, lines, call_of, perform, let_own}
+use Rattle.shader_runs.specs.WorkedFunctions.{return_of, digits, pointer_of}
 
 -- ---- atomics
 
@@ -30,11 +30,11 @@ counter_place = Rooted (GlobalRoot counter_type 0)
 abbrev pub count_function : Function
 count_function =
     function_with [] (Some i32) [] (
-    described (Global 0) (PointerType counter_type) 3
-    ∷ described (literal 5) i32 2
-    ∷ described Result i32 1
-    ∷ described (Request WhenCounted (codes "atomicLoad") (0 ∷ []) no_constant) i32 1
-    ∷ described (Operator (codes "+") (2 ∷ 3 ∷ [])) i32 1 ∷ []) (
+    row (Global 0) (PointerType counter_type) 3
+    ∷ row (literal 5) i32 2
+    ∷ row Result i32 1
+    ∷ row (Request WhenCounted (codes "atomicLoad") (0 ∷ []) no_constant) i32 1
+    ∷ row (Operator (codes "+") (2 ∷ 3 ∷ [])) i32 1 ∷ []) (
     Act (Asked (codes "atomicStore")) (0 ∷ 1 ∷ []) None
     ∷ Act (Asked (codes "atomicAdd")) (0 ∷ 1 ∷ []) (Some 2)
     ∷ Emit 3 2
@@ -63,7 +63,7 @@ abbrev pub counted : List Event
 counted =
     Ask (codes "atomicAdd") (Pointer counter_place ∷ number 5 ∷ [])
     ∷ Ask (codes "atomicStore") (Pointer counter_place ∷ number 5 ∷ [])
-    ∷ started 0 [] []
+    ∷ start_events 0 [] []
 
 -- 5 is found and 10 is loaded
 abbrev pub AtomicRow : Type 0
@@ -74,8 +74,8 @@ AtomicRow =
 
 -- ---- images
 
--- the types of an image with layers, of a sampler, of what is taken from an image, and of a
--- coordinate
+-- the types of an image with layers, of a sampler, of
+-- what is taken from an image, and of a coordinate
 abbrev pub layers_type : Bytes
 layers_type = codes "texture_2d_array<f32>"
 
@@ -102,11 +102,11 @@ sample_function =
     let constants = constant (Fixed level_zero) (constant (NamedConstant 0) no_constant) in
     let sample = Request Always (codes "textureSampleLevel") (0 ∷ 1 ∷ 2 ∷ 3 ∷ []) constants in
     function_with (coordinate_type ∷ i32 ∷ []) (Some texel_type) [] (
-    described (Global 0) (OtherType layers_type) 1
-    ∷ described (Global 1) (OtherType sampler_type) 1
-    ∷ described (Argument 0) coordinate_type 1
-    ∷ described (Argument 1) i32 1
-    ∷ described sample texel_type 1 ∷ []) (
+    row (Global 0) (OtherType layers_type) 1
+    ∷ row (Global 1) (OtherType sampler_type) 1
+    ∷ row (Argument 0) coordinate_type 1
+    ∷ row (Argument 1) i32 1
+    ∷ row sample texel_type 1 ∷ []) (
     Emit 4 1
     ∷ Return (Some 4) ∷ [])
 
@@ -145,7 +145,7 @@ sampling behind =
     let image = Opaque layers_type 400 in
     let filtering = Opaque sampler_type 2 in
     let operands = image ∷ filtering ∷ coordinate ∷ number 1 ∷ behind in
-    Ask (codes "textureSampleLevel") operands ∷ started 0 sample_values []
+    Ask (codes "textureSampleLevel") operands ∷ start_events 0 sample_values []
 
 -- the world's answer is 400 and 1 and 0 and 30
 abbrev pub SampleRow : Type 0
@@ -165,14 +165,14 @@ abbrev pub texel_function : Function
 texel_function =
     let load = Request Always (codes "textureLoad") (6 ∷ 2 ∷ 4 ∷ []) no_constant in
     function_with (i32 ∷ pair_type ∷ []) (Some texel_type) [] (
-    described (Global 0) (OtherType images_type) 1
-    ∷ described (Argument 0) i32 1
-    ∷ described (Argument 1) pair_type 1
-    ∷ described (literal 1) i32 1
-    ∷ described (literal 0) i32 1
-    ∷ described (Operator (codes "+") (1 ∷ 3 ∷ [])) i32 1
-    ∷ described (Access 0 5) (OtherType image_type) 1
-    ∷ described load texel_type 1 ∷ []) (
+    row (Global 0) (OtherType images_type) 1
+    ∷ row (Argument 0) i32 1
+    ∷ row (Argument 1) pair_type 1
+    ∷ row (literal 1) i32 1
+    ∷ row (literal 0) i32 1
+    ∷ row (Operator (codes "+") (1 ∷ 3 ∷ [])) i32 1
+    ∷ row (Access 0 5) (OtherType image_type) 1
+    ∷ row load texel_type 1 ∷ []) (
     Emit 5 3
     ∷ Return (Some 7) ∷ [])
 
@@ -202,19 +202,20 @@ abbrev pub TexelRow : Type 0
 TexelRow =
     let vs : List Value = number 2 ∷ pair 12 ∷ [] in
     let loading = Ask (codes "textureLoad") (Opaque image_type 403 ∷ pair 12 ∷ number 0 ∷ []) in
-    IsWorked texel_example texel_text 0 3 vs (Gives (Some (texel 403)) (loading ∷ started 0 vs []))
+    IsWorked texel_example texel_text 0 3 vs
+    (Gives (Some (texel 403)) (loading ∷ start_events 0 vs []))
 
 -- two reads that nobody uses: one of an atomic, one of an image
 abbrev pub unused_function : Function
 unused_function =
     let load = Request Always (codes "textureLoad") (1 ∷ 2 ∷ 3 ∷ []) no_constant in
     function_with (pair_type ∷ []) None [] (
-    described (Global 0) (PointerType counter_type) 0
-    ∷ described (Global 1) (OtherType image_type) 1
-    ∷ described (Argument 0) pair_type 1
-    ∷ described (literal 0) i32 1
-    ∷ described (Request WhenCounted (codes "atomicLoad") (0 ∷ []) no_constant) i32 0
-    ∷ described load texel_type 0 ∷ []) (
+    row (Global 0) (PointerType counter_type) 0
+    ∷ row (Global 1) (OtherType image_type) 1
+    ∷ row (Argument 0) pair_type 1
+    ∷ row (literal 0) i32 1
+    ∷ row (Request WhenCounted (codes "atomicLoad") (0 ∷ []) no_constant) i32 0
+    ∷ row load texel_type 0 ∷ []) (
     Emit 4 2 ∷ [])
 
 -- its module
@@ -240,7 +241,7 @@ abbrev pub UnusedRequestsRow : Type 0
 UnusedRequestsRow =
     let vs : List Value = pair 12 ∷ [] in
     let loading = Ask (codes "textureLoad") (Opaque image_type 400 ∷ pair 12 ∷ number 0 ∷ []) in
-    IsWorked unused_example unused_text 0 3 vs (Gives None (loading ∷ started 0 vs []))
+    IsWorked unused_example unused_text 0 3 vs (Gives None (loading ∷ start_events 0 vs []))
 
 -- ---- a derivative and a texel that is stored
 
@@ -252,10 +253,10 @@ abbrev pub edge_function : Function
 edge_function =
     let derivative = Request WhenCounted (codes "dpdx") (2 ∷ []) no_constant in
     function_with (pair_type ∷ texel_type ∷ []) None [] (
-    described (Global 0) (OtherType canvas_type) 1
-    ∷ described (Argument 0) pair_type 1
-    ∷ described (Argument 1) texel_type 1
-    ∷ described derivative texel_type 1 ∷ []) (
+    row (Global 0) (OtherType canvas_type) 1
+    ∷ row (Argument 0) pair_type 1
+    ∷ row (Argument 1) texel_type 1
+    ∷ row derivative texel_type 1 ∷ []) (
     Emit 3 1
     ∷ Act (Asked (codes "textureStore")) (0 ∷ 1 ∷ 3 ∷ []) None ∷ [])
 
@@ -287,12 +288,12 @@ EdgeRow =
     IsWorked edge_example edge_text 0 3 vs (Gives None (
     Ask (codes "textureStore") (Opaque canvas_type 7 ∷ pair 12 ∷ texel 5 ∷ [])
     ∷ Ask (codes "dpdx") (texel 5 ∷ [])
-    ∷ started 0 vs []))
+    ∷ start_events 0 vs []))
 
 -- ---- collectives, barriers, a ballot and a ray trace
 
--- a number of the work group, the payload of a ray, and the types of a scene, of a ray and of a
--- ballot
+-- a number of the work group, the payload of a ray,
+-- and the types of a scene, of a ray and of a ballot
 abbrev pub cell_type : Bytes
 cell_type = codes "ptr<workgroup, i32>"
 
@@ -315,13 +316,13 @@ together_function =
     let all : BarrierBits =
     record { storage = true; work_group = true; sub_group = true; texture = true } in
     function_with (i32 ∷ OtherType ray_type ∷ []) (Some ballot_type) [] (
-    described (Global 0) (PointerType cell_type) 2
-    ∷ described (Global 1) (OtherType scene_type) 1
-    ∷ described (Global 2) (PointerType payload_type) 2
-    ∷ described (Argument 0) i32 1
-    ∷ described (Argument 1) (OtherType ray_type) 1
-    ∷ described Result i32 1
-    ∷ described Result ballot_type 1 ∷ []) (
+    row (Global 0) (PointerType cell_type) 2
+    ∷ row (Global 1) (OtherType scene_type) 1
+    ∷ row (Global 2) (PointerType payload_type) 2
+    ∷ row (Argument 0) i32 1
+    ∷ row (Argument 1) (OtherType ray_type) 1
+    ∷ row Result i32 1
+    ∷ row Result ballot_type 1 ∷ []) (
     Store 0 3
     ∷ Barrier all
     ∷ Act (Asked (codes "workgroupUniformLoad")) (0 ∷ []) (Some 5)
@@ -379,4 +380,4 @@ TogetherRow =
     ∷ Ask (codes "workgroupBarrier") []
     ∷ Ask (codes "storageBarrier") []
     ∷ Write cell (number 8)
-    ∷ started 0 vs []))
+    ∷ start_events 0 vs []))

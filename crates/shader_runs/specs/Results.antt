@@ -1,4 +1,8 @@
 -- The law of results: where functions return what they promise, no call misses a result.
+--
+-- Throughout, s and ss are statements, b, a and d are bodies, k is the type of a result, v a value,
+-- t are the events so far and x is why a run stops; of a module p and its names n, fs are its
+-- functions with theirs, f is one, g its number, m the meaning, and w the world.
 use Rattle.std.specs.Prelude.{◌≡◌, ℕ, Bool, true, false, not, is_some, List, [], ◌∷◌, Option, Some}
 use Rattle.std.specs.Prelude.{None, ◌&&◌, ◌||◌, IsTrue}
 use Rattle.shader_runs.specs.Value.{ValueType, Value}

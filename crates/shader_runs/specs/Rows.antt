@@ -1,7 +1,9 @@
 -- Worked functions: each with its text, and what both runs of it do in one world. Then texts that
 -- other writers would give, which do something else.
-use Rattle.std.specs.Prelude.{◌≡◌, pos, Bool, true, false, cond, List, [], ◌∷◌, Option}
-use Rattle.std.specs.Prelude.{Some, None, IsTrue, codes}
+--
+-- Throughout, t are the events so far, vs are arguments, and f and e a function and an expression.
+use Rattle.std.specs.Prelude.{◌≡◌, pos, Bool, true, false, cond, List, [], ◌∷◌, Option, Some, None}
+use Rattle.std.specs.Prelude.{IsTrue, codes}
 use Rattle.shader_runs.specs.Value.{Bytes, PartTypes, same_bytes, MemberNamed, ElementAt, step_of}
 use Rattle.shader_runs.specs.Value.{At, Field, Rooted, GlobalRoot, LocalRoot, Part, Place}
 use Rattle.shader_runs.specs.Value.{ValueType, BooleanType, PointerType, Value, Truth, Pointer}
@@ -24,13 +26,13 @@ use Rattle.shader_runs.specs.Progress.{AllWellFormed}
 use Rattle.shader_runs.specs.Results.{may_end_all, AllGiveResults}
 use Rattle.shader_runs.specs.Form.{form_module}
 use Rattle.shader_runs.specs.WorkedFunctions.{i32, local_i32, i32_pointer, number, literal}
-use Rattle.shader_runs.specs.WorkedFunctions.{numbered_name, described, statements, function_with}
-use Rattle.shader_runs.specs.WorkedFunctions.{lines, call_of, perform, let_own, return_of, digits}
+use Rattle.shader_runs.specs.WorkedFunctions.{numbered_name, row, statements, function_with, lines}
+use Rattle.shader_runs.specs.WorkedFunctions.{call_of, perform, let_own, return_of, digits}
 use Rattle.shader_runs.specs.WorkedFunctions.{pointer_of, variable, number_variable, sum_of}
-use Rattle.shader_runs.specs.WorkedFunctions.{product_of, named_by, text_of, row_world}
-use Rattle.shader_runs.specs.WorkedFunctions.{row_meaning, row_asks, nothing, functions_alone}
-use Rattle.shader_runs.specs.WorkedFunctions.{with_names, only, follow_text, follow_row, IsShown}
-use Rattle.shader_runs.specs.WorkedFunctions.{IsShownAlone, Follows}
+use Rattle.shader_runs.specs.WorkedFunctions.{product_of, named_by, text_of, row_world, row_meaning}
+use Rattle.shader_runs.specs.WorkedFunctions.{row_asks, nothing, functions_alone, with_names, only}
+use Rattle.shader_runs.specs.WorkedFunctions.{follow_text, follow_row, IsShown, IsShownAlone}
+use Rattle.shader_runs.specs.WorkedFunctions.{Follows}
 
 -- ---- a local, and sums
 
@@ -60,10 +62,10 @@ entered_with_one = entered_with [] (Some (number 1) ∷ [])
 abbrev pub store_function : Function
 store_function =
     function_with [] (Some i32) ((local_i32, Some 0) ∷ []) (
-    described (literal 1) i32 0
-    ∷ described (Local 0) i32_pointer 2
-    ∷ described (Load 1) i32 1
-    ∷ described (literal 2) i32 1 ∷ []) (
+    row (literal 1) i32 0
+    ∷ row (Local 0) i32_pointer 2
+    ∷ row (Load 1) i32 1
+    ∷ row (literal 2) i32 1 ∷ []) (
     Emit 2 1
     ∷ Store 1 3
     ∷ Return (Some 2) ∷ [])
@@ -89,10 +91,10 @@ StoreRow =
 abbrev pub unused_function : Function
 unused_function =
     function_with [] (Some i32) ((local_i32, Some 0) ∷ []) (
-    described (literal 1) i32 0
-    ∷ described (Local 0) i32_pointer 2
-    ∷ described (Load 1) i32 0
-    ∷ described (literal 2) i32 2 ∷ []) (
+    row (literal 1) i32 0
+    ∷ row (Local 0) i32_pointer 2
+    ∷ row (Load 1) i32 0
+    ∷ row (literal 2) i32 2 ∷ []) (
     Emit 2 1
     ∷ Store 1 3
     ∷ Return (Some 3) ∷ [])
@@ -114,11 +116,11 @@ UnusedRow =
 abbrev pub late_function : Function
 late_function =
     function_with [] (Some i32) ((local_i32, Some 0) ∷ []) (
-    described (literal 1) i32 1
-    ∷ described (Local 0) i32_pointer 2
-    ∷ described (Load 1) i32 1
-    ∷ described (Operator (codes "+") (2 ∷ 0 ∷ [])) i32 1
-    ∷ described (literal 2) i32 1 ∷ []) (
+    row (literal 1) i32 1
+    ∷ row (Local 0) i32_pointer 2
+    ∷ row (Load 1) i32 1
+    ∷ row (Operator (codes "+") (2 ∷ 0 ∷ [])) i32 1
+    ∷ row (literal 2) i32 1 ∷ []) (
     Emit 2 2
     ∷ Store 1 4
     ∷ Return (Some 3) ∷ [])
@@ -152,10 +154,10 @@ x_plus_x = sum_of (Name x_name) (Name x_name)
 abbrev pub inline_function : Function
 inline_function =
     function_with (i32 ∷ []) (Some i32) ((local_i32, None) ∷ []) (
-    described (Argument 0) i32 2
-    ∷ described (Local 0) i32_pointer 2
-    ∷ described (Operator (codes "+") (0 ∷ 0 ∷ [])) i32 1
-    ∷ described (Load 1) i32 1 ∷ []) (
+    row (Argument 0) i32 2
+    ∷ row (Local 0) i32_pointer 2
+    ∷ row (Operator (codes "+") (0 ∷ 0 ∷ [])) i32 1
+    ∷ row (Load 1) i32 1 ∷ []) (
     Emit 2 1
     ∷ Store 1 2
     ∷ Emit 3 1
@@ -182,11 +184,11 @@ InlineRow =
 abbrev pub twofold_function : Function
 twofold_function =
     function_with (i32 ∷ []) (Some i32) ((local_i32, None) ∷ []) (
-    described (Argument 0) i32 2
-    ∷ described (Local 0) i32_pointer 2
-    ∷ described (Operator (codes "+") (0 ∷ 0 ∷ [])) i32 2
-    ∷ described (Load 1) i32 1
-    ∷ described (Operator (codes "*") (2 ∷ 3 ∷ [])) i32 1 ∷ []) (
+    row (Argument 0) i32 2
+    ∷ row (Local 0) i32_pointer 2
+    ∷ row (Operator (codes "+") (0 ∷ 0 ∷ [])) i32 2
+    ∷ row (Load 1) i32 1
+    ∷ row (Operator (codes "*") (2 ∷ 3 ∷ [])) i32 1 ∷ []) (
     Emit 2 1
     ∷ Store 1 2
     ∷ Emit 3 2
@@ -213,9 +215,9 @@ abbrev pub sibling_function : Function
 sibling_function =
     let branch = statements (Emit 2 1 ∷ Return (Some 2) ∷ []) in
     function_with (BooleanType ∷ i32 ∷ []) (Some i32) [] (
-    described (Argument 0) BooleanType 1
-    ∷ described (Argument 1) i32 2
-    ∷ described (Operator (codes "+") (1 ∷ 1 ∷ [])) i32 2 ∷ []) (
+    row (Argument 0) BooleanType 1
+    ∷ row (Argument 1) i32 2
+    ∷ row (Operator (codes "+") (1 ∷ 1 ∷ [])) i32 2 ∷ []) (
     If 0 branch branch ∷ [])
 
 -- a sum bound under this name, and returned
@@ -258,10 +260,10 @@ tail_function =
     let body = statements (Emit 2 1 ∷ Store 1 2 ∷ []) in
     let continuing = statements (Store 1 2 ∷ []) in
     function_with (i32 ∷ []) None ((local_i32, None) ∷ []) (
-    described (Argument 0) i32 2
-    ∷ described (Local 0) i32_pointer 2
-    ∷ described (Operator (codes "+") (0 ∷ 0 ∷ [])) i32 2
-    ∷ described (Constant (Fixed (Truth true))) BooleanType 1 ∷ []) (
+    row (Argument 0) i32 2
+    ∷ row (Local 0) i32_pointer 2
+    ∷ row (Operator (codes "+") (0 ∷ 0 ∷ [])) i32 2
+    ∷ row (Constant (Fixed (Truth true))) BooleanType 1 ∷ []) (
     Loop body continuing (Some 3) ∷ [])
 
 abbrev pub tail_text : TextFunction
@@ -274,8 +276,8 @@ tail_text =
 -- [tail]: `continuing` uses a name of the body
 abbrev pub TailRow : Type 0
 TailRow =
-    let stored = Write a_place (number 8) in
-    let events = stored ∷ stored ∷ entered_with (number 4 ∷ []) (None ∷ []) in
+    let storing = Write a_place (number 8) in
+    let events = storing ∷ storing ∷ entered_with (number 4 ∷ []) (None ∷ []) in
     let naming = only (codes "lp") (x_name ∷ []) (a_name ∷ []) tail_function in
     IsShownAlone naming tail_text (number 4 ∷ []) (Gives None events)
 
@@ -285,10 +287,10 @@ folded_function =
     let body = statements (If 0 (then Continue end) end ∷ Emit 3 1 ∷ Store 1 3 ∷ []) in
     let continuing = statements (Store 1 3 ∷ []) in
     function_with (BooleanType ∷ []) None ((local_i32, None) ∷ []) (
-    described (Argument 0) BooleanType 2
-    ∷ described (Local 0) i32_pointer 2
-    ∷ described (literal 1) i32 2
-    ∷ described (Operator (codes "+") (2 ∷ 2 ∷ [])) i32 2 ∷ []) (
+    row (Argument 0) BooleanType 2
+    ∷ row (Local 0) i32_pointer 2
+    ∷ row (literal 1) i32 2
+    ∷ row (Operator (codes "+") (2 ∷ 2 ∷ [])) i32 2 ∷ []) (
     Loop body continuing (Some 0) ∷ [])
 
 -- `(1i + 1i)`
@@ -319,10 +321,10 @@ FoldedRow =
 abbrev pub increment : Function
 increment =
     function_with (i32_pointer ∷ []) None [] (
-    described (Argument 0) i32_pointer 2
-    ∷ described (literal 1) i32 1
-    ∷ described (Load 0) i32 1
-    ∷ described (Operator (codes "+") (2 ∷ 1 ∷ [])) i32 1 ∷ []) (
+    row (Argument 0) i32_pointer 2
+    ∷ row (literal 1) i32 1
+    ∷ row (Load 0) i32 1
+    ∷ row (Operator (codes "+") (2 ∷ 1 ∷ [])) i32 1 ∷ []) (
     Emit 2 2
     ∷ Store 0 3 ∷ [])
 
@@ -330,8 +332,8 @@ increment =
 abbrev pub run_function : Function
 run_function =
     function_with [] (Some i32) ((local_i32, None) ∷ []) (
-    described (Local 0) i32_pointer 2
-    ∷ described (Load 0) i32 1 ∷ []) (
+    row (Local 0) i32_pointer 2
+    ∷ row (Load 0) i32 1 ∷ []) (
     Act (Called 0) (0 ∷ []) None
     ∷ Emit 1 1
     ∷ Return (Some 1) ∷ [])
@@ -365,7 +367,7 @@ CallRow =
 -- a function with this body, over this expression
 abbrev pub body_of : Expression → Option ValueType → Statements → Function
 body_of e result body =
-    record (function_with [] result [] (described e i32 1 ∷ []) []) { body = body }
+    record (function_with [] result [] (row e i32 1 ∷ []) []) { body = body }
 
 -- [unreturned]: a callee ends without the result that its caller wants
 abbrev pub UnreturnedRow : Type 0
@@ -433,7 +435,7 @@ abbrev pub switch_function : Option ValueType → List Statement → Function
 switch_function result body =
     let joined = case Default (statements body) false no_case in
     let second = case (Numbered (pos 2)) end true joined in
-    function_with (i32 ∷ []) result [] (described (Argument 0) i32 1 ∷ []) (
+    function_with (i32 ∷ []) result [] (row (Argument 0) i32 1 ∷ []) (
     Switch 0 (case (Numbered (pos 1)) end true second) ∷ [])
 
 abbrev pub switch_text : List Line → TextFunction
@@ -460,7 +462,7 @@ JoinedRow =
 -- a loop that a condition leaves
 abbrev pub loop_function : Function
 loop_function =
-    function_with (BooleanType ∷ []) None [] (described (Argument 0) BooleanType 1 ∷ []) (
+    function_with (BooleanType ∷ []) None [] (row (Argument 0) BooleanType 1 ∷ []) (
     Loop end end (Some 0) ∷ [])
 
 abbrev pub loop_text : TextFunction
@@ -505,10 +507,10 @@ BarrierRow =
 abbrev pub select_function : Function
 select_function =
     function_with (BooleanType ∷ i32 ∷ i32 ∷ []) (Some i32) [] (
-    described (Argument 0) BooleanType 1
-    ∷ described (Argument 1) i32 1
-    ∷ described (Argument 2) i32 1
-    ∷ described (Operator (codes "select") (2 ∷ 1 ∷ 0 ∷ [])) i32 1 ∷ []) (
+    row (Argument 0) BooleanType 1
+    ∷ row (Argument 1) i32 1
+    ∷ row (Argument 2) i32 1
+    ∷ row (Operator (codes "select") (2 ∷ 1 ∷ 0 ∷ [])) i32 1 ∷ []) (
     Emit 3 1
     ∷ Return (Some 3) ∷ [])
 
@@ -548,12 +550,12 @@ vector_parts whole (Field word) = []
 abbrev pub places_function : Function
 places_function =
     function_with (i32 ∷ []) (Some i32) [] (
-    described (Argument 0) i32 1
-    ∷ described (Global 0) (PointerType private_vector) 2
-    ∷ described (Constant (NamedConstant 0)) i32 1
-    ∷ described (AccessIndex (MemberNamed x_name) 1) (PointerType private_i32) 1
-    ∷ described (Access 1 0) (PointerType private_i32) 1
-    ∷ described (Load 4) i32 1 ∷ []) (
+    row (Argument 0) i32 1
+    ∷ row (Global 0) (PointerType private_vector) 2
+    ∷ row (Constant (NamedConstant 0)) i32 1
+    ∷ row (AccessIndex (MemberNamed x_name) 1) (PointerType private_i32) 1
+    ∷ row (Access 1 0) (PointerType private_i32) 1
+    ∷ row (Load 4) i32 1 ∷ []) (
     Emit 3 1
     ∷ Store 3 2
     ∷ Emit 4 2
@@ -638,10 +640,10 @@ continue_function =
     let body = statements (If 0 (then Continue end) end ∷ Emit 3 1 ∷ []) in
     let continuing = statements (Store 2 3 ∷ []) in
     function_with (BooleanType ∷ i32 ∷ []) None ((local_i32, None) ∷ []) (
-    described (Argument 0) BooleanType 2
-    ∷ described (Argument 1) i32 2
-    ∷ described (Local 0) i32_pointer 1
-    ∷ described (Operator (codes "+") (1 ∷ 1 ∷ [])) i32 1 ∷ []) (
+    row (Argument 0) BooleanType 2
+    ∷ row (Argument 1) i32 2
+    ∷ row (Local 0) i32_pointer 1
+    ∷ row (Operator (codes "+") (1 ∷ 1 ∷ [])) i32 1 ∷ []) (
     Loop body continuing (Some 0) ∷ [])
 
 -- a sum of a loop's body is used behind the loop

@@ -1,4 +1,8 @@
 -- What is bound and what is in scope at each point of a function, and the check of both.
+--
+-- Throughout, f is a function with its names, h a handle, s are the handles in scope (s1 those
+-- behind a part), k is how many names have been given, e an expression, st a statement, b a body, i
+-- an index, x a name or a handle, u tells whether operands are usable.
 use Rattle.std.specs.Prelude.{ℕ, zero, suc, Bool, true, false, cond, not, nat_lt, List, [], ◌∷◌}
 use Rattle.std.specs.Prelude.{take, length, Option, Some, None, ◌&&◌, ◌||◌}
 use Rattle.shader_runs.specs.Value.{Bytes}
@@ -200,16 +204,16 @@ forgotten_one Inline now = Inline
 forgotten_one (Named x) now = Named x
 
 -- the same for all handles
-abbrev pub forgotten : Handles → Handles → Handles
-forgotten s now h = forgotten_one (s h) (now h)
+abbrev pub forgotten_handles : Handles → Handles → Handles
+forgotten_handles s now h = forgotten_one (s h) (now h)
 
 -- names are forgotten behind a statement that holds a `continue`
 abbrev pub forgotten_if : Bool → Handles → Handles → Handles
-forgotten_if true s now = forgotten s now
+forgotten_if true s now = forgotten_handles s now
 forgotten_if false s now = now
 
--- those that a list leaves to its loop's `continuing`: no name from the first statement with a
--- `continue` on
+-- those that a list leaves to its loop's `continuing`:
+-- no name from the first statement with a `continue` on
 abbrev pub after_all : Naming → ℕ → Statements → Handles → Handles
 after_all f k end s = s
 after_all f k (then st ss) s =
@@ -270,8 +274,8 @@ abbrev mutual
 abbrev pub before_local : Function → ℕ → Function
 before_local f i = record f { first_values = take i f.first_values }
 
--- the initialisers of locals, from this one on, are in scope at the start, where the locals before
--- them are
+-- the initialisers of locals, from this one on, are in
+-- scope at the start, where the locals before them are
 abbrev pub first_values_fit : Function → ℕ → List (Option ℕ) → Bool
 first_values_fit f i [] = true
 first_values_fit f i (o ∷ os) =

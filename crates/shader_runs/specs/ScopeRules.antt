@@ -1,5 +1,8 @@
 -- The rules of scope: at which points of a function a handle may be used, and which handles a
 -- statement may give. They speak of a function alone, not of names or of how the rules are checked.
+--
+-- Throughout, f is a function, h a handle, g are the handles that are given, e is an expression, st
+-- a statement, a, b and d are bodies and i is an index.
 use Rattle.std.specs.Prelude.{◌≡◌, ℕ, suc, ◌<◌, Bool, true, false, cond, not, List, [], ◌∷◌, Option}
 use Rattle.std.specs.Prelude.{Some, None, ◌⊎◌, ◌↔◌, IsTrue, IsFalse}
 use Rattle.shader_runs.specs.Program.{ConstantTree, Expression, Constant, Argument, Local, Global}
@@ -39,8 +42,8 @@ mutual
     and_tree : {h : ℕ} {hs : List ℕ} →
         IsConstantTree f h → AreConstantTrees f hs → AreConstantTrees f (h ∷ hs)
 
--- what statements give: an Emit operators and reads, and others their `Result`. The rest is there
--- by itself
+-- what statements give: an Emit operators and reads, and
+-- others their `Result`. The rest is there by itself
 abbrev pub can_be_given : Option Expression → Bool
 can_be_given (Some Result) = true
 can_be_given e = is_emittable e
@@ -106,16 +109,16 @@ abbrev pub with_statements : Function → Statements → List Given → List Giv
 with_statements f end given = given
 with_statements f (then st ss) given = with_statements f ss (with_statement f st given)
 
--- the statements of a list before its first that holds a `continue` of this loop: no `continue`
--- skips them
+-- the statements of a list before its first that holds
+-- a `continue` of this loop: no `continue` skips them
 abbrev pub unskipped : Statements → Statements
 unskipped end = end
 unskipped (then st ss) = cond (holds_continue st) end (then st (unskipped ss))
 
--- a point of a function: what was given before it in its block and the enclosing ones, the latest
--- first. visible: with what a loop's body gave before a `continue` can skip it, if the point is in
--- `continuing`. passed: with all that the body's own list gave, since the body encloses its
--- `continuing`
+-- a point of a function: what was given before it in its block and the enclosing
+-- ones, the latest first. visible: with what a loop's body gave before a
+-- `continue` can skip it, if the point is in `continuing`. passed: with all that
+-- the body's own list gave, since the body encloses its `continuing`
 pub record Point : Type 0 where
   pub visible : List Given
   pub passed : List Given
@@ -165,8 +168,8 @@ abbrev pub MayResult : Function → Point → Option ℕ → Type 0
 MayResult f at None = Unit {0}
 MayResult f at (Some h) = ¬ WasGiven f at h
 
--- each operand is in scope where it is used, and each Emit and each result may be given where it
--- stands
+-- each operand is in scope where it is used, and each
+-- Emit and each result may be given where it stands
 abbrev mutual
   pub StatementHolds : Function → Point → Statement → Type 0
   StatementHolds f at (Emit first count) = MayEmitEach f at (from first count)
@@ -191,8 +194,8 @@ abbrev mutual
   CasesHold f at no_case = Unit {0}
   CasesHold f at (case l b falls cs) = StatementsHold f at b × CasesHold f at cs
 
--- the first values of locals, from the i-th on, are used where the function starts: each may name
--- earlier locals only
+-- the first values of locals, from the i-th on, are used where
+-- the function starts: each may name earlier locals only
 abbrev pub FirstValuesHold : Function → ℕ → List (Option ℕ) → Type 0
 FirstValuesHold f i [] = Unit {0}
 FirstValuesHold f i (o ∷ os) =
@@ -203,8 +206,8 @@ pub record ScopeHolds (f : Function) : Type 0 where
   pub first_values : FirstValuesHold f 0 f.first_values
   pub body : StatementsHold f entry_point f.body
 
--- where operands stand before their expressions, the check of scope holds of a function exactly if
--- these rules do
+-- where operands stand before their expressions, the check
+-- of scope holds of a function exactly if these rules do
 abbrev pub ScopeCheckIsTheRules : Type 0
 ScopeCheckIsTheRules =
     (f : Naming) → ((h : ℕ) → AllBelow h (operands_of (expression_of f.function h))) →

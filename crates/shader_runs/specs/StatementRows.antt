@@ -1,5 +1,8 @@
 -- Worked functions for kinds of statements: each with its text, and what both runs of it do. Then
 -- texts that other writers would give, which do something else.
+--
+-- Throughout, c and b are the conditions of a function, j is a short circuit, n the bound on turns,
+-- vs are arguments, e is a tree.
 use Rattle.std.specs.Prelude.{◌≡◌, ◌≢◌, ℕ, pos, Bool, true, false, cond, List, [], ◌∷◌, ◌++◌, Some}
 use Rattle.std.specs.Prelude.{None, ◌&&◌, ◌||◌, codes}
 use Rattle.shader_runs.specs.Value.{Bytes, Place, Rooted, LocalRoot, BooleanType, PointerType}
@@ -19,16 +22,16 @@ use Rattle.shader_runs.specs.Rows.{x_plus_x}
 use Rattle.shader_runs.specs.WorkedModules.{texel, pair_type, pair, named_function, Example}
 use Rattle.shader_runs.specs.WorkedModules.{functions_alone, module_of, outer_of, namings_of}
 use Rattle.shader_runs.specs.WorkedModules.{follow_example, run_example, IsWritten, IsWorked}
-use Rattle.shader_runs.specs.WorkedModules.{started, CallEnd}
+use Rattle.shader_runs.specs.WorkedModules.{start_events, CallEnd}
 use Rattle.shader_runs.specs.RequestRows.{counter_place, atomic_example, atomic_text, counted}
 use Rattle.shader_runs.specs.RequestRows.{AtomicRow, level_zero, sample_example, sample_text}
 use Rattle.shader_runs.specs.RequestRows.{sample_values, sampling, SampleRow, TexelRow}
 use Rattle.shader_runs.specs.RequestRows.{UnusedRequestsRow, EdgeRow, TogetherRow}
 use Rattle.shader_runs.specs.WorkedFunctions.{i32, local_i32, i32_pointer, number, literal}
-use Rattle.shader_runs.specs.WorkedFunctions.{named_by, sum_of, product_of, text_of, described}
-use Rattle.shader_runs.specs.WorkedFunctions.{statements, cases, Labelled, function_with, lines}
-use Rattle.shader_runs.specs.WorkedFunctions.{call_of, perform, let_own, return_of, digits}
-use Rattle.shader_runs.specs.WorkedFunctions.{pointer_of, variable, number_variable}
+use Rattle.shader_runs.specs.WorkedFunctions.{LabelledBody, named_by, sum_of, product_of, text_of}
+use Rattle.shader_runs.specs.WorkedFunctions.{row, statements, cases, function_with, lines, call_of}
+use Rattle.shader_runs.specs.WorkedFunctions.{perform, let_own, return_of, digits, pointer_of}
+use Rattle.shader_runs.specs.WorkedFunctions.{variable, number_variable}
 
 -- ---- `&&` and `||`
 
@@ -43,11 +46,11 @@ flag_place = Rooted (LocalRoot local_bool 0 0)
 abbrev pub logical_function : ShortCircuit → Bool → Function
 logical_function j b =
     function_with (BooleanType ∷ []) (Some BooleanType) ((local_bool, Some 1) ∷ []) (
-    described (Argument 0) BooleanType 1
-    ∷ described (Constant (Fixed (Truth b))) BooleanType 1
-    ∷ described (Local 0) (PointerType local_bool) 1
-    ∷ described (Load 2) BooleanType 1
-    ∷ described (Logical j 0 3) BooleanType 1 ∷ []) (
+    row (Argument 0) BooleanType 1
+    ∷ row (Constant (Fixed (Truth b))) BooleanType 1
+    ∷ row (Local 0) (PointerType local_bool) 1
+    ∷ row (Load 2) BooleanType 1
+    ∷ row (Logical j 0 3) BooleanType 1 ∷ []) (
     Emit 3 2
     ∷ Return (Some 4) ∷ [])
 
@@ -75,7 +78,8 @@ truth_of ShortCircuitOr c b = c || b
 -- what is returned behind these events
 abbrev pub logical_end : ShortCircuit → Bool → Bool → List Event → CallEnd
 logical_end j c b events =
-    Gives (Some (Truth (truth_of j c b))) (events ++ started 0 (Truth c ∷ []) (Some (Truth b) ∷ []))
+    Gives (Some (Truth (truth_of j c b)))
+    (events ++ start_events 0 (Truth c ∷ []) (Some (Truth b) ∷ []))
 
 -- the read stands in front, and is made whatever the left side is
 abbrev pub LogicalRow : Type 0
@@ -106,21 +110,21 @@ n_place = Rooted (LocalRoot local_i32 0 1)
 -- the switch, and one returns
 abbrev pub jumps_function : Function
 jumps_function =
-    let zero : Labelled = (Numbered (pos 0), Store 0 3 ∷ Continue ∷ []) in
-    let others : Labelled = (Default, Break ∷ []) in
-    let one : Labelled = (Numbered (pos 1), Emit 6 1 ∷ Return (Some 6) ∷ []) in
+    let zero : LabelledBody = (Numbered (pos 0), Store 0 3 ∷ Continue ∷ []) in
+    let others : LabelledBody = (Default, Break ∷ []) in
+    let one : LabelledBody = (Numbered (pos 1), Emit 6 1 ∷ Return (Some 6) ∷ []) in
     let body = Emit 5 1 ∷ Switch 5 (cases (zero ∷ others ∷ one ∷ [])) ∷ Store 0 4 ∷ [] in
     let continuing = Emit 7 2 ∷ Store 1 8 ∷ [] in
     function_with [] (Some i32) ((local_i32, Some 2) ∷ (local_i32, Some 2) ∷ []) (
-    described (Local 0) i32_pointer 3
-    ∷ described (Local 1) i32_pointer 3
-    ∷ described (literal 0) i32 2
-    ∷ described (literal 5) i32 1
-    ∷ described (literal 1) i32 2
-    ∷ described (Load 0) i32 1
-    ∷ described (Load 1) i32 1
-    ∷ described (Load 1) i32 1
-    ∷ described (Operator (codes "+") (7 ∷ 4 ∷ [])) i32 1 ∷ []) (
+    row (Local 0) i32_pointer 3
+    ∷ row (Local 1) i32_pointer 3
+    ∷ row (literal 0) i32 2
+    ∷ row (literal 5) i32 1
+    ∷ row (literal 1) i32 2
+    ∷ row (Load 0) i32 1
+    ∷ row (Load 1) i32 1
+    ∷ row (Load 1) i32 1
+    ∷ row (Operator (codes "+") (7 ∷ 4 ∷ [])) i32 1 ∷ []) (
     Loop (statements body) (statements continuing) None ∷ [])
 
 -- its module
@@ -153,7 +157,7 @@ JumpsRow =
     Read n_place ∷ Read a_place
     ∷ Write n_place (number 2) ∷ Read n_place ∷ Write a_place (number 1) ∷ Read a_place
     ∷ Write n_place (number 1) ∷ Read n_place ∷ Write a_place (number 5) ∷ Read a_place
-    ∷ started 0 [] (Some (number 0) ∷ Some (number 0) ∷ [])))
+    ∷ start_events 0 [] (Some (number 0) ∷ Some (number 0) ∷ [])))
 
 -- ---- a block
 
@@ -162,12 +166,12 @@ abbrev pub block_function : Function
 block_function =
     let inner = Emit 3 1 ∷ Store 2 3 ∷ [] in
     function_with (i32 ∷ []) (Some i32) ((local_i32, Some 1) ∷ []) (
-    described (Argument 0) i32 4
-    ∷ described (Constant (Constructed (codes "i32") i32 no_constant)) i32 1
-    ∷ described (Local 0) i32_pointer 2
-    ∷ described (Operator (codes "+") (0 ∷ 0 ∷ [])) i32 2
-    ∷ described (Load 2) i32 1
-    ∷ described (Operator (codes "*") (3 ∷ 4 ∷ [])) i32 1 ∷ []) (
+    row (Argument 0) i32 4
+    ∷ row (Constant (Constructed (codes "i32") i32 no_constant)) i32 1
+    ∷ row (Local 0) i32_pointer 2
+    ∷ row (Operator (codes "+") (0 ∷ 0 ∷ [])) i32 2
+    ∷ row (Load 2) i32 1
+    ∷ row (Operator (codes "*") (3 ∷ 4 ∷ [])) i32 1 ∷ []) (
     Block (statements inner)
     ∷ Emit 3 3
     ∷ Return (Some 5) ∷ [])
@@ -192,7 +196,7 @@ block_text behind =
 -- its events behind the block
 abbrev pub block_events : List Event
 block_events =
-    Read a_place ∷ Write a_place (number 6) ∷ started 0 (number 3 ∷ []) (Some (number 0) ∷ [])
+    Read a_place ∷ Write a_place (number 6) ∷ start_events 0 (number 3 ∷ []) (Some (number 0) ∷ [])
 
 -- 6 is stored, and multiplied by itself
 abbrev pub BlockRow : Type 0
@@ -206,10 +210,10 @@ BlockRow =
 abbrev pub take_function : Function
 take_function =
     function_with (i32_pointer ∷ []) (Some i32) [] (
-    described (Argument 0) i32_pointer 2
-    ∷ described (literal 1) i32 1
-    ∷ described (Load 0) i32 2
-    ∷ described (Operator (codes "+") (2 ∷ 1 ∷ [])) i32 1 ∷ []) (
+    row (Argument 0) i32_pointer 2
+    ∷ row (literal 1) i32 1
+    ∷ row (Load 0) i32 2
+    ∷ row (Operator (codes "+") (2 ∷ 1 ∷ [])) i32 1 ∷ []) (
     Emit 2 2
     ∷ Store 0 3
     ∷ Return (Some 2) ∷ [])
@@ -218,10 +222,10 @@ take_function =
 abbrev pub forward_function : Function
 forward_function =
     function_with (i32_pointer ∷ []) (Some i32) [] (
-    described (Argument 0) i32_pointer 2
-    ∷ described Result i32 1
-    ∷ described (Load 0) i32 1
-    ∷ described (Operator (codes "+") (1 ∷ 2 ∷ [])) i32 1 ∷ []) (
+    row (Argument 0) i32_pointer 2
+    ∷ row Result i32 1
+    ∷ row (Load 0) i32 1
+    ∷ row (Operator (codes "+") (1 ∷ 2 ∷ [])) i32 1 ∷ []) (
     Act (Called 0) (0 ∷ []) (Some 1)
     ∷ Emit 2 2
     ∷ Return (Some 3) ∷ [])
@@ -230,11 +234,11 @@ forward_function =
 abbrev pub own_function : Function
 own_function =
     function_with [] (Some i32) ((local_i32, Some 1) ∷ []) (
-    described (Local 0) i32_pointer 2
-    ∷ described (literal 4) i32 1
-    ∷ described Result i32 1
-    ∷ described (Load 0) i32 1
-    ∷ described (Operator (codes "*") (2 ∷ 3 ∷ [])) i32 1 ∷ []) (
+    row (Local 0) i32_pointer 2
+    ∷ row (literal 4) i32 1
+    ∷ row Result i32 1
+    ∷ row (Load 0) i32 1
+    ∷ row (Operator (codes "*") (2 ∷ 3 ∷ [])) i32 1 ∷ []) (
     Act (Called 1) (0 ∷ []) (Some 2)
     ∷ Emit 3 2
     ∷ Return (Some 4) ∷ [])
@@ -243,9 +247,9 @@ own_function =
 abbrev pub start_function : Function
 start_function =
     function_with [] (Some i32) [] (
-    described Result i32 1
-    ∷ described (literal 1) i32 1
-    ∷ described (Operator (codes "+") (0 ∷ 1 ∷ [])) i32 1 ∷ []) (
+    row Result i32 1
+    ∷ row (literal 1) i32 1
+    ∷ row (Operator (codes "+") (0 ∷ 1 ∷ [])) i32 1 ∷ []) (
     Act (Called 2) [] (Some 0)
     ∷ Emit 2 1
     ∷ Return (Some 2) ∷ [])
@@ -288,7 +292,7 @@ second_local pointer = Rooted (LocalRoot pointer 1 0)
 -- the entries of the first three calls
 abbrev pub entered_to_forward : Place → List Event
 entered_to_forward p =
-    Entry 1 (Pointer p ∷ []) [] ∷ Entry 2 [] (Some (number 4) ∷ []) ∷ started 3 [] []
+    Entry 1 (Pointer p ∷ []) [] ∷ Entry 2 [] (Some (number 4) ∷ []) ∷ start_events 3 [] []
 
 -- the last callee reads 4 and stores 5; then (4 + 5) * 5 + 1 is returned
 abbrev pub calls_end : Place → CallEnd
@@ -309,7 +313,7 @@ CallsRow =
 abbrev pub check_function : Function
 check_function =
     let kill = statements (Kill ∷ []) in
-    function_with (BooleanType ∷ []) None [] (described (Argument 0) BooleanType 1 ∷ []) (
+    function_with (BooleanType ∷ []) None [] (row (Argument 0) BooleanType 1 ∷ []) (
     If 0 kill end ∷ [])
 
 -- in its first turn the callee returns, in the second it discards
@@ -317,10 +321,10 @@ abbrev pub repeat_function : Function
 repeat_function =
     let body = Emit 3 1 ∷ Act (Called 0) (3 ∷ []) None ∷ Store 0 2 ∷ [] in
     function_with [] None ((local_bool, Some 1) ∷ []) (
-    described (Local 0) (PointerType local_bool) 2
-    ∷ described (Constant (Fixed (Truth false))) BooleanType 1
-    ∷ described (Constant (Fixed (Truth true))) BooleanType 1
-    ∷ described (Load 0) BooleanType 1 ∷ []) (
+    row (Local 0) (PointerType local_bool) 2
+    ∷ row (Constant (Fixed (Truth false))) BooleanType 1
+    ∷ row (Constant (Fixed (Truth true))) BooleanType 1
+    ∷ row (Load 0) BooleanType 1 ∷ []) (
     Loop (statements body) end None ∷ [])
 
 -- their module
@@ -348,7 +352,7 @@ DiscardRow =
     Discard
     ∷ Entry 0 (Truth true ∷ []) [] ∷ Read flag_place
     ∷ Write flag_place (Truth true) ∷ Entry 0 (Truth false ∷ []) [] ∷ Read flag_place
-    ∷ started 1 [] (Some (Truth false) ∷ [])))
+    ∷ start_events 1 [] (Some (Truth false) ∷ [])))
 
 -- ---- a loop without events and without an end
 
@@ -356,7 +360,7 @@ DiscardRow =
 abbrev pub silent_function : Function
 silent_function =
     let skip = If 0 (statements (Continue ∷ [])) end in
-    function_with (BooleanType ∷ []) None [] (described (Argument 0) BooleanType 1 ∷ []) (
+    function_with (BooleanType ∷ []) None [] (row (Argument 0) BooleanType 1 ∷ []) (
     Loop (statements (skip ∷ [])) end None ∷ [])
 
 -- its module
@@ -376,7 +380,7 @@ abbrev pub SilentRow : Type 0
 SilentRow =
     (c : Bool) (n : ℕ) →
     let vs = Truth c ∷ [] in
-    IsWorked silent_example silent_text 0 n vs (Halts OutOfTurns (started 0 vs []))
+    IsWorked silent_example silent_text 0 n vs (Halts OutOfTurns (start_events 0 vs []))
 
 -- ---- a swizzle with a name, and a word that a function takes
 
@@ -384,9 +388,9 @@ SilentRow =
 abbrev pub swizzle_function : Function
 swizzle_function =
     function_with (pair_type ∷ []) (Some pair_type) [] (
-    described (Argument 0) pair_type 1
-    ∷ described (Swizzle (codes "yx") 0) pair_type 2
-    ∷ described (Operator (codes "+") (1 ∷ 1 ∷ [])) pair_type 1 ∷ []) (
+    row (Argument 0) pair_type 1
+    ∷ row (Swizzle (codes "yx") 0) pair_type 2
+    ∷ row (Operator (codes "+") (1 ∷ 1 ∷ [])) pair_type 1 ∷ []) (
     Emit 1 2
     ∷ Return (Some 2) ∷ [])
 
@@ -406,15 +410,15 @@ swizzle_text =
 abbrev pub SwizzleRow : Type 0
 SwizzleRow =
     let vs : List Value = pair 12 ∷ [] in
-    IsWorked swizzle_example swizzle_text 0 3 vs (Gives (Some (pair 42)) (started 0 vs []))
+    IsWorked swizzle_example swizzle_text 0 3 vs (Gives (Some (pair 42)) (start_events 0 vs []))
 
 -- the greater one of its arguments
 abbrev pub greater_function : Function
 greater_function =
     function_with (i32 ∷ i32 ∷ []) (Some i32) [] (
-    described (Argument 0) i32 1
-    ∷ described (Argument 1) i32 1
-    ∷ described (Operator (codes "max") (0 ∷ 1 ∷ [])) i32 1 ∷ []) (
+    row (Argument 0) i32 1
+    ∷ row (Argument 1) i32 1
+    ∷ row (Operator (codes "max") (0 ∷ 1 ∷ [])) i32 1 ∷ []) (
     Emit 2 1
     ∷ Return (Some 2) ∷ [])
 
@@ -440,7 +444,7 @@ greater_values = number 3 ∷ number 8 ∷ []
 
 -- what the module's run gives, whatever the later function's name is
 abbrev pub greater_end : CallEnd
-greater_end = Gives (Some (number 8)) (started 0 greater_values [])
+greater_end = Gives (Some (number 8)) (start_events 0 greater_values [])
 
 -- a later function of another name does not matter
 abbrev pub GreaterRow : Type 0
@@ -459,7 +463,7 @@ pub record WordIsTaken : Type 0 where
   pub module_run : run_example (greater_example (codes "max")) 0 3 greater_values ≡ greater_end
   pub text_run :
       follow_example (greater_example (codes "max")) (greater_text (codes "max")) 0 3 greater_values
-      ≡ Halts Stuck (started 0 greater_values [])
+      ≡ Halts Stuck (start_events 0 greater_values [])
   pub refused : FitsExample (greater_example (codes "max")) → ⊥
 
 -- what other writers would give for these functions, and what it does

@@ -1,4 +1,10 @@
 -- A text's run: each expression is evaluated anew where it stands, and names are looked up.
+--
+-- Throughout, l is what words do, n the bound on turns, names are the scope and t the events so far
+-- (t1 and t2 are later ones), e is a tree, x a name, a selector, a line, a label or why a run
+-- stops, v a value (vs are several), p a place, z an integer, m the meaning, w the world or a word,
+-- d what a name stands for, q what is reached, f the text of a function, g its number, k the number
+-- of entries, and i an index.
 use Rattle.std.specs.Prelude.{ℕ, suc, Bool, true, false, cond, nat_eq, List, [], ◌∷◌, length}
 use Rattle.std.specs.Prelude.{option_map, Option, Some, None, ◌||◌}
 use Rattle.shader_runs.specs.Value.{Bytes, same_bytes, Place, Rooted, GlobalRoot, LocalRoot, Part}
@@ -8,18 +14,18 @@ use Rattle.shader_runs.specs.World.{Event, Entry, Ask, Read, Write, Discard, ent
 use Rattle.shader_runs.specs.World.{Meaning, bind}
 use Rattle.shader_runs.specs.Outcome.{Stuck, Unreturned, Discarded, Outcome, Done, Continued, Broke}
 use Rattle.shader_runs.specs.Outcome.{reach, unless, Returned, Stopped, Reached, Gives, Halts}
-use Rattle.shader_runs.specs.Outcome.{answer, Next, and_then, turn, turns, after_switch, chosen}
-use Rattle.shader_runs.specs.Outcome.{with_integer, closed, closed_if}
+use Rattle.shader_runs.specs.Outcome.{answer, Next, and_then, turn, turns, after_switch, branch_by}
+use Rattle.shader_runs.specs.Outcome.{with_integer, closed_outcome, closed_if}
 use Rattle.shader_runs.specs.Program.{Label, Numbered}
-use Rattle.shader_runs.specs.ProgramRun.{called, decides, undecided, same_label, label_if}
+use Rattle.shader_runs.specs.ProgramRun.{called, decides, undecided_value, same_label, label_if}
 use Rattle.shader_runs.specs.Text.{Tree, Name, LiteralOf, Apply, Deref, AddressOf, Index, PartOf}
 use Rattle.shader_runs.specs.Text.{LogicalOf, Trees, no_more, more, Line, Let, Assign, Braces}
 use Rattle.shader_runs.specs.Text.{IfElse, SwitchOn, LoopOf, BreakLine, ContinueLine, ReturnLine}
 use Rattle.shader_runs.specs.Text.{DiscardLine, Perform, Lines, last, before, Groups, no_group}
 use Rattle.shader_runs.specs.Text.{group, Variable, ModuleVariable, TextFunction}
 
--- what an expression stands for: a value, or a reference, the place of a variable or of a part of
--- one
+-- what an expression stands for: a value, or a
+-- reference, the place of a variable or of a part of one
 pub data Denoted : Type 0 where
   IsValue : Value → Denoted
   IsPlace : Place → Denoted
@@ -35,10 +41,10 @@ pub record Words : Type 0 where
   pub respond : Bytes → List Value → List Event → Reached (Option Value)
 
 -- a reference where a value is wanted is read
-abbrev pub valued : World → Reached Denoted → Reached Value
-valued w (Gives (IsValue v) t) = Gives v t
-valued w (Gives (IsPlace p) t) = Gives (w t (Read p)) (Read p ∷ t)
-valued w (Halts x t) = Halts x t
+abbrev pub read_value : World → Reached Denoted → Reached Value
+read_value w (Gives (IsValue v) t) = Gives v t
+read_value w (Gives (IsPlace p) t) = Gives (w t (Read p)) (Read p ∷ t)
+read_value w (Halts x t) = Halts x t
 
 -- one more value
 abbrev pub put_before : Value → Reached (List Value) → Reached (List Value)
@@ -51,14 +57,14 @@ followed_by (Halts x t) rest = Halts x t
 followed_by (Gives v t) rest = put_before v (rest t)
 
 -- a word with its operands
-abbrev pub responded : Words → Bytes → Reached (List Value) → Reached (Option Value)
-responded l w (Halts x t) = Halts x t
-responded l w (Gives vs t) = l.respond w vs t
+abbrev pub word_answer : Words → Bytes → Reached (List Value) → Reached (Option Value)
+word_answer l w (Halts x t) = Halts x t
+word_answer l w (Gives vs t) = l.respond w vs t
 
 -- a word where it stands. A variable's name hides a function or an operator of that name
 abbrev pub word_reached :
     Words → Bytes → Scope → List Event → Reached (List Value) → Reached (Option Value)
-word_reached l word names t vs = unless (names word) t (responded l word vs)
+word_reached l word names t vs = unless (names word) t (word_answer l word vs)
 
 -- a value is wanted: operators and requests give one, and so does a function that returns one
 abbrev pub as_value : Reached (Option Value) → Reached Denoted
@@ -67,15 +73,15 @@ as_value (Gives None t) = Halts Unreturned t
 as_value (Gives (Some v) t) = Gives (IsValue v) t
 
 -- `*` makes a reference of a pointer
-abbrev pub dereferenced : Reached Value → Reached Denoted
-dereferenced (Halts x t) = Halts x t
-dereferenced (Gives v t) = reach (option_map IsPlace (place_in v)) t
+abbrev pub dereference : Reached Value → Reached Denoted
+dereference (Halts x t) = Halts x t
+dereference (Gives v t) = reach (option_map IsPlace (place_in v)) t
 
 -- `&` makes a pointer of a reference
-abbrev pub addressed : Reached Denoted → Reached Denoted
-addressed (Halts x t) = Halts x t
-addressed (Gives (IsPlace p) t) = Gives (IsValue (Pointer p)) t
-addressed (Gives (IsValue v) t) = Halts Stuck t
+abbrev pub address_reached : Reached Denoted → Reached Denoted
+address_reached (Halts x t) = Halts x t
+address_reached (Gives (IsPlace p) t) = Gives (IsValue (Pointer p)) t
+address_reached (Gives (IsValue v) t) = Halts Stuck t
 
 -- an integer leads to an element
 abbrev pub part_reached : Place → Reached Value → Reached Denoted
@@ -88,10 +94,10 @@ index_reached m v (Halts x t) = Halts x t
 index_reached m v (Gives i t) = Gives (IsValue (m IndexWord (v ∷ i ∷ []))) t
 
 -- an index; a pointer has none
-abbrev pub indexed : Meaning → Reached Denoted → (List Event → Reached Value) → Reached Denoted
-indexed m (Halts x t) rest = Halts x t
-indexed m (Gives (IsPlace p) t) rest = part_reached p (rest t)
-indexed m (Gives (IsValue v) t) rest = unless (place_in v) t (index_reached m v (rest t))
+abbrev pub index_into : Meaning → Reached Denoted → (List Event → Reached Value) → Reached Denoted
+index_into m (Halts x t) rest = Halts x t
+index_into m (Gives (IsPlace p) t) rest = part_reached p (rest t)
+index_into m (Gives (IsValue v) t) rest = unless (place_in v) t (index_reached m v (rest t))
 
 -- a member or an element; a pointer has none
 abbrev pub part_picked : Meaning → Selector → Reached Denoted → Reached Denoted
@@ -103,7 +109,7 @@ part_picked m x (Gives (IsValue v) t) =
 -- the right side was evaluated
 abbrev pub undecided_reached : Meaning → ShortCircuit → Value → Reached Value → Reached Denoted
 undecided_reached m j l (Halts x t) = Halts x t
-undecided_reached m j l (Gives r t) = Gives (IsValue (undecided m j l r)) t
+undecided_reached m j l (Gives r t) = Gives (IsValue (undecided_value m j l r)) t
 
 -- the right side is evaluated only where it decides
 abbrev pub logical_reached :
@@ -118,23 +124,23 @@ abbrev mutual
   evaluate l (LiteralOf v) names t = Gives (IsValue v) t
   evaluate l (Apply word es) names t =
       as_value (word_reached l word names t (evaluate_all l es names t))
-  evaluate l (Deref e) names t = dereferenced (valued l.world (evaluate l e names t))
-  evaluate l (AddressOf e) names t = addressed (evaluate l e names t)
+  evaluate l (Deref e) names t = dereference (read_value l.world (evaluate l e names t))
+  evaluate l (AddressOf e) names t = address_reached (evaluate l e names t)
   evaluate l (Index e i) names t =
-      indexed l.meaning (evaluate l e names t) (λ t1. valued l.world (evaluate l i names t1))
+      index_into l.meaning (evaluate l e names t) (λ t1. read_value l.world (evaluate l i names t1))
   evaluate l (PartOf x e) names t = part_picked l.meaning x (evaluate l e names t)
   evaluate l (LogicalOf j a b) names t =
-      logical_reached l.meaning j (valued l.world (evaluate l a names t))
-      (λ t1. valued l.world (evaluate l b names t1))
+      logical_reached l.meaning j (read_value l.world (evaluate l a names t))
+      (λ t1. read_value l.world (evaluate l b names t1))
 
   pub evaluate_all : Words → Trees → Scope → List Event → Reached (List Value)
   evaluate_all l no_more names t = Gives [] t
   evaluate_all l (more e es) names t =
-      followed_by (valued l.world (evaluate l e names t)) (evaluate_all l es names)
+      followed_by (read_value l.world (evaluate l e names t)) (evaluate_all l es names)
 
 -- a tree in a value's position
 abbrev pub value_of : Words → Tree → Scope → List Event → Reached Value
-value_of l e names t = valued l.world (evaluate l e names t)
+value_of l e names t = read_value l.world (evaluate l e names t)
 
 -- goes on with a value
 abbrev pub with_value : {S : Type 0} → Reached Value → (Value → List Event → Outcome S) → Outcome S
@@ -149,9 +155,9 @@ with_place (Gives (IsValue v) t) go = Stopped Stuck t
 with_place (Gives (IsPlace p) t) go = go p t
 
 -- a call whose result is not wanted
-abbrev pub performed : Scope → Reached (Option Value) → Outcome Scope
-performed names (Halts x t) = Stopped x t
-performed names (Gives v t) = Done names t
+abbrev pub perform_outcome : Scope → Reached (Option Value) → Outcome Scope
+perform_outcome names (Halts x t) = Stopped x t
+perform_outcome names (Gives v t) = Done names t
 
 abbrev mutual
   -- a `continue` of the loop in whose body the line stands
@@ -180,7 +186,7 @@ abbrev mutual
 abbrev pub break_line : Words → Option Tree → Next Scope
 break_line l None names t = Done names t
 break_line l (Some e) names t =
-    with_value (value_of l e names t) (λ v t1. chosen v t1 (Broke names t1) (Done names t1))
+    with_value (value_of l e names t) (λ v t1. branch_by v t1 (Broke names t1) (Done names t1))
 
 -- what is returned
 abbrev pub return_line : Words → Option Tree → Next Scope
@@ -204,22 +210,25 @@ abbrev mutual
   follow l n (Assign p e) names t =
       with_place (evaluate l p names t)
       (λ place t1. with_value (value_of l e names t1) (λ v t2. Done names (Write place v ∷ t2)))
-  follow l n (Braces b) names t = closed names (follow_all l n b names t)
+  follow l n (Braces b) names t = closed_outcome names (follow_all l n b names t)
   follow l n (IfElse e a b) names t =
       with_value (value_of l e names t)
-      (λ v t1. closed names (chosen v t1 (follow_all l n a names t1) (follow_all l n b names t1)))
+      (λ v t1.
+      closed_outcome names (branch_by v t1 (follow_all l n a names t1) (follow_all l n b names t1)))
   follow l n (SwitchOn e groups) names t =
-      with_value (value_of l e names t) (λ v t1. closed names (with_integer v t1 (λ z. after_switch
+      with_value (value_of l e names t)
+      (λ v t1. closed_outcome names (with_integer v t1 (λ z. after_switch
       (follow_groups l n groups (label_if (group_has (Numbered z) groups) z) names t1))))
   follow l n (LoopOf b d e) names t =
       turns n (λ names1 t1.
-      closed names1 (turn (follow_all l n b) (follow_all l n d) (break_line l e) names1 t1)) names t
+      closed_outcome names1
+      (turn (follow_all l n b) (follow_all l n d) (break_line l e) names1 t1)) names t
   follow l n BreakLine names t = Broke names t
   follow l n ContinueLine names t = Continued names t
   follow l n (ReturnLine e) names t = return_line l e names t
   follow l n DiscardLine names t = Stopped Discarded (Discard ∷ t)
   follow l n (Perform w es) names t =
-      performed names (word_reached l w names t (evaluate_all l es names t))
+      perform_outcome names (word_reached l w names t (evaluate_all l es names t))
 
   -- the names that a list leaves are those for its loop's `continuing`: none from the first line
   -- with a `continue` on
@@ -249,8 +258,8 @@ abbrev pub with_variables : List Variable → (entries index : ℕ) → Scope �
 with_variables [] k i names = names
 with_variables (x ∷ xs) k i names = with_variables xs k (suc i) (with_variable x k i names)
 
--- what a module-level variable's name stands for: the value that is held, or a place of the
--- declared type
+-- what a module-level variable's name stands for: the
+-- value that is held, or a place of the declared type
 abbrev pub global_denoted : (pointer : Bytes) → ℕ → Option Value → Denoted
 global_denoted pointer i None = IsPlace (Rooted (GlobalRoot pointer i))
 global_denoted pointer i (Some v) = IsValue v
@@ -273,8 +282,8 @@ pub data WordUse : Type 0 where
   AsksForEvent : WordUse
   Operates : WordUse
 
--- what a word does that is the name of no function which stands before. A function behind can't be
--- called
+-- what a word does that is the name of no function which
+-- stands before. A function behind can't be called
 abbrev pub respond_by_use :
     WordUse → World → Meaning → Bytes → List Value → List Event → Reached (Option Value)
 respond_by_use NamesFunction w m word vs t = Halts Stuck t
@@ -329,8 +338,8 @@ follow_body l n g f vs names t =
     entered_by g vs (first_of_each l f.variables (entries t) 0 names t)
     (λ t1. answer (follow_all l n f.lines (with_variables f.variables (entries t) 0 names) t1))
 
--- a word among these functions, the last one first; uses tells what a word is that names none of
--- these functions
+-- a word among these functions, the last one first; uses
+-- tells what a word is that names none of these functions
 abbrev pub follow_call : Scope → World → Meaning → (uses : Bytes → WordUse) → ℕ →
     List TextFunction → Bytes → List Value → List Event → Reached (Option Value)
 follow_call outer w m uses n [] word vs t = respond_by_use (uses word) w m word vs t

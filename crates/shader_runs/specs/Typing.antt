@@ -1,4 +1,7 @@
 -- When a module's operators are typed consistently.
+--
+-- Throughout, p is a module, f a function, h a handle, e a constant tree, w a word, xs are
+-- operands, k is a type, x and y are signatures, i is an index and z an integer.
 use Rattle.std.specs.Prelude.{◌≡◌, ℕ, ℤ, List, [], ◌∷◌, ◌++◌, Option, Some, slice_get}
 use Rattle.shader_runs.specs.Value.{PartTypes, At, Selector, MemberNamed, step_of, ValueType}
 use Rattle.shader_runs.specs.Value.{BooleanType, IntegerType, PointerType, Word, Spelled, PartWord}
@@ -59,8 +62,8 @@ pub data IsSpelled (p : Module) (x : Signature) : Type 0 where
   in_initialiser : (i : ℕ) (e : ConstantTree) → slice_get p.initialisers i ≡ Some e →
       IsOneOf x (constant_signatures p e) → IsSpelled p x
 
--- an integer's index through a pointer gives a pointer to the part, which is of one type whatever
--- the index is
+-- an integer's index through a pointer gives a pointer to
+-- the part, which is of one type whatever the index is
 abbrev pub AccessFits : PartTypes → (base index result : ValueType) → Type 0
 AccessFits parts (PointerType whole) (IntegerType spelling) k =
     (z : ℤ) → k ≡ PointerType (parts whole (At z))

@@ -1,4 +1,8 @@
 -- Spelled words, places and values with their types.
+--
+-- Throughout, v is a value (vs are several) and t a type (ts are
+-- several), b a truth value, z an integer, p a place and i an index;
+-- m, n, x, y and a, b in a test of equality are what it compares.
 use Rattle.std.specs.Prelude.{ℕ, ℤ, pos, negsuc, Bool, true, false, cond, nat_eq, List, [], ◌∷◌}
 use Rattle.std.specs.Prelude.{Option, Some, None, ◌&&◌, get_or, codes}
 

@@ -1,5 +1,9 @@
 -- Short words for worked functions and their texts: a function by its table of expressions and the
 -- list of its statements, a text by the list of its lines.
+--
+-- Throughout, e is an expression or a tree, k a type, n a number, x a name, f a function (fs are
+-- several), g its number, vs are its arguments, t the events so far, v is a value, p and q are
+-- places, w is a word, a and b are operands.
 use Rattle.std.specs.Prelude.{◌≡◌, ℕ, ◌+◌, ◌*◌, pos, Bool, true, false, cond, List, [], ◌∷◌, ◌++◌}
 use Rattle.std.specs.Prelude.{Option, Some, ◌&&◌, ◌||◌, nat_eq, get_or, IsTrue, codes, map}
 use Rattle.shader_runs.specs.Value.{Bytes, PartTypes, same_bytes, same_integer, At, Rooted}
@@ -41,14 +45,14 @@ abbrev pub numbered_name : ℕ → Bytes
 numbered_name h = codes "_e" ++ (h + 48) ∷ []
 
 -- an expression with its type and how often it is used
-pub record Described : Type 0 where
+pub record TableRow : Type 0 where
   pub expression : Expression
   pub type : ValueType
   pub count : ℕ
 
 -- one row of a table of expressions
-abbrev pub described : Expression → ValueType → ℕ → Described
-described e k n = record { expression = e; type = k; count = n }
+abbrev pub row : Expression → ValueType → ℕ → TableRow
+row e k n = record { expression = e; type = k; count = n }
 
 -- statements in their order
 abbrev pub statements : List Statement → Statements
@@ -56,21 +60,21 @@ statements [] = end
 statements (s ∷ ss) = then s (statements ss)
 
 -- a case's label and statements
-abbrev pub Labelled : Type 0
-Labelled = Label × List Statement
+abbrev pub LabelledBody : Type 0
+LabelledBody = Label × List Statement
 
 -- cases, none of which falls through
-abbrev pub cases : List Labelled → Cases
+abbrev pub cases : List LabelledBody → Cases
 cases [] = no_case
 cases (c ∷ cs) = case c.0 (statements c.1) false (cases cs)
 
 -- a local with the spelling of a pointer to it, and its initialiser
-abbrev pub Declared : Type 0
-Declared = Bytes × Option ℕ
+abbrev pub LocalDeclaration : Type 0
+LocalDeclaration = Bytes × Option ℕ
 
 -- a function by its table of expressions and its statements
 abbrev pub function_with : (arguments : List ValueType) → (result : Option ValueType) →
-    List Declared → List Described → List Statement → Function
+    List LocalDeclaration → List TableRow → List Statement → Function
 function_with arguments result locals expressions body =
     record {
       argument_types = arguments;
@@ -152,17 +156,17 @@ same_place (Rooted (LocalRoot a i j)) (Rooted (LocalRoot b k l)) =
 same_place _ _ = false
 
 -- what was last stored at a place
-abbrev pub stored : Place → List Event → Value
-stored p [] = number 7
-stored p (Write q v ∷ t) = cond (same_place p q) v (stored p t)
-stored p (Entry g vs firsts ∷ t) = stored p t
-stored p (Ask w vs ∷ t) = stored p t
-stored p (Read q ∷ t) = stored p t
-stored p (Discard ∷ t) = stored p t
+abbrev pub stored_value : Place → List Event → Value
+stored_value p [] = number 7
+stored_value p (Write q v ∷ t) = cond (same_place p q) v (stored_value p t)
+stored_value p (Entry g vs firsts ∷ t) = stored_value p t
+stored_value p (Ask w vs ∷ t) = stored_value p t
+stored_value p (Read q ∷ t) = stored_value p t
+stored_value p (Discard ∷ t) = stored_value p t
 
 -- a read gives what was stored, any other request 7
 abbrev pub row_world : World
-row_world t (Read p) = stored p t
+row_world t (Read p) = stored_value p t
 row_world t _ = number 7
 
 -- the one meaning of the rows: sums and products

@@ -1,5 +1,8 @@
 -- Worked modules by their tables: one world, where a read gives what was stored or added last, one
 -- meaning, and that a module and its text do the same in them.
+--
+-- Throughout, e is an example, g the number of a function, n the bound on turns or a number, vs are
+-- arguments, t the events so far, v is a value, p and q are places, x is a name, f a function.
 use Rattle.std.specs.Prelude.{◌≡◌, ℕ, ◌+◌, ◌*◌, ◌/◌, ◌%◌, max, pos, Bool, false, cond, List, []}
 use Rattle.std.specs.Prelude.{◌∷◌, length, map, reverse, Option, Some, None, ◌||◌, nat_eq, get_or}
 use Rattle.std.specs.Prelude.{unwrap_or, IsTrue, codes}
@@ -34,19 +37,19 @@ asking =
     ∷ codes "textureBarrier" ∷ [])
 
 -- the sum of two integers of one type
-abbrev pub added : Value → Value → Value
-added (Whole s (pos a)) (Whole r (pos b)) = Whole s (pos (a + b))
-added v w = v
+abbrev pub sum_value : Value → Value → Value
+sum_value (Whole s (pos a)) (Whole r (pos b)) = Whole s (pos (a + b))
+sum_value v w = v
 
 -- what an atomic leaves at a place where this was
-abbrev pub changed : (word : Bytes) → (was operand : Value) → Value
-changed word was v =
+abbrev pub changed_value : (word : Bytes) → (was operand : Value) → Value
+changed_value word was v =
     cond (same_bytes word (codes "atomicStore")) v
-    (cond (same_bytes word (codes "atomicAdd")) (added was v) was)
+    (cond (same_bytes word (codes "atomicAdd")) (sum_value was v) was)
 
 -- what is at a place behind a request
 abbrev pub after_ask : Place → (word : Bytes) → List Value → (was : Value) → Value
-after_ask p word (Pointer q ∷ v ∷ vs) was = cond (same_place p q) (changed word was v) was
+after_ask p word (Pointer q ∷ v ∷ vs) was = cond (same_place p q) (changed_value word was v) was
 after_ask p word vs was = was
 
 -- what is at a place behind an entry: a local's first value, if it has one
@@ -56,13 +59,13 @@ after_entry (Rooted (LocalRoot pointer k i)) earlier firsts was =
 after_entry p earlier firsts was = was
 
 -- what is at a place: what was stored or added last, or its first value, or 7
-abbrev pub held : Place → List Event → Value
-held p [] = number 7
-held p (Write q v ∷ t) = cond (same_place p q) v (held p t)
-held p (Ask word vs ∷ t) = after_ask p word vs (held p t)
-held p (Entry g vs firsts ∷ t) = after_entry p (entries t) firsts (held p t)
-held p (Read q ∷ t) = held p t
-held p (Discard ∷ t) = held p t
+abbrev pub held_value : Place → List Event → Value
+held_value p [] = number 7
+held_value p (Write q v ∷ t) = cond (same_place p q) v (held_value p t)
+held_value p (Ask word vs ∷ t) = after_ask p word vs (held_value p t)
+held_value p (Entry g vs firsts ∷ t) = after_entry p (entries t) firsts (held_value p t)
+held_value p (Read q ∷ t) = held_value p t
+held_value p (Discard ∷ t) = held_value p t
 
 -- a texel by its number
 abbrev pub texel : ℕ → Value
@@ -73,21 +76,21 @@ abbrev pub ballot : Value
 ballot = Opaque (codes "vec4<u32>") 1
 
 -- what an image has: the sum of its number and those of a layer, of a level and of an offset
-abbrev pub sampled : List Value → Value
-sampled (Opaque i n ∷ sampler ∷ at ∷ Whole s (pos layer) ∷ Opaque l level ∷ Opaque o offset ∷ []) =
+abbrev pub sampled_value : List Value → Value
+sampled_value (Opaque i n ∷ _ ∷ _ ∷ Whole s (pos layer) ∷ Opaque l level ∷ Opaque o offset ∷ []) =
     texel (n + layer + level + offset)
-sampled (Opaque i n ∷ vs) = texel n
-sampled vs = texel 0
+sampled_value (Opaque i n ∷ vs) = texel n
+sampled_value vs = texel 0
 
 -- what is asked of no place
-abbrev pub told : (word : Bytes) → List Value → Value
-told word vs = cond (same_bytes word (codes "subgroupBallot")) ballot (sampled vs)
+abbrev pub told_value : (word : Bytes) → List Value → Value
+told_value word vs = cond (same_bytes word (codes "subgroupBallot")) ballot (sampled_value vs)
 
 -- the one world of these rows
 abbrev pub memory_world : World
-memory_world t (Read p) = held p t
-memory_world t (Ask word (Pointer p ∷ vs)) = held p t
-memory_world t (Ask word vs) = told word vs
+memory_world t (Read p) = held_value p t
+memory_world t (Ask word (Pointer p ∷ vs)) = held_value p t
+memory_world t (Ask word vs) = told_value word vs
 memory_world t request = number 7
 
 -- ---- the meaning
@@ -101,12 +104,12 @@ abbrev pub pair : ℕ → Value
 pair n = Opaque (codes "vec2<i32>") n
 
 -- the components in the other order
-abbrev pub exchanged : ℕ → ℕ
-exchanged n = n % 10 * 10 + n / 10
+abbrev pub exchanged_number : ℕ → ℕ
+exchanged_number n = n % 10 * 10 + n / 10
 
 -- an operator of two numbers
-abbrev pub calculated : (word : Bytes) → ℕ → ℕ → ℕ
-calculated word a b =
+abbrev pub calculated_number : (word : Bytes) → ℕ → ℕ → ℕ
+calculated_number word a b =
     cond (same_bytes word (codes "*")) (a * b)
     (cond (same_bytes word (codes "max")) (max a b) (a + b))
 
@@ -114,10 +117,10 @@ calculated word a b =
 -- numbered on from its number
 abbrev pub memory_meaning : Meaning
 memory_meaning (Spelled word) (Whole s (pos a) ∷ Whole r (pos b) ∷ []) =
-    number (calculated word a b)
+    number (calculated_number word a b)
 memory_meaning (Spelled word) (Opaque s a ∷ Opaque r b ∷ []) = Opaque s (a + b)
 memory_meaning (PartWord (MemberNamed letters)) (Opaque s a ∷ []) =
-    Opaque s (cond (same_bytes letters (codes "yx")) (exchanged a) a)
+    Opaque s (cond (same_bytes letters (codes "yx")) (exchanged_number a) a)
 memory_meaning IndexWord (Opaque s a ∷ Whole r (pos b) ∷ []) =
     Opaque (codes "texture_2d<f32>") (a + b)
 memory_meaning word vs = number 0
@@ -252,5 +255,5 @@ pub record IsWorked (e : Example) (texts : List TextFunction) (g n : ℕ) (vs : 
   pub text_run : follow_example e texts g n vs ≡ result
 
 -- the entry of a start
-abbrev pub started : (g : ℕ) → List Value → List (Option Value) → List Event
-started g vs firsts = Entry g vs firsts ∷ []
+abbrev pub start_events : (g : ℕ) → List Value → List (Option Value) → List Event
+start_events g vs firsts = Entry g vs firsts ∷ []

@@ -1,4 +1,6 @@
 -- What each context knows.
+--
+-- Throughout, o is an override and t a type.
 use Rattle.std.specs.Prelude.{ℕ, true, false, List, [], ◌∷◌, Option, Some, None, codes, slice_get}
 use Rattle.std.specs.Prelude.{length, nat_lt, string_bytes}
 use Rattle.std.specs.Option.{option_map, option_map_or}

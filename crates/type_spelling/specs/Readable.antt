@@ -1,4 +1,7 @@
 -- Which types are read from their text, and which types are alike.
+--
+-- Throughout, n are the names of structs and overrides, h is the handle of a type t, o that of an
+-- override, r what an expression has for a type; a and b are two such.
 use Rattle.std.specs.Prelude.{◌≡◌, ℕ, ◌<◌, ◌^◌, Bool, true, List, [], ◌∷◌, ⊤, Some, None, slice_get}
 use Rattle.std.specs.Option.{is_some}
 use Rattle.std.specs.Int.NonZero.{non_zero_u32_get}
@@ -31,8 +34,8 @@ InnerIsWithin overrides (inner.Array base size stride) = LengthIsWithin override
 InnerIsWithin overrides (inner.BindingArray base size) = LengthIsWithin overrides size
 InnerIsWithin overrides _ = ⊤
 
--- Each struct and each of so many overrides has an identifier for a name, and lengths are such
--- numbers or overrides.
+-- Each struct and each of so many overrides has an identifier
+-- for a name, and lengths are such numbers or overrides.
 pub record AreNamed (n : Names) (count : ℕ) : Type 0 where
   pub structs : (h : ℕ) (t : Type_) → slice_get n.types h ≡ Some t → is_struct t.inner ≡ true →
       IsIdentifier (n.struct_name h)

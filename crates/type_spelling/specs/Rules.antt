@@ -1,4 +1,7 @@
 -- What a typing rule is spelled as.
+--
+-- Throughout, c is the context, r is what an argument has
+-- for a type (rs are several), and p a predeclared type.
 use Rattle.std.specs.Prelude.{ℕ, List, [], ◌∷◌, ◌++◌, ⊤, codes}
 use Rattle.naga_info.specs.declared.info.TypeResolution.{TypeResolution}
 use Rattle.naga_info.specs.declared.rules.Conclusion.{Conclusion}

@@ -1,5 +1,7 @@
 -- What a type is spelled as: its text, part by part, in a context that says how structs and
 -- overrides are named and whether what has no form is refused or shown in braces.
+--
+-- Throughout, c is the context, f gives the parts of the type at a handle, and t is the type there.
 use Rattle.std.specs.Prelude.{◌≡◌, ℕ, zero, suc, IsTrue, nat_lt, ◌≤◌, ◌<◌, ◌+◌, Bool, true, false}
 use Rattle.std.specs.Prelude.{if◌then◌else◌, List, [], ◌∷◌, ◌++◌, Option, Some, None, codes}
 use Rattle.std.specs.Prelude.{slice_get, length}

@@ -1,5 +1,8 @@
--- What a type is read as, where it has a form: a syntax tree, by the names of structs and
--- overrides.
+-- What a type is read as, where it has a form: a
+-- syntax tree, by the names of structs and overrides.
+--
+-- Throughout, n are the names of structs and overrides, f gives the tree of the type at a handle, t
+-- is the type there, and s the tree of a scalar.
 use Rattle.std.specs.Prelude.{ℕ, zero, suc, Bool, true, false, if◌then◌else◌, List, [], ◌∷◌, Option}
 use Rattle.std.specs.Prelude.{Some, None, codes, slice_get}
 use Rattle.std.specs.Option.{option_map}

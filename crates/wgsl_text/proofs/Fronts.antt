@@ -13,7 +13,7 @@ use Rattle.wgsl_text.specs.Words.{is_letter, is_word_byte, all_word_bytes}
 use Rattle.wgsl_text.specs.Text.{Lexeme, Takes, Skips, mark_text, suffix_text, starts_with, word_length, digits_length, word_token, word_lexeme, suffix_at, is_point_zero, is_empty, number_of, number_lexeme, one_more, minus_lexeme, sign_or, single, single_signs, sign_lexeme, lexeme, behind, scan}
 use Rattle.wgsl_text.specs.Spelling.{is_sign, Spells, SpellsWord, SpellsNumber, SpellsZeroPointZero, SpellsSign, is_blank, Begins, AtBlank, AtToken, AtForeign}
 use Rattle.wgsl_text.proofs.Scans.{when_true, when_false, past}
-use Rattle.wgsl_text.proofs.Longest.{AtLeast, lexeme_of, longest}
+use Rattle.wgsl_text.proofs.Spelling.{AtLeast, lexeme_of, longest}
 
 -- what the lexeme at the front of these bytes takes
 data Answer (b : ℕ) (bytes : List ℕ) (l : Lexeme) : Type 0 where

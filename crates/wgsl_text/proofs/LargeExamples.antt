@@ -5,7 +5,7 @@ use Rattle.wgsl_text.specs.Words.{is_reserved, is_builtin, IsIdentifier}
 use Rattle.wgsl_text.specs.Tree.{Template, TypePart, NoParts}
 use Rattle.wgsl_text.specs.Grammar.{IsType, IsExpression}
 use Rattle.wgsl_text.specs.GrammarOfLines.{IsProgram}
-use Rattle.wgsl_text.specs.Examples.{named}
+use Rattle.wgsl_text.specs.WorkedTrees.{named}
 use Rattle.wgsl_text.specs.LargeExamples.{deep, doubled, double, LargePrograms}
 
 deep_form : IsProgram deep

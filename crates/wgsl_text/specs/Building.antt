@@ -1,4 +1,7 @@
 -- What is built of words, types and expressions is of the grammar.
+--
+-- Throughout, w is a word, t a type or a callee, n a number, e an expression (es are several), and
+-- s the name of a struct.
 use Rattle.std.specs.Prelude.{◌≡◌, ℕ, ◌<◌, List, ◌∷◌, codes, IsTrue}
 use Rattle.wgsl_text.specs.Grammar.{IsPlainNumber, IsType, IsCallee, IsExpression, TakesScalar}
 use Rattle.wgsl_text.specs.Grammar.{TakesElements, rule_among, type_templates, plain_type_words}

@@ -1,4 +1,8 @@
 -- The grammar of declarations, a clause for each row, and the order that they stand in.
+--
+-- Throughout, a is an attribute or a part of one, w a word, n a number, t a type, e an expression,
+-- and each declaration goes by its first letter: parameter, local, function, member, struct,
+-- constant, override, global, entry point.
 use Rattle.std.specs.Prelude.{ℕ, List, [], ◌∷◌, ◌++◌, codes, Option, None, Some}
 use Rattle.wgsl_text.specs.Token.{CloseParen, OpenParen, OpenBrace, CloseBrace, Comma, Semicolon}
 use Rattle.wgsl_text.specs.Token.{Colon, Equals, GreaterThan, LessThan, Minus, At, KeywordVar}

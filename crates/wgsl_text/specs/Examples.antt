@@ -1,139 +1,19 @@
 -- Worked programs, and beside each its text.
-use Prim.Native.String.{String}
-use Rattle.std.specs.Prelude.{◌≡◌, ℕ, true, false, List, [], ◌∷◌, ◌++◌, codes, Option, None, Some}
-use Rattle.wgsl_text.specs.Token.{SuffixI, SuffixU, SuffixLi}
-use Rattle.wgsl_text.specs.Tree.{Truth, Suffixed, Add, Multiply, Negate, TypeSpecifier, Named}
-use Rattle.wgsl_text.specs.Tree.{Template, TypeParts, NoParts, TypePart, SizePart, Expression}
-use Rattle.wgsl_text.specs.Tree.{Constant, Name, Binary, Unary, Call, Member, IndexAt, AddressOf}
-use Rattle.wgsl_text.specs.Tree.{Dereference, Arguments, NoArguments, Argument, ZeroArgument}
-use Rattle.wgsl_text.specs.Tree.{DefaultLabel, SignedLabel, LastLabel, MoreLabels, Let, TypedLet}
+use Rattle.std.specs.Prelude.{ℕ, true, false, List, [], ◌∷◌, codes, None, Some}
+use Rattle.wgsl_text.specs.Token.{SuffixLi}
+use Rattle.wgsl_text.specs.Tree.{Truth, Suffixed, Add, Multiply, Negate, Constant, Binary, Unary}
+use Rattle.wgsl_text.specs.Tree.{IndexAt, AddressOf, Dereference, NoArguments, Argument}
+use Rattle.wgsl_text.specs.Tree.{ZeroArgument, DefaultLabel, SignedLabel, LastLabel, MoreLabels}
 use Rattle.wgsl_text.specs.Tree.{Assign, CallStatement, ReturnValue, Continue, If, LoopBreakIf}
-use Rattle.wgsl_text.specs.Tree.{Switch, Statement, Statements, NoStatements, Then, NoCases, Case}
-use Rattle.wgsl_text.specs.Tree.{Vertex, Fragment, Compute, Location, Id, Group, Binding, Size}
-use Rattle.wgsl_text.specs.Tree.{Builtin, Interpolate, Plain, Numbered, Worded, Interpolated}
-use Rattle.wgsl_text.specs.Tree.{WorkgroupSize, Attribute, WordedAttribute, Parameter, Result}
-use Rattle.wgsl_text.specs.Tree.{NoResult, ResultOf, Local, Function, EntryPoint, StructMember}
-use Rattle.wgsl_text.specs.Tree.{Struct, NamedConstant, Override, Space, Global, SpaceAlone}
-use Rattle.wgsl_text.specs.Tree.{SpaceAndAccess, Program, no_declarations, operands}
-use Rattle.wgsl_text.specs.GrammarOfLines.{IsProgram}
-use Rattle.wgsl_text.specs.Reading.{layout}
-
--- The tree is a program, and these bytes are its layout.
-pub record IsText (program : Program) (bytes : List ℕ) : Type 0 where
-  pub form : IsProgram program
-  pub text : layout program ≡ bytes
-
--- lines, each with its end
-abbrev pub lines : List String → List ℕ
-lines [] = []
-lines (line ∷ more) = codes line ++ (codes "\n" ++ lines more)
-
--- short words for trees
-abbrev pub named : String → TypeSpecifier
-named w = Named (codes w)
-
-abbrev pub parts : List TypeSpecifier → TypeParts
-parts [] = NoParts
-parts (t ∷ more) = TypePart t (parts more)
-
-abbrev pub template : String → List TypeSpecifier → TypeSpecifier
-template w list = Template (codes w) (parts list)
-
-abbrev pub named_parts : List String → TypeParts
-named_parts [] = NoParts
-named_parts (w ∷ more) = TypePart (named w) (named_parts more)
-
-abbrev pub template_of : String → List String → TypeSpecifier
-template_of w words = Template (codes w) (named_parts words)
-
-abbrev pub sized : String → TypeSpecifier → ℕ → TypeSpecifier
-sized w t n = Template (codes w) (TypePart t (SizePart n NoParts))
-
-abbrev pub name : String → Expression
-name w = Name (codes w)
-
-abbrev pub names : List String → Arguments
-names [] = NoArguments
-names (w ∷ more) = Argument (name w) (names more)
-
-abbrev pub integer : ℕ → Expression
-integer n = Constant (Suffixed false n SuffixI)
-
-abbrev pub unsigned : ℕ → Expression
-unsigned n = Constant (Suffixed false n SuffixU)
-
-abbrev pub call : String → Arguments → Expression
-call w arguments = Call (Named (codes w)) arguments
-
-abbrev pub member_of : Expression → String → Expression
-member_of e w = Member e (codes w)
-
-abbrev pub bound : String → Expression → Statement
-bound w e = Let (codes w) e
-
-abbrev pub typed : String → TypeSpecifier → Expression → Statement
-typed w t e = TypedLet (codes w) t e
-
-abbrev pub statements : List Statement → Statements
-statements [] = NoStatements
-statements (s ∷ more) = Then s (statements more)
-
-abbrev pub parameter : String → TypeSpecifier → Parameter
-parameter w t = record { attributes = []; name = codes w; type = t }
-
-abbrev pub bound_parameter : List Attribute → String → TypeSpecifier → Parameter
-bound_parameter attributes w t = record { attributes = attributes; name = codes w; type = t }
-
-abbrev pub gives : String → Result
-gives w = ResultOf [] (named w)
-
-abbrev pub local : String → TypeSpecifier → Option Expression → Local
-local w t value = record { name = codes w; type = t; value = value }
-
-abbrev pub function : String → List Parameter → Result → List Local → List Statement → Function
-function w parameters result locals body =
-    record {
-      name = codes w;
-      parameters = parameters;
-      result = result;
-      locals = locals;
-      body = statements body;
-    }
-
-abbrev pub worded : WordedAttribute → String → Attribute
-worded a w = Worded a (codes w)
-
-abbrev pub interpolated : String → String → Attribute
-interpolated i s = Interpolated (codes i) (codes s)
-
-abbrev pub member : List Attribute → String → TypeSpecifier → StructMember
-member attributes w t = record { attributes = attributes; name = codes w; type = t }
-
-abbrev pub struct : String → List StructMember → Struct
-struct w members = record { name = codes w; members = members }
-
-abbrev pub constant : String → TypeSpecifier → Expression → NamedConstant
-constant w t e = record { name = codes w; type = t; value = e }
-
-abbrev pub override : List Attribute → String → TypeSpecifier → Option Expression → Override
-override attributes w t value =
-    record { attributes = attributes; name = codes w; type = t; value = value }
-
-abbrev pub space : String → Space
-space a = SpaceAlone (codes a)
-
-abbrev pub space_and_access : String → String → Space
-space_and_access a m = SpaceAndAccess (codes a) (codes m)
-
-abbrev pub global : List Attribute → Space → String → TypeSpecifier → Option Expression → Global
-global attributes s w t value =
-    record { attributes = attributes; space = s; name = codes w; type = t; value = value }
-
-abbrev pub entry_point : List Attribute → Function → EntryPoint
-entry_point stage f = record { stage = stage; function = f }
-
-abbrev pub of_functions : List Function → Program
-of_functions functions = record no_declarations { functions = functions }
+use Rattle.wgsl_text.specs.Tree.{Switch, NoStatements, NoCases, Case, Vertex, Fragment, Compute}
+use Rattle.wgsl_text.specs.Tree.{Location, Id, Group, Binding, Size, Builtin, Interpolate, Plain}
+use Rattle.wgsl_text.specs.Tree.{Numbered, WorkgroupSize, NoResult, ResultOf, Program}
+use Rattle.wgsl_text.specs.Tree.{no_declarations, operands}
+use Rattle.wgsl_text.specs.WorkedTrees.{IsText, lines, named, template_of, sized, name, names}
+use Rattle.wgsl_text.specs.WorkedTrees.{integer, unsigned, call, member_of, bound, typed}
+use Rattle.wgsl_text.specs.WorkedTrees.{statements, parameter, bound_parameter, gives, local}
+use Rattle.wgsl_text.specs.WorkedTrees.{function, worded, member, struct, constant, override, space}
+use Rattle.wgsl_text.specs.WorkedTrees.{space_and_access, global, entry_point, of_functions}
 
 abbrev pub identity : Program
 identity = of_functions (

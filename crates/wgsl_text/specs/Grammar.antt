@@ -1,4 +1,8 @@
 -- Which types and expressions the grammar has.
+--
+-- Throughout, w is a word, t a type, e an expression, i an index, l a literal, n a number, b a
+-- truth value; in the parts of a type a is an address space, m an access, f a format, r a role, s a
+-- scalar, and v a vertex return.
 use Rattle.std.specs.Prelude.{ℕ, ◌<◌, ◌≤◌, ◌^◌, Bool, true, false, not, ◌&&◌, ◌||◌, if◌then◌else◌}
 use Rattle.std.specs.Prelude.{List, [], ◌∷◌, ◌++◌, ⊤, codes, nat_lt, IsTrue}
 use Rattle.std.specs.Str.{bytes_eq}

@@ -1,4 +1,9 @@
 -- Which statements and declarations the grammar has.
+--
+-- Throughout, w is a word, t a type, e an expression, a and b are two, i is an
+-- index or an interpolation, n a number, s a statement, a sampling or a struct,
+-- l a label or a local, and each other declaration goes by its first letter:
+-- parameter, function, member, constant, override, global, entry point.
 use Rattle.std.specs.Prelude.{ℕ, ◌<◌, ◌^◌, Bool, true, false, ◌&&◌, List, [], ◌∷◌, ⊤, codes, IsTrue}
 use Rattle.std.specs.Prelude.{Option, None, Some}
 use Rattle.std.specs.Str.{bytes_eq}
@@ -104,8 +109,8 @@ is_io_binding (Worded Builtin w ∷ Plain Invariant ∷ []) = bytes_eq (codes "p
 is_io_binding (Numbered Location n ∷ more) = behind_location more
 is_io_binding _ = false
 
--- what may stand on a member: a size, an alignment and a binding, each if it is there, in this
--- order
+-- what may stand on a member: a size, an alignment
+-- and a binding, each if it is there, in this order
 abbrev pub behind_size : List Attribute → Bool
 behind_size (Numbered Align n ∷ more) = is_io_binding more
 behind_size more = is_io_binding more

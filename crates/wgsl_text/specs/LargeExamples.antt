@@ -1,9 +1,11 @@
 -- Worked programs that are too large to be written out: their texts by recursion.
+--
+-- Throughout, n is the depth.
 use Rattle.std.specs.Prelude.{◌≡◌, ℕ, zero, suc, ◌*◌, List, [], ◌∷◌, ◌++◌, codes, length, replicate}
 use Rattle.wgsl_text.specs.Tree.{Add, Template, NoParts, TypePart, Expression, Binary, Index}
 use Rattle.wgsl_text.specs.Tree.{ReturnValue, Block, Statements, NoStatements, Then, NoResult}
 use Rattle.wgsl_text.specs.Tree.{ResultOf, Program}
-use Rattle.wgsl_text.specs.Examples.{IsText, named, name, parameter, function, of_functions}
+use Rattle.wgsl_text.specs.WorkedTrees.{IsText, named, name, parameter, function, of_functions}
 
 -- blocks, each inside the one before
 abbrev pub nested : ℕ → Statements

@@ -1,5 +1,8 @@
--- The grammar of statements, a clause for each row: their tokens, with the blanks, line ends and
--- indentation between them.
+-- The grammar of statements, a clause for each row: their tokens,
+-- with the blanks, line ends and indentation between them.
+--
+-- Throughout, n is the level of indentation, w a word, t a type, e an expression, a and b are two,
+-- l is a label, and s a statement.
 use Rattle.std.specs.Prelude.{ℕ, suc, false, List, [], ◌∷◌, ◌++◌}
 use Rattle.wgsl_text.specs.Token.{OpenParen, OpenBrace, CloseBrace, Comma, Semicolon, Colon, Equals}
 use Rattle.wgsl_text.specs.Token.{KeywordLet, KeywordIf, KeywordElse, KeywordLoop}

@@ -1,5 +1,8 @@
--- The grammar of types and expressions, a clause for each row: the tokens of a tree, with the
--- blanks between them.
+-- The grammar of types and expressions, a clause for each
+-- row: the tokens of a tree, with the blanks between them.
+--
+-- Throughout, w is a word, m a mark, n a number, t a type, e an expression, a and b are two, i is
+-- an index, and l a literal.
 use Rattle.std.specs.Prelude.{ℕ, Bool, true, false, not, ◌||◌, List, [], ◌∷◌, ◌++◌, codes}
 use Rattle.wgsl_text.specs.Token.{Mark, OpenParen, CloseParen, OpenBracket, CloseBracket, Comma}
 use Rattle.wgsl_text.specs.Token.{Dot, Equals, LessThan, GreaterThan, Plus, Minus, Star, Slash}

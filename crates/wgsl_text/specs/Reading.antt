@@ -1,4 +1,6 @@
 -- What it is for a text to have one reading.
+--
+-- Throughout, t is a type, e an expression, s a statement, f a function, and ts are tokens.
 use Rattle.std.specs.Prelude.{◌≡◌, ℕ, List}
 use Rattle.wgsl_text.specs.Token.{Token}
 use Rattle.wgsl_text.specs.Tree.{TypeSpecifier, Expression, Statement, Function, Program}

@@ -1,7 +1,9 @@
 -- Texts without a reading.
+--
+-- Throughout, t is a type, and e an expression.
 use Rattle.std.specs.Prelude.{ℕ, List, [], ◌∷◌, codes}
 use Rattle.wgsl_text.specs.Tree.{TypeSpecifier, Expression, Program}
-use Rattle.wgsl_text.specs.Examples.{lines}
+use Rattle.wgsl_text.specs.WorkedTrees.{lines}
 use Rattle.wgsl_text.specs.Reading.{ReadsType, ReadsExpression, Reads}
 use Rattle.wgsl_text.specs.Text.{tokens}
 

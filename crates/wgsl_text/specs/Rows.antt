@@ -1,4 +1,6 @@
 -- A tree for each row of the grammar, and beside it its text.
+--
+-- Throughout, t is a type, and e an expression.
 use Prim.Native.String.{String}
 use Rattle.std.specs.Prelude.{◌≡◌, ℕ, true, false, List, [], ◌∷◌, codes, None, Some}
 use Rattle.wgsl_text.specs.Token.{SuffixI, SuffixLi, SuffixLu}
@@ -19,11 +21,12 @@ use Rattle.wgsl_text.specs.Tree.{IncomingPayload, Plain, Numbered, WorkgroupSize
 use Rattle.wgsl_text.specs.Tree.{ResultOf, NoSpace, Program, no_declarations, operands}
 use Rattle.wgsl_text.specs.Grammar.{IsType, IsExpression}
 use Rattle.wgsl_text.specs.Reading.{type_layout, expression_layout}
-use Rattle.wgsl_text.specs.Examples.{lines, names, template_of, named, template, sized, member_of}
-use Rattle.wgsl_text.specs.Examples.{bound, typed, bound_parameter, worded, interpolated, member}
-use Rattle.wgsl_text.specs.Examples.{struct, constant, override, space, global, entry_point, name}
-use Rattle.wgsl_text.specs.Examples.{integer, unsigned, call, statements, parameter, local}
-use Rattle.wgsl_text.specs.Examples.{function, of_functions, IsText}
+use Rattle.wgsl_text.specs.WorkedTrees.{lines, names, template_of, named, template, sized}
+use Rattle.wgsl_text.specs.WorkedTrees.{member_of, bound, typed, bound_parameter, worded}
+use Rattle.wgsl_text.specs.WorkedTrees.{interpolated, member, struct, constant, override, space}
+use Rattle.wgsl_text.specs.WorkedTrees.{global, entry_point, name, integer, unsigned, call}
+use Rattle.wgsl_text.specs.WorkedTrees.{statements, parameter, local, function, of_functions}
+use Rattle.wgsl_text.specs.WorkedTrees.{IsText}
 
 -- The tree is a type, and this is its layout.
 pub record IsTypeText (t : TypeSpecifier) (spelling : String) : Type 0 where

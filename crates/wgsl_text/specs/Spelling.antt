@@ -1,4 +1,6 @@
 -- Which bytes spell which token, and how the tokens of a text follow from its front.
+--
+-- Throughout, b is a byte, w a word, m a mark, and t and u are tokens.
 use Rattle.std.specs.Prelude.{◌≡◌, ℕ, ◌<◌, ◌≤◌, ◌||◌, ◌==◌, Bool, true, false, List, ◌∷◌, ◌++◌}
 use Rattle.std.specs.Prelude.{length, codes, IsTrue, IsFalse}
 use Rattle.std.specs.Str.{all_ascii_digits}
@@ -51,8 +53,8 @@ abbrev pub number_text : Bool → List ℕ → Suffix → List ℕ
 number_text true digits suffix = codes "-" ++ (digits ++ suffix_text suffix)
 number_text false digits suffix = digits ++ suffix_text suffix
 
--- These bytes spell this token. There is no sign `->`, `>>` or `>=`, so `>` is always a token by
--- itself.
+-- These bytes spell this token. There is no sign `->`,
+-- `>>` or `>=`, so `>` is always a token by itself.
 pub data Spells : List ℕ → Token → Type 0 where
   -- letters, digits and `_`, no digit first: a keyword that the grammar uses, or a word of its own
   SpellsWord : (w : List ℕ) → IsTrue (is_word_text w) → Spells w (word_token w)

@@ -1,4 +1,7 @@
 -- The text of pieces, and the tokens of a text.
+--
+-- Throughout, b and c are bytes, ds are the digits behind one, w is a word, m a mark, n a number,
+-- and t a token.
 use Rattle.std.specs.Prelude.{ℕ, zero, suc, ◌*◌, Bool, true, false, not, ◌&&◌, ◌||◌, if◌then◌else◌}
 use Rattle.std.specs.Prelude.{List, [], ◌∷◌, ◌++◌, codes, ◌==◌, length, take, drop, replicate}
 use Rattle.std.specs.Str.{bytes_eq}

@@ -1,4 +1,6 @@
 -- The trees that a text is read as. A word is the list of its bytes.
+--
+-- Throughout, e is an expression.
 use Rattle.std.specs.Prelude.{ℕ, Bool, List, [], ◌∷◌, Option}
 use Rattle.wgsl_text.specs.Token.{Suffix}
 

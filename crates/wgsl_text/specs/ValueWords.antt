@@ -1,4 +1,6 @@
 -- The words that the grammar shares with the values of the IR.
+--
+-- Throughout, w is a word, and i an index.
 use Rattle.std.specs.Prelude.{◌≡◌, ℕ, List, Option, Some, IsTrue}
 use Rattle.naga_operators.specs.declared.MathFunction.{MathFunction}
 use Rattle.wgsl_words.specs.Words.{scalar_word, scalar_word_of, interpolation_word, sampling_word}

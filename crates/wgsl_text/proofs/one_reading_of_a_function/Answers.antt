@@ -1,4 +1,4 @@
-use Rattle.wgsl_text.proofs.OneReading.{function_has_one_reading, function_unique}
+use Rattle.wgsl_text.proofs.Reading.{function_has_one_reading, function_unique}
 use Rattle.wgsl_text.proofs.one_reading_of_a_function.Goals as goal
 
 pub returns-clause-layout : goal.returns-clause-layout

@@ -1,4 +1,4 @@
-use Rattle.wgsl_text.proofs.OneReading.{program_has_one_reading, program_unique}
+use Rattle.wgsl_text.proofs.Reading.{program_has_one_reading, program_unique}
 use Rattle.wgsl_text.proofs.one_reading_of_a_program.Goals as goal
 
 pub returns-clause-layout : goal.returns-clause-layout

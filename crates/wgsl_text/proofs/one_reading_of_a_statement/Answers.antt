@@ -1,4 +1,4 @@
-use Rattle.wgsl_text.proofs.OneReading.{statement_has_one_reading, statement_unique}
+use Rattle.wgsl_text.proofs.Reading.{statement_has_one_reading, statement_unique}
 use Rattle.wgsl_text.proofs.one_reading_of_a_statement.Goals as goal
 
 pub returns-clause-layout : goal.returns-clause-layout

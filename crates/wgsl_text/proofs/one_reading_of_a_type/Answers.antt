@@ -1,4 +1,4 @@
-use Rattle.wgsl_text.proofs.OneReading.{type_has_one_reading, type_unique}
+use Rattle.wgsl_text.proofs.Reading.{type_has_one_reading, type_unique}
 use Rattle.wgsl_text.proofs.one_reading_of_a_type.Goals as goal
 
 pub returns-clause-layout : goal.returns-clause-layout

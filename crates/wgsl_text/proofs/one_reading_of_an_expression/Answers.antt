@@ -1,4 +1,4 @@
-use Rattle.wgsl_text.proofs.OneReading.{expression_has_one_reading, expression_unique}
+use Rattle.wgsl_text.proofs.Reading.{expression_has_one_reading, expression_unique}
 use Rattle.wgsl_text.proofs.one_reading_of_an_expression.Goals as goal
 
 pub returns-clause-layout : goal.returns-clause-layout

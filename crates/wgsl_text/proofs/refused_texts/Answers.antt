@@ -1,4 +1,4 @@
-use Rattle.wgsl_text.proofs.Refusals.{refused}
+use Rattle.wgsl_text.proofs.Refused.{refused}
 use Rattle.wgsl_text.proofs.refused_texts.Goals as goal
 
 pub returns : goal.returns

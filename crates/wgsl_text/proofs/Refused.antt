@@ -6,12 +6,12 @@ use Rattle.wgsl_text.specs.Token.{Token, SuffixI, SuffixU}
 use Rattle.wgsl_text.specs.Words.{is_reserved, is_builtin}
 use Rattle.wgsl_text.specs.Tree.{TypeSpecifier, Expression, Program, Named, Template, TypePart, NoParts, Name, Call, Argument, NoArguments, NumberArgument, ZeroArgument, Member, Unary, Negate, Constant, Suffixed}
 use Rattle.wgsl_text.specs.Tree.{no_declarations, NoResult, Plain, Compute, Worded, Builtin, Attribute, Numbered, Location, Size, Align}
-use Rattle.wgsl_text.specs.Examples.{named, name, call, parameter, function, of_functions, member, struct}
+use Rattle.wgsl_text.specs.WorkedTrees.{named, name, call, parameter, function, of_functions, member, struct}
 use Rattle.wgsl_text.specs.Reading.{ReadsType, ReadsExpression, Reads}
 use Rattle.wgsl_text.specs.Refused.{Refused, IsNoExpression}
 use Rattle.wgsl_text.proofs.Machine.{State, Want, WantType, Got, GotType, Bottom, InProgram}
 use Rattle.wgsl_text.proofs.DeclarationRuns.{newest_first, newest_twice}
-use Rattle.wgsl_text.proofs.OneReading.{read, type_read, expression_read, program_read, same_type, same_expression, same_program}
+use Rattle.wgsl_text.proofs.Reading.{read, type_read, expression_read, program_read, same_type, same_expression, same_program}
 
 abbrev is_type : State → Bool
 is_type (GotType t Bottom) = true

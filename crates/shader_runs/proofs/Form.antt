@@ -5,9 +5,9 @@ use Rattle.std.proofs.lemmas.Option.{slice_get_within, same_Some, none-some}
 use Rattle.shader_runs.specs.Value.{Bytes, PartTypes, Rooted, GlobalRoot, LocalRoot, Selector, ShortCircuit, ValueType, BooleanType, IntegerType, PointerType, OtherType, type_at, has_type, has_types, Value, Pointer, Spelled}
 use Rattle.shader_runs.specs.World.{Event, GlobalValue, Stored, Held, Environment, Meaning}
 use Rattle.shader_runs.specs.Program.{ConstantTree, ConstantTrees, Expression, Constant, Argument, Local, Global, Load, Operator, Access, AccessIndex, Logical, Swizzle, Request, Result, argument_count, local_count, local_pointer, expression_of, handle_type, operands_of, Module}
-use Rattle.shader_runs.specs.ProgramRun.{Call, Kept, constant_value, constant_values, global_value, used_as, used, also, used_all, joined, applied, combined, gathered, computed}
+use Rattle.shader_runs.specs.ProgramRun.{Call, Kept, constant_value, constant_values, global_value, used_value_as, used_value, also, used_values, joined_values, operator_value, combined_value, gathered_value, computed_value}
 use Rattle.shader_runs.specs.Text.{Name}
-use Rattle.shader_runs.specs.TextRun.{Scope, responded, followed_by, as_value, evaluate, evaluate_all, value_of}
+use Rattle.shader_runs.specs.TextRun.{Scope, word_answer, followed_by, as_value, evaluate, evaluate_all, value_of}
 use Rattle.shader_runs.specs.Scope.{Standing, Absent, Barred, Everywhere, Inline, Named, Handles, Names, usable, usable_as, usable_all, is_pure, is_present}
 use Rattle.shader_runs.specs.Form.{Plain, AsValue, AsPlace, value_form, place_form, value_forms_then, constant_form, constant_forms, global_form, own_form, standing_form, written_below, written}
 use Rattle.shader_runs.specs.Premises.{FixedName, FixedKey, NumberedKey, GivenKey, IsFixedName, IsNoName, ConstantWords, ConstantsWords, WordFits, AllBelow, constant_type, constant_types_of, ConstantInRange, ConstantsInRange, LeafFits, ConstantTyped, ConstantsTyped, LeafTyped, handle_types, IsTypedIn, ConstantName, ArgumentName, LocalName, GlobalName, global_has_type, globals_have_types, EnvironmentFits, OperatesBy}
@@ -31,7 +31,7 @@ pub record Given (p : Module) (c : Call) (n : Names) (d : Respond) : Type 0 wher
 pub no_value : (parts : PartTypes) (y : ValueType) (o : Option Value) → TypedValue parts y o → o ≡ None → ⊥
 no_value parts y o v e = none-some v.0 (sym e ∙ v.1)
 
-pub unwritten : (m : Meaning) (e : Option Expression) → ((vs : List Value) → combined m e vs ≡ None) → (os : Option (List Value)) → gathered m e os ≡ None
+pub unwritten : (m : Meaning) (e : Option Expression) → ((vs : List Value) → combined_value m e vs ≡ None) → (os : Option (List Value)) → gathered_value m e os ≡ None
 unwritten m e h None = refl
 unwritten m e h (Some vs) = h vs
 
@@ -104,7 +104,7 @@ retyped parts k k' o e v = (v.0, v.1, ap (λ k. has_type parts k v.0) e ∙ v.2)
 
 -- a handle in scope has a value of its type, if what is kept for it has it
 module _ (p : Module) (c : Call) (arguments : IsTrue (has_types c.environment.parts c.function.argument_types c.arguments)) (environment : EnvironmentFits p c.environment) where
-  pub used_typed : (k : ValueType) (e : Option Expression) → LeafFits p c.function k e → LeafTyped c.environment.parts p c.meaning e → (o : Option Value) (st : Standing) → (IsTrue (is_present st) → TypedValue c.environment.parts k o) → IsTrue (usable_as c.function e st) → TypedValue c.environment.parts k (used_as c e o)
+  pub used_typed : (k : ValueType) (e : Option Expression) → LeafFits p c.function k e → LeafTyped c.environment.parts p c.meaning e → (o : Option Value) (st : Standing) → (IsTrue (is_present st) → TypedValue c.environment.parts k o) → IsTrue (usable_as c.function e st) → TypedValue c.environment.parts k (used_value_as c e o)
   used_typed k (Some (Constant e)) l m o st v u =
       retyped c.environment.parts k (constant_type p e) (constant_value c.environment c.meaning e) l.1 (constant_typed p c.environment environment c.meaning e l.0 m)
   used_typed k (Some (Argument i)) l m o st v u =
@@ -123,33 +123,33 @@ module _ (p : Module) (c : Call) (arguments : IsTrue (has_types c.environment.pa
 
 -- each handle in scope has a value of its type
 abbrev pub UsesTyped : Call → Handles → Kept → Type 0
-UsesTyped c s kept = (h : ℕ) → IsTrue (usable c.function s h) → TypedValue c.environment.parts (handle_type c.function h) (used c kept h)
+UsesTyped c s kept = (h : ℕ) → IsTrue (usable c.function s h) → TypedValue c.environment.parts (handle_type c.function h) (used_value c kept h)
 
 module _ (p : Module) (c : Call) (s : Handles) (kept : Kept) (each : UsesTyped c s kept) where
-  pub all_typed : (xs : List ℕ) → IsTrue (usable_all c.function s xs) → (vs : List Value) × (used_all c kept xs ≡ Some vs) × IsTrue (has_types c.environment.parts (handle_types c.function xs) vs)
+  pub all_typed : (xs : List ℕ) → IsTrue (usable_all c.function s xs) → (vs : List Value) × (used_values c kept xs ≡ Some vs) × IsTrue (has_types c.environment.parts (handle_types c.function xs) vs)
   all_typed [] u = ([], refl, refl)
   all_typed (x ∷ xs) u =
       let a = each x (and_left (usable c.function s x) (usable_all c.function s xs) u) in
       let b = all_typed xs (and_right (usable c.function s x) (usable_all c.function s xs) u) in
-      (a.0 ∷ b.0, ap (λ o. also o (used_all c kept xs)) a.1 ∙ ap (also (Some a.0)) b.1, and_both (has_type c.environment.parts (handle_type c.function x) a.0) (has_types c.environment.parts (handle_types c.function xs) b.0) a.2 b.2)
+      (a.0 ∷ b.0, ap (λ o. also o (used_values c kept xs)) a.1 ∙ ap (also (Some a.0)) b.1, and_both (has_type c.environment.parts (handle_type c.function x) a.0) (has_types c.environment.parts (handle_types c.function xs) b.0) a.2 b.2)
 
   -- an operator over operands in scope
-  pub operator_typed : IsTypedIn c.environment.parts p c.meaning c.function → (h : ℕ) → IsTrue (is_pure (expression_of c.function h)) → IsTrue (usable_all c.function s (operands_of (expression_of c.function h))) → TypedValue c.environment.parts (handle_type c.function h) (computed c kept (expression_of c.function h))
+  pub operator_typed : IsTypedIn c.environment.parts p c.meaning c.function → (h : ℕ) → IsTrue (is_pure (expression_of c.function h)) → IsTrue (usable_all c.function s (operands_of (expression_of c.function h))) → TypedValue c.environment.parts (handle_type c.function h) (computed_value c kept (expression_of c.function h))
   operator_typed typed h q u =
       let e = expression_of c.function h in
       let vs = all_typed (operands_of e) u in
       let v = typed.operators h q vs.0 vs.2 in
-      (v.0, ap (gathered c.meaning e) vs.1 ∙ v.1, v.2)
+      (v.0, ap (gathered_value c.meaning e) vs.1 ∙ v.1, v.2)
 
   -- a request's operands, and the constants behind them
-  pub request_there : EnvironmentFits p c.environment → (xs : List ℕ) (es : ConstantTrees) → ConstantsInRange p es → ConstantsTyped c.environment.parts p c.meaning es → IsTrue (usable_all c.function s xs) → (vs : List Value) × (joined (used_all c kept xs) (constant_values c.environment c.meaning es) ≡ Some vs)
+  pub request_there : EnvironmentFits p c.environment → (xs : List ℕ) (es : ConstantTrees) → ConstantsInRange p es → ConstantsTyped c.environment.parts p c.meaning es → IsTrue (usable_all c.function s xs) → (vs : List Value) × (joined_values (used_values c kept xs) (constant_values c.environment c.meaning es) ≡ Some vs)
   request_there environment xs es i k u =
       let a = all_typed xs u in
       let b = constants_typed p c.environment environment c.meaning es i k in
-      (a.0 ++ b.0, ap (λ o. joined o (constant_values c.environment c.meaning es)) a.1 ∙ ap (joined (Some a.0)) b.1)
+      (a.0 ++ b.0, ap (λ o. joined_values o (constant_values c.environment c.meaning es)) a.1 ∙ ap (joined_values (Some a.0)) b.1)
 
 module _ (p : Module) (c : Call) (n : Names) (d : Respond) (given : Given p c n d) (s : Handles) (names : Scope) (kept : Kept) (r : Related c n s names kept) where
-  typed_value_as : (k : ValueType) (e : Option Expression) → LeafFits p c.function k e → LeafTyped c.environment.parts p c.meaning e → (o : Option Value) (st : Standing) → Stands c s names kept k e o st → IsTrue (usable_as c.function e st) → TypedValue c.environment.parts k (used_as c e o)
+  typed_value_as : (k : ValueType) (e : Option Expression) → LeafFits p c.function k e → LeafTyped c.environment.parts p c.meaning e → (o : Option Value) (st : Standing) → Stands c s names kept k e o st → IsTrue (usable_as c.function e st) → TypedValue c.environment.parts k (used_value_as c e o)
   typed_value_as k e l m o (Named x) q u = q.0
   typed_value_as k e l m o Inline q u = used_typed p c given.arguments given.environment k e l m o Inline (λ i. q.1) u
   typed_value_as k e l m o Everywhere q u =
@@ -159,11 +159,11 @@ module _ (p : Module) (c : Call) (n : Names) (d : Respond) (given : Given p c n 
   typed_value_as k e l m o Barred q u =
       used_typed p c given.arguments given.environment k e l m o Barred (λ i. absurd (true≢false (sym i))) u
 
-  pub typed_value : (h : ℕ) → IsTrue (usable c.function s h) → TypedValue c.environment.parts (handle_type c.function h) (used c kept h)
+  pub typed_value : (h : ℕ) → IsTrue (usable c.function s h) → TypedValue c.environment.parts (handle_type c.function h) (used_value c kept h)
   typed_value h u =
       typed_value_as (handle_type c.function h) (expression_of c.function h) (given.leaves h) (given.typed.constants h) (kept h) (s h) (r.standing h) u
 
-  pub values_here : (xs : List ℕ) → IsTrue (usable_all c.function s xs) → (vs : List Value) × (used_all c kept xs ≡ Some vs) × IsTrue (has_types c.environment.parts (handle_types c.function xs) vs)
+  pub values_here : (xs : List ℕ) → IsTrue (usable_all c.function s xs) → (vs : List Value) × (used_values c kept xs ≡ Some vs) × IsTrue (has_types c.environment.parts (handle_types c.function xs) vs)
   values_here xs u = all_typed p c s kept typed_value xs u
 
   -- no variable hides a word of the function
@@ -175,7 +175,7 @@ module _ (p : Module) (c : Call) (n : Names) (d : Respond) (given : Given p c n 
   constant_here i lt =
       r.fixed (ConstantName i) (subst (λ k. i < k) (sym (has_types_length c.environment.parts p.constant_types c.environment.constants given.environment.constants)) lt)
 
-  operator_here : (w : Bytes) → OperatesBy p (naming c n) w → (os : Option (List Value)) (t : List Event) → as_value (unless (names w) t (responded (words c d) w (reach os t))) ≡ denoted (applied c.meaning (Spelled w) os) t
+  operator_here : (w : Bytes) → OperatesBy p (naming c n) w → (os : Option (List Value)) (t : List Event) → as_value (unless (names w) t (word_answer (words c d) w (reach os t))) ≡ denoted (operator_value c.meaning (Spelled w) os) t
   operator_here w o = applied_reached p c n d given.responds w o (names w) (free w o.1.1)
 
   constant_gives : (e : ConstantTree) → ConstantWords p (naming c n) e → ConstantInRange p e → (t : List Event) → evaluate (words c d) (constant_form n.outer e) names t ≡ denoted (constant_value c.environment c.meaning e) t
@@ -186,28 +186,28 @@ module _ (p : Module) (c : Call) (n : Names) (d : Respond) (given : Given p c n 
   constants_give =
       trees_give (words c d) names n.outer (slice_get c.environment.constants) (λ i. i < length p.constant_types) constant_here (OperatesBy p (naming c n)) operator_here
 
-  joined_none : (o : Option (List Value)) → joined (Some []) o ≡ o
+  joined_none : (o : Option (List Value)) → joined_values (Some []) o ≡ o
   joined_none None = refl
   joined_none (Some vs) = refl
 
-  joined_also : (o : Option Value) (os us : Option (List Value)) → also o (joined os us) ≡ joined (also o os) us
+  joined_also : (o : Option Value) (os us : Option (List Value)) → also o (joined_values os us) ≡ joined_values (also o os) us
   joined_also None os us = refl
   joined_also (Some v) None us = refl
   joined_also (Some v) (Some vs) None = refl
   joined_also (Some v) (Some vs) (Some us) = refl
 
   -- a request's operands, and the constants behind them
-  pub request_forms_give : (operand : ℕ → Plain) (xs : List ℕ) (es : ConstantTrees) → ConstantsWords p (naming c n) es → ConstantsInRange p es → AllMean c d names kept operand xs → (t : List Event) → evaluate_all (words c d) (value_forms_then operand xs (constant_forms n.outer es)) names t ≡ reach (joined (used_all c kept xs) (constant_values c.environment c.meaning es)) t
+  pub request_forms_give : (operand : ℕ → Plain) (xs : List ℕ) (es : ConstantTrees) → ConstantsWords p (naming c n) es → ConstantsInRange p es → AllMean c d names kept operand xs → (t : List Event) → evaluate_all (words c d) (value_forms_then operand xs (constant_forms n.outer es)) names t ≡ reach (joined_values (used_values c kept xs) (constant_values c.environment c.meaning es)) t
   request_forms_give operand [] es w i m t =
       constants_give es w i t ∙ ap (λ o. reach o t) (sym (joined_none (constant_values c.environment c.meaning es)))
   request_forms_give operand (x ∷ xs) es w i m t =
       let rest = evaluate_all (words c d) (value_forms_then operand xs (constant_forms n.outer es)) names in
       let us = constant_values c.environment c.meaning es in
-      ap (λ r. followed_by r rest) (value_form_gives c d names (operand x) (used c kept x) m.0 t)
-      ∙ followed_reached (used c kept x) (joined (used_all c kept xs) us) t rest (request_forms_give operand xs es w i m.1)
-      ∙ ap (λ o. reach o t) (joined_also (used c kept x) (used_all c kept xs) us)
+      ap (λ r. followed_by r rest) (value_form_gives c d names (operand x) (used_value c kept x) m.0 t)
+      ∙ followed_reached (used_value c kept x) (joined_values (used_values c kept xs) us) t rest (request_forms_give operand xs es w i m.1)
+      ∙ ap (λ o. reach o t) (joined_also (used_value c kept x) (used_values c kept xs) us)
 
-  pub request_values : (xs : List ℕ) (es : ConstantTrees) → ConstantsInRange p es → ConstantsTyped c.environment.parts p c.meaning es → IsTrue (usable_all c.function s xs) → (vs : List Value) × (joined (used_all c kept xs) (constant_values c.environment c.meaning es) ≡ Some vs)
+  pub request_values : (xs : List ℕ) (es : ConstantTrees) → ConstantsInRange p es → ConstantsTyped c.environment.parts p c.meaning es → IsTrue (usable_all c.function s xs) → (vs : List Value) × (joined_values (used_values c kept xs) (constant_values c.environment c.meaning es) ≡ Some vs)
   request_values xs es i k u = request_there p c s kept typed_value given.environment xs es i k u
 
   argument_means : (i : ℕ) → IsTrue (nat_lt i (argument_count c.function)) → Means c d names (AsValue (Name (n.argument i))) (slice_get c.arguments i)
@@ -239,13 +239,13 @@ module _ (p : Module) (c : Call) (n : Names) (d : Respond) (given : Given p c n 
           subst (λ o. Means c d names (global_form k (Name (n.outer.global i))) (global_value i o)) (sym e) (global_as_means k i g (r.fixed (GlobalName i) here ∙ ap (global_as i) e) (ap (λ k. global_has_type c.environment.parts k g) q ∙ h))
 
   module _ (operand : ℕ → Plain) where
-    operator_means : (w : Bytes) (xs : List ℕ) → WordFits p (naming c n) (Some (Operator w xs)) → (k : ValueType) (o : Option Value) → o ≡ computed c kept (Some (Operator w xs)) → AllMean c d names kept operand xs → Means c d names (own_form (naming c n) operand k (Some (Operator w xs))) o
+    operator_means : (w : Bytes) (xs : List ℕ) → WordFits p (naming c n) (Some (Operator w xs)) → (k : ValueType) (o : Option Value) → o ≡ computed_value c kept (Some (Operator w xs)) → AllMean c d names kept operand xs → Means c d names (own_form (naming c n) operand k (Some (Operator w xs))) o
     operator_means w xs f k o e m t =
-        ap (λ q. as_value (unless (names w) t (responded (words c d) w q))) (value_forms_give c d names kept operand xs m t)
-        ∙ applied_reached p c n d given.responds w f (names w) (free w f.1.1) (used_all c kept xs) t
-        ∙ ap (λ o. denoted o t) (applied_gathered (used_all c kept xs) ∙ sym e)
+        ap (λ q. as_value (unless (names w) t (word_answer (words c d) w q))) (value_forms_give c d names kept operand xs m t)
+        ∙ applied_reached p c n d given.responds w f (names w) (free w f.1.1) (used_values c kept xs) t
+        ∙ ap (λ o. denoted o t) (applied_gathered (used_values c kept xs) ∙ sym e)
       where
-        applied_gathered : (os : Option (List Value)) → applied c.meaning (Spelled w) os ≡ gathered c.meaning (Some (Operator w xs)) os
+        applied_gathered : (os : Option (List Value)) → operator_value c.meaning (Spelled w) os ≡ gathered_value c.meaning (Some (Operator w xs)) os
         applied_gathered None = refl
         applied_gathered (Some vs) = refl
 
@@ -253,44 +253,44 @@ module _ (p : Module) (c : Call) (n : Names) (d : Respond) (given : Given p c n 
     at_value : (q : Plain) (o o' : Option Value) → o ≡ o' → Means c d names q o → Means c d names q o'
     at_value q o o' e m = subst (λ o. Means c d names q o) e m
 
-    base_typed : (b : ℕ) (x : Value) → IsTrue (usable c.function s b) → used c kept b ≡ Some x → IsTrue (has_type c.environment.parts (handle_type c.function b) x)
+    base_typed : (b : ℕ) (x : Value) → IsTrue (usable c.function s b) → used_value c kept b ≡ Some x → IsTrue (has_type c.environment.parts (handle_type c.function b) x)
     base_typed b x u e =
         let z = typed_value b u in
         subst (λ x. IsTrue (has_type c.environment.parts (handle_type c.function b) x)) (same_Some z.0 x (sym z.1 ∙ e)) z.2
 
-    index_there : (b i : ℕ) (k : ValueType) (o : Option Value) (y : ValueType) → TypedValue c.environment.parts y o → o ≡ computed c kept (Some (Access b i)) → IsTrue (usable c.function s b) → AllMean c d names kept operand (b ∷ i ∷ []) → Means c d names (own_form (naming c n) operand k (Some (Access b i))) o
+    index_there : (b i : ℕ) (k : ValueType) (o : Option Value) (y : ValueType) → TypedValue c.environment.parts y o → o ≡ computed_value c kept (Some (Access b i)) → IsTrue (usable c.function s b) → AllMean c d names kept operand (b ∷ i ∷ []) → Means c d names (own_form (naming c n) operand k (Some (Access b i))) o
     index_there b i k o y v e u m =
-        go (two_there c.meaning (Some (Access b i)) (used c kept b) (used c kept i) v.0 (sym e ∙ v.1))
+        go (two_there c.meaning (Some (Access b i)) (used_value c kept b) (used_value c kept i) v.0 (sym e ∙ v.1))
       where
-        go : TwoOf c.meaning (Some (Access b i)) (used c kept b) (used c kept i) v.0 → Means c d names (own_form (naming c n) operand k (Some (Access b i))) o
+        go : TwoOf c.meaning (Some (Access b i)) (used_value c kept b) (used_value c kept i) v.0 → Means c d names (own_form (naming c n) operand k (Some (Access b i))) o
         go (two_of x j eb ei ev) =
-            at_value (own_form (naming c n) operand k (Some (Access b i))) (Some v.0) o (sym v.1) (access_means c d names (handle_type c.function b) (operand b) (operand i) x j v.0 (at_value (operand b) (used c kept b) (Some x) eb m.0) (at_value (operand i) (used c kept i) (Some j) ei m.1.0) (base_typed b x u eb) ev)
+            at_value (own_form (naming c n) operand k (Some (Access b i))) (Some v.0) o (sym v.1) (access_means c d names (handle_type c.function b) (operand b) (operand i) x j v.0 (at_value (operand b) (used_value c kept b) (Some x) eb m.0) (at_value (operand i) (used_value c kept i) (Some j) ei m.1.0) (base_typed b x u eb) ev)
 
-    part_there : (x : Selector) (b : ℕ) (k : ValueType) (o : Option Value) (y : ValueType) → TypedValue c.environment.parts y o → o ≡ computed c kept (Some (AccessIndex x b)) → IsTrue (usable c.function s b) → AllMean c d names kept operand (b ∷ []) → Means c d names (own_form (naming c n) operand k (Some (AccessIndex x b))) o
-    part_there x b k o y v e u m = go (one_there c.meaning (Some (AccessIndex x b)) (used c kept b) v.0 (sym e ∙ v.1))
+    part_there : (x : Selector) (b : ℕ) (k : ValueType) (o : Option Value) (y : ValueType) → TypedValue c.environment.parts y o → o ≡ computed_value c kept (Some (AccessIndex x b)) → IsTrue (usable c.function s b) → AllMean c d names kept operand (b ∷ []) → Means c d names (own_form (naming c n) operand k (Some (AccessIndex x b))) o
+    part_there x b k o y v e u m = go (one_there c.meaning (Some (AccessIndex x b)) (used_value c kept b) v.0 (sym e ∙ v.1))
       where
-        go : OneOf c.meaning (Some (AccessIndex x b)) (used c kept b) v.0 → Means c d names (own_form (naming c n) operand k (Some (AccessIndex x b))) o
+        go : OneOf c.meaning (Some (AccessIndex x b)) (used_value c kept b) v.0 → Means c d names (own_form (naming c n) operand k (Some (AccessIndex x b))) o
         go (one_of z eb ev) =
-            at_value (own_form (naming c n) operand k (Some (AccessIndex x b))) (Some v.0) o (sym v.1) (part_means c d names (handle_type c.function b) x (operand b) z v.0 (at_value (operand b) (used c kept b) (Some z) eb m.0) (base_typed b z u eb) ev)
+            at_value (own_form (naming c n) operand k (Some (AccessIndex x b))) (Some v.0) o (sym v.1) (part_means c d names (handle_type c.function b) x (operand b) z v.0 (at_value (operand b) (used_value c kept b) (Some z) eb m.0) (base_typed b z u eb) ev)
 
-    swizzle_there : (letters : Bytes) (b : ℕ) (k : ValueType) (o : Option Value) (y : ValueType) → LeafFits p c.function y (Some (Swizzle letters b)) → TypedValue c.environment.parts y o → o ≡ computed c kept (Some (Swizzle letters b)) → IsTrue (usable c.function s b) → AllMean c d names kept operand (b ∷ []) → Means c d names (own_form (naming c n) operand k (Some (Swizzle letters b))) o
+    swizzle_there : (letters : Bytes) (b : ℕ) (k : ValueType) (o : Option Value) (y : ValueType) → LeafFits p c.function y (Some (Swizzle letters b)) → TypedValue c.environment.parts y o → o ≡ computed_value c kept (Some (Swizzle letters b)) → IsTrue (usable c.function s b) → AllMean c d names kept operand (b ∷ []) → Means c d names (own_form (naming c n) operand k (Some (Swizzle letters b))) o
     swizzle_there letters b k o y l v e u m =
-        go (one_there c.meaning (Some (Swizzle letters b)) (used c kept b) v.0 (sym e ∙ v.1))
+        go (one_there c.meaning (Some (Swizzle letters b)) (used_value c kept b) v.0 (sym e ∙ v.1))
       where
-        go : OneOf c.meaning (Some (Swizzle letters b)) (used c kept b) v.0 → Means c d names (own_form (naming c n) operand k (Some (Swizzle letters b))) o
+        go : OneOf c.meaning (Some (Swizzle letters b)) (used_value c kept b) v.0 → Means c d names (own_form (naming c n) operand k (Some (Swizzle letters b))) o
         go (one_of z eb ev) =
-            at_value (own_form (naming c n) operand k (Some (Swizzle letters b))) (Some v.0) o (sym v.1) (swizzle_means c d names (handle_type c.function b) letters (operand b) z v.0 (at_value (operand b) (used c kept b) (Some z) eb m.0) l (base_typed b z u eb) ev)
+            at_value (own_form (naming c n) operand k (Some (Swizzle letters b))) (Some v.0) o (sym v.1) (swizzle_means c d names (handle_type c.function b) letters (operand b) z v.0 (at_value (operand b) (used_value c kept b) (Some z) eb m.0) l (base_typed b z u eb) ev)
 
-    logical_there : (j : ShortCircuit) (a b : ℕ) (k : ValueType) (o : Option Value) (y : ValueType) → TypedValue c.environment.parts y o → o ≡ computed c kept (Some (Logical j a b)) → AllMean c d names kept operand (a ∷ b ∷ []) → Means c d names (own_form (naming c n) operand k (Some (Logical j a b))) o
+    logical_there : (j : ShortCircuit) (a b : ℕ) (k : ValueType) (o : Option Value) (y : ValueType) → TypedValue c.environment.parts y o → o ≡ computed_value c kept (Some (Logical j a b)) → AllMean c d names kept operand (a ∷ b ∷ []) → Means c d names (own_form (naming c n) operand k (Some (Logical j a b))) o
     logical_there j a b k o y v e m =
-        go (two_there c.meaning (Some (Logical j a b)) (used c kept a) (used c kept b) v.0 (sym e ∙ v.1))
+        go (two_there c.meaning (Some (Logical j a b)) (used_value c kept a) (used_value c kept b) v.0 (sym e ∙ v.1))
       where
-        go : TwoOf c.meaning (Some (Logical j a b)) (used c kept a) (used c kept b) v.0 → Means c d names (own_form (naming c n) operand k (Some (Logical j a b))) o
+        go : TwoOf c.meaning (Some (Logical j a b)) (used_value c kept a) (used_value c kept b) v.0 → Means c d names (own_form (naming c n) operand k (Some (Logical j a b))) o
         go (two_of l z ea eb ev) =
-            at_value (own_form (naming c n) operand k (Some (Logical j a b))) _ o (ev ∙ sym v.1) (logical_means c d names j (operand a) (operand b) l z (at_value (operand a) (used c kept a) (Some l) ea m.0) (at_value (operand b) (used c kept b) (Some z) eb m.1.0))
+            at_value (own_form (naming c n) operand k (Some (Logical j a b))) _ o (ev ∙ sym v.1) (logical_means c d names j (operand a) (operand b) l z (at_value (operand a) (used_value c kept a) (Some l) ea m.0) (at_value (operand b) (used_value c kept b) (Some z) eb m.1.0))
 
     -- an operator over operands in scope
-    pub operator_there : (k y : ValueType) (e : Option Expression) → IsTrue (is_pure e) → WordFits p (naming c n) e → LeafFits p c.function y e → (o : Option Value) → TypedValue c.environment.parts y o → o ≡ computed c kept e → IsTrue (usable_all c.function s (operands_of e)) → AllMean c d names kept operand (operands_of e) → Means c d names (own_form (naming c n) operand k e) o
+    pub operator_there : (k y : ValueType) (e : Option Expression) → IsTrue (is_pure e) → WordFits p (naming c n) e → LeafFits p c.function y e → (o : Option Value) → TypedValue c.environment.parts y o → o ≡ computed_value c kept e → IsTrue (usable_all c.function s (operands_of e)) → AllMean c d names kept operand (operands_of e) → Means c d names (own_form (naming c n) operand k e) o
     operator_there k y (Some (Operator w xs)) i f l o v e u m = operator_means w xs f k o e m
     operator_there k y (Some (Access b x)) i f l o v e u m =
         index_there b x k o y v e (and_left (usable c.function s b) (usable_all c.function s (x ∷ [])) u) m
@@ -303,14 +303,14 @@ module _ (p : Module) (c : Call) (n : Names) (d : Respond) (given : Given p c n 
     operator_there k y None i f l o v e u m = absurd (true≢false (sym i))
 
     -- an expression that isn't reach
-    inline_there : (k : ValueType) (e : Option Expression) → WordFits p (naming c n) e → LeafFits p c.function k e → (o : Option Value) → IsTrue (usable_as c.function e Inline) → IsTrue (usable_all c.function s (operands_of e)) → TypedValue c.environment.parts k o → o ≡ computed c kept e → AllMean c d names kept operand (operands_of e) → Means c d names (own_form (naming c n) operand k e) (used_as c e o)
+    inline_there : (k : ValueType) (e : Option Expression) → WordFits p (naming c n) e → LeafFits p c.function k e → (o : Option Value) → IsTrue (usable_as c.function e Inline) → IsTrue (usable_all c.function s (operands_of e)) → TypedValue c.environment.parts k o → o ≡ computed_value c kept e → AllMean c d names kept operand (operands_of e) → Means c d names (own_form (naming c n) operand k e) (used_value_as c e o)
     inline_there k (Some (Constant e)) f l o u us v q m = λ t. constant_gives e f l.0 t
     inline_there k (Some (Argument i)) f l o u us v q m = argument_means i u
     inline_there k (Some (Local i)) f l o u us v q m = local_means i u
     inline_there k (Some (Global i)) f l o u us v q m = global_means k i l.0 l.1
-    inline_there k (Some (Load x)) f l o u us v q m = absurd (no_value c.environment.parts k o v (q ∙ unwritten c.meaning (Some (Load x)) (λ vs. refl) (used_all c kept (x ∷ []))))
-    inline_there k (Some (Request a w xs es)) f l o u us v q m = absurd (no_value c.environment.parts k o v (q ∙ unwritten c.meaning (Some (Request a w xs es)) (λ vs. refl) (used_all c kept xs)))
-    inline_there k (Some Result) f l o u us v q m = absurd (no_value c.environment.parts k o v (q ∙ unwritten c.meaning (Some Result) (λ vs. refl) (used_all c kept [])))
+    inline_there k (Some (Load x)) f l o u us v q m = absurd (no_value c.environment.parts k o v (q ∙ unwritten c.meaning (Some (Load x)) (λ vs. refl) (used_values c kept (x ∷ []))))
+    inline_there k (Some (Request a w xs es)) f l o u us v q m = absurd (no_value c.environment.parts k o v (q ∙ unwritten c.meaning (Some (Request a w xs es)) (λ vs. refl) (used_values c kept xs)))
+    inline_there k (Some Result) f l o u us v q m = absurd (no_value c.environment.parts k o v (q ∙ unwritten c.meaning (Some Result) (λ vs. refl) (used_values c kept [])))
     inline_there k (Some (Operator w xs)) f l o u us v q m = operator_there k k (Some (Operator w xs)) refl f l o v q us m
     inline_there k (Some (Access b i)) f l o u us v q m = operator_there k k (Some (Access b i)) refl f l o v q us m
     inline_there k (Some (AccessIndex x b)) f l o u us v q m = operator_there k k (Some (AccessIndex x b)) refl f l o v q us m
@@ -319,7 +319,7 @@ module _ (p : Module) (c : Call) (n : Names) (d : Respond) (given : Given p c n 
     inline_there k None f l o u us v q m = absurd (true≢false (sym u))
 
     -- a leaf, which is in scope everywhere
-    leaf_there : (k : ValueType) (e : Option Expression) → WordFits p (naming c n) e → LeafFits p c.function k e → (o : Option Value) → IsTrue (usable_as c.function e Absent) → Means c d names (own_form (naming c n) operand k e) (used_as c e o)
+    leaf_there : (k : ValueType) (e : Option Expression) → WordFits p (naming c n) e → LeafFits p c.function k e → (o : Option Value) → IsTrue (usable_as c.function e Absent) → Means c d names (own_form (naming c n) operand k e) (used_value_as c e o)
     leaf_there k (Some (Constant e)) f l o u = λ t. constant_gives e f l.0 t
     leaf_there k (Some (Argument i)) f l o u = argument_means i u
     leaf_there k (Some (Local i)) f l o u = local_means i u
@@ -343,19 +343,19 @@ module _ (p : Module) (c : Call) (n : Names) (d : Respond) (given : Given p c n 
     usable_barred None u = u
     usable_barred (Some _) u = u
 
-    own_means : (k : ValueType) (e : Option Expression) → WordFits p (naming c n) e → LeafFits p c.function k e → (o : Option Value) (st : Standing) → Stands c s names kept k e o st → IsTrue (usable_as c.function e st) → (IsTrue (usable_all c.function s (operands_of e)) → AllMean c d names kept operand (operands_of e)) → Means c d names (standing_form st (own_form (naming c n) operand k e)) (used_as c e o)
+    own_means : (k : ValueType) (e : Option Expression) → WordFits p (naming c n) e → LeafFits p c.function k e → (o : Option Value) (st : Standing) → Stands c s names kept k e o st → IsTrue (usable_as c.function e st) → (IsTrue (usable_all c.function s (operands_of e)) → AllMean c d names kept operand (operands_of e)) → Means c d names (standing_form st (own_form (naming c n) operand k e)) (used_value_as c e o)
     own_means k e w l o (Named x) q u m = λ t. ap (λ z. reach z t) q.1
     own_means k e w l o Inline q u m = inline_there k e w l o u q.0 q.1 q.2 (m q.0)
     own_means k e w l o Everywhere q u m = inline_there k e w l o (usable_inline e Everywhere u) q.0 q.1 q.2 (m q.0)
     own_means k e w l o Absent q u m = leaf_there k e w l o u
     own_means k e w l o Barred q u m = leaf_there k e w l o (usable_barred e u)
 
-  all_below : (bound : ℕ) (h : ℕ) → h ≤ bound → ((x : ℕ) → x < bound → IsTrue (usable c.function s x) → Means c d names (written_below (naming c n) s bound x) (used c kept x)) → (xs : List ℕ) → AllBelow h xs → IsTrue (usable_all c.function s xs) → AllMean c d names kept (written_below (naming c n) s bound) xs
+  all_below : (bound : ℕ) (h : ℕ) → h ≤ bound → ((x : ℕ) → x < bound → IsTrue (usable c.function s x) → Means c d names (written_below (naming c n) s bound x) (used_value c kept x)) → (xs : List ℕ) → AllBelow h xs → IsTrue (usable_all c.function s xs) → AllMean c d names kept (written_below (naming c n) s bound) xs
   all_below bound h le f [] b u = tt
   all_below bound h le f (x ∷ xs) b u =
       (f x (omega (arith, b.0)) (and_left (usable c.function s x) (usable_all c.function s xs) u), all_below bound h le f xs b.1 (and_right (usable c.function s x) (usable_all c.function s xs) u))
 
-  written_below_means : (bound : ℕ) (h : ℕ) → h < bound → IsTrue (usable c.function s h) → Means c d names (written_below (naming c n) s bound h) (used c kept h)
+  written_below_means : (bound : ℕ) (h : ℕ) → h < bound → IsTrue (usable c.function s h) → Means c d names (written_below (naming c n) s bound h) (used_value c kept h)
   written_below_means zero h lt u = absurd (omega arith)
   written_below_means (suc bound) h lt u =
       own_means (written_below (naming c n) s bound) (handle_type c.function h) (expression_of c.function h) (given.words h) (given.leaves h) (kept h) (s h) (r.standing h) u (all_below bound h (omega arith) (written_below_means bound) (operands_of (expression_of c.function h)) (given.ordered h))
@@ -368,7 +368,7 @@ module _ (p : Module) (c : Call) (n : Names) (d : Respond) (given : Given p c n 
       go (Some x) e u = slice_get_within c.function.expressions h x e
 
   -- a handle in scope, wherever it is written
-  pub written_means : (h : ℕ) → IsTrue (usable c.function s h) → Means c d names (written (naming c n) s h) (used c kept h)
+  pub written_means : (h : ℕ) → IsTrue (usable c.function s h) → Means c d names (written (naming c n) s h) (used_value c kept h)
   written_means h u = written_below_means (length c.function.expressions) h (usable_within h u) u
 
   pub all_here : (xs : List ℕ) → IsTrue (usable_all c.function s xs) → AllMean c d names kept (written (naming c n) s) xs
@@ -376,8 +376,8 @@ module _ (p : Module) (c : Call) (n : Names) (d : Respond) (given : Given p c n 
   all_here (x ∷ xs) u =
       (written_means x (and_left (usable c.function s x) (usable_all c.function s xs) u), all_here xs (and_right (usable c.function s x) (usable_all c.function s xs) u))
 
-  pub value_here : (h : ℕ) → IsTrue (usable c.function s h) → (t : List Event) → value_of (words c d) (value_form (written (naming c n) s h)) names t ≡ reach (used c kept h) t
-  value_here h u = value_form_gives c d names (written (naming c n) s h) (used c kept h) (written_means h u)
+  pub value_here : (h : ℕ) → IsTrue (usable c.function s h) → (t : List Event) → value_of (words c d) (value_form (written (naming c n) s h)) names t ≡ reach (used_value c kept h) t
+  value_here h u = value_form_gives c d names (written (naming c n) s h) (used_value c kept h) (written_means h u)
 
-  pub place_here : (h : ℕ) → IsTrue (usable c.function s h) → (t : List Event) → evaluate (words c d) (place_form (written (naming c n) s h)) names t ≡ placed (used c kept h) t
-  place_here h u = place_form_gives c d names (written (naming c n) s h) (used c kept h) (written_means h u)
+  pub place_here : (h : ℕ) → IsTrue (usable c.function s h) → (t : List Event) → evaluate (words c d) (place_form (written (naming c n) s h)) names t ≡ placed (used_value c kept h) t
+  place_here h u = place_form_gives c d names (written (naming c n) s h) (used_value c kept h) (written_means h u)

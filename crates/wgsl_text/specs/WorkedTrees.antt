@@ -1,0 +1,133 @@
+-- Short words for worked trees, and what their text is.
+--
+-- Throughout, w is a word, t a type, e an expression, s a statement or an address space, n a
+-- number, f a function, a an attribute or a space, m an access, and i an interpolation.
+use Prim.Native.String.{String}
+use Rattle.std.specs.Prelude.{◌≡◌, ℕ, false, List, [], ◌∷◌, ◌++◌, codes, Option}
+use Rattle.wgsl_text.specs.Token.{SuffixI, SuffixU}
+use Rattle.wgsl_text.specs.Tree.{Suffixed, TypeSpecifier, Named, Template, TypeParts, NoParts}
+use Rattle.wgsl_text.specs.Tree.{TypePart, SizePart, Expression, Constant, Name, Call, Member}
+use Rattle.wgsl_text.specs.Tree.{Arguments, NoArguments, Argument, Let, TypedLet, Statement}
+use Rattle.wgsl_text.specs.Tree.{Statements, NoStatements, Then, Worded, Interpolated, Attribute}
+use Rattle.wgsl_text.specs.Tree.{WordedAttribute, Parameter, Result, ResultOf, Local, Function}
+use Rattle.wgsl_text.specs.Tree.{EntryPoint, StructMember, Struct, NamedConstant, Override, Space}
+use Rattle.wgsl_text.specs.Tree.{Global, SpaceAlone, SpaceAndAccess, Program, no_declarations}
+use Rattle.wgsl_text.specs.GrammarOfLines.{IsProgram}
+use Rattle.wgsl_text.specs.Reading.{layout}
+
+-- The tree is a program, and these bytes are its layout.
+pub record IsText (program : Program) (bytes : List ℕ) : Type 0 where
+  pub form : IsProgram program
+  pub text : layout program ≡ bytes
+
+-- lines, each with its end
+abbrev pub lines : List String → List ℕ
+lines [] = []
+lines (line ∷ more) = codes line ++ (codes "\n" ++ lines more)
+
+-- short words for trees
+abbrev pub named : String → TypeSpecifier
+named w = Named (codes w)
+
+abbrev pub parts : List TypeSpecifier → TypeParts
+parts [] = NoParts
+parts (t ∷ more) = TypePart t (parts more)
+
+abbrev pub template : String → List TypeSpecifier → TypeSpecifier
+template w list = Template (codes w) (parts list)
+
+abbrev pub named_parts : List String → TypeParts
+named_parts [] = NoParts
+named_parts (w ∷ more) = TypePart (named w) (named_parts more)
+
+abbrev pub template_of : String → List String → TypeSpecifier
+template_of w words = Template (codes w) (named_parts words)
+
+abbrev pub sized : String → TypeSpecifier → ℕ → TypeSpecifier
+sized w t n = Template (codes w) (TypePart t (SizePart n NoParts))
+
+abbrev pub name : String → Expression
+name w = Name (codes w)
+
+abbrev pub names : List String → Arguments
+names [] = NoArguments
+names (w ∷ more) = Argument (name w) (names more)
+
+abbrev pub integer : ℕ → Expression
+integer n = Constant (Suffixed false n SuffixI)
+
+abbrev pub unsigned : ℕ → Expression
+unsigned n = Constant (Suffixed false n SuffixU)
+
+abbrev pub call : String → Arguments → Expression
+call w arguments = Call (Named (codes w)) arguments
+
+abbrev pub member_of : Expression → String → Expression
+member_of e w = Member e (codes w)
+
+abbrev pub bound : String → Expression → Statement
+bound w e = Let (codes w) e
+
+abbrev pub typed : String → TypeSpecifier → Expression → Statement
+typed w t e = TypedLet (codes w) t e
+
+abbrev pub statements : List Statement → Statements
+statements [] = NoStatements
+statements (s ∷ more) = Then s (statements more)
+
+abbrev pub parameter : String → TypeSpecifier → Parameter
+parameter w t = record { attributes = []; name = codes w; type = t }
+
+abbrev pub bound_parameter : List Attribute → String → TypeSpecifier → Parameter
+bound_parameter attributes w t = record { attributes = attributes; name = codes w; type = t }
+
+abbrev pub gives : String → Result
+gives w = ResultOf [] (named w)
+
+abbrev pub local : String → TypeSpecifier → Option Expression → Local
+local w t value = record { name = codes w; type = t; value = value }
+
+abbrev pub function : String → List Parameter → Result → List Local → List Statement → Function
+function w parameters result locals body =
+    record {
+      name = codes w;
+      parameters = parameters;
+      result = result;
+      locals = locals;
+      body = statements body;
+    }
+
+abbrev pub worded : WordedAttribute → String → Attribute
+worded a w = Worded a (codes w)
+
+abbrev pub interpolated : String → String → Attribute
+interpolated i s = Interpolated (codes i) (codes s)
+
+abbrev pub member : List Attribute → String → TypeSpecifier → StructMember
+member attributes w t = record { attributes = attributes; name = codes w; type = t }
+
+abbrev pub struct : String → List StructMember → Struct
+struct w members = record { name = codes w; members = members }
+
+abbrev pub constant : String → TypeSpecifier → Expression → NamedConstant
+constant w t e = record { name = codes w; type = t; value = e }
+
+abbrev pub override : List Attribute → String → TypeSpecifier → Option Expression → Override
+override attributes w t value =
+    record { attributes = attributes; name = codes w; type = t; value = value }
+
+abbrev pub space : String → Space
+space a = SpaceAlone (codes a)
+
+abbrev pub space_and_access : String → String → Space
+space_and_access a m = SpaceAndAccess (codes a) (codes m)
+
+abbrev pub global : List Attribute → Space → String → TypeSpecifier → Option Expression → Global
+global attributes s w t value =
+    record { attributes = attributes; space = s; name = codes w; type = t; value = value }
+
+abbrev pub entry_point : List Attribute → Function → EntryPoint
+entry_point stage f = record { stage = stage; function = f }
+
+abbrev pub of_functions : List Function → Program
+of_functions functions = record no_declarations { functions = functions }
