@@ -6,9 +6,10 @@ ghost use Rattle.item_names.specs.Members.{PutsName, PutsNoName, HasNamedMembers
 ghost use Rattle.item_names.specs.Refusal.{IsRefusalOf, IsResetRefusal, RefusesItems, RefusesModule, SomeNameIsFull, SomeKeyIsFull, KeysRunOut};
 ghost use Rattle.item_names.specs.declared.error.NamerError.TheVariants.{KeyFull};
 ghost use Rattle.name_keys.specs.Keys.{same_key, names_in};
-ghost use Rattle.item_names.specs.Reset.{is_external_inner, is_external, is_member, labelled_members, labelled_type, labelled_types, labelled_argument, labelled_arguments, labelled_locals, labelled_function, labelled_functions, labelled_entry_arguments, labelled_entry_locals, labelled_entry_point, labelled_entry_points, labelled_global, labelled_globals, labelled_declarations, value_label, labelled_constants, labelled_overrides, labelled_values, labelled_items, type_names_in, key_fits, NamesModule, HasNamedItems, PutsBeginning, NamesItems};
+ghost use Rattle.item_names.specs.Reset.{is_external_inner, is_external, is_member, labelled_members, labelled_types, labelled_argument, labelled_arguments, labelled_locals, labelled_function, labelled_functions, labelled_entry_arguments, labelled_entry_locals, labelled_entry_point, labelled_entry_points, labelled_global, labelled_globals, labelled_declarations, value_label, labelled_constants, labelled_overrides, labelled_values, labelled_items, type_names_in, key_fits, NamesModule, HasNamedItems, PutsBeginning, NamesItems};
+ghost use Rattle.naga_names.specs.Outputs.{words_in, labelled_type_by};
 
-use crate::namer::fallback::{label_or, type_label, value_label};
+use crate::namer::fallback::{label_or, output_words, type_label, value_label};
 use crate::namer::uses::Uses;
 pub use item_names::NamerError;
 use naga_ir::{
@@ -220,23 +221,24 @@ impl Namer {
         ensures ok { OnOk result (NamesItems self.old (names_in output.old) (labelled_types entry_points.now types.now) self.new (names_in output.new)) }
         ensures err { IfErr result (RefusesItems self.old (names_in output.old) (labelled_types entry_points.now types.now) (names_in output.new)) }
     {
+        let outputs = output_words(self.alloc, entry_points)?;
         for (handle, ty) in types.iter() {
-            self.name_type(entry_points, handle, ty, output)?;
+            self.name_type(&outputs, handle, ty, output)?;
         }
         Ok(())
     }
 
     fn name_type(
         &mut self,
-        entry_points: &[EntryPoint],
+        outputs: &HashMap<usize, &'static str>,
         handle: Handle<Type_>,
         ty: &Type_,
         output: &mut HashMap<NameKey, String>,
     ) -> Result<(), NamerError>
-        ensures ok { OnOk result (NamesItems self.old (names_in output.old) (labelled_type entry_points.now handle ty.now) self.new (names_in output.new)) }
-        ensures err { IfErr result (RefusesItems self.old (names_in output.old) (labelled_type entry_points.now handle ty.now) (names_in output.new)) }
+        ensures ok { OnOk result (NamesItems self.old (names_in output.old) (labelled_type_by (words_in outputs.now) handle ty.now) self.new (names_in output.new)) }
+        ensures err { IfErr result (RefusesItems self.old (names_in output.old) (labelled_type_by (words_in outputs.now) handle ty.now) (names_in output.new)) }
     {
-        let label = type_label(entry_points, handle, ty);
+        let label = type_label(outputs, handle, ty);
         self.name_item(NameKey::Type_(handle), label, output)?;
         match &ty.inner {
             TypeInner::Struct { members, .. } => self.name_members(handle, members, output),

@@ -1,9 +1,10 @@
 //! What an item without a label is labelled.
-ghost use Rattle.std.specs.Prelude.{◌≡◌, ◌++◌, length, unwrap_or, codes, if◌then◌else◌, IfOk, string_bytes};
+ghost use Rattle.std.specs.Prelude.{◌≡◌, ℕ, ◌++◌, length, IfOk, string_bytes};
 ghost use Rattle.std.specs.Option.{option_map};
 ghost use Rattle.item_names.specs.Naming.{label_or};
 ghost use Rattle.name_keys.specs.Keys.{names_in};
-ghost use Rattle.item_names.specs.Reset.{output_word, returns, output_label, is_struct, type_label, type_names_in};
+ghost use Rattle.item_names.specs.Reset.{output_word, output_label, is_struct, type_names_in};
+ghost use Rattle.naga_names.specs.Outputs.{words_in, unnamed_label_by, type_label_by};
 
 use crate::namer::NameKey;
 use naga_ir::{EntryPoint, Handle, ShaderStage, Type_, TypeInner, UniqueArena};
@@ -20,29 +21,31 @@ pub fn label_or<'a>(label: &'a Option<String>, fallback: &'a str) -> &'a str
     }
 }
 
-/// The label of the type; without one, what it is labelled by the entry points that return it.
-pub fn type_label<'a>(entry_points: &[EntryPoint], handle: Handle<Type_>, ty: &'a Type_) -> &'a str
-    ensures { result.now ≡ type_label entry_points.now handle ty.now }
+/// The label of the type; without one, what it is labelled by what entry points give that return it.
+pub fn type_label<'a>(
+    outputs: &HashMap<usize, &'static str>,
+    handle: Handle<Type_>,
+    ty: &'a Type_,
+) -> &'a str
+    ensures { result.now ≡ type_label_by (words_in outputs.now) handle ty.now }
 {
     match &ty.name {
         Some(label) => label.as_str(),
-        None => unnamed_label(entry_points, handle, &ty.inner),
+        None => unnamed_label(outputs, handle, &ty.inner),
     }
 }
 
 fn unnamed_label(
-    entry_points: &[EntryPoint],
+    outputs: &HashMap<usize, &'static str>,
     handle: Handle<Type_>,
     inner: &TypeInner,
 ) -> &'static str
-    ensures { result.now ≡ (if is_struct inner.now then unwrap_or (output_label handle entry_points.now) (codes "type") else codes "type") }
+    ensures { result.now ≡ unnamed_label_by (words_in outputs.now) handle inner.now }
 {
-    if is_struct(inner) {
-        if let Some(label) = output_label(entry_points, handle) {
-            return label;
-        }
+    if !is_struct(inner) {
+        return "type";
     }
-    "type"
+    outputs.get(&handle.index()).copied().unwrap_or("type")
 }
 
 fn is_struct(inner: &TypeInner) -> bool
@@ -51,29 +54,24 @@ fn is_struct(inner: &TypeInner) -> bool
     matches!(inner, TypeInner::Struct { .. })
 }
 
-/// The word for what the last of these entry points gives that returns the type and has such a word.
-fn output_label(entry_points: &[EntryPoint], ty: Handle<Type_>) -> Option<&'static str>
-    ensures { option_map (λ word. word.now) result ≡ output_label ty entry_points.now }
+/// By the index of a type, the word for what the last of these entry points gives that returns it and has
+/// such a word.
+pub fn output_words(
+    alloc: Global,
+    entry_points: &[EntryPoint],
+) -> Result<HashMap<usize, &'static str>, AllocError>
+    ensures { IfOk result (λ words. (t : ℕ) → words_in words t ≡ output_label t entry_points.now) }
 {
-    let mut label = None;
+    let mut words = HashMap::new(alloc);
     for entry_point in entry_points {
-        if !returns(entry_point, ty) {
+        let Some(result) = &entry_point.function.result else {
             continue;
-        }
+        };
         if let Some(word) = output_word(entry_point.stage) {
-            label = Some(word);
+            words.insert(result.ty.index(), word)?;
         }
     }
-    label
-}
-
-fn returns(entry_point: &EntryPoint, ty: Handle<Type_>) -> bool
-    ensures { result ≡ returns ty entry_point.now }
-{
-    match &entry_point.function.result {
-        Some(result) => result.ty.index() == ty.index(),
-        None => false,
-    }
+    Ok(words)
 }
 
 /// The word for what an entry point of this stage returns.
