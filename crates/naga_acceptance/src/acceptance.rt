@@ -10,7 +10,7 @@ ghost use Rattle.accepted_modules.specs.Types.{literal_is_within};
 
 use crate::operations::operators_agree;
 use crate::spelling::{
-    Spelled, are_alike, is_spelled, operator_word, scalar_of, scalar_word, spelled_at,
+    Spelled, are_alike, has_word, is_spelled, operator_word, scalar_of, spelled_at,
     spelled_expression, spelled_literal, spelled_pointee, spelled_pointer_to, spelled_resolution,
 };
 use naga_info::{ExpressionInfo, FunctionInfo, ModuleInfo};
@@ -78,7 +78,7 @@ fn is_scalar_type(ty: &Type_) -> bool
     ensures { result ≡ is_scalar_type ty.now }
 {
     match scalar_of(&ty.inner) {
-        Some(scalar) => scalar_word(scalar).is_some(),
+        Some(scalar) => has_word(scalar),
         None => false,
     }
 }
