@@ -1,16 +1,16 @@
 //! Whether a module and what is known of it fit together.
 
-ghost use Rattle.std.specs.Prelude.{◌≡◌, nat_lt};
+ghost use Rattle.std.specs.Prelude.{◌≡◌, Some, nat_lt, slice_get};
 ghost use Rattle.std.specs.List.{list_all};
 ghost use Rattle.indexmap.specs.IndexMap.{values};
 ghost use Rattle.naga_ir.specs.StatementViews.{tree_of};
 ghost use Rattle.accepted_modules.specs.Accepted.{block_fits, declares_functions, expected_type, expression_fits, is_within, expressions_fit, function_fits, functions_fit, is_accepted, is_below, is_within, is_scalar_type, local_fits, names_fit, operand_fits, return_fits, signature_fits, special_types_fit, statement_fits, value_fits};
 ghost use Rattle.naga_acceptance.specs.Spelled.{spelled};
-ghost use Rattle.accepted_modules.specs.Types.{literal_is_within};
+ghost use Rattle.accepted_modules.specs.Types.{literal_is_within, spelling_at};
 
 use crate::operations::operators_agree;
 use crate::spelling::{
-    Spelled, are_alike, is_spelled, operator_word, scalar_of, scalar_word, spelled_at,
+    Spelled, are_alike, has_word, is_spelled, operator_word, scalar_of, spelled_at,
     spelled_expression, spelled_literal, spelled_pointee, spelled_pointer_to, spelled_resolution,
 };
 use naga_info::{ExpressionInfo, FunctionInfo, ModuleInfo};
@@ -78,7 +78,7 @@ fn is_scalar_type(ty: &Type_) -> bool
     ensures { result ≡ is_scalar_type ty.now }
 {
     match scalar_of(&ty.inner) {
-        Some(scalar) => scalar_word(scalar).is_some(),
+        Some(scalar) => has_word(scalar),
         None => false,
     }
 }
@@ -186,7 +186,7 @@ fn expressions_fit(
     true
 }
 
-/// Whether what is known of the expression with the handle `here` is its type.
+/// Whether what is known of the expression with the handle `here`, which is `info`, is its type.
 fn expression_fits(
     types: &UniqueArena<Type_>,
     function: &Function,
@@ -195,12 +195,12 @@ fn expression_fits(
     expression: &Expression,
     info: &ExpressionInfo,
 ) -> bool
+    requires { slice_get infos.now here ≡ Some info.now }
     ensures { result ≡ expression_fits types.now function.now infos.now here expression.now info.now }
 {
-    are_alike(
-        spelled_resolution(types, &info.ty),
-        expected_type(types, function, infos, here, expression),
-    ) && is_within(expression)
+    let known = spelled_resolution(types, &info.ty);
+    let expected = expected_type(types, function, infos, here, expression, known);
+    are_alike(known, expected) && is_within(expression)
 }
 
 /// Whether the value of a literal is one of its type, as it always is.
@@ -235,14 +235,16 @@ fn operand_fits(
 }
 
 /// The spelling of the type that the expression with the handle `here` has by what it stands for.
-/// That of an operator between two operands is its own.
+/// That of an operator between two operands is its own, which is `known`.
 fn expected_type(
     types: &UniqueArena<Type_>,
     function: &Function,
     infos: &[ExpressionInfo],
     here: Handle<Expression>,
     expression: &Expression,
+    known: Spelled,
 ) -> Spelled
+    requires { spelled known ≡ spelling_at types.now infos.now here }
     ensures { spelled result ≡ expected_type types.now function.now infos.now here expression.now }
 {
     match expression {
@@ -270,7 +272,7 @@ fn expected_type(
                 && operand_fits(types, infos, here, *left)
                 && operand_fits(types, infos, here, *right)
             {
-                spelled_expression(types, infos, here)
+                known
             } else {
                 Spelled::Nothing
             }

@@ -13,8 +13,7 @@ ghost use Rattle.accepted_modules.specs.Types.{operator_word, scalar_word, spell
 use crate::spelling::{Spelled, spelled_expression};
 use naga_info::{ExpressionInfo, FunctionInfo};
 use naga_ir::{
-    Arena, BinaryOperator, Expression, Function, Handle, Place, Scalar, ScalarKind, Type_,
-    UniqueArena,
+    Arena, BinaryOperator, Expression, Function, Handle, Place, Scalar, Type_, UniqueArena,
 };
 
 /// The number of a scalar type's word.
@@ -22,13 +21,18 @@ fn scalar_number(scalar: Scalar) -> Option<usize>
     ensures number { result ≡ option_map type_number (scalar_word scalar) }
     ensures below { IfSome result (λ number. number < 5) }
 {
-    match (scalar.kind, scalar.width) {
-        (ScalarKind::Bool, 1) => Some(0),
-        (ScalarKind::Sint, 4) => Some(1),
-        (ScalarKind::Uint, 4) => Some(2),
-        (ScalarKind::Sint, 8) => Some(3),
-        (ScalarKind::Uint, 8) => Some(4),
-        _ => None,
+    if scalar == Scalar::I32 {
+        Some(1)
+    } else if scalar == Scalar::U32 {
+        Some(2)
+    } else if scalar == Scalar::BOOL {
+        Some(0)
+    } else if scalar == Scalar::I64 {
+        Some(3)
+    } else if scalar == Scalar::U64 {
+        Some(4)
+    } else {
+        None
     }
 }
 

@@ -8,7 +8,7 @@ ghost use Rattle.accepted_modules.specs.Accepted.{declares_functions, is_scalar_
 ghost use Rattle.accepted_modules.specs.Part.{block_is_written, expression_is_written, function_is_written, is_literal, is_unbound, is_written_so_far, local_is_written, names_nothing, statement_is_written};
 ghost use Rattle.accepted_modules.specs.Types.{literal_word, operator_word};
 
-use crate::spelling::scalar_word;
+use crate::spelling::has_word;
 use naga_ir::{
     Arena, BinaryOperator, Block, Expression, Function, FunctionArgument, Handle, Literal,
     LocalVariable, Module, Statement, Type_, TypeInner, UniqueArena,
@@ -53,7 +53,7 @@ fn is_scalar_type(ty: &Type_) -> bool
     ensures { result ≡ is_scalar_type ty.now }
 {
     match &ty.inner {
-        TypeInner::Scalar(scalar) => scalar_word(*scalar).is_some(),
+        TypeInner::Scalar(scalar) => has_word(*scalar),
         _ => false,
     }
 }

@@ -55,17 +55,26 @@ pub(crate) fn is_spelled(a: Spelled) -> bool
 {
     match a {
         Spelled::Nothing => false,
-        Spelled::Scalar(a) | Spelled::LocalPointer(a) => scalar_word(a).is_some(),
+        Spelled::Scalar(a) | Spelled::LocalPointer(a) => has_word(a),
     }
 }
 
+/// Whether a scalar type has a word.
+pub(crate) fn has_word(scalar: Scalar) -> bool
+    ensures { result ≡ is_some (scalar_word scalar) }
+{
+    match scalar.kind {
+        ScalarKind::Bool => scalar.width == 1,
+        ScalarKind::Sint | ScalarKind::Uint => scalar.width == 4 || scalar.width == 8,
+        _ => false,
+    }
+}
+
+/// Whether both have a word, and the same: scalars of two kinds or of two widths have two words.
 fn have_one_word(a: Scalar, b: Scalar) -> bool
     ensures { result ≡ is_alike (scalar_word a) (scalar_word b) }
 {
-    match (scalar_word(a), scalar_word(b)) {
-        (Some(a), Some(b)) => a == b,
-        _ => false,
-    }
+    a == b && has_word(a)
 }
 
 /// The scalar that a type is, if it is one.
