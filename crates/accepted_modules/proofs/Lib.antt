@@ -1,3 +1,4 @@
 pub mod Accepting
 pub mod Fitting
 pub mod Operating
+pub mod Part

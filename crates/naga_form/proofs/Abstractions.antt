@@ -3,8 +3,11 @@ use Rattle.std.proofs.Common.{[], ◌≡◌, ℕ, suc, Bool, true, false, ◌+�
 use Rattle.std.specs.Prelude.{IsTrue, slice_get, unwrap_or, ◌==◌, if◌then◌else◌, codes}
 use Rattle.std.specs.Option.{option_map, option_map_or, is_some}
 use Rattle.std.proofs.lemmas.Bool.{eqb-true, ltb-true, false≢true}
+use Rattle.std.proofs.lemmas.List.{map-append}
 use Rattle.std.proofs.lemmas.Option.{slice_get-map}
-use Rattle.naga_ir.specs.StatementTree.{BlockTree, no_statements, statement, simple, return, emit, store, StatementTree}
+use Rattle.naga_enumerations.specs.declared.statement.SwitchValue.{SwitchValue}
+use Rattle.naga_enumerations.specs.declared.statement.SwitchValue.TheVariants as label
+use Rattle.naga_ir.specs.StatementTree.{SimpleStatement, emit, store, return, StatementTree, simple, block, branch, switch, loop, BlockTree, no_statements, statement, CaseTrees, no_cases, case}
 use Rattle.naga_ir.specs.declared.expression.Expression as ir
 use Rattle.naga_enumerations.specs.declared.expression.Literal as ir_literal
 use Rattle.naga_enumerations.specs.declared.expression.Literal.TheVariants as literal
@@ -22,16 +25,16 @@ use Rattle.wgsl_text.specs.Token.{GreaterThan, SuffixI, SuffixLi}
 use Rattle.wgsl_text.specs.Tree.{LeastInteger, LeastLong, Suffixed, TypeSpecifier, Named}
 use Rattle.shader_runs.specs.Value.{Whole, ValueType, ShortCircuitAnd, ShortCircuitOr}
 use Rattle.shader_runs.specs.Program.{handle_type, expression_of, binds, from}
-use Rattle.shader_runs.specs.Scope.{Naming, at_start, Standing, Named, Handles, bound_name, given_after, given_by, after_one, after}
-use Rattle.shader_runs.specs.Text.{LiteralOf, before, ReturnLine, Apply, LogicalOf, more, no_more, Let, Assign}
+use Rattle.shader_runs.specs.Scope.{Naming, at_start, Standing, Named, Handles, bound_name, given_after, given_by, given_by_all, after_one, after, after_all}
+use Rattle.shader_runs.specs.Text.{LiteralOf, before, ReturnLine, Apply, LogicalOf, more, no_more, Let, Assign, Braces, IfElse, SwitchOn, LoopOf, group}
 use Rattle.shader_runs.specs.Form.{written_below, names_from, variables_from, form_function, Plain, AsValue, AsPlace, let_if}
-use Rattle.naga_form.specs.Form.{parameters_form, function_form, PlainForm, ValueForm, ReferenceForm, as_value, as_reference, own_plain, own_if, standing_plain, plain_below, plain_form, value_form, let_form, then_if, lets_form, return_line, line_form, lines_form, locals_form}
+use Rattle.naga_form.specs.Form.{parameters_form, function_form, PlainForm, ValueForm, ReferenceForm, as_value, as_reference, own_plain, own_if, standing_plain, plain_below, plain_form, value_form, let_form, then_if, lets_form, return_line, simple_form, loop_form, label_form, labels_form, line_form, lines_form, cases_form, locals_form}
 use Rattle.type_spelling.specs.Contexts.{names_of}
 use Rattle.naga_form.specs.Names.{function_name, argument_name}
 use Rattle.naga_form.specs.Types.{type_form, pointer_to_local, told_type, declared_type, LocalsAreSpelled}
 use Rattle.naga_form.specs.Literals.{literal_form, literal_value, value_read, literal_is_written, LiteralsAreWritten}
-use Rattle.naga_form.specs.Shapes.{expression_shape, statements_shape, function_shape, function_naming, statement_shape}
-use Rattle.naga_form.specs.Abstraction.{expression_read, statements_read, function_read, statement_read, local_pointer_read, variable_read}
+use Rattle.naga_form.specs.Shapes.{expression_shape, label_shape, simple_shape, statements_shape, cases_shape, function_shape, function_naming, statement_shape}
+use Rattle.naga_form.specs.Abstraction.{expression_read, label_read, labels_read, statements_read, cases_read, function_read, statement_read, local_pointer_read, variable_read}
 use Rattle.naga_ir.specs.declared.expression.Expression.TheVariants as expression
 use Rattle.naga_operators.specs.declared.BinaryOperator.{BinaryOperator}
 use Rattle.naga_operators.specs.declared.BinaryOperator.TheVariants as operator
@@ -79,6 +82,29 @@ place_is : (p : PlainForm) → expression_read (as_reference p) ≡ runs.place_f
 place_is (ValueForm e) = refl
 place_is (ReferenceForm e) = refl
 
+-- ---- labels
+label_reads : (value : SwitchValue) → label_read (label_form value) ≡ label_shape value
+label_reads (label.I32 (pos n)) = refl
+label_reads (label.I32 (negsuc n)) = refl
+label_reads (label.U32 n) = refl
+label_reads label.Default = refl
+
+-- a label behind others
+labels_with : (labels : List tree.Label) (value : SwitchValue) → map label_read (labels ++ label_form value ∷ []) ≡ map label_read labels ++ label_shape value ∷ []
+labels_with labels value =
+    map-append label_read labels (label_form value ∷ [])
+    ∙ ap (λ l. map label_read labels ++ l ∷ []) (label_reads value)
+
+labels_read_as : (labels : List tree.Label) (value : SwitchValue) → labels_read (labels_form labels (label_form value)) ≡ map label_read labels ++ label_shape value ∷ []
+labels_read_as [] value = ap (λ l. l ∷ []) (label_reads value)
+labels_read_as (l ∷ ls) value = ap (λ more. label_read l ∷ more) (labels_read_as ls value)
+
+-- a loop
+loop_reads : (body continuing : tree.Statements) (e : Option tree.Expression) → statement_read (loop_form body continuing e) ≡ LoopOf (statements_read body) (statements_read continuing) (option_map expression_read e)
+loop_reads body continuing None = refl
+loop_reads body continuing (Some e) = refl
+
+-- ---- expressions
 module _ (n : Naming) where
   own_reads : (operand : ℕ → PlainForm) (like : ℕ → Plain) → ((x : ℕ) → plain_read (operand x) ≡ like x) → (k : ValueType) (e : ir.Expression) → literal_is_written e ≡ true → plain_read (own_plain n operand e) ≡ runs.own_form n like k (Some (expression_shape e))
   own_reads operand like same k (expression.Literal value) w = ap (λ v. AsValue (LiteralOf v)) (literal_read value w)
@@ -149,17 +175,43 @@ module _ (names : NameMap) (types : List Type_) (g : ℕ) (f : ir_function.Funct
   return_reads s None = refl
   return_reads s (Some h) = ap (λ e. ReturnLine (Some e)) (value_reads s h)
 
-  line_reads : (told : ℕ → Option TypeSpecifier) (k : ℕ) (st : StatementTree) (s : Handles) (rest : tree.Statements) → statements_read (line_form own told f.expressions k st s rest) ≡ runs.form own k (statement_shape st) s (statements_read rest)
-  line_reads told k (simple (emit first end)) s rest = lets_read told k (from first (end - first)) s rest
-  line_reads told k (simple (store pointer value)) s rest = λ i. before (Assign ((place_is (plain_form own f.expressions s pointer) ∙ ap runs.place_form (plain_reads s pointer)) i) (value_reads s value i)) (statements_read rest)
-  line_reads told k (simple (return value)) s rest = ap (λ l. before l (statements_read rest)) (return_reads s value)
-  line_reads told k _ s rest = refl
+  simple_reads : (told : ℕ → Option TypeSpecifier) (k : ℕ) (st : SimpleStatement) (s : Handles) (rest : tree.Statements) → statements_read (simple_form own told f.expressions k st s rest) ≡ runs.form own k (simple_shape st) s (statements_read rest)
+  simple_reads told k (emit first end) s rest = lets_read told k (from first (end - first)) s rest
+  simple_reads told k (store pointer value) s rest = λ i. before (Assign ((place_is (plain_form own f.expressions s pointer) ∙ ap runs.place_form (plain_reads s pointer)) i) (value_reads s value i)) (statements_read rest)
+  simple_reads told k (return value) s rest = ap (λ l. before l (statements_read rest)) (return_reads s value)
+  simple_reads told k _ s rest = refl
 
-  lines_read : (told : ℕ → Option TypeSpecifier) (k : ℕ) (b : BlockTree) (s : Handles) → statements_read (lines_form own told f.expressions k b s) ≡ runs.form_all own k (statements_shape b) s
-  lines_read told k no_statements s = refl
-  lines_read told k (statement st b) s =
-      line_reads told k st s (lines_form own told f.expressions (given_by own.function (statement_shape st) k) b (after own k (statement_shape st) s))
-      ∙ ap (runs.form own k (statement_shape st) s) (lines_read told (given_by own.function (statement_shape st) k) b (after own k (statement_shape st) s))
+  mutual
+    line_reads : (told : ℕ → Option TypeSpecifier) (k : ℕ) (st : StatementTree) (s : Handles) (rest : tree.Statements) → statements_read (line_form own told f.expressions k st s rest) ≡ runs.form own k (statement_shape st) s (statements_read rest)
+    line_reads told k (simple st) s rest = simple_reads told k st s rest
+    line_reads told k (block b) s rest = ap (λ ls. before (Braces ls) (statements_read rest)) (lines_read told k b s)
+    line_reads told k (branch condition accept reject) s rest =
+        let behind = given_by_all own.function (statements_shape accept) k in
+        λ i. before (IfElse (value_reads s condition i) (lines_read told k accept s i) (lines_read told behind reject s i)) (statements_read rest)
+    line_reads told k (switch selector cases) s rest =
+        λ i. before (SwitchOn (value_reads s selector i) (cases_read_as told k [] cases s i)) (statements_read rest)
+    line_reads told k (loop body continuing break_if) s rest =
+        let behind = given_by_all own.function (statements_shape body) k in
+        let inside = after_all own k (statements_shape body) s in
+        let last = after_all own behind (statements_shape continuing) inside in
+        ap (λ l. before l (statements_read rest)) (loop_reads (lines_form own told f.expressions k body s) (lines_form own told f.expressions behind continuing inside) (option_map (value_form own f.expressions last) break_if))
+        ∙ λ i. before (LoopOf (lines_read told k body s i) (lines_read told behind continuing inside i) (value_if_reads last break_if i)) (statements_read rest)
+
+    lines_read : (told : ℕ → Option TypeSpecifier) (k : ℕ) (b : BlockTree) (s : Handles) → statements_read (lines_form own told f.expressions k b s) ≡ runs.form_all own k (statements_shape b) s
+    lines_read told k no_statements s = refl
+    lines_read told k (statement st b) s =
+        line_reads told k st s (lines_form own told f.expressions (given_by own.function (statement_shape st) k) b (after own k (statement_shape st) s))
+        ∙ ap (runs.form own k (statement_shape st) s) (lines_read told (given_by own.function (statement_shape st) k) b (after own k (statement_shape st) s))
+
+    cases_read_as : (told : ℕ → Option TypeSpecifier) (k : ℕ) (labels : List tree.Label) (cs : CaseTrees) (s : Handles) → cases_read (cases_form own told f.expressions k labels cs s) ≡ runs.form_cases own k (map label_read labels) (cases_shape cs) s
+    cases_read_as told k labels no_cases s = refl
+    cases_read_as told k labels (case value body true cs) s =
+        let behind = given_by_all own.function (statements_shape body) k in
+        cases_read_as told behind (labels ++ label_form value ∷ []) cs s
+        ∙ ap (λ ls. runs.form_cases own behind ls (cases_shape cs) s) (labels_with labels value)
+    cases_read_as told k labels (case value body false cs) s =
+        let behind = given_by_all own.function (statements_shape body) k in
+        λ i. group (labels_read_as labels value i) (lines_read told k body s i) (cases_read_as told behind [] cs s i)
 
   -- the declared type of a local tells the spelling of a pointer to it
   pointer_reads : (ty : ℕ) (w : List ℕ) → word_at types ty ≡ Some w → local_pointer_read (type_form (names_of types names) ty) ≡ local_pointer w

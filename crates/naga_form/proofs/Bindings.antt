@@ -1,99 +1,111 @@
 -- The `let`s of what is written are those of the bound handles.
-use Rattle.std.proofs.Common.{◌≡◌, ℕ, ◌+◌, ◌-◌, Bool, true, false, List, [], ◌∷◌, ◌++◌, map, length, Option, Some, None, refl, sym, ap, subst, ◌∙◌, arith}
-use Rattle.std.specs.Prelude.{IsTrue, slice_get, cond, ◌==◌}
-use Rattle.std.specs.List.{list_all, filter}
+use Rattle.std.proofs.Common.{◌≡◌, ℕ, ◌+◌, ◌-◌, Bool, true, false, List, [], ◌∷◌, ◌++◌, map, Option, Some, None, refl, sym, ap, ◌∙◌}
+use Rattle.std.specs.Prelude.{IsTrue, slice_get, cond}
 use Rattle.std.proofs.lemmas.List.{map-append}
-use Rattle.indexmap.specs.IndexMap.{keys}
-use Rattle.naga_ir.specs.StatementTree.{emit, store, return, StatementTree, simple, BlockTree, no_statements, statement}
+use Rattle.naga_ir.specs.StatementTree.{SimpleStatement, emit, return, StatementTree, simple, block, branch, switch, loop, BlockTree, no_statements, statement, CaseTrees, no_cases, case}
+use Rattle.naga_ir.specs.declared.expression.Expression as ir
 use Rattle.naga_ir.specs.declared.module.Function as ir_function
 use Rattle.naga_ir.specs.declared.module.Module.{Module}
+use Rattle.naga_ir.specs.declared.types.Type_.{Type_}
 use Rattle.naga_info.specs.declared.info.ExpressionInfo.{ExpressionInfo}
 use Rattle.naga_info.specs.declared.info.ModuleInfo.{ModuleInfo}
-use Rattle.accepted_modules.specs.Accepted.{is_accepted, function_fits, functions_fit}
-use Rattle.accepted_modules.proofs.Accepting.{accepted_parts}
+use Rattle.accepted_modules.specs.Accepted.{is_accepted}
+use Rattle.name_keys.specs.Keys.{NameMap}
+use Rattle.type_spelling.specs.Contexts.{names_of}
 use Rattle.shader_runs.specs.Program.{binds, from}
-use Rattle.shader_runs.specs.Scope.{Handles, Naming, at_start, bound_name, given_after, given_by, after_one, after}
+use Rattle.shader_runs.specs.Scope.{Handles, Naming, at_start, bound_name, given_after, given_by, given_by_all, after_one, after, after_all}
+use Rattle.shader_runs.specs.Bindings.{text_lets, Binding, emit_bindings, statement_bindings, statements_bindings, cases_bindings}
+use Rattle.shader_runs.proofs.Bindings.{binds_as_meant}
 use Rattle.wgsl_text.specs.Tree.{TypeSpecifier}
 use Rattle.wgsl_text.specs.Tree as tree
-use Rattle.shader_runs.proofs.Update.{and_left, and_right}
-use Rattle.naga_form.proofs.Facts.{further, from_start}
-use Rattle.naga_form.specs.Types.{told_type, type_names}
-use Rattle.naga_form.specs.Names.{module_names, numbered_name}
-use Rattle.naga_form.specs.Shapes.{statement_shape, function_naming}
-use Rattle.naga_form.specs.Form.{as_value, own_if, plain_form, let_form, then_if, lets_form, return_line, line_form, lines_form, functions_form, written_program}
-use Rattle.naga_form.specs.Premises.{nothing_named}
-use Rattle.naga_form.specs.Bindings.{Binding, binding_of, bindings_of, emitted_by, emitted_handles, module_bindings, BindsAs}
-use Rattle.naga_form.proofs.Fits.{not_given}
-use Rattle.naga_form.proofs.Resolutions.{nothing_outside}
+use Rattle.naga_form.specs.Types.{told_type}
+use Rattle.naga_form.specs.Names.{module_names}
+use Rattle.naga_form.specs.Shapes.{simple_shape, statement_shape, statements_shape, cases_shape, function_shapes, program_shape, namings_from, namings, outer_names, function_naming}
+use Rattle.naga_form.specs.Form.{as_value, own_if, plain_form, let_form, then_if, lets_form, return_line, simple_form, loop_form, label_form, line_form, lines_form, cases_form, functions_form, written_program}
+use Rattle.naga_form.specs.Bindings.{statement_annotations, statements_annotations, cases_annotations, module_annotations, BindsAs}
+use Rattle.naga_form.proofs.Runs.{program_reads}
 
-filter_append : {X : Type 0} (test : X → Bool) (xs ys : List X) → filter test (xs ++ ys) ≡ filter test xs ++ filter test ys
-filter_append test [] ys = refl
-filter_append test (x ∷ xs) ys = by (test x) (filter_append test xs ys)
-  where
-    by : (b : Bool) → filter test (xs ++ ys) ≡ filter test xs ++ filter test ys → cond b (x ∷ filter test (xs ++ ys)) (filter test (xs ++ ys)) ≡ cond b (x ∷ filter test xs) (filter test xs) ++ filter test ys
-    by true more = ap (λ zs. x ∷ zs) more
-    by false more = more
+module _ (n : Naming) (told : ℕ → Option TypeSpecifier) (es : List ir.Expression) where
+  -- what the `let`s of bound handles tell
+  abbrev told_of : List Binding → List (Option TypeSpecifier)
+  told_of bs = map (λ b. told b.handle) bs
 
-module _ (m : Module) (g : ℕ) (f : ir_function.Function) (found : slice_get m.functions g ≡ Some f) (es : List ExpressionInfo) (fits : function_fits m.types f es ≡ true) (unnamed : IsTrue (length (keys f.named_expressions) == 0)) where
-  abbrev own : Naming
-  own = function_naming (module_names m) m.types g f es
+  told_both : {us vs : List (Option TypeSpecifier)} (first second : List Binding) → us ≡ told_of first → vs ≡ told_of second → us ++ vs ≡ told_of (first ++ second)
+  told_both first second a b = (λ i. a i ++ b i) ∙ sym (map-append (λ b. told b.handle) first second)
 
-  bound_is : (k h : ℕ) → bound_name own k h ≡ numbered_name h
-  bound_is k h = ap (λ b. cond b [] (numbered_name h)) (not_given m g f found es fits unnamed nothing_outside refl refl h)
+  let_tells : (t : Option TypeSpecifier) (x : List ℕ) (e : tree.Expression) → statement_annotations (let_form t x e) ≡ t ∷ []
+  let_tells None x e = refl
+  let_tells (Some t) x e = refl
 
-  -- the `let` of a handle
-  abbrev binding_at : (ℕ → Option TypeSpecifier) → ℕ → Binding
-  binding_at told h = record { name = numbered_name h; annotation = told h }
+  return_tells : (s : Handles) (v : Option ℕ) → statement_annotations (return_line n es s v) ≡ []
+  return_tells s None = refl
+  return_tells s (Some h) = refl
 
-  -- those of the handles that are bound
-  abbrev bound : (ℕ → Option TypeSpecifier) → List ℕ → List Binding
-  bound told hs = map (binding_at told) (filter (binds own.function) hs)
+  loop_tells : (body continuing : tree.Statements) (e : Option tree.Expression) → statement_annotations (loop_form body continuing e) ≡ statements_annotations body ++ statements_annotations continuing
+  loop_tells body continuing None = refl
+  loop_tells body continuing (Some e) = refl
 
-  lets_bind : (told : ℕ → Option TypeSpecifier) (k : ℕ) (hs : List ℕ) (s : Handles) (rest : tree.Statements) → bindings_of (lets_form own told f.expressions k hs s rest) ≡ bound told hs ++ bindings_of rest
-  lets_bind told k [] s rest = refl
-  lets_bind told k (h ∷ hs) s rest =
-      by (binds own.function h) (lets_bind told (given_after own.function h k) hs (after_one own k h s) rest)
+  lets_tell : (k : ℕ) (hs : List ℕ) (s : Handles) (rest : tree.Statements) → statements_annotations (lets_form n told es k hs s rest) ≡ told_of (emit_bindings n k hs) ++ statements_annotations rest
+  lets_tell k [] s rest = refl
+  lets_tell k (h ∷ hs) s rest = by (binds n.function h) (lets_tell (given_after n.function h k) hs (after_one n k h s) rest)
     where
+      line : tree.Statement
+      line = let_form (told h) (bound_name n k h) (as_value (own_if n (plain_form n es s) (slice_get es h)))
+
+      later : List Binding
+      later = emit_bindings n (given_after n.function h k) hs
+
       behind : tree.Statements
-      behind = lets_form own told f.expressions (given_after own.function h k) hs (after_one own k h s) rest
+      behind = lets_form n told es (given_after n.function h k) hs (after_one n k h s) rest
 
-      one : (t : Option TypeSpecifier) (e : tree.Expression) → binding_of (let_form t (bound_name own k h) e) ≡ record { name = numbered_name h; annotation = t } ∷ []
-      one None e = ap (λ w. record { name = w; annotation = None } ∷ []) (bound_is k h)
-      one (Some t) e = ap (λ w. record { name = w; annotation = Some t } ∷ []) (bound_is k h)
-
-      by : (b : Bool) → bindings_of behind ≡ bound told hs ++ bindings_of rest → bindings_of (then_if b (let_form (told h) (bound_name own k h) (as_value (own_if own (plain_form own f.expressions s) (slice_get f.expressions h)))) behind) ≡ map (binding_at told) (cond b (h ∷ filter (binds own.function) hs) (filter (binds own.function) hs)) ++ bindings_of rest
-      by true more = λ i. one (told h) (as_value (own_if own (plain_form own f.expressions s) (slice_get f.expressions h))) i ++ more i
+      by : (b : Bool) → statements_annotations behind ≡ told_of later ++ statements_annotations rest → statements_annotations (then_if b line behind) ≡ told_of (cond b (record { handle = h; name = bound_name n k h } ∷ later) later) ++ statements_annotations rest
+      by true more = λ i. let_tells (told h) (bound_name n k h) (as_value (own_if n (plain_form n es s) (slice_get es h))) i ++ more i
       by false more = more
 
-  return_binds : (s : Handles) (v : Option ℕ) → binding_of (return_line own f.expressions s v) ≡ []
-  return_binds s None = refl
-  return_binds s (Some h) = refl
+  simple_tells : (k : ℕ) (st : SimpleStatement) (s : Handles) (rest : tree.Statements) → statements_annotations (simple_form n told es k st s rest) ≡ told_of (statement_bindings n k (simple_shape st)) ++ statements_annotations rest
+  simple_tells k (emit first last) s rest = lets_tell k (from first (last - first)) s rest
+  simple_tells k (return v) s rest = ap (λ ts. ts ++ statements_annotations rest) (return_tells s v)
+  simple_tells k _ s rest = refl
 
-  line_binds : (told : ℕ → Option TypeSpecifier) (k : ℕ) (st : StatementTree) (s : Handles) (rest : tree.Statements) → bindings_of (line_form own told f.expressions k st s rest) ≡ bound told (emitted_by st) ++ bindings_of rest
-  line_binds told k (simple (emit first last)) s rest = lets_bind told k (from first (last - first)) s rest
-  line_binds told k (simple (store pointer value)) s rest = refl
-  line_binds told k (simple (return v)) s rest = ap (λ b. b ++ bindings_of rest) (return_binds s v)
-  line_binds told k _ s rest = refl
+  mutual
+    line_tells : (k : ℕ) (st : StatementTree) (s : Handles) (rest : tree.Statements) → statements_annotations (line_form n told es k st s rest) ≡ told_of (statement_bindings n k (statement_shape st)) ++ statements_annotations rest
+    line_tells k (simple st) s rest = simple_tells k st s rest
+    line_tells k (block b) s rest = ap (λ ts. ts ++ statements_annotations rest) (lines_tell k b s)
+    line_tells k (branch condition accept reject) s rest =
+        let k1 = given_by_all n.function (statements_shape accept) k in
+        ap (λ ts. ts ++ statements_annotations rest) (told_both (statements_bindings n k (statements_shape accept)) (statements_bindings n k1 (statements_shape reject)) (lines_tell k accept s) (lines_tell k1 reject s))
+    line_tells k (switch selector cs) s rest = ap (λ ts. ts ++ statements_annotations rest) (cases_tell k [] cs s)
+    line_tells k (loop body continuing break_if) s rest =
+        let k1 = given_by_all n.function (statements_shape body) k in
+        let inside = after_all n k (statements_shape body) s in
+        ap (λ ts. ts ++ statements_annotations rest)
+        (loop_tells (lines_form n told es k body s) (lines_form n told es k1 continuing inside) _
+        ∙ told_both (statements_bindings n k (statements_shape body)) (statements_bindings n k1 (statements_shape continuing)) (lines_tell k body s) (lines_tell k1 continuing inside))
 
-  lines_bind : (told : ℕ → Option TypeSpecifier) (k : ℕ) (b : BlockTree) (s : Handles) → bindings_of (lines_form own told f.expressions k b s) ≡ bound told (emitted_handles b)
-  lines_bind told k no_statements s = refl
-  lines_bind told k (statement st b) s =
-      line_binds told k st s (lines_form own told f.expressions (given_by own.function (statement_shape st) k) b (after own k (statement_shape st) s))
-      ∙ (ap (λ more. bound told (emitted_by st) ++ more) (lines_bind told (given_by own.function (statement_shape st) k) b (after own k (statement_shape st) s))
-      ∙ sym (ap (map (binding_at told)) (filter_append (binds own.function) (emitted_by st) (emitted_handles b)) ∙ map-append (binding_at told) (filter (binds own.function) (emitted_by st)) (filter (binds own.function) (emitted_handles b))))
+    lines_tell : (k : ℕ) (b : BlockTree) (s : Handles) → statements_annotations (lines_form n told es k b s) ≡ told_of (statements_bindings n k (statements_shape b))
+    lines_tell k no_statements s = refl
+    lines_tell k (statement st b) s =
+        let k1 = given_by n.function (statement_shape st) k in
+        line_tells k st s (lines_form n told es k1 b (after n k (statement_shape st) s))
+        ∙ told_both (statement_bindings n k (statement_shape st)) (statements_bindings n k1 (statements_shape b)) refl (lines_tell k1 b (after n k (statement_shape st) s))
 
-functions_bind : (m : Module) (explicit : Bool) (g : ℕ) (fs : List ir_function.Function) (ess : List (List ExpressionInfo)) → ((i : ℕ) (f : ir_function.Function) → slice_get fs i ≡ Some f → slice_get m.functions (g + i) ≡ Some f) → IsTrue (functions_fit m.types fs ess) → IsTrue (list_all (λ f. length (keys f.named_expressions) == 0) fs) → map (λ (f : tree.Function). bindings_of f.body) (functions_form explicit (module_names m) m.types g fs ess) ≡ module_bindings explicit (type_names m) fs ess
-functions_bind m explicit g [] [] there fits unnamed = refl
-functions_bind m explicit g [] (es ∷ ess) there fits unnamed = refl
-functions_bind m explicit g (f ∷ fs) [] there fits unnamed = refl
-functions_bind m explicit g (f ∷ fs) (es ∷ ess) there fits unnamed =
-    let fit = and_left (function_fits m.types f es) (functions_fit m.types fs ess) fits in
-    let named_none = λ (f : ir_function.Function). length (keys f.named_expressions) == 0 in
-    let here : g + 0 ≡ g = omega arith in
-    let found = subst (λ h. slice_get m.functions h ≡ Some f) here (there 0 f refl) in
-    let one = lines_bind m g f found es fit (and_left (named_none f) (list_all named_none fs) unnamed) (told_type explicit (type_names m) es) 0 f.body (at_start (function_naming (module_names m) m.types g f es).function) in
-    let rest = functions_bind m explicit (g + 1) fs ess (further m.functions g f fs there) (and_right (function_fits m.types f es) (functions_fit m.types fs ess) fits) (and_right (named_none f) (list_all named_none fs) unnamed) in
-    λ i. one i ∷ rest i
+    cases_tell : (k : ℕ) (labels : List tree.Label) (cs : CaseTrees) (s : Handles) → cases_annotations (cases_form n told es k labels cs s) ≡ told_of (cases_bindings n k (cases_shape cs))
+    cases_tell k labels no_cases s = refl
+    cases_tell k labels (case value body true cs) s =
+        cases_tell (given_by_all n.function (statements_shape body) k) (labels ++ label_form value ∷ []) cs s
+    cases_tell k labels (case value body false cs) s =
+        let k1 = given_by_all n.function (statements_shape body) k in
+        told_both (statements_bindings n k (statements_shape body)) (cases_bindings n k1 (cases_shape cs)) (lines_tell k body s) (cases_tell k1 [] cs s)
 
-pub binds_as : (m : Module) (info : ModuleInfo) (explicit : Bool) → IsTrue (is_accepted m info) → IsTrue (nothing_named m) → BindsAs m info explicit (written_program m info explicit)
-binds_as m info explicit accepted unnamed = functions_bind m explicit 0 m.functions info.functions.items (from_start m.functions) (accepted_parts m info accepted).5 unnamed
+functions_tell : (explicit : Bool) (names : NameMap) (types : List Type_) (g : ℕ) (fs : List ir_function.Function) (ess : List (List ExpressionInfo)) → map (λ (f : tree.Function). statements_annotations f.body) (functions_form explicit names types g fs ess) ≡ module_annotations explicit (names_of types names) (namings_from names g (function_shapes types fs ess)) ess
+functions_tell explicit names types g [] ess = refl
+functions_tell explicit names types g (f ∷ fs) [] = refl
+functions_tell explicit names types g (f ∷ fs) (es ∷ ess) =
+    let n = function_naming names types g f es in
+    λ i. lines_tell n (told_type explicit (names_of types names) es) f.expressions 0 f.body (at_start n.function) i ∷ functions_tell explicit names types (g + 1) fs ess i
+
+pub binds_as : (m : Module) (info : ModuleInfo) (explicit : Bool) → IsTrue (is_accepted m info) → BindsAs m info explicit (written_program m info explicit)
+binds_as m info explicit accepted = record {
+  names = ap text_lets (program_reads m info explicit accepted) ∙ binds_as_meant (program_shape m info) (outer_names (module_names m)) (namings (module_names m) m info);
+  annotations = functions_tell explicit (module_names m) m.types 0 m.functions info.functions.items;
+}

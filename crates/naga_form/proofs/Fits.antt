@@ -3,7 +3,7 @@ use Rattle.std.proofs.Common.{[], ◌≡◌, ◌≢◌, ℕ, suc, zero, Bool, tr
 use Rattle.std.specs.Prelude.{IsTrue, slice_get, unwrap_or, ◌==◌, get_or, cond}
 use Rattle.std.specs.Option.{option_map}
 use Rattle.std.proofs.lemmas.Bool.{eqb-true}
-use Rattle.naga_ir.specs.StatementTree.{BlockTree, no_statements, statement, emit, store, return, StatementTree, simple}
+use Rattle.naga_ir.specs.StatementTree.{emit, store, return, StatementTree, simple, block, branch, switch, loop, BlockTree, no_statements, statement, CaseTrees, no_cases, case}
 use Rattle.naga_ir.specs.declared.expression.Expression as ir
 use Rattle.naga_enumerations.specs.declared.expression.Literal as ir_literal
 use Rattle.naga_enumerations.specs.declared.expression.Literal.TheVariants as literal
@@ -13,11 +13,12 @@ use Rattle.naga_ir.specs.declared.types.Type_.{Type_}
 use Rattle.naga_info.specs.declared.info.ExpressionInfo.{ExpressionInfo}
 use Rattle.accepted_modules.specs.Types.{word_at, spelling_of, local_pointer, literal_word, spelling_at, operator_word}
 use Rattle.accepted_modules.specs.Accepted.{statement_fits, return_fits, block_fits, function_fits}
+use Rattle.accepted_modules.specs.Part.{names_nothing}
 use Rattle.item_names.specs.Reset.{Labelled, labelled_items, labels_of}
 use Rattle.shader_runs.specs.Value.{ValueType, BooleanType, PointerType, type_at}
 use Rattle.shader_runs.specs.Program as shapes
 use Rattle.shader_runs.specs.Program.{operands_of, handle_type, argument_count, expression_of, is_given, local_count, from}
-use Rattle.shader_runs.specs.Scope.{Naming, given_by_all, given_after, given_after_all, given_by, fits_function}
+use Rattle.shader_runs.specs.Scope.{Naming, given_by_all, given_by_cases, given_after, given_after_all, given_by, fits_function}
 use Rattle.shader_runs.specs.Premises.{AllBelow, WordFits, IsLiteral, literal_type, LeafFits, ReturnFits, AreRegular, AreDistinct, FunctionFits, FixedKey, NumberedKey, GivenKey, ArgumentName, LocalName, ConstantName, GlobalName, OperatesBy, StandsFree, IsNoName, IsRegular, IsName, NameKey, name_at}
 use Rattle.naga_info.proofs.Options.{then_some}
 use Rattle.shader_runs.proofs.Update.{and_left, and_right}
@@ -28,7 +29,7 @@ use Rattle.naga_info.specs.declared.info.TypeResolution.TheVariants.{Handle}
 use Rattle.naga_form.specs.TypeIdentity.{Nothing, identity}
 use Rattle.naga_form.proofs.TypeIdentities.{declared_spelling}
 use Rattle.naga_form.specs.Literals.{literal_value}
-use Rattle.naga_form.specs.Shapes.{expression_shape, statements_shape, function_shape, outer_names, function_naming, binary_shape, statement_shape, given_from}
+use Rattle.naga_form.specs.Shapes.{no_parts, expression_shape, statements_shape, cases_shape, function_shape, outer_names, function_naming, binary_shape, statement_shape, given_from}
 use Rattle.naga_form.proofs.Named.{numbered_distinct, name_is, item_not_numbered, items_tell, function_item, argument_item, function_there, argument_there}
 use Rattle.naga_form.proofs.Facts.{returned_at}
 use Rattle.std.proofs.lemmas.Option.{slice_get-map}
@@ -146,8 +147,48 @@ ordered_at types f es fits h _ at = tt
 pub ordered : (types : List Type_) (f : ir_function.Function) (es : List ExpressionInfo) → function_fits types f es ≡ true → (h : ℕ) → AllBelow h (operands_of (expression_of (function_shape types f es) h))
 ordered types f es fits h = at_any types f es h (λ o. AllBelow h (operands_of o)) tt (ordered_at types f es fits h)
 
+-- no module has constants and variables so far
+abbrev pub nothing_outside : shapes.Module
+nothing_outside = record { constant_types = []; initialisers = []; global_types = []; parts = no_parts; functions = [] }
+
+-- ---- a function in which front ends name nothing
+module _ (types : List Type_) (f : ir_function.Function) (es : List ExpressionInfo) (unnamed : IsTrue (names_nothing f)) where
+  abbrev unnamed_shape : shapes.Function
+  unnamed_shape = function_shape types f es
+
+  pub none_is_given : (h : ℕ) → is_given unnamed_shape h ≡ false
+  none_is_given h = ap (λ ks. get_or (given_from ks 0 f.expressions) h false) (no_keys (keys f.named_expressions) unnamed) ∙ nothing_given 0 f.expressions h
+
+  given_one : (h k : ℕ) → given_after unnamed_shape h k ≡ k
+  given_one h k = ap (λ b. cond b (suc k) k) (none_is_given h)
+
+  given_some : (hs : List ℕ) (k : ℕ) → given_after_all unnamed_shape hs k ≡ k
+  given_some [] k = refl
+  given_some (h ∷ hs) k = given_some hs (given_after unnamed_shape h k) ∙ given_one h k
+
+  mutual
+    pub none_given_by : (st : StatementTree) (k : ℕ) → given_by unnamed_shape (statement_shape st) k ≡ k
+    none_given_by (simple (emit first last)) k = given_some (from first (last - first)) k
+    none_given_by (simple _) k = refl
+    none_given_by (block b) k = none_given_by_all b k
+    none_given_by (branch condition accept reject) k =
+        none_given_by_all reject (given_by_all unnamed_shape (statements_shape accept) k) ∙ none_given_by_all accept k
+    none_given_by (switch selector cases) k = none_given_by_cases cases k
+    none_given_by (loop body continuing break_if) k =
+        none_given_by_all continuing (given_by_all unnamed_shape (statements_shape body) k) ∙ none_given_by_all body k
+
+    pub none_given_by_all : (b : BlockTree) (k : ℕ) → given_by_all unnamed_shape (statements_shape b) k ≡ k
+    none_given_by_all no_statements k = refl
+    none_given_by_all (statement st b) k =
+        none_given_by_all b (given_by unnamed_shape (statement_shape st) k) ∙ none_given_by st k
+
+    none_given_by_cases : (cs : CaseTrees) (k : ℕ) → given_by_cases unnamed_shape (cases_shape cs) k ≡ k
+    none_given_by_cases no_cases k = refl
+    none_given_by_cases (case value body falls cs) k =
+        none_given_by_cases cs (given_by_all unnamed_shape (statements_shape body) k) ∙ none_given_by_all body k
+
 -- ---- one function
-module _ (m : Module) (g : ℕ) (f : ir_function.Function) (found : slice_get m.functions g ≡ Some f) (es : List ExpressionInfo) (fits : function_fits m.types f es ≡ true) (unnamed : IsTrue (length (keys f.named_expressions) == 0)) (p : shapes.Module) (constants : p.constant_types ≡ []) (globals : p.global_types ≡ []) where
+module _ (m : Module) (g : ℕ) (f : ir_function.Function) (found : slice_get m.functions g ≡ Some f) (es : List ExpressionInfo) (fits : function_fits m.types f es ≡ true) (unnamed : IsTrue (names_nothing f)) (p : shapes.Module) (constants : p.constant_types ≡ []) (globals : p.global_types ≡ []) where
   abbrev own : Naming
   own = function_naming (module_names m) m.types g f es
 
@@ -155,25 +196,13 @@ module _ (m : Module) (g : ℕ) (f : ir_function.Function) (found : slice_get m.
   shape = function_shape m.types f es
 
   pub not_given : (h : ℕ) → is_given shape h ≡ false
-  not_given h = ap (λ ks. get_or (given_from ks 0 f.expressions) h false) (no_keys (keys f.named_expressions) unnamed) ∙ nothing_given 0 f.expressions h
-
-  given_one : (h k : ℕ) → given_after shape h k ≡ k
-  given_one h k = ap (λ b. cond b (suc k) k) (not_given h)
-
-  given_some : (hs : List ℕ) (k : ℕ) → given_after_all shape hs k ≡ k
-  given_some [] k = refl
-  given_some (h ∷ hs) k = given_some hs (given_after shape h k) ∙ given_one h k
+  not_given h = none_is_given m.types f es unnamed h
 
   pub given_line : (st : StatementTree) (k : ℕ) → given_by shape (statement_shape st) k ≡ k
-  given_line (simple (emit first last)) k = given_some (from first (last - first)) k
-  given_line _ k = refl
-
-  given_lines : (b : BlockTree) (k : ℕ) → given_by_all shape (statements_shape b) k ≡ k
-  given_lines no_statements k = refl
-  given_lines (statement st b) k = given_lines b (given_by shape (statement_shape st) k) ∙ given_line st k
+  given_line st k = none_given_by m.types f es unnamed st k
 
   none_given : (k : ℕ) → k < given_by_all shape (statements_shape f.body) 0 → ⊥
-  none_given k lt = let none : k < 0 = subst (λ n. k < n) (given_lines f.body 0) lt in omega (arith, none)
+  none_given k lt = let none : k < 0 = subst (λ n. k < n) (none_given_by_all m.types f es unnamed f.body 0) lt in omega (arith, none)
 
   -- the type of a declaration that has a word
   declared_as : (ty : ℕ) (w : List ℕ) → word_at m.types ty ≡ Some w → declared_type m.types ty ≡ type_spelled w
@@ -254,7 +283,7 @@ module _ (m : Module) (g : ℕ) (f : ir_function.Function) (found : slice_get m.
   regular_at callees (simple (emit first last)) fit = tt
   regular_at callees (simple (store pointer value)) fit = tt
   regular_at callees (simple (return v)) fit = return_at v fit
-  regular_at callees _ fit = tt
+  regular_at callees _ fit = absurd (cc)
 
   regular : (callees : List shapes.Function) (b : BlockTree) → block_fits m.types es f.result b ≡ true → AreRegular p callees own (statements_shape b)
   regular callees no_statements fit = tt

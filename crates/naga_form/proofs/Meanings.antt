@@ -6,10 +6,11 @@ use Rattle.std.specs.List.{starts_with}
 use Rattle.std.specs.Bool.{nat_eq}
 use Rattle.std.specs.Str.{bytes_eq}
 use Rattle.std.proofs.lemmas.Slice.Eq.{bytes_eq-Decides}
-use Rattle.naga_ir.specs.StatementTree.{BlockTree, no_statements, statement, emit, store, StatementTree, simple}
+use Rattle.naga_ir.specs.StatementTree.{BlockTree, no_statements, statement, emit, store, return, StatementTree, simple}
 use Rattle.naga_ir.specs.declared.expression.Expression as ir
 use Rattle.naga_ir.specs.declared.expression.Expression.TheVariants as expression
 use Rattle.naga_ir.specs.declared.module.Function as ir_function
+use Rattle.naga_ir.specs.declared.module.FunctionResult.{FunctionResult}
 use Rattle.naga_ir.specs.declared.module.Module.{Module}
 use Rattle.naga_ir.specs.declared.types.Type_.{Type_}
 use Rattle.naga_operators.specs.declared.BinaryOperator.{BinaryOperator}
@@ -90,26 +91,34 @@ one_spelling : (a b : List ℕ) → type_spelled a ≡ type_spelled b → a ≡ 
 one_spelling a b e = sym (spelled_by a) ∙ (ap word_of e ∙ spelled_by b)
 
 -- ---- bounds on loop turns
--- a function whose body is written of a block
-abbrev AllAreWritten : List shapes.Function → Type 0
-AllAreWritten [] = Unit {0}
-AllAreWritten (f ∷ fs) = ((b : BlockTree) × (f.body ≡ statements_shape b)) × AllAreWritten fs
+-- each function's body is that of an accepted function
+abbrev AllAreWritten : List Type_ → List shapes.Function → Type 0
+AllAreWritten types [] = Unit {0}
+AllAreWritten types (f ∷ fs) =
+    ((es : List ExpressionInfo) × (wanted : Option FunctionResult) × (b : BlockTree) × (block_fits types es wanted b ≡ true) × (f.body ≡ statements_shape b))
+    × AllAreWritten types fs
 
-all_are_written : (types : List Type_) (fs : List ir_function.Function) (ess : List (List ExpressionInfo)) (behind : List shapes.Function) → AllAreWritten behind → AllAreWritten (reverse_aux (function_shapes types fs ess) behind)
-all_are_written types [] ess behind all = all
-all_are_written types (f ∷ fs) [] behind all = all
-all_are_written types (f ∷ fs) (es ∷ ess) behind all = all_are_written types fs ess (function_shape types f es ∷ behind) ((f.body, refl), all)
+all_are_written : (types : List Type_) (fs : List ir_function.Function) (ess : List (List ExpressionInfo)) → functions_fit types fs ess ≡ true → (behind : List shapes.Function) → AllAreWritten types behind → AllAreWritten types (reverse_aux (function_shapes types fs ess) behind)
+all_are_written types [] ess fit behind all = all
+all_are_written types (f ∷ fs) [] fit behind all = all
+all_are_written types (f ∷ fs) (es ∷ ess) fit behind all =
+    let here = function_fits_block types f es (and_left (function_fits types f es) (functions_fit types fs ess) fit) in
+    all_are_written types fs ess (and_right (function_fits types f es) (functions_fit types fs ess) fit) (function_shape types f es ∷ behind) ((es, f.result, f.body, here, refl), all)
 
--- no statement so far makes turns
-steady_line : (c : Call) (j n : ℕ) (s : StatementTree) (kept : Kept) (t : List Event) → run c j (statement_shape s) kept t ≡ run c n (statement_shape s) kept t
-steady_line c j n (simple (emit first last)) kept t = refl
-steady_line c j n (simple (store pointer value)) kept t = refl
-steady_line c j n _ kept t = refl
+-- no statement that is accepted so far makes turns
+module _ (types : List Type_) (es : List ExpressionInfo) (wanted : Option FunctionResult) (c : Call) (j n : ℕ) where
+  steady_line : (s : StatementTree) → statement_fits types es wanted s ≡ true → (kept : Kept) (t : List Event) → run c j (statement_shape s) kept t ≡ run c n (statement_shape s) kept t
+  steady_line (simple (emit first last)) fit kept t = refl
+  steady_line (simple (store pointer value)) fit kept t = refl
+  steady_line (simple (return value)) fit kept t = refl
+  steady_line _ fit kept t = absurd (cc)
 
-steady_lines : (c : Call) (j n : ℕ) (b : BlockTree) (kept : Kept) (t : List Event) → run_all c j (statements_shape b) kept t ≡ run_all c n (statements_shape b) kept t
-steady_lines c j n no_statements kept t = refl
-steady_lines c j n (statement s b) kept t =
-    λ i. and_then (steady_line c j n s kept t i) (λ kept t. steady_lines c j n b kept t i)
+  steady_lines : (b : BlockTree) → block_fits types es wanted b ≡ true → (kept : Kept) (t : List Event) → run_all c j (statements_shape b) kept t ≡ run_all c n (statements_shape b) kept t
+  steady_lines no_statements fit kept t = refl
+  steady_lines (statement s b) fit kept t =
+      let here = and_left (statement_fits types es wanted s) (block_fits types es wanted b) fit in
+      let rest = and_right (statement_fits types es wanted s) (block_fits types es wanted b) fit in
+      λ i. and_then (steady_line s here kept t i) (λ kept t. steady_lines b rest kept t i)
 
 -- one call, by what its callees do
 module _ (env : Environment) (w : World) (m : Meaning) (f : shapes.Function) (fs : List shapes.Function) (g : ℕ) (vs : List Value) (t : List Event) where
@@ -122,21 +131,21 @@ module _ (env : Environment) (w : World) (m : Meaning) (f : shapes.Function) (fs
   abbrev either_by : (ℕ → List Value → List Event → Reached (Option Value)) → ℕ → Reached (Option Value) → Reached (Option Value)
   either_by calls n other = cond (nat_eq g (length fs)) (own_by calls n) other
 
-  own_steady : (b : BlockTree) → f.body ≡ statements_shape b → (calls : ℕ → List Value → List Event → Reached (Option Value)) (j n : ℕ) → own_by calls j ≡ own_by calls n
-  own_steady b is calls j n =
+  own_steady : (types : List Type_) (es : List ExpressionInfo) (wanted : Option FunctionResult) (b : BlockTree) → block_fits types es wanted b ≡ true → f.body ≡ statements_shape b → (calls : ℕ → List Value → List Event → Reached (Option Value)) (j n : ℕ) → own_by calls j ≡ own_by calls n
+  own_steady types es wanted b fit is calls j n =
       let c = call_by calls in
       let kept = constants_kept f env m in
       λ i. called (nat_eq (length vs) (argument_count f)) (entered (length fs) vs (first_used_all c kept f.first_values) t (λ t1. answer (lines kept t1 i))) t
     where
       lines : (kept : Kept) (t1 : List Event) → run_all (call_by calls) j f.body kept t1 ≡ run_all (call_by calls) n f.body kept t1
-      lines kept t1 = subst (λ b. run_all (call_by calls) j b kept t1 ≡ run_all (call_by calls) n b kept t1) (sym is) (steady_lines (call_by calls) j n b kept t1)
+      lines kept t1 = subst (λ b. run_all (call_by calls) j b kept t1 ≡ run_all (call_by calls) n b kept t1) (sym is) (steady_lines types es wanted (call_by calls) j n b fit kept t1)
 
-steady_calls : (env : Environment) (w : World) (m : Meaning) (fs : List shapes.Function) → AllAreWritten fs → (j n g : ℕ) (vs : List Value) (t : List Event) → run_call env w m j fs g vs t ≡ run_call env w m n fs g vs t
-steady_calls env w m [] all j n g vs t = refl
-steady_calls env w m (f ∷ fs) all j n g vs t =
-    let same_calls : run_call env w m j fs ≡ run_call env w m n fs = λ i. λ g vs t. steady_calls env w m fs all.1 j n g vs t i in
+steady_calls : (types : List Type_) (env : Environment) (w : World) (m : Meaning) (fs : List shapes.Function) → AllAreWritten types fs → (j n g : ℕ) (vs : List Value) (t : List Event) → run_call env w m j fs g vs t ≡ run_call env w m n fs g vs t
+steady_calls types env w m [] all j n g vs t = refl
+steady_calls types env w m (f ∷ fs) all j n g vs t =
+    let same_calls : run_call env w m j fs ≡ run_call env w m n fs = λ i. λ g vs t. steady_calls types env w m fs all.1 j n g vs t i in
     ap (λ calls. either_by env w m f fs g vs t calls j (calls g vs t)) same_calls
-    ∙ ap (λ o. cond (nat_eq g (length fs)) o (run_call env w m n fs g vs t)) (own_steady env w m f fs g vs t all.0.0 all.0.1 (run_call env w m n fs) j n)
+    ∙ ap (λ o. cond (nat_eq g (length fs)) o (run_call env w m n fs g vs t)) (own_steady env w m f fs g vs t types all.0.0 all.0.1 all.0.2 all.0.3 all.0.4 (run_call env w m n fs) j n)
 
 -- ---- what is spelled
 -- a shape of the module, with the function and what is known of it
@@ -260,7 +269,8 @@ module _ (types : List Type_) (fs : List ir_function.Function) (ess : List (List
   line_well_formed : (st : StatementTree) → statement_fits types es f.result st ≡ true → IsWellFormed own false false (statement_shape st)
   line_well_formed (simple (emit first last)) fit = tt
   line_well_formed (simple (store pointer value)) fit = let s = store_fits_word types es f.result pointer value fit in points_at pointer s.0 s.3
-  line_well_formed _ fit = tt
+  line_well_formed (simple (return value)) fit = tt
+  line_well_formed _ fit = absurd (cc)
 
   lines_well_formed : (b : BlockTree) → block_fits types es f.result b ≡ true → AreWellFormed own false false (statements_shape b)
   lines_well_formed no_statements fit = tt
@@ -332,7 +342,7 @@ module _ (m : Module) (info : ModuleInfo) (accepted : IsTrue (is_accepted m info
 
   pub has_world : HasTypedWorld m info
   has_world settings fit meaning typed =
-      steady_world shape settings meaning (λ w j n g vs. steady_calls (environment_of shape settings meaning) w meaning shape.functions (all_are_written m.types m.functions ess [] tt) j n g vs [])
+      steady_world shape settings meaning (λ w j n g vs. steady_calls m.types (environment_of shape settings meaning) w meaning shape.functions (all_are_written m.types m.functions ess (accepted_parts m info accepted).5 [] tt) j n g vs [])
 
   pub never_stuck : (explicit : Bool) → IsTrue (nothing_named m) → ScopesHold m info → NamesAreCounted m → IsNeverStuck m info (written_program m info explicit)
   never_stuck explicit unnamed scope counted settings fit meaning typed g f found arguments typed_arguments world turns past =

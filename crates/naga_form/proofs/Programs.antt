@@ -4,7 +4,9 @@ use Rattle.std.specs.Prelude.{IsTrue, slice_get, ◌==◌, if◌then◌else◌, 
 use Rattle.std.specs.List.{list_all}
 use Rattle.std.specs.Option.{is_some, option_map}
 use Rattle.std.proofs.lemmas.Bool.{eqb-false, ltb-true, leb-true, lt-ltb, and_from, or_right}
-use Rattle.naga_ir.specs.StatementTree.{BlockTree, no_statements, statement, emit, store, return, StatementTree, simple}
+use Rattle.naga_ir.specs.StatementTree.{SimpleStatement, emit, store, return, StatementTree, simple, block, branch, switch, loop, BlockTree, no_statements, statement, CaseTrees, no_cases, case}
+use Rattle.naga_enumerations.specs.declared.statement.SwitchValue.{SwitchValue}
+use Rattle.naga_enumerations.specs.declared.statement.SwitchValue.TheVariants as label
 use Rattle.naga_ir.specs.declared.expression.Expression as ir
 use Rattle.naga_enumerations.specs.declared.expression.Literal as ir_literal
 use Rattle.naga_enumerations.specs.declared.expression.Literal.TheVariants as literal
@@ -12,24 +14,26 @@ use Rattle.naga_ir.specs.declared.module.Function as ir_function
 use Rattle.naga_ir.specs.declared.module.FunctionArgument.{FunctionArgument}
 use Rattle.naga_ir.specs.declared.module.FunctionResult.{FunctionResult}
 use Rattle.naga_ir.specs.declared.module.Module.{Module}
+use Rattle.naga_ir.specs.declared.types.Type_.{Type_}
 use Rattle.naga_info.specs.declared.info.ExpressionInfo.{ExpressionInfo}
 use Rattle.naga_info.specs.declared.info.ModuleInfo.{ModuleInfo}
 use Rattle.accepted_modules.specs.Types.{literal_word, literal_is_within, spelling_of, is_alike, word_at}
-use Rattle.accepted_modules.specs.Accepted.{is_scalar_type, is_below, is_accepted, function_fits, functions_fit, local_fits}
-use Rattle.accepted_modules.proofs.Accepting.{accepted_parts, function_fits_word_at, function_fits_expressions, function_fits_parts, expressions_fit_known, local_word_at, local_fits_parts}
+use Rattle.accepted_modules.specs.Part.{names_nothing}
+use Rattle.accepted_modules.specs.Accepted.{is_scalar_type, is_below, is_accepted, statement_fits, block_fits, function_fits, functions_fit, local_fits}
+use Rattle.accepted_modules.proofs.Accepting.{accepted_parts, function_fits_word_at, function_fits_expressions, function_fits_parts, function_fits_block, expressions_fit_known, local_word_at, local_fits_parts}
 use Rattle.wgsl_text.specs.Words.{IsIdentifier, is_reserved, is_letter, is_word_byte, all_word_bytes, stands_in, is_builtin}
 use Rattle.wgsl_text.specs.Tree.{LeastInteger, Suffixed, LeastLong, TypeSpecifier, Named as NamedType}
 use Rattle.wgsl_text.specs.Token.{SuffixI, SuffixLi}
 use Rattle.wgsl_text.specs.Grammar.{IsType, IsLiteral, IsExpression}
-use Rattle.wgsl_text.specs.GrammarOfLines.{IsStatement, IsStatements, IsParameter, IsResult, IsFunction, IsProgram, Each, is_reference, IsValue, IsLocal}
+use Rattle.wgsl_text.specs.GrammarOfLines.{IsStatement, IsStatements, IsLabel, IsLabels, IsCases, has_case, IsParameter, IsResult, IsFunction, IsProgram, Each, is_reference, IsValue, IsLocal}
 use Rattle.naga_info.proofs.Options.{then_some}
 use Rattle.shader_runs.proofs.Update.{and_left, and_right}
+use Rattle.shader_runs.proofs.Sources.{forgotten_named}
 use Rattle.item_names.proofs.Counts.{element}
-use Rattle.naga_form.specs.Form.{parameters_form, result_form, function_form, functions_form, PlainForm, ValueForm, ReferenceForm, as_value, as_reference, own_plain, own_if, standing_plain, plain_below, plain_form, value_form, let_form, then_if, lets_form, return_line, line_form, lines_form, locals_form, written_program}
+use Rattle.naga_form.specs.Form.{parameters_form, result_form, function_form, functions_form, PlainForm, ValueForm, ReferenceForm, as_value, as_reference, own_plain, own_if, standing_plain, plain_below, plain_form, value_form, let_form, then_if, lets_form, return_line, simple_form, loop_form, label_form, labels_form, line_form, lines_form, cases_form, locals_form, written_program}
 use Rattle.naga_form.specs.Premises.{nothing_named, handles_are_counted}
 use Rattle.naga_form.specs.Names.{module_names, wgsl_names, numbered_text, numbered_name}
 use Rattle.naga_form.specs.Types.{type_names, told_type}
-use Rattle.naga_form.proofs.Resolutions.{nothing_outside}
 use Rattle.naga_form.proofs.WrittenTypes.{is_type_at, told_is, known_spelled}
 use Rattle.naga_form.specs.Literals.{literal_form}
 use Rattle.naga_form.proofs.Facts.{further, from_start}
@@ -39,17 +43,16 @@ use Rattle.std.specs.Str.{bytes_eq}
 use Rattle.std.proofs.lemmas.Option.{slice_get_within, slice_get-map}
 use Rattle.std.proofs.lemmas.Slice.Eq.{bytes_eq-Decides}
 use Rattle.item_names.proofs.NamedItems.{local_stands}
-use Rattle.indexmap.specs.IndexMap.{keys}
 use Rattle.naga_ir.specs.declared.expression.Expression.TheVariants as expression
 use Rattle.naga_ir.specs.declared.module.LocalVariable.{LocalVariable}
 use Rattle.item_names.proofs.BaseShapes.{all_digits-decimal}
 use Rattle.wgsl_text.specs.Keywords.{reserved_words, builtin_words}
 use Rattle.wgsl_text.specs.Tree as tree
 use Rattle.shader_runs.specs.World.{update}
-use Rattle.shader_runs.specs.Program.{expression_of, operands_of, binds, binds_as, from}
-use Rattle.shader_runs.specs.Scope.{Standing, Absent, Barred, Everywhere, Inline, Named, Handles, Naming, bound_name, usable_all, is_pure, is_constant_below, start_standing, at_start, unbound, emitted, after_one, given_after, given_by, after_emit, after}
-use Rattle.naga_form.specs.Shapes.{expression_shape, statement_shape, function_naming}
-use Rattle.naga_form.proofs.Fits.{local_item, not_given}
+use Rattle.shader_runs.specs.Program.{expression_of, operands_of, binds, binds_as, from, holds_continue}
+use Rattle.shader_runs.specs.Scope.{Standing, Absent, Barred, Everywhere, Inline, Named, Handles, Naming, bound_name, usable_all, is_pure, is_constant_below, start_standing, at_start, unbound, emitted, after_one, given_after, given_by, given_by_all, after_emit, after, after_all, forgotten_if}
+use Rattle.naga_form.specs.Shapes.{expression_shape, statement_shape, statements_shape, function_naming}
+use Rattle.naga_form.proofs.Fits.{local_item, not_given, nothing_outside}
 
 -- ---- literals
 least_or : (n : ℕ) (b : Bool) → (n == 2147483647) ≡ b → n < 2 ^ 31 → IsLiteral (if b then LeastInteger else Suffixed true (suc n) SuffixI)
@@ -133,7 +136,62 @@ name_in_scope y _ = y
 abbrev NamesAre : Handles → Type 0
 NamesAre s = (h : ℕ) (x : List ℕ) → s h ≡ Named x → IsIdentifier x
 
-module _ (m : Module) (g : ℕ) (f : ir_function.Function) (found : slice_get m.functions g ≡ Some f) (es : List ExpressionInfo) (fits : function_fits m.types f es ≡ true) (unnamed : IsTrue (length (keys f.named_expressions) == 0)) (scalars : list_all is_scalar_type m.types ≡ true) (few : length f.expressions ≤ 2 ^ 64) where
+-- ---- switches
+-- a label is an integer of its type
+abbrev LabelFits : SwitchValue → Type 0
+LabelFits (label.I32 (pos n)) = n < 2 ^ 31
+LabelFits (label.I32 (negsuc n)) = n < 2 ^ 31
+LabelFits (label.U32 n) = n < 2 ^ 32
+LabelFits label.Default = Unit {0}
+
+label_is : (value : SwitchValue) → LabelFits value → IsLabel (label_form value)
+label_is (label.I32 (pos n)) fit = fit
+label_is (label.I32 (negsuc n)) fit = fit
+label_is (label.U32 n) fit = fit
+label_is label.Default fit = tt
+
+labels_are : (labels : List tree.Label) (value : SwitchValue) → Each IsLabel labels → LabelFits value → IsLabels (labels_form labels (label_form value))
+labels_are [] value are fit = label_is value fit
+labels_are (l ∷ ls) value are fit = (are.0, labels_are ls value are.1 fit)
+
+labels_more : (labels : List tree.Label) (value : SwitchValue) → Each IsLabel labels → LabelFits value → Each IsLabel (labels ++ label_form value ∷ [])
+labels_more [] value are fit = (label_is value fit, tt)
+labels_more (l ∷ ls) value are fit = (are.0, labels_more ls value are.1 fit)
+
+-- some case does not fall through
+abbrev some_case_stays : CaseTrees → Bool
+some_case_stays no_cases = false
+some_case_stays (case value body true cs) = some_case_stays cs
+some_case_stays (case value body false cs) = true
+
+-- each switch has a case with lines, and labels of their types
+abbrev mutual
+  SwitchesFit : StatementTree → Type 0
+  SwitchesFit (simple st) = Unit {0}
+  SwitchesFit (block b) = AllSwitchesFit b
+  SwitchesFit (branch condition accept reject) = AllSwitchesFit accept × AllSwitchesFit reject
+  SwitchesFit (switch selector cs) = IsTrue (some_case_stays cs) × CasesFit cs
+  SwitchesFit (loop body continuing break_if) = AllSwitchesFit body × AllSwitchesFit continuing
+
+  AllSwitchesFit : BlockTree → Type 0
+  AllSwitchesFit no_statements = Unit {0}
+  AllSwitchesFit (statement st b) = SwitchesFit st × AllSwitchesFit b
+
+  CasesFit : CaseTrees → Type 0
+  CasesFit no_cases = Unit {0}
+  CasesFit (case value body falls cs) = LabelFits value × AllSwitchesFit body × CasesFit cs
+
+-- no statement with a block is accepted so far
+switches_fit : (types : List Type_) (es : List ExpressionInfo) (answer : Option FunctionResult) (b : BlockTree) → block_fits types es answer b ≡ true → AllSwitchesFit b
+switches_fit types es answer no_statements fit = tt
+switches_fit types es answer (statement st b) fit =
+    (by st (and_left (statement_fits types es answer st) (block_fits types es answer b) fit), switches_fit types es answer b (and_right (statement_fits types es answer st) (block_fits types es answer b) fit))
+  where
+    by : (st : StatementTree) → statement_fits types es answer st ≡ true → SwitchesFit st
+    by (simple st) fit = tt
+    by _ fit = absurd (cc)
+
+module _ (m : Module) (g : ℕ) (f : ir_function.Function) (found : slice_get m.functions g ≡ Some f) (es : List ExpressionInfo) (fits : function_fits m.types f es ≡ true) (unnamed : IsTrue (names_nothing f)) (scalars : list_all is_scalar_type m.types ≡ true) (few : length f.expressions ≤ 2 ^ 64) where
   abbrev own : Naming
   own = function_naming (module_names m) m.types g f es
 
@@ -211,6 +269,18 @@ module _ (m : Module) (g : ℕ) (f : ir_function.Function) (found : slice_get m.
   after_is k (simple (emit first last)) s well = after_emit_is k (from first (last - first)) s well
   after_is k _ s well = well
 
+  after_all_is : (k : ℕ) (b : BlockTree) (s : Handles) → NamesAre s → NamesAre (after_all own k (statements_shape b) s)
+  after_all_is k no_statements s well = well
+  after_all_is k (statement st b) s well =
+      by (holds_continue (statement_shape st)) (after_all_is (given_by own.function (statement_shape st) k) b (after own k (statement_shape st) s) (after_is k st s well))
+    where
+      last : Handles
+      last = after_all own (given_by own.function (statement_shape st) k) (statements_shape b) (after own k (statement_shape st) s)
+
+      by : (continues : Bool) → NamesAre last → NamesAre (forgotten_if continues s last)
+      by true last_well = λ h x e. well h x (forgotten_named (s h) (last h) x e)
+      by false last_well = last_well
+
   start_is : NamesAre (at_start own.function)
   start_is h x e = by (is_pure (expression_of own.function h) && is_constant_below own.function (length own.function.expressions) h) e
     where
@@ -244,19 +314,57 @@ module _ (m : Module) (g : ℕ) (f : ir_function.Function) (found : slice_get m.
   return_is s well None = tt
   return_is s well (Some h) = value_is_one (plain_form own f.expressions s h) (plain_is s well h)
 
-  line_is : (told : ℕ → Option TypeSpecifier) → ((h : ℕ) (t : TypeSpecifier) → told h ≡ Some t → IsType t) → (k : ℕ) (st : StatementTree) (s : Handles) → NamesAre s → (rest : tree.Statements) → IsStatements rest → IsStatements (line_form own told f.expressions k st s rest)
-  line_is told told_well k (simple (emit first last)) s well rest is = lets_are told told_well k (from first (last - first)) s well rest is
-  line_is told told_well k (simple (store pointer value)) s well rest is =
+  simple_is : (told : ℕ → Option TypeSpecifier) → ((h : ℕ) (t : TypeSpecifier) → told h ≡ Some t → IsType t) → (k : ℕ) (st : SimpleStatement) (s : Handles) → NamesAre s → (rest : tree.Statements) → IsStatements rest → IsStatements (simple_form own told f.expressions k st s rest)
+  simple_is told told_well k (emit first last) s well rest is = lets_are told told_well k (from first (last - first)) s well rest is
+  simple_is told told_well k (store pointer value) s well rest is =
       let r = reference_is_one (plain_form own f.expressions s pointer) (plain_is s well pointer) in
       ((r.0, value_is_one (plain_form own f.expressions s value) (plain_is s well value), r.1), is)
-  line_is told told_well k (simple (return v)) s well rest is = (return_is s well v, is)
-  line_is told told_well k _ s well rest is = (tt, is)
+  simple_is told told_well k (return v) s well rest is = (return_is s well v, is)
+  simple_is told told_well k _ s well rest is = (tt, is)
 
-  lines_are : (told : ℕ → Option TypeSpecifier) → ((h : ℕ) (t : TypeSpecifier) → told h ≡ Some t → IsType t) → (k : ℕ) (b : BlockTree) (s : Handles) → NamesAre s → IsStatements (lines_form own told f.expressions k b s)
-  lines_are told told_well k no_statements s well = tt
-  lines_are told told_well k (statement st b) s well =
-      line_is told told_well k st s well (lines_form own told f.expressions (given_by own.function (statement_shape st) k) b (after own k (statement_shape st) s))
-      (lines_are told told_well (given_by own.function (statement_shape st) k) b (after own k (statement_shape st) s) (after_is k st s well))
+  value_at_is : (s : Handles) → NamesAre s → (h : ℕ) → IsExpression (value_form own f.expressions s h)
+  value_at_is s well h = value_is_one (plain_form own f.expressions s h) (plain_is s well h)
+
+  loop_is : (body continuing : tree.Statements) (s : Handles) → NamesAre s → (e : Option ℕ) → IsStatements body → IsStatements continuing → IsStatement (loop_form body continuing (option_map (value_form own f.expressions s) e))
+  loop_is body continuing s well None b d = (b, d)
+  loop_is body continuing s well (Some h) b d = (b, d, value_at_is s well h)
+
+  cases_stay : (told : ℕ → Option TypeSpecifier) (k : ℕ) (labels : List tree.Label) (cs : CaseTrees) → IsTrue (some_case_stays cs) → (s : Handles) → IsTrue (has_case (cases_form own told f.expressions k labels cs s))
+  cases_stay told k labels no_cases stays s = stays
+  cases_stay told k labels (case value body true cs) stays s =
+      cases_stay told (given_by_all own.function (statements_shape body) k) (labels ++ label_form value ∷ []) cs stays s
+  cases_stay told k labels (case value body false cs) stays s = refl
+
+  mutual
+    line_is : (told : ℕ → Option TypeSpecifier) → ((h : ℕ) (t : TypeSpecifier) → told h ≡ Some t → IsType t) → (k : ℕ) (st : StatementTree) → SwitchesFit st → (s : Handles) → NamesAre s → (rest : tree.Statements) → IsStatements rest → IsStatements (line_form own told f.expressions k st s rest)
+    line_is told told_well k (simple st) fit s well rest is = simple_is told told_well k st s well rest is
+    line_is told told_well k (block b) fit s well rest is = (lines_are told told_well k b fit s well, is)
+    line_is told told_well k (branch condition accept reject) fit s well rest is =
+        let behind = given_by_all own.function (statements_shape accept) k in
+        ((value_at_is s well condition, lines_are told told_well k accept fit.0 s well, lines_are told told_well behind reject fit.1 s well), is)
+    line_is told told_well k (switch selector cs) fit s well rest is =
+        ((value_at_is s well selector, cases_are told told_well k [] tt cs fit.1 s well, cases_stay told k [] cs fit.0 s), is)
+    line_is told told_well k (loop body continuing break_if) fit s well rest is =
+        let behind = given_by_all own.function (statements_shape body) k in
+        let inside = after_all own k (statements_shape body) s in
+        let inside_well = after_all_is k body s well in
+        (loop_is _ _ (after_all own behind (statements_shape continuing) inside) (after_all_is behind continuing inside inside_well) break_if (lines_are told told_well k body fit.0 s well) (lines_are told told_well behind continuing fit.1 inside inside_well), is)
+
+    lines_are : (told : ℕ → Option TypeSpecifier) → ((h : ℕ) (t : TypeSpecifier) → told h ≡ Some t → IsType t) → (k : ℕ) (b : BlockTree) → AllSwitchesFit b → (s : Handles) → NamesAre s → IsStatements (lines_form own told f.expressions k b s)
+    lines_are told told_well k no_statements fit s well = tt
+    lines_are told told_well k (statement st b) fit s well =
+        line_is told told_well k st fit.0 s well (lines_form own told f.expressions (given_by own.function (statement_shape st) k) b (after own k (statement_shape st) s))
+        (lines_are told told_well (given_by own.function (statement_shape st) k) b fit.1 (after own k (statement_shape st) s) (after_is k st s well))
+
+    cases_are : (told : ℕ → Option TypeSpecifier) → ((h : ℕ) (t : TypeSpecifier) → told h ≡ Some t → IsType t) → (k : ℕ) (labels : List tree.Label) → Each IsLabel labels → (cs : CaseTrees) → CasesFit cs → (s : Handles) → NamesAre s → IsCases (cases_form own told f.expressions k labels cs s)
+    cases_are told told_well k labels are no_cases fit s well = tt
+    cases_are told told_well k labels are (case value body true cs) fit s well =
+        cases_are told told_well (given_by_all own.function (statements_shape body) k) (labels ++ label_form value ∷ []) (labels_more labels value are fit.0) cs fit.2 s well
+    cases_are told told_well k labels are (case value body false cs) fit s well = (
+      labels_are labels value are fit.0,
+      lines_are told told_well k body fit.1 s well,
+      cases_are told told_well (given_by_all own.function (statements_shape body) k) [] tt cs fit.2 s well,
+    )
 
   locals_are : (l : ℕ) (vs : List LocalVariable) → l + length vs ≡ length f.local_variables → list_all (local_fits m.types es) vs ≡ true → Each IsLocal (locals_form own (type_names m) f.expressions l vs)
   locals_are l [] size fit = tt
@@ -304,20 +412,19 @@ module _ (m : Module) (g : ℕ) (f : ir_function.Function) (found : slice_get m.
         parameters = parameters_are 0 f.arguments.items all (and_left args answer parts.0);
         result = result_is f.result (and_right args answer parts.0);
         locals = locals_are 0 f.local_variables all_locals parts.3;
-        body = lines_are (told_type explicit (type_names m) es) (told_is m.types scalars (module_names m) explicit es (known_spelled m.types f es fits)) 0 f.body (at_start own.function) start_is;
+        body = lines_are (told_type explicit (type_names m) es) (told_is m.types scalars (module_names m) explicit es (known_spelled m.types f es fits)) 0 f.body (switches_fit m.types es f.result f.body (function_fits_block m.types f es fits)) (at_start own.function) start_is;
       }
 
-functions_are : (explicit : Bool) (m : Module) (g : ℕ) (fs : List ir_function.Function) (ess : List (List ExpressionInfo)) → ((i : ℕ) (f : ir_function.Function) → slice_get fs i ≡ Some f → slice_get m.functions (g + i) ≡ Some f) → IsTrue (functions_fit m.types fs ess) → IsTrue (list_all (λ f. length (keys f.named_expressions) == 0) fs) → IsTrue (list_all (λ f. nat_le (length f.expressions) (2 ^ 64)) fs) → list_all is_scalar_type m.types ≡ true → Each IsFunction (functions_form explicit (module_names m) m.types g fs ess)
+functions_are : (explicit : Bool) (m : Module) (g : ℕ) (fs : List ir_function.Function) (ess : List (List ExpressionInfo)) → ((i : ℕ) (f : ir_function.Function) → slice_get fs i ≡ Some f → slice_get m.functions (g + i) ≡ Some f) → IsTrue (functions_fit m.types fs ess) → IsTrue (list_all names_nothing fs) → IsTrue (list_all (λ f. nat_le (length f.expressions) (2 ^ 64)) fs) → list_all is_scalar_type m.types ≡ true → Each IsFunction (functions_form explicit (module_names m) m.types g fs ess)
 functions_are explicit m g [] [] there fits unnamed few scalars = tt
 functions_are explicit m g [] (es ∷ ess) there fits unnamed few scalars = tt
 functions_are explicit m g (f ∷ fs) [] there fits unnamed few scalars = tt
 functions_are explicit m g (f ∷ fs) (es ∷ ess) there fits unnamed few scalars =
     let here : g + 0 ≡ g = omega arith in
     let found = subst (λ h. slice_get m.functions h ≡ Some f) here (there 0 f refl) in
-    let named_none = λ (f : ir_function.Function). length (keys f.named_expressions) == 0 in
     let counted = λ (f : ir_function.Function). nat_le (length f.expressions) (2 ^ 64) in (
-      function_is m g f found es (and_left (function_fits m.types f es) (functions_fit m.types fs ess) fits) (and_left (named_none f) (list_all named_none fs) unnamed) scalars (leb-true (length f.expressions) (2 ^ 64) (and_left (counted f) (list_all counted fs) few)) explicit,
-      functions_are explicit m (g + 1) fs ess (further m.functions g f fs there) (and_right (function_fits m.types f es) (functions_fit m.types fs ess) fits) (and_right (named_none f) (list_all named_none fs) unnamed) (and_right (counted f) (list_all counted fs) few) scalars,
+      function_is m g f found es (and_left (function_fits m.types f es) (functions_fit m.types fs ess) fits) (and_left (names_nothing f) (list_all names_nothing fs) unnamed) scalars (leb-true (length f.expressions) (2 ^ 64) (and_left (counted f) (list_all counted fs) few)) explicit,
+      functions_are explicit m (g + 1) fs ess (further m.functions g f fs there) (and_right (function_fits m.types f es) (functions_fit m.types fs ess) fits) (and_right (names_nothing f) (list_all names_nothing fs) unnamed) (and_right (counted f) (list_all counted fs) few) scalars,
     )
 
 pub is_program : (m : Module) (info : ModuleInfo) (explicit : Bool) → IsTrue (is_accepted m info) → IsTrue (nothing_named m) → IsTrue (handles_are_counted m) → IsProgram (written_program m info explicit)

@@ -1,6 +1,6 @@
 -- The program that is written for a module does what the module does.
 use Rattle.std.proofs.Common.{[], ◌≡◌, ℕ, suc, ◌+◌, ◌<◌, Bool, true, List, ◌∷◌, map, length, Option, Some, None, refl, sym, ap, subst, ◌∙◌, arith, add-one, append-nil}
-use Rattle.std.specs.Prelude.{IsTrue, slice_get, reverse, ◌==◌}
+use Rattle.std.specs.Prelude.{IsTrue, slice_get, reverse}
 use Rattle.std.specs.List.{list_all}
 use mathlib.Core.List.{reverse_aux}
 use Rattle.std.proofs.lemmas.List.{length-reverse}
@@ -9,6 +9,7 @@ use Rattle.indexmap.proofs.ReorderLemmas.{map-reverse}
 use Rattle.naga_ir.specs.declared.module.Function as ir_function
 use Rattle.naga_ir.specs.declared.module.Module.{Module}
 use Rattle.naga_ir.specs.declared.types.Type_.{Type_}
+use Rattle.accepted_modules.specs.Part.{names_nothing}
 use Rattle.accepted_modules.specs.Accepted.{is_scalar_type, is_accepted, function_fits, functions_fit}
 use Rattle.naga_info.specs.declared.info.ExpressionInfo.{ExpressionInfo}
 use Rattle.naga_info.specs.declared.info.ModuleInfo.{ModuleInfo}
@@ -43,7 +44,6 @@ use Rattle.naga_form.proofs.Abstractions.{locals_spelled, function_reads}
 use Rattle.naga_form.proofs.Fits.{function_fits_shape}
 use Rattle.naga_form.proofs.ScopeRules.{namings_functions, scopes_are_checked}
 use Rattle.naga_form.proofs.Named.{items_tell, function_item, function_there}
-use Rattle.indexmap.specs.IndexMap.{keys}
 
 pub form_functions-map : (ns : List Naming) → form_functions ns ≡ map form_function ns
 form_functions-map [] = refl
@@ -111,7 +111,7 @@ module _ (m : Module) (info : ModuleInfo) (accepted : IsTrue (is_accepted m info
   p = program_shape m info
 
   -- each function, behind those before it
-  all_fit : (g : ℕ) (fs : List ir_function.Function) (ess : List (List ExpressionInfo)) → IsTrue (functions_fit m.types fs ess) → ((i : ℕ) (f : ir_function.Function) → slice_get fs i ≡ Some f → slice_get m.functions (g + i) ≡ Some f) → IsTrue (list_all (λ f. length (keys f.named_expressions) == 0) fs) → IsTrue (list_all fits_function (namings_from (module_names m) g (function_shapes m.types fs ess))) → (behind : List Naming) → length behind ≡ g → AllFit p (outer_names (module_names m)) behind → AllFit p (outer_names (module_names m)) (reverse_aux (namings_from (module_names m) g (function_shapes m.types fs ess)) behind)
+  all_fit : (g : ℕ) (fs : List ir_function.Function) (ess : List (List ExpressionInfo)) → IsTrue (functions_fit m.types fs ess) → ((i : ℕ) (f : ir_function.Function) → slice_get fs i ≡ Some f → slice_get m.functions (g + i) ≡ Some f) → IsTrue (list_all names_nothing fs) → IsTrue (list_all fits_function (namings_from (module_names m) g (function_shapes m.types fs ess))) → (behind : List Naming) → length behind ≡ g → AllFit p (outer_names (module_names m)) behind → AllFit p (outer_names (module_names m)) (reverse_aux (namings_from (module_names m) g (function_shapes m.types fs ess)) behind)
   all_fit g [] [] fits there named_none scoped behind at so_far = so_far
   all_fit g [] (es ∷ ess) fits there named_none scoped behind at so_far = so_far
   all_fit g (f ∷ fs) [] fits there named_none scoped behind at so_far = so_far
@@ -120,10 +120,10 @@ module _ (m : Module) (info : ModuleInfo) (accepted : IsTrue (is_accepted m info
       let here : g + 0 ≡ g = omega arith in
       let found = subst (λ h. slice_get m.functions h ≡ Some f) here (there 0 f refl) in
       let own = function_naming (module_names m) m.types g f es in
-      let unnamed_here = and_left (length (keys f.named_expressions) == 0) (list_all (λ f. length (keys f.named_expressions) == 0) fs) named_none in
+      let unnamed_here = and_left (names_nothing f) (list_all names_nothing fs) named_none in
       let scoped_here = and_left (fits_function own) (list_all fits_function (namings_from (module_names m) (g + 1) (function_shapes m.types fs ess))) scoped in
       let this = function_fits_shape m g f found es fit unnamed_here p refl refl (module_counted m info accepted) (functions_of behind) (length-functions_of behind ∙ at) counted scoped_here in
-      all_fit (g + 1) fs ess (and_right (function_fits m.types f es) (functions_fit m.types fs ess) fits) (further m.functions g f fs there) (and_right (length (keys f.named_expressions) == 0) (list_all (λ f. length (keys f.named_expressions) == 0) fs) named_none) (and_right (fits_function own) (list_all fits_function (namings_from (module_names m) (g + 1) (function_shapes m.types fs ess))) scoped) (own ∷ behind) (ap suc at ∙ sym (add-one g)) (this, so_far)
+      all_fit (g + 1) fs ess (and_right (function_fits m.types f es) (functions_fit m.types fs ess) fits) (further m.functions g f fs there) (and_right (names_nothing f) (list_all names_nothing fs) named_none) (and_right (fits_function own) (list_all fits_function (namings_from (module_names m) (g + 1) (function_shapes m.types fs ess))) scoped) (own ∷ behind) (ap suc at ∙ sym (add-one g)) (this, so_far)
 
   pub module_fits : ModuleFits p (outer_names (module_names m)) (namings (module_names m) m info)
   module_fits =

@@ -1,61 +1,49 @@
 -- Which `let`s a function's text has, and the types that they tell.
-use Rattle.std.specs.Prelude.{◌≡◌, ℕ, ◌-◌, List, [], ◌∷◌, ◌++◌, map, Bool, Option, Some, None}
-use Rattle.std.specs.List.{filter}
-use Rattle.naga_ir.specs.StatementTree.{emit, StatementTree, simple, BlockTree, no_statements, statement}
-use Rattle.naga_ir.specs.declared.module.Function as ir_function
+use Rattle.std.specs.Prelude.{◌≡◌, List, [], ◌∷◌, ◌++◌, map, Bool, Option, Some, None}
 use Rattle.naga_ir.specs.declared.module.Module.{Module}
 use Rattle.naga_info.specs.declared.info.ExpressionInfo.{ExpressionInfo}
 use Rattle.naga_info.specs.declared.info.ModuleInfo.{ModuleInfo}
 use Rattle.type_spelling.specs.Trees.{Names as TypeNames}
-use Rattle.shader_runs.specs.Program.{binds, from}
-use Rattle.wgsl_text.specs.Tree.{TypeSpecifier, Statement, Let, TypedLet, Statements, NoStatements, Then, Function, Program}
-use Rattle.naga_form.specs.Names.{numbered_name}
+use Rattle.shader_runs.specs.Scope.{Naming}
+use Rattle.shader_runs.specs.Bindings.{text_lets, function_bindings, bound_names}
+use Rattle.wgsl_text.specs.Tree.{TypeSpecifier, Statement, Let, TypedLet, If, Loop, LoopBreakIf, Switch, Block, Statements, NoStatements, Then, Cases, NoCases, Case, Function, Program}
+use Rattle.naga_form.specs.Names.{module_names}
 use Rattle.naga_form.specs.Types.{told_type, type_names}
-use Rattle.naga_form.specs.Shapes.{function_shape}
+use Rattle.naga_form.specs.Shapes.{function_shapes, namings_from, namings}
+use Rattle.naga_form.specs.Abstraction.{program_read}
 
--- a `let` by its name and by the type that it tells, if it tells one
-pub record Binding : Type 0 where
-  pub name : List ℕ
-  pub annotation : Option TypeSpecifier
+-- the types that `let`s tell, in the order of the text: one for each, if it tells one
+abbrev mutual
+  pub statement_annotations : Statement → List (Option TypeSpecifier)
+  statement_annotations (Let w e) = None ∷ []
+  statement_annotations (TypedLet w t e) = Some t ∷ []
+  statement_annotations (If e accept reject) = statements_annotations accept ++ statements_annotations reject
+  statement_annotations (Loop body rest) = statements_annotations body ++ statements_annotations rest
+  statement_annotations (LoopBreakIf body rest e) = statements_annotations body ++ statements_annotations rest
+  statement_annotations (Switch e cases) = cases_annotations cases
+  statement_annotations (Block body) = statements_annotations body
+  statement_annotations _ = []
 
--- what a statement binds
-abbrev pub binding_of : Statement → List Binding
-binding_of (Let w e) = record { name = w; annotation = None } ∷ []
-binding_of (TypedLet w t e) = record { name = w; annotation = Some t } ∷ []
-binding_of _ = []
+  pub statements_annotations : Statements → List (Option TypeSpecifier)
+  statements_annotations NoStatements = []
+  statements_annotations (Then s more) = statement_annotations s ++ statements_annotations more
 
--- the `let`s, in the order of the text
-abbrev pub bindings_of : Statements → List Binding
-bindings_of NoStatements = []
-bindings_of (Then s more) = binding_of s ++ bindings_of more
+  pub cases_annotations : Cases → List (Option TypeSpecifier)
+  cases_annotations NoCases = []
+  cases_annotations (Case labels body more) = statements_annotations body ++ cases_annotations more
 
--- the handles that a body emits, in their order
-abbrev pub emitted_by : StatementTree → List ℕ
-emitted_by (simple (emit first last)) = from first (last - first)
-emitted_by _ = []
+-- the types of the handles that each function binds, where types are to be told
+abbrev pub module_annotations :
+    (explicit : Bool) → TypeNames → List Naming → List (List ExpressionInfo) → List (List (Option TypeSpecifier))
+module_annotations explicit t (f ∷ fs) (es ∷ ess) =
+    map (λ b. told_type explicit t es b.handle) (function_bindings f) ∷ module_annotations explicit t fs ess
+module_annotations explicit t _ _ = []
 
-abbrev pub emitted_handles : BlockTree → List ℕ
-emitted_handles no_statements = []
-emitted_handles (statement s b) = emitted_by s ++ emitted_handles b
-
--- the `let` of a handle: under the handle's name, with the type of the handle where types are to be told
-abbrev pub handle_binding : (explicit : Bool) → TypeNames → List ExpressionInfo → ℕ → Binding
-handle_binding explicit t es h = record { name = numbered_name h; annotation = told_type explicit t es h }
-
--- those of the emitted handles that a `let` is to bind, in their order
-abbrev pub function_bindings : (explicit : Bool) → TypeNames → ir_function.Function → List ExpressionInfo → List Binding
-function_bindings explicit t f es =
-    map (handle_binding explicit t es) (filter (binds (function_shape t.types f es)) (emitted_handles f.body))
-
--- those of all functions
-abbrev pub module_bindings :
-    (explicit : Bool) → TypeNames → List ir_function.Function → List (List ExpressionInfo) → List (List Binding)
-module_bindings explicit t (f ∷ fs) (es ∷ ess) = function_bindings explicit t f es ∷ module_bindings explicit t fs ess
-module_bindings explicit t _ _ = []
-
--- The `let`s of each function are those of its emitted handles that are bound, each under its handle's name. Each tells
--- its handle's type where types are to be told, and else none does.
-abbrev pub BindsAs : Module → ModuleInfo → (explicit : Bool) → Program → Type 0
-BindsAs m info explicit program =
-    map (λ (f : Function). bindings_of f.body) program.functions
-    ≡ module_bindings explicit (type_names m) m.functions info.functions.items
+pub record BindsAs (m : Module) (info : ModuleInfo) (explicit : Bool) (program : Program) : Type 0 where
+  -- The `let`s of each function, the last one first, are those of its handles that are bound, each under its handle's name.
+  pub names : text_lets (program_read program) ≡ map bound_names (namings (module_names m) m info)
+  -- Each tells its handle's type where types are to be told, and else none does; functions stand in their order.
+  pub annotations :
+      map (λ (f : Function). statements_annotations f.body) program.functions
+      ≡ module_annotations explicit (type_names m)
+      (namings_from (module_names m) 0 (function_shapes m.types m.functions info.functions.items)) info.functions.items

@@ -1,9 +1,11 @@
 -- The syntax tree that is written for a module under its names, of those modules that are written
 -- so far, with a `let` for each emitted handle that is bound. Which handles are bound, and where
 -- their names are in scope, is what the runs say of a function's shape.
-use Rattle.std.specs.Prelude.{[], ℕ, ◌+◌, false, List, ◌∷◌, Option, Some, None, slice_get, zero, suc, ◌-◌, Bool, true, length}
+use Rattle.std.specs.Prelude.{[], ℕ, pos, negsuc, ◌++◌, ◌+◌, false, List, ◌∷◌, Option, Some, None, slice_get, zero, suc, ◌-◌, Bool, true, length}
 use Rattle.std.specs.Option.{option_map_or, option_map}
-use Rattle.naga_ir.specs.StatementTree.{return, simple, BlockTree, no_statements, statement, emit, store, StatementTree}
+use Rattle.naga_enumerations.specs.declared.statement.SwitchValue.{SwitchValue}
+use Rattle.naga_enumerations.specs.declared.statement.SwitchValue.TheVariants as label
+use Rattle.naga_ir.specs.StatementTree.{SimpleStatement, emit, store, return, break, continue, kill, StatementTree, simple, block, branch, switch, loop, BlockTree, no_statements, statement, CaseTrees, no_cases, case}
 use Rattle.naga_ir.specs.declared.expression.Expression as ir
 use Rattle.naga_ir.specs.declared.expression.Expression.TheVariants as expression
 use Rattle.naga_ir.specs.declared.module.Function as ir_function
@@ -12,7 +14,7 @@ use Rattle.naga_ir.specs.declared.module.FunctionResult.{FunctionResult}
 use Rattle.naga_ir.specs.declared.module.Module.{Module}
 use Rattle.naga_ir.specs.declared.types.Type_.{Type_}
 use Rattle.name_keys.specs.Keys.{NameMap}
-use Rattle.wgsl_text.specs.Tree.{Truth, Expression, Constant, Name, Statement, Return, ReturnValue, Statements, NoStatements, Then, Parameter, Result, NoResult, ResultOf, Function, Program, no_declarations, TypeSpecifier, Binary, AddressOf, Dereference, Let, TypedLet, Assign, Block, Local}
+use Rattle.wgsl_text.specs.Tree.{Truth, Expression, Constant, Name, Statement, Return, ReturnValue, Statements, NoStatements, Then, Parameter, Result, NoResult, ResultOf, Function, Program, no_declarations, TypeSpecifier, Binary, AddressOf, Dereference, Let, TypedLet, Assign, Break, Continue, Discard, If, Loop, LoopBreakIf, Switch, Block, Cases, NoCases, Case, Label, DefaultLabel, SignedLabel, UnsignedLabel, Labels, LastLabel, MoreLabels, Local}
 use Rattle.naga_form.specs.Names.{function_name, argument_name, module_names}
 use Rattle.type_spelling.specs.Contexts.{names_of}
 use Rattle.type_spelling.specs.Trees.{Names as TypeNames}
@@ -22,9 +24,9 @@ use Rattle.naga_ir.specs.declared.module.LocalVariable.{LocalVariable}
 use Rattle.naga_info.specs.declared.info.ExpressionInfo.{ExpressionInfo}
 use Rattle.naga_info.specs.declared.info.ModuleInfo.{ModuleInfo}
 use Rattle.shader_runs.specs.Program.{binds, from}
-use Rattle.shader_runs.specs.Scope.{Standing, Named, Handles, Naming, bound_name, at_start, given_after, given_by, after_one, after}
+use Rattle.shader_runs.specs.Scope.{Standing, Named, Handles, Naming, bound_name, at_start, given_after, given_by, given_by_all, after_one, after, after_all}
 use Rattle.naga_form.specs.Operators.{operator_form}
-use Rattle.naga_form.specs.Shapes.{statement_shape, function_naming}
+use Rattle.naga_form.specs.Shapes.{statement_shape, statements_shape, function_naming}
 
 -- a plain form: a value or a reference
 pub data PlainForm : Type 0 where
@@ -92,18 +94,64 @@ abbrev pub return_line : Naming → List ir.Expression → Handles → Option �
 return_line n es s None = Return
 return_line n es s (Some h) = ReturnValue (value_form n es s h)
 
--- a statement, in front of what follows. What is not written so far stands as an empty block
-abbrev pub line_form : Naming → (told : ℕ → Option TypeSpecifier) → List ir.Expression → ℕ → StatementTree → Handles → Statements → Statements
-line_form n told es k (simple (emit first last)) s rest = lets_form n told es k (from first (last - first)) s rest
-line_form n told es k (simple (store pointer value)) s rest = Then (Assign (as_reference (plain_form n es s pointer)) (value_form n es s value)) rest
-line_form n told es k (simple (return value)) s rest = Then (return_line n es s value) rest
-line_form n told es k _ s rest = Then (Block NoStatements) rest
+-- a statement without blocks, in front of what follows. What is not written so far stands as an empty block
+abbrev pub simple_form : Naming → (told : ℕ → Option TypeSpecifier) → List ir.Expression → ℕ → SimpleStatement → Handles → Statements → Statements
+simple_form n told es k (emit first last) s rest = lets_form n told es k (from first (last - first)) s rest
+simple_form n told es k (store pointer value) s rest =
+    Then (Assign (as_reference (plain_form n es s pointer)) (value_form n es s value)) rest
+simple_form n told es k (return value) s rest = Then (return_line n es s value) rest
+simple_form n told es k break s rest = Then Break rest
+simple_form n told es k continue s rest = Then Continue rest
+simple_form n told es k kill s rest = Then Discard rest
+simple_form n told es k _ s rest = Then (Block NoStatements) rest
 
--- statements in order: k names were given by front ends, s are the handles in scope
-abbrev pub lines_form : Naming → (told : ℕ → Option TypeSpecifier) → List ir.Expression → ℕ → BlockTree → Handles → Statements
-lines_form n told es k no_statements s = NoStatements
-lines_form n told es k (statement st b) s =
-    line_form n told es k st s (lines_form n told es (given_by n.function (statement_shape st) k) b (after n k (statement_shape st) s))
+-- a loop, with its `break if` where it has one
+abbrev pub loop_form : Statements → Statements → Option Expression → Statement
+loop_form body continuing None = Loop body continuing
+loop_form body continuing (Some e) = LoopBreakIf body continuing e
+
+-- the label of a case
+abbrev pub label_form : SwitchValue → Label
+label_form (label.I32 (pos n)) = SignedLabel false n
+label_form (label.I32 (negsuc n)) = SignedLabel true (suc n)
+label_form (label.U32 n) = UnsignedLabel n
+label_form label.Default = DefaultLabel
+
+-- the labels of a group: these, and behind them its own
+abbrev pub labels_form : List Label → Label → Labels
+labels_form [] own = LastLabel own
+labels_form (l ∷ ls) own = MoreLabels l (labels_form ls own)
+
+-- Statements in order: k names were given by front ends, s are the handles in scope.
+abbrev mutual
+  -- a statement, in front of what follows
+  pub line_form : Naming → (told : ℕ → Option TypeSpecifier) → List ir.Expression → ℕ → StatementTree → Handles → Statements → Statements
+  line_form n told es k (simple st) s rest = simple_form n told es k st s rest
+  line_form n told es k (block b) s rest = Then (Block (lines_form n told es k b s)) rest
+  line_form n told es k (branch condition accept reject) s rest =
+      let behind = given_by_all n.function (statements_shape accept) k in
+      Then (If (value_form n es s condition) (lines_form n told es k accept s) (lines_form n told es behind reject s)) rest
+  line_form n told es k (switch selector cases) s rest =
+      Then (Switch (value_form n es s selector) (cases_form n told es k [] cases s)) rest
+  line_form n told es k (loop body continuing break_if) s rest =
+      let behind = given_by_all n.function (statements_shape body) k in
+      let inside = after_all n k (statements_shape body) s in
+      let last = after_all n behind (statements_shape continuing) inside in
+      Then (loop_form (lines_form n told es k body s) (lines_form n told es behind continuing inside) (option_map (value_form n es last) break_if)) rest
+
+  pub lines_form : Naming → (told : ℕ → Option TypeSpecifier) → List ir.Expression → ℕ → BlockTree → Handles → Statements
+  lines_form n told es k no_statements s = NoStatements
+  lines_form n told es k (statement st b) s =
+      line_form n told es k st s (lines_form n told es (given_by n.function (statement_shape st) k) b (after n k (statement_shape st) s))
+
+  -- a case that falls through has no lines, and gives its label to the next one: these wait for one
+  pub cases_form : Naming → (told : ℕ → Option TypeSpecifier) → List ir.Expression → ℕ → List Label → CaseTrees → Handles → Cases
+  cases_form n told es k labels no_cases s = NoCases
+  cases_form n told es k labels (case value body true cases) s =
+      cases_form n told es (given_by_all n.function (statements_shape body) k) (labels ++ label_form value ∷ []) cases s
+  cases_form n told es k labels (case value body false cases) s =
+      Case (labels_form labels (label_form value)) (lines_form n told es k body s)
+      (cases_form n told es (given_by_all n.function (statements_shape body) k) [] cases s)
 
 -- the locals from this one on, with their first values
 abbrev pub locals_form : Naming → TypeNames → List ir.Expression → ℕ → List LocalVariable → List Local

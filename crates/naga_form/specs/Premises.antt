@@ -1,7 +1,7 @@
 -- What the laws ask of a module beside its acceptance.
-use Rattle.std.specs.Prelude.{Bool, List, [], ◌∷◌, length, nat_le, ◌^◌, ◌==◌}
+use Rattle.std.specs.Prelude.{Bool, List, [], ◌∷◌, length, nat_le, ◌^◌}
 use Rattle.std.specs.List.{list_all}
-use Rattle.indexmap.specs.IndexMap.{keys}
+use Rattle.accepted_modules.specs.Part.{names_nothing}
 use Rattle.naga_ir.specs.declared.module.Module.{Module}
 use Rattle.naga_info.specs.declared.info.ModuleInfo.{ModuleInfo}
 use Rattle.shader_runs.specs.Program as shapes
@@ -12,7 +12,7 @@ use Rattle.naga_form.specs.Shapes.{program_shape, namings}
 
 -- no function has expressions that a front end named
 abbrev pub nothing_named : Module → Bool
-nothing_named m = list_all (λ f. length (keys f.named_expressions) == 0) m.functions
+nothing_named m = list_all names_nothing m.functions
 
 -- the rules of scope hold in each function
 abbrev pub EachScopeHolds : List shapes.Function → Type 0

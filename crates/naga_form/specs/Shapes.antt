@@ -1,10 +1,12 @@
 -- The program of shapes of a module, with its names, of those modules that are written so far.
-use Rattle.std.specs.Prelude.{◌≡◌, ℕ, ◌-◌, ◌+◌, Bool, List, [], ◌∷◌, Some, map, reverse, slice_get}
+use Rattle.std.specs.Prelude.{◌≡◌, ℕ, pos, ◌-◌, ◌+◌, Bool, List, [], ◌∷◌, Some, map, reverse, slice_get}
 use Rattle.std.specs.List.{list_any}
 use Rattle.std.specs.Bool.{nat_eq}
 use Rattle.std.specs.Option.{option_map}
 use Rattle.indexmap.specs.IndexMap.{keys}
-use Rattle.naga_ir.specs.StatementTree.{emit, store, return, StatementTree, simple, BlockTree, no_statements, statement}
+use Rattle.naga_enumerations.specs.declared.statement.SwitchValue.{SwitchValue}
+use Rattle.naga_enumerations.specs.declared.statement.SwitchValue.TheVariants as label
+use Rattle.naga_ir.specs.StatementTree.{SimpleStatement, emit, store, return, break, continue, kill, StatementTree, simple, block, branch, switch, loop, BlockTree, no_statements, statement, CaseTrees, no_cases, case as case_tree}
 use Rattle.naga_ir.specs.declared.expression.Expression as ir
 use Rattle.naga_ir.specs.declared.expression.Expression.TheVariants as expression
 use Rattle.naga_ir.specs.declared.module.Function as ir_function
@@ -17,7 +19,7 @@ use Rattle.naga_info.specs.declared.info.ModuleInfo.{ModuleInfo}
 use Rattle.accepted_modules.specs.Types.{word_at}
 use Rattle.name_keys.specs.Keys.{NameMap}
 use Rattle.shader_runs.specs.Value.{PartTypes, ShortCircuitAnd, ShortCircuitOr}
-use Rattle.shader_runs.specs.Program.{Fixed, Expression, Constant, Argument, Local, Load, Operator, Logical, Result, Statement, Emit, Store, Return, Block, Statements, end, then, Function, Module, operands_of}
+use Rattle.shader_runs.specs.Program.{Fixed, Expression, Constant, Argument, Local, Load, Operator, Logical, Result, Label, Numbered, Default, Statement, Emit, Store, Block, If, Switch, Loop, Break, Continue, Return, Kill, Statements, end, then, Cases, no_case, case, Function, Module, operands_of}
 use Rattle.shader_runs.specs.Premises.{AllBelow}
 use Rattle.shader_runs.specs.Scope.{ModuleNames, Names, Naming}
 use Rattle.wgsl_words.specs.Words.{operator_text}
@@ -41,16 +43,41 @@ expression_shape (expression.Load pointer) = Load pointer
 expression_shape (expression.Binary op left right) = binary_shape op left right
 expression_shape _ = Result
 
--- what a statement does. What is not written so far stands as an empty block
-abbrev pub statement_shape : StatementTree → Statement
-statement_shape (simple (emit first last)) = Emit first (last - first)
-statement_shape (simple (store pointer value)) = Store pointer value
-statement_shape (simple (return value)) = Return value
-statement_shape _ = Block end
+-- the label of a case
+abbrev pub label_shape : SwitchValue → Label
+label_shape (label.I32 z) = Numbered z
+label_shape (label.U32 n) = Numbered (pos n)
+label_shape label.Default = Default
 
-abbrev pub statements_shape : BlockTree → Statements
-statements_shape no_statements = end
-statements_shape (statement s b) = then (statement_shape s) (statements_shape b)
+-- what a statement without blocks does. What is not written so far stands as an empty block
+abbrev pub simple_shape : SimpleStatement → Statement
+simple_shape (emit first last) = Emit first (last - first)
+simple_shape (store pointer value) = Store pointer value
+simple_shape (return value) = Return value
+simple_shape break = Break
+simple_shape continue = Continue
+simple_shape kill = Kill
+simple_shape _ = Block end
+
+abbrev mutual
+  -- what a statement does
+  pub statement_shape : StatementTree → Statement
+  statement_shape (simple s) = simple_shape s
+  statement_shape (block b) = Block (statements_shape b)
+  statement_shape (branch condition accept reject) =
+      If condition (statements_shape accept) (statements_shape reject)
+  statement_shape (switch selector cases) = Switch selector (cases_shape cases)
+  statement_shape (loop body continuing break_if) =
+      Loop (statements_shape body) (statements_shape continuing) break_if
+
+  pub statements_shape : BlockTree → Statements
+  statements_shape no_statements = end
+  statements_shape (statement s b) = then (statement_shape s) (statements_shape b)
+
+  pub cases_shape : CaseTrees → Cases
+  cases_shape no_cases = no_case
+  cases_shape (case_tree value body falls cases) =
+      case (label_shape value) (statements_shape body) falls (cases_shape cases)
 
 -- which of the handles from this one on a front end named
 abbrev pub given_from : List ℕ → ℕ → List ir.Expression → List Bool

@@ -22,7 +22,6 @@ ghost use Rattle.naga_form.specs.Form.{function_form, written_program};
 ghost use Rattle.naga_form.specs.Premises.{nothing_named, scope_holds, ScopesHold, handles_are_counted};
 ghost use Rattle.naga_form.specs.Shapes.{function_naming, program_shape, outer_names, namings};
 ghost use Rattle.accepted_modules.specs.Accepted.{is_accepted};
-ghost use Rattle.accepted_modules.specs.Part.{is_written_so_far};
 ghost use Rattle.naga_info.specs.declared.info.ModuleInfo.{ModuleInfo};
 ghost use Rattle.naga_form.specs.Names.{NamesAreCounted, module_names};
 ghost use Rattle.naga_form.specs.Faithful.{HasInterfaceOf, RunsAs};
@@ -39,15 +38,15 @@ pub fn has_the_interface()
     ensures { (m : Module) (info : ModuleInfo) (explicit : Bool) → length m.functions ≡ length info.functions.items → HasInterfaceOf m (written_program m info explicit) }
 {}
 
-/// Each of its identifiers stands for what it was written for.
+/// Each of its identifiers stands for what it was written for, where the rules of scope hold in the module.
 pub fn resolves_as_meant()
-    ensures { (m : Module) (info : ModuleInfo) (explicit : Bool) → IsTrue (is_accepted m info) → IsTrue (is_written_so_far m) → NamesAreCounted m → ResolvesAs m info (written_program m info explicit) }
+    ensures { (m : Module) (info : ModuleInfo) (explicit : Bool) → IsTrue (is_accepted m info) → IsTrue (nothing_named m) → ScopesHold m info → NamesAreCounted m → ResolvesAs m info (written_program m info explicit) }
 {}
 
 /// Its `let`s are those of the emitted handles that are bound, each under its handle's name, and
 /// each tells its handle's type where types are to be told.
 pub fn binds_as_counted()
-    ensures { (m : Module) (info : ModuleInfo) (explicit : Bool) → IsTrue (is_accepted m info) → IsTrue (nothing_named m) → BindsAs m info explicit (written_program m info explicit) }
+    ensures { (m : Module) (info : ModuleInfo) (explicit : Bool) → IsTrue (is_accepted m info) → BindsAs m info explicit (written_program m info explicit) }
 {}
 
 /// What is written of a function whose literals are all written so far, and the types of whose

@@ -1,12 +1,12 @@
 -- Where the expressions stand behind an Emit.
-use Rattle.std.proofs.Common.{◌≡◌, ℕ, suc, ◌+◌, ◌-◌, ◌<◌, ◌≤◌, ◌==◌, ◌&&◌, ◌||◌, Bool, true, false, nat_eq, List, [], ◌∷◌, length, get_or, refl, sym, ap, ap₂, ◌∙◌, arith, slice_set, eqb-true, add-one}
+use Rattle.std.proofs.Common.{◌≡◌, ℕ, suc, ◌+◌, ◌-◌, ◌<◌, ◌≤◌, ◌&&◌, ◌||◌, Bool, true, false, nat_eq, List, [], ◌∷◌, length, get_or, refl, sym, ap, ap₂, ◌∙◌, arith, slice_set, eqb-true, add-one}
 use Rattle.std.specs.Prelude.{IsTrue, cond, not}
 use Rattle.std.specs.Option.{option_map}
 use Rattle.std.proofs.lemmas.Bool.{eqb-false}
 use Rattle.std.proofs.lemmas.List.{get_or-set_other, set-get_or}
 use Rattle.std.proofs.lemmas.Grind.{get_or-set_at}
 use Rattle.std.proofs.lemmas.Option.{slice_get-map, slice_get_past}
-use Rattle.indexmap.specs.IndexMap.{keys}
+use Rattle.accepted_modules.specs.Part.{names_nothing}
 use Rattle.naga_ir.specs.declared.module.Function as ir_function
 use Rattle.naga_ir.specs.declared.types.Type_.{Type_}
 use Rattle.naga_info.specs.declared.info.ExpressionInfo.{ExpressionInfo}
@@ -17,10 +17,10 @@ use Rattle.shader_runs.specs.Scope as runs
 use Rattle.shader_runs.specs.Scope.{Naming, Handles, is_pure, is_new, is_emittable, usable_all, emitted, after_one, after_emit, given_after, may_emit, may_emit_all}
 use Rattle.naga_form.specs.Names.{numbered_name}
 use Rattle.naga_form.specs.Shapes.{expression_shape, function_shape, function_naming}
+use Rattle.naga_form.proofs.Fits.{none_is_given}
 use Rattle.naga_scope.specs.declared.points.Standing.{Standing}
 use Rattle.naga_scope.specs.declared.points.Standing.TheVariants.{Absent, Named}
 use Rattle.naga_scope.specs.Standings.{standing_of, handles_of, shape_at, unbound_standing, emitted_standing}
-use Rattle.naga_scope.proofs.Shaped.{not_given}
 
 -- ---- a table with another cell
 set_handles : (table : List Standing) (h : ℕ) (cell : Standing) → h < length table → handles_of (slice_set table h cell) ≡ update (handles_of table) h (standing_of (numbered_name h) cell)
@@ -81,7 +81,7 @@ module _ (types : List Type_) (f : ir_function.Function) (es : List ExpressionIn
       let at = sym (slice_get-map expression_shape f.expressions h) in
       λ i. sym new i && (sym (ap is_emittable (sym at) ∙ kind) i && (not (bound i) || (operands ∙ ap (λ e. usable_all of s (operands_of e)) at) i))
 
-module _ (names : NameMap) (types : List Type_) (g : ℕ) (f : ir_function.Function) (es : List ExpressionInfo) (unnamed : IsTrue (length (keys f.named_expressions) == 0)) where
+module _ (names : NameMap) (types : List Type_) (g : ℕ) (f : ir_function.Function) (es : List ExpressionInfo) (unnamed : IsTrue (names_nothing f)) where
   abbrev own : Naming
   own = function_naming names types g f es
 
@@ -96,7 +96,7 @@ module _ (names : NameMap) (types : List Type_) (g : ℕ) (f : ir_function.Funct
       ap (λ c. handles_of (slice_set table h c)) is
       ∙ cell_emitted b o u table h lt
       ∙ (λ i. emitted (bound i) ((operator ∙ ap is_pure at) i) ((operands ∙ ap (λ e. usable_all shape s (operands_of e)) at) i) (numbered_name h) s h)
-      ∙ ap (λ given. emitted (binds shape h) (is_pure (expression_of shape h)) (usable_all shape s (operands_of (expression_of shape h))) (cond given [] (numbered_name h)) s h) (sym (not_given types f es h unnamed))
+      ∙ ap (λ given. emitted (binds shape h) (is_pure (expression_of shape h)) (usable_all shape s (operands_of (expression_of shape h))) (cond given [] (numbered_name h)) s h) (sym (none_is_given types f es unnamed h))
 
   -- an Emit of a handle past the expressions changes nothing
   pub past_emitted : (k h : ℕ) (table : List Standing) → length table ≤ h → length table ≡ length f.expressions → handles_of table ≡ after_one own k h (handles_of table)
@@ -108,7 +108,7 @@ module _ (names : NameMap) (types : List Type_) (g : ℕ) (f : ir_function.Funct
 
   -- ---- the handles of a range in turn
   given_same : (h k : ℕ) → given_after shape h k ≡ k
-  given_same h k = ap (λ b. cond b (suc k) k) (not_given types f es h unnamed)
+  given_same h k = ap (λ b. cond b (suc k) k) (none_is_given types f es unnamed h)
 
   pub range_holds : (k i e : ℕ) (s s1 : Handles) → i < e → may_emit shape i s ≡ true → s1 ≡ after_one own k i s → may_emit_all own k (from (i + 1) (e - (i + 1))) s1 ≡ may_emit_all own k (from i (e - i)) s
   range_holds k i e s s1 lt may next =

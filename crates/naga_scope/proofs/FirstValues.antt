@@ -1,5 +1,5 @@
 -- The first values of locals, each in scope behind the locals before it.
-use Rattle.std.proofs.Common.{◌≡◌, ℕ, zero, suc, ◌+◌, min, Bool, true, false, ◌&&◌, nat_lt, List, [], ◌∷◌, map, length, Option, Some, None, refl, sym, ap, ◌∙◌, add-one, ◌<◌, arith}
+use Rattle.std.proofs.Common.{◌≡◌, ℕ, ◌+◌, min, Bool, true, false, ◌&&◌, nat_lt, List, [], ◌∷◌, map, Option, Some, None, refl, sym, ap, ◌∙◌, add-one, ◌<◌, arith}
 use Rattle.std.specs.Prelude.{slice_get}
 use Rattle.std.specs.List.{enumerate_from}
 use Rattle.std.specs.Option.{option_map}
@@ -19,7 +19,11 @@ use Rattle.shader_runs.specs.Program.{Function, local_count}
 use Rattle.shader_runs.specs.Scope.{Standing, Handles, usable_as, usable_if, at_start, before_local, first_values_fit}
 use Rattle.shader_runs.proofs.Update.{and_left, and_right, and_both}
 use Rattle.naga_form.specs.Shapes.{expression_shape, binary_shape, function_shape}
+<<<<<<< HEAD
 use Rattle.naga_form.proofs.Fits.{mapped_length}
+=======
+use Rattle.naga_form.specs.Operators.{operator_form}
+>>>>>>> 59e071f4771b97388c36c74df22366eb81ab9d09
 use Rattle.naga_scope.specs.Standings.{names_earlier, is_earlier}
 
 -- each local with its index: its first value is in scope where it stands

@@ -1,28 +1,42 @@
 -- The check over the locals, the statements and the functions in turn.
-use Rattle.std.proofs.Common.{◌≡◌, ℕ, suc, ◌+◌, ◌-◌, ◌<◌, ◌≤◌, ◌^◌, ◌==◌, ◌&&◌, Bool, true, false, List, [], ◌∷◌, map, drop, length, nat_le, Some, refl, sym, ap, ap₂, subst, ◌∙◌, slice_index_or}
-use Rattle.std.specs.Prelude.{IsTrue, cond, slice_get, reverse}
+use Rattle.std.proofs.Common.{◌≡◌, ℕ, suc, ◌+◌, ◌<◌, ◌≤◌, ◌^◌, ◌&&◌, Bool, true, false, zero, Option, arith, List, [], ◌∷◌, map, drop, length, nat_le, Some, refl, sym, ap, ap₂, subst, ◌∙◌, slice_index_or}
+use Rattle.std.specs.Prelude.{IsTrue, slice_get, reverse}
 use Rattle.std.specs.List.{list_all, enumerate_from}
 use mathlib.Core.List.{reverse_aux}
+use Rattle.std.proofs.lemmas.Bool.{and_parts, and_from}
 use Rattle.std.proofs.lemmas.List.{drop_all}
-use Rattle.indexmap.specs.IndexMap.{keys}
-use Rattle.naga_ir.specs.StatementTree.{emit, StatementTree, simple}
+use Rattle.accepted_modules.specs.Part.{names_nothing}
+use Rattle.naga_ir.specs.StatementTree.{StatementTree, simple, BlockTree, no_statements, statement}
 use Rattle.naga_ir.specs.StatementViews.{tree_of, block_of}
 use Rattle.naga_ir.specs.declared.expression.Expression.TheVariants as expression
 use Rattle.naga_ir.specs.declared.module.Function as ir_function
+use Rattle.naga_ir.specs.declared.module.FunctionResult.{FunctionResult}
 use Rattle.naga_ir.specs.declared.module.LocalVariable.{LocalVariable}
+use Rattle.naga_ir.specs.declared.statement.Range.{Range}
 use Rattle.naga_ir.specs.declared.statement.Statement.{Statement}
+use Rattle.naga_ir.specs.declared.statement.Statement.TheVariants as statement_variant
 use Rattle.naga_ir.specs.declared.types.Type_.{Type_}
-use Rattle.accepted_modules.specs.Accepted.{function_fits}
+use Rattle.accepted_modules.specs.Accepted.{statement_fits, block_fits, function_fits}
 use Rattle.naga_info.specs.declared.info.ExpressionInfo.{ExpressionInfo}
 use Rattle.accepted_modules.proofs.Accepting.{load_word_at, binary_at}
 use Rattle.accepted_modules.proofs.Fitting.{drop_first, item_at}
 use Rattle.name_keys.specs.Keys.{NameMap}
+<<<<<<< HEAD
 use Rattle.naga_operators.specs.declared.BinaryOperator.{BinaryOperator}
 use Rattle.shader_runs.specs.Program.{Function, operands_of, from}
 use Rattle.shader_runs.specs.Premises.{AllBelow}
 use Rattle.shader_runs.specs.Scope.{Naming, Handles, given_after, given_after_all, given_by, after, fits, fits_all, fits_function}
+=======
+use Rattle.wgsl_text.specs.Tree.{BinaryOperator as tree_operator}
+use Rattle.shader_runs.specs.Program.{Function, operands_of}
+use Rattle.shader_runs.specs.Premises.{AllBelow}
+use Rattle.shader_runs.specs.Scope.{Naming, Handles, after, fits, fits_all, fits_function}
+use Rattle.naga_form.specs.Operators.{operator_form}
+>>>>>>> 59e071f4771b97388c36c74df22366eb81ab9d09
 use Rattle.naga_form.specs.Shapes.{binary_shape, statement_shape, statements_shape, function_shape, function_shapes, function_naming, namings_from, OperandsStandBefore}
-use Rattle.naga_scope.proofs.Shaped.{not_given, operator_operands}
+use Rattle.naga_form.proofs.Fits.{none_given_by}
+use Rattle.naga_scope.specs.Flat.{holds_no_block, is_flat}
+use Rattle.naga_scope.proofs.Shaped.{operator_operands}
 use Rattle.naga_scope.proofs.Emitting.{no_and}
 
 -- ---- operands stand before what they are of
@@ -43,25 +57,47 @@ first_values_listed n [] = refl
 first_values_listed n (l ∷ ls) = ap (λ os. l.init ∷ os) (first_values_listed (n + 1) ls)
 
 -- ---- statements
-module _ (names : NameMap) (types : List Type_) (g : ℕ) (f : ir_function.Function) (es : List ExpressionInfo) (unnamed : IsTrue (length (keys f.named_expressions) == 0)) where
+-- no statement that is accepted so far holds a block
+pub accepted_flat : (types : List Type_) (es : List ExpressionInfo) (answer : Option FunctionResult) (b : BlockTree) → block_fits types es answer b ≡ true → IsTrue (is_flat b)
+accepted_flat types es answer no_statements fit = refl
+accepted_flat types es answer (statement st b) fit =
+    let parts = and_parts (statement_fits types es answer st) (block_fits types es answer b) fit in
+    and_from (holds_no_block st) (is_flat b) (by st parts.0) (accepted_flat types es answer b parts.1)
+  where
+    by : (st : StatementTree) → statement_fits types es answer st ≡ true → IsTrue (holds_no_block st)
+    by (simple s) fit = refl
+    by _ fit = absurd (cc)
+
+-- each statement of such a body
+pub flat_at : (items : List Statement) (i : ℕ) (x : Statement) → i < length items → x ≡ slice_index_or items i x → IsTrue (is_flat (block_of items)) → IsTrue (holds_no_block (tree_of x))
+flat_at [] i x lt is flat = absurd (omega (arith, lt))
+flat_at (y ∷ items) zero x lt is flat =
+    ap (λ z. holds_no_block (tree_of z)) is ∙ (and_parts (holds_no_block (tree_of y)) (is_flat (block_of items)) flat).0
+flat_at (y ∷ items) (suc i) x lt is flat =
+    flat_at items i x (omega (arith, lt)) is (and_parts (holds_no_block (tree_of y)) (is_flat (block_of items)) flat).1
+
+-- a statement that uses no handle is always allowed, and changes nothing
+pub others_hold : (n : Naming) (st : Statement) → IsTrue (holds_no_block (tree_of st)) → ((range : Range) → st ≡ statement_variant.Emit range → ⊥) → ((p v : ℕ) → st ≡ statement_variant.Store p v → ⊥) → ((value : Option ℕ) → st ≡ statement_variant.Return value → ⊥) → (k : ℕ) (s : Handles) → (true ≡ fits n k (statement_shape (tree_of st)) s) × (s ≡ after n k (statement_shape (tree_of st)) s)
+others_hold n (statement_variant.Emit range) flat emits stores returns k s = absurd (emits range refl)
+others_hold n (statement_variant.Store p v) flat emits stores returns k s = absurd (stores p v refl)
+others_hold n (statement_variant.Return value) flat emits stores returns k s = absurd (returns value refl)
+others_hold n (statement_variant.Block b) flat emits stores returns k s = absurd (cc)
+others_hold n (statement_variant.If c a r) flat emits stores returns k s = absurd (cc)
+others_hold n (statement_variant.Switch x cs) flat emits stores returns k s = absurd (cc)
+others_hold n (statement_variant.Loop b c x) flat emits stores returns k s = absurd (cc)
+others_hold n _ flat emits stores returns k s = (refl, refl)
+
+module _ (names : NameMap) (types : List Type_) (g : ℕ) (f : ir_function.Function) (es : List ExpressionInfo) (unnamed : IsTrue (names_nothing f)) where
   abbrev own : Naming
   own = function_naming names types g f es
 
   abbrev shape : Function
   shape = function_shape types f es
 
-  given_some : (hs : List ℕ) (k : ℕ) → given_after_all shape hs k ≡ k
-  given_some [] k = refl
-  given_some (h ∷ hs) k = given_some hs (given_after shape h k) ∙ ap (λ b. cond b (suc k) k) (not_given types f es h unnamed)
-
-  given_line : (st : StatementTree) (k : ℕ) → given_by shape (statement_shape st) k ≡ k
-  given_line (simple (emit first last)) k = given_some (from first (last - first)) k
-  given_line _ k = refl
-
   lines_more : (i : ℕ) (items : List Statement) (x : Statement) (s : Handles) → i < length items → x ≡ slice_index_or items i x → fits_all own 0 (statements_shape (block_of (drop i items))) s ≡ (fits own 0 (statement_shape (tree_of x)) s && fits_all own 0 (statements_shape (block_of (drop (i + 1) items))) (after own 0 (statement_shape (tree_of x)) s))
   lines_more i items x s lt is =
       ap (λ xs. fits_all own 0 (statements_shape (block_of xs)) s) (drop_first i items x lt ∙ ap (λ y. y ∷ drop (i + 1) items) (sym is))
-      ∙ ap (λ k. fits own 0 (statement_shape (tree_of x)) s && fits_all own k (statements_shape (block_of (drop (i + 1) items))) (after own 0 (statement_shape (tree_of x)) s)) (given_line (tree_of x) 0)
+      ∙ ap (λ k. fits own 0 (statement_shape (tree_of x)) s && fits_all own k (statements_shape (block_of (drop (i + 1) items))) (after own 0 (statement_shape (tree_of x)) s)) (none_given_by types f es unnamed (tree_of x) 0)
 
   pub lines_hold : (i : ℕ) (items : List Statement) (x : Statement) (s s1 : Handles) → i < length items → x ≡ slice_index_or items i x → fits own 0 (statement_shape (tree_of x)) s ≡ true → s1 ≡ after own 0 (statement_shape (tree_of x)) s → fits_all own 0 (statements_shape (block_of (drop (i + 1) items))) s1 ≡ fits_all own 0 (statements_shape (block_of (drop i items))) s
   lines_hold i items x s s1 lt is fit next =

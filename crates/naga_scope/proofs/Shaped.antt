@@ -1,9 +1,9 @@
 -- The shapes of a function's expressions, and what is not named in it.
-use Rattle.std.proofs.Common.{◌≡◌, ◌≢◌, ℕ, ◌==◌, ◌&&◌, ◌||◌, Bool, true, false, List, [], ◌∷◌, length, map, get_or, nat_le, Option, Some, None, refl, sym, ap, ◌∙◌}
+use Rattle.std.proofs.Common.{◌≡◌, ◌≢◌, ℕ, ◌&&◌, ◌||◌, Bool, true, false, List, [], ◌∷◌, map, get_or, nat_le, Option, Some, None, refl, sym, ap, ◌∙◌}
 use Rattle.std.specs.Prelude.{IsTrue, slice_get}
 use Rattle.std.specs.Option.{option_map}
 use Rattle.std.proofs.lemmas.Option.{slice_get-map}
-use Rattle.indexmap.specs.IndexMap.{keys}
+use Rattle.accepted_modules.specs.Part.{names_nothing}
 use Rattle.naga_ir.specs.declared.expression.Expression as ir
 use Rattle.naga_ir.specs.declared.expression.Expression.TheVariants as expression
 use Rattle.naga_ir.specs.declared.module.Function as ir_function
@@ -11,6 +11,7 @@ use Rattle.naga_operators.specs.declared.BinaryOperator.{BinaryOperator}
 use Rattle.naga_operators.specs.declared.BinaryOperator.TheVariants.{LogicalAnd, LogicalOr}
 use Rattle.naga_ir.specs.declared.types.Type_.{Type_}
 use Rattle.naga_info.specs.declared.info.ExpressionInfo.{ExpressionInfo}
+<<<<<<< HEAD
 use Rattle.shader_runs.specs.Program.{Function, operands_of, expression_of, is_given, is_counted, binds_as, binds}
 use Rattle.shader_runs.specs.Scope.{Standing, Handles, is_present, usable_as, usable, usable_all, is_pure, is_constant_leaf, is_emittable}
 use Rattle.naga_form.specs.Shapes.{binary_shape, expression_shape, given_from, function_shape}
@@ -19,6 +20,14 @@ use Rattle.naga_form.proofs.Fits.{nothing_given, no_keys}
 -- no handle of a function is named, where front ends name none
 pub not_given : (types : List Type_) (f : ir_function.Function) (es : List ExpressionInfo) (h : ℕ) → IsTrue (length (keys f.named_expressions) == 0) → is_given (function_shape types f es) h ≡ false
 not_given types f es h unnamed = ap (λ ks. get_or (given_from ks 0 f.expressions) h false) (no_keys (keys f.named_expressions) unnamed) ∙ nothing_given 0 f.expressions h
+=======
+use Rattle.wgsl_text.specs.Tree.{BinaryOperator, LogicalAnd, LogicalOr}
+use Rattle.shader_runs.specs.Program.{Function, operands_of, expression_of, is_counted, binds_as, binds}
+use Rattle.shader_runs.specs.Scope.{Standing, Handles, is_present, usable_as, usable, usable_all, is_pure, is_constant_leaf, is_emittable}
+use Rattle.naga_form.specs.Operators.{operator_form}
+use Rattle.naga_form.specs.Shapes.{binary_shape, expression_shape, function_shape}
+use Rattle.naga_form.proofs.Fits.{none_is_given}
+>>>>>>> 59e071f4771b97388c36c74df22366eb81ab9d09
 
 -- ---- operators
 pub pure_operator : (op : BinaryOperator) (l r : ℕ) → is_pure (Some (binary_shape op l r)) ≡ true
@@ -52,7 +61,7 @@ operator_usable f LogicalOr l r s = refl
 operator_usable f _ l r s = refl
 
 -- ---- what a `let` binds
-module _ (types : List Type_) (f : ir_function.Function) (es : List ExpressionInfo) (h : ℕ) (unnamed : IsTrue (length (keys f.named_expressions) == 0)) where
+module _ (types : List Type_) (f : ir_function.Function) (es : List ExpressionInfo) (h : ℕ) (unnamed : IsTrue (names_nothing f)) where
   abbrev shape : Function
   shape = function_shape types f es
 
@@ -61,7 +70,7 @@ module _ (types : List Type_) (f : ir_function.Function) (es : List ExpressionIn
   count = get_or (map (λ e. e.ref_count) es) h 0
 
   counted_from : (least : ℕ) → is_counted shape least h ≡ nat_le least count
-  counted_from least = ap (λ b. b || nat_le least count) (not_given types f es h unnamed)
+  counted_from least = ap (λ b. b || nat_le least count) (none_is_given types f es unnamed h)
 
   shape_of : (o : Option ir.Expression) → slice_get f.expressions h ≡ o → expression_of shape h ≡ option_map expression_shape o
   shape_of o at = slice_get-map expression_shape f.expressions h ∙ ap (option_map expression_shape) at

@@ -1,8 +1,8 @@
 //! Which expressions a `let` binds where they are emitted.
 
-ghost use Rattle.std.specs.Prelude.{◌≡◌, ◌==◌, List, length, get_or, map, slice_get, IsTrue};
+ghost use Rattle.std.specs.Prelude.{◌≡◌, List, get_or, map, slice_get, IsTrue};
 ghost use Rattle.std.specs.Option.{option_map};
-ghost use Rattle.indexmap.specs.IndexMap.{keys};
+ghost use Rattle.accepted_modules.specs.Part.{names_nothing};
 ghost use Rattle.naga_form.specs.Shapes.{function_shape};
 ghost use Rattle.naga_ir.specs.declared.types.Type_.{Type_};
 ghost use Rattle.shader_runs.specs.Program.{binds};
@@ -35,7 +35,7 @@ fn count_of(info: &FunctionInfo, handle: Handle<Expression>) -> usize
 /// Whether a `let` binds the expression with this handle where it is emitted: a `Load` with a use, or
 /// an operator with two. It is for functions in which no front end named an expression.
 pub fn binds(function: &Function, info: &FunctionInfo, handle: Handle<Expression>) -> bool
-    requires unnamed { IsTrue (length (keys function.now.named_expressions) == 0) }
+    requires unnamed { IsTrue (names_nothing function.now) }
     ensures { (types : List Type_) → result ≡ binds (function_shape types function.now info.now) handle }
 {
     match expression_at(function, handle) {

@@ -1,7 +1,7 @@
 //! The check that each expression is in scope where it is used.
 
-ghost use Rattle.std.specs.Prelude.{◌≡◌, ◌==◌, ◌-◌, ◌^◌, ℕ, List, length, nat_le, IsTrue, IfOk};
-ghost use Rattle.indexmap.specs.IndexMap.{keys};
+ghost use Rattle.std.specs.Prelude.{◌≡◌, ◌-◌, ◌^◌, ℕ, List, length, nat_le, IsTrue, IfOk};
+ghost use Rattle.accepted_modules.specs.Part.{names_nothing};
 ghost use Rattle.naga_form.specs.Premises.{handles_are_counted, nothing_named, scope_holds};
 ghost use Rattle.naga_form.specs.Shapes.{function_shape, function_naming, statement_shape, OperandsStandBefore};
 ghost use Rattle.accepted_modules.specs.Accepted.{is_accepted};
@@ -11,6 +11,7 @@ ghost use Rattle.naga_ir.specs.declared.types.Type_.{Type_};
 ghost use Rattle.name_keys.specs.Keys.{NameMap};
 ghost use Rattle.shader_runs.specs.Program.{from};
 ghost use Rattle.shader_runs.specs.Scope.{after, after_emit, at_start, before_local, first_values_fit, fits, fits_function, may_emit_all, usable_if};
+ghost use Rattle.naga_scope.specs.Flat.{holds_no_block, is_flat};
 ghost use Rattle.naga_scope.specs.Standings.{handles_of, is_earlier};
 
 use crate::binding::expression_at;
@@ -73,7 +74,7 @@ fn first_values_hold(scope: &Scope, function: &Function) -> bool
 /// Goes behind an `Emit` of these handles, and says whether it is allowed. Where it is not, the scope
 /// is that of some point inside.
 fn emit_holds(scope: &mut Scope, function: &Function, info: &FunctionInfo, range: Range) -> bool
-    requires unnamed { IsTrue (length (keys function.now.named_expressions) == 0) }
+    requires unnamed { IsTrue (names_nothing function.now) }
     requires size { length scope.old ≡ length function.now.expressions }
     ensures fits { (names : NameMap) (types : List Type_) (g k : ℕ) → result ≡ may_emit_all (function_naming names types g function.now info.now) k (from range.first (range.end - range.first)) (handles_of scope.old) }
     ensures after { (names : NameMap) (types : List Type_) (g k : ℕ) → IsTrue result → handles_of scope.new ≡ after_emit (function_naming names types g function.now info.now) k (from range.first (range.end - range.first)) (handles_of scope.old) }
@@ -97,7 +98,8 @@ fn statement_holds(
     info: &FunctionInfo,
     statement: &Statement,
 ) -> bool
-    requires unnamed { IsTrue (length (keys function.now.named_expressions) == 0) }
+    requires flat { IsTrue (holds_no_block (tree_of statement.now)) }
+    requires unnamed { IsTrue (names_nothing function.now) }
     requires size { length scope.old ≡ length function.now.expressions }
     ensures fits { (names : NameMap) (types : List Type_) (g k : ℕ) → result ≡ fits (function_naming names types g function.now info.now) k (statement_shape (tree_of statement.now)) (handles_of scope.old) }
     ensures after { (names : NameMap) (types : List Type_) (g k : ℕ) → IsTrue result → handles_of scope.new ≡ after (function_naming names types g function.now info.now) k (statement_shape (tree_of statement.now)) (handles_of scope.old) }
@@ -120,7 +122,8 @@ pub fn function_holds(
     info: &FunctionInfo,
 ) -> Result<bool, AllocError>
     requires ordered { OperandsStandBefore function.now.expressions }
-    requires unnamed { IsTrue (length (keys function.now.named_expressions) == 0) }
+    requires flat { IsTrue (is_flat function.now.body) }
+    requires unnamed { IsTrue (names_nothing function.now) }
     ensures counted { IfOk result (λ _. IsTrue (nat_le (length function.now.expressions) (2 ^ 64))) }
     ensures scope { (names : NameMap) (types : List Type_) (g : ℕ) → IfOk result (λ b. b ≡ fits_function (function_naming names types g function.now info.now)) }
 {

@@ -1,8 +1,8 @@
 //! Where the expressions of a function stand at a point of its text.
 
-ghost use Rattle.std.specs.Prelude.{◌≡◌, ◌==◌, ◌&&◌, ◌^◌, ℕ, List, length, nat_le, get_or, IsTrue, IfOk, Some};
+ghost use Rattle.std.specs.Prelude.{◌≡◌, ◌&&◌, ◌^◌, ℕ, List, length, nat_le, get_or, IsTrue, IfOk, Some};
 ghost use Rattle.std.specs.Option.{option_map};
-ghost use Rattle.indexmap.specs.IndexMap.{keys};
+ghost use Rattle.accepted_modules.specs.Part.{names_nothing};
 ghost use Rattle.naga_form.specs.Shapes.{expression_shape, function_shape, function_naming, OperandsStandBefore};
 ghost use Rattle.naga_info.specs.declared.info.ExpressionInfo.{ExpressionInfo};
 ghost use Rattle.naga_ir.specs.declared.types.Type_.{Type_};
@@ -227,7 +227,7 @@ impl Scope {
         info: &FunctionInfo,
         handle: Handle<Expression>,
     ) -> bool
-        requires unnamed { IsTrue (length (keys function.now.named_expressions) == 0) }
+        requires unnamed { IsTrue (names_nothing function.now) }
         ensures { (types : List Type_) → result ≡ may_emit (function_shape types function.now info.now) handle (handles_of self.now) }
     {
         let expression = expression_at(function, handle);
@@ -240,7 +240,7 @@ impl Scope {
     /// operator that no `let` binds is written where it is used, if its operands are in scope here. A
     /// `Load` that no `let` binds stays absent, since it may not be read later than here.
     pub fn emit(&mut self, function: &Function, info: &FunctionInfo, handle: Handle<Expression>)
-        requires unnamed { IsTrue (length (keys function.now.named_expressions) == 0) }
+        requires unnamed { IsTrue (names_nothing function.now) }
         requires size { length self.old ≡ length function.now.expressions }
         ensures handles { (names : NameMap) (types : List Type_) (g k : ℕ) → handles_of self.new ≡ after_one (function_naming names types g function.now info.now) k handle (handles_of self.old) }
         ensures size { length self.new ≡ length self.old }

@@ -12,7 +12,7 @@ use Rattle.accepted_modules.proofs.Accepting.{accepted_types_are_scalar, accepte
 use Rattle.name_keys.specs.Keys.{NameMap}
 use Rattle.naga_form.specs.Names.{HasNamesOf, module_names}
 use Rattle.naga_form.specs.Form.{function_form}
-use Rattle.naga_form.proofs.Resolutions.{functions_are_written}
+use Rattle.accepted_modules.proofs.Part.{functions_are_written}
 use Rattle.wgsl_text.specs.Declarations.{function_pieces}
 use Rattle.wgsl_text.specs.Text.{text}
 use Rattle.back_flags.specs.declared.flags.WriterFlags.{WriterFlags}

@@ -21,13 +21,13 @@ use Rattle.name_keys.specs.declared.key.NameKey.TheVariants as key
 use Rattle.shader_runs.specs.Scope.{bound_name, given_after, given_by}
 use Rattle.naga_form.specs.Names.{module_names, name_in, numbered_name}
 use Rattle.naga_form.specs.Shapes.{statement_shape, OperandsStandBefore}
-use Rattle.naga_form.proofs.Fits.{not_given, given_line, ordered_at}
+use Rattle.naga_form.proofs.Fits.{nothing_outside, not_given, given_line, ordered_at}
 use Rattle.naga_form.specs.Types.{told_type, type_names}
 use Rattle.naga_form.proofs.WrittenTypes.{known_spelled, resolution_has_form}
 use Rattle.type_spelling.specs.Trees.{resolution_tree}
 use Rattle.wgsl_text.specs.Reading.{type_layout}
 use Rattle.wgsl_text.specs.Tree.{Named}
-use Rattle.naga_form.proofs.Resolutions.{nothing_outside, written_parts}
+use Rattle.accepted_modules.proofs.Part.{written_parts}
 use Rattle.accepted_modules.specs.Types.{literal_word, word_at, spelling_of, local_pointer}
 use Rattle.accepted_modules.specs.Accepted.{is_below, expected_type, local_fits, statement_fits, return_fits, block_fits}
 use Rattle.accepted_modules.specs.Part.{names_nothing}

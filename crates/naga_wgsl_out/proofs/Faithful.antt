@@ -22,7 +22,8 @@ use Rattle.naga_form.proofs.Bindings.{binds_as}
 use Rattle.naga_form.proofs.Interfaces.{has_interface}
 use Rattle.naga_form.proofs.Programs.{is_program}
 use Rattle.naga_form.specs.Resolution.{ResolvesAs}
-use Rattle.naga_form.proofs.Resolutions.{resolves, functions_are_written, written_parts}
+use Rattle.naga_form.proofs.Resolutions.{resolves}
+use Rattle.accepted_modules.proofs.Part.{functions_name_nothing}
 use Rattle.naga_form.proofs.Runs.{runs_as}
 use Rattle.naga_form.proofs.ScopeRules.{scopes_are_checked}
 use Rattle.spelling_parts.specs.Sink.{IsBehind}
@@ -71,20 +72,10 @@ for_part m info (Unimplemented message) before after is part = (is, part)
 for_part m info (Memory e) before after is part = tt
 for_part m info _ before after is part = absurd is
 
--- front ends name nothing in a module that is written so far
-pub unnamed : (m : Module) → IsTrue (is_written_so_far m) → IsTrue (nothing_named m)
-unnamed m written = by m.functions (functions_are_written m written)
-  where
-    by : (fs : List Function) → IsTrue (list_all function_is_written fs) → IsTrue (list_all names_nothing fs)
-    by [] all = refl
-    by (f ∷ fs) all =
-        let parts = and_parts (function_is_written f) (list_all function_is_written fs) all in
-        rw ((written_parts f parts.0).0) (by fs parts.1)
-
 -- a text that was appended
 module _ (m : Module) (info : ModuleInfo) (flags : WriterFlags) (accepted : IsTrue (is_accepted m info)) (written : IsTrue (is_written_so_far m)) (scope : IsTrue (scope_holds m info)) (counted : IsTrue (handles_are_counted m)) (names : NameMap) (has : HasAllNames m names) where
   one : HasOneReading Reads (written_text m info flags) (written_program m info (tells_types flags))
-  one = program_has_one_reading (written_program m info (tells_types flags)) (is_program m info (tells_types flags) accepted (unnamed m written) counted)
+  one = program_has_one_reading (written_program m info (tells_types flags)) (is_program m info (tells_types flags) accepted (functions_name_nothing m written) counted)
 
   each : (held now : List ℕ) → now ≡ held ++ written_text m info flags → (Q : Program → Type 0) → Q (written_program m info (tells_types flags)) → EachReading held now Q
   each held now appended Q holds text is program reads =
@@ -96,7 +87,7 @@ module _ (m : Module) (info : ModuleInfo) (flags : WriterFlags) (accepted : IsTr
     refusals = record { written = written; in_scope = (scopes_are_checked m info accepted).0 scope; told = has.told; keys = has.keys };
     reading = record { text = written_text m info flags; appended = appended; program = written_program m info (tells_types flags); reading = one };
     interface = each held now appended (HasInterfaceOf m) (has_interface m info (tells_types flags) (functions_fit_length m.types m.functions info.functions.items (accepted_functions_fit m info accepted)));
-    runs = each held now appended (RunsAs m info) (runs_as m info (tells_types flags) accepted (unnamed m written) ((scopes_are_checked m info accepted).0 scope) has.counted);
+    runs = each held now appended (RunsAs m info) (runs_as m info (tells_types flags) accepted (functions_name_nothing m written) ((scopes_are_checked m info accepted).0 scope) has.counted);
   }
 
   -- the answer of the call that wrote the lines
@@ -111,5 +102,5 @@ module _ (m : Module) (info : ModuleInfo) (flags : WriterFlags) (accepted : IsTr
   concludes r held now before after a = by r (appends_as r held before (lines_of m info flags (enumerate_from 0 m.functions)) (written_text m info flags) now after (written_lines m info flags accepted) a)
     where
       by : (r : Result Unit Error) → Appends r held before (written_text m info flags) now after → Concludes r held now before after
-      by (Ok _) w = record { is_faithful = faithful held now before after w.appended; resolved = each held now w.appended (ResolvesAs m info) (resolves m info (tells_types flags) accepted written has.counted); binds = each held now w.appended (BindsAs m info (tells_types flags)) (binds_as m info (tells_types flags) accepted (unnamed m written)); text_ok = w.appended; text_err = tt }
+      by (Ok _) w = record { is_faithful = faithful held now before after w.appended; resolved = each held now w.appended (ResolvesAs m info) (resolves m info (tells_types flags) accepted (functions_name_nothing m written) ((scopes_are_checked m info accepted).0 scope) has.counted); binds = each held now w.appended (BindsAs m info (tells_types flags)) (binds_as m info (tells_types flags) accepted); text_ok = w.appended; text_err = tt }
       by (Err e) s = record { is_faithful = refused m info e held now before after (for_want m info e before after s.reason); resolved = tt; binds = tt; text_ok = tt; text_err = s.behind }

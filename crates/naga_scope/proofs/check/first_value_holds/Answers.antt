@@ -1,6 +1,4 @@
-use Rattle.std.proofs.Common.{◌&&◌, ap, ap₂, sym, ◌∙◌}
-use Rattle.shader_runs.specs.Scope.{usable_if}
-use Rattle.naga_form.specs.Shapes.{function_shape}
+use Rattle.std.proofs.Common.{◌&&◌, ap, sym, ◌∙◌}
 use Rattle.naga_scope.specs.Standings.{handles_of, is_earlier}
 use Rattle.naga_scope.proofs.FirstValues.{usable_before}
 use Rattle.naga_scope.proofs.check.first_value_holds.Goals as goal

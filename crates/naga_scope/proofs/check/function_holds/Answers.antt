@@ -1,8 +1,9 @@
 use Rattle.std.proofs.Common.{◌&&◌, ap, sym, ◌∙◌}
 use Rattle.shader_runs.specs.Scope.{at_start, fits_all}
 use Rattle.naga_form.specs.Shapes.{function_shape, function_naming, statements_shape}
+use Rattle.naga_scope.specs.Flat.{is_flat}
 use Rattle.naga_scope.specs.Standings.{handles_of}
-use Rattle.naga_scope.proofs.Holding.{lines_hold, lines_refused, lines_end}
+use Rattle.naga_scope.proofs.Holding.{flat_at, lines_hold, lines_refused, lines_end}
 use Rattle.naga_scope.proofs.check.function_holds.Goals as goal
 
 pub returns-then-not-first_values_hold-clause-scope : goal.returns-then-not-first_values_hold-clause-scope
@@ -11,6 +12,11 @@ returns-then-not-first_values_hold-clause-scope c names types g =
     let es = c.args.info.now in
     let first = sym (c.first_values_hold.ensures types es (c.in_ok-scope.ensures.start types es)) ∙ c.if-not-first_values_hold.true in
     sym (ap (λ b. b && fits_all (function_naming names types g f es) 0 (statements_shape f.body) (at_start (function_shape types f es))) first)
+
+pub statement_holds-requires-clause-flat : goal.statement_holds-requires-clause-flat
+statement_holds-requires-clause-flat c =
+    flat_at c.as_slice-statement-items.result.now c.loop-statement.statement-index c.statement-item.result c.loop-statement-test.true c.statement-item.is
+    (ap is_flat c.as_slice-statement-items.ensures ∙ c.requires.flat)
 
 pub loop-statement-init : goal.loop-statement-init
 loop-statement-init c = record {

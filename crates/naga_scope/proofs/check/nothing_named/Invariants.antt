@@ -1,8 +1,8 @@
-use Rattle.std.proofs.Common.{◌≡◌, ◌==◌, length}
+use Rattle.std.proofs.Common.{◌≡◌}
 use Rattle.std.specs.List.{list_all}
-use Rattle.indexmap.specs.IndexMap.{keys}
+use Rattle.accepted_modules.specs.Part.{names_nothing}
 use Rattle.naga_form.specs.Premises.{nothing_named}
 use Rattle.naga_scope.proofs.check.nothing_named.Given as goal
 
 abbrev pub invariant-loop-function : goal.invariant-loop-function
-invariant-loop-function l = list_all (λ p. length (keys p.1.named_expressions) == 0) l.function-iterator ≡ nothing_named l.«module»
+invariant-loop-function l = list_all (λ p. names_nothing p.1) l.function-iterator ≡ nothing_named l.«module»

@@ -1,12 +1,12 @@
-use Rattle.std.proofs.Common.{◌≡◌, ◌<◌, ◌≤◌, ◌==◌, ◌&&◌, ◌+◌, ◌^◌, length, nat_le, drop, Some, ap, sym, ◌∙◌, arith, slice_get, slice_index_or}
+use Rattle.std.proofs.Common.{◌≡◌, ◌<◌, ◌≤◌, ◌&&◌, ◌+◌, ◌^◌, length, nat_le, drop, Some, ap, sym, ◌∙◌, arith, slice_get, slice_index_or}
 use Rattle.std.specs.List.{list_all}
 use Rattle.std.proofs.lemmas.List.{drop_all}
-use Rattle.indexmap.specs.IndexMap.{keys}
+use Rattle.accepted_modules.specs.Part.{names_nothing}
 use Rattle.shader_runs.specs.Scope.{fits_function}
-use Rattle.accepted_modules.proofs.Accepting.{accepted_functions_fit, functions_fit_length, functions_fit_at, list_all_at}
+use Rattle.accepted_modules.proofs.Accepting.{accepted_functions_fit, functions_fit_length, functions_fit_at, function_fits_block, list_all_at}
 use Rattle.naga_form.specs.Names.{module_names}
 use Rattle.naga_form.specs.Shapes.{function_shapes, namings_from}
-use Rattle.naga_scope.proofs.Holding.{ordered_function, functions_hold, functions_refused, functions_end, all_reversed, counted_more}
+use Rattle.naga_scope.proofs.Holding.{ordered_function, accepted_flat, functions_hold, functions_refused, functions_end, all_reversed, counted_more}
 use Rattle.naga_scope.proofs.check.scope_holds.Goals as goal
 use Rattle.naga_scope.proofs.check.scope_holds.Goals.{then-not-branch, else-not-branch}
 
@@ -25,12 +25,20 @@ function_holds-requires-clause-ordered c =
     let known = functions_fit_at m.types m.functions c.args.info.now.functions.items c.loop-index.index f (accepted_functions_fit m c.args.info.now c.requires.accepted) found in
     ordered_function m.types f known.0 known.2
 
+pub function_holds-requires-clause-flat : goal.function_holds-requires-clause-flat
+function_holds-requires-clause-flat c =
+    let m = c.args.«module».now in
+    let f = c.index-function.result.now in
+    let found : slice_get m.functions c.loop-index.index ≡ Some f = rw (← c.from_index.ensures) c.index-function.ensures in
+    let known = functions_fit_at m.types m.functions c.args.info.now.functions.items c.loop-index.index f (accepted_functions_fit m c.args.info.now c.requires.accepted) found in
+    accepted_flat m.types known.0 f.result f.body (function_fits_block m.types f known.0 known.2)
+
 pub function_holds-requires-clause-unnamed : goal.function_holds-requires-clause-unnamed
 function_holds-requires-clause-unnamed c =
     let m = c.args.«module».now in
     let f = c.index-function.result.now in
     let found : slice_get m.functions c.loop-index.index ≡ Some f = rw (← c.from_index.ensures) c.index-function.ensures in
-    list_all_at (λ f. length (keys f.named_expressions) == 0) m.functions c.loop-index.index f c.requires.unnamed found
+    list_all_at names_nothing m.functions c.loop-index.index f c.requires.unnamed found
 
 pub loop-index-preserved : goal.loop-index-preserved
 loop-index-preserved c =

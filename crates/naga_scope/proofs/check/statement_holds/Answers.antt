@@ -1,8 +1,11 @@
-use Rattle.std.proofs.Common.{◌&&◌, ap, ap₂, sym, ◌∙◌}
+use Rattle.std.proofs.Common.{ℕ, List, ◌&&◌, refl, ap, ap₂, sym, ◌∙◌}
 use Rattle.naga_ir.specs.StatementViews.{tree_of}
+use Rattle.naga_ir.specs.declared.types.Type_.{Type_}
+use Rattle.name_keys.specs.Keys.{NameMap}
 use Rattle.shader_runs.specs.Scope.{after, fits, usable}
 use Rattle.naga_form.specs.Shapes.{function_shape, function_naming, statement_shape}
 use Rattle.naga_scope.specs.Standings.{handles_of}
+use Rattle.naga_scope.proofs.Holding.{others_hold}
 use Rattle.naga_scope.proofs.check.statement_holds.Goals as goal
 
 pub returns-in-Emit-clause-fits : goal.returns-in-Emit-clause-fits
@@ -35,3 +38,13 @@ pub returns-in-Return-clause-fits : goal.returns-in-Return-clause-fits
 returns-in-Return-clause-fits c names types g k =
     c.is_usable_if.ensures types c.args.info.now
     ∙ ap (λ st. fits (function_naming names types g c.args.function.now c.args.info.now) k (statement_shape (tree_of st)) (handles_of c.args.scope.now)) (sym c.in-Return.is)
+
+pub returns-in_default : goal.returns-in_default
+returns-in_default c =
+    let other = λ (names : NameMap) (types : List Type_) (g k : ℕ).
+    others_hold (function_naming names types g c.args.function.now c.args.info.now) c.args.statement.now c.requires.flat c.in_default.not-Emit c.in_default.not-Store c.in_default.not-Return k (handles_of c.args.scope.now) in
+    record {
+      fits = λ names types g k. (other names types g k).0;
+      after = λ names types g k holds. (other names types g k).1;
+      size = refl;
+    }

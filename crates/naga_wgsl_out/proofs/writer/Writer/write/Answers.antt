@@ -7,7 +7,8 @@ use Rattle.naga_form.specs.Resolution.{ResolvesAs}
 use Rattle.naga_form.specs.Bindings.{BindsAs}
 use Rattle.naga_wgsl_fns.specs.Texts.{tells_types}
 use Rattle.naga_wgsl_out.specs.Writing.{written_text}
-use Rattle.naga_wgsl_out.proofs.Faithful.{concludes, for_scope, refused, unnamed}
+use Rattle.accepted_modules.proofs.Part.{functions_name_nothing}
+use Rattle.naga_wgsl_out.proofs.Faithful.{concludes, for_scope, refused}
 use Rattle.naga_wgsl_out.proofs.writer.Writer.write.Goals as goal
 
 pub returns-clause-faithful : goal.returns-clause-faithful
@@ -51,7 +52,7 @@ returns-clause-text_err g c =
     subst (λ w. OnErr c.write_functions.result (IsBehind (g.W.TextSink.text w.sink) (written_text m c.args.info.now w.flags) (g.W.TextSink.text c.write_functions.new.out))) c.self.view_is end.text_err
 
 pub scope_holds-requires-clause-unnamed : goal.scope_holds-requires-clause-unnamed
-scope_holds-requires-clause-unnamed g c = unnamed c.args.«module».now (sym c.is_written_so_far.ensures ∙ c.if-not-is_written_so_far.false)
+scope_holds-requires-clause-unnamed g c = functions_name_nothing c.args.«module».now (sym c.is_written_so_far.ensures ∙ c.if-not-is_written_so_far.false)
 
 pub returns-then-not-branch-clause-faithful : goal.returns-then-not-branch-clause-faithful
 returns-then-not-branch-clause-faithful g c =

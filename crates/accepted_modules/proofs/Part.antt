@@ -1,0 +1,37 @@
+-- What is known of a module that is of the part written so far.
+use Rattle.std.proofs.Common.{[], ◌≡◌, List, ◌∷◌, ◌&&◌}
+use Rattle.std.specs.Prelude.{IsTrue}
+use Rattle.std.specs.List.{list_all}
+use Rattle.std.proofs.lemmas.Bool.{and_parts, and_from}
+use Rattle.naga_ir.specs.declared.module.Function.{Function}
+use Rattle.naga_ir.specs.declared.module.Module.{Module}
+use Rattle.accepted_modules.specs.Accepted.{is_scalar_type, declares_functions}
+use Rattle.accepted_modules.specs.Part.{is_written_so_far, function_is_written, local_is_written, names_nothing, is_unbound, expression_is_written, block_is_written}
+
+-- front ends name nothing in a function that is written, and the first values of its locals are written
+pub written_parts : (f : Function) → IsTrue (function_is_written f) → IsTrue (names_nothing f) × IsTrue (list_all (local_is_written f.expressions) f.local_variables)
+written_parts f written =
+    let expressions = list_all expression_is_written f.expressions in
+    let locals = list_all (local_is_written f.expressions) f.local_variables in
+    let body = block_is_written f.body in
+    let named = and_parts (names_nothing f) (is_unbound f && (expressions && (locals && body))) written in
+    let bound = and_parts (is_unbound f) (expressions && (locals && body)) named.1 in
+    let behind = and_parts expressions (locals && body) bound.1 in
+    (named.0, (and_parts locals body behind.1).0)
+
+pub functions_are_written : (m : Module) → IsTrue (is_written_so_far m) → IsTrue (list_all function_is_written m.functions)
+unfolding is_written_so_far
+functions_are_written m written =
+    let types = list_all is_scalar_type m.types in
+    let functions = list_all function_is_written m.functions in
+    (and_parts types functions (and_parts (declares_functions m) (types && functions) written).1).1
+
+-- front ends name nothing in a module that is written so far
+pub functions_name_nothing : (m : Module) → IsTrue (is_written_so_far m) → IsTrue (list_all names_nothing m.functions)
+functions_name_nothing m written = by m.functions (functions_are_written m written)
+  where
+    by : (fs : List Function) → IsTrue (list_all function_is_written fs) → IsTrue (list_all names_nothing fs)
+    by [] all = all
+    by (f ∷ fs) all =
+        let parts = and_parts (function_is_written f) (list_all function_is_written fs) all in
+        and_from (names_nothing f) (list_all names_nothing fs) (written_parts f parts.0).0 (by fs parts.1)

@@ -1,0 +1,154 @@
+-- The identifiers of an expression's form stand for what is meant by it.
+use Rattle.std.proofs.Common.{◌≡◌, ℕ, zero, suc, ◌<◌, List, [], ◌∷◌, ◌++◌, map, length, Option, Some, None, refl, sym, ap, ◌∙◌, append_assoc}
+use Rattle.std.proofs.lemmas.List.{map-append}
+use Rattle.shader_runs.specs.Value.{Bytes, ValueType, PointerType, Selector}
+use Rattle.shader_runs.specs.Program.{ConstantTree, Fixed, NamedConstant, Constructed, ConstantTrees, no_constant, constant, Expression, Constant, Argument, Local, Global, Load, Operator, Access, AccessIndex, Logical, Swizzle, Request, Result, expression_of, handle_type, operands_of}
+use Rattle.shader_runs.specs.Scope.{Standing, Named, Handles, ModuleNames, Naming}
+use Rattle.shader_runs.specs.Text.{Tree, Trees}
+use Rattle.shader_runs.specs.Form.{Plain, AsValue, AsPlace, value_form, place_form, value_forms, value_forms_then, access_form, part_form, constant_form, constant_forms, global_form, own_form, standing_form, written_below, written, value_at, value_if}
+use Rattle.shader_runs.specs.Premises.{EachWord, EachWordOf, EachLeaf, EachLeafOf, IsLiteral}
+use Rattle.shader_runs.specs.Resolution.{Target, ConstantTarget, GlobalTarget, ArgumentTarget, LocalTarget, LetTarget, Lookup, word_target, tree_targets, trees_targets, tree_targets_if, constant_targets, constants_targets, operands_targets, own_targets, LetNumbers, standing_targets, targets_below, value_targets, value_targets_if}
+
+-- the identifiers of a plain form
+abbrev plain_targets : Lookup → Plain → List (Option Target)
+plain_targets names (AsValue e) = tree_targets names e
+plain_targets names (AsPlace e) = tree_targets names e
+
+pub value_targets_of : (names : Lookup) (q : Plain) → tree_targets names (value_form q) ≡ plain_targets names q
+value_targets_of names (AsValue e) = refl
+value_targets_of names (AsPlace e) = refl
+
+place_targets_of : (names : Lookup) (q : Plain) → tree_targets names (place_form q) ≡ plain_targets names q
+place_targets_of names (AsValue e) = refl
+place_targets_of names (AsPlace e) = refl
+
+-- two parts, of each of which the identifiers stand for what is meant
+pub both : {us vs : List (Option Target)} (xs ys : List Target) → us ≡ map Some xs → vs ≡ map Some ys → us ++ vs ≡ map Some (xs ++ ys)
+both xs ys a b = (λ i. a i ++ b i) ∙ sym (map-append Some xs ys)
+
+access_targets : (names : Lookup) (k : ValueType) (b i : Plain) → plain_targets names (access_form k b i) ≡ plain_targets names b ++ plain_targets names i
+access_targets names (PointerType spelling) b i = λ j. place_targets_of names b j ++ value_targets_of names i j
+access_targets names _ b i = λ j. value_targets_of names b j ++ value_targets_of names i j
+
+part_targets : (names : Lookup) (k : ValueType) (x : Selector) (b : Plain) → plain_targets names (part_form k x b) ≡ plain_targets names b
+part_targets names (PointerType spelling) x b = place_targets_of names b
+part_targets names _ x b = value_targets_of names b
+
+global_targets : (names : Lookup) (k : ValueType) (e : Tree) → plain_targets names (global_form k e) ≡ tree_targets names e
+global_targets names (PointerType spelling) e = refl
+global_targets names _ e = refl
+
+-- trees over constants, where named constants stand for themselves and words are no names
+module _ (n : ModuleNames) (names : Lookup) (count : ℕ) (found : (i : ℕ) → i < count → names (n.constant i) ≡ Some (ConstantTarget i)) (IsWord : Bytes → Type 0) (free : (w : Bytes) → IsWord w → names w ≡ None) where
+  mutual
+    pub constant_resolves : (e : ConstantTree) → EachLeaf IsLiteral (λ i. i < count) e → EachWord IsWord e → tree_targets names (constant_form n e) ≡ map Some (constant_targets e)
+    constant_resolves (Fixed v) range words = refl
+    constant_resolves (NamedConstant i) range words = ap (λ o. o ∷ []) (found i range)
+    constant_resolves (Constructed word ty es) range words =
+        (λ j. word_target (free word words.0 j) ++ trees_targets names (constant_forms n es)) ∙ constants_resolve es range words.1
+
+    pub constants_resolve : (es : ConstantTrees) → EachLeafOf IsLiteral (λ i. i < count) es → EachWordOf IsWord es → trees_targets names (constant_forms n es) ≡ map Some (constants_targets es)
+    constants_resolve no_constant range words = refl
+    constants_resolve (constant e es) range words =
+        both (constant_targets e) (constants_targets es) (constant_resolves e range.0 words.0) (constants_resolve es range.1 words.1)
+
+-- all of these handles
+abbrev pub EachOf : (ℕ → Type 0) → List ℕ → Type 0
+EachOf P [] = Unit {0}
+EachOf P (x ∷ xs) = P x × EachOf P xs
+
+each_of : (P : ℕ → Type 0) → ((x : ℕ) → P x) → (xs : List ℕ) → EachOf P xs
+each_of P all [] = tt
+each_of P all (x ∷ xs) = (all x, each_of P all xs)
+
+module _ (f : Naming) (names : Lookup) where
+  -- what names an expression itself stands for what is meant, and its word is no name
+  abbrev pub IsNamed : Option Expression → Type 0
+  IsNamed (Some (Constant e)) = tree_targets names (constant_form f.names.outer e) ≡ map Some (constant_targets e)
+  IsNamed (Some (Argument i)) = names (f.names.argument i) ≡ Some (ArgumentTarget i)
+  IsNamed (Some (Local i)) = names (f.names.local_ i) ≡ Some (LocalTarget i)
+  IsNamed (Some (Global i)) = names (f.names.outer.global i) ≡ Some (GlobalTarget i)
+  IsNamed (Some (Operator word xs)) = names word ≡ None
+  IsNamed (Some (Request a word xs es)) =
+      (names word ≡ None) × (trees_targets names (constant_forms f.names.outer es) ≡ map Some (constants_targets es))
+  IsNamed _ = Unit {0}
+
+  module _ (operand : ℕ → Plain) (like : ℕ → List Target) where
+    -- an operand's identifiers stand for what is meant
+    abbrev Same : ℕ → Type 0
+    Same x = plain_targets names (operand x) ≡ map Some (like x)
+
+    operands_resolve : (xs : List ℕ) → EachOf Same xs → trees_targets names (value_forms operand xs) ≡ map Some (operands_targets like xs)
+    operands_resolve [] same = refl
+    operands_resolve (x ∷ xs) same =
+        both (like x) (operands_targets like xs) (value_targets_of names (operand x) ∙ same.0) (operands_resolve xs same.1)
+
+    operands_then : (xs : List ℕ) (tail : Trees) (more_meant : List Target) → EachOf Same xs → trees_targets names tail ≡ map Some more_meant → trees_targets names (value_forms_then operand xs tail) ≡ map Some (operands_targets like xs ++ more_meant)
+    operands_then [] tail more_meant same rest = rest
+    operands_then (x ∷ xs) tail more_meant same rest =
+        both (like x) (operands_targets like xs ++ more_meant) (value_targets_of names (operand x) ∙ same.0) (operands_then xs tail more_meant same.1 rest)
+        ∙ ap (map Some) (sym (append_assoc (like x) (operands_targets like xs) more_meant))
+
+    own_resolves : (k : ValueType) (e : Option Expression) → IsNamed e → EachOf Same (operands_of e) → plain_targets names (own_form f operand k e) ≡ map Some (own_targets like e)
+    own_resolves k (Some (Constant e)) named same = named
+    own_resolves k (Some (Argument i)) named same = ap (λ o. o ∷ []) named
+    own_resolves k (Some (Local i)) named same = ap (λ o. o ∷ []) named
+    own_resolves k (Some (Global i)) named same =
+        global_targets names k _ ∙ ap (λ o. o ∷ []) named
+    own_resolves k (Some (Load p)) named same = place_targets_of names (operand p) ∙ same.0
+    own_resolves k (Some (Operator word xs)) named same =
+        (λ j. word_target (named j) ++ trees_targets names (value_forms operand xs)) ∙ operands_resolve xs same
+    own_resolves k (Some (Access b i)) named same =
+        access_targets names (handle_type f.function b) (operand b) (operand i) ∙ both (like b) (like i) same.0 same.1.0
+    own_resolves k (Some (AccessIndex x b)) named same =
+        part_targets names (handle_type f.function b) x (operand b) ∙ same.0
+    own_resolves k (Some (Logical j a b)) named same =
+        both (like a) (like b) (value_targets_of names (operand a) ∙ same.0) (value_targets_of names (operand b) ∙ same.1.0)
+    own_resolves k (Some (Swizzle letters v)) named same = value_targets_of names (operand v) ∙ same.0
+    own_resolves k (Some (Request a word xs es)) named same =
+        (λ j. word_target (named.0 j) ++ trees_targets names (value_forms_then operand xs (constant_forms f.names.outer es)))
+        ∙ operands_then xs (constant_forms f.names.outer es) (constants_targets es) same named.1
+    own_resolves k (Some Result) named same = refl
+    own_resolves k None named same = refl
+
+  -- a handle whose name is in scope, and any other by its own form
+  standing_resolves : (st : Standing) (number : ℕ) → ((x : Bytes) → st ≡ Named x → names x ≡ Some (LetTarget number)) → (q : Plain) (own : List Target) → plain_targets names q ≡ map Some own → plain_targets names (standing_form st q) ≡ map Some (standing_targets st number own)
+  standing_resolves (Named x) number found q own same = ap (λ o. o ∷ []) (found x refl)
+  standing_resolves _ number found q own same = same
+
+  module _ (s : Handles) (numbers : LetNumbers) (found : (h : ℕ) (x : Bytes) → s h ≡ Named x → names x ≡ Some (LetTarget (numbers h))) where
+    -- what the form of a handle below the bound stands for, and what is meant by it
+    abbrev pub Below : ℕ → ℕ → Type 0
+    Below n h = plain_targets names (written_below f s n h) ≡ map Some (targets_below f.function s numbers n h)
+
+    pub one_below : (n h : ℕ) → IsNamed (expression_of f.function h) → EachOf (Below n) (operands_of (expression_of f.function h)) → Below (suc n) h
+    one_below n h named same =
+        standing_resolves (s h) (numbers h) (found h) (own_form f (written_below f s n) (handle_type f.function h) (expression_of f.function h)) (own_targets (targets_below f.function s numbers n) (expression_of f.function h))
+        (own_resolves (written_below f s n) (targets_below f.function s numbers n) (handle_type f.function h) (expression_of f.function h) named same)
+
+    module _ (all : (h : ℕ) → IsNamed (expression_of f.function h)) where
+      below_resolves : (n h : ℕ) → Below n h
+      below_resolves zero h = refl
+      below_resolves (suc n) h = one_below n h (all h) (each_of (Below n) (below_resolves n) (operands_of (expression_of f.function h)))
+
+      pub value_resolves : (h : ℕ) → tree_targets names (value_at f s h) ≡ map Some (value_targets f.function s numbers h)
+      value_resolves h = value_targets_of names (written f s h) ∙ below_resolves (length f.function.expressions) h
+
+      pub place_resolves : (h : ℕ) → tree_targets names (place_form (written f s h)) ≡ map Some (value_targets f.function s numbers h)
+      place_resolves h = place_targets_of names (written f s h) ∙ below_resolves (length f.function.expressions) h
+
+      pub value_if_resolves : (v : Option ℕ) → tree_targets_if names (value_if f s v) ≡ map Some (value_targets_if f.function s numbers v)
+      value_if_resolves None = refl
+      value_if_resolves (Some h) = value_resolves h
+
+      pub values_resolve : (xs : List ℕ) → trees_targets names (value_forms (written f s) xs) ≡ map Some (operands_targets (value_targets f.function s numbers) xs)
+      values_resolve xs =
+          operands_resolve (written f s) (value_targets f.function s numbers) xs
+          (each_of (λ x. plain_targets names (written f s x) ≡ map Some (value_targets f.function s numbers x)) (below_resolves (length f.function.expressions)) xs)
+
+      -- what a `let` binds
+      pub let_resolves : (h : ℕ) → tree_targets names (value_form (own_form f (written f s) (handle_type f.function h) (expression_of f.function h))) ≡ map Some (own_targets (value_targets f.function s numbers) (expression_of f.function h))
+      let_resolves h =
+          value_targets_of names (own_form f (written f s) (handle_type f.function h) (expression_of f.function h))
+          ∙ own_resolves (written f s) (value_targets f.function s numbers) (handle_type f.function h) (expression_of f.function h) (all h)
+          (each_of (λ x. plain_targets names (written f s x) ≡ map Some (value_targets f.function s numbers x)) (below_resolves (length f.function.expressions)) (operands_of (expression_of f.function h)))

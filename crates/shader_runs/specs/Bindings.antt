@@ -1,0 +1,84 @@
+-- Which `let`s a text has, and which handles a module binds by them. Throughout, k names were given by front ends before
+-- a point, and s are the handles in scope there.
+use Rattle.std.specs.Prelude.{◌≡◌, ℕ, true, false, cond, List, [], ◌∷◌, ◌++◌, map, Option, Some, None}
+use Rattle.shader_runs.specs.Value.{Bytes}
+use Rattle.shader_runs.specs.Program.{Statement, Emit, Block, If, Switch, Loop, Act, Statements, end, then, Cases, no_case, case, binds, from, Module}
+use Rattle.shader_runs.specs.Scope.{ModuleNames, Names, Naming, bound_name, given_after, given_by, given_by_all}
+use Rattle.shader_runs.specs.Text.{Line, Let, Braces, IfElse, SwitchOn, LoopOf, Lines, last, before, Groups, no_group, group, TextModule}
+use Rattle.shader_runs.specs.Form.{form_module}
+
+-- the names of the `let`s of a line, in their order
+abbrev mutual
+  pub line_lets : Line → List Bytes
+  line_lets (Let x e) = x ∷ []
+  line_lets (Braces b) = lines_lets b
+  line_lets (IfElse e a b) = lines_lets a ++ lines_lets b
+  line_lets (SwitchOn e groups) = groups_lets groups
+  line_lets (LoopOf b d e) = lines_lets b ++ lines_lets d
+  line_lets _ = []
+
+  pub lines_lets : Lines → List Bytes
+  lines_lets last = []
+  lines_lets (before l ls) = line_lets l ++ lines_lets ls
+
+  pub groups_lets : Groups → List Bytes
+  groups_lets no_group = []
+  groups_lets (group labels b gs) = lines_lets b ++ groups_lets gs
+
+-- those of each function, the last one first
+abbrev pub text_lets : TextModule → List (List Bytes)
+text_lets t = map (λ f. lines_lets f.lines) t.functions
+
+-- a handle, and the name that it is bound to
+pub record Binding : Type 0 where
+  pub handle : ℕ
+  pub name : Bytes
+
+-- those of emitted handles that are bound
+abbrev pub emit_bindings : Naming → ℕ → List ℕ → List Binding
+emit_bindings f k [] = []
+emit_bindings f k (h ∷ hs) =
+    let rest = emit_bindings f (given_after f.function h k) hs in
+    cond (binds f.function h) (record { handle = h; name = bound_name f k h } ∷ rest) rest
+
+-- a result
+abbrev pub result_bindings : Names → Option ℕ → List Binding
+result_bindings n None = []
+result_bindings n (Some h) = record { handle = h; name = n.numbered h } ∷ []
+
+abbrev mutual
+  -- the handles that a statement binds, in their order. Of a case that falls through nothing is written
+  pub statement_bindings : Naming → ℕ → Statement → List Binding
+  statement_bindings f k (Emit first count) = emit_bindings f k (from first count)
+  statement_bindings f k (Block b) = statements_bindings f k b
+  statement_bindings f k (If c a b) =
+      statements_bindings f k a ++ statements_bindings f (given_by_all f.function a k) b
+  statement_bindings f k (Switch h cases) = cases_bindings f k cases
+  statement_bindings f k (Loop b d e) =
+      statements_bindings f k b ++ statements_bindings f (given_by_all f.function b k) d
+  statement_bindings f k (Act a xs r) = result_bindings f.names r
+  statement_bindings f k _ = []
+
+  pub statements_bindings : Naming → ℕ → Statements → List Binding
+  statements_bindings f k end = []
+  statements_bindings f k (then st ss) =
+      statement_bindings f k st ++ statements_bindings f (given_by f.function st k) ss
+
+  pub cases_bindings : Naming → ℕ → Cases → List Binding
+  cases_bindings f k no_case = []
+  cases_bindings f k (case label b true cs) = cases_bindings f (given_by_all f.function b k) cs
+  cases_bindings f k (case label b false cs) =
+      statements_bindings f k b ++ cases_bindings f (given_by_all f.function b k) cs
+
+-- those of a function's body
+abbrev pub function_bindings : Naming → List Binding
+function_bindings f = statements_bindings f 0 f.function.body
+
+-- the names that a function's `let`s have
+abbrev pub bound_names : Naming → List Bytes
+bound_names f = map (λ b. b.name) (function_bindings f)
+
+-- the text of every module has these `let`s and no others
+abbrev pub BindsAsMeant : Type 0
+BindsAsMeant =
+    (p : Module) (n : ModuleNames) (fs : List Naming) → text_lets (form_module p n fs) ≡ map bound_names fs

@@ -1,0 +1,351 @@
+-- What the identifiers of a text stand for, and what a module means by them. A name is looked up where it stands, and
+-- inner names hide outer ones. Throughout, k names were given by front ends and l `let`s of the body stand before a
+-- point, s are the handles in scope there, and a handle that has a name is bound by the `let` with its number.
+use Rattle.std.specs.Prelude.{◌≡◌, ℕ, zero, suc, ◌<◌, true, false, cond, List, [], ◌∷◌, ◌++◌, map, length, Option, Some, None}
+use Rattle.shader_runs.specs.Value.{Bytes}
+use Rattle.shader_runs.specs.World.{update, bind}
+use Rattle.shader_runs.specs.Program.{ConstantTree, Fixed, NamedConstant, Constructed, ConstantTrees, no_constant, constant, Expression, Constant, Argument, Local, Global, Load, Operator, Access, AccessIndex, Logical, Swizzle, Request, Action, Asked, Called, Statement, Emit, Store, Block, If, Switch, Loop, Return, Act, Statements, end, then, Cases, no_case, case, Function, argument_count, local_count, expression_of, binds, from, holds_continue, Module}
+use Rattle.shader_runs.specs.Scope.{Standing, Named, Handles, ModuleNames, Naming, at_start, given_after, given_by, given_by_all, after_one, after, after_all}
+use Rattle.shader_runs.specs.Text.{Tree, Name, LiteralOf, Apply, Deref, AddressOf, Index, PartOf, LogicalOf, Trees, no_more, more, Line, Let, Assign, Braces, IfElse, SwitchOn, LoopOf, ReturnLine, Perform, Lines, last, before, Groups, no_group, group, Variable, TextFunction, TextModule}
+use Rattle.shader_runs.specs.TextRun.{has_continue}
+use Rattle.shader_runs.specs.Form.{form_module}
+use Rattle.shader_runs.specs.Correct.{ModuleFits}
+
+-- what a name stands for: an item of the module, or an argument, a variable or a `let` of the function where it stands;
+-- a named constant or override by its number among both, a function by how many stand before it, and a `let` by its
+-- number among those of the body
+pub data Target : Type 0 where
+  ConstantTarget : (number : ℕ) → Target
+  GlobalTarget : (number : ℕ) → Target
+  FunctionTarget : (number : ℕ) → Target
+  ArgumentTarget : (number : ℕ) → Target
+  LocalTarget : (number : ℕ) → Target
+  LetTarget : (number : ℕ) → Target
+
+-- what each name in scope stands for
+abbrev pub Lookup : Type 0
+Lookup = Bytes → Option Target
+
+-- nothing is in scope
+abbrev pub no_targets : Lookup
+no_targets x = None
+
+-- ---- a text
+-- a word before operands is a function's name, or a word of the language, which is no identifier
+abbrev pub word_target : Option Target → List (Option Target)
+word_target None = []
+word_target (Some t) = Some t ∷ []
+
+abbrev mutual
+  -- the identifiers of an expression in their order, each with what it stands for
+  pub tree_targets : Lookup → Tree → List (Option Target)
+  tree_targets names (Name x) = names x ∷ []
+  tree_targets names (LiteralOf v) = []
+  tree_targets names (Apply word es) = word_target (names word) ++ trees_targets names es
+  tree_targets names (Deref e) = tree_targets names e
+  tree_targets names (AddressOf e) = tree_targets names e
+  tree_targets names (Index e i) = tree_targets names e ++ tree_targets names i
+  tree_targets names (PartOf x e) = tree_targets names e
+  tree_targets names (LogicalOf j a b) = tree_targets names a ++ tree_targets names b
+
+  pub trees_targets : Lookup → Trees → List (Option Target)
+  trees_targets names no_more = []
+  trees_targets names (more e es) = tree_targets names e ++ trees_targets names es
+
+-- those of an expression, if there is one
+abbrev pub tree_targets_if : Lookup → Option Tree → List (Option Target)
+tree_targets_if names None = []
+tree_targets_if names (Some e) = tree_targets names e
+
+-- how many `let`s stand before what follows a line
+abbrev mutual
+  pub lets_behind : ℕ → Line → ℕ
+  lets_behind l (Let x e) = suc l
+  lets_behind l (Braces b) = lets_behind_all l b
+  lets_behind l (IfElse e a b) = lets_behind_all (lets_behind_all l a) b
+  lets_behind l (SwitchOn e groups) = lets_behind_groups l groups
+  lets_behind l (LoopOf b d e) = lets_behind_all (lets_behind_all l b) d
+  lets_behind l _ = l
+
+  pub lets_behind_all : ℕ → Lines → ℕ
+  lets_behind_all l last = l
+  lets_behind_all l (before x ls) = lets_behind_all (lets_behind l x) ls
+
+  pub lets_behind_groups : ℕ → Groups → ℕ
+  lets_behind_groups l no_group = l
+  lets_behind_groups l (group labels b gs) = lets_behind_groups (lets_behind_all l b) gs
+
+-- what is in scope behind a line: the name of a `let`, from there on
+abbrev pub names_behind : ℕ → Line → Lookup → Lookup
+names_behind l (Let x e) names = bind names x (Some (LetTarget l))
+names_behind l _ names = names
+
+-- what a list leaves to its loop's `continuing`: no name from the first line with a `continue` on
+abbrev pub names_left : ℕ → Lines → Lookup → Lookup
+names_left l last names = names
+names_left l (before x ls) names =
+    cond (has_continue x) names (names_left (lets_behind l x) ls (names_behind l x names))
+
+abbrev mutual
+  -- the identifiers of a line
+  pub line_targets : ℕ → Lookup → Line → List (Option Target)
+  line_targets l names (Let x e) = tree_targets names e
+  line_targets l names (Assign p e) = tree_targets names p ++ tree_targets names e
+  line_targets l names (Braces b) = lines_targets l names b
+  line_targets l names (IfElse e a b) =
+      tree_targets names e ++ (lines_targets l names a ++ lines_targets (lets_behind_all l a) names b)
+  line_targets l names (SwitchOn e groups) = tree_targets names e ++ groups_targets l names groups
+  line_targets l names (LoopOf b d e) =
+      let l1 = lets_behind_all l b in
+      let inside = names_left l b names in
+      lines_targets l names b ++ (lines_targets l1 inside d ++ tree_targets_if (names_left l1 d inside) e)
+  line_targets l names (ReturnLine e) = tree_targets_if names e
+  line_targets l names (Perform word es) = word_target (names word) ++ trees_targets names es
+  line_targets l names _ = []
+
+  pub lines_targets : ℕ → Lookup → Lines → List (Option Target)
+  lines_targets l names last = []
+  lines_targets l names (before x ls) =
+      line_targets l names x ++ lines_targets (lets_behind l x) (names_behind l x names) ls
+
+  pub groups_targets : ℕ → Lookup → Groups → List (Option Target)
+  groups_targets l names no_group = []
+  groups_targets l names (group labels b gs) =
+      lines_targets l names b ++ groups_targets (lets_behind_all l b) names gs
+
+-- items under these names, from the number i on
+abbrev pub with_items : (ℕ → Target) → ℕ → List Bytes → Lookup → Lookup
+with_items target i [] names = names
+with_items target i (x ∷ xs) names = bind (with_items target (suc i) xs names) x (Some (target i))
+
+-- functions, the last one first
+abbrev pub with_functions : List TextFunction → Lookup
+with_functions [] = no_targets
+with_functions (f ∷ fs) = bind (with_functions fs) f.name (Some (FunctionTarget (length fs)))
+
+-- the names of a text's items
+abbrev pub text_names : TextModule → Lookup
+text_names t =
+    with_items ConstantTarget 0 (map (λ c. c.name) t.constants ++ t.overrides)
+    (with_items GlobalTarget 0 (map (λ g. g.name) t.globals) (with_functions t.functions))
+
+-- the identifiers of variables from the number i on, each of which is in scope behind its first value, and of the lines behind them
+abbrev pub variables_targets : ℕ → Lookup → List Variable → Lines → List (Option Target)
+variables_targets i names [] ls = lines_targets 0 names ls
+variables_targets i names (v ∷ vs) ls =
+    tree_targets_if names v.first_value ++ variables_targets (suc i) (bind names v.name (Some (LocalTarget i))) vs ls
+
+-- those of a function, in the scope of the text's items
+abbrev pub text_function_targets : Lookup → TextFunction → List (Option Target)
+text_function_targets items f = variables_targets 0 (with_items ArgumentTarget 0 f.parameters items) f.variables f.lines
+
+-- The identifiers of a text, each with what it stands for: of each initialiser, and of each function, the last one first.
+abbrev pub text_targets : TextModule → List (List (Option Target))
+text_targets t =
+    map (λ c. tree_targets (text_names t) c.initialiser) t.constants
+    ++ map (text_function_targets (text_names t)) t.functions
+
+-- ---- a module
+abbrev mutual
+  -- what a tree over constants means by its identifiers
+  pub constant_targets : ConstantTree → List Target
+  constant_targets (Fixed v) = []
+  constant_targets (NamedConstant i) = ConstantTarget i ∷ []
+  constant_targets (Constructed word ty es) = constants_targets es
+
+  pub constants_targets : ConstantTrees → List Target
+  constants_targets no_constant = []
+  constants_targets (constant e es) = constant_targets e ++ constants_targets es
+
+-- what operands mean
+abbrev pub operands_targets : (ℕ → List Target) → List ℕ → List Target
+operands_targets operand [] = []
+operands_targets operand (x ∷ xs) = operand x ++ operands_targets operand xs
+
+-- what an expression means, by what its operands mean
+abbrev pub own_targets : (ℕ → List Target) → Option Expression → List Target
+own_targets operand (Some (Constant e)) = constant_targets e
+own_targets operand (Some (Argument i)) = ArgumentTarget i ∷ []
+own_targets operand (Some (Local i)) = LocalTarget i ∷ []
+own_targets operand (Some (Global i)) = GlobalTarget i ∷ []
+own_targets operand (Some (Load p)) = operand p
+own_targets operand (Some (Operator word xs)) = operands_targets operand xs
+own_targets operand (Some (Access b i)) = operand b ++ operand i
+own_targets operand (Some (AccessIndex x b)) = operand b
+own_targets operand (Some (Logical j a b)) = operand a ++ operand b
+own_targets operand (Some (Swizzle letters v)) = operand v
+own_targets operand (Some (Request a word xs es)) = operands_targets operand xs ++ constants_targets es
+own_targets operand _ = []
+
+-- the number of the `let` that binds a handle
+abbrev pub LetNumbers : Type 0
+LetNumbers = ℕ → ℕ
+
+-- a handle that has a name means its `let`, and any other what its expression means
+abbrev pub standing_targets : Standing → (number : ℕ) → List Target → List Target
+standing_targets (Named x) number own = LetTarget number ∷ []
+standing_targets _ number own = own
+
+-- what a handle below the bound means
+abbrev pub targets_below : Function → Handles → LetNumbers → ℕ → ℕ → List Target
+targets_below f s numbers zero h = []
+targets_below f s numbers (suc n) h =
+    standing_targets (s h) (numbers h) (own_targets (targets_below f s numbers n) (expression_of f h))
+
+-- what a handle means
+abbrev pub value_targets : Function → Handles → LetNumbers → ℕ → List Target
+value_targets f s numbers h = targets_below f s numbers (length f.expressions) h
+
+-- what a handle means, if there is one
+abbrev pub value_targets_if : Function → Handles → LetNumbers → Option ℕ → List Target
+value_targets_if f s numbers None = []
+value_targets_if f s numbers (Some h) = value_targets f s numbers h
+
+-- behind an emitted handle: how many `let`s there are, and their numbers
+abbrev pub lets_after : Function → ℕ → ℕ → ℕ
+lets_after f h l = cond (binds f h) (suc l) l
+
+abbrev pub numbers_after : Function → ℕ → ℕ → LetNumbers → LetNumbers
+numbers_after f l h numbers = cond (binds f h) (update numbers h l) numbers
+
+-- behind several
+abbrev pub lets_after_all : Function → List ℕ → ℕ → ℕ
+lets_after_all f [] l = l
+lets_after_all f (h ∷ hs) l = lets_after_all f hs (lets_after f h l)
+
+abbrev pub numbers_after_all : Function → ℕ → List ℕ → LetNumbers → LetNumbers
+numbers_after_all f l [] numbers = numbers
+numbers_after_all f l (h ∷ hs) numbers = numbers_after_all f (lets_after f h l) hs (numbers_after f l h numbers)
+
+-- behind a result
+abbrev pub lets_after_result : Option ℕ → ℕ → ℕ
+lets_after_result None l = l
+lets_after_result (Some h) l = suc l
+
+abbrev pub numbers_after_result : ℕ → Option ℕ → LetNumbers → LetNumbers
+numbers_after_result l None numbers = numbers
+numbers_after_result l (Some h) numbers = update numbers h l
+
+-- how many `let`s stand before what follows a statement. Of a case that falls through nothing is written
+abbrev mutual
+  pub lets_by : Function → Statement → ℕ → ℕ
+  lets_by f (Emit first count) l = lets_after_all f (from first count) l
+  lets_by f (Block b) l = lets_by_all f b l
+  lets_by f (If c a b) l = lets_by_all f b (lets_by_all f a l)
+  lets_by f (Switch h cases) l = lets_by_cases f cases l
+  lets_by f (Loop b d e) l = lets_by_all f d (lets_by_all f b l)
+  lets_by f (Act a xs r) l = lets_after_result r l
+  lets_by f _ l = l
+
+  pub lets_by_all : Function → Statements → ℕ → ℕ
+  lets_by_all f end l = l
+  lets_by_all f (then st ss) l = lets_by_all f ss (lets_by f st l)
+
+  pub lets_by_cases : Function → Cases → ℕ → ℕ
+  lets_by_cases f no_case l = l
+  lets_by_cases f (case label b true cs) l = lets_by_cases f cs l
+  lets_by_cases f (case label b false cs) l = lets_by_cases f cs (lets_by_all f b l)
+
+-- the numbers of the names in scope behind a statement
+abbrev pub numbers_by : Function → ℕ → Statement → LetNumbers → LetNumbers
+numbers_by f l (Emit first count) numbers = numbers_after_all f l (from first count) numbers
+numbers_by f l (Act a xs r) numbers = numbers_after_result l r numbers
+numbers_by f l _ numbers = numbers
+
+-- those of the names that a list leaves to its loop's `continuing`
+abbrev pub numbers_left : Function → ℕ → Statements → LetNumbers → LetNumbers
+numbers_left f l end numbers = numbers
+numbers_left f l (then st ss) numbers =
+    cond (holds_continue st) numbers (numbers_left f (lets_by f st l) ss (numbers_by f l st numbers))
+
+-- what the `let`s of emitted handles mean
+abbrev pub emit_targets : Naming → (k l : ℕ) → List ℕ → Handles → LetNumbers → List Target
+emit_targets f k l [] s numbers = []
+emit_targets f k l (h ∷ hs) s numbers =
+    cond (binds f.function h) (own_targets (value_targets f.function s numbers) (expression_of f.function h)) []
+    ++ emit_targets f (given_after f.function h k) (lets_after f.function h l) hs (after_one f k h s)
+    (numbers_after f.function l h numbers)
+
+-- what an action calls
+abbrev pub action_targets : Action → List Target
+action_targets (Asked word) = []
+action_targets (Called g) = FunctionTarget g ∷ []
+
+abbrev mutual
+  -- what a statement means by its identifiers
+  pub statement_targets : Naming → (k l : ℕ) → Statement → Handles → LetNumbers → List Target
+  statement_targets f k l (Emit first count) s numbers = emit_targets f k l (from first count) s numbers
+  statement_targets f k l (Store p v) s numbers =
+      value_targets f.function s numbers p ++ value_targets f.function s numbers v
+  statement_targets f k l (Block b) s numbers = statements_targets f k l b s numbers
+  statement_targets f k l (If c a b) s numbers =
+      let k1 = given_by_all f.function a k in
+      let l1 = lets_by_all f.function a l in
+      value_targets f.function s numbers c
+      ++ (statements_targets f k l a s numbers ++ statements_targets f k1 l1 b s numbers)
+  statement_targets f k l (Switch h cases) s numbers =
+      value_targets f.function s numbers h ++ cases_targets f k l cases s numbers
+  statement_targets f k l (Loop b d e) s numbers =
+      let k1 = given_by_all f.function b k in
+      let l1 = lets_by_all f.function b l in
+      let s1 = after_all f k b s in
+      let numbers1 = numbers_left f.function l b numbers in
+      statements_targets f k l b s numbers
+      ++ (statements_targets f k1 l1 d s1 numbers1
+      ++ value_targets_if f.function (after_all f k1 d s1) (numbers_left f.function l1 d numbers1) e)
+  statement_targets f k l (Return v) s numbers = value_targets_if f.function s numbers v
+  statement_targets f k l (Act a xs r) s numbers =
+      action_targets a ++ operands_targets (value_targets f.function s numbers) xs
+  statement_targets f k l _ s numbers = []
+
+  pub statements_targets : Naming → (k l : ℕ) → Statements → Handles → LetNumbers → List Target
+  statements_targets f k l end s numbers = []
+  statements_targets f k l (then st ss) s numbers =
+      statement_targets f k l st s numbers
+      ++ statements_targets f (given_by f.function st k) (lets_by f.function st l) ss (after f k st s)
+      (numbers_by f.function l st numbers)
+
+  pub cases_targets : Naming → (k l : ℕ) → Cases → Handles → LetNumbers → List Target
+  cases_targets f k l no_case s numbers = []
+  cases_targets f k l (case label b true cs) s numbers =
+      cases_targets f (given_by_all f.function b k) l cs s numbers
+  cases_targets f k l (case label b false cs) s numbers =
+      statements_targets f k l b s numbers
+      ++ cases_targets f (given_by_all f.function b k) (lets_by_all f.function b l) cs s numbers
+
+-- no `let` stands before a function's body
+abbrev pub no_numbers : LetNumbers
+no_numbers h = 0
+
+-- what the first values of variables mean
+abbrev pub first_values_targets : Function → List (Option ℕ) → List Target
+first_values_targets f [] = []
+first_values_targets f (o ∷ os) = value_targets_if f (at_start f) no_numbers o ++ first_values_targets f os
+
+-- what a function means by its identifiers
+abbrev pub function_targets : Naming → List Target
+function_targets f =
+    first_values_targets f.function f.function.first_values
+    ++ statements_targets f 0 0 f.function.body (at_start f.function) no_numbers
+
+-- What a module means by its identifiers: in each initialiser, and in each function, the last one first.
+abbrev pub module_targets : Module → List Naming → List (List Target)
+module_targets p fs = map constant_targets p.initialisers ++ map function_targets fs
+
+-- ---- the law
+-- an argument or a variable that an expression names is one of the function
+abbrev pub LeafStands : Function → Option Expression → Type 0
+LeafStands f (Some (Argument i)) = i < argument_count f
+LeafStands f (Some (Local i)) = i < local_count f
+LeafStands f _ = Unit {0}
+
+-- those of each function
+abbrev pub LeavesStand : List Naming → Type 0
+LeavesStand [] = Unit {0}
+LeavesStand (f ∷ fs) = ((h : ℕ) → LeafStands f.function (expression_of f.function h)) × LeavesStand fs
+
+-- in the text of every module whose scope holds, each identifier stands for what the module means by it
+abbrev pub ResolvesAsMeant : Type 0
+ResolvesAsMeant =
+    (p : Module) (n : ModuleNames) (fs : List Naming) → ModuleFits p n fs → LeavesStand fs →
+    text_targets (form_module p n fs) ≡ map (map Some) (module_targets p fs)
