@@ -14,11 +14,18 @@ use Rattle.name_keys.specs.Keys.{NameMap}
 use Rattle.type_spelling.specs.Contexts.{names_of}
 use Rattle.shader_runs.specs.Program.{binds, from}
 use Rattle.shader_runs.specs.Scope.{Handles, Naming, at_start, bound_name, given_after, given_by, given_by_all, after_one, after, after_all}
-use Rattle.shader_runs.specs.Bindings.{text_lets, Binding, emit_bindings, statement_bindings, statements_bindings, cases_bindings}
+use Rattle.shader_runs.specs.Bindings.{text_lets, Binding, function_bindings, emit_bindings, statement_bindings, statements_bindings, cases_bindings}
 use Rattle.shader_runs.proofs.Bindings.{binds_as_meant}
 use Rattle.wgsl_text.specs.Tree.{TypeSpecifier}
+use Rattle.wgsl_text.specs.Reading.{type_layout}
+use Rattle.wgsl_text.proofs.RowText.{text-append}
+use Rattle.std.specs.Option.{option_map, option_and_then}
+use Rattle.naga_info.specs.declared.info.TypeResolution.{TypeResolution}
+use Rattle.naga_info.specs.declared.info.TypeResolution.TheVariants as resolution
+use Rattle.type_spelling.specs.Trees.{Names as TypeNames, resolution_tree}
+use Rattle.type_spelling.proofs.Forms.{type_row, inner_tree_row}
 use Rattle.wgsl_text.specs.Tree as tree
-use Rattle.naga_form.specs.Types.{told_type}
+use Rattle.naga_form.specs.Types.{told_type, told_spelling, spelled_resolution}
 use Rattle.naga_form.specs.Names.{module_names}
 use Rattle.naga_form.specs.Shapes.{simple_shape, statement_shape, statements_shape, cases_shape, function_shapes, program_shape, namings_from, namings, outer_names, function_naming}
 use Rattle.naga_form.specs.Form.{as_value, own_if, plain_form, let_form, then_if, lets_form, return_line, simple_form, loop_form, label_form, line_form, lines_form, cases_form, functions_form, written_program}
@@ -27,13 +34,13 @@ use Rattle.naga_form.proofs.Runs.{program_reads}
 
 module _ (n : Naming) (told : ℕ → Option TypeSpecifier) (es : List ir.Expression) where
   -- what the `let`s of bound handles tell
-  abbrev told_of : List Binding → List (Option TypeSpecifier)
-  told_of bs = map (λ b. told b.handle) bs
+  abbrev told_of : List Binding → List (Option (List ℕ))
+  told_of bs = map (λ b. option_map type_layout (told b.handle)) bs
 
-  told_both : {us vs : List (Option TypeSpecifier)} (first second : List Binding) → us ≡ told_of first → vs ≡ told_of second → us ++ vs ≡ told_of (first ++ second)
-  told_both first second a b = (λ i. a i ++ b i) ∙ sym (map-append (λ b. told b.handle) first second)
+  told_both : {us vs : List (Option (List ℕ))} (first second : List Binding) → us ≡ told_of first → vs ≡ told_of second → us ++ vs ≡ told_of (first ++ second)
+  told_both first second a b = (λ i. a i ++ b i) ∙ sym (map-append (λ b. option_map type_layout (told b.handle)) first second)
 
-  let_tells : (t : Option TypeSpecifier) (x : List ℕ) (e : tree.Expression) → statement_annotations (let_form t x e) ≡ t ∷ []
+  let_tells : (t : Option TypeSpecifier) (x : List ℕ) (e : tree.Expression) → statement_annotations (let_form t x e) ≡ option_map type_layout t ∷ []
   let_tells None x e = refl
   let_tells (Some t) x e = refl
 
@@ -97,12 +104,28 @@ module _ (n : Naming) (told : ℕ → Option TypeSpecifier) (es : List ir.Expres
         let k1 = given_by_all n.function (statements_shape body) k in
         told_both (statements_bindings n k (statements_shape body)) (cases_bindings n k1 (cases_shape cs)) (lines_tell k body s) (cases_tell k1 [] cs s)
 
+-- the layout of a type that a `let` tells is the spelling of its handle's type
+told_spells : (explicit : Bool) (t : TypeNames) (es : List ExpressionInfo) (h : ℕ) → option_map type_layout (told_type explicit t es h) ≡ told_spelling explicit t es h
+told_spells false t es h = refl
+told_spells true t es h = by (slice_get es h)
+  where
+    row : (r : TypeResolution) → option_map type_layout (resolution_tree t r) ≡ spelled_resolution t r
+    row (resolution.Handle ty) = sym (type_row text-append t (λ handle. true) ty)
+    row (resolution.Value it) = sym (inner_tree_row text-append t (λ handle. true) it)
+
+    by : (e : Option ExpressionInfo) → option_map type_layout (option_and_then (λ k. resolution_tree t k.ty) e) ≡ option_and_then (λ k. spelled_resolution t k.ty) e
+    by None = refl
+    by (Some k) = row k.ty
+
 functions_tell : (explicit : Bool) (names : NameMap) (types : List Type_) (g : ℕ) (fs : List ir_function.Function) (ess : List (List ExpressionInfo)) → map (λ (f : tree.Function). statements_annotations f.body) (functions_form explicit names types g fs ess) ≡ module_annotations explicit (names_of types names) (namings_from names g (function_shapes types fs ess)) ess
 functions_tell explicit names types g [] ess = refl
 functions_tell explicit names types g (f ∷ fs) [] = refl
 functions_tell explicit names types g (f ∷ fs) (es ∷ ess) =
     let n = function_naming names types g f es in
-    λ i. lines_tell n (told_type explicit (names_of types names) es) f.expressions 0 f.body (at_start n.function) i ∷ functions_tell explicit names types (g + 1) fs ess i
+    let t = names_of types names in
+    let line = lines_tell n (told_type explicit t es) f.expressions 0 f.body (at_start n.function)
+        ∙ (λ i. map (λ b. told_spells explicit t es b.handle i) (function_bindings n)) in
+    λ i. line i ∷ functions_tell explicit names types (g + 1) fs ess i
 
 pub binds_as : (m : Module) (info : ModuleInfo) (explicit : Bool) → IsTrue (is_accepted m info) → BindsAs m info explicit (written_program m info explicit)
 binds_as m info explicit accepted = record {
