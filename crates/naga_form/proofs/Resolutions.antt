@@ -23,7 +23,6 @@ use Rattle.shader_runs.specs.Resolution.{LeafStands, LeavesStand, text_targets}
 use Rattle.shader_runs.proofs.Resolution.{resolves_as_meant}
 use Rattle.shader_runs.proofs.Update.{and_left, and_right}
 use Rattle.naga_form.specs.Names.{NamesAreCounted, module_names}
-use Rattle.naga_form.specs.Operators.{operator_form}
 use Rattle.naga_form.specs.Types.{declared_type}
 use Rattle.naga_form.specs.Shapes.{binary_shape, expression_shape, function_shape, function_shapes, program_shape, namings_from, namings, outer_names, function_naming}
 use Rattle.naga_form.specs.Form.{written_program}
@@ -45,7 +44,7 @@ module _ (types : List Type_) (f : ir_function.Function) (es : List ExpressionIn
       subst (λ count. v < count) (sym (mapped_length (λ l. l.init) f.local_variables)) (slice_get_within f.local_variables v l.0 l.2)
   leaf_stands h (expression.Binary op left right) at = by op
     where
-      by : (op : BinaryOperator) → LeafStands (function_shape types f es) (Some (binary_shape (operator_form op) left right))
+      by : (op : BinaryOperator) → LeafStands (function_shape types f es) (Some (binary_shape op left right))
       by operator.LogicalAnd = tt
       by _ = tt
   leaf_stands h _ at = tt
