@@ -19,11 +19,6 @@ use Rattle.shader_runs.specs.Program.{Function, local_count}
 use Rattle.shader_runs.specs.Scope.{Standing, Handles, usable_as, usable_if, at_start, before_local, first_values_fit}
 use Rattle.shader_runs.proofs.Update.{and_left, and_right, and_both}
 use Rattle.naga_form.specs.Shapes.{expression_shape, binary_shape, function_shape}
-<<<<<<< HEAD
-use Rattle.naga_form.proofs.Fits.{mapped_length}
-=======
-use Rattle.naga_form.specs.Operators.{operator_form}
->>>>>>> 59e071f4771b97388c36c74df22366eb81ab9d09
 use Rattle.naga_scope.specs.Standings.{names_earlier, is_earlier}
 
 -- each local with its index: its first value is in scope where it stands

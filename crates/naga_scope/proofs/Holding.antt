@@ -21,18 +21,9 @@ use Rattle.naga_info.specs.declared.info.ExpressionInfo.{ExpressionInfo}
 use Rattle.accepted_modules.proofs.Accepting.{load_word_at, binary_at}
 use Rattle.accepted_modules.proofs.Fitting.{drop_first, item_at}
 use Rattle.name_keys.specs.Keys.{NameMap}
-<<<<<<< HEAD
-use Rattle.naga_operators.specs.declared.BinaryOperator.{BinaryOperator}
-use Rattle.shader_runs.specs.Program.{Function, operands_of, from}
-use Rattle.shader_runs.specs.Premises.{AllBelow}
-use Rattle.shader_runs.specs.Scope.{Naming, Handles, given_after, given_after_all, given_by, after, fits, fits_all, fits_function}
-=======
-use Rattle.wgsl_text.specs.Tree.{BinaryOperator as tree_operator}
 use Rattle.shader_runs.specs.Program.{Function, operands_of}
 use Rattle.shader_runs.specs.Premises.{AllBelow}
 use Rattle.shader_runs.specs.Scope.{Naming, Handles, after, fits, fits_all, fits_function}
-use Rattle.naga_form.specs.Operators.{operator_form}
->>>>>>> 59e071f4771b97388c36c74df22366eb81ab9d09
 use Rattle.naga_form.specs.Shapes.{binary_shape, statement_shape, statements_shape, function_shape, function_shapes, function_naming, namings_from, OperandsStandBefore}
 use Rattle.naga_form.proofs.Fits.{none_given_by}
 use Rattle.naga_scope.specs.Flat.{holds_no_block, is_flat}

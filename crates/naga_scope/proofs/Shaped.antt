@@ -11,23 +11,10 @@ use Rattle.naga_operators.specs.declared.BinaryOperator.{BinaryOperator}
 use Rattle.naga_operators.specs.declared.BinaryOperator.TheVariants.{LogicalAnd, LogicalOr}
 use Rattle.naga_ir.specs.declared.types.Type_.{Type_}
 use Rattle.naga_info.specs.declared.info.ExpressionInfo.{ExpressionInfo}
-<<<<<<< HEAD
-use Rattle.shader_runs.specs.Program.{Function, operands_of, expression_of, is_given, is_counted, binds_as, binds}
-use Rattle.shader_runs.specs.Scope.{Standing, Handles, is_present, usable_as, usable, usable_all, is_pure, is_constant_leaf, is_emittable}
-use Rattle.naga_form.specs.Shapes.{binary_shape, expression_shape, given_from, function_shape}
-use Rattle.naga_form.proofs.Fits.{nothing_given, no_keys}
-
--- no handle of a function is named, where front ends name none
-pub not_given : (types : List Type_) (f : ir_function.Function) (es : List ExpressionInfo) (h : ℕ) → IsTrue (length (keys f.named_expressions) == 0) → is_given (function_shape types f es) h ≡ false
-not_given types f es h unnamed = ap (λ ks. get_or (given_from ks 0 f.expressions) h false) (no_keys (keys f.named_expressions) unnamed) ∙ nothing_given 0 f.expressions h
-=======
-use Rattle.wgsl_text.specs.Tree.{BinaryOperator, LogicalAnd, LogicalOr}
 use Rattle.shader_runs.specs.Program.{Function, operands_of, expression_of, is_counted, binds_as, binds}
 use Rattle.shader_runs.specs.Scope.{Standing, Handles, is_present, usable_as, usable, usable_all, is_pure, is_constant_leaf, is_emittable}
-use Rattle.naga_form.specs.Operators.{operator_form}
 use Rattle.naga_form.specs.Shapes.{binary_shape, expression_shape, function_shape}
 use Rattle.naga_form.proofs.Fits.{none_is_given}
->>>>>>> 59e071f4771b97388c36c74df22366eb81ab9d09
 
 -- ---- operators
 pub pure_operator : (op : BinaryOperator) (l r : ℕ) → is_pure (Some (binary_shape op l r)) ≡ true
