@@ -203,14 +203,15 @@ if_counted false next kept t = Done kept t
 -- an emitted expression: an event is asked for, an operator computed
 abbrev pub emit_as : Call → ℕ → Option Expression → Next Kept
 emit_as c h (Some (Load p)) kept t =
-    if_counted (is_counted c.function 1 h)
-    (after_load c.environment.parts (handle_type c.function h) c.world h (used_value c kept p)) kept
-    t
+    let parts = c.environment.parts in
+    let loads = after_load parts (handle_type c.function h) c.world h (used_value c kept p) in
+    if_counted (is_counted c.function 1 h) loads kept t
 emit_as c h (Some (Request a w xs es)) kept t =
-    if_counted (is_asked c.function h a)
-    (after_request c.environment.parts (handle_type c.function h)
-    c.world h w
-    (joined_values (used_values c kept xs) (constant_values c.environment c.meaning es))) kept t
+    let parts = c.environment.parts in
+    let constants = constant_values c.environment c.meaning es in
+    let values = joined_values (used_values c kept xs) constants in
+    let asks = after_request parts (handle_type c.function h) c.world h w values in
+    if_counted (is_asked c.function h a) asks kept t
 emit_as c h (Some (Operator w xs)) kept t =
     Done (update kept h (computed_value c kept (Some (Operator w xs)))) t
 emit_as c h (Some (Access b i)) kept t =
@@ -268,8 +269,9 @@ word_if false w ws = ws
 abbrev pub barrier_words : BarrierBits → List Bytes
 barrier_words bits =
     word_if bits.storage (codes "storageBarrier")
-    (word_if bits.work_group (codes "workgroupBarrier") (word_if bits.sub_group
-    (codes "subgroupBarrier") (word_if bits.texture (codes "textureBarrier") [])))
+    (word_if bits.work_group (codes "workgroupBarrier")
+    (word_if bits.sub_group (codes "subgroupBarrier")
+    (word_if bits.texture (codes "textureBarrier") [])))
 
 -- one event for each word
 abbrev pub ask_each : List Bytes → Next Kept
@@ -304,8 +306,8 @@ abbrev mutual
       or_stuck (used_value c kept h) t
       (λ v. branch_by v t (run_all c n a kept t) (run_all c n b kept t))
   run c n (Switch h cases) kept t =
-      or_stuck (used_value c kept h) t (λ v. with_integer v t
-      (λ z. after_switch (run_cases c n cases (label_if (has_label (Numbered z) cases) z) kept t)))
+      or_stuck (used_value c kept h) t (λ v. with_integer v t (λ z.
+      after_switch (run_cases c n cases (label_if (has_label (Numbered z) cases) z) kept t)))
   run c n (Loop b d e) kept t = turns n (turn (run_all c n b) (run_all c n d) (leave c e)) kept t
   run c n Break kept t = Broke kept t
   run c n Continue kept t = Continued kept t
@@ -324,8 +326,10 @@ abbrev mutual
   pub run_cases : Call → ℕ → Cases → Label → Next Kept
   run_cases c n no_case x kept t = Done kept t
   run_cases c n (case l b falls cs) x kept t =
-      cond (same_label x l) (and_then (run_all c n b kept t)
-      (λ kept1 t1. cond falls (run_on c n cs kept1 t1) (Done kept1 t1))) (run_cases c n cs x kept t)
+      let falling = λ (kept1 : Kept) (t1 : List Event).
+      cond falls (run_on c n cs kept1 t1) (Done kept1 t1) in
+      let own = and_then (run_all c n b kept t) falling in
+      cond (same_label x l) own (run_cases c n cs x kept t)
 
   -- on from a case that fell through
   pub run_on : Call → ℕ → Cases → Next Kept

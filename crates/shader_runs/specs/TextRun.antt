@@ -212,13 +212,12 @@ abbrev mutual
       (λ place t1. with_value (value_of l e names t1) (λ v t2. Done names (Write place v ∷ t2)))
   follow l n (Braces b) names t = closed_outcome names (follow_all l n b names t)
   follow l n (IfElse e a b) names t =
-      with_value (value_of l e names t)
-      (λ v t1.
+      with_value (value_of l e names t) (λ v t1.
       closed_outcome names (branch_by v t1 (follow_all l n a names t1) (follow_all l n b names t1)))
   follow l n (SwitchOn e groups) names t =
-      with_value (value_of l e names t)
-      (λ v t1. closed_outcome names (with_integer v t1 (λ z. after_switch
-      (follow_groups l n groups (label_if (group_has (Numbered z) groups) z) names t1))))
+      with_value (value_of l e names t) (λ v t1. closed_outcome names (with_integer v t1 (λ z.
+      let label = label_if (group_has (Numbered z) groups) z in
+      after_switch (follow_groups l n groups label names t1))))
   follow l n (LoopOf b d e) names t =
       turns n (λ names1 t1.
       closed_outcome names1
@@ -345,7 +344,8 @@ abbrev pub follow_call : Scope → World → Meaning → (uses : Bytes → WordU
 follow_call outer w m uses n [] word vs t = respond_by_use (uses word) w m word vs t
 follow_call outer w m uses n (f ∷ fs) word vs t =
     let l : Words = record { world = w; meaning = m; respond = follow_call outer w m uses n fs } in
-    let own = called (nat_eq (length vs) (length f.parameters))
-    (follow_body l n (length fs) f vs (with_parameters f.parameters vs outer) t) t in
+    let scope = with_parameters f.parameters vs outer in
+    let body = follow_body l n (length fs) f vs scope t in
+    let own = called (nat_eq (length vs) (length f.parameters)) body t in
     let other = follow_call outer w m uses n fs word vs t in
     cond (same_bytes word f.name) own other

@@ -98,8 +98,10 @@ result_pieces (ResultOf attributes t) =
 abbrev pub locals_pieces : List Local → List Piece
 locals_pieces [] = []
 locals_pieces (l ∷ more) =
-    Indent 1 ∷ mark KeywordVar ∷ Blank ∷ word l.name ∷ mark Colon ∷ Blank ∷ (type_pieces l.type ++
-    (value_pieces l.value ++ locals_pieces more))
+    Indent 1 ∷ mark KeywordVar ∷ Blank ∷ word l.name ∷ mark Colon ∷ Blank ∷
+    (type_pieces l.type ++
+    (value_pieces l.value ++
+    locals_pieces more))
 
 -- an empty line behind the items of a group, if there are any
 abbrev pub group_end : {A : Type 0} → List A → List Piece
@@ -108,9 +110,13 @@ group_end (x ∷ more) = LineEnd ∷ []
 
 abbrev pub function_pieces : Function → List Piece
 function_pieces f =
-    mark KeywordFn ∷ Blank ∷ word f.name ∷ mark OpenParen ∷ (parameters_pieces f.parameters ++
-    (result_pieces f.result ++ (Blank ∷ mark OpenBrace ∷ LineEnd ∷ (
-    locals_pieces f.locals ++ (group_end f.locals ++ (statements_pieces f.body 1 ++
+    mark KeywordFn ∷ Blank ∷ word f.name ∷ mark OpenParen ∷
+    (parameters_pieces f.parameters ++
+    (result_pieces f.result ++
+    (Blank ∷ mark OpenBrace ∷ LineEnd ∷
+    (locals_pieces f.locals ++
+    (group_end f.locals ++
+    (statements_pieces f.body 1 ++
     (mark CloseBrace ∷ LineEnd ∷ [])))))))
 
 abbrev pub enables_pieces : List (List ℕ) → List Piece
@@ -121,28 +127,37 @@ enables_pieces (w ∷ more) =
 abbrev pub members_pieces : List StructMember → List Piece
 members_pieces [] = []
 members_pieces (m ∷ more) =
-    Indent 1 ∷ (attributes_pieces m.attributes ++ (word m.name ∷ mark Colon ∷ Blank ∷
-    (type_pieces m.type ++ (mark Comma ∷ LineEnd ∷ members_pieces more))))
+    Indent 1 ∷
+    (attributes_pieces m.attributes ++
+    (word m.name ∷ mark Colon ∷ Blank ∷
+    (type_pieces m.type ++
+    (mark Comma ∷ LineEnd ∷ members_pieces more))))
 
 -- an empty line behind each
 abbrev pub structs_pieces : List Struct → List Piece
 structs_pieces [] = []
 structs_pieces (s ∷ more) =
     mark KeywordStruct ∷ Blank ∷ word s.name ∷ Blank ∷ mark OpenBrace ∷ LineEnd ∷
-    (members_pieces s.members ++ (mark CloseBrace ∷ LineEnd ∷ LineEnd ∷ structs_pieces more))
+    (members_pieces s.members ++
+    (mark CloseBrace ∷ LineEnd ∷ LineEnd ∷ structs_pieces more))
 
 abbrev pub constants_pieces : List NamedConstant → List Piece
 constants_pieces [] = []
 constants_pieces (c ∷ more) =
-    mark KeywordConst ∷ Blank ∷ word c.name ∷ mark Colon ∷ Blank ∷ (type_pieces c.type ++ (Blank ∷
-    mark Equals ∷ Blank ∷ (expression_pieces c.value ++ (
-    mark Semicolon ∷ LineEnd ∷ constants_pieces more))))
+    mark KeywordConst ∷ Blank ∷ word c.name ∷ mark Colon ∷ Blank ∷
+    (type_pieces c.type ++
+    (Blank ∷ mark Equals ∷ Blank ∷
+    (expression_pieces c.value ++
+    (mark Semicolon ∷ LineEnd ∷ constants_pieces more))))
 
 abbrev pub overrides_pieces : List Override → List Piece
 overrides_pieces [] = []
 overrides_pieces (o ∷ more) =
-    attributes_pieces o.attributes ++ (mark KeywordOverride ∷ Blank ∷ word o.name ∷ mark Colon ∷
-    Blank ∷ (type_pieces o.type ++ (value_pieces o.value ++ overrides_pieces more)))
+    attributes_pieces o.attributes ++
+    (mark KeywordOverride ∷ Blank ∷ word o.name ∷ mark Colon ∷ Blank ∷
+    (type_pieces o.type ++
+    (value_pieces o.value ++
+    overrides_pieces more)))
 
 -- a line end behind the binding
 abbrev pub behind_attribute : Attribute → List Piece
@@ -163,9 +178,13 @@ space_pieces (SpaceAndAccess a m) =
 abbrev pub globals_pieces : List Global → List Piece
 globals_pieces [] = []
 globals_pieces (g ∷ more) =
-    global_attributes_pieces g.attributes ++ (mark KeywordVar ∷ (space_pieces g.space ++ (Blank ∷
-    word g.name ∷ mark Colon ∷ Blank ∷ (
-    type_pieces g.type ++ (value_pieces g.value ++ globals_pieces more)))))
+    global_attributes_pieces g.attributes ++
+    (mark KeywordVar ∷
+    (space_pieces g.space ++
+    (Blank ∷ word g.name ∷ mark Colon ∷ Blank ∷
+    (type_pieces g.type ++
+    (value_pieces g.value ++
+    globals_pieces more)))))
 
 -- an empty line behind each
 abbrev pub functions_pieces : List Function → List Piece
@@ -188,9 +207,14 @@ entry_points_pieces (e ∷ more) = entry_point_pieces e ++ more_entry_points_pie
 -- an empty line behind the enables, the constants, the overrides and the globals, if there are any
 abbrev pub program_pieces : Program → List Piece
 program_pieces p =
-    enables_pieces p.enables ++ (group_end p.enables ++ (
-    structs_pieces p.structs ++ (
-    constants_pieces p.constants ++ (group_end p.constants ++ (
-    overrides_pieces p.overrides ++ (group_end p.overrides ++ (
-    globals_pieces p.globals ++ (group_end p.globals ++ (
-    functions_pieces p.functions ++ entry_points_pieces p.entry_points)))))))))
+    enables_pieces p.enables ++
+    (group_end p.enables ++
+    (structs_pieces p.structs ++
+    (constants_pieces p.constants ++
+    (group_end p.constants ++
+    (overrides_pieces p.overrides ++
+    (group_end p.overrides ++
+    (globals_pieces p.globals ++
+    (group_end p.globals ++
+    (functions_pieces p.functions ++
+    entry_points_pieces p.entry_points)))))))))

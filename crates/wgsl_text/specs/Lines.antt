@@ -44,10 +44,14 @@ abbrev mutual
       Indent n ∷ mark KeywordLet ∷ Blank ∷ word w ∷ Blank ∷ mark Equals ∷ Blank ∷
       (expression_pieces e ++ line_end)
   statement_pieces (TypedLet w t e) n =
-      Indent n ∷ mark KeywordLet ∷ Blank ∷ word w ∷ mark Colon ∷ Blank ∷ (type_pieces t ++ (Blank ∷
-      mark Equals ∷ Blank ∷ (expression_pieces e ++ line_end)))
+      Indent n ∷ mark KeywordLet ∷ Blank ∷ word w ∷ mark Colon ∷ Blank ∷
+      (type_pieces t ++
+      (Blank ∷ mark Equals ∷ Blank ∷
+      (expression_pieces e ++ line_end)))
   statement_pieces (Assign a b) n =
-      Indent n ∷ (expression_pieces a ++ (Blank ∷ mark Equals ∷ Blank ∷
+      Indent n ∷
+      (expression_pieces a ++
+      (Blank ∷ mark Equals ∷ Blank ∷
       (expression_pieces b ++ line_end)))
   statement_pieces (CallStatement t args) n =
       Indent n ∷ (type_pieces t ++ (mark OpenParen ∷ (arguments_pieces args ++ line_end)))
@@ -58,30 +62,37 @@ abbrev mutual
   statement_pieces Break n = Indent n ∷ mark KeywordBreak ∷ line_end
   statement_pieces Continue n = Indent n ∷ mark KeywordContinue ∷ line_end
   statement_pieces (If e accept reject) n =
-      Indent n ∷ mark KeywordIf ∷ Blank ∷ (expression_pieces e ++ (Blank ∷
-      mark OpenBrace ∷ LineEnd ∷ (
-      statements_pieces accept (suc n) ++ (Indent n ∷ mark CloseBrace ∷ else_pieces reject n))))
+      Indent n ∷ mark KeywordIf ∷ Blank ∷
+      (expression_pieces e ++
+      (Blank ∷ mark OpenBrace ∷ LineEnd ∷
+      (statements_pieces accept (suc n) ++
+      (Indent n ∷ mark CloseBrace ∷ else_pieces reject n))))
   statement_pieces (Loop body rest) n =
-      Indent n ∷ mark KeywordLoop ∷ Blank ∷ mark OpenBrace ∷ LineEnd ∷ (
-      statements_pieces body (suc n) ++ (continuing_pieces rest (suc n) ++ (Indent n ∷
-      mark CloseBrace ∷ LineEnd ∷ [])))
+      Indent n ∷ mark KeywordLoop ∷ Blank ∷ mark OpenBrace ∷ LineEnd ∷
+      (statements_pieces body (suc n) ++
+      (continuing_pieces rest (suc n) ++
+      (Indent n ∷ mark CloseBrace ∷ LineEnd ∷ [])))
   -- `break if` stands last in `continuing`
   statement_pieces (LoopBreakIf body rest e) n =
       Indent n ∷ mark KeywordLoop ∷ Blank ∷ mark OpenBrace ∷ LineEnd ∷
-      (statements_pieces body (suc n) ++ (
-      Indent (suc n) ∷ mark KeywordContinuing ∷ Blank ∷ mark OpenBrace ∷ LineEnd ∷
-      (statements_pieces rest (suc (suc n)) ++ (
-      Indent (suc (suc n)) ∷ mark KeywordBreak ∷ Blank ∷ mark KeywordIf ∷ Blank ∷
-      (expression_pieces e ++ (
-      mark Semicolon ∷ LineEnd ∷ Indent (suc n) ∷ mark CloseBrace ∷ LineEnd ∷ Indent n ∷
-      mark CloseBrace ∷ LineEnd ∷ []))))))
+      (statements_pieces body (suc n) ++
+      (Indent (suc n) ∷ mark KeywordContinuing ∷ Blank ∷ mark OpenBrace ∷ LineEnd ∷
+      (statements_pieces rest (suc (suc n)) ++
+      (Indent (suc (suc n)) ∷ mark KeywordBreak ∷ Blank ∷ mark KeywordIf ∷ Blank ∷
+      (expression_pieces e ++
+      (mark Semicolon ∷ LineEnd ∷
+      Indent (suc n) ∷ mark CloseBrace ∷ LineEnd ∷
+      Indent n ∷ mark CloseBrace ∷ LineEnd ∷ []))))))
   statement_pieces (Switch e cases) n =
-      Indent n ∷ mark KeywordSwitch ∷ Blank ∷ (expression_pieces e ++ (Blank ∷
-      mark OpenBrace ∷ LineEnd ∷ (
-      cases_pieces cases (suc n) ++ (Indent n ∷ mark CloseBrace ∷ LineEnd ∷ []))))
+      Indent n ∷ mark KeywordSwitch ∷ Blank ∷
+      (expression_pieces e ++
+      (Blank ∷ mark OpenBrace ∷ LineEnd ∷
+      (cases_pieces cases (suc n) ++
+      (Indent n ∷ mark CloseBrace ∷ LineEnd ∷ []))))
   statement_pieces (Block body) n =
-      Indent n ∷ mark OpenBrace ∷ LineEnd ∷ (statements_pieces body (suc n) ++ (Indent n ∷
-      mark CloseBrace ∷ LineEnd ∷ []))
+      Indent n ∷ mark OpenBrace ∷ LineEnd ∷
+      (statements_pieces body (suc n) ++
+      (Indent n ∷ mark CloseBrace ∷ LineEnd ∷ []))
 
   pub statements_pieces : Statements → ℕ → List Piece
   statements_pieces NoStatements n = []
@@ -91,21 +102,25 @@ abbrev mutual
   pub else_pieces : Statements → ℕ → List Piece
   else_pieces NoStatements n = LineEnd ∷ []
   else_pieces (Then s more) n =
-      Blank ∷ mark KeywordElse ∷ Blank ∷ mark OpenBrace ∷ LineEnd ∷ (
-      statement_pieces s (suc n) ++ (statements_pieces more (suc n) ++ (Indent n ∷ mark CloseBrace ∷
-      LineEnd ∷ [])))
+      Blank ∷ mark KeywordElse ∷ Blank ∷ mark OpenBrace ∷ LineEnd ∷
+      (statement_pieces s (suc n) ++
+      (statements_pieces more (suc n) ++
+      (Indent n ∷ mark CloseBrace ∷ LineEnd ∷ [])))
 
   -- nor of an empty `continuing`
   pub continuing_pieces : Statements → ℕ → List Piece
   continuing_pieces NoStatements n = []
   continuing_pieces (Then s more) n =
-      Indent n ∷ mark KeywordContinuing ∷ Blank ∷ mark OpenBrace ∷ LineEnd ∷ (
-      statement_pieces s (suc n) ++ (statements_pieces more (suc n) ++ (Indent n ∷ mark CloseBrace ∷
-      LineEnd ∷ [])))
+      Indent n ∷ mark KeywordContinuing ∷ Blank ∷ mark OpenBrace ∷ LineEnd ∷
+      (statement_pieces s (suc n) ++
+      (statements_pieces more (suc n) ++
+      (Indent n ∷ mark CloseBrace ∷ LineEnd ∷ [])))
 
   pub cases_pieces : Cases → ℕ → List Piece
   cases_pieces NoCases n = []
   cases_pieces (Case labels body more) n =
-      Indent n ∷ (case_pieces labels ++ (Blank ∷ mark OpenBrace ∷ LineEnd ∷ (
-      statements_pieces body (suc n) ++ (Indent n ∷ mark CloseBrace ∷ LineEnd ∷
-      cases_pieces more n))))
+      Indent n ∷
+      (case_pieces labels ++
+      (Blank ∷ mark OpenBrace ∷ LineEnd ∷
+      (statements_pieces body (suc n) ++
+      (Indent n ∷ mark CloseBrace ∷ LineEnd ∷ cases_pieces more n))))

@@ -110,14 +110,21 @@ abbrev mutual
   expression_pieces (Constant l) = literal_pieces l
   expression_pieces (Name w) = word w ∷ []
   expression_pieces (Binary a op b) =
-      mark OpenParen ∷ (expression_pieces a ++ (Blank ∷ (binary_pieces op ++ (Blank ∷
-      (expression_pieces b ++ (mark CloseParen ∷ []))))))
+      mark OpenParen ∷
+      (expression_pieces a ++
+      (Blank ∷
+      (binary_pieces op ++
+      (Blank ∷
+      (expression_pieces b ++
+      (mark CloseParen ∷ []))))))
   expression_pieces (Unary op e) =
       mark (unary_mark op) ∷ mark OpenParen ∷ (expression_pieces e ++ (mark CloseParen ∷ []))
   expression_pieces (Call t args) = type_pieces t ++ (mark OpenParen ∷ arguments_pieces args)
   expression_pieces (Member e w) = base_pieces e (expression_pieces e) ++ (mark Dot ∷ word w ∷ [])
   expression_pieces (Index e i) =
-      base_pieces e (expression_pieces e) ++ (mark OpenBracket ∷ (expression_pieces i ++
+      base_pieces e (expression_pieces e) ++
+      (mark OpenBracket ∷
+      (expression_pieces i ++
       (mark CloseBracket ∷ [])))
   expression_pieces (IndexAt e n) =
       base_pieces e (expression_pieces e) ++ (mark OpenBracket ∷ plain n ∷ mark CloseBracket ∷ [])
