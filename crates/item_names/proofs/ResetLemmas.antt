@@ -140,13 +140,13 @@ full_more start items others full = record {
   full = full.full;
 }
 
-refusal_more : (start : Names) (items others : List Labelled) (error : NamerError) → IsRefusalOfItems start items error → IsRefusalOfItems start (items ++ others) error
+pub refusal_more : (start : Names) (items others : List Labelled) (error : NamerError) → IsRefusalOfItems start items error → IsRefusalOfItems start (items ++ others) error
 refusal_more start items others Full why = full_more start items others why
 refusal_more start items others KeyFull why = list_all-append (λ item. key_fits item.0) items others ∙ ap (λ b. b && keys_fit others) why
 refusal_more start items others (Memory e) why = tt
 
 -- a beginning of some items is one of more
-beginning_more : (start : Names) (first now : NameMap) (items others : List Labelled) → PutsBeginning start first items now → PutsBeginning start first (items ++ others) now
+pub beginning_more : (start : Names) (first now : NameMap) (items others : List Labelled) → PutsBeginning start first items now → PutsBeginning start first (items ++ others) now
 beginning_more start first now items others p = record {
   named = p.named;
   left = p.left ++ others;
