@@ -69,8 +69,3 @@ IsResetRefusal start module_ error = IsRefusalOfItems start (labelled_items star
 pub record RefusesItems (old : Names) (before : NameMap) (items : List Labelled) (now : NameMap) (error : NamerError) : Type 0 where
   pub some : (start : Names) (first : NameMap) (earlier : List Labelled) → HasNamedItems start first earlier old before → PutsBeginning start first (earlier ++ items) now
   pub why : (start : Names) (first : NameMap) (earlier : List Labelled) → HasNamedItems start first earlier old before → IsRefusalOfItems start (earlier ++ items) error
-
--- the same of a module, where no item was named before
-pub record RefusesModule (old : Names) (before : NameMap) (module_ : Module) (now : NameMap) (error : NamerError) : Type 0 where
-  pub some : (start : Names) (first : NameMap) → HasNamedItems start first [] old before → PutsBeginning start first (labelled_items start module_) now
-  pub why : (start : Names) (first : NameMap) → HasNamedItems start first [] old before → IsRefusalOfItems start (labelled_items start module_) error

@@ -101,9 +101,6 @@ module _ {X : Type 0} (own : X → Labelled) {a b : Progress} {all : List Labell
   pub leaves_turn_one : {c : Progress} {x : X} {rest : List X} → xs ≡ x ∷ rest → Leaves a b all (map own xs) → Gives b (own x ∷ []) c → Leaves a c all (map own rest)
   leaves_turn_one is leaves gives = record { rest = λ after others. leaves.rest after (gives_same (sym (ap (map own) is)) (gives_then gives others)) }
 
-  pub leaves_none_one : xs ≡ [] → Leaves a b all (map own xs) → Gives a all b
-  leaves_none_one is leaves = leaves.rest b (gives_same (sym (ap (map own) is)) (gives_none b))
-
 pub one_each : {X : Type 0} (own : X → Labelled) (xs : List X) → flat_map (λ x. own x ∷ []) xs ≡ map own xs
 one_each own [] = refl
 one_each own (x ∷ xs) = ap (λ items. own x ∷ items) (one_each own xs)

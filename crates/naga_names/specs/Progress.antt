@@ -25,21 +25,26 @@ pub record Progress : Type 0 where
   pub refusal : Option NamerError
 
 abbrev pub progress : {Y S : Type 0} → Naming → hash.HashMap NameKey (String Y) S → Progress
-progress naming output = record { names = naming.namer; map = names_in output; refusal = naming.refusal }
+progress naming output =
+    record { names = naming.namer; map = names_in output; refusal = naming.refusal }
 
 -- these items have their names; or they are refused for a reason, and some first ones have theirs
-abbrev pub Stands : (start : Names) (first : NameMap) (items : List Labelled) → Names → NameMap → Option NamerError → Type 0
+abbrev pub Stands : (start : Names) (first : NameMap) (items : List Labelled)
+    → Names → NameMap → Option NamerError → Type 0
 Stands start first items names now None = HasNamedItems start first items names now
-Stands start first items names now (Some error) = PutsBeginning start first items now × IsRefusalOfItems start items error
+Stands start first items names now (Some error) =
+    PutsBeginning start first items now × IsRefusalOfItems start items error
 
 -- after any items that were named before, these are named too
 pub record Gives (before : Progress) (items : List Labelled) (after : Progress) : Type 0 where
-  pub more : (start : Names) (first : NameMap) (earlier : List Labelled) → Stands start first earlier before.names before.map before.refusal
+  pub more : (start : Names) (first : NameMap) (earlier : List Labelled)
+      → Stands start first earlier before.names before.map before.refusal
       → Stands start first (earlier ++ items) after.names after.map after.refusal
 
 -- the same of the items of a module, where none were named before
 pub record GivesModule (before : Progress) (module_ : Module) (after : Progress) : Type 0 where
-  pub more : (start : Names) (first : NameMap) → Stands start first [] before.names before.map before.refusal
+  pub more : (start : Names) (first : NameMap)
+      → Stands start first [] before.names before.map before.refusal
       → Stands start first (labelled_items start module_) after.names after.map after.refusal
 
 -- of all items these are left to be named
@@ -68,7 +73,8 @@ has_parts (owner.EntryPoint e) types t = false
 
 abbrev pub argument_items : Owner → List Type_ → ℕ → FunctionArgument → List Labelled
 argument_items of types n argument =
-    with_parts (has_parts of types argument.ty) (part_key (argument_key of n)) (argument_key of n, label_or argument.name (codes "param"))
+    with_parts (has_parts of types argument.ty) (part_key (argument_key of n))
+    (argument_key of n, label_or argument.name (codes "param"))
 
 abbrev pub local_item : Owner → ℕ → LocalVariable → Labelled
 local_item of l variable = (local_key of l, label_or variable.name (codes "local"))

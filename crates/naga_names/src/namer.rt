@@ -1,6 +1,7 @@
 //! Identifiers from labels.
 ghost use Rattle.std.specs.Prelude.{◌≡◌, true, ◌∷◌, [], ◌++◌, List, ℕ, map, length, false, codes, IfOk, IfErr, OnOk, OnErr, IsErr, string_bytes};
-ghost use Rattle.item_names.specs.Naming.{Names, names_code, no_names, new_names, label_or, first_name, is_taken, name_of, with_use, IsFull, HasNamed, name_after};
+ghost use Rattle.naga_names.specs.Starts.{start_of};
+ghost use Rattle.item_names.specs.Naming.{Names, names_code, no_names, label_or, first_name, is_taken, name_of, with_use, IsFull, HasNamed, name_after};
 ghost use Rattle.item_names.specs.Members.{PutsName, PutsNoName, HasNamedMembers, RefusesMembers};
 ghost use Rattle.item_names.specs.Refusal.{IsRefusalOf, IsResetRefusal, RefusesItems, SomeNameIsFull, SomeKeyIsFull, KeysRunOut};
 ghost use Rattle.item_names.specs.declared.error.NamerError.TheVariants.{KeyFull};
@@ -45,7 +46,13 @@ impl Model for Namer {
 
     ghost coded = { names_code };
 
-    ghost view = { λ n. record { keywords = n.keywords; builtin_identifiers = n.builtin_identifiers; caseless_keywords = n.keywords_case_insensitive; reserved_prefixes = map (λ p. p.now) n.reserved_prefixes.items; uses = n.uses } };
+    ghost view = { λ n. record {
+      keywords = n.keywords;
+      builtin_identifiers = n.builtin_identifiers;
+      caseless_keywords = n.keywords_case_insensitive;
+      reserved_prefixes = map (λ p. p.now) n.reserved_prefixes.items;
+      uses = n.uses;
+    } };
 }
 
 impl Namer {
@@ -74,8 +81,10 @@ impl Namer {
         ensures used { OnOk result (self.new ≡ with_use self.old label.now) }
 
         // The same by the labels that were named before.
-        ensures history { (earlier : List (List ℕ)) → HasNamed self.old earlier → IfOk result (λ name. string_bytes name ≡ name_after self.old earlier label.now) }
-        ensures more_history { (earlier : List (List ℕ)) → HasNamed self.old earlier → OnOk result (HasNamed self.new (earlier ++ label.now ∷ [])) }
+        ensures history { (earlier : List (List ℕ)) → HasNamed self.old earlier →
+            IfOk result (λ name. string_bytes name ≡ name_after self.old earlier label.now) }
+        ensures more_history { (earlier : List (List ℕ)) → HasNamed self.old earlier →
+            OnOk result (HasNamed self.new (earlier ++ label.now ∷ [])) }
 
         // A refusal changes nothing, and has a reason.
         ensures err { OnErr result (self.new ≡ self.old) }
@@ -102,10 +111,14 @@ impl Namer {
 
     /// `call` of the label, or of the fallback where there is none. An empty label is one.
     pub fn call_or(&mut self, label: &Option<String>, fallback: &str) -> Result<String, NamerError>
-        ensures name { IfOk result (λ name. string_bytes name ≡ name_of self.old (label_or label.now fallback.now)) }
+        ensures name { IfOk result (λ name.
+            string_bytes name ≡ name_of self.old (label_or label.now fallback.now)) }
         ensures used { OnOk result (self.new ≡ with_use self.old (label_or label.now fallback.now)) }
-        ensures history { (earlier : List (List ℕ)) → HasNamed self.old earlier → IfOk result (λ name. string_bytes name ≡ name_after self.old earlier (label_or label.now fallback.now)) }
-        ensures more_history { (earlier : List (List ℕ)) → HasNamed self.old earlier → OnOk result (HasNamed self.new (earlier ++ label_or label.now fallback.now ∷ [])) }
+        ensures history { (earlier : List (List ℕ)) → HasNamed self.old earlier →
+            IfOk result (λ name.
+            string_bytes name ≡ name_after self.old earlier (label_or label.now fallback.now)) }
+        ensures more_history { (earlier : List (List ℕ)) → HasNamed self.old earlier →
+            OnOk result (HasNamed self.new (earlier ++ label_or label.now fallback.now ∷ [])) }
         ensures err { OnErr result (self.new ≡ self.old) }
         ensures reason { IfErr result (IsRefusalOf self.old (label_or label.now fallback.now)) }
         ensures full { IsFull self.old (label_or label.now fallback.now) → IsErr result }
@@ -139,18 +152,25 @@ impl Namer {
         reserved_prefixes: &[&'static str],
         output: &mut HashMap<NameKey, String>,
     ) -> Result<(), NamerError>
-        ensures ok { let start = new_names reserved_keywords builtin_identifiers keywords_case_insensitive (map (λ p. p.now) reserved_prefixes.now) in
-            OnOk result (HasNamedItems start (names_in output.old) (labelled_items start «module».now) self.new (names_in output.new)) }
+        ensures ok { let start = start_of reserved_keywords builtin_identifiers
+            keywords_case_insensitive reserved_prefixes.now in
+            OnOk result (HasNamedItems start (names_in output.old)
+            (labelled_items start «module».now) self.new (names_in output.new)) }
         ensures err { OnErr result (self.new ≡ no_names) }
-        ensures beginning { let start = new_names reserved_keywords builtin_identifiers keywords_case_insensitive (map (λ p. p.now) reserved_prefixes.now) in
-            OnErr result (PutsBeginning start (names_in output.old) (labelled_items start «module».now) (names_in output.new)) }
+        ensures beginning { let start = start_of reserved_keywords builtin_identifiers
+            keywords_case_insensitive reserved_prefixes.now in
+            OnErr result (PutsBeginning start (names_in output.old)
+            (labelled_items start «module».now) (names_in output.new)) }
 
         // A refusal has a reason, and a module that gives a reason is refused.
-        ensures reason { let start = new_names reserved_keywords builtin_identifiers keywords_case_insensitive (map (λ p. p.now) reserved_prefixes.now) in
+        ensures reason { let start = start_of reserved_keywords builtin_identifiers
+            keywords_case_insensitive reserved_prefixes.now in
             IfErr result (IsResetRefusal start «module».now) }
-        ensures full { let start = new_names reserved_keywords builtin_identifiers keywords_case_insensitive (map (λ p. p.now) reserved_prefixes.now) in
+        ensures full { let start = start_of reserved_keywords builtin_identifiers
+            keywords_case_insensitive reserved_prefixes.now in
             SomeNameIsFull start (labelled_items start «module».now) → IsErr result }
-        ensures key_full { let start = new_names reserved_keywords builtin_identifiers keywords_case_insensitive (map (λ p. p.now) reserved_prefixes.now) in
+        ensures key_full { let start = start_of reserved_keywords builtin_identifiers
+            keywords_case_insensitive reserved_prefixes.now in
             SomeKeyIsFull (labelled_items start «module».now) → IsErr result }
 
         // A key runs out where a list is too long, and such a module is refused.
@@ -195,8 +215,10 @@ impl Namer {
         members: &[StructMember],
         output: &mut HashMap<NameKey, String>,
     ) -> Result<(), NamerError>
-        ensures ok { OnOk result (NamesItems self.old (names_in output.old) (labelled_members ty members.now) self.new (names_in output.new)) }
-        ensures err { IfErr result (RefusesItems self.old (names_in output.old) (labelled_members ty members.now) (names_in output.new)) }
+        ensures ok { OnOk result (NamesItems self.old (names_in output.old)
+            (labelled_members ty members.now) self.new (names_in output.new)) }
+        ensures err { IfErr result (RefusesItems self.old (names_in output.old)
+            (labelled_members ty members.now) (names_in output.new)) }
     {
         let uses = mem::replace(&mut self.uses, Uses::new(self.alloc));
         let no_words = KeywordSet::new(self.alloc);
@@ -215,8 +237,10 @@ impl Namer {
     ) -> Result<(), NamerError>
         requires { HasNamed self.now [] }
         ensures words { self.new ≡ record self.old { uses = self.new.uses } }
-        ensures ok { OnOk result (HasNamedMembers self.old (names_in output.old) ty members.now self.new (names_in output.new)) }
-        ensures err { IfErr result (RefusesMembers self.old (names_in output.old) ty members.now (names_in output.new)) }
+        ensures ok { OnOk result (HasNamedMembers self.old (names_in output.old) ty members.now
+            self.new (names_in output.new)) }
+        ensures err { IfErr result (RefusesMembers self.old (names_in output.old) ty members.now
+            (names_in output.new)) }
     {
         for (index, member) in members.iter().enumerate() {
             let Ok(index) = u32::try_from(index) else {
@@ -235,9 +259,11 @@ impl Namer {
         label: &str,
         output: &mut HashMap<NameKey, String>,
     ) -> Result<(), NamerError>
-        ensures ok { OnOk result (PutsName self.old (names_in output.old) key label.now self.new (names_in output.new)) }
+        ensures ok { OnOk result (PutsName self.old (names_in output.old) key label.now
+            self.new (names_in output.new)) }
         ensures words { self.new ≡ record self.old { uses = self.new.uses } }
-        ensures err { IfErr result (PutsNoName self.old (names_in output.old) label.now (names_in output.new)) }
+        ensures err { IfErr result (PutsNoName self.old (names_in output.old) label.now
+            (names_in output.new)) }
     {
         let name = self.call(label)?;
         output.insert(key, name)?;

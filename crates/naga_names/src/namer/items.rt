@@ -30,8 +30,10 @@ impl Owner {
         ensures is { result ≡ argument_key self.now index }
         ensures fits { key_fits result ≡ true }
         ensures outside { is_member result ≡ false }
-        ensures parts_fit { (part : ExternalTextureNameKey) → key_fits (part_key result part) ≡ true }
-        ensures parts_outside { (part : ExternalTextureNameKey) → is_member (part_key result part) ≡ false }
+        ensures parts_fit { (part : ExternalTextureNameKey) →
+            key_fits (part_key result part) ≡ true }
+        ensures parts_outside { (part : ExternalTextureNameKey) →
+            is_member (part_key result part) ≡ false }
     {
         match self {
             Owner::Function(function) => NameKey::FunctionArgument(*function, index),
@@ -63,7 +65,8 @@ impl Owner {
 
 /// Gives items their names, up to the first refusal.
 ///
-/// Behind a refusal nothing is named, so that who names items goes on, and looks for it once, at the end.
+/// Behind a refusal nothing is named, so that who names items goes on, and looks for it once, at the
+/// end.
 #[derive(Drop)]
 pub struct Naming {
     pub alloc: Global,
@@ -100,10 +103,12 @@ impl Naming {
         }
     }
 
-    /// Names the items of a module; its values only where all types have their names, by which these are
-    /// labelled.
+    /// Names the items of a module; its values only where all types have their names, by which they
+    /// are labelled.
     pub fn name_items(&mut self, module: &Module, output: &mut HashMap<NameKey, String>)
-        ensures { GivesModule (progress self.old output.old) «module».now (progress self.new output.new) }
+        ensures { GivesModule (progress self.old output.old)
+            «module».now
+            (progress self.new output.new) }
     {
         let types = &module.types;
         self.name_types(&module.entry_points, types, output);
@@ -123,7 +128,9 @@ impl Naming {
         types: &UniqueArena<Type_>,
         output: &mut HashMap<NameKey, String>,
     )
-        ensures { Gives (progress self.old output.old) (labelled_types entry_points.now types.now) (progress self.new output.new) }
+        ensures { Gives (progress self.old output.old)
+            (labelled_types entry_points.now types.now)
+            (progress self.new output.new) }
     {
         let outputs = match output_words(self.alloc, entry_points) {
             Ok(outputs) => outputs,
@@ -145,7 +152,9 @@ impl Naming {
         entry_points: &[EntryPoint],
         output: &mut HashMap<NameKey, String>,
     )
-        ensures { Gives (progress self.old output.old) (labelled_entry_points entry_points.now) (progress self.new output.new) }
+        ensures { Gives (progress self.old output.old)
+            (labelled_entry_points entry_points.now)
+            (progress self.new output.new) }
     {
         for (index, entry_point) in entry_points.iter().enumerate() {
             let Ok(index) = EntryPointIndex::try_from(index) else {
@@ -170,7 +179,9 @@ impl Naming {
         functions: &Arena<Function>,
         output: &mut HashMap<NameKey, String>,
     )
-        ensures { Gives (progress self.old output.old) (labelled_functions types.now functions.now) (progress self.new output.new) }
+        ensures { Gives (progress self.old output.old)
+            (labelled_functions types.now functions.now)
+            (progress self.new output.new) }
     {
         for (handle, function) in functions.iter() {
             let owner = Owner::Function(handle);
@@ -188,7 +199,10 @@ impl Naming {
         arguments: &[FunctionArgument],
         output: &mut HashMap<NameKey, String>,
     )
-        ensures { Gives (progress self.old output.old) (flat_map (λ p. argument_items owner.now types.now p.0 p.1) (enumerate_from 0 arguments.now)) (progress self.new output.new) }
+        ensures { Gives (progress self.old output.old)
+            (flat_map (λ p. argument_items owner.now types.now p.0 p.1)
+            (enumerate_from 0 arguments.now))
+            (progress self.new output.new) }
     {
         for (index, argument) in arguments.iter().enumerate() {
             let Ok(index) = u32::try_from(index) else {
@@ -207,7 +221,9 @@ impl Naming {
         locals: &Arena<LocalVariable>,
         output: &mut HashMap<NameKey, String>,
     )
-        ensures { Gives (progress self.old output.old) (map (λ p. local_item owner.now p.0 p.1) (enumerate_from 0 locals.now)) (progress self.new output.new) }
+        ensures { Gives (progress self.old output.old)
+            (map (λ p. local_item owner.now p.0 p.1) (enumerate_from 0 locals.now))
+            (progress self.new output.new) }
     {
         for (handle, local) in locals.iter() {
             let label = label_or(&local.name, "local");
@@ -221,7 +237,9 @@ impl Naming {
         globals: &Arena<GlobalVariable>,
         output: &mut HashMap<NameKey, String>,
     )
-        ensures { Gives (progress self.old output.old) (labelled_globals types.now globals.now) (progress self.new output.new) }
+        ensures { Gives (progress self.old output.old)
+            (labelled_globals types.now globals.now)
+            (progress self.new output.new) }
     {
         for (handle, global) in globals.iter() {
             let label = label_or(&global.name, "global");
@@ -236,8 +254,12 @@ impl Naming {
         constants: &Arena<Constant>,
         output: &mut HashMap<NameKey, String>,
     )
-        ensures named { Gives (progress self.old output.old) (labelled_constants (type_names_in (names_in output.old) (length types.now)) constants.now) (progress self.new output.new) }
-        ensures kept { (t : ℕ) → names_in output.new (keys.Type_ t) ≡ names_in output.old (keys.Type_ t) }
+        ensures named { Gives (progress self.old output.old)
+            (labelled_constants (type_names_in (names_in output.old) (length types.now))
+            constants.now)
+            (progress self.new output.new) }
+        ensures kept { (t : ℕ) →
+            names_in output.new (keys.Type_ t) ≡ names_in output.old (keys.Type_ t) }
     {
         for (handle, constant) in constants.iter() {
             let key = NameKey::Constant(handle);
@@ -251,7 +273,10 @@ impl Naming {
         overrides: &Arena<Override>,
         output: &mut HashMap<NameKey, String>,
     )
-        ensures { Gives (progress self.old output.old) (labelled_overrides (type_names_in (names_in output.old) (length types.now)) overrides.now) (progress self.new output.new) }
+        ensures { Gives (progress self.old output.old)
+            (labelled_overrides (type_names_in (names_in output.old) (length types.now))
+            overrides.now)
+            (progress self.new output.new) }
     {
         for (handle, value) in overrides.iter() {
             let key = NameKey::Override(handle);
@@ -271,8 +296,15 @@ impl Naming {
         requires fits { key_fits key.now ≡ true }
         requires outside { is_member key.now ≡ false }
         requires no_type { (t : ℕ) → same_key key.now (keys.Type_ t) ≡ false }
-        ensures named { Gives (progress self.old output.old) ((key.now, value_label (type_names_in (names_in output.old) (length types.now)) word.now label.now ty) ∷ []) (progress self.new output.new) }
-        ensures kept { (t : ℕ) → names_in output.new (keys.Type_ t) ≡ names_in output.old (keys.Type_ t) }
+        ensures named { Gives (progress self.old output.old)
+            ((
+              key.now,
+              value_label (type_names_in (names_in output.old) (length types.now))
+                  word.now label.now ty,
+            ) ∷ [])
+            (progress self.new output.new) }
+        ensures kept { (t : ℕ) →
+            names_in output.new (keys.Type_ t) ≡ names_in output.old (keys.Type_ t) }
     {
         match label {
             Some(label) => self.name(key, label.as_str(), output),
@@ -293,9 +325,13 @@ impl Naming {
     )
         requires fits { key_fits key.now ≡ true }
         requires outside { is_member key.now ≡ false }
-        requires parts_fit { (part : ExternalTextureNameKey) → key_fits (part_key key.now part) ≡ true }
-        requires parts_outside { (part : ExternalTextureNameKey) → is_member (part_key key.now part) ≡ false }
-        ensures { Gives (progress self.old output.old) (with_parts has_parts (part_key key.now) (key.now, label.now)) (progress self.new output.new) }
+        requires parts_fit { (part : ExternalTextureNameKey) →
+            key_fits (part_key key.now part) ≡ true }
+        requires parts_outside { (part : ExternalTextureNameKey) →
+            is_member (part_key key.now part) ≡ false }
+        ensures { Gives (progress self.old output.old)
+            (with_parts has_parts (part_key key.now) (key.now, label.now))
+            (progress self.new output.new) }
     {
         self.name(key, label, output);
         if has_parts {
@@ -340,7 +376,9 @@ impl Naming {
     )
         requires fits { key_fits (part_key whole.now part) ≡ true }
         requires outside { is_member (part_key whole.now part) ≡ false }
-        ensures { Gives (progress self.old output.old) ((part_key whole.now part, label.now ++ ending.now) ∷ []) (progress self.new output.new) }
+        ensures { Gives (progress self.old output.old)
+            ((part_key whole.now part, label.now ++ ending.now) ∷ [])
+            (progress self.new output.new) }
     {
         match format!(in self.alloc; "{label}{ending}") {
             Ok(label) => self.name(&part_key(whole, part), label.as_str(), output),
@@ -355,7 +393,9 @@ impl Naming {
         members: &[StructMember],
         output: &mut HashMap<NameKey, String>,
     )
-        ensures { Gives (progress self.old output.old) (labelled_members ty members.now) (progress self.new output.new) }
+        ensures { Gives (progress self.old output.old)
+            (labelled_members ty members.now)
+            (progress self.new output.new) }
     {
         if self.refusal.is_some() {
             return;
@@ -369,8 +409,11 @@ impl Naming {
     fn name(&mut self, key: &NameKey, label: &str, output: &mut HashMap<NameKey, String>)
         requires fits { key_fits key.now ≡ true }
         requires outside { is_member key.now ≡ false }
-        ensures named { Gives (progress self.old output.old) ((key.now, label.now) ∷ []) (progress self.new output.new) }
-        ensures others { (q : NameKey) → same_key key.now q ≡ false → names_in output.new q ≡ names_in output.old q }
+        ensures named { Gives (progress self.old output.old)
+            ((key.now, label.now) ∷ [])
+            (progress self.new output.new) }
+        ensures others { (q : NameKey) → same_key key.now q ≡ false →
+            names_in output.new q ≡ names_in output.old q }
     {
         if self.refusal.is_some() {
             return;
