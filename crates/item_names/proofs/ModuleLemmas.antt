@@ -12,11 +12,11 @@ use Rattle.item_names.specs.declared.error.NamerError.{NamerError}
 use Rattle.name_keys.specs.declared.key.NameKey.TheVariants as key
 use Rattle.item_names.specs.Naming.{Names}
 use Rattle.name_keys.specs.Keys.{NameMap, same_key}
-use Rattle.item_names.specs.Reset.{Labelled, item_name, members_of, member_label, labelled_type, type_label, labelled_types, labelled_entry_points, labelled_functions, labelled_globals, labelled_declarations, labelled_values, type_name, type_names_in, HasNamedItems, PutsBeginning, NamesItems, NamesModule}
-use Rattle.item_names.specs.Refusal.{RefusesItems, RefusesModule, IsRefusalOfItems}
+use Rattle.item_names.specs.Reset.{Labelled, item_name, members_of, member_label, labelled_type, type_label, labelled_types, labelled_entry_points, labelled_functions, labelled_globals, labelled_declarations, labelled_values, type_name, type_names_in, HasNamedItems, PutsBeginning, NamesItems}
+use Rattle.item_names.specs.Refusal.{RefusesItems, IsRefusalOfItems}
 use Rattle.item_names.proofs.NameKeys.{all_append, unlike_types, types_apart, declarations_apart}
 use Rattle.item_names.proofs.NamedItems.{place_left, type_among_types, item_put, name_found, name_absent}
-use Rattle.item_names.proofs.ResetLemmas.{not_below, refuses_more}
+use Rattle.item_names.proofs.ResetLemmas.{not_below}
 
 past : {X : Type 0} (xs : List X) (i : ℕ) → slice_get xs i ≡ None → length xs ≤ i
 past [] i e = omega arith
@@ -67,31 +67,3 @@ module _ (start : Names) («module» : Module) where
 
     pub agree : type_names_in now (length «module».types) ≡ type_name start «module»
     agree = λ i t. agrees t i
-
--- the declarations, and then the values by the names of the types
-module _ (old middle : Names) (before between now : NameMap) («module» : Module) (declared : NamesItems old before (labelled_declarations «module») middle between) where
-  pub module_named : (new : Names) → NamesItems middle between (labelled_values (type_names_in between (length «module».types)) «module») new now → NamesModule old before «module» new now
-  module_named new values = record {
-    more = λ start first has.
-        let first_part = declared.more start first [] has in
-        subst (λ names. HasNamedItems start first (labelled_declarations «module» ++ labelled_values names «module») new now) (agree start «module» first middle between first_part)
-        (values.more start first (labelled_declarations «module») first_part);
-  }
-
-  pub values_refused : (error : NamerError) → RefusesItems middle between (labelled_values (type_names_in between (length «module».types)) «module») now error → RefusesModule old before «module» now error
-  values_refused error values = record {
-    some = λ start first has.
-        let first_part = declared.more start first [] has in
-        subst (λ names. PutsBeginning start first (labelled_declarations «module» ++ labelled_values names «module») now) (agree start «module» first middle between first_part)
-        (values.some start first (labelled_declarations «module») first_part);
-    why = λ start first has.
-        let first_part = declared.more start first [] has in
-        subst (λ names. IsRefusalOfItems start (labelled_declarations «module» ++ labelled_values names «module») error) (agree start «module» first middle between first_part)
-        (values.why start first (labelled_declarations «module») first_part);
-  }
-
-pub declarations_refused : (old : Names) (before now : NameMap) («module» : Module) (error : NamerError) → RefusesItems old before (labelled_declarations «module») now error → RefusesModule old before «module» now error
-declarations_refused old before now m error refused = record {
-  some = λ start first has. (refuses_more old before now (labelled_declarations m) (labelled_values (type_name start m) m) error refused).some start first [] has;
-  why = λ start first has. (refuses_more old before now (labelled_declarations m) (labelled_values (type_name start m) m) error refused).why start first [] has;
-}

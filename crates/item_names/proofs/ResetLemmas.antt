@@ -17,9 +17,9 @@ use Rattle.name_keys.specs.declared.key.NameKey.{NameKey}
 use Rattle.name_keys.specs.declared.key.NameKey.TheVariants as key
 use Rattle.item_names.specs.Naming.{Names, Uses, with_use, label_base, labels_with_base, name_after, HasNamed, new_names}
 use Rattle.name_keys.specs.Keys.{NameMap, same_key, names_in}
-use Rattle.item_names.specs.Reset.{Labelled, output_label, output_word, returns, labels_of, is_member, item_name, key_fits, keys_fit, named_items, HasNamedItems, labelled_items, type_names_in, PutsBeginning, NamesItems, NamesModule}
+use Rattle.item_names.specs.Reset.{Labelled, output_label, output_word, returns, labels_of, is_member, item_name, key_fits, keys_fit, named_items, HasNamedItems, labelled_items, type_names_in, PutsBeginning, NamesItems}
 use Rattle.item_names.specs.Members.{PutsName, PutsNoName}
-use Rattle.item_names.specs.Refusal.{IsRefusalOf, SomeNameIsFull, IsRefusalOfItems, IsResetRefusal, RefusesItems, RefusesModule}
+use Rattle.item_names.specs.Refusal.{IsRefusalOf, SomeNameIsFull, IsRefusalOfItems, IsResetRefusal, RefusesItems}
 use Rattle.item_names.specs.declared.error.NamerError.{NamerError}
 use Rattle.item_names.specs.declared.error.NamerError.TheVariants.{Full, KeyFull, Memory}
 use Rattle.std.proofs.lemmas.List.Folds.{list_all-append}
@@ -83,14 +83,6 @@ module _ where
     };
   }
 
-  pub names_none : (old : Names) (before : NameMap) → NamesItems old before [] old before
-  names_none old before = record { more = λ start first earlier has. subst (λ items. HasNamedItems start first items old before) (sym (append-nil earlier)) has }
-
-  pub names_then : (old middle new : Names) (before between now : NameMap) (items others : List Labelled) → NamesItems old before items middle between → NamesItems middle between others new now → NamesItems old before (items ++ others) new now
-  names_then old middle new before between now items others first_part second_part = record {
-    more = λ start first earlier has. subst (λ all. HasNamedItems start first all new now) (append_assoc earlier items others) (second_part.more start first (earlier ++ items) (first_part.more start first earlier has));
-  }
-
   -- a `Namer` that begins
   pub begins : (start : Names) (before : NameMap) → HasNamed start [] → HasNamedItems start before [] start before
   begins start before none = record { words = refl; labels = none; keys = refl; put = record { finds = λ q. refl } }
@@ -100,31 +92,10 @@ pub starts : (keywords builtins caseless : Words) (uses : Uses) (prefixes given 
 starts keywords builtins caseless uses prefixes given none same =
     λ i. record { keywords = keywords; builtin_identifiers = builtins; caseless_keywords = caseless; reserved_prefixes = map (λ p. p.now) (same i); uses = none i }
 
-module _ (start began : Names) (same : began ≡ start) (none : start.uses ≡ finite.empty) (before now : NameMap) («module» : Module) where
-  began_so : HasNamedItems start before [] began before
-  began_so = subst (λ names. HasNamedItems start before [] names before) (sym same) (begins start before (has_named_nothing start none))
-
-  -- all of the items were named
-  pub all_named : (new : Names) → NamesModule began before «module» new now → HasNamedItems start before (labelled_items start «module») new now
-  all_named new named = named.more start before began_so
-
-  -- some of them were
-  pub some_named : (error : NamerError) → RefusesModule began before «module» now error → PutsBeginning start before (labelled_items start «module») now
-  some_named error named = named.some start before began_so
-
-  -- and the others weren't, for a reason
-  pub refused_for : (error : NamerError) → RefusesModule began before «module» now error → IsResetRefusal start «module» error
-  refused_for error named = named.why start before began_so
-
 -- ---- why items are refused
 pub if_err : {T E : Type 0} (r : Result T E) (e : E) (P : E → Type 0) → IsErrAnd r (λ y. y ≡ e) → P e → IfErr r P
 if_err (Ok x) e P is p = tt
 if_err (Err y) e P is p = subst P (sym is) p
-
--- the same of items that are said in another way
-pub if_err_at : {T : Type 0} (r : Result T NamerError) (e : NamerError) (P : List Labelled → NamerError → Type 0) → IsErrAnd r (λ y. y ≡ e) → {xs ys : List Labelled} → xs ≡ ys → P xs e → IfErr r (P ys)
-if_err_at (Ok x) e P is same p = tt
-if_err_at (Err y) e P is {xs} {ys} same p = subst (P ys) (sym is) (subst (λ zs. P zs e) same p)
 
 pub if_err_more : {T E : Type 0} (r : Result T E) (P Q : E → Type 0) → IfErr r P → ((e : E) → P e → Q e) → IfErr r Q
 if_err_more (Ok x) P Q p f = tt
@@ -140,34 +111,18 @@ full_more start items others full = record {
   full = full.full;
 }
 
-refusal_more : (start : Names) (items others : List Labelled) (error : NamerError) → IsRefusalOfItems start items error → IsRefusalOfItems start (items ++ others) error
+pub refusal_more : (start : Names) (items others : List Labelled) (error : NamerError) → IsRefusalOfItems start items error → IsRefusalOfItems start (items ++ others) error
 refusal_more start items others Full why = full_more start items others why
 refusal_more start items others KeyFull why = list_all-append (λ item. key_fits item.0) items others ∙ ap (λ b. b && keys_fit others) why
 refusal_more start items others (Memory e) why = tt
 
 -- a beginning of some items is one of more
-beginning_more : (start : Names) (first now : NameMap) (items others : List Labelled) → PutsBeginning start first items now → PutsBeginning start first (items ++ others) now
+pub beginning_more : (start : Names) (first now : NameMap) (items others : List Labelled) → PutsBeginning start first items now → PutsBeginning start first (items ++ others) now
 beginning_more start first now items others p = record {
   named = p.named;
   left = p.left ++ others;
   all = ap (λ all. all ++ others) p.all ∙ append_assoc p.named p.left others;
   put = p.put;
-}
-
-pub refuses_more : (old : Names) (before now : NameMap) (items others : List Labelled) (error : NamerError) → RefusesItems old before items now error → RefusesItems old before (items ++ others) now error
-refuses_more old before now items others error part = record {
-  some = λ start first earlier has.
-      subst (λ all. PutsBeginning start first all now) (append_assoc earlier items others) (beginning_more start first now (earlier ++ items) others (part.some start first earlier has));
-  why = λ start first earlier has.
-      subst (λ all. IsRefusalOfItems start all error) (append_assoc earlier items others) (refusal_more start (earlier ++ items) others error (part.why start first earlier has));
-}
-
-pub refuses_then : (old middle : Names) (before between now : NameMap) (items others : List Labelled) (error : NamerError) → NamesItems old before items middle between → RefusesItems middle between others now error → RefusesItems old before (items ++ others) now error
-refuses_then old middle before between now items others error first_part second_part = record {
-  some = λ start first earlier has.
-      subst (λ all. PutsBeginning start first all now) (append_assoc earlier items others) (second_part.some start first (earlier ++ items) (first_part.more start first earlier has));
-  why = λ start first earlier has.
-      subst (λ all. IsRefusalOfItems start all error) (append_assoc earlier items others) (second_part.why start first (earlier ++ items) (first_part.more start first earlier has));
 }
 
 -- a map that stays as it was
@@ -212,13 +167,6 @@ or_not_this true b e = e
 or_not_this false b e = refl
 
 -- an item whose key can't be told
-pub refuses_key : (old : Names) (before : NameMap) (item : Labelled) (others : List Labelled) → key_fits item.0 ≡ false → RefusesItems old before (item ∷ others) before KeyFull
-refuses_key old before item others not_so = record {
-  some = λ start first earlier has. beginning_unchanged start first before before earlier (item ∷ others) old (λ q. refl) has;
-  why = λ start first earlier has.
-      list_all-append (λ item. key_fits item.0) earlier (item ∷ others) ∙ ap (λ b. keys_fit earlier && (b && keys_fit others)) not_so ∙ and-false (keys_fit earlier);
-}
-
 -- where all items got their names, none met a full base
 pub none_full : (start : Names) (before : NameMap) (items : List Labelled) (names : Names) (now : NameMap) → HasNamedItems start before items names now → SomeNameIsFull start items → ⊥
 none_full start before items names now has full =
@@ -237,48 +185,7 @@ names_in-insert old new key name updates q = ap (option_map string_bytes) (updat
     either : (b : Bool) → option_map string_bytes (cond b (Some name) (hash.get same_key old q)) ≡ cond b (Some (string_bytes name)) (names_in old q)
     either b = elim b as (λ t. option_map string_bytes (cond t (Some name) (hash.get same_key old q)) ≡ cond t (Some (string_bytes name)) (names_in old q)) [ true ↦ refl | false ↦ refl ]
 
-pub names_in-unchanged : {Y S : Type 0} (old new : HashMap NameKey (String Y) S) → hash.IsUnchanged old new → (q : NameKey) → names_in new q ≡ names_in old q
-names_in-unchanged old new same q = ap (λ es. option_map string_bytes (lookup (same_key q) es)) same
-
 -- ---- loops over items
-module _ {A B : Type 0} (v : A → B) where
-  flat_map-shown : (g : B → List Labelled) (xs : List A) → flat_map g (map v xs) ≡ flat_map (λ a. g (v a)) xs
-  flat_map-shown g [] = refl
-  flat_map-shown g (x ∷ xs) = ap (λ items. g (v x) ++ items) (flat_map-shown g xs)
-
-  map-shown : (g : B → Labelled) (xs : List A) → map g (map v xs) ≡ map (λ a. g (v a)) xs
-  map-shown g [] = refl
-  map-shown g (x ∷ xs) = ap (λ items. g (v x) ∷ items) (map-shown g xs)
-
-  -- the items of what was yielded so far, and of what is left
-  pub flat_map_so_far : (g : B → List Labelled) (all : List B) (xs : List A) → map v xs ≡ take (length xs) all → flat_map g all ≡ flat_map (λ a. g (v a)) xs ++ flat_map g (drop (length xs) all)
-  flat_map_so_far g all xs so_far =
-      ap (flat_map g) (sym (take-append-drop (length xs) all)) ∙ flat_map-append g (take (length xs) all) (drop (length xs) all)
-      ∙ ap (λ items. items ++ flat_map g (drop (length xs) all)) (ap (flat_map g) (sym so_far) ∙ flat_map-shown g xs)
-
-  pub flat_map_at_turn : (g : B → List Labelled) (all : List B) (xs : List A) (y : B) → map v xs ≡ take (length xs) all → length xs < length all → y ≡ get_or all (length xs) y → flat_map g all ≡ flat_map (λ a. g (v a)) xs ++ (g y ++ flat_map g (drop (length xs + 1) all))
-  flat_map_at_turn g all xs y so_far lt is =
-      let split : drop (length xs) all ≡ get_or all (length xs) y ∷ drop (length xs + 1) all = rw add-one (drop-cons all (length xs) y lt) in
-      flat_map_so_far g all xs so_far ∙ ap (λ items. flat_map (λ a. g (v a)) xs ++ flat_map g items) split
-      ∙ ap (λ b. flat_map (λ a. g (v a)) xs ++ (g b ++ flat_map g (drop (length xs + 1) all))) (sym is)
-
-  pub flat_map_at_end : (g : B → List Labelled) (all : List B) (xs : List A) → map v xs ≡ all → flat_map g all ≡ flat_map (λ a. g (v a)) xs
-  flat_map_at_end g all xs is = ap (flat_map g) (sym is) ∙ flat_map-shown g xs
-
-  pub map_so_far : (g : B → Labelled) (all : List B) (xs : List A) → map v xs ≡ take (length xs) all → map g all ≡ map (λ a. g (v a)) xs ++ map g (drop (length xs) all)
-  map_so_far g all xs so_far =
-      ap (map g) (sym (take-append-drop (length xs) all)) ∙ map-append g (take (length xs) all) (drop (length xs) all)
-      ∙ ap (λ items. items ++ map g (drop (length xs) all)) (ap (map g) (sym so_far) ∙ map-shown g xs)
-
-  pub map_at_turn : (g : B → Labelled) (all : List B) (xs : List A) (y : B) → map v xs ≡ take (length xs) all → length xs < length all → y ≡ get_or all (length xs) y → map g all ≡ map (λ a. g (v a)) xs ++ (g y ∷ [] ++ map g (drop (length xs + 1) all))
-  map_at_turn g all xs y so_far lt is =
-      let split : drop (length xs) all ≡ get_or all (length xs) y ∷ drop (length xs + 1) all = rw add-one (drop-cons all (length xs) y lt) in
-      map_so_far g all xs so_far ∙ ap (λ items. map (λ a. g (v a)) xs ++ map g items) split
-      ∙ ap (λ b. map (λ a. g (v a)) xs ++ g b ∷ map g (drop (length xs + 1) all)) (sym is)
-
-  pub map_at_end : (g : B → Labelled) (all : List B) (xs : List A) → map v xs ≡ all → map g all ≡ map (λ a. g (v a)) xs
-  map_at_end g all xs is = ap (map g) (sym is) ∙ map-shown g xs
-
 enumerate_from-append : {X : Type 0} (n : ℕ) (xs ys : List X) → enumerate_from n (xs ++ ys) ≡ enumerate_from n xs ++ enumerate_from (n + length xs) ys
 enumerate_from-append n [] ys = ap (λ m. enumerate_from m ys) (sym (add-zero n))
 enumerate_from-append n (x ∷ xs) ys =
@@ -310,16 +217,6 @@ module _ {X : Type 0} (items : ℕ → List X → List Labelled) (own : ℕ → 
       ∙ ap (λ front. front ++ items_left) items_more
       ∙ append_assoc (items 0 (take i xs)) (own i x) items_left
 
-module _ {X : Type 0} (section : ℕ → X → List Labelled) where
-  abbrev sections : ℕ → List X → List Labelled
-  sections n xs = flat_map (λ p. section p.0 p.1) (enumerate_from n xs)
-
-  pub sections_grown : (n : ℕ) (xs ys : List X) → flat_map (λ p. section p.0 p.1) (enumerate_from n (xs ++ ys)) ≡ flat_map (λ p. section p.0 p.1) (enumerate_from n xs) ++ flat_map (λ p. section p.0 p.1) (enumerate_from (n + length xs) ys)
-  sections_grown n xs ys = ap (flat_map (λ p. section p.0 p.1)) (enumerate_from-append n xs ys) ∙ flat_map-append (λ p. section p.0 p.1) (enumerate_from n xs) (enumerate_from (n + length xs) ys)
-
-  pub sections_single : (n : ℕ) (x : X) → flat_map (λ p. section p.0 p.1) (enumerate_from n (x ∷ [])) ≡ section n x
-  sections_single n x = append-nil (section n x)
-
 module _ {X : Type 0} (entry : ℕ → X → Labelled) where
   pub entries_grown : (n : ℕ) (xs ys : List X) → map (λ p. entry p.0 p.1) (enumerate_from n (xs ++ ys)) ≡ map (λ p. entry p.0 p.1) (enumerate_from n xs) ++ map (λ p. entry p.0 p.1) (enumerate_from (n + length xs) ys)
   entries_grown n xs ys = ap (map (λ p. entry p.0 p.1)) (enumerate_from-append n xs ys) ∙ map-append (λ p. entry p.0 p.1) (enumerate_from n xs) (enumerate_from (n + length xs) ys)
@@ -346,6 +243,3 @@ output_label-more t entry_points i entry_point lt is =
 -- a map that has the same names for types
 pub same_type_names : (before now : NameMap) (count : ℕ) → ((t : ℕ) → now (key.Type_ t) ≡ before (key.Type_ t)) → type_names_in now count ≡ type_names_in before count
 same_type_names before now count same = λ i t. cond (nat_lt t count) (unwrap_or (same t i) []) []
-
-pub map_pushed : {A : Type 0} (g : A → Labelled) (xs : List A) (x : A) → map g (xs ++ x ∷ []) ≡ map g xs ++ g x ∷ []
-map_pushed g xs x = map-append g xs (x ∷ [])

@@ -82,11 +82,3 @@ pub record RefusesItems (old : Names) (before : NameMap) (items : List Labelled)
       PutsBeginning start first (earlier ++ items) now
   pub why : (start : Names) (first : NameMap) (earlier : List Labelled) →
       HasNamedItems start first earlier old before → IsRefusalOfItems start (earlier ++ items) error
-
--- the same of a module, where no item was named before
-pub record RefusesModule (old : Names) (before : NameMap) (module_ : Module) (now : NameMap)
-    (error : NamerError) : Type 0 where
-  pub some : (start : Names) (first : NameMap) → HasNamedItems start first [] old before →
-      PutsBeginning start first (labelled_items start module_) now
-  pub why : (start : Names) (first : NameMap) → HasNamedItems start first [] old before →
-      IsRefusalOfItems start (labelled_items start module_) error

@@ -295,9 +295,3 @@ pub record NamesItems (old : Names) (before : NameMap) (items : List Labelled) (
   pub more : (start : Names) (first : NameMap) (earlier : List Labelled) →
       HasNamedItems start first earlier old before →
       HasNamedItems start first (earlier ++ items) new now
-
--- a `Namer` and a map without names of their own then have those of the module
-pub record NamesModule (old : Names) (before : NameMap) (module_ : Module) (new : Names)
-    (now : NameMap) : Type 0 where
-  pub more : (start : Names) (first : NameMap) → HasNamedItems start first [] old before →
-      HasNamedItems start first (labelled_items start module_) new now

@@ -1,1 +1,3 @@
 pub mod Outputs
+pub mod Progress
+pub mod Starts

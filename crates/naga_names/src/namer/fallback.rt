@@ -21,7 +21,7 @@ pub fn label_or<'a>(label: &'a Option<String>, fallback: &'a str) -> &'a str
     }
 }
 
-/// The label of the type; without one, what it is labelled by what entry points give that return it.
+/// The label of the type; without one, what it is labelled by the entry points that return it.
 pub fn type_label<'a>(
     outputs: &HashMap<usize, &'static str>,
     handle: Handle<Type_>,
@@ -54,13 +54,14 @@ fn is_struct(inner: &TypeInner) -> bool
     matches!(inner, TypeInner::Struct { .. })
 }
 
-/// By the index of a type, the word for what the last of these entry points gives that returns it and has
-/// such a word.
+/// By the index of a type, the word for what the last of these entry points gives that returns it
+/// and has such a word.
 pub fn output_words(
     alloc: Global,
     entry_points: &[EntryPoint],
 ) -> Result<HashMap<usize, &'static str>, AllocError>
-    ensures { IfOk result (λ words. (t : ℕ) → words_in words t ≡ output_label t entry_points.now) }
+    ensures { IfOk result (λ words. (t : ℕ) →
+        words_in words t ≡ output_label t entry_points.now) }
 {
     let mut words = HashMap::new(alloc);
     for entry_point in entry_points {
@@ -94,7 +95,8 @@ pub fn value_label(
     ty: Handle<Type_>,
     names: &HashMap<NameKey, String>,
 ) -> Result<String, AllocError>
-    ensures { IfOk result (λ label. string_bytes label ≡ word.now ++ type_names_in (names_in names.now) (length types.now) ty) }
+    ensures { IfOk result (λ label. string_bytes label ≡
+        word.now ++ type_names_in (names_in names.now) (length types.now) ty) }
 {
     let name = type_name(types, ty, names);
     format!(in alloc; "{word}{name}")

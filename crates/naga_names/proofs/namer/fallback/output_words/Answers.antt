@@ -1,7 +1,6 @@
-use Rattle.std.proofs.Common.{sym, ap, subst, ◌≡◌, ◌∙◌, ◌+◌, take, Some, nat_eq}
+use Rattle.std.proofs.Common.{sym, ap, subst, ◌∙◌, Some, nat_eq}
 use Rattle.std.specs.Option.{option_map}
 use Rattle.std.specs.HashMap as hash
-use Rattle.item_names.specs.Reset.{output_label}
 use Rattle.naga_names.specs.Outputs.{words_in}
 use Rattle.naga_names.proofs.Outputs.{returns_nothing, has_no_word, has_word}
 use Rattle.naga_names.proofs.namer.fallback.output_words.Goals.{in-Some-output_word+in_ok-insert, in_default-output_word}

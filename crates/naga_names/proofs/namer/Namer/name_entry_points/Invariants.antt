@@ -1,7 +1,0 @@
-use Rattle.std.proofs.Common.{take}
-use Rattle.name_keys.specs.Keys.{names_in}
-use Rattle.item_names.specs.Reset.{NamesItems, labelled_entry_points}
-use Rattle.naga_names.proofs.namer.Namer.name_entry_points.Given as goal
-
-abbrev pub invariant-loop-index : goal.invariant-loop-index
-invariant-loop-index l = NamesItems l.initial.self (names_in l.initial.output) (labelled_entry_points (take l.index l.entry_points)) l.self (names_in l.output)
