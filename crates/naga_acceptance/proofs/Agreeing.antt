@@ -8,7 +8,7 @@ use Rattle.std.proofs.lemmas.Bool.{and_parts, eqb-true, eqb-false}
 use Rattle.std.proofs.lemmas.List.{length-set, get_or-set_same, get_or-set_other, get_or-replicate, length-replicate}
 use Rattle.std.proofs.lemmas.Slice.Eq.{bytes_eq-Decides}
 use Rattle.accepted_modules.specs.Operations.{Operation, agrees, all_agree, operation_of}
-use Rattle.naga_acceptance.specs.Table.{position, type_words, operator_words, type_number, operator_number, operation_place, entered_over, entered, all_entered, entered_numbers, written}
+use Rattle.naga_acceptance.specs.Table.{position, type_words, operator_words, type_number, operator_number, operation_place, entered_over, entered, all_entered, entered_numbers, entered_where}
 
 -- ---- tests
 
@@ -144,7 +144,7 @@ both_all p q r [] numbered each = refl
 both_all p q r (x ∷ xs) numbered each =
     (λ i. each x numbered.0 i && both_all p q r xs numbered.1 each i) ∙ and_crossed (q x) (r x) (list_all q xs) (list_all r xs)
 
-all_entered_none : (os : List Operation) → all_entered None os ≡ None
+pub all_entered_none : (os : List Operation) → all_entered None os ≡ None
 all_entered_none [] = refl
 all_entered_none (o ∷ os) = all_entered_none os
 
@@ -196,21 +196,14 @@ pub all_entered_append : (t : Option (List (Option ℕ))) (os ps : List Operatio
 all_entered_append t [] ps = refl
 all_entered_append t (o ∷ os) ps = all_entered_append (option_and_then (λ t. entered t (operation_place o) (type_number o.answer)) t) os ps
 
--- an operation is entered by its numbers
-pub operation_entered : (t : List (Option ℕ)) (operator left right answer : Option (List ℕ))
-    → all_entered (Some t) (operation_of operator left right answer) ≡ entered_numbers t (option_map operator_number operator) (option_map type_number left) (option_map type_number right) (option_map type_number answer)
-operation_entered t (Some operator) (Some left) (Some right) (Some answer) = refl
-operation_entered t None left right answer = refl
-operation_entered t (Some operator) None right answer = refl
-operation_entered t (Some operator) (Some left) None answer = refl
-operation_entered t (Some operator) (Some left) (Some right) None = refl
-
--- of what is left to enter, a part that didn't fit decides
-pub entered_not : (t after : List (Option ℕ)) (fitted : Bool) (os ps : List Operation) → written fitted after ≡ all_entered (Some t) os → fitted ≡ false → all_entered (Some t) (os ++ ps) ≡ None
-entered_not t after fitted os ps is not =
-    all_entered_append (Some t) os ps ∙ ap (λ x. all_entered x ps) (sym is ∙ ap (λ b. written b after) not) ∙ all_entered_none ps
-
--- a part that did is in the table
-pub entered_next : (t after : List (Option ℕ)) (fitted : Bool) (os ps : List Operation) → written fitted after ≡ all_entered (Some t) os → fitted ≡ true → all_entered (Some after) ps ≡ all_entered (Some t) (os ++ ps)
-entered_next t after fitted os ps is does =
-    sym (all_entered_append (Some t) os ps ∙ ap (λ x. all_entered x ps) (sym is ∙ ap (λ b. written b after) does))
+-- an operation whose operands stand before it, or not, is entered by its numbers
+pub operation_where : (t : List (Option ℕ)) (operator left right answer : Option (List ℕ)) (left_before right_before : Bool)
+    → entered_where ((is_some operator && ((left_before && is_some left) && (right_before && is_some right))) && is_some answer) (all_entered (Some t) (operation_of operator left right answer))
+    ≡ entered_numbers t (option_map operator_number operator) (if left_before then option_map type_number left else None) (if right_before then option_map type_number right else None) (option_map type_number answer)
+operation_where t None left right answer p q = refl
+operation_where t (Some operator) left right answer false q = refl
+operation_where t (Some operator) None right answer true q = refl
+operation_where t (Some operator) (Some left) right answer true false = refl
+operation_where t (Some operator) (Some left) None answer true true = refl
+operation_where t (Some operator) (Some left) (Some right) None true true = refl
+operation_where t (Some operator) (Some left) (Some right) (Some answer) true true = refl

@@ -1,4 +1,5 @@
-pub mod Operands
 pub mod Counts
+pub mod Fitting
+pub mod Operands
 pub mod Spelled
 pub mod Table

@@ -1,6 +1,8 @@
--- The code's table of the types that operators have given so far. Words are numbered, and a table has a place for each operator
--- and the types of its operands: the number of the type that it gave, if it stood anywhere.
-use Rattle.std.specs.Prelude.{ℕ, Bool, suc, ◌+◌, ◌*◌, List, [], ◌∷◌, Option, Some, None, ◌==◌, if◌then◌else◌, codes, slice_index_or, slice_set}
+-- The code's table of the types that operators have given so far. Words are numbered, and a table
+-- has a place for each operator and the types of its operands: the number of the type that it gave,
+-- if it stood anywhere.
+use Rattle.std.specs.Prelude.{◌≡◌, ℕ, Bool, suc, ◌+◌, ◌*◌, ◌==◌, if◌then◌else◌, List, [], ◌∷◌}
+use Rattle.std.specs.Prelude.{Option, Some, None, codes, slice_index_or, slice_set}
 use Rattle.std.specs.Option.{option_and_then}
 use Rattle.std.specs.Str.{bytes_eq}
 use Rattle.accepted_modules.specs.Types.{local_pointer}
@@ -14,8 +16,9 @@ position (x ∷ xs) word = if bytes_eq x word then 0 else suc (position xs word)
 -- the spellings of all types
 abbrev pub type_words : List (List ℕ)
 type_words =
-    codes "bool" ∷ codes "i32" ∷ codes "u32" ∷ codes "i64" ∷ codes "u64" ∷ local_pointer (codes "bool") ∷ local_pointer (codes "i32")
-    ∷ local_pointer (codes "u32") ∷ local_pointer (codes "i64") ∷ local_pointer (codes "u64") ∷ []
+    codes "bool" ∷ codes "i32" ∷ codes "u32" ∷ codes "i64" ∷ codes "u64"
+    ∷ local_pointer (codes "bool") ∷ local_pointer (codes "i32") ∷ local_pointer (codes "u32")
+    ∷ local_pointer (codes "i64") ∷ local_pointer (codes "u64") ∷ []
 
 -- the words of all operators
 abbrev pub operator_words : List (List ℕ)
@@ -32,7 +35,8 @@ abbrev pub place_of : (operator left right : ℕ) → ℕ
 place_of operator left right = (operator * 10 + left) * 10 + right
 
 abbrev pub operation_place : Operation → ℕ
-operation_place o = place_of (operator_number o.operator) (type_number o.left) (type_number o.right)
+operation_place o =
+    place_of (operator_number o.operator) (type_number o.left) (type_number o.right)
 
 -- the table with this answer at a place that holds what it held, if the two are one
 abbrev pub entered_over : Option ℕ → List (Option ℕ) → (place answer : ℕ) → Option (List (Option ℕ))
@@ -45,13 +49,29 @@ entered table place answer = entered_over (slice_index_or table place None) tabl
 -- the table with all operations entered, none where one differs from an earlier one
 abbrev pub all_entered : Option (List (Option ℕ)) → List Operation → Option (List (Option ℕ))
 all_entered table [] = table
-all_entered table (o ∷ os) = all_entered (option_and_then (λ t. entered t (operation_place o) (type_number o.answer)) table) os
+all_entered table (o ∷ os) =
+    all_entered
+    (option_and_then (λ t. entered t (operation_place o) (type_number o.answer)) table) os
 
--- the table with an operation entered that has these numbers, where there are all
-abbrev pub entered_numbers : List (Option ℕ) → (operator left right answer : Option ℕ) → Option (List (Option ℕ))
-entered_numbers table (Some operator) (Some left) (Some right) (Some answer) = entered table (place_of operator left right) answer
-entered_numbers table _ _ _ _ = Some table
+-- the table with an operation entered that has these numbers, none where one is missing
+abbrev pub entered_numbers :
+    List (Option ℕ) → (operator left right answer : Option ℕ) → Option (List (Option ℕ))
+entered_numbers table (Some operator) (Some left) (Some right) (Some answer) =
+    entered table (place_of operator left right) answer
+entered_numbers table _ _ _ _ = None
 
 -- a table that was written, where what was entered fitted
 abbrev pub written : (fitted : Bool) → List (Option ℕ) → Option (List (Option ℕ))
 written fitted table = if fitted then Some table else None
+
+-- a table that was entered, where all of what was entered fits
+abbrev pub entered_where : (fits : Bool) → Option (List (Option ℕ)) → Option (List (Option ℕ))
+entered_where fits table = if fits then table else None
+
+-- what a table becomes by items that are tested, and whose operations are entered: `after`, where
+-- all fitted
+abbrev pub IsEntered :
+    (fits : Bool) → List Operation → (before : List (Option ℕ)) → (fitted : Bool)
+    → (after : List (Option ℕ)) → Type 0
+IsEntered fits operations before fitted after =
+    written fitted after ≡ entered_where fits (all_entered (Some before) operations)

@@ -1,17 +1,20 @@
 //! Whether a module and what is known of it fit together.
 
-ghost use Rattle.std.specs.Prelude.{◌≡◌, Some, nat_lt, slice_get};
+ghost use Rattle.std.specs.Prelude.{◌≡◌, ◌&&◌, length, nat_lt, slice_get, Some};
 ghost use Rattle.std.specs.List.{list_all};
 ghost use Rattle.indexmap.specs.IndexMap.{values};
 ghost use Rattle.naga_ir.specs.StatementViews.{tree_of};
-ghost use Rattle.accepted_modules.specs.Accepted.{block_fits, declares_functions, expected_type, expression_fits, is_within, expressions_fit, function_fits, functions_fit, is_accepted, is_below, is_within, is_scalar_type, local_fits, names_fit, operand_fits, return_fits, signature_fits, special_types_fit, statement_fits, value_fits};
+ghost use Rattle.accepted_modules.specs.Accepted.{block_fits, declares_functions, expression_fits, expressions_fit, function_fits, functions_fit, is_accepted, is_below, is_scalar_type, local_fits, names_fit, return_fits, signature_fits, special_types_fit, statement_fits, value_fits};
 ghost use Rattle.naga_acceptance.specs.Spelled.{spelled};
-ghost use Rattle.accepted_modules.specs.Types.{literal_is_within, spelling_at};
+ghost use Rattle.accepted_modules.specs.Operations.{all_operations, expression_operations, function_operations, operators_agree};
+ghost use Rattle.accepted_modules.specs.Types.{literal_is_within};
+ghost use Rattle.naga_acceptance.specs.Fitting.{argument_word, load_word, local_pointer_word, surroundings_fit};
+ghost use Rattle.naga_acceptance.specs.Table.{IsEntered};
 
-use crate::operations::operators_agree;
+use crate::operations::operation_fits;
 use crate::spelling::{
-    Spelled, are_alike, has_word, is_spelled, operator_word, scalar_of, spelled_at,
-    spelled_expression, spelled_literal, spelled_pointee, spelled_pointer_to, spelled_resolution,
+    Spelled, are_alike, has_word, scalar_of, spelled_at, spelled_expression, spelled_literal,
+    spelled_pointee, spelled_pointer_to, spelled_resolution,
 };
 use naga_info::{ExpressionInfo, FunctionInfo, ModuleInfo};
 use naga_ir::{
@@ -49,8 +52,7 @@ pub fn accepts(module: &Module, info: &ModuleInfo) -> bool
         && special_types_fit(module.types.len(), &module.special_types)
         && info.entry_points.is_empty()
         && info.const_expression_types.is_empty()
-        && functions_fit(&module.types, &module.functions, info.functions.as_slice())
-        && operators_agree(&module.types, &module.functions, info.functions.as_slice())
+        && functions_agree(&module.types, &module.functions, info.functions.as_slice())
 }
 
 fn declares_functions(module: &Module) -> bool
@@ -109,31 +111,72 @@ fn predeclared_types_fit(type_count: usize, special_types: &SpecialTypes) -> boo
         .all(|handle| handle.index() < type_count)
 }
 
-fn functions_fit(
+/// Whether all functions fit, and their operators agree.
+fn functions_agree(
     types: &UniqueArena<Type_>,
     functions: &Arena<Function>,
     infos: &[FunctionInfo],
 ) -> bool
-    ensures { result ≡ functions_fit types.now functions.now infos.now }
+    ensures { result ≡ (functions_fit types.now functions.now infos.now
+        && operators_agree types.now functions.now infos.now) }
+{
+    let mut table = [None; 300];
+    functions_fit(types, functions, infos, &mut table)
+}
+
+/// Whether all functions fit, and each operator that they have has the type that the table has for
+/// it, if it has one. What it has not is entered.
+fn functions_fit(
+    types: &UniqueArena<Type_>,
+    functions: &Arena<Function>,
+    infos: &[FunctionInfo],
+    table: &mut [Option<usize>],
+) -> bool
+    requires { length table.now ≡ 300 }
+    ensures fitted { IsEntered
+        (functions_fit types.now functions.now infos.now)
+        (all_operations types.now functions.now infos.now)
+        table.old result table.new }
+    ensures kept { length table.new ≡ 300 }
 {
     if functions.len() != infos.len() {
         return false;
     }
     for (index, info) in infos.iter().enumerate() {
         let function = &functions[Place::from_index(index)];
-        if !function_fits(types, function, info.expressions.as_slice()) {
+        if !function_fits(types, function, info.expressions.as_slice(), table) {
             return false;
         }
     }
     true
 }
 
-fn function_fits(types: &UniqueArena<Type_>, function: &Function, infos: &[ExpressionInfo]) -> bool
-    ensures { result ≡ function_fits types.now function.now infos.now }
+fn function_fits(
+    types: &UniqueArena<Type_>,
+    function: &Function,
+    infos: &[ExpressionInfo],
+    table: &mut [Option<usize>],
+) -> bool
+    requires { length table.now ≡ 300 }
+    ensures fitted { IsEntered
+        (function_fits types.now function.now infos.now)
+        (function_operations types.now function.now.expressions infos.now)
+        table.old result table.new }
+    ensures kept { length table.new ≡ 300 }
+{
+    surroundings_fit(types, function, infos) && expressions_fit(types, function, infos, table)
+}
+
+/// Whether all of a function but its expressions fits.
+fn surroundings_fit(
+    types: &UniqueArena<Type_>,
+    function: &Function,
+    infos: &[ExpressionInfo],
+) -> bool
+    ensures { result ≡ surroundings_fit types.now function.now infos.now }
 {
     signature_fits(types.len(), function)
         && names_fit(function)
-        && expressions_fit(types, function, infos)
         && locals_fit(types, infos, &function.local_variables)
         && block_fits(types, infos, function)
 }
@@ -170,8 +213,14 @@ fn expressions_fit(
     types: &UniqueArena<Type_>,
     function: &Function,
     infos: &[ExpressionInfo],
+    table: &mut [Option<usize>],
 ) -> bool
-    ensures { result ≡ expressions_fit types.now function.now function.now.expressions infos.now }
+    requires { length table.now ≡ 300 }
+    ensures fitted { IsEntered
+        (expressions_fit types.now function.now function.now.expressions infos.now)
+        (function_operations types.now function.now.expressions infos.now)
+        table.old result table.new }
+    ensures kept { length table.new ≡ 300 }
 {
     if function.expressions.len() != infos.len() {
         return false;
@@ -179,14 +228,16 @@ fn expressions_fit(
     for (index, info) in infos.iter().enumerate() {
         let here = Place::from_index(index);
         let expression = &function.expressions[here];
-        if !expression_fits(types, function, infos, here, expression, info) {
+        if !expression_fits(types, function, infos, here, expression, info, table) {
             return false;
         }
     }
     true
 }
 
-/// Whether what is known of the expression with the handle `here`, which is `info`, is its type.
+/// Whether what is known of the expression with the handle `here`, which is `info`, is the type that
+/// it has by what it stands for. That of an operator is the one that the table has for it, if it has
+/// one; else it is entered.
 fn expression_fits(
     types: &UniqueArena<Type_>,
     function: &Function,
@@ -194,25 +245,40 @@ fn expression_fits(
     here: Handle<Expression>,
     expression: &Expression,
     info: &ExpressionInfo,
+    table: &mut [Option<usize>],
 ) -> bool
-    requires { slice_get infos.now here ≡ Some info.now }
-    ensures { result ≡ expression_fits types.now function.now infos.now here expression.now info.now }
+    requires info { slice_get infos.now here ≡ Some info.now }
+    requires table { length table.now ≡ 300 }
+    ensures fitted { IsEntered
+        (expression_fits types.now function.now infos.now here expression.now info.now)
+        (expression_operations types.now infos.now here expression.now)
+        table.old result table.new }
+    ensures kept { length table.new ≡ 300 }
 {
     let known = spelled_resolution(types, &info.ty);
-    let expected = expected_type(types, function, infos, here, expression, known);
-    are_alike(known, expected) && is_within(expression)
-}
-
-/// Whether the value of a literal is one of its type, as it always is.
-fn is_within(expression: &Expression) -> bool
-    ensures { result ≡ is_within expression.now }
-{
     match expression {
-        Expression::Literal(literal) => literal_is_within(*literal),
-        _ => true,
+        Expression::Literal(literal) => are_alike(known, spelled_literal(*literal))
+            && literal_is_within(*literal),
+        Expression::FunctionArgument(number) => are_alike(
+            known,
+            spelled_argument(types, function, *number),
+        ),
+        Expression::LocalVariable(local) => are_alike(
+            known,
+            spelled_local(types, function, *local),
+        ),
+        Expression::Load { pointer } => are_alike(
+            known,
+            spelled_load(types, infos, here, *pointer),
+        ),
+        Expression::Binary { op, left, right } => operation_fits(
+            types, infos, here, *op, *left, *right, known, table,
+        ),
+        _ => false,
     }
 }
 
+/// Whether a literal's value is one of its type, as it always is.
 fn literal_is_within(literal: Literal) -> bool
     ensures { result ≡ literal_is_within literal }
 {
@@ -222,62 +288,44 @@ fn literal_is_within(literal: Literal) -> bool
     }
 }
 
-/// Whether the operand stands before the expression with the handle `here`, and its type is spelled.
-fn operand_fits(
-    types: &UniqueArena<Type_>,
-    infos: &[ExpressionInfo],
-    here: Handle<Expression>,
-    operand: Handle<Expression>,
-) -> bool
-    ensures { result ≡ operand_fits types.now infos.now here operand }
+/// The spelling of the type of an argument, if there is one of this number.
+fn spelled_argument(types: &UniqueArena<Type_>, function: &Function, number: u32) -> Spelled
+    ensures { spelled result ≡ argument_word types.now function.now number }
 {
-    operand.index() < here.index() && is_spelled(spelled_expression(types, infos, operand))
+    match function.arguments.get(number as usize) {
+        Some(argument) => spelled_at(types, argument.ty),
+        None => Spelled::Nothing,
+    }
 }
 
-/// The spelling of the type that the expression with the handle `here` has by what it stands for.
-/// That of an operator between two operands is its own, which is `known`.
-fn expected_type(
+/// The spelling of a pointer to a local, if there is one.
+fn spelled_local(
     types: &UniqueArena<Type_>,
     function: &Function,
+    local: Handle<LocalVariable>,
+) -> Spelled
+    ensures { spelled result ≡ local_pointer_word types.now function.now local }
+{
+    if local.index() < function.local_variables.len() {
+        spelled_pointer_to(types, function.local_variables[local].ty)
+    } else {
+        Spelled::Nothing
+    }
+}
+
+/// The spelling of what is loaded, if the pointer stands before the expression with the handle `here`.
+fn spelled_load(
+    types: &UniqueArena<Type_>,
     infos: &[ExpressionInfo],
     here: Handle<Expression>,
-    expression: &Expression,
-    known: Spelled,
+    pointer: Handle<Expression>,
 ) -> Spelled
-    requires { spelled known ≡ spelling_at types.now infos.now here }
-    ensures { spelled result ≡ expected_type types.now function.now infos.now here expression.now }
+    ensures { spelled result ≡ load_word types.now infos.now here pointer }
 {
-    match expression {
-        Expression::Literal(literal) => spelled_literal(*literal),
-        Expression::FunctionArgument(number) => match function.arguments.get(*number as usize) {
-            Some(argument) => spelled_at(types, argument.ty),
-            None => Spelled::Nothing,
-        },
-        Expression::LocalVariable(local) => {
-            if local.index() < function.local_variables.len() {
-                spelled_pointer_to(types, function.local_variables[*local].ty)
-            } else {
-                Spelled::Nothing
-            }
-        }
-        Expression::Load { pointer } => {
-            if pointer.index() < here.index() {
-                spelled_pointee(types, infos, *pointer)
-            } else {
-                Spelled::Nothing
-            }
-        }
-        Expression::Binary { op, left, right } => {
-            if operator_word(*op).is_some()
-                && operand_fits(types, infos, here, *left)
-                && operand_fits(types, infos, here, *right)
-            {
-                known
-            } else {
-                Spelled::Nothing
-            }
-        }
-        _ => Spelled::Nothing,
+    if pointer.index() < here.index() {
+        spelled_pointee(types, infos, pointer)
+    } else {
+        Spelled::Nothing
     }
 }
 

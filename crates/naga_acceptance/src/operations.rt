@@ -3,18 +3,18 @@
 //! Types and operators are numbered, and a table has for each operator and the types of its operands
 //! the type that it gave.
 
-ghost use Rattle.std.specs.Prelude.{◌≡◌, ◌<◌, length, IfSome, Some};
+ghost use Rattle.std.specs.Prelude.{◌≡◌, ◌<◌, if◌then◌else◌, length, nat_lt, IfSome, None, Some};
 ghost use Rattle.std.specs.Option.{option_map};
-ghost use Rattle.accepted_modules.specs.Operations.{expression_operations, function_operations, operators_agree};
+ghost use Rattle.accepted_modules.specs.Operations.{expression_operations};
 ghost use Rattle.naga_acceptance.specs.Spelled.{spelled};
-ghost use Rattle.naga_acceptance.specs.Table.{all_entered, entered, operator_number, type_number, written};
+ghost use Rattle.naga_acceptance.specs.Fitting.{operation_fits};
+ghost use Rattle.naga_acceptance.specs.Table.{IsEntered, entered, operator_number, type_number, written};
+ghost use Rattle.naga_ir.specs.declared.expression.Expression.TheVariants.{Binary};
 ghost use Rattle.accepted_modules.specs.Types.{operator_word, scalar_word, spelling_at};
 
 use crate::spelling::{Spelled, spelled_expression};
-use naga_info::{ExpressionInfo, FunctionInfo};
-use naga_ir::{
-    Arena, BinaryOperator, Expression, Function, Handle, Place, Scalar, Type_, UniqueArena,
-};
+use naga_info::ExpressionInfo;
+use naga_ir::{BinaryOperator, Expression, Handle, Scalar, Type_, UniqueArena};
 
 /// The number of a scalar type's word.
 fn scalar_number(scalar: Scalar) -> Option<usize>
@@ -52,16 +52,23 @@ fn spelling_number(spelling: Spelled) -> Option<usize>
     }
 }
 
-/// The number of the spelling of the expression's type.
-fn number_at(
+/// The number of the spelling of an operand's type, if it stands before the expression with the handle
+/// `here`.
+fn operand_number(
     types: &UniqueArena<Type_>,
     infos: &[ExpressionInfo],
-    handle: Handle<Expression>,
+    here: Handle<Expression>,
+    operand: Handle<Expression>,
 ) -> Option<usize>
-    ensures number { result ≡ option_map type_number (spelling_at types.now infos.now handle) }
+    ensures number { result ≡ (if nat_lt operand here
+        then option_map type_number (spelling_at types.now infos.now operand) else None) }
     ensures below { IfSome result (λ number. number < 10) }
 {
-    spelling_number(spelled_expression(types, infos, handle))
+    if operand.index() < here.index() {
+        spelling_number(spelled_expression(types, infos, operand))
+    } else {
+        None
+    }
 }
 
 fn operator_number(op: BinaryOperator) -> Option<usize>
@@ -91,72 +98,36 @@ fn enter(table: &mut [Option<usize>], place: usize, answer: usize) -> bool
     }
 }
 
-#[tactic(auto, using(crate::proofs::Agreeing::operation_entered))]
-fn enter_expression(
+/// Whether the operator with the handle `here` fits, whose type is spelled `known`: its operands stand
+/// before it, all is spelled, and its type is the one that the table has for it, if it has one. Else
+/// that is entered.
+#[tactic(auto, using(crate::proofs::Agreeing::operation_where))]
+pub(crate) fn operation_fits(
     types: &UniqueArena<Type_>,
     infos: &[ExpressionInfo],
     here: Handle<Expression>,
-    expression: &Expression,
+    op: BinaryOperator,
+    left: Handle<Expression>,
+    right: Handle<Expression>,
+    known: Spelled,
     table: &mut [Option<usize>],
 ) -> bool
-    requires { length table.now ≡ 300 }
-    ensures fitted { written result table.new ≡ all_entered (Some table.old) (expression_operations types.now infos.now here expression.now) }
+    requires table { length table.now ≡ 300 }
+    requires known { spelled known ≡ spelling_at types.now infos.now here }
+    ensures fitted { IsEntered
+        (operation_fits types.now infos.now here op left right)
+        (expression_operations types.now infos.now here (Binary op left right))
+        table.old result table.new }
     ensures kept { length table.new ≡ 300 }
 {
-    let Expression::Binary { op, left, right } = expression else {
-        return true;
-    };
-    let operator = operator_number(*op);
-    let left = number_at(types, infos, *left);
-    let right = number_at(types, infos, *right);
-    let answer = number_at(types, infos, here);
+    let operator = operator_number(op);
+    let left = operand_number(types, infos, here, left);
+    let right = operand_number(types, infos, here, right);
+    let answer = spelling_number(known);
     match (operator, left, right, answer) {
         (Some(operator), Some(left), Some(right), Some(answer)) => {
             enter(table, (operator * 10 + left) * 10 + right, answer)
         }
-        _ => true,
+        _ => false,
     }
-}
-
-fn enter_function(
-    types: &UniqueArena<Type_>,
-    expressions: &Arena<Expression>,
-    infos: &[ExpressionInfo],
-    table: &mut [Option<usize>],
-) -> bool
-    requires { length table.now ≡ 300 }
-    ensures fitted { written result table.new ≡ all_entered (Some table.old) (function_operations types.now expressions.now infos.now) }
-    ensures kept { length table.new ≡ 300 }
-{
-    for (here, expression) in expressions.iter() {
-        if !enter_expression(types, infos, here, expression, table) {
-            return false;
-        }
-    }
-    true
-}
-
-/// Whether operators that are spelled alike, over operands of types alike, have types alike, in all
-/// functions.
-pub(crate) fn operators_agree(
-    types: &UniqueArena<Type_>,
-    functions: &Arena<Function>,
-    infos: &[FunctionInfo],
-) -> bool
-    requires { length functions.now ≡ length infos.now }
-    ensures { result ≡ operators_agree types.now functions.now infos.now }
-{
-    let mut table = [None; 300];
-    for (index, info) in infos.iter().enumerate() {
-        let function = &functions[Place::from_index(index)];
-        if !enter_function(
-            types,
-            &function.expressions,
-            info.expressions.as_slice(),
-            &mut table,
-        ) {
-            return false;
-        }
-    }
-    true
 }

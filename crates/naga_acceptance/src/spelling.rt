@@ -4,12 +4,11 @@
 ghost use Rattle.std.specs.Prelude.{◌≡◌};
 ghost use Rattle.std.specs.Option.{is_some, option_and_then, option_map};
 ghost use Rattle.naga_acceptance.specs.Spelled.{spelled};
-ghost use Rattle.accepted_modules.specs.Types.{is_alike, literal_word, local_pointer, operator_word, pointee_at, pointee_of, pointee_word, scalar_word, spelling, spelling_at, spelling_of, word_at, word_of_type};
+ghost use Rattle.accepted_modules.specs.Types.{is_alike, literal_word, local_pointer, pointee_at, pointee_of, pointee_word, scalar_word, spelling, spelling_at, spelling_of, word_at, word_of_type};
 
 use naga_info::{ExpressionInfo, TypeResolution};
 use naga_ir::{
-    AddressSpace, BinaryOperator, Expression, Handle, Literal, Scalar, ScalarKind, Type_,
-    TypeInner, UniqueArena,
+    AddressSpace, Expression, Handle, Literal, Scalar, ScalarKind, Type_, TypeInner, UniqueArena,
 };
 
 /// WGSL's word for a scalar type, of those that are written so far: `bool`, `i32`, `u32`, `i64` and
@@ -46,16 +45,6 @@ pub(crate) fn are_alike(a: Spelled, b: Spelled) -> bool
         (Spelled::Scalar(a), Spelled::Scalar(b)) => have_one_word(a, b),
         (Spelled::LocalPointer(a), Spelled::LocalPointer(b)) => have_one_word(a, b),
         _ => false,
-    }
-}
-
-/// Whether it is spelled.
-pub(crate) fn is_spelled(a: Spelled) -> bool
-    ensures { result ≡ is_some (spelled a) }
-{
-    match a {
-        Spelled::Nothing => false,
-        Spelled::Scalar(a) | Spelled::LocalPointer(a) => has_word(a),
     }
 }
 
@@ -198,18 +187,6 @@ pub(crate) fn spelled_pointee(
     match infos.get(handle.index()) {
         Some(info) => spelled_pointee_of(types, &info.ty),
         None => Spelled::Nothing,
-    }
-}
-
-/// How an operator is written, of those that are written so far: `+`, `-` and `*`.
-pub(crate) fn operator_word(op: BinaryOperator) -> Option<&'static str>
-    ensures { option_map (λ word. word.now) result ≡ operator_word op }
-{
-    match op {
-        BinaryOperator::Add => Some("+"),
-        BinaryOperator::Subtract => Some("-"),
-        BinaryOperator::Multiply => Some("*"),
-        _ => None,
     }
 }
 

@@ -1,6 +1,11 @@
-use Rattle.std.proofs.Common.{◌≡◌, drop}
-use Rattle.accepted_modules.specs.Accepted.{expressions_fit_from, expressions_fit}
+use Rattle.std.proofs.Common.{◌≡◌, length, Some}
+use Rattle.accepted_modules.specs.Accepted.{expressions_fit}
+use Rattle.accepted_modules.specs.Operations.{function_operations}
+use Rattle.naga_acceptance.specs.Table.{all_entered, entered_where}
+use Rattle.naga_acceptance.proofs.Entering.{expressions_entered}
 use Rattle.naga_acceptance.proofs.acceptance.expressions_fit.Given as goal
 
 abbrev pub invariant-loop-index : goal.invariant-loop-index
-invariant-loop-index l = expressions_fit_from l.types l.function l.infos l.index (drop l.index l.function.expressions) (drop l.index l.infos) ≡ expressions_fit l.types l.function l.function.expressions l.infos
+invariant-loop-index l =
+    (expressions_entered l.types l.function l.infos l.index l.table ≡ entered_where (expressions_fit l.types l.function l.function.expressions l.infos) (all_entered (Some l.initial.table) (function_operations l.types l.function.expressions l.infos)))
+    × (length l.table ≡ 300)

@@ -1,0 +1,43 @@
+-- What is tested apart: all of a function but its expressions, what some of these are expected to be
+-- spelled, and operators.
+use Rattle.std.specs.Prelude.{ℕ, Bool, ◌&&◌, List, length, Option, None, nat_lt, slice_get}
+use Rattle.std.specs.Prelude.{if◌then◌else◌}
+use Rattle.std.specs.List.{list_all}
+use Rattle.std.specs.Option.{option_map, is_some, option_and_then}
+use Rattle.naga_ir.specs.declared.module.Function.{Function}
+use Rattle.naga_operators.specs.declared.BinaryOperator.{BinaryOperator}
+use Rattle.naga_ir.specs.declared.types.Type_.{Type_}
+use Rattle.naga_info.specs.declared.info.ExpressionInfo.{ExpressionInfo}
+use Rattle.accepted_modules.specs.Accepted.{signature_fits, names_fit, operand_fits, local_fits}
+use Rattle.accepted_modules.specs.Accepted.{block_fits}
+use Rattle.accepted_modules.specs.Types.{word_at, local_pointer, spelling_at, pointee_at}
+use Rattle.accepted_modules.specs.Types.{operator_word}
+
+-- the signature, the named expressions, the locals and the body
+abbrev pub surroundings_fit : List Type_ → Function → List ExpressionInfo → Bool
+surroundings_fit types f es =
+    signature_fits (length types) f && (names_fit f &&
+    (list_all (local_fits types es) f.local_variables && block_fits types es f.result f.body))
+
+-- the word of an argument's type
+abbrev pub argument_word : List Type_ → Function → (number : ℕ) → Option (List ℕ)
+argument_word types f number =
+    option_and_then (λ a. word_at types a.ty) (slice_get f.arguments.items number)
+
+-- the spelling of a pointer to a local
+abbrev pub local_pointer_word : List Type_ → Function → (handle : ℕ) → Option (List ℕ)
+local_pointer_word types f handle =
+    option_and_then
+    (λ l. option_map local_pointer (word_at types l.ty)) (slice_get f.local_variables handle)
+
+-- the word of what is loaded through a pointer that stands before the load
+abbrev pub load_word : List Type_ → List ExpressionInfo → (here pointer : ℕ) → Option (List ℕ)
+load_word types es here pointer = if nat_lt pointer here then pointee_at types es pointer else None
+
+-- an operator, its operands and its type are spelled, and the operands stand before it
+abbrev pub operation_fits :
+    List Type_ → List ExpressionInfo → (here : ℕ) → BinaryOperator → (left right : ℕ) → Bool
+operation_fits types es here op left right =
+    (is_some (operator_word op) &&
+    (operand_fits types es here left && operand_fits types es here right))
+    && is_some (spelling_at types es here)
