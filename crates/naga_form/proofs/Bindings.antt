@@ -128,7 +128,7 @@ functions_tell explicit names types g (f ∷ fs) (es ∷ ess) =
     λ i. line i ∷ functions_tell explicit names types (g + 1) fs ess i
 
 pub binds_as : (m : Module) (info : ModuleInfo) (explicit : Bool) → IsTrue (is_accepted m info) → BindsAs m info explicit (written_program m info explicit)
-binds_as m info explicit accepted = record {
-  names = ap text_lets (program_reads m info explicit accepted) ∙ binds_as_meant (program_shape m info) (outer_names (module_names m)) (namings (module_names m) m info);
-  annotations = functions_tell explicit (module_names m) m.types 0 m.functions info.functions.items;
-}
+binds_as m info explicit accepted =
+    let names = ap text_lets (program_reads m info explicit accepted) ∙ binds_as_meant (program_shape m info) (outer_names (module_names m)) (namings (module_names m) m info) in
+    let annotations = functions_tell explicit (module_names m) m.types 0 m.functions info.functions.items in
+    λ i. record { names = names i; annotations = annotations i }

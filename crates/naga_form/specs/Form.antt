@@ -43,13 +43,16 @@ abbrev pub as_reference : PlainForm → Expression
 as_reference (ValueForm e) = Dereference e
 as_reference (ReferenceForm e) = e
 
--- an expression that isn't named, over its operands' forms. What is not written so far stands as `false`
+-- an expression that isn't named, over its operands' forms. What is not written so far, and stands
+-- in no accepted module, is `false` here, as a handle without an expression is
 abbrev pub own_plain : Naming → (ℕ → PlainForm) → ir.Expression → PlainForm
 own_plain n operand (expression.Literal value) = ValueForm (Constant (literal_form value))
-own_plain n operand (expression.FunctionArgument number) = ValueForm (Name (n.names.argument number))
+own_plain n operand (expression.FunctionArgument number) =
+    ValueForm (Name (n.names.argument number))
 own_plain n operand (expression.LocalVariable handle) = ReferenceForm (Name (n.names.local_ handle))
 own_plain n operand (expression.Load pointer) = ValueForm (as_reference (operand pointer))
-own_plain n operand (expression.Binary op left right) = ValueForm (Binary (as_value (operand left)) (operator_form op) (as_value (operand right)))
+own_plain n operand (expression.Binary op left right) =
+    ValueForm (Binary (as_value (operand left)) (operator_form op) (as_value (operand right)))
 own_plain n operand _ = ValueForm (Constant (Truth false))
 
 -- the same, if there is such an expression
@@ -64,7 +67,8 @@ standing_plain _ own = own
 -- the form of a handle below the bound
 abbrev pub plain_below : Naming → List ir.Expression → Handles → ℕ → ℕ → PlainForm
 plain_below n es s zero h = ValueForm (Constant (Truth false))
-plain_below n es s (suc k) h = standing_plain (s h) (own_if n (plain_below n es s k) (slice_get es h))
+plain_below n es s (suc k) h =
+    standing_plain (s h) (own_if n (plain_below n es s k) (slice_get es h))
 
 -- a handle's form: its name where that is in scope, else its expression over its operands' forms
 abbrev pub plain_form : Naming → List ir.Expression → Handles → ℕ → PlainForm
@@ -84,19 +88,26 @@ then_if true s rest = Then s rest
 then_if false s rest = rest
 
 -- the `let`s of emitted handles, in front of what follows; `told` is the type that a `let` tells
-abbrev pub lets_form : Naming → (told : ℕ → Option TypeSpecifier) → List ir.Expression → ℕ → List ℕ → Handles → Statements → Statements
+abbrev pub lets_form :
+    Naming → (told : ℕ → Option TypeSpecifier) → List ir.Expression → ℕ → List ℕ →
+    Handles → Statements → Statements
 lets_form n told es k [] s rest = rest
 lets_form n told es k (h ∷ hs) s rest =
-    then_if (binds n.function h) (let_form (told h) (bound_name n k h) (as_value (own_if n (plain_form n es s) (slice_get es h))))
+    let value = as_value (own_if n (plain_form n es s) (slice_get es h)) in
+    then_if (binds n.function h) (let_form (told h) (bound_name n k h) value)
     (lets_form n told es (given_after n.function h k) hs (after_one n k h s) rest)
 
 abbrev pub return_line : Naming → List ir.Expression → Handles → Option ℕ → Statement
 return_line n es s None = Return
 return_line n es s (Some h) = ReturnValue (value_form n es s h)
 
--- a statement without blocks, in front of what follows. What is not written so far stands as an empty block
-abbrev pub simple_form : Naming → (told : ℕ → Option TypeSpecifier) → List ir.Expression → ℕ → SimpleStatement → Handles → Statements → Statements
-simple_form n told es k (emit first last) s rest = lets_form n told es k (from first (last - first)) s rest
+-- a statement without blocks, in front of what follows. What is not written so far, and stands in
+-- no accepted module, is an empty block
+abbrev pub simple_form :
+    Naming → (told : ℕ → Option TypeSpecifier) → List ir.Expression → ℕ → SimpleStatement →
+    Handles → Statements → Statements
+simple_form n told es k (emit first last) s rest =
+    lets_form n told es k (from first (last - first)) s rest
 simple_form n told es k (store pointer value) s rest =
     Then (Assign (as_reference (plain_form n es s pointer)) (value_form n es s value)) rest
 simple_form n told es k (return value) s rest = Then (return_line n es s value) rest
@@ -125,54 +136,80 @@ labels_form (l ∷ ls) own = MoreLabels l (labels_form ls own)
 -- Statements in order: k names were given by front ends, s are the handles in scope.
 abbrev mutual
   -- a statement, in front of what follows
-  pub line_form : Naming → (told : ℕ → Option TypeSpecifier) → List ir.Expression → ℕ → StatementTree → Handles → Statements → Statements
+  pub line_form :
+      Naming → (told : ℕ → Option TypeSpecifier) → List ir.Expression → ℕ → StatementTree →
+      Handles → Statements → Statements
   line_form n told es k (simple st) s rest = simple_form n told es k st s rest
   line_form n told es k (block b) s rest = Then (Block (lines_form n told es k b s)) rest
   line_form n told es k (branch condition accept reject) s rest =
       let behind = given_by_all n.function (statements_shape accept) k in
-      Then (If (value_form n es s condition) (lines_form n told es k accept s) (lines_form n told es behind reject s)) rest
+      let accepted = lines_form n told es k accept s in
+      let rejected = lines_form n told es behind reject s in
+      Then (If (value_form n es s condition) accepted rejected) rest
   line_form n told es k (switch selector cases) s rest =
       Then (Switch (value_form n es s selector) (cases_form n told es k [] cases s)) rest
   line_form n told es k (loop body continuing break_if) s rest =
       let behind = given_by_all n.function (statements_shape body) k in
       let inside = after_all n k (statements_shape body) s in
       let last = after_all n behind (statements_shape continuing) inside in
-      Then (loop_form (lines_form n told es k body s) (lines_form n told es behind continuing inside) (option_map (value_form n es last) break_if)) rest
+      let turn = lines_form n told es k body s in
+      let next = lines_form n told es behind continuing inside in
+      Then (loop_form turn next (option_map (value_form n es last) break_if)) rest
 
-  pub lines_form : Naming → (told : ℕ → Option TypeSpecifier) → List ir.Expression → ℕ → BlockTree → Handles → Statements
+  pub lines_form :
+      Naming → (told : ℕ → Option TypeSpecifier) → List ir.Expression → ℕ → BlockTree →
+      Handles → Statements
   lines_form n told es k no_statements s = NoStatements
   lines_form n told es k (statement st b) s =
-      line_form n told es k st s (lines_form n told es (given_by n.function (statement_shape st) k) b (after n k (statement_shape st) s))
+      let behind = given_by n.function (statement_shape st) k in
+      line_form n told es k st s (lines_form n told es behind b (after n k (statement_shape st) s))
 
   -- a case that falls through has no lines, and gives its label to the next one: these wait for one
-  pub cases_form : Naming → (told : ℕ → Option TypeSpecifier) → List ir.Expression → ℕ → List Label → CaseTrees → Handles → Cases
+  pub cases_form :
+      Naming → (told : ℕ → Option TypeSpecifier) → List ir.Expression → ℕ → List Label → CaseTrees →
+      Handles → Cases
   cases_form n told es k labels no_cases s = NoCases
   cases_form n told es k labels (case value body true cases) s =
-      cases_form n told es (given_by_all n.function (statements_shape body) k) (labels ++ label_form value ∷ []) cases s
+      let behind = given_by_all n.function (statements_shape body) k in
+      cases_form n told es behind (labels ++ label_form value ∷ []) cases s
   cases_form n told es k labels (case value body false cases) s =
+      let behind = given_by_all n.function (statements_shape body) k in
       Case (labels_form labels (label_form value)) (lines_form n told es k body s)
-      (cases_form n told es (given_by_all n.function (statements_shape body) k) [] cases s)
+      (cases_form n told es behind [] cases s)
 
 -- the locals from this one on, with their first values
-abbrev pub locals_form : Naming → TypeNames → List ir.Expression → ℕ → List LocalVariable → List Local
+abbrev pub locals_form :
+    Naming → TypeNames → List ir.Expression → ℕ → List LocalVariable → List Local
 locals_form n t es l [] = []
 locals_form n t es l (v ∷ more) =
-    record { name = n.names.local_ l; type = type_form t v.ty; value = option_map (value_form n es (at_start n.function)) v.init } ∷ locals_form n t es (l + 1) more
+    record {
+      name = n.names.local_ l;
+      type = type_form t v.ty;
+      value = option_map (value_form n es (at_start n.function)) v.init;
+    } ∷ locals_form n t es (l + 1) more
 
 abbrev pub parameter_form : NameMap → List Type_ → ℕ → ℕ → FunctionArgument → Parameter
-parameter_form names types g number a = record { attributes = []; name = argument_name names g number; type = type_form (names_of types names) a.ty }
+parameter_form names types g number a =
+    record {
+      attributes = [];
+      name = argument_name names g number;
+      type = type_form (names_of types names) a.ty;
+    }
 
 -- the arguments from this number on
 abbrev pub parameters_form : NameMap → List Type_ → ℕ → ℕ → List FunctionArgument → List Parameter
 parameters_form names types g number [] = []
-parameters_form names types g number (a ∷ more) = parameter_form names types g number a ∷ parameters_form names types g (number + 1) more
+parameters_form names types g number (a ∷ more) =
+    parameter_form names types g number a ∷ parameters_form names types g (number + 1) more
 
 abbrev pub result_form : TypeNames → Option FunctionResult → Result
 result_form t None = NoResult
 result_form t (Some r) = ResultOf [] (type_form t r.ty)
 
 -- a function, with what is known of its expressions
-abbrev pub function_form : (explicit : Bool) → NameMap → List Type_ → ℕ → ir_function.Function → List ExpressionInfo → Function
+abbrev pub function_form :
+    (explicit : Bool) → NameMap → List Type_ → ℕ → ir_function.Function → List ExpressionInfo →
+    Function
 function_form explicit names types g f es =
     let n : Naming = function_naming names types g f es in
     let t : TypeNames = names_of types names in
@@ -185,12 +222,19 @@ function_form explicit names types g f es =
     }
 
 -- the functions from this handle on, each with what is known of its expressions
-abbrev pub functions_form : (explicit : Bool) → NameMap → List Type_ → ℕ → List ir_function.Function → List (List ExpressionInfo) → List Function
-functions_form explicit names types g (f ∷ fs) (es ∷ ess) = function_form explicit names types g f es ∷ functions_form explicit names types (g + 1) fs ess
+abbrev pub functions_form :
+    (explicit : Bool) → NameMap → List Type_ → ℕ → List ir_function.Function →
+    List (List ExpressionInfo) → List Function
+functions_form explicit names types g (f ∷ fs) (es ∷ ess) =
+    function_form explicit names types g f es
+    ∷ functions_form explicit names types (g + 1) fs ess
 functions_form explicit names types g _ _ = []
 
 -- the syntax tree that is written for a module, by what is known of it, with the types of its
 -- `let`s told or not: so far its functions
 abbrev pub written_program : Module → ModuleInfo → (explicit : Bool) → Program
 written_program m info explicit =
-    record no_declarations { functions = functions_form explicit (module_names m) m.types 0 m.functions info.functions.items }
+    let functions = info.functions.items in
+    record no_declarations {
+      functions = functions_form explicit (module_names m) m.types 0 m.functions functions;
+    }

@@ -1,5 +1,5 @@
--- Each identifier of a program stands for what it was written for. What it stands for is told of the abstract text,
--- which forgets types and member words: no identifier stands there so far.
+-- Each identifier of a program stands for what it was written for. What it stands for is told of
+-- the abstract text, which forgets types and member words: no identifier stands there so far.
 use Rattle.std.specs.Prelude.{◌≡◌, map, Some}
 use Rattle.naga_ir.specs.declared.module.Module.{Module}
 use Rattle.naga_info.specs.declared.info.ModuleInfo.{ModuleInfo}
@@ -9,8 +9,8 @@ use Rattle.naga_form.specs.Names.{module_names}
 use Rattle.naga_form.specs.Shapes.{program_shape, namings}
 use Rattle.naga_form.specs.Abstraction.{program_read}
 
--- Each identifier of each function, in their order, stands for the function, argument, local or `let` that the module
--- means there.
+-- Each identifier of each function, in their order, stands for the function, argument, local or
+-- `let` that the module means there.
 abbrev pub ResolvesAs : Module → ModuleInfo → Program → Type 0
 ResolvesAs m info program =
     text_targets (program_read program)

@@ -34,7 +34,8 @@ binary_shape LogicalAnd left right = Logical ShortCircuitAnd left right
 binary_shape LogicalOr left right = Logical ShortCircuitOr left right
 binary_shape op left right = Operator (operator_text op) (left ∷ right ∷ [])
 
--- what an expression evaluates. What is not written so far stands as a result that no statement gives
+-- what an expression evaluates. What is not written so far, and stands in no accepted module, is a
+-- result that no statement gives
 abbrev pub expression_shape : ir.Expression → Expression
 expression_shape (expression.Literal value) = Constant (Fixed (literal_value value))
 expression_shape (expression.FunctionArgument number) = Argument number
@@ -49,7 +50,8 @@ label_shape (label.I32 z) = Numbered z
 label_shape (label.U32 n) = Numbered (pos n)
 label_shape label.Default = Default
 
--- what a statement without blocks does. What is not written so far stands as an empty block
+-- what a statement without blocks does. What is not written so far, and stands in no accepted
+-- module, is an empty block
 abbrev pub simple_shape : SimpleStatement → Statement
 simple_shape (emit first last) = Emit first (last - first)
 simple_shape (store pointer value) = Store pointer value
@@ -100,7 +102,8 @@ function_shape types f es =
     }
 
 -- the functions, each with what is known of it
-abbrev pub function_shapes : List Type_ → List ir_function.Function → List (List ExpressionInfo) → List Function
+abbrev pub function_shapes :
+    List Type_ → List ir_function.Function → List (List ExpressionInfo) → List Function
 function_shapes types (f ∷ fs) (es ∷ ess) = function_shape types f es ∷ function_shapes types fs ess
 function_shapes types _ _ = []
 
@@ -122,9 +125,15 @@ program_shape m info =
 -- the names of the module's items; it has no constants, overrides and variables so far
 abbrev pub outer_names : NameMap → ModuleNames
 outer_names names =
-    record { constant = λ i. []; global = λ i. []; function = function_name names; is_request = is_request }
+    record {
+      constant = λ i. [];
+      global = λ i. [];
+      function = function_name names;
+      is_request = is_request;
+    }
 
--- the names that the text of the function with this handle uses. Front ends name nothing in it so far
+-- the names that the text of the function with this handle uses. Front ends name nothing in it so
+-- far
 abbrev pub inner_names : NameMap → ℕ → Names
 inner_names names g =
     record {
@@ -137,18 +146,24 @@ inner_names names g =
     }
 
 -- the function with this handle, under its names
-abbrev pub function_naming : NameMap → List Type_ → ℕ → ir_function.Function → List ExpressionInfo → Naming
-function_naming names types g f es = record { function = function_shape types f es; names = inner_names names g }
+abbrev pub function_naming :
+    NameMap → List Type_ → ℕ → ir_function.Function → List ExpressionInfo → Naming
+function_naming names types g f es =
+    record { function = function_shape types f es; names = inner_names names g }
 
 -- the operands of each expression stand before it
 abbrev pub OperandsStandBefore : List ir.Expression → Type 0
-OperandsStandBefore es = (h : ℕ) (e : ir.Expression) → slice_get es h ≡ Some e → AllBelow h (operands_of (Some (expression_shape e)))
+OperandsStandBefore es =
+    (h : ℕ) (e : ir.Expression) → slice_get es h ≡ Some e →
+    AllBelow h (operands_of (Some (expression_shape e)))
 
 -- the functions with their names, from this handle on
 abbrev pub namings_from : NameMap → ℕ → List Function → List Naming
 namings_from names g [] = []
-namings_from names g (f ∷ fs) = record { function = f; names = inner_names names g } ∷ namings_from names (g + 1) fs
+namings_from names g (f ∷ fs) =
+    record { function = f; names = inner_names names g } ∷ namings_from names (g + 1) fs
 
 -- the functions with their names, the last one first
 abbrev pub namings : NameMap → ir_module.Module → ModuleInfo → List Naming
-namings names m info = reverse (namings_from names 0 (function_shapes m.types m.functions info.functions.items))
+namings names m info =
+    reverse (namings_from names 0 (function_shapes m.types m.functions info.functions.items))

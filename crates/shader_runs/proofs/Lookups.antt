@@ -11,7 +11,7 @@ use Rattle.shader_runs.specs.Premises.{FixedName, ArgumentName, LocalName, Const
 use Rattle.shader_runs.specs.Resolution.{Target, ConstantTarget, GlobalTarget, FunctionTarget, ArgumentTarget, LocalTarget, LetTarget, Lookup, tree_targets, trees_targets, tree_targets_if, with_items, constant_targets, constants_targets, LetNumbers, value_targets_if, lets_after, numbers_after, numbers_after_all, numbers_after_result, lets_by, numbers_by, numbers_left, no_numbers}
 use Rattle.shader_runs.proofs.Update.{and_left, and_right, bind_same, bind_other, bind_cases, update_cases}
 use Rattle.shader_runs.proofs.Names.{NotAmong, AllDifferent}
-use Rattle.shader_runs.proofs.Sources.{Sources, same_name, forgotten_named, unbound_named, start_unnamed, sources_more, given_all_more, given_by_more, list_more, sources_one, sources_after}
+use Rattle.shader_runs.proofs.Sources.{fixed_numbered, fixed_given, numbered_given, numbered_same, given_same, Sources, same_name, forgotten_named, unbound_named, start_unnamed, sources_more, given_all_more, given_by_more, list_more, sources_one, sources_after}
 use Rattle.shader_runs.proofs.TreeTargets.{constant_resolves, constants_resolve, EachOf, IsNamed, Below, one_below, value_targets_of}
 use Rattle.shader_runs.proofs.LinesLeft.{list_names, names_after, names_after_all, names_after_result, names_by}
 
@@ -80,22 +80,6 @@ module _ (p : Module) (f : Naming) (distinct : AreDistinct p f) where
     functions = λ g lt no_name. bind_other names (name_at f.names key) (Some target) (f.names.outer.function g) (λ e. no_name key is (sym e)) ∙ knows.functions g lt no_name;
     free = λ w stands. bind_other names (name_at f.names key) (Some target) w (λ e. stands.1 key is (sym e)) ∙ knows.free w stands;
   }
-
-  -- the name of a `let`
-  numbered_apart : (y : FixedName) (h : ℕ) → FixedKey y ≡ NumberedKey h → ⊥
-  numbered_apart y h e = cc
-
-  given_apart : (y : FixedName) (k : ℕ) → FixedKey y ≡ GivenKey k → ⊥
-  given_apart y k e = cc
-
-  numbered_given : (h k : ℕ) → NumberedKey h ≡ GivenKey k → ⊥
-  numbered_given h k e = cc
-
-  numbered_same : (h k : ℕ) → NumberedKey h ≡ NumberedKey k → h ≡ k
-  numbered_same h k e = cc
-
-  given_same : (j k : ℕ) → GivenKey j ≡ GivenKey k → j ≡ k
-  given_same j k e = cc
 
   -- how many names are given in all
   abbrev pub total : ℕ
@@ -225,8 +209,8 @@ module _ (p : Module) (f : Naming) (distinct : AreDistinct p f) where
   }
     where
       new_items : (b : Bool) → cond b (suc k) k ≤ total → Knows (local_count f.function) (bind names (cond b (f.names.given k) (f.names.numbered h)) (Some (LetTarget l)))
-      new_items true le = let_known (GivenKey k) le (λ y. given_apart y k) (local_count f.function) l names scope.items
-      new_items false le = let_known (NumberedKey h) tt (λ y. numbered_apart y h) (local_count f.function) l names scope.items
+      new_items true le = let_known (GivenKey k) le (λ y. fixed_given y k) (local_count f.function) l names scope.items
+      new_items false le = let_known (NumberedKey h) tt (λ y. fixed_numbered y h) (local_count f.function) l names scope.items
 
       items : (b : Bool) → Knows (local_count f.function) (cond b (bind names (bound_name f k h) (Some (LetTarget l))) names)
       items true = new_items (is_given f.function h) le
@@ -254,7 +238,7 @@ module _ (p : Module) (f : Naming) (distinct : AreDistinct p f) where
   pub scope_result : (k l : ℕ) (r : Option ℕ) (s : Handles) (numbers : LetNumbers) (names : Lookup) → k ≤ total → InScope k s numbers names → InScope k (after_result f.names r s) (numbers_after_result l r numbers) (names_after_result f l r names)
   scope_result k l None s numbers names le scope = scope
   scope_result k l (Some h) s numbers names le scope = record {
-    items = let_known (NumberedKey h) tt (λ y. numbered_apart y h) (local_count f.function) l names scope.items;
+    items = let_known (NumberedKey h) tt (λ y. fixed_numbered y h) (local_count f.function) l names scope.items;
     lets = lets_known (NumberedKey h) tt k h l s numbers names scope.sources le (λ j other e. other (sym (numbered_same h j e))) (λ j lt e. numbered_given h j e) scope.lets;
     sources = sources_after f k (Act (Asked []) [] (Some h)) s scope.sources;
   }

@@ -4,6 +4,7 @@ use Rattle.shader_runs.specs.Value.{Bytes}
 use Rattle.shader_runs.specs.World.{update}
 use Rattle.shader_runs.specs.Program.{Statement, Emit, Block, If, Switch, Loop, Act, Statements, end, then, Cases, no_case, case, expression_of, operands_of, is_given, binds, from, holds_continue}
 use Rattle.shader_runs.specs.Scope.{Standing, Absent, Everywhere, Inline, Named, Handles, Naming, bound_name, usable_all, is_new, is_pure, unbound, emitted, after_one, given_after, given_after_all, after_emit, given_by, given_by_all, given_by_cases, after_result, after, after_all, forgotten_one, forgotten_if, start_standing, at_start}
+use Rattle.shader_runs.specs.Premises.{FixedName, FixedKey, NumberedKey, GivenKey}
 use Rattle.shader_runs.proofs.Update.{update_cases}
 
 pub same_name : (x y : Bytes) → Named x ≡ Named y → x ≡ y
@@ -28,6 +29,22 @@ unbound_named false _ x e = e
 pub start_unnamed : (b : Bool) (x : Bytes) → start_standing b ≡ Named x → ⊥
 start_unnamed true x e = cc
 start_unnamed false x e = cc
+
+-- ---- different names have different keys
+pub fixed_numbered : (y : FixedName) (h : ℕ) → FixedKey y ≡ NumberedKey h → ⊥
+fixed_numbered y h e = cc
+
+pub fixed_given : (y : FixedName) (k : ℕ) → FixedKey y ≡ GivenKey k → ⊥
+fixed_given y k e = cc
+
+pub numbered_given : (h k : ℕ) → NumberedKey h ≡ GivenKey k → ⊥
+numbered_given h k e = cc
+
+pub numbered_same : (h k : ℕ) → NumberedKey h ≡ NumberedKey k → h ≡ k
+numbered_same h k e = cc
+
+pub given_same : (j k : ℕ) → GivenKey j ≡ GivenKey k → j ≡ k
+given_same j k e = cc
 
 module _ (f : Naming) where
   -- the name of a handle where k names were given

@@ -1,5 +1,5 @@
--- Which `let`s a text has, and which handles a module binds by them. Throughout, k names were given by front ends before
--- a point, and s are the handles in scope there.
+-- Which `let`s a text has, and which handles a module binds by them. Throughout, k names were given
+-- by front ends before a point.
 use Rattle.std.specs.Prelude.{◌≡◌, ℕ, true, false, cond, List, [], ◌∷◌, ◌++◌, map, Option, Some, None}
 use Rattle.shader_runs.specs.Value.{Bytes}
 use Rattle.shader_runs.specs.Program.{Statement, Emit, Block, If, Switch, Loop, Act, Statements, end, then, Cases, no_case, case, binds, from, Module}
@@ -47,7 +47,8 @@ result_bindings n None = []
 result_bindings n (Some h) = record { handle = h; name = n.numbered h } ∷ []
 
 abbrev mutual
-  -- the handles that a statement binds, in their order. Of a case that falls through nothing is written
+  -- the handles that a statement binds, in their order. Of a case that falls through nothing is
+  -- written
   pub statement_bindings : Naming → ℕ → Statement → List Binding
   statement_bindings f k (Emit first count) = emit_bindings f k (from first count)
   statement_bindings f k (Block b) = statements_bindings f k b
@@ -81,4 +82,5 @@ bound_names f = map (λ b. b.name) (function_bindings f)
 -- the text of every module has these `let`s and no others
 abbrev pub BindsAsMeant : Type 0
 BindsAsMeant =
-    (p : Module) (n : ModuleNames) (fs : List Naming) → text_lets (form_module p n fs) ≡ map bound_names fs
+    (p : Module) (n : ModuleNames) (fs : List Naming) →
+    text_lets (form_module p n fs) ≡ map bound_names fs

@@ -1,6 +1,7 @@
--- What the identifiers of a text stand for, and what a module means by them. A name is looked up where it stands, and
--- inner names hide outer ones. Throughout, k names were given by front ends and l `let`s of the body stand before a
--- point, s are the handles in scope there, and a handle that has a name is bound by the `let` with its number.
+-- What the identifiers of a text stand for, and what a module means by them. A name is looked up
+-- where it stands, and inner names hide outer ones. Throughout, of a point of a function: k names
+-- were given by front ends before it, l `let`s of the body stand before it, s are the handles in
+-- scope there, and a handle that has a name is bound by the `let` with its number.
 use Rattle.std.specs.Prelude.{◌≡◌, ℕ, zero, suc, ◌<◌, true, false, cond, List, [], ◌∷◌, ◌++◌, map, length, Option, Some, None}
 use Rattle.shader_runs.specs.Value.{Bytes}
 use Rattle.shader_runs.specs.World.{update, bind}
@@ -11,9 +12,9 @@ use Rattle.shader_runs.specs.TextRun.{has_continue}
 use Rattle.shader_runs.specs.Form.{form_module}
 use Rattle.shader_runs.specs.Correct.{ModuleFits}
 
--- what a name stands for: an item of the module, or an argument, a variable or a `let` of the function where it stands;
--- a named constant or override by its number among both, a function by how many stand before it, and a `let` by its
--- number among those of the body
+-- what a name stands for: an item of the module, or an argument, a variable or a `let` of the
+-- function where it stands; a named constant or override by its number among both, a function by
+-- how many stand before it, and a `let` by its number among those of the body
 pub data Target : Type 0 where
   ConstantTarget : (number : ℕ) → Target
   GlobalTarget : (number : ℕ) → Target
@@ -93,12 +94,14 @@ abbrev mutual
   line_targets l names (Assign p e) = tree_targets names p ++ tree_targets names e
   line_targets l names (Braces b) = lines_targets l names b
   line_targets l names (IfElse e a b) =
-      tree_targets names e ++ (lines_targets l names a ++ lines_targets (lets_behind_all l a) names b)
+      tree_targets names e
+      ++ (lines_targets l names a ++ lines_targets (lets_behind_all l a) names b)
   line_targets l names (SwitchOn e groups) = tree_targets names e ++ groups_targets l names groups
   line_targets l names (LoopOf b d e) =
       let l1 = lets_behind_all l b in
       let inside = names_left l b names in
-      lines_targets l names b ++ (lines_targets l1 inside d ++ tree_targets_if (names_left l1 d inside) e)
+      lines_targets l names b
+      ++ (lines_targets l1 inside d ++ tree_targets_if (names_left l1 d inside) e)
   line_targets l names (ReturnLine e) = tree_targets_if names e
   line_targets l names (Perform word es) = word_target (names word) ++ trees_targets names es
   line_targets l names _ = []
@@ -129,17 +132,21 @@ text_names t =
     with_items ConstantTarget 0 (map (λ c. c.name) t.constants ++ t.overrides)
     (with_items GlobalTarget 0 (map (λ g. g.name) t.globals) (with_functions t.functions))
 
--- the identifiers of variables from the number i on, each of which is in scope behind its first value, and of the lines behind them
+-- the identifiers of variables from the number i on, each of which is in scope behind its first
+-- value, and of the lines behind them
 abbrev pub variables_targets : ℕ → Lookup → List Variable → Lines → List (Option Target)
 variables_targets i names [] ls = lines_targets 0 names ls
 variables_targets i names (v ∷ vs) ls =
-    tree_targets_if names v.first_value ++ variables_targets (suc i) (bind names v.name (Some (LocalTarget i))) vs ls
+    tree_targets_if names v.first_value
+    ++ variables_targets (suc i) (bind names v.name (Some (LocalTarget i))) vs ls
 
 -- those of a function, in the scope of the text's items
 abbrev pub text_function_targets : Lookup → TextFunction → List (Option Target)
-text_function_targets items f = variables_targets 0 (with_items ArgumentTarget 0 f.parameters items) f.variables f.lines
+text_function_targets items f =
+    variables_targets 0 (with_items ArgumentTarget 0 f.parameters items) f.variables f.lines
 
--- The identifiers of a text, each with what it stands for: of each initialiser, and of each function, the last one first.
+-- The identifiers of a text, each with what it stands for: of each initialiser, and of each
+-- function, the last one first.
 abbrev pub text_targets : TextModule → List (List (Option Target))
 text_targets t =
     map (λ c. tree_targets (text_names t) c.initialiser) t.constants
@@ -174,7 +181,8 @@ own_targets operand (Some (Access b i)) = operand b ++ operand i
 own_targets operand (Some (AccessIndex x b)) = operand b
 own_targets operand (Some (Logical j a b)) = operand a ++ operand b
 own_targets operand (Some (Swizzle letters v)) = operand v
-own_targets operand (Some (Request a word xs es)) = operands_targets operand xs ++ constants_targets es
+own_targets operand (Some (Request a word xs es)) =
+    operands_targets operand xs ++ constants_targets es
 own_targets operand _ = []
 
 -- the number of the `let` that binds a handle
@@ -190,7 +198,8 @@ standing_targets _ number own = own
 abbrev pub targets_below : Function → Handles → LetNumbers → ℕ → ℕ → List Target
 targets_below f s numbers zero h = []
 targets_below f s numbers (suc n) h =
-    standing_targets (s h) (numbers h) (own_targets (targets_below f s numbers n) (expression_of f h))
+    standing_targets (s h) (numbers h)
+    (own_targets (targets_below f s numbers n) (expression_of f h))
 
 -- what a handle means
 abbrev pub value_targets : Function → Handles → LetNumbers → ℕ → List Target
@@ -215,7 +224,8 @@ lets_after_all f (h ∷ hs) l = lets_after_all f hs (lets_after f h l)
 
 abbrev pub numbers_after_all : Function → ℕ → List ℕ → LetNumbers → LetNumbers
 numbers_after_all f l [] numbers = numbers
-numbers_after_all f l (h ∷ hs) numbers = numbers_after_all f (lets_after f h l) hs (numbers_after f l h numbers)
+numbers_after_all f l (h ∷ hs) numbers =
+    numbers_after_all f (lets_after f h l) hs (numbers_after f l h numbers)
 
 -- behind a result
 abbrev pub lets_after_result : Option ℕ → ℕ → ℕ
@@ -226,7 +236,8 @@ abbrev pub numbers_after_result : ℕ → Option ℕ → LetNumbers → LetNumbe
 numbers_after_result l None numbers = numbers
 numbers_after_result l (Some h) numbers = update numbers h l
 
--- how many `let`s stand before what follows a statement. Of a case that falls through nothing is written
+-- how many `let`s stand before what follows a statement. Of a case that falls through nothing is
+-- written
 abbrev mutual
   pub lets_by : Function → Statement → ℕ → ℕ
   lets_by f (Emit first count) l = lets_after_all f (from first count) l
@@ -256,15 +267,18 @@ numbers_by f l _ numbers = numbers
 abbrev pub numbers_left : Function → ℕ → Statements → LetNumbers → LetNumbers
 numbers_left f l end numbers = numbers
 numbers_left f l (then st ss) numbers =
-    cond (holds_continue st) numbers (numbers_left f (lets_by f st l) ss (numbers_by f l st numbers))
+    cond (holds_continue st) numbers
+    (numbers_left f (lets_by f st l) ss (numbers_by f l st numbers))
 
 -- what the `let`s of emitted handles mean
 abbrev pub emit_targets : Naming → (k l : ℕ) → List ℕ → Handles → LetNumbers → List Target
 emit_targets f k l [] s numbers = []
 emit_targets f k l (h ∷ hs) s numbers =
-    cond (binds f.function h) (own_targets (value_targets f.function s numbers) (expression_of f.function h)) []
-    ++ emit_targets f (given_after f.function h k) (lets_after f.function h l) hs (after_one f k h s)
-    (numbers_after f.function l h numbers)
+    let own = own_targets (value_targets f.function s numbers) (expression_of f.function h) in
+    let k1 = given_after f.function h k in
+    let l1 = lets_after f.function h l in
+    cond (binds f.function h) own []
+    ++ emit_targets f k1 l1 hs (after_one f k h s) (numbers_after f.function l h numbers)
 
 -- what an action calls
 abbrev pub action_targets : Action → List Target
@@ -274,7 +288,8 @@ action_targets (Called g) = FunctionTarget g ∷ []
 abbrev mutual
   -- what a statement means by its identifiers
   pub statement_targets : Naming → (k l : ℕ) → Statement → Handles → LetNumbers → List Target
-  statement_targets f k l (Emit first count) s numbers = emit_targets f k l (from first count) s numbers
+  statement_targets f k l (Emit first count) s numbers =
+      emit_targets f k l (from first count) s numbers
   statement_targets f k l (Store p v) s numbers =
       value_targets f.function s numbers p ++ value_targets f.function s numbers v
   statement_targets f k l (Block b) s numbers = statements_targets f k l b s numbers
@@ -290,9 +305,10 @@ abbrev mutual
       let l1 = lets_by_all f.function b l in
       let s1 = after_all f k b s in
       let numbers1 = numbers_left f.function l b numbers in
+      let numbers2 = numbers_left f.function l1 d numbers1 in
       statements_targets f k l b s numbers
       ++ (statements_targets f k1 l1 d s1 numbers1
-      ++ value_targets_if f.function (after_all f k1 d s1) (numbers_left f.function l1 d numbers1) e)
+      ++ value_targets_if f.function (after_all f k1 d s1) numbers2 e)
   statement_targets f k l (Return v) s numbers = value_targets_if f.function s numbers v
   statement_targets f k l (Act a xs r) s numbers =
       action_targets a ++ operands_targets (value_targets f.function s numbers) xs
@@ -301,9 +317,10 @@ abbrev mutual
   pub statements_targets : Naming → (k l : ℕ) → Statements → Handles → LetNumbers → List Target
   statements_targets f k l end s numbers = []
   statements_targets f k l (then st ss) s numbers =
+      let k1 = given_by f.function st k in
+      let l1 = lets_by f.function st l in
       statement_targets f k l st s numbers
-      ++ statements_targets f (given_by f.function st k) (lets_by f.function st l) ss (after f k st s)
-      (numbers_by f.function l st numbers)
+      ++ statements_targets f k1 l1 ss (after f k st s) (numbers_by f.function l st numbers)
 
   pub cases_targets : Naming → (k l : ℕ) → Cases → Handles → LetNumbers → List Target
   cases_targets f k l no_case s numbers = []
@@ -320,7 +337,8 @@ no_numbers h = 0
 -- what the first values of variables mean
 abbrev pub first_values_targets : Function → List (Option ℕ) → List Target
 first_values_targets f [] = []
-first_values_targets f (o ∷ os) = value_targets_if f (at_start f) no_numbers o ++ first_values_targets f os
+first_values_targets f (o ∷ os) =
+    value_targets_if f (at_start f) no_numbers o ++ first_values_targets f os
 
 -- what a function means by its identifiers
 abbrev pub function_targets : Naming → List Target
@@ -328,7 +346,8 @@ function_targets f =
     first_values_targets f.function f.function.first_values
     ++ statements_targets f 0 0 f.function.body (at_start f.function) no_numbers
 
--- What a module means by its identifiers: in each initialiser, and in each function, the last one first.
+-- What a module means by its identifiers: in each initialiser, and in each function, the last one
+-- first.
 abbrev pub module_targets : Module → List Naming → List (List Target)
 module_targets p fs = map constant_targets p.initialisers ++ map function_targets fs
 
@@ -342,9 +361,11 @@ LeafStands f _ = Unit {0}
 -- those of each function
 abbrev pub LeavesStand : List Naming → Type 0
 LeavesStand [] = Unit {0}
-LeavesStand (f ∷ fs) = ((h : ℕ) → LeafStands f.function (expression_of f.function h)) × LeavesStand fs
+LeavesStand (f ∷ fs) =
+    ((h : ℕ) → LeafStands f.function (expression_of f.function h)) × LeavesStand fs
 
--- in the text of every module whose scope holds, each identifier stands for what the module means by it
+-- in the text of every module whose scope holds, each identifier stands for what the module means
+-- by it
 abbrev pub ResolvesAsMeant : Type 0
 ResolvesAsMeant =
     (p : Module) (n : ModuleNames) (fs : List Naming) → ModuleFits p n fs → LeavesStand fs →

@@ -2,6 +2,8 @@
 #![tactic(auto)]
 
 ghost use Rattle.shader_runs.specs.Correct.{RunsAlike, HasTypedMeaning, HasTypedWorld, ConstantsAreComputed};
+ghost use Rattle.shader_runs.specs.Bindings.{BindsAsMeant};
+ghost use Rattle.shader_runs.specs.Resolution.{ResolvesAsMeant};
 ghost use Rattle.shader_runs.specs.Ends.{EndsArePassed};
 ghost use Rattle.shader_runs.specs.Points.{PointsAgree};
 ghost use Rattle.shader_runs.specs.Progress.{RunsAreNotStuck};
@@ -37,6 +39,16 @@ pub fn results_are_returned()
 /// The check of scope holds of a function exactly where the rules of scope do.
 pub fn scope_check_is_the_rules()
     ensures { ScopeCheckIsTheRules }
+{}
+
+/// Each identifier of a text stands for what the module means by it, where the check of scope holds.
+pub fn resolves_as_meant()
+    ensures { ResolvesAsMeant }
+{}
+
+/// The `let`s of a text are those of the handles that the module binds, under their names.
+pub fn binds_as_meant()
+    ensures { BindsAsMeant }
 {}
 
 /// No end is missed by these points: a list that is done passes its end, and a return, discard, break or continue
