@@ -17,7 +17,7 @@ impl FunctionText<'_> {
     /// An expression as a value: its name where it has one here, else what it is made of. A reference
     /// is written with `&`.
     #[cycle(expression)]
-    #[tactic(auto, using(crate::proofs::Expressions::value_row))]
+    #[tactic(auto, using(crate::proofs::ExpressionRows::value_row))]
     pub(crate) fn write_value<W: TextSink>(
         &self,
         scope: &Scope,
@@ -36,7 +36,7 @@ impl FunctionText<'_> {
 
     /// What an expression is made of, as a value, whether it has a name or not.
     #[cycle(expression)]
-    #[tactic(auto, using(crate::proofs::Expressions::own_row))]
+    #[tactic(auto, using(crate::proofs::ExpressionRows::own_row))]
     pub(crate) fn write_own<W: TextSink>(
         &self,
         scope: &Scope,
@@ -61,7 +61,7 @@ impl FunctionText<'_> {
 
     /// An expression as a reference: a local's name, or a value with `*`.
     #[cycle(expression)]
-    #[tactic(auto, using(crate::proofs::Expressions::reference_row))]
+    #[tactic(auto, using(crate::proofs::ExpressionRows::reference_row))]
     pub(crate) fn write_reference<W: TextSink>(
         &self,
         scope: &Scope,
@@ -83,7 +83,7 @@ impl FunctionText<'_> {
 
     /// What the value of an expression points at.
     #[cycle(expression)]
-    #[tactic(auto, using(spelling_parts::proofs::Writing::writes_then, crate::proofs::Expressions::pointed_row))]
+    #[tactic(auto, using(spelling_parts::proofs::Writing::writes_then, crate::proofs::ExpressionRows::pointed_row))]
     fn write_dereference<W: TextSink>(
         &self,
         scope: &Scope,
@@ -101,7 +101,7 @@ impl FunctionText<'_> {
 
     /// An operator between its operands.
     #[cycle(expression)]
-    #[tactic(auto, using(spelling_parts::proofs::Writing::writes_then, crate::proofs::Expressions::binary_row))]
+    #[tactic(auto, using(spelling_parts::proofs::Writing::writes_then, crate::proofs::ExpressionRows::binary_row))]
     fn write_binary<W: TextSink>(
         &self,
         scope: &Scope,
@@ -126,7 +126,7 @@ impl FunctionText<'_> {
     }
 
     /// A pointer to a local.
-    #[tactic(auto, using(spelling_parts::proofs::Writing::writes_then, crate::proofs::Expressions::address_row))]
+    #[tactic(auto, using(spelling_parts::proofs::Writing::writes_then, crate::proofs::ExpressionRows::address_row))]
     fn write_address<W: TextSink>(&self, local: Handle<LocalVariable>, out: &mut Output<'_, W>)
         requires can { CanWrite self.now }
         requires local { local < length self.now.function.now.local_variables }

@@ -78,7 +78,7 @@ pub(crate) struct FunctionText<'a> {
 }
 
 impl FunctionText<'_> {
-    #[tactic(auto, using(spelling_parts::proofs::Writing::writes_then, crate::proofs::Functions::function_row))]
+    #[tactic(auto, using(spelling_parts::proofs::Writing::writes_then, crate::proofs::FunctionRows::function_row))]
     fn write_declaration<W: TextSink>(&self, alloc: Global, out: &mut Output<'_, W>)
         requires { CanWrite self.now }
         ensures { Writes W.text W.failures out.old out.new (function_text self.now) }
@@ -91,7 +91,7 @@ impl FunctionText<'_> {
     }
 
     /// What stands before the locals.
-    #[tactic(auto, using(spelling_parts::proofs::Writing::writes_then, crate::proofs::Functions::head_row))]
+    #[tactic(auto, using(spelling_parts::proofs::Writing::writes_then, crate::proofs::FunctionRows::head_row))]
     fn write_head<W: TextSink>(&self, alloc: Global, out: &mut Output<'_, W>)
         requires { CanWrite self.now }
         ensures { Writes W.text W.failures out.old out.new (head_text self.now) }
@@ -117,7 +117,7 @@ impl FunctionText<'_> {
     }
 
     /// An argument, and what stands between it and the one before.
-    #[tactic(auto, using(spelling_parts::proofs::Writing::writes_then, crate::proofs::Functions::next_argument_row))]
+    #[tactic(auto, using(spelling_parts::proofs::Writing::writes_then, crate::proofs::FunctionRows::next_argument_row))]
     fn write_next_argument<W: TextSink>(
         &self,
         alloc: Global,
@@ -134,7 +134,7 @@ impl FunctionText<'_> {
         self.write_argument(alloc, number, argument, out);
     }
 
-    #[tactic(auto, using(spelling_parts::proofs::Writing::writes_then, crate::proofs::Functions::argument_row))]
+    #[tactic(auto, using(spelling_parts::proofs::Writing::writes_then, crate::proofs::FunctionRows::argument_row))]
     fn write_argument<W: TextSink>(
         &self,
         alloc: Global,
@@ -152,7 +152,7 @@ impl FunctionText<'_> {
         self.write_type(alloc, argument.ty, out);
     }
 
-    #[tactic(auto, using(spelling_parts::proofs::Writing::writes_nothing, crate::proofs::Functions::result_row))]
+    #[tactic(auto, using(spelling_parts::proofs::Writing::writes_nothing, crate::proofs::FunctionRows::result_row))]
     fn write_result<W: TextSink>(&self, alloc: Global, out: &mut Output<'_, W>)
         requires { CanWrite self.now }
         ensures { Writes W.text W.failures out.old out.new (result_text self.now) }
@@ -164,7 +164,7 @@ impl FunctionText<'_> {
     }
 
     /// The type of what is returned.
-    #[tactic(auto, using(spelling_parts::proofs::Writing::writes_then, crate::proofs::Functions::answer_row))]
+    #[tactic(auto, using(spelling_parts::proofs::Writing::writes_then, crate::proofs::FunctionRows::answer_row))]
     fn write_answer<W: TextSink>(&self, alloc: Global, ty: Handle<Type_>, out: &mut Output<'_, W>)
         requires can { CanWrite self.now }
         requires word { IsTrue (has_word self.now.shader.now.types ty) }
@@ -175,7 +175,7 @@ impl FunctionText<'_> {
     }
 
     /// What stands behind the head. `scope` is what is in scope at the start.
-    #[tactic(auto, using(spelling_parts::proofs::Writing::writes_then, crate::proofs::Functions::body_row))]
+    #[tactic(auto, using(spelling_parts::proofs::Writing::writes_then, crate::proofs::FunctionRows::body_row))]
     fn write_body<W: TextSink>(&self, alloc: Global, scope: &mut Scope, out: &mut Output<'_, W>)
         requires can { CanWrite self.now }
         requires start { StartsAt self.now scope.old }
@@ -200,7 +200,7 @@ impl FunctionText<'_> {
         write_group_end(self.function.local_variables.is_empty(), out);
     }
 
-    #[tactic(auto, using(spelling_parts::proofs::Writing::writes_then, crate::proofs::Functions::local_row))]
+    #[tactic(auto, using(spelling_parts::proofs::Writing::writes_then, crate::proofs::FunctionRows::local_row))]
     fn write_local<W: TextSink>(
         &self,
         alloc: Global,
@@ -222,7 +222,7 @@ impl FunctionText<'_> {
     }
 
     /// What stands behind the type of a local.
-    #[tactic(auto, using(crate::proofs::Functions::first_row))]
+    #[tactic(auto, using(crate::proofs::FunctionRows::first_row))]
     fn write_first_value<W: TextSink>(
         &self,
         scope: &Scope,
@@ -240,7 +240,7 @@ impl FunctionText<'_> {
         }
     }
 
-    #[tactic(auto, using(spelling_parts::proofs::Writing::writes_then, crate::proofs::Functions::first_value_row))]
+    #[tactic(auto, using(spelling_parts::proofs::Writing::writes_then, crate::proofs::FunctionRows::first_value_row))]
     fn write_first<W: TextSink>(
         &self,
         scope: &Scope,
@@ -259,6 +259,7 @@ impl FunctionText<'_> {
 }
 
 /// The empty line behind a group, unless there is nothing in it.
+#[tactic(auto, unfolding(crate::specs::Functions::group_end_text))]
 fn write_group_end<W: TextSink>(is_empty: bool, out: &mut Output<'_, W>)
     ensures { Writes W.text W.failures out.old out.new (group_end_text is_empty) }
 {

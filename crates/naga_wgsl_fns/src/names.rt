@@ -64,7 +64,7 @@ impl FunctionText<'_> {
 
 /// The name of an expression that a `let` binds.
 #[inline(never)]
-#[tactic(auto, using(spelling_parts::proofs::Writing::writes_then, crate::proofs::Names::bound_row))]
+#[tactic(auto, using(spelling_parts::proofs::Writing::writes_then, crate::proofs::NameRows::bound_row))]
 pub(crate) fn write_bound_name<W: TextSink>(handle: Handle<Expression>, out: &mut Output<'_, W>)
     ensures { Writes W.text W.failures out.old out.new (numbered_name handle) }
 {

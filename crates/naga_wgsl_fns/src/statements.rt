@@ -22,7 +22,7 @@ use std::alloc::Global;
 
 impl FunctionText<'_> {
     /// The statements in order. `scope` is what is in scope before the first.
-    #[tactic(auto, using(spelling_parts::proofs::Writing::loop_writes, crate::proofs::Statements::block_none))]
+    #[tactic(auto, using(spelling_parts::proofs::Writing::loop_writes, crate::proofs::StatementRows::block_none))]
     pub(crate) fn write_block<W: TextSink>(
         &self,
         alloc: Global,
@@ -47,7 +47,7 @@ impl FunctionText<'_> {
     }
 
     /// A statement. Behind the call, `scope` is what is in scope behind it.
-    #[tactic(auto, using(crate::proofs::Statements::statement_row))]
+    #[tactic(auto, using(crate::proofs::StatementRows::statement_row))]
     fn write_statement<W: TextSink>(
         &self,
         alloc: Global,
@@ -123,7 +123,7 @@ impl FunctionText<'_> {
         }
     }
 
-    #[tactic(auto, using(spelling_parts::proofs::Writing::writes_then, crate::proofs::Statements::let_row))]
+    #[tactic(auto, using(spelling_parts::proofs::Writing::writes_then, crate::proofs::StatementRows::let_row))]
     fn write_let<W: TextSink>(
         &self,
         alloc: Global,
@@ -145,7 +145,7 @@ impl FunctionText<'_> {
         out.put(";\n");
     }
 
-    #[tactic(auto, using(spelling_parts::proofs::Writing::writes_then, crate::proofs::Statements::store_row))]
+    #[tactic(auto, using(spelling_parts::proofs::Writing::writes_then, crate::proofs::StatementRows::store_row))]
     fn write_store<W: TextSink>(
         &self,
         level: Level,
@@ -167,7 +167,7 @@ impl FunctionText<'_> {
         out.put(";\n");
     }
 
-    #[tactic(auto, using(crate::proofs::Statements::return_row))]
+    #[tactic(auto, using(crate::proofs::StatementRows::return_row))]
     fn write_return<W: TextSink>(
         &self,
         level: Level,
@@ -186,7 +186,7 @@ impl FunctionText<'_> {
         }
     }
 
-    #[tactic(auto, using(spelling_parts::proofs::Writing::writes_then, crate::proofs::Statements::return_value_row))]
+    #[tactic(auto, using(spelling_parts::proofs::Writing::writes_then, crate::proofs::StatementRows::return_value_row))]
     fn write_return_value<W: TextSink>(
         &self,
         level: Level,
@@ -206,7 +206,7 @@ impl FunctionText<'_> {
 }
 
 /// The blanks before a line, and what it starts with.
-#[tactic(auto, using(spelling_parts::proofs::Writing::writes_then, crate::proofs::Statements::line_start_row))]
+#[tactic(auto, using(spelling_parts::proofs::Writing::writes_then, crate::proofs::StatementRows::line_start_row))]
 fn write_line_start<W: TextSink>(level: Level, word: &str, out: &mut Output<'_, W>)
     ensures { Writes W.text W.failures out.old out.new (line_start level.0 word.now) }
 {
@@ -214,7 +214,7 @@ fn write_line_start<W: TextSink>(level: Level, word: &str, out: &mut Output<'_, 
     out.put(word);
 }
 
-#[tactic(auto, using(spelling_parts::proofs::Writing::loop_writes, crate::proofs::Statements::indentation_more, crate::proofs::Statements::indentation_none))]
+#[tactic(auto, using(spelling_parts::proofs::Writing::loop_writes, crate::proofs::StatementRows::indentation_more, crate::proofs::StatementRows::indentation_none))]
 fn write_indentation<W: TextSink>(level: Level, out: &mut Output<'_, W>)
     ensures { Writes W.text W.failures out.old out.new (indentation level.0) }
 {

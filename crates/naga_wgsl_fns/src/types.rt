@@ -19,6 +19,7 @@ use std::alloc::Global;
 
 impl FunctionText<'_> {
     /// The type with this handle.
+    #[tactic(auto, using(spelling_parts::proofs::Writing::writes_no_more))]
     pub(crate) fn write_type<W: TextSink>(
         &self,
         alloc: Global,
@@ -36,13 +37,14 @@ impl FunctionText<'_> {
             module: self.shader,
             names: self.names,
         };
-        if let Err(error) = context.write_type(alloc, ty, out.sink) {
-            out.want = Some(want_of(error));
+        match context.write_type(alloc, ty, out.sink) {
+            Ok(()) => {}
+            Err(error) => out.want = Some(want_of(error)),
         }
     }
 
     /// A colon, and the type of an expression.
-    #[tactic(auto, using(spelling_parts::proofs::Writing::writes_then, crate::proofs::Types::annotation_row))]
+    #[tactic(auto, using(spelling_parts::proofs::Writing::writes_then, crate::proofs::TypeRows::annotation_row))]
     fn write_annotation<W: TextSink>(
         &self,
         alloc: Global,
@@ -58,6 +60,7 @@ impl FunctionText<'_> {
     }
 
     /// The type of an expression.
+    #[tactic(auto, using(spelling_parts::proofs::Writing::writes_no_more))]
     fn write_type_of<W: TextSink>(
         &self,
         alloc: Global,
@@ -75,8 +78,9 @@ impl FunctionText<'_> {
             module: self.shader,
             names: self.names,
         };
-        if let Err(error) = context.write_type_resolution(alloc, ty, out.sink) {
-            out.want = Some(want_of(error));
+        match context.write_type_resolution(alloc, ty, out.sink) {
+            Ok(()) => {}
+            Err(error) => out.want = Some(want_of(error)),
         }
     }
 

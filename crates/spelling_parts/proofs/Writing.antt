@@ -8,12 +8,12 @@ use Rattle.spelling_parts.specs.Output.{Seen, IsReason, Lies, Follows, Goes, Wro
 
 -- ---- rows
 -- a beginning of the first text is a beginning of both
-behind_first : (held text now more : List ℕ) → IsBehind held text now → IsBehind held (text ++ more) now
+pub behind_first : (held text now more : List ℕ) → IsBehind held text now → IsBehind held (text ++ more) now
 behind_first held text now more (taken, rest, whole, is) =
     (taken, rest ++ more, ap (λ t. t ++ more) whole ∙ append_assoc taken rest more, is)
 
 -- behind the first text, a beginning of the second
-behind_then : (held text middle more now : List ℕ) → middle ≡ held ++ text → IsBehind middle more now → IsBehind held (text ++ more) now
+pub behind_then : (held text middle more now : List ℕ) → middle ≡ held ++ text → IsBehind middle more now → IsBehind held (text ++ more) now
 behind_then held text middle more now at (taken, rest, whole, is) = (
   text ++ taken,
   rest,
@@ -81,6 +81,10 @@ pub record Leaves (start now : Seen) (whole left : List ℕ) : Type 0 where
 pub leaves_start : (start : Seen) (whole : List ℕ) → Leaves start start whole whole
 leaves_start start whole = record { with = λ after w. w }
 
+-- what is left, said in another way
+pub leaves_as : {start now : Seen} {whole left same : List ℕ} → left ≡ same → Leaves start now whole left → Leaves start now whole same
+leaves_as {start} {now} {whole} is leaves = subst (λ t. Leaves start now whole t) is leaves
+
 pub leaves_more : (start now next : Seen) (whole left first more : List ℕ) → Leaves start now whole left → left ≡ joined first more → Wrote now next first → Leaves start next whole more
 leaves_more start now next whole left first more leaves is w =
     record { with = λ after v. leaves.with after (subst (λ t. Wrote now after t) (sym is) (writes_then w v)) }
@@ -122,7 +126,16 @@ held_part start now text want w fresh some = (from_fresh start now text w fresh 
 pub reason_given : (start now : Seen) (text : List ℕ) (want : SinkError) → Wrote start now text → start.want ≡ None → now.want ≡ Some want → IsReason start.failures now.failures want
 reason_given start now text want w fresh some = (from_fresh start now text w fresh (Some want) some).1
 
--- the same by what the sink holds before the output is made, and once the output is done with
+-- the same by what the sink shows before the output is made, and once the output is done with
+pub held_whole_as : (start now : Seen) (text before after : List ℕ) → start.held ≡ before → now.held ≡ after → Wrote start now text → start.want ≡ None → now.want ≡ None → after ≡ before ++ text
+held_whole_as start now text before after first last w fresh none = sym last ∙ held_whole start now text w fresh none ∙ ap (λ h. h ++ text) first
+
 pub held_part_as : (start now : Seen) (text before after : List ℕ) (want : SinkError) → start.held ≡ before → now.held ≡ after → Wrote start now text → start.want ≡ None → now.want ≡ Some want → IsBehind before text after
 held_part_as start now text before after want first last w fresh some =
     subst (λ h. IsBehind h text after) first (subst (λ h. IsBehind start.held text h) last (held_part start now text want w fresh some))
+
+pub reason_given_as : (start now : Seen) (text : List ℕ) (before after : ℕ) (want : SinkError) → start.failures ≡ before → now.failures ≡ after → Wrote start now text → start.want ≡ None → now.want ≡ Some want → IsReason before after want
+reason_given_as start now text before after want first last w fresh some =
+    subst (λ n. IsReason n after want) first (subst (λ n. IsReason start.failures n want) last (reason_given start now text want w fresh some))
+
+pub ruleset fresh_output = (same_sink, held_whole, never_failed)
