@@ -112,7 +112,9 @@ statement_at f table level _ = lines_text level (Then (Block NoStatements) NoSta
 pub statement_row : (f : FunctionText) (table : List Standing) (level : ℕ) (st : StatementTree) → statement_text f table level st ≡ statement_at f table level st
 unfolding statement_text lets_text store_text return_text
 statement_row f table level (simple (emit first last)) = refl
-statement_row f table level (simple (store pointer value)) = append-nil (statement_at f table level (simple (store pointer value)))
+statement_row f table level (simple (store pointer value)) =
+    let operand = plain_form (naming f) (expressions f) (handles_of table) in
+    then_text (tree.Assign (as_reference (operand pointer)) (as_value (operand value))) NoStatements level ∙ append-nil (store_text f table level pointer value)
 statement_row f table level (simple (return value)) =
     then_text (return_line (naming f) (expressions f) (handles_of table) value) NoStatements level ∙ append-nil (return_text f table level value)
 statement_row f table level _ = refl

@@ -1,6 +1,6 @@
 use Rattle.std.proofs.Common.{◌≡◌, ◌<◌, ◌∙◌, arith, ap, length, subst, sym}
 use Rattle.accepted_modules.proofs.Accepting.{accepted_functions_fit, functions_fit_length}
-use Rattle.spelling_parts.proofs.Writing.{held_part_as, held_whole_as, reason_given_as, same_sink, writes_as}
+use Rattle.spelling_parts.proofs.Writing.{held_part_as, held_whole_as, reason_given, same_sink, writes_as}
 use Rattle.wgsl_pieces.specs.Errors.{IsWant}
 use Rattle.naga_wgsl_fns.proofs.FunctionRows.{can_write, reason_told, text_of_function_at}
 use Rattle.naga_wgsl_fns.proofs.functions.write_function.Goals as goal
@@ -33,5 +33,9 @@ returns-in-Some-clause-text_err g c =
 pub returns-in-Some-clause-reason : goal.returns-in-Some-clause-reason
 returns-in-Some-clause-reason g c =
     let same : c.write_declaration.new.out.sink.ghost_name ≡ c.new-written.result.sink.ghost_name = same_sink _ _ _ c.write_declaration.ensures in
-    let told = reason_told (g.W.TextSink.failures c.args.out.now) _ c.in-Some.want (reason_given_as _ _ _ _ _ _ (grind arith) (grind arith) c.write_declaration.ensures c.new-written.ensures.want c.in-Some.is) in
-    subst (λ e. IsWant (g.W.TextSink.failures c.args.out.now) _ e) (sym c.from.ensures) told
+    let reason = reason_given _ _ _ c.in-Some.want c.write_declaration.ensures c.new-written.ensures.want c.in-Some.is in
+    let told = reason_told (g.W.TextSink.failures c.new-written.result.sink.now) (g.W.TextSink.failures c.write_declaration.new.out.sink.now) c.in-Some.want reason in
+    let before = ap (λ s. g.W.TextSink.failures s) c.new-written.ensures.held in
+    subst (λ n. IsWant (g.W.TextSink.failures c.args.out.now) n c.from.result) (grind arith)
+    (subst (λ n. IsWant n (g.W.TextSink.failures c.write_declaration.new.out.sink.now) c.from.result) before
+    (subst (λ e. IsWant (g.W.TextSink.failures c.new-written.result.sink.now) (g.W.TextSink.failures c.write_declaration.new.out.sink.now) e) (sym c.from.ensures) told))
