@@ -1,7 +1,6 @@
 -- The text of an expression by its kind and by where it stands, and from what is written of it in turn.
 use Rattle.std.proofs.Common.{◌≡◌, ℕ, zero, suc, ◌<◌, false, List, length, Option, Some, None, codes, refl, sym, ap, ◌∙◌, subst, arith, get_or}
 use Rattle.std.specs.Prelude.{slice_get}
-use Rattle.std.proofs.lemmas.List.{append-nil}
 use Rattle.naga_ir.specs.declared.expression.Expression as ir
 use Rattle.naga_ir.specs.declared.expression.Expression.TheVariants as expression
 use Rattle.naga_operators.specs.declared.BinaryOperator as ir_operator
@@ -21,7 +20,7 @@ use Rattle.naga_scope.proofs.Shaped.{operator_operands}
 use Rattle.spelling_parts.specs.Output.{joined}
 use Rattle.wgsl_pieces.specs.Literals.{literal_text}
 use Rattle.wgsl_text.specs.Tree.{Binary, Constant, Dereference, Name, Truth}
-use Rattle.wgsl_text.specs.Pieces.{binary_pieces, expression_pieces}
+use Rattle.wgsl_text.specs.Pieces.{binary_pieces}
 use Rattle.wgsl_text.specs.Reading.{expression_layout}
 use Rattle.wgsl_text.specs.Text.{text}
 use Rattle.wgsl_text.proofs.RowText.{address_text as address_row_text, binary_text as binary_row_text, dereference_text, name_text}

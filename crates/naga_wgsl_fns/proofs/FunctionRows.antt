@@ -1,15 +1,14 @@
 -- Each function of a module that is accepted and written so far can be written; and the texts of its parts, from what is
 -- written of them in turn.
-use Rattle.std.proofs.Common.{◌≡◌, ℕ, ◌+◌, ◌<◌, ◌≤◌, ◌==◌, zero, suc, Bool, true, false, List, [], ◌∷◌, ◌++◌, Option, None, Some, length, refl, sym, ap, ◌∙◌, arith, add-one, codes, drop, drop-cons, slice_index_or, ne_eqb, append_assoc, slice_get}
+use Rattle.std.proofs.Common.{◌≡◌, ℕ, ◌+◌, ◌<◌, ◌≤◌, ◌==◌, zero, suc, true, false, List, [], ◌∷◌, ◌++◌, Option, None, Some, length, refl, sym, ap, ◌∙◌, arith, add-one, codes, drop, drop-cons, slice_index_or, ne_eqb, append_assoc, slice_get}
 use Rattle.std.specs.Prelude.{if◌then◌else◌, unwrap_or}
-use Rattle.std.specs.Option.{option_map, option_map_or}
+use Rattle.std.specs.Option.{option_map_or}
 use Rattle.std.proofs.lemmas.List.{append-nil, drop_all}
 use Rattle.std.proofs.lemmas.Option.{slice_get_within, get_or_from_slice_get}
 use Rattle.naga_ir.specs.declared.module.Function.{Function}
 use Rattle.naga_ir.specs.declared.module.FunctionArgument.{FunctionArgument}
 use Rattle.naga_ir.specs.declared.module.FunctionResult.{FunctionResult}
 use Rattle.naga_ir.specs.declared.module.LocalVariable.{LocalVariable}
-use Rattle.naga_ir.specs.declared.module.Module.{Module}
 use Rattle.naga_info.specs.declared.info.ExpressionInfo.{ExpressionInfo}
 use Rattle.naga_info.specs.declared.info.ModuleInfo.{ModuleInfo}
 use Rattle.accepted_modules.specs.Accepted.{is_accepted, function_fits}
@@ -17,12 +16,11 @@ use Rattle.accepted_modules.specs.Part.{function_is_written, is_written_so_far}
 use Rattle.accepted_modules.proofs.Accepting.{accepted_types_are_scalar, accepted_functions_fit, list_all_at, functions_fit_at}
 use Rattle.name_keys.specs.Keys.{names_in}
 use Rattle.item_names.proofs.Counts.{element}
-use Rattle.shader_runs.specs.Scope.{Handles, at_start}
+use Rattle.shader_runs.specs.Scope.{Handles}
 use Rattle.naga_form.specs.Names.{HasNamesOf, module_names}
 use Rattle.naga_form.specs.Form.{function_form, lines_form, locals_form, parameter_form, parameters_form, result_form, value_form}
 use Rattle.naga_form.proofs.Resolutions.{functions_are_written}
 use Rattle.naga_scope.specs.declared.points.Standing.{Standing}
-use Rattle.naga_scope.specs.Standings.{handles_of}
 use Rattle.spelling_parts.specs.declared.sink.SinkError.{SinkError}
 use Rattle.spelling_parts.specs.declared.sink.SinkError.TheVariants.{Failed, Memory}
 use Rattle.spelling_parts.specs.Output.{IsReason, joined}
@@ -32,7 +30,6 @@ use Rattle.wgsl_text.specs.Reading.{expression_layout, type_layout}
 use Rattle.wgsl_text.specs.Text.{text}
 use Rattle.wgsl_text.specs.Tree.{Parameter}
 use Rattle.wgsl_text.proofs.RowText.{text-append, function_text as function_row_text, locals_text as local_row_text, value_text as value_row_text}
-use Rattle.back_flags.specs.declared.flags.WriterFlags.{WriterFlags}
 use Rattle.naga_wgsl_fns.specs.declared.functions.FunctionText.{FunctionText}
 use Rattle.naga_wgsl_fns.specs.FunctionText.{CanWrite, expressions, naming, tells_types, told, type_names_of}
 use Rattle.naga_wgsl_fns.specs.Names.{name_of_argument, name_of_function, name_of_local}

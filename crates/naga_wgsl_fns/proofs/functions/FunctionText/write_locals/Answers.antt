@@ -1,4 +1,4 @@
-use Rattle.std.proofs.Common.{◌<◌, ◌≤◌, length, subst, sym, ap, ◌∙◌}
+use Rattle.std.proofs.Common.{◌<◌, ◌≤◌, length, subst, sym, ap}
 use Rattle.spelling_parts.proofs.Writing.{leaves_more, leaves_none, leaves_start, writes_as, writes_then}
 use Rattle.naga_wgsl_fns.specs.Functions.{group_end_text}
 use Rattle.naga_wgsl_fns.proofs.FunctionRows.{locals_left, locals_more, locals_none, locals_row}
