@@ -27,7 +27,7 @@ use Rattle.wgsl_text.proofs.RowText.{address_text as address_row_text, binary_te
 use Rattle.naga_wgsl_fns.specs.declared.functions.FunctionText.{FunctionText}
 use Rattle.naga_wgsl_fns.specs.FunctionText.{CanWrite, expressions, naming}
 use Rattle.naga_wgsl_fns.specs.Names.{name_of_argument, name_of_local}
-use Rattle.naga_wgsl_fns.specs.Expressions.{address_text, binary_text, own_plain_at, own_text, pointed_text, reference_text, value_text}
+use Rattle.naga_wgsl_fns.specs.Expressions.{address_text, binary_text, own_form, own_text, pointed_text, reference_text, value_text}
 use Rattle.naga_wgsl_fns.proofs.Wanted.{ordered}
 
 -- ---- a handle's form by its operands' forms, where operands stand before it
@@ -83,7 +83,7 @@ operator_row operator.ShiftRight = refl
 
 -- a handle's form, by its cell in the table
 cell_form : (f : FunctionText) (table : List Standing) (handle : ℕ) → CanWrite f → handle < length (expressions f)
-    → plain_form (naming f) (expressions f) (handles_of table) handle ≡ standing_plain (standing_of (numbered_name handle) (get_or table handle Absent)) (own_plain_at f (handles_of table) handle)
+    → plain_form (naming f) (expressions f) (handles_of table) handle ≡ standing_plain (standing_of (numbered_name handle) (get_or table handle Absent)) (own_form f table handle)
 cell_form f table handle can lt = plain_level (naming f) (expressions f) (ordered f can) (handles_of table) handle lt
 
 -- a value, by its cell
@@ -95,7 +95,7 @@ pub value_row : (f : FunctionText) (table : List Standing) (handle : ℕ) → Ca
 unfolding value_text own_text
 value_row f table handle can lt = ap (λ form. expression_layout (as_value form)) (cell_form f table handle can lt) ∙ by (get_or table handle Absent)
   where
-    by : (cell : Standing) → expression_layout (as_value (standing_plain (standing_of (numbered_name handle) cell) (own_plain_at f (handles_of table) handle))) ≡ value_at f table handle cell
+    by : (cell : Standing) → expression_layout (as_value (standing_plain (standing_of (numbered_name handle) cell) (own_form f table handle))) ≡ value_at f table handle cell
     by Named = name_text (numbered_name handle)
     by Absent = refl
     by Barred = refl

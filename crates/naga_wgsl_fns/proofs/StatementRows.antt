@@ -31,7 +31,7 @@ use Rattle.wgsl_text.specs.Text.{text}
 use Rattle.wgsl_text.proofs.RowText.{assign_text, let_text as let_row_text, return_text as return_row_text, then_text, typed_let_text}
 use Rattle.naga_wgsl_fns.specs.declared.functions.FunctionText.{FunctionText}
 use Rattle.naga_wgsl_fns.specs.FunctionText.{CanWrite, expressions, naming, told}
-use Rattle.naga_wgsl_fns.specs.Expressions.{own_plain_at, own_text, reference_text, value_text}
+use Rattle.naga_wgsl_fns.specs.Expressions.{own_form, own_text, reference_text, value_text}
 use Rattle.naga_wgsl_fns.specs.Statements.{block_text, emitted_text, let_line, let_text, lets_text, line_start, line_text, lines_text, return_text, return_value_text, statement_text, store_text}
 use Rattle.naga_wgsl_fns.specs.Types.{told_text, told_type_text}
 use Rattle.naga_wgsl_fns.proofs.Wanted.{bound_is, none_given, none_given_by}
@@ -92,7 +92,7 @@ let_row f table level handle can =
     ap (λ name. line_text level (let_form (told f handle) name own)) (sym (bound_is f can handle)) ∙ by (told f handle)
   where
     own : Expression
-    own = as_value (own_plain_at f (handles_of table) handle)
+    own = as_value (own_form f table handle)
 
     by : (t : Option TypeSpecifier) → line_text level (let_form t (numbered_name handle) own) ≡ joined (line_start level (codes "let ")) (numbered_name handle ++ (told_type_text t ++ (codes " = " ++ (text (expression_pieces own) ++ codes ";\n"))))
     by None =
@@ -162,8 +162,8 @@ module _ (f : FunctionText) (can : CanWrite f) where
       behind : Statements
       behind = form rest (after_one (naming f) 0 handle (handles_of table)) (given_after (naming f).function handle 0)
 
-      by : (b : Bool) → lines_text level (then_if b (let_line f (handles_of table) handle) behind) ≡ cond b (line_text level (let_line f (handles_of table) handle)) [] ++ lines_text level behind
-      by true = then_text (let_line f (handles_of table) handle) behind level
+      by : (b : Bool) → lines_text level (then_if b (let_line f table handle) behind) ≡ cond b (line_text level (let_line f table handle)) [] ++ lines_text level behind
+      by true = then_text (let_line f table handle) behind level
       by false = refl
 
   -- and what is in scope behind it

@@ -55,22 +55,6 @@ module _ (t : FunctionText) (can : CanWrite t) where
   abbrev es : List ExpressionInfo
   es = t.info.now
 
-  pub function_is_named : names (key.Function g) ≡ Some (name_in (module_names m) (key.Function g))
-  function_is_named = can.named.functions g (slice_get_within m.functions g f can.function)
-
-  pub argument_is_named : (n : ℕ) → n < length f.arguments.items → names (key.FunctionArgument g n) ≡ Some (name_in (module_names m) (key.FunctionArgument g n))
-  argument_is_named n h = can.named.arguments g f can.function n h
-
-  pub local_is_named : (l : ℕ) → l < length f.local_variables → names (key.FunctionLocal g l) ≡ Some (name_in (module_names m) (key.FunctionLocal g l))
-  local_is_named l h = can.named.locals g f can.function l h
-
-  -- an argument's number is a `u32`
-  pub argument_number : (n : ℕ) (a : argument.FunctionArgument) → slice_get f.arguments.items n ≡ Some a → n < 2 ^ 32
-  argument_number n a here =
-      let below = slice_get_within f.arguments.items n a here
-      in let few = can.named.numbers g f can.function
-      in omega arith
-
   -- ---- types
   has_a_word : (ty : ℕ) → nat_lt ty (length m.types) ≡ true → IsTrue (has_word m.types ty)
   has_a_word ty below = ap (λ o. is_some o) (scalar_types_word_at m.types ty can.scalars (ltb-true ty (length m.types) below)).1
@@ -95,9 +79,6 @@ module _ (t : FunctionText) (can : CanWrite t) where
   -- ---- what is known of an expression
   pub known_within_infos : (h : ℕ) → h < length f.expressions → h < length es
   known_within_infos h lt = subst (λ n. h < n) (function_fits_length m.types f es can.fits) lt
-
-  pub known_at : (h : ℕ) → h < length f.expressions → (k : ExpressionInfo) × (slice_get es h ≡ Some k)
-  known_at h lt = element es h (known_within_infos h lt)
 
   -- the type that a `let` tells, where it tells one
   pub told_row : (h : ℕ) (k : ExpressionInfo) → slice_get es h ≡ Some k → tells_types t.flags ≡ true → annotation_text t k.ty ≡ told_text t h
@@ -171,9 +152,6 @@ module _ (t : FunctionText) (can : CanWrite t) where
   -- ---- statements
   pub first_value_within : (l : ℕ) (v : LocalVariable) (h : ℕ) → slice_get f.local_variables l ≡ Some v → v.init ≡ Some h → h < length f.expressions
   first_value_within l v h here is = let w = local_first_word m.types f es l v h can.fits here is in spelled_within h w.0 w.1
-
-  pub body_fits : IsTrue (block_fits m.types es f.result f.body)
-  body_fits = function_fits_block m.types f es can.fits
 
   pub return_within : (value : Option ℕ) → return_fits m.types es f.result value ≡ true → IsTrue (is_below (length f.expressions) value)
   return_within value fit = by f.result value fit

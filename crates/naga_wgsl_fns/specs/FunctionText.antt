@@ -20,7 +20,8 @@ tells_types flags = bit_and flags.0 1 == 1
 
 -- the function under its names
 abbrev pub naming : FunctionText → Naming
-naming f = function_naming (module_names f.shader.now) f.shader.now.types f.handle f.function.now f.info.now
+naming f =
+    function_naming (module_names f.shader.now) f.shader.now.types f.handle f.function.now f.info.now
 
 -- its expressions
 abbrev pub expressions : FunctionText → List Expression
@@ -34,7 +35,8 @@ type_names_of f = type_names f.shader.now
 abbrev pub told : FunctionText → (handle : ℕ) → Option TypeSpecifier
 told f handle = told_type (tells_types f.flags) (type_names f.shader.now) f.info.now handle
 
--- It is a function of its module, accepted with what is known of it, one of those that are written so far, and has its names.
+-- It is a function of its module, accepted with what is known of it, one of those that are written
+-- so far, and has its names.
 pub record CanWrite (f : FunctionText) : Type 0 where
   pub named : HasNamesOf f.shader.now (names_in f.names.now)
   pub function : slice_get f.shader.now.functions f.handle ≡ Some f.function.now

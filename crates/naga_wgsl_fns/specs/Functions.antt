@@ -1,6 +1,7 @@
 -- The text of a function and of its parts.
 use Rattle.std.specs.Prelude.{◌≡◌, ℕ, Bool, List, [], ◌∷◌, ◌++◌, Option, Some, codes, slice_get, unwrap_or, ◌==◌, if◌then◌else◌}
 use Rattle.std.specs.Option.{option_map, option_map_or}
+use Rattle.naga_ir.specs.declared.module.Function as ir
 use Rattle.naga_ir.specs.declared.module.FunctionArgument.{FunctionArgument}
 use Rattle.naga_ir.specs.declared.module.LocalVariable.{LocalVariable}
 use Rattle.naga_ir.specs.declared.module.Module.{Module}
@@ -26,14 +27,22 @@ use Rattle.naga_wgsl_fns.specs.Types.{type_text}
 abbrev pub known_of : ModuleInfo → ℕ → List ExpressionInfo
 known_of info handle = unwrap_or (slice_get info.functions.items handle) []
 
--- the text of the module's function with this handle; nothing, where there is none
+-- the text of a function of the module, with what is known of its expressions
+abbrev pub text_of : Module → WriterFlags → (handle : ℕ) → ir.Function → List ExpressionInfo → List ℕ
+text_of m flags handle f known =
+    let form = function_form (tells_types flags) (module_names m) m.types handle f known in
+    text (function_pieces form)
+
+-- the same of the module's function with this handle; nothing, where there is none
 abbrev pub text_of_function : Module → ModuleInfo → WriterFlags → (handle : ℕ) → List ℕ
 text_of_function m info flags handle =
-    option_map_or (λ f. text (function_pieces (function_form (tells_types flags) (module_names m) m.types handle f (known_of info handle)))) (slice_get m.functions handle) []
+    option_map_or (λ f. text_of m flags handle f (known_of info handle)) (slice_get m.functions handle) []
 
 -- the form of a function
 abbrev pub form_of : FunctionText → Function
-form_of f = function_form (tells_types f.flags) (module_names f.shader.now) f.shader.now.types f.handle f.function.now f.info.now
+form_of f =
+    let m = f.shader.now in
+    function_form (tells_types f.flags) (module_names m) m.types f.handle f.function.now f.info.now
 
 unfoldable pub function_text : FunctionText → List ℕ
 function_text f = text (function_pieces (form_of f))
@@ -47,12 +56,15 @@ result_text f = text (result_pieces (form_of f).result)
 
 -- up to the brace before the locals
 unfoldable pub head_text : FunctionText → List ℕ
-head_text f = codes "fn " ++ (name_of_function f ++ (codes "(" ++ (arguments_text f ++ (result_text f ++ codes " {\n"))))
+head_text f =
+    codes "fn " ++ (name_of_function f ++ (codes "(" ++
+    (arguments_text f ++ (result_text f ++ codes " {\n"))))
 
 -- the argument with this number
 unfoldable pub argument_text : FunctionText → (number : ℕ) → FunctionArgument → List ℕ
 argument_text f number argument =
-    text (parameter_pieces (parameter_form (module_names f.shader.now) f.shader.now.types f.handle number argument))
+    let m = f.shader.now in
+    text (parameter_pieces (parameter_form (module_names m) m.types f.handle number argument))
 
 -- what stands before it
 abbrev pub separator : (number : ℕ) → List ℕ
@@ -106,4 +118,5 @@ abbrev pub local_text_of : FunctionText → (handle : ℕ) → LocalVariable →
 local_text_of f handle local = text (locals_pieces (local_form f handle local ∷ []))
 
 unfoldable pub local_text : FunctionText → (handle : ℕ) → List ℕ
-local_text f handle = option_map_or (local_text_of f handle) (slice_get f.function.now.local_variables handle) []
+local_text f handle =
+    option_map_or (local_text_of f handle) (slice_get f.function.now.local_variables handle) []

@@ -70,7 +70,8 @@ impl FunctionText<'_> {
     )
         requires can { CanWrite self.now }
         requires handle { handle < length self.now.function.now.expressions }
-        ensures { Writes W.text W.failures out.old out.new (reference_text self.now scope.now handle) }
+        ensures { Writes W.text W.failures out.old out.new
+            (reference_text self.now scope.now handle) }
     {
         match scope.standing(handle) {
             Standing::Named => self.write_dereference(scope, handle, out),
@@ -92,7 +93,8 @@ impl FunctionText<'_> {
     )
         requires can { CanWrite self.now }
         requires handle { handle < length self.now.function.now.expressions }
-        ensures { Writes W.text W.failures out.old out.new (pointed_text self.now scope.now handle) }
+        ensures { Writes W.text W.failures out.old out.new
+            (pointed_text self.now scope.now handle) }
     {
         out.put("(*");
         self.write_value(scope, handle, out);

@@ -45,8 +45,10 @@ pub fn write_function<W: TextSink>(
     requires written { IsTrue (is_written_so_far «module».now) }
     requires handle { handle < length «module».now.functions }
     requires names { HasNamesOf «module».now (names_in names.now) }
-    ensures text_ok { OnOk result (W.text out.new ≡ W.text out.old ++ text_of_function «module».now info.now flags handle) }
-    ensures text_err { OnErr result (IsBehind (W.text out.old) (text_of_function «module».now info.now flags handle) (W.text out.new)) }
+    ensures text_ok { OnOk result (W.text out.new
+        ≡ W.text out.old ++ text_of_function «module».now info.now flags handle) }
+    ensures text_err { OnErr result (IsBehind (W.text out.old)
+        (text_of_function «module».now info.now flags handle) (W.text out.new)) }
     ensures failures_ok { OnOk result (W.failures out.new ≡ W.failures out.old) }
     ensures reason { IfErr result (IsWant (W.failures out.old) (W.failures out.new)) }
 {
@@ -126,7 +128,8 @@ impl FunctionText<'_> {
         out: &mut Output<'_, W>,
     )
         requires can { CanWrite self.now }
-        requires argument { slice_get self.now.function.now.arguments.items number ≡ Some argument.now }
+        requires argument { slice_get self.now.function.now.arguments.items number
+            ≡ Some argument.now }
         ensures { Writes W.text W.failures out.old out.new
             (next_argument_text self.now number argument.now) }
     {
@@ -143,7 +146,8 @@ impl FunctionText<'_> {
         out: &mut Output<'_, W>,
     )
         requires can { CanWrite self.now }
-        requires argument { slice_get self.now.function.now.arguments.items number ≡ Some argument.now }
+        requires argument { slice_get self.now.function.now.arguments.items number
+            ≡ Some argument.now }
         ensures { Writes W.text W.failures out.old out.new
             (argument_text self.now number argument.now) }
     {

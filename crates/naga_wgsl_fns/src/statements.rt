@@ -63,7 +63,8 @@ impl FunctionText<'_> {
         ensures lines { Writes W.text W.failures out.old out.new
             (statement_text self.now scope.old level.0 (tree_of statement.now)) }
         ensures after { handles_of scope.new
-            ≡ after (naming self.now) 0 (statement_shape (tree_of statement.now)) (handles_of scope.old) }
+            ≡ after (naming self.now) 0 (statement_shape (tree_of statement.now))
+            (handles_of scope.old) }
         ensures size { length scope.new ≡ length scope.old }
     {
         match statement {
@@ -93,7 +94,8 @@ impl FunctionText<'_> {
         ensures lets { Writes W.text W.failures out.old out.new
             (lets_text self.now scope.old level.0 (from range.first (range.end - range.first))) }
         ensures after { handles_of scope.new
-            ≡ after_emit (naming self.now) 0 (from range.first (range.end - range.first)) (handles_of scope.old) }
+            ≡ after_emit (naming self.now) 0 (from range.first (range.end - range.first))
+            (handles_of scope.old) }
         ensures size { length scope.new ≡ length scope.old }
     {
         for index in range.first..range.end {

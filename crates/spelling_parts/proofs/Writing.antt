@@ -134,8 +134,4 @@ pub held_part_as : (start now : Seen) (text before after : List ℕ) (want : Sin
 held_part_as start now text before after want first last w fresh some =
     subst (λ h. IsBehind h text after) first (subst (λ h. IsBehind start.held text h) last (held_part start now text want w fresh some))
 
-pub reason_given_as : (start now : Seen) (text : List ℕ) (before after : ℕ) (want : SinkError) → start.failures ≡ before → now.failures ≡ after → Wrote start now text → start.want ≡ None → now.want ≡ Some want → IsReason before after want
-reason_given_as start now text before after want first last w fresh some =
-    subst (λ n. IsReason n after want) first (subst (λ n. IsReason start.failures n want) last (reason_given start now text want w fresh some))
-
 pub ruleset fresh_output = (same_sink, held_whole, never_failed)

@@ -1,5 +1,5 @@
-//! Text sinks, outputs over them, and the parts of a type's spelling that need no module: words, scalars, vectors, pointers to
-//! these, and images.
+//! Text sinks, outputs over them, and the parts of a type's spelling that need no module: words,
+//! scalars, vectors, pointers to these, and images.
 //!
 //! The calls that spell whole types are those of `TypeContext` in `naga_words`.
 #![tactic(auto)]
