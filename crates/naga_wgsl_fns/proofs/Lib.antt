@@ -1,7 +1,6 @@
-pub mod Levels
-pub mod Owns
-pub mod Rows
+pub mod ExpressionRows
+pub mod FunctionRows
+pub mod NameRows
+pub mod StatementRows
+pub mod TypeRows
 pub mod Wanted
-pub mod Accepted
-pub mod Blocks
-pub mod TypeTexts

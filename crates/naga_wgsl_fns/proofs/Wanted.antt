@@ -1,5 +1,5 @@
 -- What the parts of a function want, from what the function wants.
-use Rattle.std.proofs.Common.{◌≡◌, ℕ, suc, ◌<◌, ◌≤◌, ◌^◌, Bool, true, List, [], ◌++◌, codes, length, Option, None, Some, refl, sym, ap, subst, ◌∙◌, arith, IsTrue}
+use Rattle.std.proofs.Common.{◌≡◌, ℕ, suc, ◌<◌, ◌≤◌, ◌^◌, true, false, List, [], ◌++◌, codes, length, Option, None, Some, refl, sym, ap, subst, ◌∙◌, arith, IsTrue}
 use Rattle.std.specs.Prelude.{slice_get, cond, nat_lt, nat_le, unwrap_or}
 use Rattle.std.specs.List.{list_all}
 use Rattle.std.specs.Option.{is_some, option_map, option_and_then}
@@ -16,7 +16,7 @@ use Rattle.naga_ir.specs.declared.module.LocalVariable.{LocalVariable}
 use Rattle.naga_ir.specs.declared.module.Module.{Module}
 use Rattle.naga_operators.specs.declared.BinaryOperator.{BinaryOperator}
 use Rattle.naga_info.specs.declared.info.ExpressionInfo.{ExpressionInfo}
-use Rattle.name_keys.specs.Keys.{NameMap}
+use Rattle.name_keys.specs.Keys.{NameMap, names_in}
 use Rattle.name_keys.specs.declared.key.NameKey.TheVariants as key
 use Rattle.shader_runs.specs.Scope.{bound_name, given_after, given_by}
 use Rattle.naga_form.specs.Names.{module_names, name_in, numbered_name}
@@ -34,24 +34,26 @@ use Rattle.accepted_modules.specs.Part.{names_nothing}
 use Rattle.naga_info.proofs.Options.{then_some}
 use Rattle.accepted_modules.proofs.Accepting.{list_all_at, scalar_types_word_at, function_fits_signature, function_fits_locals, function_fits_block, function_fits_length, function_fits_word_at, local_fits_parts, value_fits_word, local_word_at, load_word_at, binary_at, store_fits_word, local_first_word}
 use Rattle.item_names.proofs.Counts.{element}
-use Rattle.naga_wgsl_fns.specs.Texts.{CanWrite, has_word, naming_of, resolution_text, told_text}
+use Rattle.naga_wgsl_fns.specs.declared.functions.FunctionText.{FunctionText}
+use Rattle.naga_wgsl_fns.specs.FunctionText.{CanWrite, naming, tells_types}
+use Rattle.naga_wgsl_fns.specs.Types.{annotation_text, has_word, resolution_text, told_text, told_type_text}
 
-module _ (m : Module) (names : NameMap) (g : ℕ) (f : Function) (es : List ExpressionInfo) (can : CanWrite m names g f es) where
-  pub function_is_named : names (key.Function g) ≡ Some (name_in (module_names m) (key.Function g))
-  function_is_named = can.named.functions g (slice_get_within m.functions g f can.function)
+module _ (t : FunctionText) (can : CanWrite t) where
+  -- its module, its map of names, its handle, the function, and what is known of its expressions
+  abbrev m : Module
+  m = t.shader.now
 
-  pub argument_is_named : (n : ℕ) → n < length f.arguments.items → names (key.FunctionArgument g n) ≡ Some (name_in (module_names m) (key.FunctionArgument g n))
-  argument_is_named n h = can.named.arguments g f can.function n h
+  abbrev names : NameMap
+  names = names_in t.names.now
 
-  pub local_is_named : (l : ℕ) → l < length f.local_variables → names (key.FunctionLocal g l) ≡ Some (name_in (module_names m) (key.FunctionLocal g l))
-  local_is_named l h = can.named.locals g f can.function l h
+  abbrev g : ℕ
+  g = t.handle
 
-  -- an argument's number is a `u32`
-  pub argument_number : (n : ℕ) (a : argument.FunctionArgument) → slice_get f.arguments.items n ≡ Some a → n < 2 ^ 32
-  argument_number n a here =
-      let below = slice_get_within f.arguments.items n a here
-      in let few = can.named.numbers g f can.function
-      in omega arith
+  abbrev f : Function
+  f = t.function.now
+
+  abbrev es : List ExpressionInfo
+  es = t.info.now
 
   -- ---- types
   has_a_word : (ty : ℕ) → nat_lt ty (length m.types) ≡ true → IsTrue (has_word m.types ty)
@@ -78,16 +80,18 @@ module _ (m : Module) (names : NameMap) (g : ℕ) (f : Function) (es : List Expr
   pub known_within_infos : (h : ℕ) → h < length f.expressions → h < length es
   known_within_infos h lt = subst (λ n. h < n) (function_fits_length m.types f es can.fits) lt
 
-  pub known_at : (h : ℕ) → h < length f.expressions → (k : ExpressionInfo) × (slice_get es h ≡ Some k)
-  known_at h lt = element es h (known_within_infos h lt)
-
   -- the type that a `let` tells, where it tells one
-  pub told_row : (h : ℕ) (k : ExpressionInfo) → slice_get es h ≡ Some k → (explicit : Bool) → explicit ≡ true → codes ": " ++ resolution_text (type_names m) k.ty ≡ told_text (told_type explicit (type_names m) es h)
-  told_row h k at explicit is =
+  pub told_row : (h : ℕ) (k : ExpressionInfo) → slice_get es h ≡ Some k → tells_types t.flags ≡ true → annotation_text t k.ty ≡ told_text t h
+  unfolding annotation_text resolution_text told_text
+  told_row h k at is =
       let w = known_spelled m.types f es can.fits h k at in
       let has = resolution_has_form m.types can.scalars k.ty w.0 w.1 in
       ap (λ o. codes ": " ++ type_layout (unwrap_or o (Named []))) (has.is (module_names m))
-      ∙ ap told_text (sym (ap (λ b. told_type b (type_names m) es h) is ∙ ap (option_and_then (λ e. resolution_tree (type_names m) e.ty)) at ∙ has.is (module_names m)))
+      ∙ ap told_type_text (sym (ap (λ b. told_type b (type_names m) es h) is ∙ ap (option_and_then (λ e. resolution_tree (type_names m) e.ty)) at ∙ has.is (module_names m)))
+
+  pub untold_row : (h : ℕ) → tells_types t.flags ≡ false → told_text t h ≡ []
+  unfolding told_text
+  untold_row h is = ap (λ b. told_type_text (told_type b (type_names m) es h)) is
 
   -- ---- expressions
   -- a handle of which something is known is one of the function's
@@ -100,18 +104,16 @@ module _ (m : Module) (names : NameMap) (g : ℕ) (f : Function) (es : List Expr
   pub literal_has_word : (h : ℕ) (e : Expression) (value : ir_literal.Literal) → slice_get f.expressions h ≡ Some e → e ≡ expression.Literal value → IsTrue (is_some (literal_word value))
   literal_has_word h e value here is = ap (λ o. is_some o) (function_fits_word_at m.types f es h (expression.Literal value) can.fits (here ∙ ap Some is)).2
 
-  pub argument_expression_is_named : (h : ℕ) (e : Expression) (n : ℕ) → slice_get f.expressions h ≡ Some e → e ≡ expression.FunctionArgument n
-      → names (key.FunctionArgument g n) ≡ Some (name_in (module_names m) (key.FunctionArgument g n))
-  argument_expression_is_named h e n here is =
+  pub argument_within : (h : ℕ) (e : Expression) (n : ℕ) → slice_get f.expressions h ≡ Some e → e ≡ expression.FunctionArgument n → n < length f.arguments.items
+  argument_within h e n here is =
       let w = function_fits_word_at m.types f es h (expression.FunctionArgument n) can.fits (here ∙ ap Some is) in
       let a = then_some (λ a. word_at m.types a.ty) (slice_get f.arguments.items n) w.0 w.2 in
-      argument_is_named n (slice_get_within f.arguments.items n a.0 a.1)
+      slice_get_within f.arguments.items n a.0 a.1
 
-  pub local_expression_is_named : (h : ℕ) (e : Expression) (v : ℕ) → slice_get f.expressions h ≡ Some e → e ≡ expression.LocalVariable v
-      → names (key.FunctionLocal g v) ≡ Some (name_in (module_names m) (key.FunctionLocal g v))
-  local_expression_is_named h e v here is =
+  pub local_within : (h : ℕ) (e : Expression) (v : ℕ) → slice_get f.expressions h ≡ Some e → e ≡ expression.LocalVariable v → v < length f.local_variables
+  local_within h e v here is =
       let l = local_word_at m.types f es h v can.fits (here ∙ ap Some is) in
-      local_is_named v (slice_get_within f.local_variables v l.0 l.2)
+      slice_get_within f.local_variables v l.0 l.2
 
   pub pointer_before : (h : ℕ) (e : Expression) (p : ℕ) → slice_get f.expressions h ≡ Some e → e ≡ expression.Load p → p < h
   pointer_before h e p here is = (load_word_at m.types f es h p can.fits (here ∙ ap Some is)).1
@@ -138,21 +140,18 @@ module _ (m : Module) (names : NameMap) (g : ℕ) (f : Function) (es : List Expr
   ordered h e at = ordered_at m.types f es can.fits h e at
 
   -- ---- names of handles
-  pub none_given : (h k : ℕ) → given_after (naming_of m g f es).function h k ≡ k
+  pub none_given : (h k : ℕ) → given_after (naming t).function h k ≡ k
   none_given h k = ap (λ b. cond b (suc k) k) (not_given m g f can.function es can.fits unnamed nothing_outside refl refl h)
 
-  pub bound_is : (h : ℕ) → numbered_name h ≡ bound_name (naming_of m g f es) 0 h
+  pub bound_is : (h : ℕ) → numbered_name h ≡ bound_name (naming t) 0 h
   bound_is h = sym (ap (λ b. cond b [] (numbered_name h)) (not_given m g f can.function es can.fits unnamed nothing_outside refl refl h))
 
-  pub none_given_by : (st : StatementTree) → given_by (naming_of m g f es).function (statement_shape st) 0 ≡ 0
+  pub none_given_by : (st : StatementTree) → given_by (naming t).function (statement_shape st) 0 ≡ 0
   none_given_by st = given_line m g f can.function es can.fits unnamed nothing_outside refl refl st 0
 
   -- ---- statements
   pub first_value_within : (l : ℕ) (v : LocalVariable) (h : ℕ) → slice_get f.local_variables l ≡ Some v → v.init ≡ Some h → h < length f.expressions
   first_value_within l v h here is = let w = local_first_word m.types f es l v h can.fits here is in spelled_within h w.0 w.1
-
-  pub body_fits : IsTrue (block_fits m.types es f.result f.body)
-  body_fits = function_fits_block m.types f es can.fits
 
   pub return_within : (value : Option ℕ) → return_fits m.types es f.result value ≡ true → IsTrue (is_below (length f.expressions) value)
   return_within value fit = by f.result value fit

@@ -3,9 +3,10 @@
 //! Users take these through the crate `naga_wgsl_out`.
 #![tactic(auto)]
 
-mod body;
-mod expression;
-pub mod function;
+mod expressions;
+pub mod functions;
+mod names;
+mod statements;
 mod types;
 
-pub use function::write_function;
+pub use functions::write_function;

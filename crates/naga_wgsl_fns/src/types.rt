@@ -2,63 +2,85 @@
 
 ghost use Rattle.std.specs.Prelude.{◌≡◌, ◌<◌, IsTrue, length};
 ghost use Rattle.std.specs.Option.{is_some};
-ghost use Rattle.naga_form.specs.Types.{told_type, type_names};
 ghost use Rattle.accepted_modules.specs.Types.{spelling_of};
-ghost use Rattle.name_keys.specs.Keys.{names_in};
-ghost use Rattle.wgsl_pieces.specs.Appends.{Appends};
-ghost use Rattle.naga_wgsl_fns.specs.Texts.{CanWrite, has_word, resolution_text, tells_types, told_text, type_text};
+ghost use Rattle.spelling_parts.specs.declared.error.TypeTextError.TheVariants as type_error;
+ghost use Rattle.spelling_parts.specs.Output.{Writes};
+ghost use Rattle.naga_wgsl_fns.specs.FunctionText.{CanWrite, tells_types};
+ghost use Rattle.naga_wgsl_fns.specs.Types.{annotation_text, has_word, resolution_text, told_text, type_text, IsWantOf};
 
-use crate::function::FunctionText;
+use crate::functions::FunctionText;
 use back_flags::WriterFlags;
 use bitflags::Flags;
 use naga_info::TypeResolution;
 use naga_ir::{Expression, Handle, Type_};
 use naga_words::{TypeContext, WriterTypeContext};
-use spelling_parts::TextSink;
+use spelling_parts::{Output, SinkError, TextSink, TypeTextError};
 use std::alloc::Global;
-use wgsl_pieces::error::{Error, type_error};
-use wgsl_pieces::sinks::put;
 
 impl FunctionText<'_> {
     /// The type with this handle.
+    #[tactic(auto, using(spelling_parts::proofs::Writing::writes_no_more))]
     pub(crate) fn write_type<W: TextSink>(
         &self,
         alloc: Global,
         ty: Handle<Type_>,
-        out: &mut W,
-    ) -> Result<(), Error>
-        requires can { CanWrite self.now.shader.now (names_in self.now.names.now) self.now.handle self.now.function.now self.now.info.now }
+        out: &mut Output<'_, W>,
+    )
+        requires can { CanWrite self.now }
         requires word { IsTrue (has_word self.now.shader.now.types ty) }
-        ensures { Appends result (W.text out.old) (W.failures out.old) (type_text (type_names self.now.shader.now) ty) (W.text out.new) (W.failures out.new) }
+        ensures { Writes W.text W.failures out.old out.new (type_text self.now ty) }
     {
+        if out.is_wanting() {
+            return;
+        }
         let context = WriterTypeContext {
             module: self.shader,
             names: self.names,
         };
-        match context.write_type(alloc, ty, out) {
-            Ok(()) => Ok(()),
-            Err(error) => Err(type_error(alloc, error)),
+        match context.write_type(alloc, ty, out.sink) {
+            Ok(()) => {}
+            Err(error) => out.want = Some(want_of(error)),
         }
     }
 
+    /// A colon, and the type of an expression.
+    #[tactic(auto, using(spelling_parts::proofs::Writing::writes_then, crate::proofs::TypeRows::annotation_row))]
+    fn write_annotation<W: TextSink>(
+        &self,
+        alloc: Global,
+        ty: &TypeResolution,
+        out: &mut Output<'_, W>,
+    )
+        requires can { CanWrite self.now }
+        requires spelled { IsTrue (is_some (spelling_of self.now.shader.now.types ty.now)) }
+        ensures { Writes W.text W.failures out.old out.new (annotation_text self.now ty.now) }
+    {
+        out.put(": ");
+        self.write_type_of(alloc, ty, out);
+    }
+
     /// The type of an expression.
+    #[tactic(auto, using(spelling_parts::proofs::Writing::writes_no_more))]
     fn write_type_of<W: TextSink>(
         &self,
         alloc: Global,
         ty: &TypeResolution,
-        out: &mut W,
-    ) -> Result<(), Error>
-        requires can { CanWrite self.now.shader.now (names_in self.now.names.now) self.now.handle self.now.function.now self.now.info.now }
+        out: &mut Output<'_, W>,
+    )
+        requires can { CanWrite self.now }
         requires spelled { IsTrue (is_some (spelling_of self.now.shader.now.types ty.now)) }
-        ensures { Appends result (W.text out.old) (W.failures out.old) (resolution_text (type_names self.now.shader.now) ty.now) (W.text out.new) (W.failures out.new) }
+        ensures { Writes W.text W.failures out.old out.new (resolution_text self.now ty.now) }
     {
+        if out.is_wanting() {
+            return;
+        }
         let context = WriterTypeContext {
             module: self.shader,
             names: self.names,
         };
-        match context.write_type_resolution(alloc, ty, out) {
-            Ok(()) => Ok(()),
-            Err(error) => Err(type_error(alloc, error)),
+        match context.write_type_resolution(alloc, ty, out.sink) {
+            Ok(()) => {}
+            Err(error) => out.want = Some(want_of(error)),
         }
     }
 
@@ -68,17 +90,27 @@ impl FunctionText<'_> {
         &self,
         alloc: Global,
         handle: Handle<Expression>,
-        out: &mut W,
-    ) -> Result<(), Error>
-        requires can { CanWrite self.now.shader.now (names_in self.now.names.now) self.now.handle self.now.function.now self.now.info.now }
+        out: &mut Output<'_, W>,
+    )
+        requires can { CanWrite self.now }
         requires handle { handle < length self.now.function.now.expressions }
-        ensures { Appends result (W.text out.old) (W.failures out.old) (told_text (told_type (tells_types self.now.flags) (type_names self.now.shader.now) self.now.info.now handle)) (W.text out.new) (W.failures out.new) }
+        ensures { Writes W.text W.failures out.old out.new (told_text self.now handle) }
     {
-        if !tells_types(self.flags) {
-            return Ok(());
+        if tells_types(self.flags) {
+            self.write_annotation(alloc, &self.info[handle].ty, out);
         }
-        put(": ", out)?;
-        self.write_type_of(alloc, &self.info[handle].ty, out)
+    }
+}
+
+/// What was wanting where a type that has a form was not written.
+fn want_of(error: TypeTextError) -> SinkError
+    requires { error ≡ type_error.NoForm → ⊥ }
+    ensures { IsWantOf error result }
+{
+    match error {
+        TypeTextError::Sink(want) => want,
+        TypeTextError::Memory(error) => SinkError::Memory(error),
+        TypeTextError::NoForm => unreachable!(),
     }
 }
 

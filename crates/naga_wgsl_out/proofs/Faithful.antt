@@ -33,7 +33,7 @@ use Rattle.wgsl_pieces.specs.Errors.{IsWant, IsNotYetWritten, IsCustom}
 use Rattle.wgsl_pieces.specs.declared.error.Error.{Error}
 use Rattle.wgsl_pieces.specs.declared.error.Error.TheVariants.{FmtError, Custom, Unimplemented, Memory}
 use Rattle.back_flags.specs.declared.flags.WriterFlags.{WriterFlags}
-use Rattle.naga_wgsl_fns.specs.Texts.{tells_types}
+use Rattle.naga_wgsl_fns.specs.FunctionText.{tells_types}
 use Rattle.naga_wgsl_out.specs.Writing.{lines_of, written_text}
 use Rattle.naga_wgsl_out.proofs.Functions.{written_lines}
 use Rattle.naga_wgsl_out.specs.Refusals.{IsNamesRefusal, IsRefusal, HasAllNames}

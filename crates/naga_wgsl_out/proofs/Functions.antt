@@ -14,7 +14,8 @@ use Rattle.wgsl_text.specs.Token.{LineEnd}
 use Rattle.wgsl_text.proofs.RowText.{text-append}
 use Rattle.naga_form.specs.Form.{function_form, functions_form}
 use Rattle.naga_form.specs.Names.{module_names}
-use Rattle.naga_wgsl_fns.specs.Texts.{known_of, tells_types, text_of_function}
+use Rattle.naga_wgsl_fns.specs.FunctionText.{tells_types}
+use Rattle.naga_wgsl_fns.specs.Functions.{known_of, text_of_function}
 use Rattle.back_flags.specs.declared.flags.WriterFlags.{WriterFlags}
 use Rattle.naga_wgsl_out.specs.Writing.{lines_of, written_text}
 

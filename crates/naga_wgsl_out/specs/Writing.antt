@@ -11,7 +11,8 @@ use Rattle.naga_form.specs.Names.{module_names}
 use Rattle.wgsl_text.specs.Declarations.{function_pieces}
 use Rattle.wgsl_text.specs.Text.{text}
 use Rattle.wgsl_text.specs.Reading.{layout}
-use Rattle.naga_wgsl_fns.specs.Texts.{known_of, tells_types}
+use Rattle.naga_wgsl_fns.specs.FunctionText.{tells_types}
+use Rattle.naga_wgsl_fns.specs.Functions.{known_of}
 use Rattle.back_flags.specs.declared.flags.WriterFlags.{WriterFlags}
 
 pub record Writing (W : Type 0) : Type 0 where

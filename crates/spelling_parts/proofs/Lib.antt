@@ -1,1 +1,2 @@
 pub mod Arounds
+pub mod Writing

@@ -1,3 +1,4 @@
+pub mod Output
 pub mod Parts
 pub mod Predeclared
 pub mod Sink

@@ -2,8 +2,6 @@
 use Rattle.std.specs.Prelude.{◌≡◌, ⊤, ℕ, ◌<◌, List, codes, string_bytes}
 use Rattle.spelling_parts.specs.declared.sink.SinkError.{SinkError}
 use Rattle.spelling_parts.specs.declared.sink.SinkError.TheVariants.{Failed, Memory}
-use Rattle.spelling_parts.specs.declared.error.TypeTextError.{TypeTextError}
-use Rattle.spelling_parts.specs.declared.error.TypeTextError.TheVariants as type_error
 use Rattle.wgsl_pieces.specs.declared.error.Error.{Error}
 use Rattle.wgsl_pieces.specs.declared.error.Error.TheVariants.{FmtError, Memory as Want, Custom as CustomError, Unimplemented}
 
@@ -34,9 +32,3 @@ abbrev pub IsCustom : List ℕ → Error → Type 0
 IsCustom text (CustomError message) = string_bytes message ≡ text
 IsCustom text (Want e) = ⊤
 IsCustom text _ = ⊥
-
--- why a type was not written: for want of what the sink or the call wanted, or because it has no form
-abbrev pub IsErrorOfType : TypeTextError → Error → Type 0
-IsErrorOfType (type_error.Sink s) error = error ≡ error_of_sink s
-IsErrorOfType (type_error.Memory e) error = error ≡ Want e
-IsErrorOfType type_error.NoForm error = IsCustom (codes "type without a WGSL form") error

@@ -2,10 +2,10 @@
 
 ghost use Rattle.std.specs.Prelude.{◌≡◌, codes};
 ghost use Rattle.wgsl_pieces.specs.declared.error.Error.TheVariants.{Memory};
-ghost use Rattle.wgsl_pieces.specs.Errors.{error_of_sink, IsErrorOfType, IsNotYetWritten, IsCustom};
+ghost use Rattle.wgsl_pieces.specs.Errors.{error_of_sink, IsNotYetWritten, IsCustom};
 
 use naga_ir::RelationalFunction;
-use spelling_parts::{SinkError, TypeTextError};
+use spelling_parts::SinkError;
 use std::alloc::{AllocError, Global};
 use thiserror::Error as DisplayedError;
 
@@ -75,16 +75,5 @@ pub fn custom(alloc: Global, text: &str) -> Error
     match String::from_str(alloc, text) {
         Ok(text) => Error::Custom(text),
         Err(error) => Error::Memory(error),
-    }
-}
-
-/// Why a type was not written: a type without a form by that name, or what was wanting.
-pub fn type_error(alloc: Global, error: TypeTextError) -> Error
-    ensures { IsErrorOfType error result }
-{
-    match error {
-        TypeTextError::Sink(error) => Error::from(error),
-        TypeTextError::Memory(error) => Error::Memory(error),
-        TypeTextError::NoForm => custom(alloc, "type without a WGSL form"),
     }
 }

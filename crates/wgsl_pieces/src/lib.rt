@@ -1,5 +1,4 @@
-//! Why a module is not written, and how pieces of its text are: strings, literals, and words that WGSL
-//! may lack.
+//! Why a module is not written, and how pieces of its text are: literals, and words that WGSL may lack.
 //!
 //! Users take these through the crate `naga_wgsl_out`.
 #![tactic(auto)]

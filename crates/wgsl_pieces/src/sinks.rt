@@ -1,6 +1,5 @@
-//! Pieces of text, and how they are written to sinks.
+//! A piece of text, written to a sink.
 
-ghost use Rattle.std.specs.Prelude.{◌++◌};
 ghost use Rattle.wgsl_pieces.specs.Appends.{Appends};
 
 use crate::error::Error;
@@ -13,27 +12,4 @@ pub fn put<W: TextSink>(piece: &str, out: &mut W) -> Result<(), Error>
 {
     out.write_str(piece)?;
     Ok(())
-}
-
-/// Writes two pieces, one behind the other.
-#[tactic(auto, using(crate::proofs::Appending::appends_then))]
-pub fn put_two<W: TextSink>(first: &str, second: &str, out: &mut W) -> Result<(), Error>
-    ensures { Appends result (W.text out.old) (W.failures out.old) (first.now ++ second.now) (W.text out.new) (W.failures out.new) }
-{
-    put(first, out)?;
-    put(second, out)
-}
-
-/// Writes three pieces, one behind another.
-#[tactic(auto, using(crate::proofs::Appending::appends_then))]
-pub fn put_three<W: TextSink>(
-    first: &str,
-    second: &str,
-    third: &str,
-    out: &mut W,
-) -> Result<(), Error>
-    ensures { Appends result (W.text out.old) (W.failures out.old) (first.now ++ (second.now ++ third.now)) (W.text out.new) (W.failures out.new) }
-{
-    put(first, out)?;
-    put_two(second, third, out)
 }

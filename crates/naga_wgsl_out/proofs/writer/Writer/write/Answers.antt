@@ -5,7 +5,7 @@ use Rattle.spelling_parts.specs.Sink.{IsBehind}
 use Rattle.naga_wgsl_out.specs.Headline.{EachReading, FaithfulWriting}
 use Rattle.naga_form.specs.Resolution.{ResolvesAs}
 use Rattle.naga_form.specs.Bindings.{BindsAs}
-use Rattle.naga_wgsl_fns.specs.Texts.{tells_types}
+use Rattle.naga_wgsl_fns.specs.FunctionText.{tells_types}
 use Rattle.naga_wgsl_out.specs.Writing.{written_text}
 use Rattle.accepted_modules.proofs.Part.{functions_name_nothing}
 use Rattle.naga_wgsl_out.proofs.Faithful.{concludes, for_scope, refused}

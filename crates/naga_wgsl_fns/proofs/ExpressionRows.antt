@@ -1,0 +1,177 @@
+-- The text of an expression by its kind and by where it stands, and from what is written of it in turn.
+use Rattle.std.proofs.Common.{◌≡◌, ℕ, zero, suc, ◌<◌, false, List, length, Option, Some, None, codes, refl, sym, ap, ◌∙◌, subst, arith, get_or}
+use Rattle.std.specs.Prelude.{slice_get}
+use Rattle.naga_ir.specs.declared.expression.Expression as ir
+use Rattle.naga_ir.specs.declared.expression.Expression.TheVariants as expression
+use Rattle.naga_operators.specs.declared.BinaryOperator as ir_operator
+use Rattle.naga_operators.specs.declared.BinaryOperator.TheVariants as operator
+use Rattle.shader_runs.specs.Program.{operands_of}
+use Rattle.shader_runs.specs.Premises.{AllBelow}
+use Rattle.shader_runs.specs.Scope.{Handles, Naming}
+use Rattle.naga_back.specs.Operators.{operator_text}
+use Rattle.naga_form.specs.Names.{numbered_name}
+use Rattle.naga_form.specs.Operators.{operator_form}
+use Rattle.naga_form.specs.Shapes.{expression_shape, OperandsStandBefore}
+use Rattle.naga_form.specs.Form.{PlainForm, ValueForm, as_value, as_reference, own_plain, own_if, standing_plain, plain_below, plain_form, value_form}
+use Rattle.naga_scope.specs.Standings.{handles_of, standing_of}
+use Rattle.naga_scope.specs.declared.points.Standing.{Standing}
+use Rattle.naga_scope.specs.declared.points.Standing.TheVariants.{Absent, Barred, Everywhere, Inline, Named}
+use Rattle.naga_scope.proofs.Shaped.{operator_operands}
+use Rattle.spelling_parts.specs.Output.{joined}
+use Rattle.wgsl_pieces.specs.Literals.{literal_text}
+use Rattle.wgsl_text.specs.Tree.{Binary, Constant, Dereference, Name, Truth}
+use Rattle.wgsl_text.specs.Pieces.{binary_pieces}
+use Rattle.wgsl_text.specs.Reading.{expression_layout}
+use Rattle.wgsl_text.specs.Text.{text}
+use Rattle.wgsl_text.proofs.RowText.{address_text as address_row_text, binary_text as binary_row_text, dereference_text, name_text}
+use Rattle.naga_wgsl_fns.specs.declared.functions.FunctionText.{FunctionText}
+use Rattle.naga_wgsl_fns.specs.FunctionText.{CanWrite, expressions, naming}
+use Rattle.naga_wgsl_fns.specs.Names.{name_of_argument, name_of_local}
+use Rattle.naga_wgsl_fns.specs.Expressions.{address_text, binary_text, own_form, own_text, pointed_text, reference_text, value_text}
+use Rattle.naga_wgsl_fns.proofs.Wanted.{ordered}
+
+-- ---- a handle's form by its operands' forms, where operands stand before it
+module _ (n : Naming) (es : List ir.Expression) (before : OperandsStandBefore es) (s : Handles) where
+  own_same : (a b : ℕ → PlainForm) (h : ℕ) (e : ir.Expression) → AllBelow h (operands_of (Some (expression_shape e))) → ((x : ℕ) → x < h → a x ≡ b x) → own_plain n a e ≡ own_plain n b e
+  own_same a b h (expression.Load p) below same = ap (λ q. ValueForm (as_reference q)) (same p below.0)
+  own_same a b h (expression.Binary op l r) below same =
+      let two = subst (AllBelow h) (operator_operands (operator_form op) l r) below in
+      λ i. ValueForm (Binary (as_value (same l two.0 i)) (operator_form op) (as_value (same r two.1.0 i)))
+  own_same a b h _ below same = refl
+
+  own_if_same : (a b : ℕ → PlainForm) (h : ℕ) (o : Option ir.Expression) → slice_get es h ≡ o → ((x : ℕ) → x < h → a x ≡ b x) → own_if n a o ≡ own_if n b o
+  own_if_same a b h None at same = refl
+  own_if_same a b h (Some e) at same = own_same a b h e (before h e at) same
+
+  -- enough fuel gives the same
+  below_same : (j k h : ℕ) → h < j → h < k → plain_below n es s j h ≡ plain_below n es s k h
+  below_same zero k h lt_j lt_k = absurd (omega (arith, lt_j))
+  below_same (suc j) zero h lt_j lt_k = absurd (omega (arith, lt_k))
+  below_same (suc j) (suc k) h lt_j lt_k =
+      ap (standing_plain (s h)) (own_if_same (plain_below n es s j) (plain_below n es s k) h (slice_get es h) refl (λ x lt. below_same j k x (omega (arith, lt, lt_j)) (omega (arith, lt, lt_k))))
+
+  -- a handle's form
+  pub plain_level : (h : ℕ) → h < length es → plain_form n es s h ≡ standing_plain (s h) (own_if n (plain_form n es s) (slice_get es h))
+  plain_level h lt = by (length es) lt
+    where
+      by : (k : ℕ) → h < k → plain_below n es s k h ≡ standing_plain (s h) (own_if n (plain_below n es s k) (slice_get es h))
+      by zero lt = absurd (omega (arith, lt))
+      by (suc k) lt =
+          ap (standing_plain (s h)) (own_if_same (plain_below n es s k) (plain_below n es s (suc k)) h (slice_get es h) refl (λ x x_lt. below_same k (suc k) x (omega (arith, x_lt, lt)) (omega (arith, x_lt, lt))))
+
+-- ---- rows
+-- the sign of an operator
+pub operator_row : (op : ir_operator.BinaryOperator) → operator_text op ≡ text (binary_pieces (operator_form op))
+operator_row operator.Add = refl
+operator_row operator.Subtract = refl
+operator_row operator.Multiply = refl
+operator_row operator.Divide = refl
+operator_row operator.Modulo = refl
+operator_row operator.Equal = refl
+operator_row operator.NotEqual = refl
+operator_row operator.Less = refl
+operator_row operator.LessEqual = refl
+operator_row operator.Greater = refl
+operator_row operator.GreaterEqual = refl
+operator_row operator.And = refl
+operator_row operator.ExclusiveOr = refl
+operator_row operator.InclusiveOr = refl
+operator_row operator.LogicalAnd = refl
+operator_row operator.LogicalOr = refl
+operator_row operator.ShiftLeft = refl
+operator_row operator.ShiftRight = refl
+
+-- a handle's form, by its cell in the table
+cell_form : (f : FunctionText) (table : List Standing) (handle : ℕ) → CanWrite f → handle < length (expressions f)
+    → plain_form (naming f) (expressions f) (handles_of table) handle ≡ standing_plain (standing_of (numbered_name handle) (get_or table handle Absent)) (own_form f table handle)
+cell_form f table handle can lt = plain_level (naming f) (expressions f) (ordered f can) (handles_of table) handle lt
+
+-- a value, by its cell
+abbrev pub value_at : FunctionText → (table : List Standing) → (handle : ℕ) → (cell : Standing) → List ℕ
+value_at f table handle Named = numbered_name handle
+value_at f table handle _ = own_text f table handle
+
+pub value_row : (f : FunctionText) (table : List Standing) (handle : ℕ) → CanWrite f → handle < length (expressions f) → value_text f table handle ≡ value_at f table handle (get_or table handle Absent)
+unfolding value_text own_text
+value_row f table handle can lt = ap (λ form. expression_layout (as_value form)) (cell_form f table handle can lt) ∙ by (get_or table handle Absent)
+  where
+    by : (cell : Standing) → expression_layout (as_value (standing_plain (standing_of (numbered_name handle) cell) (own_form f table handle))) ≡ value_at f table handle cell
+    by Named = name_text (numbered_name handle)
+    by Absent = refl
+    by Barred = refl
+    by Everywhere = refl
+    by Inline = refl
+
+-- what an expression is made of, by its kind
+abbrev pub own_at : FunctionText → (table : List Standing) → Option ir.Expression → List ℕ
+own_at f table (Some (expression.Literal value)) = literal_text value
+own_at f table (Some (expression.FunctionArgument number)) = name_of_argument f number
+own_at f table (Some (expression.LocalVariable local)) = address_text f local
+own_at f table (Some (expression.Load pointer)) = reference_text f table pointer
+own_at f table (Some (expression.Binary op left right)) = binary_text f table op left right
+own_at f table _ = expression_layout (Constant (Truth false))
+
+pub own_row : (f : FunctionText) (table : List Standing) (handle : ℕ) → own_text f table handle ≡ own_at f table (slice_get (expressions f) handle)
+unfolding own_text literal_text name_of_argument address_text reference_text binary_text
+own_row f table handle = by (slice_get (expressions f) handle)
+  where
+    by : (e : Option ir.Expression) → expression_layout (as_value (own_if (naming f) (plain_form (naming f) (expressions f) (handles_of table)) e)) ≡ own_at f table e
+    by (Some (expression.FunctionArgument number)) = name_text (name_of_argument f number)
+    by _ = refl
+
+-- a reference, by its cell and its kind and by what its value points at
+abbrev local_or : FunctionText → (pointed : List ℕ) → Option ir.Expression → List ℕ
+local_or f pointed (Some (expression.LocalVariable local)) = name_of_local f local
+local_or f pointed _ = pointed
+
+abbrev pub reference_at : FunctionText → (pointed : List ℕ) → (cell : Standing) → Option ir.Expression → List ℕ
+reference_at f pointed Named e = pointed
+reference_at f pointed _ e = local_or f pointed e
+
+pub reference_row : (f : FunctionText) (table : List Standing) (handle : ℕ) → CanWrite f → handle < length (expressions f)
+    → reference_text f table handle ≡ reference_at f (pointed_text f table handle) (get_or table handle Absent) (slice_get (expressions f) handle)
+unfolding reference_text pointed_text name_of_local
+reference_row f table handle can lt =
+    ap (λ form. expression_layout (as_reference form)) is ∙ by cell ∙ ap (λ pointed. reference_at f pointed cell e) (ap (λ form. expression_layout (Dereference (as_value form))) (sym is))
+  where
+    cell : Standing
+    cell = get_or table handle Absent
+
+    e : Option ir.Expression
+    e = slice_get (expressions f) handle
+
+    own : Option ir.Expression → PlainForm
+    own o = own_if (naming f) (plain_form (naming f) (expressions f) (handles_of table)) o
+
+    form : Standing → PlainForm
+    form c = standing_plain (standing_of (numbered_name handle) c) (own e)
+
+    is : plain_form (naming f) (expressions f) (handles_of table) handle ≡ form cell
+    is = cell_form f table handle can lt
+
+    kind : (o : Option ir.Expression) → expression_layout (as_reference (own o)) ≡ local_or f (expression_layout (Dereference (as_value (own o)))) o
+    kind (Some (expression.LocalVariable local)) = name_text (name_of_local f local)
+    kind _ = refl
+
+    by : (c : Standing) → expression_layout (as_reference (form c)) ≡ reference_at f (expression_layout (Dereference (as_value (form c)))) c e
+    by Named = refl
+    by Absent = kind e
+    by Barred = kind e
+    by Everywhere = kind e
+    by Inline = kind e
+
+pub binary_row : (f : FunctionText) (table : List Standing) (op : ir_operator.BinaryOperator) (left right : ℕ)
+    → binary_text f table op left right ≡ joined (codes "(") (joined (value_text f table left) (joined (codes " ") (joined (operator_text op) (joined (codes " ") (joined (value_text f table right) (codes ")"))))))
+unfolding binary_text value_text joined
+binary_row f table op left right =
+    let form = value_form (naming f) (expressions f) (handles_of table) in
+    binary_row_text (form left) (operator_form op) (form right)
+    ∙ ap (λ w. joined (codes "(") (joined (expression_layout (form left)) (joined (codes " ") (joined w (joined (codes " ") (joined (expression_layout (form right)) (codes ")"))))))) (sym (operator_row op))
+
+pub address_row : (f : FunctionText) (local : ℕ) → address_text f local ≡ joined (codes "(&") (joined (name_of_local f local) (codes ")"))
+unfolding address_text name_of_local joined
+address_row f local = address_row_text (Name (name_of_local f local)) ∙ ap (λ w. joined (codes "(&") (joined w (codes ")"))) (name_text (name_of_local f local))
+
+pub pointed_row : (f : FunctionText) (table : List Standing) (handle : ℕ) → pointed_text f table handle ≡ joined (codes "(*") (joined (value_text f table handle) (codes ")"))
+unfolding pointed_text value_text joined
+pointed_row f table handle = dereference_text (value_form (naming f) (expressions f) (handles_of table) handle)

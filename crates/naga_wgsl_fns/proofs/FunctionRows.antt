@@ -1,0 +1,234 @@
+-- Each function of a module that is accepted and written so far can be written; and the texts of its parts, from what is
+-- written of them in turn.
+use Rattle.std.proofs.Common.{◌≡◌, ℕ, ◌+◌, ◌<◌, ◌≤◌, ◌==◌, zero, suc, true, false, List, [], ◌∷◌, ◌++◌, Option, None, Some, length, refl, sym, ap, ◌∙◌, arith, add-one, codes, drop, drop-cons, slice_index_or, ne_eqb, append_assoc, slice_get}
+use Rattle.std.specs.Prelude.{if◌then◌else◌, unwrap_or}
+use Rattle.std.specs.Option.{option_map_or}
+use Rattle.std.proofs.lemmas.List.{append-nil, drop_all}
+use Rattle.std.proofs.lemmas.Option.{slice_get_within, get_or_from_slice_get}
+use Rattle.naga_ir.specs.declared.module.Function.{Function}
+use Rattle.naga_ir.specs.declared.module.FunctionArgument.{FunctionArgument}
+use Rattle.naga_ir.specs.declared.module.FunctionResult.{FunctionResult}
+use Rattle.naga_ir.specs.declared.module.LocalVariable.{LocalVariable}
+use Rattle.naga_info.specs.declared.info.ExpressionInfo.{ExpressionInfo}
+use Rattle.naga_info.specs.declared.info.ModuleInfo.{ModuleInfo}
+use Rattle.accepted_modules.specs.Accepted.{is_accepted, function_fits}
+use Rattle.accepted_modules.specs.Part.{function_is_written, is_written_so_far}
+use Rattle.accepted_modules.proofs.Accepting.{accepted_types_are_scalar, accepted_functions_fit, list_all_at, functions_fit_at}
+use Rattle.name_keys.specs.Keys.{names_in}
+use Rattle.item_names.proofs.Counts.{element}
+use Rattle.shader_runs.specs.Scope.{Handles}
+use Rattle.naga_form.specs.Names.{HasNamesOf, module_names}
+use Rattle.naga_form.specs.Form.{function_form, lines_form, locals_form, parameter_form, parameters_form, result_form, value_form}
+use Rattle.naga_form.proofs.Resolutions.{functions_are_written}
+use Rattle.naga_scope.specs.declared.points.Standing.{Standing}
+use Rattle.spelling_parts.specs.declared.sink.SinkError.{SinkError}
+use Rattle.spelling_parts.specs.declared.sink.SinkError.TheVariants.{Failed, Memory}
+use Rattle.spelling_parts.specs.Output.{IsReason, joined}
+use Rattle.wgsl_pieces.specs.Errors.{IsWant, error_of_sink}
+use Rattle.wgsl_text.specs.Declarations.{function_pieces, group_end, locals_pieces, more_parameters_pieces, parameter_pieces, parameters_pieces, result_pieces, value_pieces}
+use Rattle.wgsl_text.specs.Reading.{expression_layout, type_layout}
+use Rattle.wgsl_text.specs.Text.{text}
+use Rattle.wgsl_text.specs.Tree.{Parameter}
+use Rattle.wgsl_text.proofs.RowText.{text-append, function_text as function_row_text, locals_text as local_row_text, value_text as value_row_text}
+use Rattle.naga_wgsl_fns.specs.declared.functions.FunctionText.{FunctionText}
+use Rattle.naga_wgsl_fns.specs.FunctionText.{CanWrite, expressions, naming, tells_types, told, type_names_of}
+use Rattle.naga_wgsl_fns.specs.Names.{name_of_argument, name_of_function, name_of_local}
+use Rattle.naga_wgsl_fns.specs.Types.{type_text}
+use Rattle.naga_wgsl_fns.specs.Expressions.{value_text}
+use Rattle.naga_wgsl_fns.specs.Statements.{block_text, lines_text}
+use Rattle.naga_wgsl_fns.specs.Functions.{StartsAt, answer_text, argument_text, arguments_text, body_text, first_form, first_text, first_value_text, form_of, function_text, group_end_text, head_text, known_of, local_form, local_text, local_text_of, locals_text, next_argument_text, result_text, separator, text_of_function}
+
+-- ---- what is wanted
+-- what is known of a function is what is known of its handle
+known_is : (info : ModuleInfo) (g : ℕ) (es : List ExpressionInfo) → slice_get info.functions.items g ≡ Some es → known_of info g ≡ es
+known_is info g es at = ap (λ o. unwrap_or o []) at
+
+pub can_write : (t : FunctionText) (info : ModuleInfo) → is_accepted t.shader.now info ≡ true → is_written_so_far t.shader.now ≡ true → HasNamesOf t.shader.now (names_in t.names.now) → slice_get t.shader.now.functions t.handle ≡ Some t.function.now → slice_get info.functions.items t.handle ≡ Some t.info.now → CanWrite t
+can_write t info accepted written named here known =
+    let m = t.shader.now in
+    let f = t.function.now in
+    let fit = functions_fit_at m.types m.functions info.functions.items t.handle f (accepted_functions_fit m info accepted) here in
+    let same : fit.0 ≡ t.info.now = ap (λ o. unwrap_or o fit.0) (sym fit.1 ∙ known) in
+    record {
+      named = named;
+      function = here;
+      scalars = accepted_types_are_scalar m info accepted;
+      fits = ap (λ ks. function_fits m.types f ks) (sym same) ∙ fit.2;
+      written = list_all_at function_is_written m.functions t.handle f (functions_are_written m written) here;
+    }
+
+-- the text of a function that there is
+pub text_of_function_at : (t : FunctionText) (info : ModuleInfo) → slice_get t.shader.now.functions t.handle ≡ Some t.function.now → slice_get info.functions.items t.handle ≡ Some t.info.now → text_of_function t.shader.now info t.flags t.handle ≡ function_text t
+unfolding function_text
+text_of_function_at t info here known =
+    let m = t.shader.now in
+    let form = λ (f : Function) (es : List ExpressionInfo). text (function_pieces (function_form (tells_types t.flags) (module_names m) m.types t.handle f es)) in
+    ap (λ o. option_map_or (λ f. form f (known_of info t.handle)) o []) here ∙ ap (form t.function.now) (known_is info t.handle t.info.now known)
+
+-- ---- the head
+pub head_row : (f : FunctionText) → head_text f ≡ joined (codes "fn ") (joined (name_of_function f) (joined (codes "(") (joined (arguments_text f) (joined (result_text f) (codes " {\n")))))
+unfolding head_text joined
+head_row f = refl
+
+pub argument_row : (f : FunctionText) (number : ℕ) (a : FunctionArgument) → argument_text f number a ≡ joined (name_of_argument f number) (joined (codes ": ") (type_text f a.ty))
+unfolding argument_text name_of_argument type_text joined
+argument_row f number a = refl
+
+pub next_argument_row : (f : FunctionText) (number : ℕ) (a : FunctionArgument) → next_argument_text f number a ≡ joined (separator number) (argument_text f number a)
+unfolding next_argument_text joined
+next_argument_row f number a = refl
+
+pub answer_row : (f : FunctionText) (ty : ℕ) → answer_text f ty ≡ joined (codes " -> ") (type_text f ty)
+unfolding answer_text joined
+answer_row f ty = refl
+
+abbrev pub result_at : FunctionText → Option FunctionResult → List ℕ
+result_at f None = []
+result_at f (Some answer) = answer_text f answer.ty
+
+pub result_row : (f : FunctionText) → result_text f ≡ result_at f f.function.now.result
+unfolding result_text answer_text type_text
+result_row f = by f.function.now.result
+  where
+    by : (answer : Option FunctionResult) → text (result_pieces (result_form (type_names_of f) answer)) ≡ result_at f answer
+    by None = refl
+    by (Some answer) = refl
+
+-- what is left of the arguments from this number on, with the parenthesis behind the last
+abbrev pub arguments_left : FunctionText → ℕ → List FunctionArgument → List ℕ
+arguments_left f zero more = text (parameters_pieces (parameters_form (module_names f.shader.now) f.shader.now.types f.handle zero more))
+arguments_left f (suc n) more = text (more_parameters_pieces (parameters_form (module_names f.shader.now) f.shader.now.types f.handle (suc n) more))
+
+pub arguments_start : (f : FunctionText) → arguments_text f ≡ arguments_left f 0 f.function.now.arguments.items
+unfolding arguments_text
+arguments_start f = refl
+
+arguments_row : (f : FunctionText) (n : ℕ) (a : FunctionArgument) (more : List FunctionArgument) → arguments_left f n (a ∷ more) ≡ joined (next_argument_text f n a) (arguments_left f (n + 1) more)
+unfolding next_argument_text argument_text joined
+arguments_row f n a more = by n
+  where
+    form : ℕ → List FunctionArgument → List Parameter
+    form n more = parameters_form (module_names f.shader.now) f.shader.now.types f.handle n more
+
+    later : (n : ℕ) → text (more_parameters_pieces (form (n + 1) more)) ≡ arguments_left f (n + 1) more
+    later n = rw add-one refl
+
+    split : (n : ℕ) → text (parameter_pieces (parameter_form (module_names f.shader.now) f.shader.now.types f.handle n a) ++ more_parameters_pieces (form (n + 1) more)) ≡ argument_text f n a ++ arguments_left f (n + 1) more
+    split n =
+        text-append (parameter_pieces (parameter_form (module_names f.shader.now) f.shader.now.types f.handle n a)) (more_parameters_pieces (form (n + 1) more))
+        ∙ ap (λ t. argument_text f n a ++ t) (later n)
+
+    by : (n : ℕ) → arguments_left f n (a ∷ more) ≡ (separator n ++ argument_text f n a) ++ arguments_left f (n + 1) more
+    by zero = split zero
+    by (suc n) =
+        let next : (suc n == 0) ≡ false = ne_eqb (suc n) 0 (λ same. absurd (omega arith))
+        in rw next (ap (λ t. codes ", " ++ t) (split (suc n)))
+
+-- a list from an item of it on
+pub drop_first : {X : Type 0} (i : ℕ) (xs : List X) (x : X) → i < length xs → x ≡ slice_index_or xs i x → drop i xs ≡ x ∷ drop (i + 1) xs
+drop_first i xs x h is = rw (add-one, drop-cons xs i x) (ap (λ y. y ∷ drop (suc i) xs) (sym is))
+
+-- a loop over arguments: one more, and none
+pub arguments_more : (f : FunctionText) (n : ℕ) (items : List FunctionArgument) (a : FunctionArgument) → n < length items → a ≡ slice_index_or items n a
+    → arguments_left f n (drop n items) ≡ joined (next_argument_text f n a) (arguments_left f (n + 1) (drop (n + 1) items))
+arguments_more f n items a lt is = ap (arguments_left f n) (drop_first n items a lt is) ∙ arguments_row f n a (drop (n + 1) items)
+
+pub arguments_none : (f : FunctionText) (n : ℕ) (items : List FunctionArgument) → length items ≤ n → arguments_left f n (drop n items) ≡ codes ")"
+arguments_none f n items past = ap (arguments_left f n) (drop_all n items past) ∙ by n
+  where
+    by : (n : ℕ) → arguments_left f n [] ≡ codes ")"
+    by zero = refl
+    by (suc n) = refl
+
+-- ---- the locals
+pub first_value_row : (f : FunctionText) (table : List Standing) (value : ℕ) → StartsAt f table → joined (codes " = ") (joined (value_text f table value) (codes ";\n")) ≡ first_value_text f value
+unfolding first_value_text value_text joined
+first_value_row f table value start =
+    ap (λ (s : Handles). codes " = " ++ (expression_layout (value_form (naming f) (expressions f) s value) ++ codes ";\n")) start
+    ∙ sym (value_row_text (first_form f value))
+
+abbrev pub first_at : FunctionText → (value : Option ℕ) → List ℕ
+first_at f None = codes ";\n"
+first_at f (Some value) = first_value_text f value
+
+pub first_row : (f : FunctionText) (value : Option ℕ) → first_text f value ≡ first_at f value
+unfolding first_text first_value_text
+first_row f None = refl
+first_row f (Some value) = refl
+
+-- a local that there is
+pub local_row : (f : FunctionText) (handle : ℕ) (local : LocalVariable) → slice_get f.function.now.local_variables handle ≡ Some local
+    → local_text f handle ≡ joined (codes "    var ") (joined (name_of_local f handle) (joined (codes ": ") (joined (type_text f local.ty) (first_text f local.init))))
+unfolding local_text name_of_local type_text first_text joined
+local_row f handle local at =
+    ap (λ o. option_map_or (local_text_of f handle) o []) at
+    ∙ (local_row_text (local_form f handle local) []
+    ∙ ap (λ t. codes "    var " ++ (name_of_local f handle ++ (codes ": " ++ (type_text f local.ty ++ t)))) (append-nil (first_text f local.init)))
+
+-- the locals from this one on
+abbrev pub locals_left : FunctionText → ℕ → List LocalVariable → List ℕ
+locals_left f handle locals = text (locals_pieces (locals_form (naming f) (type_names_of f) (expressions f) handle locals))
+
+locals_step : (f : FunctionText) (handle : ℕ) (local : LocalVariable) (more : List LocalVariable) → locals_left f handle (local ∷ more) ≡ local_text_of f handle local ++ locals_left f (handle + 1) more
+locals_step f handle local more =
+    let form = local_form f handle local in
+    let behind = locals_form (naming f) (type_names_of f) (expressions f) (handle + 1) more in
+    let first = text (locals_pieces behind) in
+    local_row_text form behind
+    ∙ (ap (λ t. codes "    var " ++ (form.name ++ (codes ": " ++ t))) (sym (append_assoc (type_layout form.type) (text (value_pieces form.value)) first))
+    ∙ (ap (λ t. codes "    var " ++ (form.name ++ (codes ": " ++ (t ++ first)))) (ap (λ t. type_layout form.type ++ t) (sym (append-nil (text (value_pieces form.value)))))
+    ∙ (ap (λ t. codes "    var " ++ t) (sym (append_assoc form.name (codes ": " ++ (type_layout form.type ++ (text (value_pieces form.value) ++ []))) first))
+    ∙ ap (λ t. t ++ first) (sym (local_row_text form [])))))
+
+-- a list from an item of it on, by what stands there
+pub drop_at : {X : Type 0} (i : ℕ) (xs : List X) (x : X) → slice_get xs i ≡ Some x → drop i xs ≡ x ∷ drop (i + 1) xs
+drop_at i xs x at = drop_first i xs x (slice_get_within xs i x at) (sym (get_or_from_slice_get xs i x x at))
+
+-- a loop over locals: one more, and none
+pub locals_more : (f : FunctionText) (i handle : ℕ) → i < length f.function.now.local_variables → handle ≡ i
+    → locals_left f i (drop i f.function.now.local_variables) ≡ joined (local_text f handle) (locals_left f (i + 1) (drop (i + 1) f.function.now.local_variables))
+unfolding local_text joined
+locals_more f i handle lt is =
+    let locals = f.function.now.local_variables in
+    let local = element locals i lt in
+    let more = locals_left f (i + 1) (drop (i + 1) locals) in
+    ap (locals_left f i) (drop_at i locals local.0 local.1)
+    ∙ (locals_step f i local.0 (drop (i + 1) locals)
+    ∙ (ap (λ o. option_map_or (local_text_of f i) o [] ++ more) (sym local.1) ∙ ap (λ h. local_text f h ++ more) (sym is)))
+
+-- behind the locals, the empty line
+pub locals_none : (f : FunctionText) (i : ℕ) → length f.function.now.local_variables ≤ i → locals_left f i (drop i f.function.now.local_variables) ≡ []
+locals_none f i past = ap (locals_left f i) (drop_all i f.function.now.local_variables past)
+
+pub locals_row : (f : FunctionText) → locals_text f ≡ joined (locals_left f 0 f.function.now.local_variables) (group_end_text (length f.function.now.local_variables == 0))
+unfolding locals_text group_end_text joined
+locals_row f = ap (λ t. locals_left f 0 f.function.now.local_variables ++ t) (sym (by f.function.now.local_variables))
+  where
+    by : (locals : List LocalVariable) → (if length locals == 0 then [] else codes "\n") ≡ text (group_end (locals_form (naming f) (type_names_of f) (expressions f) 0 locals))
+    by [] = refl
+    by (local ∷ more) = ap (λ b. if b then [] else codes "\n") (ne_eqb (suc (length more)) 0 (λ same. absurd (omega arith)))
+
+-- ---- the whole
+pub body_row : (f : FunctionText) (table : List Standing) → StartsAt f table → joined (locals_text f) (joined (block_text f table 1 f.function.now.body) (codes "}\n")) ≡ body_text f
+unfolding body_text block_text joined
+body_row f table start =
+    ap (λ (s : Handles). locals_text f ++ (lines_text 1 (lines_form (naming f) (told f) (expressions f) 0 f.function.now.body s) ++ codes "}\n")) start
+
+pub function_row : (f : FunctionText) → function_text f ≡ joined (head_text f) (body_text f)
+unfolding function_text head_text body_text name_of_function arguments_text result_text locals_text joined
+function_row f =
+    let form = form_of f in
+    let locals = text (locals_pieces form.locals) in
+    let end = text (group_end form.locals) in
+    let behind = lines_text 1 form.body ++ codes "}\n" in
+    function_row_text form
+    ∙ sym (append_assoc (codes "fn ") (name_of_function f ++ (codes "(" ++ (arguments_text f ++ (result_text f ++ codes " {\n")))) ((locals ++ end) ++ behind)
+    ∙ ap (λ t. codes "fn " ++ t) (append_assoc form.name (codes "(" ++ (arguments_text f ++ (result_text f ++ codes " {\n"))) ((locals ++ end) ++ behind)
+    ∙ ap (λ t. form.name ++ (codes "(" ++ t)) (append_assoc (arguments_text f) (result_text f ++ codes " {\n") ((locals ++ end) ++ behind)
+    ∙ ap (λ t. arguments_text f ++ t) (append_assoc (result_text f) (codes " {\n") ((locals ++ end) ++ behind)
+    ∙ ap (λ t. result_text f ++ (codes " {\n" ++ t)) (append_assoc locals end behind)))))
+
+-- why a function was not written
+pub reason_told : (failed failures : ℕ) (want : SinkError) → IsReason failed failures want → IsWant failed failures (error_of_sink want)
+reason_told failed failures Failed reason = reason
+reason_told failed failures (Memory error) reason = reason

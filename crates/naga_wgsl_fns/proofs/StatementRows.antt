@@ -1,0 +1,241 @@
+-- The texts of statements, from what is written of them in turn.
+use Rattle.std.proofs.Common.{◌≡◌, ℕ, ◌+◌, ◌-◌, ◌<◌, ◌≤◌, ◌*◌, zero, suc, Bool, true, false, List, [], ◌∷◌, ◌++◌, Option, None, Some, length, refl, sym, ap, ◌∙◌, arith, add-one, codes, replicate, drop, drop-cons, slice_index_or, append_assoc, IsTrue}
+use Rattle.std.specs.Prelude.{cond, slice_get}
+use Rattle.std.proofs.lemmas.Bool.{and_parts}
+use Rattle.std.proofs.lemmas.List.{append-nil, drop_all}
+use Rattle.naga_ir.specs.StatementTree.{BlockTree, StatementTree, emit, return, simple, statement, store}
+use Rattle.naga_ir.specs.StatementViews.{tree_of, block_of}
+use Rattle.naga_enumerations.specs.declared.statement.Range.{Range}
+use Rattle.naga_ir.specs.declared.statement.Statement.{Statement}
+use Rattle.naga_ir.specs.declared.expression.Expression as ir
+use Rattle.naga_ir.specs.declared.module.FunctionResult.{FunctionResult}
+use Rattle.naga_ir.specs.declared.types.Type_.{Type_}
+use Rattle.naga_info.specs.declared.info.ExpressionInfo.{ExpressionInfo}
+use Rattle.naga_back.specs.Indentation.{indentation}
+use Rattle.accepted_modules.specs.Accepted.{statement_fits, block_fits}
+use Rattle.shader_runs.specs.Program.{binds, from}
+use Rattle.shader_runs.specs.Scope.{Handles, Naming, after, after_emit, after_one, bound_name, given_after}
+use Rattle.naga_form.specs.Names.{numbered_name}
+use Rattle.naga_form.specs.Shapes.{statement_shape}
+use Rattle.naga_form.specs.Form.{as_reference, as_value, let_form, lets_form, line_form, lines_form, own_if, return_line, plain_form, then_if, value_form}
+use Rattle.naga_scope.specs.declared.points.Standing.{Standing}
+use Rattle.naga_scope.specs.Standings.{handles_of}
+use Rattle.naga_scope.proofs.Emitting.{range_more, range_none}
+use Rattle.spelling_parts.specs.Output.{joined}
+use Rattle.wgsl_text.specs.Tree.{Block, Expression, NoStatements, Statements, Then, TypeSpecifier}
+use Rattle.wgsl_text.specs.Tree as tree
+use Rattle.wgsl_text.specs.Lines.{statement_pieces, statements_pieces}
+use Rattle.wgsl_text.specs.Pieces.{expression_pieces}
+use Rattle.wgsl_text.specs.Reading.{type_layout}
+use Rattle.wgsl_text.specs.Text.{text}
+use Rattle.wgsl_text.proofs.RowText.{assign_text, let_text as let_row_text, return_text as return_row_text, then_text, typed_let_text}
+use Rattle.naga_wgsl_fns.specs.declared.functions.FunctionText.{FunctionText}
+use Rattle.naga_wgsl_fns.specs.FunctionText.{CanWrite, expressions, naming, told}
+use Rattle.naga_wgsl_fns.specs.Expressions.{own_form, own_text, reference_text, value_text}
+use Rattle.naga_wgsl_fns.specs.Statements.{block_text, emitted_text, let_line, let_text, lets_text, line_start, line_text, lines_text, return_text, return_value_text, statement_text, store_text}
+use Rattle.naga_wgsl_fns.specs.Types.{told_text, told_type_text}
+use Rattle.naga_wgsl_fns.proofs.Wanted.{bound_is, none_given, none_given_by}
+
+-- ---- lines
+-- the blanks before a line
+pub indentation_row : (n : ℕ) → indentation n ≡ replicate (4 * n) 32
+indentation_row zero = refl
+indentation_row (suc n) =
+    let four : 4 * suc n ≡ suc (suc (suc (suc (4 * n)))) = omega arith
+    in rw four (ap (λ t. codes "    " ++ t) (indentation_row n))
+
+-- a loop over levels: one more, and none
+pub indentation_more : (level at : ℕ) → at < level → indentation (level - at) ≡ joined (codes "    ") (indentation (level - (at + 1)))
+unfolding joined
+indentation_more level at lt = let one : level - at ≡ suc (level - (at + 1)) = omega arith in ap indentation one
+
+pub indentation_none : (level at : ℕ) → level ≤ at → indentation (level - at) ≡ []
+indentation_none level at past = let none : level - at ≡ 0 = omega arith in ap indentation none
+
+pub line_start_row : (level : ℕ) (word : List ℕ) → line_start level word ≡ joined (indentation level) word
+unfolding line_start joined
+line_start_row level word = refl
+
+-- the start of a line in front of what follows
+line_starts : (level : ℕ) (word rest : List ℕ) → joined (line_start level word) rest ≡ replicate (4 * level) 32 ++ (word ++ rest)
+unfolding line_start joined
+line_starts level word rest = append_assoc (indentation level) word rest ∙ ap (λ t. t ++ (word ++ rest)) (indentation_row level)
+
+-- ---- statements
+pub store_row : (f : FunctionText) (table : List Standing) (level pointer value : ℕ)
+    → store_text f table level pointer value ≡ joined (line_start level []) (joined (reference_text f table pointer) (joined (codes " = ") (joined (value_text f table value) (codes ";\n"))))
+unfolding store_text reference_text value_text joined
+store_row f table level pointer value =
+    let operand = plain_form (naming f) (expressions f) (handles_of table) in
+    assign_text (as_reference (operand pointer)) (as_value (operand value)) level
+    ∙ sym (line_starts level [] (text (expression_pieces (as_reference (operand pointer))) ++ (codes " = " ++ (text (expression_pieces (as_value (operand value))) ++ codes ";\n"))))
+
+pub return_value_row : (f : FunctionText) (table : List Standing) (level value : ℕ) → return_value_text f table level value ≡ joined (line_start level (codes "return ")) (joined (value_text f table value) (codes ";\n"))
+unfolding return_value_text value_text joined
+return_value_row f table level value =
+    let form = value_form (naming f) (expressions f) (handles_of table) value in
+    return_row_text form level ∙ sym (line_starts level (codes "return ") (text (expression_pieces form) ++ codes ";\n"))
+
+abbrev pub return_at : FunctionText → (table : List Standing) → (level : ℕ) → (value : Option ℕ) → List ℕ
+return_at f table level None = line_start level (codes "return;\n")
+return_at f table level (Some value) = return_value_text f table level value
+
+pub return_row : (f : FunctionText) (table : List Standing) (level : ℕ) (value : Option ℕ) → return_text f table level value ≡ return_at f table level value
+unfolding return_text return_value_text line_start
+return_row f table level None = sym (ap (λ t. t ++ codes "return;\n") (indentation_row level))
+return_row f table level (Some value) = refl
+
+pub let_row : (f : FunctionText) (table : List Standing) (level handle : ℕ) → CanWrite f
+    → let_text f table level handle ≡ joined (line_start level (codes "let ")) (joined (numbered_name handle) (joined (told_text f handle) (joined (codes " = ") (joined (own_text f table handle) (codes ";\n")))))
+unfolding let_text told_text own_text joined
+let_row f table level handle can =
+    ap (λ name. line_text level (let_form (told f handle) name own)) (sym (bound_is f can handle)) ∙ by (told f handle)
+  where
+    own : Expression
+    own = as_value (own_form f table handle)
+
+    by : (t : Option TypeSpecifier) → line_text level (let_form t (numbered_name handle) own) ≡ joined (line_start level (codes "let ")) (numbered_name handle ++ (told_type_text t ++ (codes " = " ++ (text (expression_pieces own) ++ codes ";\n"))))
+    by None =
+        let_row_text (numbered_name handle) own level
+        ∙ sym (line_starts level (codes "let ") (numbered_name handle ++ (codes " = " ++ (text (expression_pieces own) ++ codes ";\n"))))
+    by (Some t) =
+        typed_let_text (numbered_name handle) t own level
+        ∙ sym (line_starts level (codes "let ") (numbered_name handle ++ ((codes ": " ++ type_layout t) ++ (codes " = " ++ (text (expression_pieces own) ++ codes ";\n")))))
+
+-- a statement, by its kind
+abbrev pub statement_at : FunctionText → (table : List Standing) → (level : ℕ) → StatementTree → List ℕ
+statement_at f table level (simple (emit first last)) = lets_text f table level (from first (last - first))
+statement_at f table level (simple (store pointer value)) = store_text f table level pointer value
+statement_at f table level (simple (return value)) = return_text f table level value
+statement_at f table level _ = lines_text level (Then (Block NoStatements) NoStatements)
+
+pub statement_row : (f : FunctionText) (table : List Standing) (level : ℕ) (st : StatementTree) → statement_text f table level st ≡ statement_at f table level st
+unfolding statement_text lets_text store_text return_text
+statement_row f table level (simple (emit first last)) = refl
+statement_row f table level (simple (store pointer value)) =
+    let operand = plain_form (naming f) (expressions f) (handles_of table) in
+    then_text (tree.Assign (as_reference (operand pointer)) (as_value (operand value))) NoStatements level ∙ append-nil (store_text f table level pointer value)
+statement_row f table level (simple (return value)) =
+    then_text (return_line (naming f) (expressions f) (handles_of table) value) NoStatements level ∙ append-nil (return_text f table level value)
+statement_row f table level _ = refl
+
+-- ---- the handles of an Emit
+module _ (n : Naming) (told : ℕ → Option TypeSpecifier) (es : List ir.Expression) where
+  -- `let`s in front of what follows
+  pub lets_then : (k : ℕ) (hs : List ℕ) (s : Handles) (rest : Statements) (level : ℕ) → text (statements_pieces (lets_form n told es k hs s rest) level) ≡ text (statements_pieces (lets_form n told es k hs s NoStatements) level) ++ text (statements_pieces rest level)
+  lets_then k [] s rest level = refl
+  lets_then k (h ∷ hs) s rest level = by (binds n.function h) (lets_then (given_after n.function h k) hs (after_one n k h s) rest level)
+    where
+      behind : Statements → Statements
+      behind rest = lets_form n told es (given_after n.function h k) hs (after_one n k h s) rest
+
+      line : tree.Statement
+      line = let_form (told h) (bound_name n k h) (as_value (own_if n (plain_form n es s) (slice_get es h)))
+
+      by : (b : Bool) → text (statements_pieces (behind rest) level) ≡ text (statements_pieces (behind NoStatements) level) ++ text (statements_pieces rest level) → text (statements_pieces (then_if b line (behind rest)) level) ≡ text (statements_pieces (then_if b line (behind NoStatements)) level) ++ text (statements_pieces rest level)
+      by true more =
+          then_text line (behind rest) level
+          ∙ (ap (λ t. text (statement_pieces line level) ++ t) more
+          ∙ (sym (append_assoc (text (statement_pieces line level)) (text (statements_pieces (behind NoStatements) level)) (text (statements_pieces rest level)))
+          ∙ ap (λ t. t ++ text (statements_pieces rest level)) (sym (then_text line (behind NoStatements) level))))
+      by false more = more
+
+module _ (f : FunctionText) (can : CanWrite f) where
+  -- a loop over a range: one more handle, behind which `next` has what is in scope
+  pub lets_step : (table next : List Standing) (level index last handle : ℕ) → index < last → handle ≡ index → handles_of next ≡ after_one (naming f) 0 handle (handles_of table)
+      → lets_text f table level (from index (last - index)) ≡ joined (emitted_text f table level handle) (lets_text f next level (from (index + 1) (last - (index + 1))))
+  unfolding lets_text emitted_text let_text joined
+  lets_step table next level index last handle lt at is =
+      ap (λ hs. lets hs (handles_of table) 0) (range_more index last lt ∙ ap (λ (k : ℕ). k ∷ rest) (sym at))
+      ∙ (by (binds (naming f).function handle)
+      ∙ ap (λ u. emitted_text f table level handle ++ u) (ap (λ k. lets rest (after_one (naming f) 0 handle (handles_of table)) k) (none_given f can handle 0) ∙ ap (λ u. lets rest u 0) (sym is)))
+    where
+      rest : List ℕ
+      rest = from (index + 1) (last - (index + 1))
+
+      form : List ℕ → Handles → ℕ → Statements
+      form hs s k = lets_form (naming f) (told f) (expressions f) k hs s NoStatements
+
+      lets : List ℕ → Handles → ℕ → List ℕ
+      lets hs s k = lines_text level (form hs s k)
+
+      behind : Statements
+      behind = form rest (after_one (naming f) 0 handle (handles_of table)) (given_after (naming f).function handle 0)
+
+      by : (b : Bool) → lines_text level (then_if b (let_line f table handle) behind) ≡ cond b (line_text level (let_line f table handle)) [] ++ lines_text level behind
+      by true = then_text (let_line f table handle) behind level
+      by false = refl
+
+  -- and what is in scope behind it
+  pub after_step : (table next : List Standing) (index last handle : ℕ) → index < last → handle ≡ index → handles_of next ≡ after_one (naming f) 0 handle (handles_of table)
+      → after_emit (naming f) 0 (from index (last - index)) (handles_of table) ≡ after_emit (naming f) 0 (from (index + 1) (last - (index + 1))) (handles_of next)
+  after_step table next index last handle lt at is =
+      let rest = from (index + 1) (last - (index + 1)) in
+      ap (λ (hs : List ℕ). after_emit (naming f) 0 hs (handles_of table)) (range_more index last lt ∙ ap (λ (k : ℕ). k ∷ rest) (sym at))
+      ∙ (ap (λ (k : ℕ). after_emit (naming f) k rest (after_one (naming f) 0 handle (handles_of table))) (none_given f can handle 0)
+      ∙ ap (λ (u : Handles). after_emit (naming f) 0 rest u) (sym is))
+
+  -- ---- the statements of a block
+  -- a statement in front of others
+  line_then : (st : StatementTree) (s : Handles) (rest : Statements) (level : ℕ)
+      → lines_text level (line_form (naming f) (told f) (expressions f) 0 st s rest) ≡ lines_text level (line_form (naming f) (told f) (expressions f) 0 st s NoStatements) ++ lines_text level rest
+  line_then st s rest level = by st
+    where
+      one : (line : tree.Statement) → lines_text level (Then line rest) ≡ lines_text level (Then line NoStatements) ++ lines_text level rest
+      one line = then_text line rest level ∙ ap (λ t. t ++ lines_text level rest) (sym (then_text line NoStatements level ∙ append-nil (line_text level line)))
+
+      by : (st : StatementTree) → lines_text level (line_form (naming f) (told f) (expressions f) 0 st s rest) ≡ lines_text level (line_form (naming f) (told f) (expressions f) 0 st s NoStatements) ++ lines_text level rest
+      by (simple (emit first last)) = lets_then (naming f) (told f) (expressions f) 0 (from first (last - first)) s rest level
+      by (simple (store pointer value)) = one (tree.Assign (as_reference (plain_form (naming f) (expressions f) s pointer)) (value_form (naming f) (expressions f) s value))
+      by (simple (return value)) = one (return_line (naming f) (expressions f) s value)
+      by _ = one (Block NoStatements)
+
+  -- a block, by its first statement, behind which `next` has what is in scope
+  pub block_row : (table next : List Standing) (level : ℕ) (st : StatementTree) (rest : BlockTree) → handles_of next ≡ after (naming f) 0 (statement_shape st) (handles_of table)
+      → block_text f table level (statement st rest) ≡ joined (statement_text f table level st) (block_text f next level rest)
+  unfolding block_text statement_text joined
+  block_row table next level st rest is =
+      ap (λ k. lines k (after (naming f) 0 (statement_shape st) (handles_of table))) (none_given_by f can st)
+      ∙ (ap (λ s. lines 0 s) (sym is)
+      ∙ line_then st (handles_of table) (lines_form (naming f) (told f) (expressions f) 0 rest (handles_of next)) level)
+    where
+      lines : ℕ → Handles → List ℕ
+      lines k s = lines_text level (line_form (naming f) (told f) (expressions f) 0 st (handles_of table) (lines_form (naming f) (told f) (expressions f) k rest s))
+
+-- a list from an item of it on
+pub drop_first : {X : Type 0} (i : ℕ) (xs : List X) (x : X) → i < length xs → x ≡ slice_index_or xs i x → drop i xs ≡ x ∷ drop (i + 1) xs
+drop_first i xs x h is = rw (add-one, drop-cons xs i x) (ap (λ y. y ∷ drop (suc i) xs) (sym is))
+
+-- a block from a statement of it on
+pub block_step : (ss : List Statement) (i : ℕ) (s : Statement) → i < length ss → s ≡ slice_index_or ss i s
+    → block_of (drop i ss) ≡ statement (tree_of s) (block_of (drop (i + 1) ss))
+block_step ss i s h here = ap (λ ts. block_of ts) (drop_first i ss s h here)
+
+-- a loop over statements: one more, and none
+pub statements_more : (f : FunctionText) → CanWrite f → (table next : List Standing) (level : ℕ) (items : List Statement) (i : ℕ) (item : Statement) → i < length items → item ≡ slice_index_or items i item → handles_of next ≡ after (naming f) 0 (statement_shape (tree_of item)) (handles_of table)
+    → block_text f table level (block_of (drop i items)) ≡ joined (statement_text f table level (tree_of item)) (block_text f next level (block_of (drop (i + 1) items)))
+statements_more f can table next level items i item lt at is =
+    ap (block_text f table level) (block_step items i item lt at) ∙ block_row f can table next level (tree_of item) (block_of (drop (i + 1) items)) is
+
+pub block_none : (f : FunctionText) (table : List Standing) (level : ℕ) (items : List Statement) (i : ℕ) → length items ≤ i → block_text f table level (block_of (drop i items)) ≡ []
+unfolding block_text
+block_none f table level items i past = ap (λ ss. block_text f table level (block_of ss)) (drop_all i items past)
+
+-- no handles are left
+pub lets_none : (f : FunctionText) (table : List Standing) (level index last : ℕ) → last ≤ index → lets_text f table level (from index (last - index)) ≡ []
+unfolding lets_text
+lets_none f table level index last past = ap (lets_text f table level) (range_none index last past)
+
+-- a block that fits, by its first statement and the others
+pub fits_parts : (types : List Type_) (known : List ExpressionInfo) (answer : Option FunctionResult) (b rest : BlockTree) (st : StatementTree) → IsTrue (block_fits types known answer b) → b ≡ statement st rest
+    → (statement_fits types known answer st ≡ true) × (block_fits types known answer rest ≡ true)
+fits_parts types known answer b rest st fit is =
+    and_parts (statement_fits types known answer st) (block_fits types known answer rest) (ap (λ (c : BlockTree). block_fits types known answer c) (sym is) ∙ fit)
+
+-- no other statement fits
+pub no_other_statement : (types : List Type_) (known : List ExpressionInfo) (answer : Option FunctionResult) (st : Statement) → statement_fits types known answer (tree_of st) ≡ true
+    → ((range : Range) → st ≡ Statement.Emit range → ⊥) → ((p v : ℕ) → st ≡ Statement.Store p v → ⊥) → ((value : Option ℕ) → st ≡ Statement.Return value → ⊥) → ⊥
+no_other_statement types known answer (Statement.Emit range) fit emits stores returns = emits range refl
+no_other_statement types known answer (Statement.Store p v) fit emits stores returns = stores p v refl
+no_other_statement types known answer (Statement.Return value) fit emits stores returns = returns value refl
+no_other_statement types known answer _ fit emits stores returns = absurd cc

@@ -1,0 +1,162 @@
+-- What is said of a type's spelling, for types that have a form.
+use Rattle.std.proofs.Common.{◌≡◌, ℕ, ◌<◌, true, false, codes, List, [], ◌∷◌, ◌++◌, Option, Some, None, refl, sym, ap, subst, ◌∙◌, ◌≤◌, arith, slice_get, length}
+use Rattle.std.specs.Prelude.{IsTrue, unwrap_or}
+use Rattle.std.specs.Option.{is_some, option_map}
+use Rattle.std.specs.List.{list_all}
+use Rattle.std.proofs.lemmas.Option.{slice_get_within}
+use Rattle.naga_enumerations.specs.declared.types.AddressSpace.{AddressSpace}
+use Rattle.naga_enumerations.specs.declared.types.AddressSpace.TheVariants as space
+use Rattle.naga_ir.specs.declared.types.Type_.{Type_}
+use Rattle.naga_ir.specs.declared.types.TypeInner.{TypeInner}
+use Rattle.naga_ir.specs.declared.types.TypeInner.TheVariants as inner
+use Rattle.accepted_modules.specs.Accepted.{is_scalar_type}
+use Rattle.naga_info.specs.Resolution.{inner_of}
+use Rattle.accepted_modules.specs.Types.{word_of_type, word_at, pointer_spelling, spelling, spelling_of}
+use Rattle.naga_info.proofs.Options.{map_some, then_some}
+use Rattle.accepted_modules.proofs.Accepting.{list_all_at}
+use Rattle.name_keys.specs.Keys.{NameMap, names_in}
+use Rattle.naga_info.specs.declared.info.TypeResolution.{TypeResolution}
+use Rattle.naga_info.specs.declared.info.TypeResolution.TheVariants as resolution
+use Rattle.spelling_parts.specs.Parts.{Part, Word, Shown, Missing, IsText, lacks, before_missing, known_text, HasWritten, HasBegun}
+use Rattle.type_spelling.specs.Contexts.{names_of, names_context}
+use Rattle.type_spelling.specs.Spelling.{Context, Fits, FitsResolution, IsInOrder, end_of_base, knows_override, type_parts, resolution_parts}
+use Rattle.spelling_parts.specs.Sink.{IsBehind}
+use Rattle.type_spelling.specs.Trees.{type_tree, resolution_tree}
+use Rattle.spelling_parts.specs.declared.sink.SinkError.TheVariants.{Failed, Memory as SinkMemory}
+use Rattle.spelling_parts.specs.declared.error.TypeTextError.{TypeTextError}
+use Rattle.spelling_parts.specs.declared.error.TypeTextError.TheVariants as type_error
+use Rattle.type_spelling.proofs.Forms.{only_text, lacks_unknown, type_row, inner_tree_row}
+use Rattle.wgsl_text.specs.Reading.{type_layout}
+use Rattle.wgsl_text.specs.Tree.{TypeSpecifier, Named}
+use Rattle.wgsl_text.proofs.RowText.{text-append}
+use Rattle.naga_form.specs.Names.{module_names}
+use Rattle.naga_form.proofs.WrittenTypes.{HasForm, word_has_form, resolution_has_form}
+use Rattle.spelling_parts.specs.declared.sink.SinkError.{SinkError}
+use Rattle.spelling_parts.specs.Output.{Follows, Goes, IsReason, Lies, Seen, Wrote, joined}
+use Rattle.naga_wgsl_fns.specs.declared.functions.FunctionText.{FunctionText}
+use Rattle.naga_wgsl_fns.specs.Types.{IsWantOf, annotation_text, has_word, resolution_text, type_text}
+
+some_is : {X : Type 0} (o : Option X) → IsTrue (is_some o) → (x : X) × (o ≡ Some x)
+some_is None has = absurd (cc)
+some_is (Some x) has = (x, refl)
+
+-- where each part is known, none is refused
+whole_word : (w : List ℕ) (ps : List Part) (t : List ℕ) (o : Option (List ℕ)) → known_text ps ≡ o → ((u : List ℕ) → known_text ps ≡ Some u → before_missing ps ≡ ps) → option_map (λ r. w ++ r) o ≡ Some t → before_missing (Word w ∷ ps) ≡ Word w ∷ ps
+whole_word w ps t None k same e = absurd (cc)
+whole_word w ps t (Some u) k same e = ap (λ qs. Word w ∷ qs) (same u k)
+
+known_whole : (ps : List Part) (t : List ℕ) → known_text ps ≡ Some t → before_missing ps ≡ ps
+known_whole [] t e = refl
+known_whole (Word w ∷ ps) t e = whole_word w ps t (known_text ps) refl (λ u k. known_whole ps u k) e
+known_whole (Shown ∷ ps) t e = absurd (cc)
+known_whole (Missing ∷ ps) t e = absurd (cc)
+
+-- a call that spells a type of known text to the sink of an output without a want
+module _ (ps : List Part) (t : List ℕ) (known : known_text ps ≡ Some t) (before after : Seen) (fresh : is_some before.want ≡ false) (same : after.sink ≡ before.sink) where
+  -- it writes what lies so behind what was held
+  lies_written : Lies before.held before.failures t after.held after.failures after.want → Wrote before after t
+  unfolding Goes
+  lies_written lies = record { goes = (by before.want fresh, same) }
+    where
+      by : (want : Option SinkError) → is_some want ≡ false → Follows want before t after
+      by None none = lies
+      by (Some want) none = absurd (cc)
+
+  -- the text was written
+  pub known_written : HasWritten ps before.held after.held → after.failures ≡ before.failures → after.want ≡ before.want → Wrote before after t
+  known_written w kept want =
+      lies_written
+      (subst (λ o. Lies before.held before.failures t after.held after.failures o) (sym (want ∙ none before.want fresh)) (w.behind ∙ ap (λ u. before.held ++ u) (only_text ps w.text t w.is_text known), kept))
+    where
+      none : (o : Option SinkError) → is_some o ≡ false → o ≡ None
+      none None is = refl
+      none (Some want) is = absurd (cc)
+
+  -- or a beginning of it, for want of memory or because the sink failed
+  pub known_begun : (e : TypeTextError) (want : SinkError) → after.want ≡ Some want → IsWantOf e want → HasBegun ps before.held after.held → (e ≡ type_error.Sink Failed → before.failures < after.failures) → Wrote before after t
+  known_begun e want is_want is begun failure =
+      lies_written
+      (subst (λ o. Lies before.held before.failures t after.held after.failures o) (sym is_want)
+      (subst (λ u. IsBehind before.held u after.held) (only_text ps begun.whole t (subst (λ qs. IsText qs begun.whole) (known_whole ps t known) begun.is_text) known) begun.behind, by e want is failure))
+    where
+      by : (e : TypeTextError) (want : SinkError) → IsWantOf e want → (e ≡ type_error.Sink Failed → before.failures < after.failures) → IsReason before.failures after.failures want
+      by (type_error.Sink Failed) want is failure = subst (IsReason before.failures after.failures) (sym is) (failure refl)
+      by (type_error.Sink (SinkMemory a)) want is failure = subst (IsReason before.failures after.failures) (sym is) tt
+      by (type_error.Memory a) want is failure = subst (IsReason before.failures after.failures) (sym is) tt
+      by type_error.NoForm want is failure = absurd is
+
+-- what is known lacks nothing
+pub lacks_nothing : (ps : List Part) (t : List ℕ) → known_text ps ≡ Some t → lacks ps ≡ true → ⊥
+lacks_nothing ps t known lack = let none : Some t ≡ None = sym known ∙ lacks_unknown ps lack in cc
+
+-- a type that is told
+pub annotation_row : (f : FunctionText) (ty : TypeResolution) → annotation_text f ty ≡ joined (codes ": ") (resolution_text f ty)
+unfolding annotation_text joined
+annotation_row f ty = refl
+
+module _ (types : List Type_) where
+  -- what is known of the spelling of a type that has a form, whatever its names are
+  known_of_tree : (names others : NameMap) (ps : List Part) (under : NameMap → Option TypeSpecifier) → known_text ps ≡ option_map type_layout (under names) → HasForm under → known_text ps ≡ Some (type_layout (unwrap_or (under others) (Named [])))
+  known_of_tree names others ps under row has = row ∙ ap (option_map type_layout) (has.is names) ∙ ap (λ x. Some (type_layout (unwrap_or x (Named [])))) (sym (has.is others))
+
+  row_of : (names : NameMap) (r : TypeResolution) → known_text (resolution_parts (names_context types names) r) ≡ option_map type_layout (resolution_tree (names_of types names) r)
+  row_of names (resolution.Handle h) = type_row text-append (names_of types names) (λ handle. true) h
+  row_of names (resolution.Value i) = inner_tree_row text-append (names_of types names) (λ handle. true) i
+
+  -- ---- what a context asks for
+  scalar_before : (i : TypeInner) (h : ℕ) → IsTrue (is_some (word_of_type i)) → end_of_base i ≤ h
+  scalar_before (inner.Scalar s) h is = omega arith
+  scalar_before _ h is = absurd (cc)
+
+  scalar_knows : (c : Context) (i : TypeInner) → IsTrue (is_some (word_of_type i)) → IsTrue (knows_override c i)
+  scalar_knows c (inner.Scalar s) is = refl
+  scalar_knows c _ is = absurd (cc)
+
+  pub in_order : (names : NameMap) → list_all is_scalar_type types ≡ true → IsInOrder (names_context types names)
+  in_order names scalars = record {
+    before = λ h t at. scalar_before t.inner h (list_all_at is_scalar_type types h t scalars at);
+    known = λ h t at. scalar_knows (names_context types names) t.inner (list_all_at is_scalar_type types h t scalars at);
+  }
+
+  word_within : (ty : ℕ) (w : List ℕ) → word_at types ty ≡ Some w → ty < length types
+  word_within ty w e = let k = then_some (λ t. word_of_type t.inner) (slice_get types ty) w e in slice_get_within types ty k.0 k.1
+
+  pub has_word_within : (ty : ℕ) → IsTrue (has_word types ty) → ty < length types
+  has_word_within ty has = let w = some_is (word_at types ty) has in word_within ty w.0 w.1
+
+  pointer_fits : (names : NameMap) (base : ℕ) (a : AddressSpace) (o : Option (List ℕ)) → word_at types base ≡ o → (w : List ℕ) → pointer_spelling a o ≡ Some w → Fits (names_context types names) (inner.Pointer base a)
+  pointer_fits names base space.Function None at w e = absurd (cc)
+  pointer_fits names base space.Function (Some x) at w e = let lt = word_within base x at in record { in_range = omega (arith, lt); knows = refl }
+  pointer_fits names base _ o at w e = absurd (cc)
+
+  inner_fits : (names : NameMap) (i : TypeInner) (w : List ℕ) → spelling types i ≡ Some w → Fits (names_context types names) i
+  inner_fits names (inner.Scalar s) w e = record { in_range = omega arith; knows = refl }
+  inner_fits names (inner.Pointer base a) w e = pointer_fits names base a (word_at types base) refl w e
+  inner_fits names _ w e = absurd (cc)
+
+  spelled_fits : (names : NameMap) (r : TypeResolution) (w : List ℕ) → spelling_of types r ≡ Some w → FitsResolution (names_context types names) r
+  spelled_fits names (resolution.Handle h) w e =
+      let i = then_some (spelling types) (inner_of (resolution.Handle h) types) w e in
+      let k = map_some (λ y. y.inner) (slice_get types h) i.0 i.1 in
+      slice_get_within types h k.0 k.1
+  spelled_fits names (resolution.Value i) w e = inner_fits names i w e
+
+  pub resolution_fits : (names : NameMap) (r : TypeResolution) → IsTrue (is_some (spelling_of types r)) → FitsResolution (names_context types names) r
+  resolution_fits names r has = let w = some_is (spelling_of types r) has in spelled_fits names r w.0 w.1
+
+-- ---- under the names of a function's module
+pub type_known : (f : FunctionText) (ty : ℕ) → IsTrue (has_word f.shader.now.types ty) → known_text (type_parts (names_context f.shader.now.types (names_in f.names.now)) ty) ≡ Some (type_text f ty)
+unfolding type_text
+type_known f ty has =
+    let types = f.shader.now.types in
+    let names = names_in f.names.now in
+    let w = some_is (word_at types ty) has in
+    known_of_tree types names (module_names f.shader.now) (type_parts (names_context types names) ty) (λ n. type_tree (names_of types n) ty) (type_row text-append (names_of types names) (λ handle. true) ty) (word_has_form types ty w.0 w.1)
+
+pub resolution_known : (f : FunctionText) → list_all is_scalar_type f.shader.now.types ≡ true → (r : TypeResolution) → IsTrue (is_some (spelling_of f.shader.now.types r)) → known_text (resolution_parts (names_context f.shader.now.types (names_in f.names.now)) r) ≡ Some (resolution_text f r)
+unfolding resolution_text
+resolution_known f scalars r has =
+    let types = f.shader.now.types in
+    let names = names_in f.names.now in
+    let w = some_is (spelling_of types r) has in
+    known_of_tree types names (module_names f.shader.now) (resolution_parts (names_context types names) r) (λ n. resolution_tree (names_of types n) r) (row_of types names r) (resolution_has_form types scalars r w.0 w.1)

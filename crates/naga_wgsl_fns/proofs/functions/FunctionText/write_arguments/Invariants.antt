@@ -1,0 +1,11 @@
+use Rattle.std.proofs.Common.{drop}
+use Rattle.spelling_parts.specs.Output.{seen}
+use Rattle.spelling_parts.proofs.Writing.{Leaves}
+use Rattle.naga_wgsl_fns.specs.Functions.{arguments_text}
+use Rattle.naga_wgsl_fns.proofs.FunctionRows.{arguments_left}
+use Rattle.naga_wgsl_fns.proofs.functions.FunctionText.write_arguments.Given as goal
+
+abbrev pub invariant-loop-number : goal.invariant-loop-number
+invariant-loop-number g l =
+    Leaves (seen g.W.TextSink.text g.W.TextSink.failures l.initial.out) (seen g.W.TextSink.text g.W.TextSink.failures l.out) (arguments_text l.self)
+    (arguments_left l.self l.number (drop l.number l.argument-items))

@@ -1,0 +1,8 @@
+use Rattle.spelling_parts.proofs.Writing.{writes_as, writes_then}
+use Rattle.naga_wgsl_fns.proofs.FunctionRows.{body_row}
+use Rattle.naga_wgsl_fns.proofs.functions.FunctionText.write_body.Goals as goal
+
+pub returns : goal.returns
+returns g c =
+    writes_as (body_row c.args.self.now c.args.scope.now c.requires.start)
+    (writes_then c.write_locals.ensures (writes_then c.write_block.ensures c.put.ensures))

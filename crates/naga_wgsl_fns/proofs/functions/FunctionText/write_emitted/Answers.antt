@@ -1,0 +1,17 @@
+use Rattle.std.proofs.Common.{Bool, [], sym, ap, ◌∙◌}
+use Rattle.std.specs.Prelude.{cond}
+use Rattle.spelling_parts.proofs.Writing.{writes_as, writes_nothing}
+use Rattle.naga_wgsl_fns.specs.Statements.{emitted_text, let_text}
+use Rattle.naga_wgsl_fns.proofs.functions.FunctionText.write_emitted.Goals as goal
+
+pub returns-then-binds : goal.returns-then-binds
+unfolding emitted_text
+returns-then-binds g c =
+    let self = c.args.self.now in
+    writes_as (ap (λ (b : Bool). cond b (let_text self c.args.scope.now c.args.level.0 c.args.handle) []) (sym c.if-binds.true ∙ c.binds.ensures self.shader.now.types)) c.write_let.ensures
+
+pub returns-else-binds : goal.returns-else-binds
+unfolding emitted_text
+returns-else-binds g c =
+    let self = c.args.self.now in
+    writes_as (ap (λ (b : Bool). cond b (let_text self c.args.scope.now c.args.level.0 c.args.handle) []) (sym c.if-binds.false ∙ c.binds.ensures self.shader.now.types)) (writes_nothing _)

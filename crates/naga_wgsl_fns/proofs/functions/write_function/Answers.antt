@@ -1,0 +1,41 @@
+use Rattle.std.proofs.Common.{◌≡◌, ◌<◌, ◌∙◌, arith, ap, length, subst, sym}
+use Rattle.accepted_modules.proofs.Accepting.{accepted_functions_fit, functions_fit_length}
+use Rattle.spelling_parts.proofs.Writing.{held_part_as, held_whole_as, reason_given, same_sink, writes_as}
+use Rattle.wgsl_pieces.specs.Errors.{IsWant}
+use Rattle.naga_wgsl_fns.proofs.FunctionRows.{can_write, reason_told, text_of_function_at}
+use Rattle.naga_wgsl_fns.proofs.functions.write_function.Goals as goal
+
+pub write_declaration-requires : goal.write_declaration-requires
+write_declaration-requires g c = can_write _ c.args.info.now c.requires.accepted c.requires.written c.requires.names c.index.ensures c.index-2.ensures
+
+pub index-requires-2 : goal.index-requires-2
+index-requires-2 g c =
+    let m = c.args.module.now in
+    let info = c.args.info.now in
+    let same = functions_fit_length m.types m.functions info.functions.items (accepted_functions_fit m info c.requires.accepted) in
+    let counted : length info.functions.items ≡ info.functions.len = sym info.functions.ok.0 in
+    subst (λ n. c.args.handle < n) (same ∙ counted) c.requires.handle
+
+pub returns-in-None-clause-text_ok : goal.returns-in-None-clause-text_ok
+returns-in-None-clause-text_ok g c =
+    let same : c.write_declaration.new.out.sink.ghost_name ≡ c.new-written.result.sink.ghost_name = same_sink _ _ _ c.write_declaration.ensures in
+    held_whole_as _ _ _ _ _ (grind arith) (grind arith)
+    (writes_as (sym (text_of_function_at _ c.args.info.now c.index.ensures c.index-2.ensures)) c.write_declaration.ensures)
+    c.new-written.ensures.want c.in-None.is
+
+pub returns-in-Some-clause-text_err : goal.returns-in-Some-clause-text_err
+returns-in-Some-clause-text_err g c =
+    let same : c.write_declaration.new.out.sink.ghost_name ≡ c.new-written.result.sink.ghost_name = same_sink _ _ _ c.write_declaration.ensures in
+    held_part_as _ _ _ _ _ _ (grind arith) (grind arith)
+    (writes_as (sym (text_of_function_at _ c.args.info.now c.index.ensures c.index-2.ensures)) c.write_declaration.ensures)
+    c.new-written.ensures.want c.in-Some.is
+
+pub returns-in-Some-clause-reason : goal.returns-in-Some-clause-reason
+returns-in-Some-clause-reason g c =
+    let same : c.write_declaration.new.out.sink.ghost_name ≡ c.new-written.result.sink.ghost_name = same_sink _ _ _ c.write_declaration.ensures in
+    let reason = reason_given _ _ _ c.in-Some.want c.write_declaration.ensures c.new-written.ensures.want c.in-Some.is in
+    let told = reason_told (g.W.TextSink.failures c.new-written.result.sink.now) (g.W.TextSink.failures c.write_declaration.new.out.sink.now) c.in-Some.want reason in
+    let before = ap (λ s. g.W.TextSink.failures s) c.new-written.ensures.held in
+    subst (λ n. IsWant (g.W.TextSink.failures c.args.out.now) n c.from.result) (grind arith)
+    (subst (λ n. IsWant n (g.W.TextSink.failures c.write_declaration.new.out.sink.now) c.from.result) before
+    (subst (λ e. IsWant (g.W.TextSink.failures c.new-written.result.sink.now) (g.W.TextSink.failures c.write_declaration.new.out.sink.now) e) (sym c.from.ensures) told))

@@ -1,0 +1,9 @@
+use Rattle.std.proofs.Common.{◌-◌}
+use Rattle.naga_back.specs.Indentation.{indentation}
+use Rattle.spelling_parts.specs.Output.{seen}
+use Rattle.spelling_parts.proofs.Writing.{Leaves}
+use Rattle.naga_wgsl_fns.proofs.statements.write_indentation.Given as goal
+
+abbrev pub invariant-loop-level : goal.invariant-loop-level
+invariant-loop-level g l =
+    Leaves (seen g.W.TextSink.text g.W.TextSink.failures l.initial.out) (seen g.W.TextSink.text g.W.TextSink.failures l.out) (indentation l.fn.level.0) (indentation (l.fn.level.0 - l._level))

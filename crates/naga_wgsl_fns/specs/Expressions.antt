@@ -1,0 +1,46 @@
+-- The texts of expressions, by the table of what is in scope where they are written.
+use Rattle.std.specs.Prelude.{ℕ, List, slice_get}
+use Rattle.naga_operators.specs.declared.BinaryOperator.{BinaryOperator}
+use Rattle.naga_form.specs.Form.{PlainForm, as_reference, as_value, own_if, plain_form}
+use Rattle.naga_form.specs.Operators.{operator_form}
+use Rattle.naga_scope.specs.declared.points.Standing.{Standing}
+use Rattle.naga_scope.specs.Standings.{handles_of}
+use Rattle.wgsl_text.specs.Tree.{AddressOf, Binary, Dereference, Expression, Name}
+use Rattle.wgsl_text.specs.Reading.{expression_layout}
+use Rattle.naga_wgsl_fns.specs.declared.functions.FunctionText.{FunctionText}
+use Rattle.naga_wgsl_fns.specs.FunctionText.{expressions, naming}
+
+-- the form of a handle
+abbrev pub form_at : FunctionText → (table : List Standing) → (handle : ℕ) → PlainForm
+form_at f table handle = plain_form (naming f) (expressions f) (handles_of table) handle
+
+-- the same whether it has a name or not
+abbrev pub own_form : FunctionText → (table : List Standing) → (handle : ℕ) → PlainForm
+own_form f table handle = own_if (naming f) (form_at f table) (slice_get (expressions f) handle)
+
+-- as a value: its name where it has one, else what it is made of
+unfoldable pub value_text : FunctionText → (table : List Standing) → (handle : ℕ) → List ℕ
+value_text f table handle = expression_layout (as_value (form_at f table handle))
+
+-- what it is made of
+unfoldable pub own_text : FunctionText → (table : List Standing) → (handle : ℕ) → List ℕ
+own_text f table handle = expression_layout (as_value (own_form f table handle))
+
+-- as a reference
+unfoldable pub reference_text : FunctionText → (table : List Standing) → (handle : ℕ) → List ℕ
+reference_text f table handle = expression_layout (as_reference (form_at f table handle))
+
+-- what its value points at
+unfoldable pub pointed_text : FunctionText → (table : List Standing) → (handle : ℕ) → List ℕ
+pointed_text f table handle = expression_layout (Dereference (as_value (form_at f table handle)))
+
+-- a pointer to a local
+unfoldable pub address_text : FunctionText → (local : ℕ) → List ℕ
+address_text f local = expression_layout (AddressOf (Name ((naming f).names.local_ local)))
+
+-- an operator between two operands
+unfoldable pub binary_text : FunctionText → (table : List Standing) → BinaryOperator
+    → (left right : ℕ) → List ℕ
+binary_text f table op left right =
+    let operand : ℕ → Expression = λ handle. as_value (form_at f table handle) in
+    expression_layout (Binary (operand left) (operator_form op) (operand right))

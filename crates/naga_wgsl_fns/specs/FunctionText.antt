@@ -1,0 +1,45 @@
+-- What the text of a function is made from, as the laws see it, and what it wants of its module.
+use Rattle.std.specs.Prelude.{◌≡◌, ℕ, Bool, List, Option, Some, IsTrue, slice_get, bit_and, ◌==◌}
+use Rattle.std.specs.List.{list_all}
+use Rattle.naga_ir.specs.declared.expression.Expression.{Expression}
+use Rattle.accepted_modules.specs.Accepted.{is_scalar_type, function_fits}
+use Rattle.accepted_modules.specs.Part.{function_is_written}
+use Rattle.name_keys.specs.Keys.{names_in}
+use Rattle.shader_runs.specs.Scope.{Naming}
+use Rattle.naga_form.specs.Names.{HasNamesOf, module_names}
+use Rattle.naga_form.specs.Shapes.{function_naming}
+use Rattle.naga_form.specs.Types.{told_type, type_names}
+use Rattle.type_spelling.specs.Trees.{Names as TypeNames}
+use Rattle.wgsl_text.specs.Tree.{TypeSpecifier}
+use Rattle.back_flags.specs.declared.flags.WriterFlags.{WriterFlags}
+use Rattle.naga_wgsl_fns.specs.declared.functions.FunctionText.{FunctionText}
+
+-- each `let` tells its type
+abbrev pub tells_types : WriterFlags → Bool
+tells_types flags = bit_and flags.0 1 == 1
+
+-- the function under its names
+abbrev pub naming : FunctionText → Naming
+naming f =
+    function_naming (module_names f.shader.now) f.shader.now.types f.handle f.function.now f.info.now
+
+-- its expressions
+abbrev pub expressions : FunctionText → List Expression
+expressions f = f.function.now.expressions
+
+-- the names by which its types are spelled
+abbrev pub type_names_of : FunctionText → TypeNames
+type_names_of f = type_names f.shader.now
+
+-- the type that the `let` of a handle tells, if it tells one
+abbrev pub told : FunctionText → (handle : ℕ) → Option TypeSpecifier
+told f handle = told_type (tells_types f.flags) (type_names f.shader.now) f.info.now handle
+
+-- It is a function of its module, accepted with what is known of it, one of those that are written
+-- so far, and has its names.
+pub record CanWrite (f : FunctionText) : Type 0 where
+  pub named : HasNamesOf f.shader.now (names_in f.names.now)
+  pub function : slice_get f.shader.now.functions f.handle ≡ Some f.function.now
+  pub scalars : IsTrue (list_all is_scalar_type f.shader.now.types)
+  pub fits : IsTrue (function_fits f.shader.now.types f.function.now f.info.now)
+  pub written : IsTrue (function_is_written f.function.now)

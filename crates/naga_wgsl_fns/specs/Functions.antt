@@ -1,0 +1,122 @@
+-- The text of a function and of its parts.
+use Rattle.std.specs.Prelude.{◌≡◌, ℕ, Bool, List, [], ◌∷◌, ◌++◌, Option, Some, codes, slice_get, unwrap_or, ◌==◌, if◌then◌else◌}
+use Rattle.std.specs.Option.{option_map, option_map_or}
+use Rattle.naga_ir.specs.declared.module.Function as ir
+use Rattle.naga_ir.specs.declared.module.FunctionArgument.{FunctionArgument}
+use Rattle.naga_ir.specs.declared.module.LocalVariable.{LocalVariable}
+use Rattle.naga_ir.specs.declared.module.Module.{Module}
+use Rattle.naga_info.specs.declared.info.ExpressionInfo.{ExpressionInfo}
+use Rattle.naga_info.specs.declared.info.ModuleInfo.{ModuleInfo}
+use Rattle.shader_runs.specs.Scope.{at_start}
+use Rattle.naga_form.specs.Names.{module_names}
+use Rattle.naga_form.specs.Form.{function_form, parameter_form, value_form}
+use Rattle.naga_form.specs.Types.{type_form}
+use Rattle.naga_scope.specs.declared.points.Standing.{Standing}
+use Rattle.naga_scope.specs.Standings.{handles_of}
+use Rattle.wgsl_text.specs.Declarations.{function_pieces, group_end, locals_pieces, parameter_pieces, parameters_pieces, result_pieces, value_pieces}
+use Rattle.wgsl_text.specs.Text.{text}
+use Rattle.wgsl_text.specs.Tree.{Expression, Function, Local}
+use Rattle.back_flags.specs.declared.flags.WriterFlags.{WriterFlags}
+use Rattle.naga_wgsl_fns.specs.declared.functions.FunctionText.{FunctionText}
+use Rattle.naga_wgsl_fns.specs.FunctionText.{expressions, naming, tells_types, type_names_of}
+use Rattle.naga_wgsl_fns.specs.Names.{name_of_function}
+use Rattle.naga_wgsl_fns.specs.Statements.{lines_text}
+use Rattle.naga_wgsl_fns.specs.Types.{type_text}
+
+-- what is known of the expressions of the function with this handle
+abbrev pub known_of : ModuleInfo → ℕ → List ExpressionInfo
+known_of info handle = unwrap_or (slice_get info.functions.items handle) []
+
+-- the text of a function of the module, with what is known of its expressions
+abbrev pub text_of : Module → WriterFlags → (handle : ℕ) → ir.Function → List ExpressionInfo → List ℕ
+text_of m flags handle f known =
+    let form = function_form (tells_types flags) (module_names m) m.types handle f known in
+    text (function_pieces form)
+
+-- the same of the module's function with this handle; nothing, where there is none
+abbrev pub text_of_function : Module → ModuleInfo → WriterFlags → (handle : ℕ) → List ℕ
+text_of_function m info flags handle =
+    option_map_or (λ f. text_of m flags handle f (known_of info handle)) (slice_get m.functions handle) []
+
+-- the form of a function
+abbrev pub form_of : FunctionText → Function
+form_of f =
+    let m = f.shader.now in
+    function_form (tells_types f.flags) (module_names m) m.types f.handle f.function.now f.info.now
+
+unfoldable pub function_text : FunctionText → List ℕ
+function_text f = text (function_pieces (form_of f))
+
+-- ---- the head
+unfoldable pub arguments_text : FunctionText → List ℕ
+arguments_text f = text (parameters_pieces (form_of f).parameters)
+
+unfoldable pub result_text : FunctionText → List ℕ
+result_text f = text (result_pieces (form_of f).result)
+
+-- up to the brace before the locals
+unfoldable pub head_text : FunctionText → List ℕ
+head_text f =
+    codes "fn " ++ (name_of_function f ++ (codes "(" ++
+    (arguments_text f ++ (result_text f ++ codes " {\n"))))
+
+-- the argument with this number
+unfoldable pub argument_text : FunctionText → (number : ℕ) → FunctionArgument → List ℕ
+argument_text f number argument =
+    let m = f.shader.now in
+    text (parameter_pieces (parameter_form (module_names m) m.types f.handle number argument))
+
+-- what stands before it
+abbrev pub separator : (number : ℕ) → List ℕ
+separator number = if number == 0 then [] else codes ", "
+
+unfoldable pub next_argument_text : FunctionText → (number : ℕ) → FunctionArgument → List ℕ
+next_argument_text f number argument = separator number ++ argument_text f number argument
+
+-- the type of what is returned
+unfoldable pub answer_text : FunctionText → (ty : ℕ) → List ℕ
+answer_text f ty = codes " -> " ++ type_text f ty
+
+-- ---- the body
+-- the table has what is in scope at the start
+abbrev pub StartsAt : FunctionText → (table : List Standing) → Type 0
+StartsAt f table = handles_of table ≡ at_start (naming f).function
+
+-- the locals, and an empty line behind them if there are any
+unfoldable pub locals_text : FunctionText → List ℕ
+locals_text f = text (locals_pieces (form_of f).locals) ++ text (group_end (form_of f).locals)
+
+-- that line, if a group has any
+unfoldable pub group_end_text : (is_empty : Bool) → List ℕ
+group_end_text is_empty = if is_empty then [] else codes "\n"
+
+-- what stands behind the head
+unfoldable pub body_text : FunctionText → List ℕ
+body_text f = locals_text f ++ (lines_text 1 (form_of f).body ++ codes "}\n")
+
+-- the first value of a local
+abbrev pub first_form : FunctionText → (value : ℕ) → Expression
+first_form f value = value_form (naming f) (expressions f) (at_start (naming f).function) value
+
+-- what stands behind a local's type
+unfoldable pub first_text : FunctionText → (value : Option ℕ) → List ℕ
+first_text f value = text (value_pieces (option_map (first_form f) value))
+
+-- the same where there is a first value
+unfoldable pub first_value_text : FunctionText → (value : ℕ) → List ℕ
+first_value_text f value = text (value_pieces (Some (first_form f value)))
+
+-- the local with this handle, if there is one
+abbrev pub local_form : FunctionText → (handle : ℕ) → LocalVariable → Local
+local_form f handle local = record {
+  name = (naming f).names.local_ handle;
+  type = type_form (type_names_of f) local.ty;
+  value = option_map (first_form f) local.init;
+}
+
+abbrev pub local_text_of : FunctionText → (handle : ℕ) → LocalVariable → List ℕ
+local_text_of f handle local = text (locals_pieces (local_form f handle local ∷ []))
+
+unfoldable pub local_text : FunctionText → (handle : ℕ) → List ℕ
+local_text f handle =
+    option_map_or (local_text_of f handle) (slice_get f.function.now.local_variables handle) []

@@ -1,0 +1,74 @@
+-- The texts of statements, by the level of their lines and the table of what is in scope before
+-- them.
+use Rattle.std.specs.Prelude.{ℕ, List, ◌++◌, Option, cond, []}
+use Rattle.naga_ir.specs.StatementTree.{BlockTree, StatementTree}
+use Rattle.naga_back.specs.Indentation.{indentation}
+use Rattle.shader_runs.specs.Program.{binds}
+use Rattle.shader_runs.specs.Scope.{bound_name}
+use Rattle.naga_form.specs.Form.{as_reference, as_value, let_form, lets_form, line_form, lines_form, return_line}
+use Rattle.naga_scope.specs.declared.points.Standing.{Standing}
+use Rattle.naga_scope.specs.Standings.{handles_of}
+use Rattle.wgsl_text.specs.Tree.{Assign, NoStatements, ReturnValue, Statement, Statements}
+use Rattle.wgsl_text.specs.Lines.{statement_pieces, statements_pieces}
+use Rattle.wgsl_text.specs.Text.{text}
+use Rattle.naga_wgsl_fns.specs.declared.functions.FunctionText.{FunctionText}
+use Rattle.naga_wgsl_fns.specs.FunctionText.{expressions, naming, told}
+use Rattle.naga_wgsl_fns.specs.Expressions.{form_at, own_form}
+
+-- a statement's lines
+abbrev pub line_text : (level : ℕ) → Statement → List ℕ
+line_text level statement = text (statement_pieces statement level)
+
+abbrev pub lines_text : (level : ℕ) → Statements → List ℕ
+lines_text level statements = text (statements_pieces statements level)
+
+-- the blanks before a line, and the word that it starts with
+unfoldable pub line_start : (level : ℕ) → (word : List ℕ) → List ℕ
+line_start level word = indentation level ++ word
+
+unfoldable pub store_text : FunctionText → (table : List Standing)
+    → (level pointer value : ℕ) → List ℕ
+store_text f table level pointer value =
+    line_text level (Assign (as_reference (form_at f table pointer)) (as_value (form_at f table value)))
+
+unfoldable pub return_text : FunctionText → (table : List Standing)
+    → (level : ℕ) (value : Option ℕ) → List ℕ
+return_text f table level value =
+    line_text level (return_line (naming f) (expressions f) (handles_of table) value)
+
+unfoldable pub return_value_text : FunctionText → (table : List Standing)
+    → (level value : ℕ) → List ℕ
+return_value_text f table level value =
+    line_text level (ReturnValue (as_value (form_at f table value)))
+
+-- the `let` of a handle
+abbrev pub let_line : FunctionText → (table : List Standing) → (handle : ℕ) → Statement
+let_line f table handle =
+    let_form (told f handle) (bound_name (naming f) 0 handle) (as_value (own_form f table handle))
+
+unfoldable pub let_text : FunctionText → (table : List Standing) → (level handle : ℕ) → List ℕ
+let_text f table level handle = line_text level (let_line f table handle)
+
+-- the same, if it is to be bound
+unfoldable pub emitted_text : FunctionText → (table : List Standing) → (level handle : ℕ) → List ℕ
+emitted_text f table level handle =
+    cond (binds (naming f).function handle) (let_text f table level handle) []
+
+-- the `let`s of these handles
+unfoldable pub lets_text : FunctionText → (table : List Standing) → (level : ℕ)
+    → (handles : List ℕ) → List ℕ
+lets_text f table level handles =
+    let rest = NoStatements in
+    lines_text level (lets_form (naming f) (told f) (expressions f) 0 handles (handles_of table) rest)
+
+-- a statement of a block
+unfoldable pub statement_text : FunctionText → (table : List Standing) → (level : ℕ)
+    → StatementTree → List ℕ
+statement_text f table level statement =
+    let rest = NoStatements in
+    lines_text level (line_form (naming f) (told f) (expressions f) 0 statement (handles_of table) rest)
+
+unfoldable pub block_text : FunctionText → (table : List Standing) → (level : ℕ)
+    → BlockTree → List ℕ
+block_text f table level block =
+    lines_text level (lines_form (naming f) (told f) (expressions f) 0 block (handles_of table))

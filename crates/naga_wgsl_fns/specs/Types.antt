@@ -1,0 +1,47 @@
+-- The texts of types.
+use Rattle.std.specs.Prelude.{◌≡◌, ℕ, Bool, List, [], ◌++◌, Option, Some, None, codes, unwrap_or}
+use Rattle.std.specs.Option.{is_some}
+use Rattle.naga_ir.specs.declared.types.Type_.{Type_}
+use Rattle.naga_info.specs.declared.info.TypeResolution.{TypeResolution}
+use Rattle.spelling_parts.specs.declared.error.TypeTextError.{TypeTextError}
+use Rattle.spelling_parts.specs.declared.error.TypeTextError.TheVariants as type_error
+use Rattle.spelling_parts.specs.declared.sink.SinkError.{SinkError}
+use Rattle.spelling_parts.specs.declared.sink.SinkError.TheVariants as sink_error
+use Rattle.accepted_modules.specs.Types.{word_at}
+use Rattle.naga_form.specs.Types.{type_form}
+use Rattle.type_spelling.specs.Trees.{resolution_tree}
+use Rattle.wgsl_text.specs.Tree.{TypeSpecifier, Named}
+use Rattle.wgsl_text.specs.Reading.{type_layout}
+use Rattle.naga_wgsl_fns.specs.declared.functions.FunctionText.{FunctionText}
+use Rattle.naga_wgsl_fns.specs.FunctionText.{told, type_names_of}
+
+-- Does the type have a word?
+abbrev pub has_word : List Type_ → ℕ → Bool
+has_word types ty = is_some (word_at types ty)
+
+-- the type with this handle
+unfoldable pub type_text : FunctionText → (ty : ℕ) → List ℕ
+type_text f ty = type_layout (type_form (type_names_of f) ty)
+
+-- the type of an expression
+unfoldable pub resolution_text : FunctionText → TypeResolution → List ℕ
+resolution_text f ty = type_layout (unwrap_or (resolution_tree (type_names_of f) ty) (Named []))
+
+-- what stands between a name and its `=`, where a type is told
+unfoldable pub annotation_text : FunctionText → TypeResolution → List ℕ
+annotation_text f ty = codes ": " ++ resolution_text f ty
+
+-- and where one may be
+abbrev pub told_type_text : Option TypeSpecifier → List ℕ
+told_type_text None = []
+told_type_text (Some ty) = codes ": " ++ type_layout ty
+
+-- the same in the `let` of a handle
+unfoldable pub told_text : FunctionText → (handle : ℕ) → List ℕ
+told_text f handle = told_type_text (told f handle)
+
+-- what was wanting, where a type that has a form was not written
+abbrev pub IsWantOf : TypeTextError → SinkError → Type 0
+IsWantOf (type_error.Sink reason) want = want ≡ reason
+IsWantOf (type_error.Memory error) want = want ≡ sink_error.Memory error
+IsWantOf type_error.NoForm want = ⊥

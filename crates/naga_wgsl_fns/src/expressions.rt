@@ -1,0 +1,141 @@
+//! Expressions.
+
+ghost use Rattle.std.specs.Prelude.{◌<◌, length};
+ghost use Rattle.spelling_parts.specs.Output.{Writes};
+ghost use Rattle.naga_wgsl_fns.specs.FunctionText.{CanWrite};
+ghost use Rattle.naga_wgsl_fns.specs.Expressions.{address_text, binary_text, own_text, pointed_text, reference_text, value_text};
+
+use crate::functions::FunctionText;
+use crate::names::write_bound_name;
+use naga_back::binary_operation_str;
+use naga_ir::{BinaryOperator, Expression, Handle, LocalVariable};
+use naga_scope::{Scope, Standing};
+use spelling_parts::{Output, TextSink};
+use wgsl_pieces::literal::write_literal;
+
+impl FunctionText<'_> {
+    /// An expression as a value: its name where it has one here, else what it is made of. A reference
+    /// is written with `&`.
+    #[cycle(expression)]
+    #[tactic(auto, using(crate::proofs::ExpressionRows::value_row))]
+    pub(crate) fn write_value<W: TextSink>(
+        &self,
+        scope: &Scope,
+        handle: Handle<Expression>,
+        out: &mut Output<'_, W>,
+    )
+        requires can { CanWrite self.now }
+        requires handle { handle < length self.now.function.now.expressions }
+        ensures { Writes W.text W.failures out.old out.new (value_text self.now scope.now handle) }
+    {
+        match scope.standing(handle) {
+            Standing::Named => write_bound_name(handle, out),
+            _ => self.write_own(scope, handle, out),
+        }
+    }
+
+    /// What an expression is made of, as a value, whether it has a name or not.
+    #[cycle(expression)]
+    #[tactic(auto, using(crate::proofs::ExpressionRows::own_row))]
+    pub(crate) fn write_own<W: TextSink>(
+        &self,
+        scope: &Scope,
+        handle: Handle<Expression>,
+        out: &mut Output<'_, W>,
+    )
+        requires can { CanWrite self.now }
+        requires handle { handle < length self.now.function.now.expressions }
+        ensures { Writes W.text W.failures out.old out.new (own_text self.now scope.now handle) }
+    {
+        match &self.function.expressions[handle] {
+            Expression::Literal(literal) => write_literal(*literal, out),
+            Expression::FunctionArgument(number) => self.write_argument_name(*number, out),
+            Expression::LocalVariable(local) => self.write_address(*local, out),
+            Expression::Load { pointer } => self.write_reference(scope, *pointer, out),
+            Expression::Binary { op, left, right } => {
+                self.write_binary(scope, *op, *left, *right, out)
+            }
+            _ => unreachable!(),
+        }
+    }
+
+    /// An expression as a reference: a local's name, or a value with `*`.
+    #[cycle(expression)]
+    #[tactic(auto, using(crate::proofs::ExpressionRows::reference_row))]
+    pub(crate) fn write_reference<W: TextSink>(
+        &self,
+        scope: &Scope,
+        handle: Handle<Expression>,
+        out: &mut Output<'_, W>,
+    )
+        requires can { CanWrite self.now }
+        requires handle { handle < length self.now.function.now.expressions }
+        ensures { Writes W.text W.failures out.old out.new
+            (reference_text self.now scope.now handle) }
+    {
+        match scope.standing(handle) {
+            Standing::Named => self.write_dereference(scope, handle, out),
+            _ => match &self.function.expressions[handle] {
+                Expression::LocalVariable(local) => self.write_local_name(*local, out),
+                _ => self.write_dereference(scope, handle, out),
+            },
+        }
+    }
+
+    /// What the value of an expression points at.
+    #[cycle(expression)]
+    #[tactic(auto, using(spelling_parts::proofs::Writing::writes_then, crate::proofs::ExpressionRows::pointed_row))]
+    fn write_dereference<W: TextSink>(
+        &self,
+        scope: &Scope,
+        handle: Handle<Expression>,
+        out: &mut Output<'_, W>,
+    )
+        requires can { CanWrite self.now }
+        requires handle { handle < length self.now.function.now.expressions }
+        ensures { Writes W.text W.failures out.old out.new
+            (pointed_text self.now scope.now handle) }
+    {
+        out.put("(*");
+        self.write_value(scope, handle, out);
+        out.put(")");
+    }
+
+    /// An operator between its operands.
+    #[cycle(expression)]
+    #[tactic(auto, using(spelling_parts::proofs::Writing::writes_then, crate::proofs::ExpressionRows::binary_row))]
+    fn write_binary<W: TextSink>(
+        &self,
+        scope: &Scope,
+        op: BinaryOperator,
+        left: Handle<Expression>,
+        right: Handle<Expression>,
+        out: &mut Output<'_, W>,
+    )
+        requires can { CanWrite self.now }
+        requires left { left < length self.now.function.now.expressions }
+        requires right { right < length self.now.function.now.expressions }
+        ensures { Writes W.text W.failures out.old out.new
+            (binary_text self.now scope.now op left right) }
+    {
+        out.put("(");
+        self.write_value(scope, left, out);
+        out.put(" ");
+        out.put(binary_operation_str(op));
+        out.put(" ");
+        self.write_value(scope, right, out);
+        out.put(")");
+    }
+
+    /// A pointer to a local.
+    #[tactic(auto, using(spelling_parts::proofs::Writing::writes_then, crate::proofs::ExpressionRows::address_row))]
+    fn write_address<W: TextSink>(&self, local: Handle<LocalVariable>, out: &mut Output<'_, W>)
+        requires can { CanWrite self.now }
+        requires local { local < length self.now.function.now.local_variables }
+        ensures { Writes W.text W.failures out.old out.new (address_text self.now local) }
+    {
+        out.put("(&");
+        self.write_local_name(local, out);
+        out.put(")");
+    }
+}

@@ -1,0 +1,271 @@
+//! Functions.
+
+ghost use Rattle.std.specs.Prelude.{◌≡◌, ◌<◌, ◌++◌, IfErr, IsTrue, OnErr, OnOk, Some, length, slice_get};
+ghost use Rattle.accepted_modules.specs.Accepted.{is_accepted, is_below};
+ghost use Rattle.accepted_modules.specs.Part.{is_written_so_far};
+ghost use Rattle.naga_form.specs.Names.{HasNamesOf};
+ghost use Rattle.name_keys.specs.Keys.{names_in};
+ghost use Rattle.spelling_parts.specs.Output.{Writes};
+ghost use Rattle.spelling_parts.specs.Sink.{IsBehind};
+ghost use Rattle.wgsl_pieces.specs.Errors.{IsWant};
+ghost use Rattle.naga_wgsl_fns.specs.FunctionText.{CanWrite};
+ghost use Rattle.naga_wgsl_fns.specs.Types.{has_word};
+ghost use Rattle.naga_wgsl_fns.specs.Functions.{StartsAt, answer_text, argument_text, arguments_text, body_text, first_text, first_value_text, function_text, group_end_text, head_text, local_text, locals_text, next_argument_text, result_text, separator, text_of_function};
+
+use back_flags::WriterFlags;
+use naga_back::Level;
+use naga_info::{FunctionInfo, ModuleInfo};
+use naga_ir::{
+    Expression, Function, FunctionArgument, Handle, LocalVariable, Module, Place, Type_,
+};
+use naga_scope::Scope;
+use name_keys::NameKey;
+use spelling_parts::{Output, TextSink};
+use std::alloc::Global;
+use std::collections::HashMap;
+use wgsl_pieces::Error;
+
+/// Writes the declaration of a function, with the line end behind its last line: the function, its
+/// arguments and its locals under their names in `names`, which has them all.
+///
+/// The module is accepted with what is known of it, and is one of those that are written so far.
+/// Where the call gives up, for want of memory or because the sink failed, a beginning of the text
+/// stands behind what the sink held. What is used out of scope is not looked for here.
+#[tactic(auto, using(spelling_parts::proofs::Writing::fresh_output))]
+pub fn write_function<W: TextSink>(
+    alloc: Global,
+    module: &Module,
+    info: &ModuleInfo,
+    names: &HashMap<NameKey, String>,
+    flags: WriterFlags,
+    handle: Handle<Function>,
+    out: &mut W,
+) -> Result<(), Error>
+    requires accepted { IsTrue (is_accepted «module».now info.now) }
+    requires written { IsTrue (is_written_so_far «module».now) }
+    requires handle { handle < length «module».now.functions }
+    requires names { HasNamesOf «module».now (names_in names.now) }
+    ensures text_ok { OnOk result (W.text out.new
+        ≡ W.text out.old ++ text_of_function «module».now info.now flags handle) }
+    ensures text_err { OnErr result (IsBehind (W.text out.old)
+        (text_of_function «module».now info.now flags handle) (W.text out.new)) }
+    ensures failures_ok { OnOk result (W.failures out.new ≡ W.failures out.old) }
+    ensures reason { IfErr result (IsWant (W.failures out.old) (W.failures out.new)) }
+{
+    let text = FunctionText {
+        shader: module,
+        names,
+        flags,
+        handle,
+        function: &module.functions[handle],
+        info: &info[handle],
+    };
+    let mut written = Output::new(out);
+    text.write_declaration(alloc, &mut written);
+    match written.want {
+        None => Ok(()),
+        Some(want) => Err(Error::from(want)),
+    }
+}
+
+/// What the text of a function is made from.
+#[derive(Clone, Copy)]
+pub(crate) struct FunctionText<'a> {
+    pub(crate) shader: &'a Module,
+    pub(crate) names: &'a HashMap<NameKey, String>,
+    pub(crate) flags: WriterFlags,
+    pub(crate) handle: Handle<Function>,
+    pub(crate) function: &'a Function,
+    pub(crate) info: &'a FunctionInfo,
+}
+
+impl FunctionText<'_> {
+    #[tactic(auto, using(spelling_parts::proofs::Writing::writes_then, crate::proofs::FunctionRows::function_row))]
+    fn write_declaration<W: TextSink>(&self, alloc: Global, out: &mut Output<'_, W>)
+        requires { CanWrite self.now }
+        ensures { Writes W.text W.failures out.old out.new (function_text self.now) }
+    {
+        self.write_head(alloc, out);
+        match Scope::start(alloc, self.function) {
+            Ok(mut scope) => self.write_body(alloc, &mut scope, out),
+            Err(error) => out.remember(error),
+        }
+    }
+
+    /// What stands before the locals.
+    #[tactic(auto, using(spelling_parts::proofs::Writing::writes_then, crate::proofs::FunctionRows::head_row))]
+    fn write_head<W: TextSink>(&self, alloc: Global, out: &mut Output<'_, W>)
+        requires { CanWrite self.now }
+        ensures { Writes W.text W.failures out.old out.new (head_text self.now) }
+    {
+        out.put("fn ");
+        self.write_function_name(out);
+        out.put("(");
+        self.write_arguments(alloc, out);
+        self.write_result(alloc, out);
+        out.put(" {\n");
+    }
+
+    /// The arguments, and the parenthesis behind the last.
+    #[tactic(auto, using(spelling_parts::proofs::Writing::loop_writes))]
+    fn write_arguments<W: TextSink>(&self, alloc: Global, out: &mut Output<'_, W>)
+        requires { CanWrite self.now }
+        ensures { Writes W.text W.failures out.old out.new (arguments_text self.now) }
+    {
+        for (number, argument) in self.function.arguments.iter().enumerate() {
+            self.write_next_argument(alloc, number, argument, out);
+        }
+        out.put(")");
+    }
+
+    /// An argument, and what stands between it and the one before.
+    #[tactic(auto, using(spelling_parts::proofs::Writing::writes_then, crate::proofs::FunctionRows::next_argument_row))]
+    fn write_next_argument<W: TextSink>(
+        &self,
+        alloc: Global,
+        number: usize,
+        argument: &FunctionArgument,
+        out: &mut Output<'_, W>,
+    )
+        requires can { CanWrite self.now }
+        requires argument { slice_get self.now.function.now.arguments.items number
+            ≡ Some argument.now }
+        ensures { Writes W.text W.failures out.old out.new
+            (next_argument_text self.now number argument.now) }
+    {
+        out.put(if number == 0 { "" } else { ", " });
+        self.write_argument(alloc, number, argument, out);
+    }
+
+    #[tactic(auto, using(spelling_parts::proofs::Writing::writes_then, crate::proofs::FunctionRows::argument_row))]
+    fn write_argument<W: TextSink>(
+        &self,
+        alloc: Global,
+        number: usize,
+        argument: &FunctionArgument,
+        out: &mut Output<'_, W>,
+    )
+        requires can { CanWrite self.now }
+        requires argument { slice_get self.now.function.now.arguments.items number
+            ≡ Some argument.now }
+        ensures { Writes W.text W.failures out.old out.new
+            (argument_text self.now number argument.now) }
+    {
+        self.write_argument_name(number as u32, out);
+        out.put(": ");
+        self.write_type(alloc, argument.ty, out);
+    }
+
+    #[tactic(auto, using(spelling_parts::proofs::Writing::writes_nothing, crate::proofs::FunctionRows::result_row))]
+    fn write_result<W: TextSink>(&self, alloc: Global, out: &mut Output<'_, W>)
+        requires { CanWrite self.now }
+        ensures { Writes W.text W.failures out.old out.new (result_text self.now) }
+    {
+        match &self.function.result {
+            Some(answer) => self.write_answer(alloc, answer.ty, out),
+            None => {}
+        }
+    }
+
+    /// The type of what is returned.
+    #[tactic(auto, using(spelling_parts::proofs::Writing::writes_then, crate::proofs::FunctionRows::answer_row))]
+    fn write_answer<W: TextSink>(&self, alloc: Global, ty: Handle<Type_>, out: &mut Output<'_, W>)
+        requires can { CanWrite self.now }
+        requires word { IsTrue (has_word self.now.shader.now.types ty) }
+        ensures { Writes W.text W.failures out.old out.new (answer_text self.now ty) }
+    {
+        out.put(" -> ");
+        self.write_type(alloc, ty, out);
+    }
+
+    /// What stands behind the head. `scope` is what is in scope at the start.
+    #[tactic(auto, using(spelling_parts::proofs::Writing::writes_then, crate::proofs::FunctionRows::body_row))]
+    fn write_body<W: TextSink>(&self, alloc: Global, scope: &mut Scope, out: &mut Output<'_, W>)
+        requires can { CanWrite self.now }
+        requires start { StartsAt self.now scope.old }
+        requires size { length scope.old ≡ length self.now.function.now.expressions }
+        ensures { Writes W.text W.failures out.old out.new (body_text self.now) }
+    {
+        self.write_locals(alloc, scope, out);
+        self.write_block(alloc, Level(1), &self.function.body, scope, out);
+        out.put("}\n");
+    }
+
+    /// The locals, and an empty line behind them if there are any.
+    #[tactic(auto, using(spelling_parts::proofs::Writing::loop_writes))]
+    fn write_locals<W: TextSink>(&self, alloc: Global, scope: &Scope, out: &mut Output<'_, W>)
+        requires can { CanWrite self.now }
+        requires start { StartsAt self.now scope.now }
+        ensures { Writes W.text W.failures out.old out.new (locals_text self.now) }
+    {
+        for index in 0..self.function.local_variables.len() {
+            self.write_local(alloc, scope, Place::from_index(index), out);
+        }
+        write_group_end(self.function.local_variables.is_empty(), out);
+    }
+
+    #[tactic(auto, using(spelling_parts::proofs::Writing::writes_then, crate::proofs::FunctionRows::local_row))]
+    fn write_local<W: TextSink>(
+        &self,
+        alloc: Global,
+        scope: &Scope,
+        handle: Handle<LocalVariable>,
+        out: &mut Output<'_, W>,
+    )
+        requires can { CanWrite self.now }
+        requires start { StartsAt self.now scope.now }
+        requires local { handle < length self.now.function.now.local_variables }
+        ensures { Writes W.text W.failures out.old out.new (local_text self.now handle) }
+    {
+        let local = &self.function.local_variables[handle];
+        out.put("    var ");
+        self.write_local_name(handle, out);
+        out.put(": ");
+        self.write_type(alloc, local.ty, out);
+        self.write_first_value(scope, local.init, out);
+    }
+
+    /// What stands behind the type of a local.
+    #[tactic(auto, using(crate::proofs::FunctionRows::first_row))]
+    fn write_first_value<W: TextSink>(
+        &self,
+        scope: &Scope,
+        value: Option<Handle<Expression>>,
+        out: &mut Output<'_, W>,
+    )
+        requires can { CanWrite self.now }
+        requires start { StartsAt self.now scope.now }
+        requires value { IsTrue (is_below (length self.now.function.now.expressions) value) }
+        ensures { Writes W.text W.failures out.old out.new (first_text self.now value) }
+    {
+        match value {
+            Some(value) => self.write_first(scope, value, out),
+            None => out.put(";\n"),
+        }
+    }
+
+    #[tactic(auto, using(spelling_parts::proofs::Writing::writes_then, crate::proofs::FunctionRows::first_value_row))]
+    fn write_first<W: TextSink>(
+        &self,
+        scope: &Scope,
+        value: Handle<Expression>,
+        out: &mut Output<'_, W>,
+    )
+        requires can { CanWrite self.now }
+        requires start { StartsAt self.now scope.now }
+        requires value { value < length self.now.function.now.expressions }
+        ensures { Writes W.text W.failures out.old out.new (first_value_text self.now value) }
+    {
+        out.put(" = ");
+        self.write_value(scope, value, out);
+        out.put(";\n");
+    }
+}
+
+/// The empty line behind a group, unless there is nothing in it.
+#[tactic(auto, unfolding(crate::specs::Functions::group_end_text))]
+fn write_group_end<W: TextSink>(is_empty: bool, out: &mut Output<'_, W>)
+    ensures { Writes W.text W.failures out.old out.new (group_end_text is_empty) }
+{
+    out.put(if is_empty { "" } else { "\n" });
+}

@@ -1,0 +1,74 @@
+//! Names, of which a function's module has a text for each key.
+
+ghost use Rattle.std.specs.Prelude.{◌≡◌, ◌<◌, Some, length};
+ghost use Rattle.naga_form.specs.Names.{module_names, name_in, numbered_name};
+ghost use Rattle.name_keys.specs.Keys.{names_in};
+ghost use Rattle.spelling_parts.specs.Output.{Writes};
+ghost use Rattle.naga_wgsl_fns.specs.FunctionText.{CanWrite};
+ghost use Rattle.naga_wgsl_fns.specs.Names.{name_of_argument, name_of_function, name_of_local};
+
+use crate::functions::FunctionText;
+use itoa::Buffer;
+use naga_ir::{Expression, Handle, LocalVariable};
+use name_keys::NameKey;
+use spelling_parts::{Output, TextSink};
+
+// A key is large, and stands in the frames of these functions alone: the writing of nested operands
+// has none.
+impl FunctionText<'_> {
+    /// The name of the function itself.
+    #[tactic(auto, unfolding(crate::specs::Names::name_of_function))]
+    pub(crate) fn write_function_name<W: TextSink>(&self, out: &mut Output<'_, W>)
+        requires { CanWrite self.now }
+        ensures { Writes W.text W.failures out.old out.new (name_of_function self.now) }
+    {
+        self.write_name(&NameKey::Function(self.handle), out);
+    }
+
+    #[inline(never)]
+    #[tactic(auto, unfolding(crate::specs::Names::name_of_argument))]
+    pub(crate) fn write_argument_name<W: TextSink>(&self, number: u32, out: &mut Output<'_, W>)
+        requires can { CanWrite self.now }
+        requires argument { number < length self.now.function.now.arguments.items }
+        ensures { Writes W.text W.failures out.old out.new (name_of_argument self.now number) }
+    {
+        self.write_name(&NameKey::FunctionArgument(self.handle, number), out);
+    }
+
+    #[inline(never)]
+    #[tactic(auto, unfolding(crate::specs::Names::name_of_local))]
+    pub(crate) fn write_local_name<W: TextSink>(
+        &self,
+        local: Handle<LocalVariable>,
+        out: &mut Output<'_, W>,
+    )
+        requires can { CanWrite self.now }
+        requires local { local < length self.now.function.now.local_variables }
+        ensures { Writes W.text W.failures out.old out.new (name_of_local self.now local) }
+    {
+        self.write_name(&NameKey::FunctionLocal(self.handle, local), out);
+    }
+
+    fn write_name<W: TextSink>(&self, key: &NameKey, out: &mut Output<'_, W>)
+        requires { names_in self.now.names.now key.now
+            ≡ Some (name_in (module_names self.now.shader.now) key.now) }
+        ensures { Writes W.text W.failures out.old out.new
+            (name_in (module_names self.now.shader.now) key.now) }
+    {
+        match self.names.get(key) {
+            Some(name) => out.put(name),
+            None => unreachable!(),
+        }
+    }
+}
+
+/// The name of an expression that a `let` binds.
+#[inline(never)]
+#[tactic(auto, using(spelling_parts::proofs::Writing::writes_then, crate::proofs::NameRows::bound_row))]
+pub(crate) fn write_bound_name<W: TextSink>(handle: Handle<Expression>, out: &mut Output<'_, W>)
+    ensures { Writes W.text W.failures out.old out.new (numbered_name handle) }
+{
+    let mut digits = Buffer::new();
+    out.put("_e");
+    out.put(digits.format(handle.index()));
+}

@@ -1,0 +1,226 @@
+//! Blocks and statements.
+
+ghost use Rattle.std.specs.Prelude.{◌≡◌, ◌<◌, ◌-◌, ◌≤◌, IsTrue, length};
+ghost use Rattle.accepted_modules.specs.Accepted.{block_fits, is_below, statement_fits};
+ghost use Rattle.naga_back.specs.Indentation.{indentation};
+ghost use Rattle.naga_form.specs.Shapes.{statement_shape};
+ghost use Rattle.naga_ir.specs.StatementViews.{tree_of};
+ghost use Rattle.naga_scope.specs.Standings.{handles_of};
+ghost use Rattle.shader_runs.specs.Program.{from};
+ghost use Rattle.shader_runs.specs.Scope.{after, after_emit};
+ghost use Rattle.spelling_parts.specs.Output.{Writes};
+ghost use Rattle.naga_wgsl_fns.specs.FunctionText.{CanWrite, naming};
+ghost use Rattle.naga_wgsl_fns.specs.Statements.{block_text, emitted_text, let_text, lets_text, line_start, return_text, return_value_text, statement_text, store_text};
+
+use crate::functions::FunctionText;
+use crate::names::write_bound_name;
+use naga_back::{INDENT, Level};
+use naga_ir::{Block, Expression, Handle, Place, Range, Statement};
+use naga_scope::{Scope, binds};
+use spelling_parts::{Output, TextSink};
+use std::alloc::Global;
+
+impl FunctionText<'_> {
+    /// The statements in order. `scope` is what is in scope before the first.
+    #[tactic(auto, using(spelling_parts::proofs::Writing::loop_writes, crate::proofs::StatementRows::block_none))]
+    pub(crate) fn write_block<W: TextSink>(
+        &self,
+        alloc: Global,
+        level: Level,
+        block: &Block,
+        scope: &mut Scope,
+        out: &mut Output<'_, W>,
+    )
+        requires can { CanWrite self.now }
+        requires size { length scope.old ≡ length self.now.function.now.expressions }
+        requires fits { IsTrue (block_fits self.now.shader.now.types self.now.info.now
+            self.now.function.now.result block.now) }
+        ensures { Writes W.text W.failures out.old out.new
+            (block_text self.now scope.old level.0 block.now) }
+    {
+        for statement in block.as_slice() {
+            if out.is_wanting() {
+                return;
+            }
+            self.write_statement(alloc, level, statement, scope, out);
+        }
+    }
+
+    /// A statement. Behind the call, `scope` is what is in scope behind it.
+    #[tactic(auto, using(crate::proofs::StatementRows::statement_row))]
+    fn write_statement<W: TextSink>(
+        &self,
+        alloc: Global,
+        level: Level,
+        statement: &Statement,
+        scope: &mut Scope,
+        out: &mut Output<'_, W>,
+    )
+        requires can { CanWrite self.now }
+        requires size { length scope.old ≡ length self.now.function.now.expressions }
+        requires fits { IsTrue (statement_fits self.now.shader.now.types self.now.info.now
+            self.now.function.now.result (tree_of statement.now)) }
+        ensures lines { Writes W.text W.failures out.old out.new
+            (statement_text self.now scope.old level.0 (tree_of statement.now)) }
+        ensures after { handles_of scope.new
+            ≡ after (naming self.now) 0 (statement_shape (tree_of statement.now))
+            (handles_of scope.old) }
+        ensures size { length scope.new ≡ length scope.old }
+    {
+        match statement {
+            Statement::Emit(range) => self.write_emit(alloc, level, *range, scope, out),
+            Statement::Store { pointer, value } => {
+                self.write_store(level, scope, *pointer, *value, out)
+            }
+            Statement::Return { value } => self.write_return(level, scope, *value, out),
+            _ => unreachable!(),
+        }
+    }
+
+    /// A `let` for each of these expressions that is to be bound. Behind the call, `scope` is what is in
+    /// scope behind the `Emit`.
+    #[tactic(auto, using(spelling_parts::proofs::Writing::loop_writes))]
+    fn write_emit<W: TextSink>(
+        &self,
+        alloc: Global,
+        level: Level,
+        range: Range,
+        scope: &mut Scope,
+        out: &mut Output<'_, W>,
+    )
+        requires can { CanWrite self.now }
+        requires size { length scope.old ≡ length self.now.function.now.expressions }
+        requires range { range.end ≤ length self.now.function.now.expressions }
+        ensures lets { Writes W.text W.failures out.old out.new
+            (lets_text self.now scope.old level.0 (from range.first (range.end - range.first))) }
+        ensures after { handles_of scope.new
+            ≡ after_emit (naming self.now) 0 (from range.first (range.end - range.first))
+            (handles_of scope.old) }
+        ensures size { length scope.new ≡ length scope.old }
+    {
+        for index in range.first..range.end {
+            let handle = Place::from_index(index);
+            self.write_emitted(alloc, level, scope, handle, out);
+            scope.emit(self.function, self.info, handle);
+        }
+    }
+
+    /// The `let` of an expression, if it is to be bound.
+    #[tactic(auto, using(spelling_parts::proofs::Writing::writes_nothing), unfolding(crate::specs::Statements::emitted_text))]
+    fn write_emitted<W: TextSink>(
+        &self,
+        alloc: Global,
+        level: Level,
+        scope: &Scope,
+        handle: Handle<Expression>,
+        out: &mut Output<'_, W>,
+    )
+        requires can { CanWrite self.now }
+        requires handle { handle < length self.now.function.now.expressions }
+        ensures { Writes W.text W.failures out.old out.new
+            (emitted_text self.now scope.now level.0 handle) }
+    {
+        if binds(self.function, self.info, handle) {
+            self.write_let(alloc, level, scope, handle, out);
+        }
+    }
+
+    #[tactic(auto, using(spelling_parts::proofs::Writing::writes_then, crate::proofs::StatementRows::let_row))]
+    fn write_let<W: TextSink>(
+        &self,
+        alloc: Global,
+        level: Level,
+        scope: &Scope,
+        handle: Handle<Expression>,
+        out: &mut Output<'_, W>,
+    )
+        requires can { CanWrite self.now }
+        requires handle { handle < length self.now.function.now.expressions }
+        ensures { Writes W.text W.failures out.old out.new
+            (let_text self.now scope.now level.0 handle) }
+    {
+        write_line_start(level, "let ", out);
+        write_bound_name(handle, out);
+        self.write_told_type(alloc, handle, out);
+        out.put(" = ");
+        self.write_own(scope, handle, out);
+        out.put(";\n");
+    }
+
+    #[tactic(auto, using(spelling_parts::proofs::Writing::writes_then, crate::proofs::StatementRows::store_row))]
+    fn write_store<W: TextSink>(
+        &self,
+        level: Level,
+        scope: &Scope,
+        pointer: Handle<Expression>,
+        value: Handle<Expression>,
+        out: &mut Output<'_, W>,
+    )
+        requires can { CanWrite self.now }
+        requires pointer { pointer < length self.now.function.now.expressions }
+        requires value { value < length self.now.function.now.expressions }
+        ensures { Writes W.text W.failures out.old out.new
+            (store_text self.now scope.now level.0 pointer value) }
+    {
+        write_line_start(level, "", out);
+        self.write_reference(scope, pointer, out);
+        out.put(" = ");
+        self.write_value(scope, value, out);
+        out.put(";\n");
+    }
+
+    #[tactic(auto, using(crate::proofs::StatementRows::return_row))]
+    fn write_return<W: TextSink>(
+        &self,
+        level: Level,
+        scope: &Scope,
+        value: Option<Handle<Expression>>,
+        out: &mut Output<'_, W>,
+    )
+        requires can { CanWrite self.now }
+        requires value { IsTrue (is_below (length self.now.function.now.expressions) value) }
+        ensures { Writes W.text W.failures out.old out.new
+            (return_text self.now scope.now level.0 value) }
+    {
+        match value {
+            Some(value) => self.write_return_value(level, scope, value, out),
+            None => write_line_start(level, "return;\n", out),
+        }
+    }
+
+    #[tactic(auto, using(spelling_parts::proofs::Writing::writes_then, crate::proofs::StatementRows::return_value_row))]
+    fn write_return_value<W: TextSink>(
+        &self,
+        level: Level,
+        scope: &Scope,
+        value: Handle<Expression>,
+        out: &mut Output<'_, W>,
+    )
+        requires can { CanWrite self.now }
+        requires value { value < length self.now.function.now.expressions }
+        ensures { Writes W.text W.failures out.old out.new
+            (return_value_text self.now scope.now level.0 value) }
+    {
+        write_line_start(level, "return ", out);
+        self.write_value(scope, value, out);
+        out.put(";\n");
+    }
+}
+
+/// The blanks before a line, and what it starts with.
+#[tactic(auto, using(spelling_parts::proofs::Writing::writes_then, crate::proofs::StatementRows::line_start_row))]
+fn write_line_start<W: TextSink>(level: Level, word: &str, out: &mut Output<'_, W>)
+    ensures { Writes W.text W.failures out.old out.new (line_start level.0 word.now) }
+{
+    write_indentation(level, out);
+    out.put(word);
+}
+
+#[tactic(auto, using(spelling_parts::proofs::Writing::loop_writes, crate::proofs::StatementRows::indentation_more, crate::proofs::StatementRows::indentation_none))]
+fn write_indentation<W: TextSink>(level: Level, out: &mut Output<'_, W>)
+    ensures { Writes W.text W.failures out.old out.new (indentation level.0) }
+{
+    for _level in 0..level.0 {
+        out.put(INDENT);
+    }
+}
