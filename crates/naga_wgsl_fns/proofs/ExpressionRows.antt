@@ -8,7 +8,8 @@ use Rattle.naga_operators.specs.declared.BinaryOperator.TheVariants as operator
 use Rattle.shader_runs.specs.Program.{operands_of}
 use Rattle.shader_runs.specs.Premises.{AllBelow}
 use Rattle.shader_runs.specs.Scope.{Handles, Naming}
-use Rattle.naga_back.specs.Operators.{operator_text}
+use Rattle.wgsl_words.specs.Words.{operator_text}
+use Rattle.naga_form.proofs.Operators.{operator_row}
 use Rattle.naga_form.specs.Names.{numbered_name}
 use Rattle.naga_form.specs.Operators.{operator_form}
 use Rattle.naga_form.specs.Shapes.{expression_shape, OperandsStandBefore}
@@ -35,7 +36,7 @@ module _ (n : Naming) (es : List ir.Expression) (before : OperandsStandBefore es
   own_same : (a b : ℕ → PlainForm) (h : ℕ) (e : ir.Expression) → AllBelow h (operands_of (Some (expression_shape e))) → ((x : ℕ) → x < h → a x ≡ b x) → own_plain n a e ≡ own_plain n b e
   own_same a b h (expression.Load p) below same = ap (λ q. ValueForm (as_reference q)) (same p below.0)
   own_same a b h (expression.Binary op l r) below same =
-      let two = subst (AllBelow h) (operator_operands (operator_form op) l r) below in
+      let two = subst (AllBelow h) (operator_operands op l r) below in
       λ i. ValueForm (Binary (as_value (same l two.0 i)) (operator_form op) (as_value (same r two.1.0 i)))
   own_same a b h _ below same = refl
 
@@ -60,27 +61,6 @@ module _ (n : Naming) (es : List ir.Expression) (before : OperandsStandBefore es
           ap (standing_plain (s h)) (own_if_same (plain_below n es s k) (plain_below n es s (suc k)) h (slice_get es h) refl (λ x x_lt. below_same k (suc k) x (omega (arith, x_lt, lt)) (omega (arith, x_lt, lt))))
 
 -- ---- rows
--- the sign of an operator
-pub operator_row : (op : ir_operator.BinaryOperator) → operator_text op ≡ text (binary_pieces (operator_form op))
-operator_row operator.Add = refl
-operator_row operator.Subtract = refl
-operator_row operator.Multiply = refl
-operator_row operator.Divide = refl
-operator_row operator.Modulo = refl
-operator_row operator.Equal = refl
-operator_row operator.NotEqual = refl
-operator_row operator.Less = refl
-operator_row operator.LessEqual = refl
-operator_row operator.Greater = refl
-operator_row operator.GreaterEqual = refl
-operator_row operator.And = refl
-operator_row operator.ExclusiveOr = refl
-operator_row operator.InclusiveOr = refl
-operator_row operator.LogicalAnd = refl
-operator_row operator.LogicalOr = refl
-operator_row operator.ShiftLeft = refl
-operator_row operator.ShiftRight = refl
-
 -- a handle's form, by its cell in the table
 cell_form : (f : FunctionText) (table : List Standing) (handle : ℕ) → CanWrite f → handle < length (expressions f)
     → plain_form (naming f) (expressions f) (handles_of table) handle ≡ standing_plain (standing_of (numbered_name handle) (get_or table handle Absent)) (own_form f table handle)
