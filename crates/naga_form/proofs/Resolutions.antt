@@ -19,7 +19,8 @@ use Rattle.accepted_modules.proofs.Accepting.{accepted_functions_fit, function_f
 use Rattle.name_keys.specs.Keys.{NameMap}
 use Rattle.shader_runs.specs.Program.{expression_of}
 use Rattle.shader_runs.specs.Scope.{Naming}
-use Rattle.shader_runs.specs.Resolution.{LeafStands, LeavesStand, text_targets}
+use Rattle.shader_runs.specs.Resolution.{text_targets}
+use Rattle.shader_runs.specs.Identifiers.{LeafStands, LeavesStand}
 use Rattle.shader_runs.proofs.Resolution.{resolves_as_meant}
 use Rattle.shader_runs.proofs.Update.{and_left, and_right}
 use Rattle.naga_form.specs.Names.{NamesAreCounted, module_names}

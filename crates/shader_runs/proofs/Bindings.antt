@@ -7,7 +7,8 @@ use Rattle.shader_runs.specs.ProgramRun.{barrier_words}
 use Rattle.shader_runs.specs.Scope.{Handles, Naming, bound_name, at_start, given_after, given_by, given_by_all, after_one, after, after_all}
 use Rattle.shader_runs.specs.Text.{Tree, Trees, Lines, before}
 use Rattle.shader_runs.specs.Form.{value_form, value_forms, own_form, written, let_if, lets, word_of, act_line, perform_each, form, form_all, form_cases, form_functions}
-use Rattle.shader_runs.specs.Bindings.{lines_lets, groups_lets, Binding, emit_bindings, result_bindings, statement_bindings, statements_bindings, cases_bindings, bound_names, BindsAsMeant}
+use Rattle.shader_runs.specs.Bindings.{lines_lets, groups_lets, Binding, emit_bindings, result_bindings, statement_bindings, statements_bindings, cases_bindings, bound_names}
+use Rattle.shader_runs.specs.Identifiers.{BindsAsMeant}
 
 -- the names of handles that are bound
 abbrev names_of : List Binding → List Bytes

@@ -11,7 +11,8 @@ use Rattle.shader_runs.specs.Text.{Tree, Lines, before}
 use Rattle.shader_runs.specs.Form.{value_form, value_forms, own_form, written, value_if, let_if, lets, word_of, act_line, perform_each, form, form_all, form_cases, names_from, variables_from, constants_from, globals_from, functions_of, form_function, form_functions, form_module}
 use Rattle.shader_runs.specs.Premises.{FixedName, ArgumentName, LocalName, ConstantName, GlobalName, FixedKey, fixed_name, IsFixedName, IsNoName, EachAsks, WordFits, LeafFits, ActionFits, IsRegular, AreRegular, CasesAreRegular, AreDistinct, FunctionFits, AllFit, InitialiserFits, OperatesOutside, ModuleNamesAreDistinct}
 use Rattle.shader_runs.specs.Correct.{ModuleFits}
-use Rattle.shader_runs.specs.Resolution.{Target, ConstantTarget, GlobalTarget, FunctionTarget, ArgumentTarget, LocalTarget, LetTarget, Lookup, word_target, tree_targets, trees_targets, tree_targets_if, lets_behind_all, names_left, lines_targets, groups_targets, with_items, with_functions, text_names, variables_targets, text_function_targets, constant_targets, operands_targets, own_targets, LetNumbers, value_targets, value_targets_if, lets_after, numbers_after, lets_after_all, lets_after_result, lets_by, lets_by_all, numbers_by, numbers_left, emit_targets, action_targets, statement_targets, statements_targets, cases_targets, no_numbers, first_values_targets, function_targets, LeafStands, LeavesStand, ResolvesAsMeant}
+use Rattle.shader_runs.specs.Resolution.{Target, ConstantTarget, GlobalTarget, FunctionTarget, ArgumentTarget, LocalTarget, LetTarget, Lookup, word_target, tree_targets, trees_targets, tree_targets_if, lets_behind_all, names_left, lines_targets, groups_targets, with_items, with_functions, text_names, variables_targets, text_function_targets, constant_targets, operands_targets, own_targets, LetNumbers, value_targets, value_targets_if, lets_after, numbers_after, lets_after_all, lets_after_result, lets_by, lets_by_all, numbers_by, numbers_left, emit_targets, action_targets, statement_targets, statements_targets, cases_targets, no_numbers, first_values_targets, function_targets}
+use Rattle.shader_runs.specs.Identifiers.{LeafStands, LeavesStand, ResolvesAsMeant}
 use Rattle.shader_runs.proofs.Update.{and_left, and_right, bind_other, bind_cases}
 use Rattle.shader_runs.proofs.Names.{length-functions_of}
 use Rattle.shader_runs.proofs.Sources.{given_all_more, list_more, cases_more, start_sources}

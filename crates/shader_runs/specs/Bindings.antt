@@ -1,11 +1,10 @@
 -- Which `let`s a text has, and which handles a module binds by them. Throughout, k names were given
 -- by front ends before a point.
-use Rattle.std.specs.Prelude.{◌≡◌, ℕ, true, false, cond, List, [], ◌∷◌, ◌++◌, map, Option, Some, None}
+use Rattle.std.specs.Prelude.{ℕ, true, false, cond, List, [], ◌∷◌, ◌++◌, map, Option, Some, None}
 use Rattle.shader_runs.specs.Value.{Bytes}
-use Rattle.shader_runs.specs.Program.{Statement, Emit, Block, If, Switch, Loop, Act, Statements, end, then, Cases, no_case, case, binds, from, Module}
-use Rattle.shader_runs.specs.Scope.{ModuleNames, Names, Naming, bound_name, given_after, given_by, given_by_all}
+use Rattle.shader_runs.specs.Program.{Statement, Emit, Block, If, Switch, Loop, Act, Statements, end, then, Cases, no_case, case, binds, from}
+use Rattle.shader_runs.specs.Scope.{Names, Naming, bound_name, given_after, given_by, given_by_all}
 use Rattle.shader_runs.specs.Text.{Line, Let, Braces, IfElse, SwitchOn, LoopOf, Lines, last, before, Groups, no_group, group, TextModule}
-use Rattle.shader_runs.specs.Form.{form_module}
 
 -- the names of the `let`s of a line, in their order
 abbrev mutual
@@ -78,9 +77,3 @@ function_bindings f = statements_bindings f 0 f.function.body
 -- the names that a function's `let`s have
 abbrev pub bound_names : Naming → List Bytes
 bound_names f = map (λ b. b.name) (function_bindings f)
-
--- the text of every module has these `let`s and no others
-abbrev pub BindsAsMeant : Type 0
-BindsAsMeant =
-    (p : Module) (n : ModuleNames) (fs : List Naming) →
-    text_lets (form_module p n fs) ≡ map bound_names fs

@@ -2,15 +2,13 @@
 -- where it stands, and inner names hide outer ones. Throughout, of a point of a function: k names
 -- were given by front ends before it, l `let`s of the body stand before it, s are the handles in
 -- scope there, and a handle that has a name is bound by the `let` with its number.
-use Rattle.std.specs.Prelude.{◌≡◌, ℕ, zero, suc, ◌<◌, true, false, cond, List, [], ◌∷◌, ◌++◌, map, length, Option, Some, None}
+use Rattle.std.specs.Prelude.{ℕ, zero, suc, true, false, cond, List, [], ◌∷◌, ◌++◌, map, length, Option, Some, None}
 use Rattle.shader_runs.specs.Value.{Bytes}
 use Rattle.shader_runs.specs.World.{update, bind}
-use Rattle.shader_runs.specs.Program.{ConstantTree, Fixed, NamedConstant, Constructed, ConstantTrees, no_constant, constant, Expression, Constant, Argument, Local, Global, Load, Operator, Access, AccessIndex, Logical, Swizzle, Request, Action, Asked, Called, Statement, Emit, Store, Block, If, Switch, Loop, Return, Act, Statements, end, then, Cases, no_case, case, Function, argument_count, local_count, expression_of, binds, from, holds_continue, Module}
-use Rattle.shader_runs.specs.Scope.{Standing, Named, Handles, ModuleNames, Naming, at_start, given_after, given_by, given_by_all, after_one, after, after_all}
+use Rattle.shader_runs.specs.Program.{ConstantTree, Fixed, NamedConstant, Constructed, ConstantTrees, no_constant, constant, Expression, Constant, Argument, Local, Global, Load, Operator, Access, AccessIndex, Logical, Swizzle, Request, Action, Asked, Called, Statement, Emit, Store, Block, If, Switch, Loop, Return, Act, Statements, end, then, Cases, no_case, case, Function, expression_of, binds, from, holds_continue, Module}
+use Rattle.shader_runs.specs.Scope.{Standing, Named, Handles, Naming, at_start, given_after, given_by, given_by_all, after_one, after, after_all}
 use Rattle.shader_runs.specs.Text.{Tree, Name, LiteralOf, Apply, Deref, AddressOf, Index, PartOf, LogicalOf, Trees, no_more, more, Line, Let, Assign, Braces, IfElse, SwitchOn, LoopOf, ReturnLine, Perform, Lines, last, before, Groups, no_group, group, Variable, TextFunction, TextModule}
 use Rattle.shader_runs.specs.TextRun.{has_continue}
-use Rattle.shader_runs.specs.Form.{form_module}
-use Rattle.shader_runs.specs.Correct.{ModuleFits}
 
 -- what a name stands for: an item of the module, or an argument, a variable or a `let` of the
 -- function where it stands; a named constant or override by its number among both, a function by
@@ -350,23 +348,3 @@ function_targets f =
 -- first.
 abbrev pub module_targets : Module → List Naming → List (List Target)
 module_targets p fs = map constant_targets p.initialisers ++ map function_targets fs
-
--- ---- the law
--- an argument or a variable that an expression names is one of the function
-abbrev pub LeafStands : Function → Option Expression → Type 0
-LeafStands f (Some (Argument i)) = i < argument_count f
-LeafStands f (Some (Local i)) = i < local_count f
-LeafStands f _ = Unit {0}
-
--- those of each function
-abbrev pub LeavesStand : List Naming → Type 0
-LeavesStand [] = Unit {0}
-LeavesStand (f ∷ fs) =
-    ((h : ℕ) → LeafStands f.function (expression_of f.function h)) × LeavesStand fs
-
--- in the text of every module whose scope holds, each identifier stands for what the module means
--- by it
-abbrev pub ResolvesAsMeant : Type 0
-ResolvesAsMeant =
-    (p : Module) (n : ModuleNames) (fs : List Naming) → ModuleFits p n fs → LeavesStand fs →
-    text_targets (form_module p n fs) ≡ map (map Some) (module_targets p fs)

@@ -2,8 +2,7 @@
 #![tactic(auto)]
 
 ghost use Rattle.shader_runs.specs.Correct.{RunsAlike, HasTypedMeaning, HasTypedWorld, ConstantsAreComputed};
-ghost use Rattle.shader_runs.specs.Bindings.{BindsAsMeant};
-ghost use Rattle.shader_runs.specs.Resolution.{ResolvesAsMeant};
+ghost use Rattle.shader_runs.specs.Identifiers.{BindsAsMeant, ResolvesAsMeant};
 ghost use Rattle.shader_runs.specs.Ends.{EndsArePassed};
 ghost use Rattle.shader_runs.specs.Points.{PointsAgree};
 ghost use Rattle.shader_runs.specs.Progress.{RunsAreNotStuck};

@@ -1,0 +1,33 @@
+-- The laws of the identifiers in the text that is written for a module.
+use Rattle.std.specs.Prelude.{◌≡◌, ℕ, ◌<◌, List, [], ◌∷◌, map, Option, Some}
+use Rattle.shader_runs.specs.Program.{Expression, Argument, Local, Function, argument_count, local_count, expression_of, Module}
+use Rattle.shader_runs.specs.Scope.{ModuleNames, Naming}
+use Rattle.shader_runs.specs.Form.{form_module}
+use Rattle.shader_runs.specs.Correct.{ModuleFits}
+use Rattle.shader_runs.specs.Resolution.{text_targets, module_targets}
+use Rattle.shader_runs.specs.Bindings.{text_lets, bound_names}
+
+-- an argument or a variable that an expression names is one of the function
+abbrev pub LeafStands : Function → Option Expression → Type 0
+LeafStands f (Some (Argument i)) = i < argument_count f
+LeafStands f (Some (Local i)) = i < local_count f
+LeafStands f _ = Unit {0}
+
+-- those of each function
+abbrev pub LeavesStand : List Naming → Type 0
+LeavesStand [] = Unit {0}
+LeavesStand (f ∷ fs) =
+    ((h : ℕ) → LeafStands f.function (expression_of f.function h)) × LeavesStand fs
+
+-- in the text of every module whose scope holds, each identifier stands for what the module means
+-- by it
+abbrev pub ResolvesAsMeant : Type 0
+ResolvesAsMeant =
+    (p : Module) (n : ModuleNames) (fs : List Naming) → ModuleFits p n fs → LeavesStand fs →
+    text_targets (form_module p n fs) ≡ map (map Some) (module_targets p fs)
+
+-- the text of every module has these `let`s and no others
+abbrev pub BindsAsMeant : Type 0
+BindsAsMeant =
+    (p : Module) (n : ModuleNames) (fs : List Naming) →
+    text_lets (form_module p n fs) ≡ map bound_names fs
