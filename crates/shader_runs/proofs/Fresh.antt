@@ -41,10 +41,7 @@ unbound_named false Absent x e = absurd (no_name e)
   where
     no_name : Barred ≡ Named x → ⊥
     no_name e = cc
-unbound_named false Barred x e = e
-unbound_named false Everywhere x e = e
-unbound_named false Inline x e = e
-unbound_named false (Named y) x e = e
+unbound_named false _ x e = e
 
 fixed_numbered : (y : FixedName) (h : ℕ) → FixedKey y ≡ NumberedKey h → ⊥
 fixed_numbered y h e = cc
