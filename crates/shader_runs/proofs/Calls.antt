@@ -8,7 +8,7 @@ use Rattle.std.specs.Prelude.{IsTrue}
 use Rattle.shader_runs.specs.Value.{Bytes, same_bytes, PartTypes, ValueType, has_types, Value}
 use Rattle.shader_runs.specs.World.{Event, Entry, entries, World, Meaning, Environment, bind, Settings}
 use Rattle.shader_runs.specs.Outcome.{Stuck, Reached, Gives, Halts, answer, reach}
-use Rattle.shader_runs.specs.Program.{ConstantTree, Fixed, NamedConstant, Constructed, ConstantTrees, no_constant, constant, Expression, Constant, Operator, Request, Function, argument_count, local_count, function_numbered, expression_of, handle_type, operands_of, from, Statement, Emit, Store, Block, If, Switch, Loop, Break, Continue, Return, Kill, Barrier, Act, Statements, end, then, Cases, no_case, case, Module, any_continue}
+use Rattle.shader_runs.specs.Program.{ConstantTree, Fixed, NamedConstant, Constructed, ConstantTrees, no_constant, constant, Expression, Constant, Operator, Request, Function, argument_count, local_count, function_numbered, expression_of, handle_type, operands_of, from, Statement, Emit, Block, If, Switch, Loop, Statements, end, then, Cases, no_case, case, Module, any_continue}
 use Rattle.shader_runs.specs.ProgramRun.{Call, Kept, constants_kept, called, used_value, with_first, first_used, first_used_all, entered, run_all, run_body, run_call}
 use Rattle.shader_runs.specs.TextRun.{Scope, Words, WordUse, NamesFunction, AsksForEvent, Operates, value_of, with_parameters, with_variables, with_globals, no_names, respond_by_use, word_use, put_first, first_followed, first_then, first_of_each, entered_by, follow_all, follow_body, follow_call}
 use Rattle.shader_runs.specs.Scope.{ModuleNames, Naming, usable, usable_if, given_after, given_after_all, given_by, given_by_all, given_by_cases, at_start, before_local, first_values_fit, fits_all, after_all}
@@ -128,13 +128,7 @@ module _ (p : Module) (f : Naming) (i : ℕ) where
     given_statement (Switch x cases) k = given_cases cases k
     given_statement (Loop b d e) k =
         ap (given_by_all (before f i).function d) (given_list b k) ∙ given_list d (given_by_all f.function b k)
-    given_statement (Store x y) k = refl
-    given_statement Break k = refl
-    given_statement Continue k = refl
-    given_statement (Return x) k = refl
-    given_statement Kill k = refl
-    given_statement (Barrier bits) k = refl
-    given_statement (Act a xs r) k = refl
+    given_statement _ k = refl
 
     given_list : (ss : Statements) (k : ℕ) → given_by_all (before f i).function ss k ≡ given_by_all f.function ss k
     given_list end k = refl

@@ -218,10 +218,7 @@ module _ (p : Module) (c : Call) (n : Names) (d : Respond) (given : Given p c n 
 pub unbound_present : (u : Bool) (st : Standing) → IsTrue (is_present st) → IsTrue (is_present (unbound u st))
 unbound_present true st p = refl
 unbound_present false Absent p = absurd (true≢false (sym p))
-unbound_present false Barred p = p
-unbound_present false Everywhere p = p
-unbound_present false Inline p = p
-unbound_present false (Named x) p = p
+unbound_present false _ p = p
 
 pub extends_one : (c : Call) (n : Names) (k h : ℕ) (s : Handles) → Extends s (after_one (naming c n) k h s)
 extends_one c n k h s = go (binds c.function h) (is_pure e) (usable_all c.function s (operands_of e))

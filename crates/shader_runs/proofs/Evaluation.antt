@@ -1,7 +1,7 @@
 -- What a text's expression gives where it makes no event, by its parts.
 use Rattle.std.proofs.Common.{◌≡◌, ℕ, Bool, true, false, cond, List, [], ◌∷◌, Option, Some, None, refl, sym, ap, ◌∙◌, true≢false, ℤ, option_map, subst}
 use Rattle.std.specs.Prelude.{IsTrue}
-use Rattle.shader_runs.specs.Value.{Bytes, PartTypes, Part, At, Selector, MemberNamed, step_of, ValueType, BooleanType, IntegerType, PointerType, OtherType, has_type, has_types, Value, Truth, Whole, Pointer, Spelled, PartWord, IndexWord, ShortCircuit, truth_in, integer_in, place_in, Place, type_of}
+use Rattle.shader_runs.specs.Value.{Bytes, PartTypes, Part, At, Selector, MemberNamed, step_of, ValueType, PointerType, has_type, has_types, Value, Truth, Whole, Pointer, Spelled, PartWord, IndexWord, ShortCircuit, truth_in, integer_in, place_in, Place, type_of}
 use Rattle.shader_runs.specs.World.{Event, Ask, World, Meaning}
 use Rattle.shader_runs.specs.Outcome.{Reached, Gives, reach, unless}
 use Rattle.shader_runs.specs.Program.{Module, Function, function_numbered, Expression}
@@ -184,10 +184,8 @@ module _ (c : Call) (d : Respond) (names : Scope) where
 
   pub access_means : (k : ValueType) (b i : Plain) (x y v : Value) → Means c d names b (Some x) → Means c d names i (Some y) → IsTrue (has_type c.environment.parts k x) → index_value_of c.meaning x y ≡ Some v → Means c d names (access_form k b i) (Some v)
   access_means (PointerType s) b i x y v mb mi h e = index_place s b i x y v mb mi h e
-  access_means BooleanType b i x y v mb mi h e = index_means b i x y v mb mi (typed_not_pointer c.environment.parts BooleanType x refl h) e
-  access_means (IntegerType s) b i x y v mb mi h e =
-      index_means b i x y v mb mi (typed_not_pointer c.environment.parts (IntegerType s) x refl h) e
-  access_means (OtherType s) b i x y v mb mi h e = index_means b i x y v mb mi (typed_not_pointer c.environment.parts (OtherType s) x refl h) e
+  access_means k b i x y v mb mi h e =
+      index_means b i x y v mb mi (typed_not_pointer c.environment.parts k x refl h) e
 
   part_place : (pt : Bytes) (x : Selector) (b : Plain) (y v : Value) → Means c d names b (Some y) → IsTrue (has_type c.environment.parts (PointerType pt) y) → part_value c.meaning x y ≡ Some v → Means c d names (AsPlace (PartOf x (place_form b))) (Some v)
   part_place pt x b y v mb h e =
@@ -200,18 +198,14 @@ module _ (c : Call) (d : Respond) (names : Scope) where
 
   pub part_means : (k : ValueType) (x : Selector) (b : Plain) (y v : Value) → Means c d names b (Some y) → IsTrue (has_type c.environment.parts k y) → part_value c.meaning x y ≡ Some v → Means c d names (part_form k x b) (Some v)
   part_means (PointerType s) x b y v mb h e = part_place s x b y v mb h e
-  part_means BooleanType x b y v mb h e = part_value_means x b y v mb (typed_not_pointer c.environment.parts BooleanType y refl h) e
-  part_means (IntegerType s) x b y v mb h e = part_value_means x b y v mb (typed_not_pointer c.environment.parts (IntegerType s) y refl h) e
-  part_means (OtherType s) x b y v mb h e = part_value_means x b y v mb (typed_not_pointer c.environment.parts (OtherType s) y refl h) e
+  part_means k x b y v mb h e = part_value_means x b y v mb (typed_not_pointer c.environment.parts k y refl h) e
 
   swizzled_value : (letters : Bytes) (y v : Value) → place_in y ≡ None → swizzle_value c.meaning letters y ≡ Some v → part_value c.meaning (MemberNamed letters) y ≡ Some v
   swizzled_value letters y v h e = part_value_is c.meaning (MemberNamed letters) y h ∙ e
 
   no_pointer_type : (k : ValueType) → IsNoPointer k → IsTrue (not_pointer_type k)
-  no_pointer_type BooleanType n = refl
-  no_pointer_type (IntegerType s) n = refl
-  no_pointer_type (OtherType s) n = refl
   no_pointer_type (PointerType s) n = absurd n
+  no_pointer_type k n = refl
 
   pub swizzle_means : (k : ValueType) (letters : Bytes) (b : Plain) (y v : Value) → Means c d names b (Some y) → IsNoPointer k → IsTrue (has_type c.environment.parts k y) → swizzle_value c.meaning letters y ≡ Some v → Means c d names (AsValue (PartOf (MemberNamed letters) (value_form b))) (Some v)
   swizzle_means k letters b y v mb n h e =

@@ -332,15 +332,12 @@ module _ (p : Module) (c : Call) (n : Names) (d : Respond) (given : Given p c n 
     usable_inline (Some (Argument i)) st u = u
     usable_inline (Some (Local i)) st u = u
     usable_inline (Some (Global i)) st u = u
-    usable_inline None st u = u
     usable_inline (Some _) st u = refl
+    usable_inline None st u = u
 
     usable_barred : (e : Option Expression) → IsTrue (usable_as c.function e Barred) → IsTrue (usable_as c.function e Absent)
-    usable_barred (Some (Constant e)) u = u
-    usable_barred (Some (Argument i)) u = u
-    usable_barred (Some (Local i)) u = u
-    usable_barred (Some (Global i)) u = u
     usable_barred None u = u
+    usable_barred (Some (Constant e)) u = u
     usable_barred (Some _) u = u
 
     own_means : (k : ValueType) (e : Option Expression) → WordFits p (naming c n) e → LeafFits p c.function k e → (o : Option Value) (st : Standing) → Stands c s names kept k e o st → IsTrue (usable_as c.function e st) → (IsTrue (usable_all c.function s (operands_of e)) → AllMean c d names kept operand (operands_of e)) → Means c d names (standing_form st (own_form (naming c n) operand k e)) (used_value_as c e o)

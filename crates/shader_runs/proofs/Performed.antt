@@ -3,7 +3,7 @@ use Rattle.std.proofs.Common.{◌≡◌, ℕ, zero, suc, Bool, true, false, cond
 use Rattle.shader_runs.specs.Value.{Bytes, PartTypes, ValueType, has_type, Value, truth_in, integer_in, place_in}
 use Rattle.shader_runs.specs.World.{Event, Entry, Ask, Read, Write, entries, World, Meaning, Environment, update}
 use Rattle.shader_runs.specs.Outcome.{Outcome, Done, Continued, Broke, Returned, Stopped, Reached, Gives, Halts, answer, Next, and_then, and_continue, within, turn, and_again, turns, after_switch, branch_by, with_integer, or_stuck}
-use Rattle.shader_runs.specs.Program.{Expression, Constant, Argument, Local, Global, Load, Operator, Access, AccessIndex, Logical, Swizzle, Request, Action, Asked, Called, Label, Numbered, Statement, Emit, Store, Block, If, Switch, Loop, Break, Continue, Return, Kill, Barrier, Act, Statements, end, then, Cases, no_case, case, Function, argument_count, expression_of, handle_type, operands_of, is_counted, is_asked, from}
+use Rattle.shader_runs.specs.Program.{Expression, Constant, Load, Operator, Access, AccessIndex, Logical, Swizzle, Request, Action, Asked, Called, Label, Numbered, Statement, Emit, Store, Block, If, Switch, Loop, Break, Continue, Return, Kill, Barrier, Act, Statements, end, then, Cases, no_case, case, Function, argument_count, expression_of, handle_type, operands_of, is_counted, is_asked, from}
 use Rattle.shader_runs.specs.ProgramRun.{Call, Kept, constant_values, used_value, used_value_as, also, used_values, gathered_value, computed_value, joined_values, if_typed, keep_typed, after_load, after_request, if_counted, emit_as, emit, leave, return_outcome, action_answer, with_result, barrier_words, ask_each, same_label, has_label, label_if, run, run_all, run_cases, run_on, constants_kept, with_first, first_used, first_used_all, entered, run_body, called, run_call}
 use Rattle.shader_runs.proofs.Process.{Pause, DoneWith, ContinuedWith, BrokeWith, ReturnedWith, Process, gives, stuck, tells, looks, sequence, answered, resumed, again, rounds, perform, then_on, continue_on, inside, behind_switch, on_there, on_truth, if_true, keeping, load_process, ask_process, asks_process, given_back, result_process, answers_call, entry_process, emit_one, emit_process, act_process, leave_process, return_process, statement_process, list_process, cases_process, on_process, body_process, call_in, call_alone, call_process}
 
@@ -125,12 +125,9 @@ module _ (w : World) (n : ℕ) where
     alone = call_alone f fs env m vs frame
 
     used_as_alone : (e : Option Expression) (o : Option Value) → used_value_as c e o ≡ used_value_as alone e o
-    used_as_alone (Some (Constant e)) o = refl
-    used_as_alone (Some (Argument i)) o = refl
-    used_as_alone (Some (Local i)) o = refl
-    used_as_alone (Some (Global i)) o = refl
-    used_as_alone (Some _) o = refl
     used_as_alone None o = refl
+    used_as_alone (Some (Constant e)) o = refl
+    used_as_alone (Some _) o = refl
 
     used_alone : (kept : Kept) (h : ℕ) → used_value c kept h ≡ used_value alone kept h
     used_alone kept h = used_as_alone (expression_of f h) (kept h)

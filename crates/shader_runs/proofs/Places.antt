@@ -2,7 +2,7 @@
 use Rattle.std.proofs.Common.{◌≡◌, ℕ, zero, suc, ◌+◌, ◌-◌, ◌≤◌, Bool, true, false, cond, List, [], ◌∷◌, ◌++◌, length, ◌||◌, refl, ap, ap₂, ◌∙◌, arith, true≢false}
 use Rattle.shader_runs.specs.Value.{Bytes}
 use Rattle.shader_runs.specs.World.{Event}
-use Rattle.shader_runs.specs.Program.{Label, Statement, Emit, Store, Block, If, Switch, Loop, Break, Continue, Return, Kill, Barrier, Act, Statements, Cases, no_case, case, expression_of, handle_type, binds, from}
+use Rattle.shader_runs.specs.Program.{Label, Statement, Emit, Barrier, Statements, Cases, no_case, case, expression_of, handle_type, binds, from}
 use Rattle.shader_runs.specs.ProgramRun.{Call, Kept, barrier_words}
 use Rattle.shader_runs.specs.Text.{Tree, Lines}
 use Rattle.shader_runs.specs.Scope.{Handles, Naming, bound_name, after_one, given_after, given_after_all, after_emit, given_by, given_by_all, after}
@@ -52,16 +52,7 @@ module _ (f : Naming) where
   behind_form : (st : Statement) (k : ℕ) (s : Handles) (tail : Lines) (q : Point) → lines_behind (form f k st s tail) (behind_lines (line_count f.function st) q) ≡ lines_behind tail q
   behind_form (Emit first count) k s tail q = lets_behind (from first count) k s tail q
   behind_form (Barrier bits) k s tail q = performs_behind (barrier_words bits) tail q
-  behind_form (Store a v) k s tail q = refl
-  behind_form (Block b) k s tail q = refl
-  behind_form (If h a b) k s tail q = refl
-  behind_form (Switch h cs) k s tail q = refl
-  behind_form (Loop b d e) k s tail q = refl
-  behind_form Break k s tail q = refl
-  behind_form Continue k s tail q = refl
-  behind_form (Return v) k s tail q = refl
-  behind_form Kill k s tail q = refl
-  behind_form (Act a xs r) k s tail q = refl
+  behind_form _ k s tail q = refl
 
   case_lines : (cs : Cases) (i k : ℕ) (labels : List Label) (s : Handles) → case_falls cs i ≡ false → lines_at (form_cases f k labels cs s) (group_of cs i) ≡ form_all f (given_before f.function cs i k) (body_at cs i) s
   case_lines no_case i k labels s e = refl

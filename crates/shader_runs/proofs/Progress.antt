@@ -181,10 +181,7 @@ unbound_everywhere false Absent e = absurd (barred e)
   where
     barred : Barred ≡ Everywhere → ⊥
     barred e = cc
-unbound_everywhere false Barred e = e
-unbound_everywhere false Everywhere e = e
-unbound_everywhere false Inline e = e
-unbound_everywhere false (Named x) e = e
+unbound_everywhere false _ e = e
 
 module _ (c : Call) (n : Names) where
   rooted_update : (s : Handles) (h : ℕ) (st : Standing) → (IsTrue (is_present (s h)) → IsTrue (is_present st)) → (st ≡ Everywhere → s h ≡ Everywhere) → Rooted c s → Rooted c (update s h st)

@@ -440,10 +440,7 @@ among_statements f (then st ss) v k a =
 
 pub everywhere_forgotten : (st now : Standing) → forgotten_one st now ≡ Everywhere → st ≡ Everywhere
 everywhere_forgotten Everywhere now e = refl
-everywhere_forgotten Absent now e = e
-everywhere_forgotten Barred now e = e
-everywhere_forgotten Inline now e = e
-everywhere_forgotten (Named x) now e = e
+everywhere_forgotten _ now e = e
 
 new_forgotten : (now : Standing) → is_new (forgotten_one Everywhere now) ≡ is_new now
 new_forgotten now = go (is_new now)

@@ -321,9 +321,7 @@ module _ (p : Module) (consistent : IsConsistent p) where
         let q = pointer_typed p.parts (PointerType whole) tt x h in
         let z = integer_typed p.parts (IntegerType s) tt y l in
         (Pointer (Part q.0 (At z.0)), ap (λ x. index_value_of m x y) q.1 ∙ ap (option_map (λ z. Pointer (Part q.0 (At z)))) z.1, part_has_type k whole q.0 (At z.0) (w z.0) (subst (λ v. IsTrue (has_type p.parts (PointerType whole) v)) q.1 h))
-    access_pointer whole BooleanType k w b j x y h l = absurd w
-    access_pointer whole (PointerType s) k w b j x y h l = absurd w
-    access_pointer whole (OtherType s) k w b j x y h l = absurd w
+    access_pointer whole i k w b j x y h l = absurd w
 
     access_other : (a i k : ValueType) → IsTrue (not_pointer_type a) → ((vs : List Value) → IsTrue (has_types p.parts (a ∷ i ∷ []) vs) → IsTrue (has_type p.parts k (m IndexWord vs))) → (b j : ℕ) (x y : Value) → IsTrue (has_type p.parts a x) → IsTrue (has_type p.parts i y) → Gives_typed k (Some (Access b j)) (x ∷ y ∷ [])
     access_other a i k n g b j x y h l =
@@ -331,9 +329,7 @@ module _ (p : Module) (consistent : IsConsistent p) where
 
     access_typed : (a i k : ValueType) → AccessFits p.parts a i k → ((vs : List Value) → IsTrue (has_types p.parts (a ∷ i ∷ []) vs) → IsTrue (has_type p.parts k (m IndexWord vs))) → (b j : ℕ) (x y : Value) → IsTrue (has_type p.parts a x) → IsTrue (has_type p.parts i y) → Gives_typed k (Some (Access b j)) (x ∷ y ∷ [])
     access_typed (PointerType s) i k w g b j x y h l = access_pointer s i k w b j x y h l
-    access_typed BooleanType i k w g b j x y h l = access_other BooleanType i k refl g b j x y h l
-    access_typed (IntegerType s) i k w g b j x y h l = access_other (IntegerType s) i k refl g b j x y h l
-    access_typed (OtherType s) i k w g b j x y h l = access_other (OtherType s) i k refl g b j x y h l
+    access_typed a i k w g b j x y h l = access_other a i k refl g b j x y h l
 
     part_other : (x : Selector) (a k : ValueType) → IsTrue (not_pointer_type a) → ((vs : List Value) → IsTrue (has_types p.parts (a ∷ []) vs) → IsTrue (has_type p.parts k (m (PartWord x) vs))) → (b : ℕ) (y : Value) → IsTrue (has_type p.parts a y) → Gives_typed k (Some (AccessIndex x b)) (y ∷ [])
     part_other x a k n g b y h =
@@ -346,9 +342,7 @@ module _ (p : Module) (consistent : IsConsistent p) where
 
     part_typed : (x : Selector) (a k : ValueType) → AccessIndexFits p.parts x a k → ((vs : List Value) → IsTrue (has_types p.parts (a ∷ []) vs) → IsTrue (has_type p.parts k (m (PartWord x) vs))) → (b : ℕ) (y : Value) → IsTrue (has_type p.parts a y) → Gives_typed k (Some (AccessIndex x b)) (y ∷ [])
     part_typed x (PointerType s) k w g b y h = part_pointer s x k w b y h
-    part_typed x BooleanType k w g b y h = part_other x BooleanType k refl g b y h
-    part_typed x (IntegerType s) k w g b y h = part_other x (IntegerType s) k refl g b y h
-    part_typed x (OtherType s) k w g b y h = part_other x (OtherType s) k refl g b y h
+    part_typed x a k w g b y h = part_other x a k refl g b y h
 
     -- what `&&` or `||` gives behind a truth value
     truths_typed : (j : ShortCircuit) (t k : ValueType) → k ≡ BooleanType → ((vs : List Value) → IsTrue (has_types p.parts (BooleanType ∷ t ∷ []) vs) → IsTrue (has_type p.parts k (m (Spelled (short_circuit_word j)) vs))) → (a : Bool) (y : Value) → IsTrue (has_type p.parts t y) → IsTrue (has_type p.parts k (undecided_value m j (Truth a) y))
@@ -361,9 +355,7 @@ module _ (p : Module) (consistent : IsConsistent p) where
 
     boolean_of : (a k : ValueType) → LogicalFits a k → (b : Bool) → IsTrue (has_type p.parts a (Truth b)) → (a ≡ BooleanType) × (k ≡ BooleanType)
     boolean_of BooleanType k w b h = (refl, w)
-    boolean_of (IntegerType s) k w b h = absurd (true≢false (sym h))
-    boolean_of (PointerType s) k w b h = absurd (true≢false (sym h))
-    boolean_of (OtherType s) k w b h = absurd (true≢false (sym h))
+    boolean_of a k w b h = absurd (true≢false (sym h))
 
     logical_typed : (j : ShortCircuit) (a t k : ValueType) → LogicalFits a k → ((vs : List Value) → IsTrue (has_types p.parts (a ∷ t ∷ []) vs) → IsTrue (has_type p.parts k (m (Spelled (short_circuit_word j)) vs))) → (x y : Value) → IsTrue (has_type p.parts a x) → IsTrue (has_type p.parts t y) → IsTrue (has_type p.parts k (cond (decides j x) x (undecided_value m j x y)))
     logical_typed j a t k w g (Truth b) y h l =
