@@ -209,6 +209,9 @@ fn names_fit(function: &Function) -> bool
         .all(|handle| handle.index() < count)
 }
 
+/// Whether all expressions fit. It is a function of its own in the program too, as `block_fits` is, so
+/// that each loop keeps what it reads in registers.
+#[inline(never)]
 fn expressions_fit(
     types: &UniqueArena<Type_>,
     function: &Function,
@@ -368,6 +371,7 @@ fn value_fits(
     }
 }
 
+#[inline(never)]
 fn block_fits(types: &UniqueArena<Type_>, infos: &[ExpressionInfo], function: &Function) -> bool
     ensures { result ≡ block_fits types.now infos.now function.now.result function.now.body }
 {

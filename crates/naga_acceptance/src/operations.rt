@@ -54,6 +54,7 @@ fn spelling_number(spelling: Spelled) -> Option<usize>
 
 /// The number of the spelling of an operand's type, if it stands before the expression with the handle
 /// `here`.
+#[inline(always)]
 fn operand_number(
     types: &UniqueArena<Type_>,
     infos: &[ExpressionInfo],
@@ -120,14 +121,17 @@ pub(crate) fn operation_fits(
         table.old result table.new }
     ensures kept { length table.new ≡ 300 }
 {
-    let operator = operator_number(op);
-    let left = operand_number(types, infos, here, left);
-    let right = operand_number(types, infos, here, right);
-    let answer = spelling_number(known);
-    match (operator, left, right, answer) {
-        (Some(operator), Some(left), Some(right), Some(answer)) => {
-            enter(table, (operator * 10 + left) * 10 + right, answer)
-        }
-        _ => false,
-    }
+    let Some(operator) = operator_number(op) else {
+        return false;
+    };
+    let Some(left) = operand_number(types, infos, here, left) else {
+        return false;
+    };
+    let Some(right) = operand_number(types, infos, here, right) else {
+        return false;
+    };
+    let Some(answer) = spelling_number(known) else {
+        return false;
+    };
+    enter(table, (operator * 10 + left) * 10 + right, answer)
 }
