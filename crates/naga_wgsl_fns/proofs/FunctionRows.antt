@@ -19,7 +19,7 @@ use Rattle.item_names.proofs.Counts.{element}
 use Rattle.shader_runs.specs.Scope.{Handles}
 use Rattle.naga_form.specs.Names.{HasNamesOf, module_names}
 use Rattle.naga_form.specs.Form.{function_form, lines_form, locals_form, parameter_form, parameters_form, result_form, value_form}
-use Rattle.naga_form.proofs.Resolutions.{functions_are_written}
+use Rattle.accepted_modules.proofs.Part.{functions_are_written}
 use Rattle.naga_scope.specs.declared.points.Standing.{Standing}
 use Rattle.spelling_parts.specs.declared.sink.SinkError.{SinkError}
 use Rattle.spelling_parts.specs.declared.sink.SinkError.TheVariants.{Failed, Memory}

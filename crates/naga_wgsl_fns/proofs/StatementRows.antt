@@ -3,7 +3,8 @@ use Rattle.std.proofs.Common.{◌≡◌, ℕ, ◌+◌, ◌-◌, ◌<◌, ◌≤�
 use Rattle.std.specs.Prelude.{cond, slice_get}
 use Rattle.std.proofs.lemmas.Bool.{and_parts}
 use Rattle.std.proofs.lemmas.List.{append-nil, drop_all}
-use Rattle.naga_ir.specs.StatementTree.{BlockTree, StatementTree, emit, return, simple, statement, store}
+use Rattle.naga_ir.specs.StatementTree.{BlockTree, StatementTree, emit, return, simple, statement, store, break, continue, kill, block, branch, switch, loop}
+use Rattle.std.specs.Option.{option_map}
 use Rattle.naga_ir.specs.StatementViews.{tree_of, block_of}
 use Rattle.naga_enumerations.specs.declared.statement.Range.{Range}
 use Rattle.naga_ir.specs.declared.statement.Statement.{Statement}
@@ -14,10 +15,10 @@ use Rattle.naga_info.specs.declared.info.ExpressionInfo.{ExpressionInfo}
 use Rattle.naga_back.specs.Indentation.{indentation}
 use Rattle.accepted_modules.specs.Accepted.{statement_fits, block_fits}
 use Rattle.shader_runs.specs.Program.{binds, from}
-use Rattle.shader_runs.specs.Scope.{Handles, Naming, after, after_emit, after_one, bound_name, given_after}
+use Rattle.shader_runs.specs.Scope.{Handles, Naming, after, after_all, after_emit, after_one, bound_name, given_after, given_by_all}
 use Rattle.naga_form.specs.Names.{numbered_name}
-use Rattle.naga_form.specs.Shapes.{statement_shape}
-use Rattle.naga_form.specs.Form.{as_reference, as_value, let_form, lets_form, line_form, lines_form, own_if, return_line, plain_form, then_if, value_form}
+use Rattle.naga_form.specs.Shapes.{statement_shape, statements_shape}
+use Rattle.naga_form.specs.Form.{as_reference, as_value, cases_form, let_form, lets_form, line_form, lines_form, loop_form, own_if, return_line, plain_form, then_if, value_form}
 use Rattle.naga_scope.specs.declared.points.Standing.{Standing}
 use Rattle.naga_scope.specs.Standings.{handles_of}
 use Rattle.naga_scope.proofs.Emitting.{range_more, range_none}
@@ -107,7 +108,7 @@ abbrev pub statement_at : FunctionText → (table : List Standing) → (level : 
 statement_at f table level (simple (emit first last)) = lets_text f table level (from first (last - first))
 statement_at f table level (simple (store pointer value)) = store_text f table level pointer value
 statement_at f table level (simple (return value)) = return_text f table level value
-statement_at f table level _ = lines_text level (Then (Block NoStatements) NoStatements)
+statement_at f table level st = statement_text f table level st
 
 pub statement_row : (f : FunctionText) (table : List Standing) (level : ℕ) (st : StatementTree) → statement_text f table level st ≡ statement_at f table level st
 unfolding statement_text lets_text store_text return_text
@@ -176,6 +177,12 @@ module _ (f : FunctionText) (can : CanWrite f) where
       ∙ ap (λ (u : Handles). after_emit (naming f) 0 rest u) (sym is))
 
   -- ---- the statements of a block
+  abbrev operand_at : Handles → ℕ → Expression
+  operand_at s h = value_form (naming f) (expressions f) s h
+
+  abbrev lines_at : ℕ → BlockTree → Handles → Statements
+  lines_at k b s = lines_form (naming f) (told f) (expressions f) k b s
+
   -- a statement in front of others
   line_then : (st : StatementTree) (s : Handles) (rest : Statements) (level : ℕ)
       → lines_text level (line_form (naming f) (told f) (expressions f) 0 st s rest) ≡ lines_text level (line_form (naming f) (told f) (expressions f) 0 st s NoStatements) ++ lines_text level rest
@@ -188,7 +195,19 @@ module _ (f : FunctionText) (can : CanWrite f) where
       by (simple (emit first last)) = lets_then (naming f) (told f) (expressions f) 0 (from first (last - first)) s rest level
       by (simple (store pointer value)) = one (tree.Assign (as_reference (plain_form (naming f) (expressions f) s pointer)) (value_form (naming f) (expressions f) s value))
       by (simple (return value)) = one (return_line (naming f) (expressions f) s value)
-      by _ = one (Block NoStatements)
+      by (simple break) = one tree.Break
+      by (simple continue) = one tree.Continue
+      by (simple kill) = one tree.Discard
+      by (simple _) = one (Block NoStatements)
+      by (block b) = one (Block (lines_at 0 b s))
+      by (branch condition accept reject) =
+          one (tree.If (operand_at s condition) (lines_at 0 accept s) (lines_at (given_by_all (naming f).function (statements_shape accept) 0) reject s))
+      by (switch selector cases) = one (tree.Switch (operand_at s selector) (cases_form (naming f) (told f) (expressions f) 0 [] cases s))
+      by (loop body continuing break_if) =
+          let behind = given_by_all (naming f).function (statements_shape body) 0 in
+          let inside = after_all (naming f) 0 (statements_shape body) s in
+          let last = after_all (naming f) behind (statements_shape continuing) inside in
+          one (loop_form (lines_at 0 body s) (lines_at behind continuing inside) (option_map (operand_at last) break_if))
 
   -- a block, by its first statement, behind which `next` has what is in scope
   pub block_row : (table next : List Standing) (level : ℕ) (st : StatementTree) (rest : BlockTree) → handles_of next ≡ after (naming f) 0 (statement_shape st) (handles_of table)
