@@ -59,6 +59,6 @@ least_stack() {
     echo $high
 }
 
-few=$(least_stack 1000)
-many=$(least_stack 5000)
+few=$(least_stack 1000 2> /dev/null)
+many=$(least_stack 5000 2> /dev/null)
 echo "nested_operands: $(((many - few) * 1024 / 4000)) bytes of the stack for each level"
