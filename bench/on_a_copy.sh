@@ -9,7 +9,7 @@ copy=$(mktemp -d)
 trap 'rm -rf "$copy"' EXIT
 cp HANDLES "$copy"
 mkdir -p "$copy/crates/$name/src" "$copy/crates/$name/specs" "$copy/crates/$name/proofs"
-for library in naga_flags naga_arena naga_operators naga_bindings naga_enumerations naga_ir naga_keywords name_keys item_names naga_names "$@"; do
+for library in naga_ir naga_keywords naga_names "$@"; do
     tar cf - --exclude=out "crates/$library" | tar xf - -C "$copy"
     grep "^$library:" crates.txt >> "$copy/crates.txt"
 done

@@ -2,7 +2,7 @@
 # Refuses each allocation of a program that spells types, rules and names of predeclared structs, one in each
 # run, and counts the runs in which nothing was refused, in which a refusal was told and the call was whole
 # when it was repeated, and others, which are wrong. Run it at the top of the repository; it works on a copy.
-set -- refused_types naga_info wgsl_text wgsl_words spelling_parts type_spelling naga_words
+set -- refused_types naga_info wgsl_words naga_words
 . bench/on_a_copy.sh
 mkdir cases
 for count in $(seq -w 0 399); do

@@ -13,8 +13,8 @@ use Rattle.naga_ir.specs.declared.module.Function.{Function}
 use Rattle.naga_ir.specs.declared.module.FunctionResult.{FunctionResult}
 use Rattle.naga_ir.specs.declared.module.LocalVariable.{LocalVariable as Local}
 use Rattle.naga_ir.specs.declared.module.Module.{Module}
-use Rattle.naga_operators.specs.declared.BinaryOperator.{BinaryOperator}
-use Rattle.naga_enumerations.specs.declared.types.AddressSpace.TheVariants.{Function as OfFunction}
+use Rattle.naga_ir.specs.declared.operators.BinaryOperator.{BinaryOperator}
+use Rattle.naga_ir.specs.declared.types.AddressSpace.TheVariants.{Function as OfFunction}
 use Rattle.naga_ir.specs.declared.types.TypeInner.{TypeInner}
 use Rattle.naga_ir.specs.declared.types.TypeInner.TheVariants.{Pointer}
 use Rattle.naga_ir.specs.declared.types.Type_.{Type_}

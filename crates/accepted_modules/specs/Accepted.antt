@@ -10,16 +10,13 @@
 -- (ess are those of several functions), h a handle, e an expression (xs are several), k what is
 -- known of it, l a local, a an argument, r a result, t a type, s a statement or the special types,
 -- and b the rest of a block.
-use Rattle.std.specs.Prelude.{ℕ, Bool, true, false, ◌&&◌, List, [], ◌∷◌, length, Option, Some, None}
-use Rattle.std.specs.Prelude.{◌==◌, nat_lt, nat_le, ◌+◌, if◌then◌else◌, slice_get}
+use Rattle.std.specs.Prelude.{ℕ, Bool, true, false, ◌&&◌, List, [], ◌∷◌, length, Option, Some, None, ◌==◌, nat_lt, nat_le, ◌+◌, if◌then◌else◌, slice_get}
 use Rattle.std.specs.List.{list_all}
 use Rattle.std.specs.Option.{option_map, option_map_or, is_some, option_and_then}
 use Rattle.indexmap.specs.IndexMap.{keys, values}
-use Rattle.naga_ir.specs.StatementTree.{SimpleStatement, emit, store, return, StatementTree, simple}
-use Rattle.naga_ir.specs.StatementTree.{BlockTree, no_statements, statement}
+use Rattle.naga_ir.specs.StatementTree.{SimpleStatement, emit, store, return, StatementTree, simple, BlockTree, no_statements, statement}
 use Rattle.naga_ir.specs.declared.expression.Expression.{Expression}
-use Rattle.naga_ir.specs.declared.expression.Expression.TheVariants.{Literal, FunctionArgument}
-use Rattle.naga_ir.specs.declared.expression.Expression.TheVariants.{LocalVariable, Load, Binary}
+use Rattle.naga_ir.specs.declared.expression.Expression.TheVariants.{Literal, FunctionArgument, LocalVariable, Load, Binary}
 use Rattle.naga_ir.specs.declared.module.Function.{Function}
 use Rattle.naga_ir.specs.declared.module.FunctionResult.{FunctionResult}
 use Rattle.naga_ir.specs.declared.module.LocalVariable.{LocalVariable as Local}
@@ -29,9 +26,7 @@ use Rattle.naga_ir.specs.declared.types.Type_.{Type_}
 use Rattle.naga_info.specs.declared.info.ExpressionInfo.{ExpressionInfo}
 use Rattle.naga_info.specs.declared.info.ModuleInfo.{ModuleInfo}
 use Rattle.accepted_modules.specs.Operations.{operators_agree}
-use Rattle.accepted_modules.specs.Types.{word_of_type, word_at, local_pointer, spelling_at}
-use Rattle.accepted_modules.specs.Types.{spelling_of, pointee_at, operator_word, is_alike}
-use Rattle.accepted_modules.specs.Types.{literal_word, literal_is_within}
+use Rattle.accepted_modules.specs.Types.{word_of_type, word_at, local_pointer, spelling_at, spelling_of, pointee_at, operator_word, is_alike, literal_word, literal_is_within}
 
 -- nothing is declared but types and functions
 abbrev pub declares_functions : Module → Bool

@@ -3,21 +3,18 @@
 --
 -- Throughout, s is a scalar, w the width of one, t a type, es is what is known of a function's
 -- expressions, e what is known of one, and n a number; a and b are two spellings.
-use Rattle.std.specs.Prelude.{ℕ, ℤ, pos, negsuc, ◌^◌, nat_lt, Bool, true, false, List, ◌++◌, Option}
-use Rattle.std.specs.Prelude.{Some, None, ◌==◌, if◌then◌else◌, codes, slice_get}
+use Rattle.std.specs.Prelude.{ℕ, ℤ, pos, negsuc, ◌^◌, nat_lt, Bool, true, false, List, ◌++◌, Option, Some, None, ◌==◌, if◌then◌else◌, codes, slice_get}
 use Rattle.std.specs.Option.{option_map, option_and_then}
 use Rattle.std.specs.Str.{bytes_eq}
-use Rattle.naga_enumerations.specs.declared.expression.Literal.{Literal}
-use Rattle.naga_enumerations.specs.declared.expression.Literal.TheVariants.{U32, I32, U64, I64}
-use Rattle.naga_enumerations.specs.declared.expression.Literal.TheVariants.{Bool as BoolLiteral}
-use Rattle.naga_operators.specs.declared.BinaryOperator.{BinaryOperator}
-use Rattle.naga_operators.specs.declared.BinaryOperator.TheVariants.{Add, Subtract, Multiply}
-use Rattle.naga_enumerations.specs.declared.types.AddressSpace.{AddressSpace}
-use Rattle.naga_enumerations.specs.declared.types.AddressSpace.TheVariants.{Function}
-use Rattle.naga_enumerations.specs.declared.types.Scalar.{Scalar}
-use Rattle.naga_enumerations.specs.declared.types.ScalarKind.{ScalarKind}
-use Rattle.naga_enumerations.specs.declared.types.ScalarKind.TheVariants.{Sint, Uint}
-use Rattle.naga_enumerations.specs.declared.types.ScalarKind.TheVariants.{Bool as BoolKind}
+use Rattle.naga_ir.specs.declared.expression.Literal.{Literal}
+use Rattle.naga_ir.specs.declared.expression.Literal.TheVariants.{U32, I32, U64, I64, Bool as BoolLiteral}
+use Rattle.naga_ir.specs.declared.operators.BinaryOperator.{BinaryOperator}
+use Rattle.naga_ir.specs.declared.operators.BinaryOperator.TheVariants.{Add, Subtract, Multiply}
+use Rattle.naga_ir.specs.declared.types.AddressSpace.{AddressSpace}
+use Rattle.naga_ir.specs.declared.types.AddressSpace.TheVariants.{Function}
+use Rattle.naga_ir.specs.declared.types.Scalar.{Scalar}
+use Rattle.naga_ir.specs.declared.types.ScalarKind.{ScalarKind}
+use Rattle.naga_ir.specs.declared.types.ScalarKind.TheVariants.{Sint, Uint, Bool as BoolKind}
 use Rattle.naga_ir.specs.declared.types.Type_.{Type_}
 use Rattle.naga_ir.specs.declared.types.TypeInner.{TypeInner}
 use Rattle.naga_ir.specs.declared.types.TypeInner.TheVariants.{Scalar as ScalarType, Pointer}

@@ -6,12 +6,12 @@ use Rattle.std.specs.Option.{is_some, option_map}
 use Rattle.naga_ir.specs.declared.expression.Expression.{Expression}
 use Rattle.naga_ir.specs.declared.expression.Expression.TheVariants.{Binary}
 use Rattle.naga_ir.specs.declared.module.Function.{Function}
-use Rattle.naga_operators.specs.declared.BinaryOperator.{BinaryOperator}
-use Rattle.naga_operators.specs.declared.BinaryOperator.TheVariants.{Add, Subtract, Multiply}
-use Rattle.naga_enumerations.specs.declared.types.AddressSpace.TheVariants.{Function as OfFunction}
-use Rattle.naga_enumerations.specs.declared.types.Scalar.{Scalar}
-use Rattle.naga_enumerations.specs.declared.types.ScalarKind.{ScalarKind}
-use Rattle.naga_enumerations.specs.declared.types.ScalarKind.TheVariants.{Sint, Uint, Bool as BoolKind}
+use Rattle.naga_ir.specs.declared.operators.BinaryOperator.{BinaryOperator}
+use Rattle.naga_ir.specs.declared.operators.BinaryOperator.TheVariants.{Add, Subtract, Multiply}
+use Rattle.naga_ir.specs.declared.types.AddressSpace.TheVariants.{Function as OfFunction}
+use Rattle.naga_ir.specs.declared.types.Scalar.{Scalar}
+use Rattle.naga_ir.specs.declared.types.ScalarKind.{ScalarKind}
+use Rattle.naga_ir.specs.declared.types.ScalarKind.TheVariants.{Sint, Uint, Bool as BoolKind}
 use Rattle.naga_ir.specs.declared.types.Type_.{Type_}
 use Rattle.naga_ir.specs.declared.types.TypeInner.{TypeInner}
 use Rattle.naga_ir.specs.declared.types.TypeInner.TheVariants.{Scalar as ScalarType, Pointer}

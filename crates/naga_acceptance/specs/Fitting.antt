@@ -1,17 +1,14 @@
 -- What is tested apart: all of a function but its expressions, what some of these are expected to be
 -- spelled, and operators.
-use Rattle.std.specs.Prelude.{ℕ, Bool, ◌&&◌, List, length, Option, None, nat_lt, slice_get}
-use Rattle.std.specs.Prelude.{if◌then◌else◌}
+use Rattle.std.specs.Prelude.{ℕ, Bool, ◌&&◌, List, length, Option, None, nat_lt, slice_get, if◌then◌else◌}
 use Rattle.std.specs.List.{list_all}
 use Rattle.std.specs.Option.{option_map, is_some, option_and_then}
 use Rattle.naga_ir.specs.declared.module.Function.{Function}
-use Rattle.naga_operators.specs.declared.BinaryOperator.{BinaryOperator}
+use Rattle.naga_ir.specs.declared.operators.BinaryOperator.{BinaryOperator}
 use Rattle.naga_ir.specs.declared.types.Type_.{Type_}
 use Rattle.naga_info.specs.declared.info.ExpressionInfo.{ExpressionInfo}
-use Rattle.accepted_modules.specs.Accepted.{signature_fits, names_fit, operand_fits, local_fits}
-use Rattle.accepted_modules.specs.Accepted.{block_fits}
-use Rattle.accepted_modules.specs.Types.{word_at, local_pointer, spelling_at, pointee_at}
-use Rattle.accepted_modules.specs.Types.{operator_word}
+use Rattle.accepted_modules.specs.Accepted.{signature_fits, names_fit, operand_fits, local_fits, block_fits}
+use Rattle.accepted_modules.specs.Types.{word_at, local_pointer, spelling_at, pointee_at, operator_word}
 
 -- the signature, the named expressions, the locals and the body
 abbrev pub surroundings_fit : List Type_ → Function → List ExpressionInfo → Bool

@@ -2,8 +2,8 @@
 use Rattle.std.proofs.Common.{◌≡◌, ℕ, ◌+◌, ◌-◌, ◌<◌, ◌≤◌, zero, suc, length, List, [], ◌∷◌, ◌++◌, Option, Some, None, slice_get, refl, ap, sym, ◌∙◌, arith}
 use Rattle.std.specs.Option.{option_and_then, option_map, option_or}
 use Rattle.std.proofs.lemmas.Option.{slice_get_past}
-use Rattle.naga_bindings.specs.declared.binding.Binding.{Binding}
-use Rattle.naga_bindings.specs.declared.binding.BuiltIn.{BuiltIn}
+use Rattle.naga_ir.specs.declared.binding.Binding.{Binding}
+use Rattle.naga_ir.specs.declared.binding.BuiltIn.{BuiltIn}
 use Rattle.naga_ir.specs.declared.expression.Expression.{Expression}
 use Rattle.naga_ir.specs.declared.expression.Expression.TheVariants.{FunctionArgument, AccessIndex}
 use Rattle.naga_ir.specs.declared.module.FunctionArgument.{FunctionArgument as Argument}

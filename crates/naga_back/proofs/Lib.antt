@@ -1,2 +1,2 @@
-pub mod Indentations
 pub mod FixedInputs
+pub mod Indentations

@@ -2,9 +2,9 @@
 use Rattle.std.specs.Prelude.{ℕ, List, [], ◌∷◌, ◌++◌, length, Option, Some, None, slice_get}
 use Prim.Native.Nat.{zero, suc}
 use Rattle.std.specs.Option.{option_and_then, option_map, option_or}
-use Rattle.naga_bindings.specs.declared.binding.Binding.{Binding}
-use Rattle.naga_bindings.specs.declared.binding.Binding.TheVariants as bound
-use Rattle.naga_bindings.specs.declared.binding.BuiltIn.{BuiltIn}
+use Rattle.naga_ir.specs.declared.binding.Binding.{Binding}
+use Rattle.naga_ir.specs.declared.binding.Binding.TheVariants as bound
+use Rattle.naga_ir.specs.declared.binding.BuiltIn.{BuiltIn}
 use Rattle.naga_ir.specs.declared.expression.Expression.{Expression}
 use Rattle.naga_ir.specs.declared.expression.Expression.TheVariants.{FunctionArgument, AccessIndex}
 use Rattle.naga_ir.specs.declared.module.FunctionArgument.{FunctionArgument as Argument}

@@ -2,15 +2,15 @@
 use Rattle.std.specs.Prelude.{ℕ, Bool, true, false, ◌<◌, List, Option, Some, None, slice_get, vec_len}
 use Rattle.std.specs.Option.{option_and_then, option_map_or}
 use Rattle.naga_ir.specs.declared.module.Module.{Module}
-use Rattle.naga_enumerations.specs.declared.module.ShaderStage.{ShaderStage}
-use Rattle.naga_enumerations.specs.declared.module.ShaderStage.TheVariants.{Compute, Task, Mesh}
+use Rattle.naga_ir.specs.declared.module.ShaderStage.{ShaderStage}
+use Rattle.naga_ir.specs.declared.module.ShaderStage.TheVariants.{Compute, Task, Mesh}
 use Rattle.naga_ir.specs.declared.types.Type_.{Type_}
 use Rattle.naga_ir.specs.declared.types.TypeInner.{TypeInner}
 use Rattle.naga_info.specs.declared.info.ExpressionInfo.{ExpressionInfo}
 use Rattle.naga_info.specs.Resolution.{inner_of}
-use Rattle.name_keys.specs.declared.key.ExternalTextureNameKey.{ExternalTextureNameKey}
-use Rattle.name_keys.specs.declared.key.NameKey.{NameKey}
-use Rattle.name_keys.specs.declared.key.NameKey.TheVariants as key
+use Rattle.naga_names.specs.declared.key.ExternalTextureNameKey.{ExternalTextureNameKey}
+use Rattle.naga_names.specs.declared.key.NameKey.{NameKey}
+use Rattle.naga_names.specs.declared.key.NameKey.TheVariants as key
 use Rattle.naga_back.specs.declared.context.FunctionType.{FunctionType}
 use Rattle.naga_back.specs.declared.context.FunctionType.TheVariants.{Function, EntryPoint}
 

@@ -1,5 +1,5 @@
-pub mod Indentation
 pub mod Baking
-pub mod FunctionContext
 pub mod FixedInput
+pub mod FunctionContext
+pub mod Indentation
 pub mod Kinds

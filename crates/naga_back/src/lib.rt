@@ -9,14 +9,17 @@ use std::fmt;
 mod baking;
 mod context;
 mod fixed_input;
+pub mod flags;
 mod kinds;
 mod operators;
+pub mod rays;
 
-pub use back_flags::{RayFlag, RayIntersectionType};
 pub use baking::{BakeRefCount, Baked, NeedBakeExpressions};
 pub use context::{FunctionCtx, FunctionType};
+pub use flags::WriterFlags;
 pub use kinds::{IsHandle, IsTerminator};
 pub use operators::{COMPONENTS, binary_operation_str};
+pub use rays::{RayFlag, RayIntersectionType};
 
 /// What each level of nesting is indented by.
 pub const INDENT: &str = "    ";

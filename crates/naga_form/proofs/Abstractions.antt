@@ -5,12 +5,12 @@ use Rattle.std.specs.Option.{option_map, option_map_or, is_some}
 use Rattle.std.proofs.lemmas.Bool.{eqb-true, ltb-true, false≢true}
 use Rattle.std.proofs.lemmas.List.{map-append}
 use Rattle.std.proofs.lemmas.Option.{slice_get-map}
-use Rattle.naga_enumerations.specs.declared.statement.SwitchValue.{SwitchValue}
-use Rattle.naga_enumerations.specs.declared.statement.SwitchValue.TheVariants as label
+use Rattle.naga_ir.specs.declared.statement.SwitchValue.{SwitchValue}
+use Rattle.naga_ir.specs.declared.statement.SwitchValue.TheVariants as label
 use Rattle.naga_ir.specs.StatementTree.{SimpleStatement, emit, store, return, StatementTree, simple, block, branch, switch, loop, BlockTree, no_statements, statement, CaseTrees, no_cases, case}
 use Rattle.naga_ir.specs.declared.expression.Expression as ir
-use Rattle.naga_enumerations.specs.declared.expression.Literal as ir_literal
-use Rattle.naga_enumerations.specs.declared.expression.Literal.TheVariants as literal
+use Rattle.naga_ir.specs.declared.expression.Literal as ir_literal
+use Rattle.naga_ir.specs.declared.expression.Literal.TheVariants as literal
 use Rattle.naga_ir.specs.declared.module.Function as ir_function
 use Rattle.naga_ir.specs.declared.module.FunctionArgument.{FunctionArgument}
 use Rattle.naga_ir.specs.declared.module.LocalVariable.{LocalVariable}
@@ -20,7 +20,7 @@ use Rattle.std.specs.List.{list_all}
 use Rattle.accepted_modules.specs.Accepted.{is_scalar_type, local_fits, function_fits}
 use Rattle.accepted_modules.specs.Types.{word_at, local_pointer, literal_word}
 use Rattle.accepted_modules.proofs.Accepting.{list_all_at, scalar_types_word_at, function_fits_locals, local_fits_parts}
-use Rattle.name_keys.specs.Keys.{NameMap}
+use Rattle.naga_names.specs.Keys.{NameMap}
 use Rattle.wgsl_text.specs.Token.{GreaterThan, SuffixI, SuffixLi}
 use Rattle.wgsl_text.specs.Tree.{LeastInteger, LeastLong, Suffixed, TypeSpecifier, Named}
 use Rattle.shader_runs.specs.Value.{Whole, ValueType, ShortCircuitAnd, ShortCircuitOr}
@@ -29,15 +29,15 @@ use Rattle.shader_runs.specs.Scope.{Naming, at_start, Standing, Named, Handles, 
 use Rattle.shader_runs.specs.Text.{LiteralOf, before, ReturnLine, Apply, LogicalOf, more, no_more, Let, Assign, Braces, IfElse, SwitchOn, LoopOf, group}
 use Rattle.shader_runs.specs.Form.{written_below, names_from, variables_from, form_function, Plain, AsValue, AsPlace, let_if}
 use Rattle.naga_form.specs.Form.{parameters_form, function_form, PlainForm, ValueForm, ReferenceForm, as_value, as_reference, own_plain, own_if, standing_plain, plain_below, plain_form, value_form, let_form, then_if, lets_form, return_line, simple_form, loop_form, label_form, labels_form, line_form, lines_form, cases_form, locals_form}
-use Rattle.type_spelling.specs.Contexts.{names_of}
+use Rattle.naga_words.specs.Contexts.{names_of}
 use Rattle.naga_form.specs.Names.{function_name, argument_name}
 use Rattle.naga_form.specs.Types.{type_form, pointer_to_local, told_type, declared_type, LocalsAreSpelled}
 use Rattle.naga_form.specs.Literals.{literal_form, literal_value, value_read, literal_is_written, LiteralsAreWritten}
 use Rattle.naga_form.specs.Shapes.{expression_shape, label_shape, simple_shape, statements_shape, cases_shape, function_shape, function_naming, statement_shape}
 use Rattle.naga_form.specs.Abstraction.{expression_read, label_read, labels_read, statements_read, cases_read, function_read, statement_read, local_pointer_read, variable_read}
 use Rattle.naga_ir.specs.declared.expression.Expression.TheVariants as expression
-use Rattle.naga_operators.specs.declared.BinaryOperator.{BinaryOperator}
-use Rattle.naga_operators.specs.declared.BinaryOperator.TheVariants as operator
+use Rattle.naga_ir.specs.declared.operators.BinaryOperator.{BinaryOperator}
+use Rattle.naga_ir.specs.declared.operators.BinaryOperator.TheVariants as operator
 use Rattle.wgsl_text.specs.Tree as tree
 use Rattle.wgsl_text.specs.Pieces.{type_pieces, mark}
 use Rattle.wgsl_text.specs.Text.{text}

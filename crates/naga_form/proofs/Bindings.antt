@@ -10,8 +10,8 @@ use Rattle.naga_ir.specs.declared.types.Type_.{Type_}
 use Rattle.naga_info.specs.declared.info.ExpressionInfo.{ExpressionInfo}
 use Rattle.naga_info.specs.declared.info.ModuleInfo.{ModuleInfo}
 use Rattle.accepted_modules.specs.Accepted.{is_accepted}
-use Rattle.name_keys.specs.Keys.{NameMap}
-use Rattle.type_spelling.specs.Contexts.{names_of}
+use Rattle.naga_names.specs.Keys.{NameMap}
+use Rattle.naga_words.specs.Contexts.{names_of, Names as TypeNames}
 use Rattle.shader_runs.specs.Program.{binds, from}
 use Rattle.shader_runs.specs.Scope.{Handles, Naming, at_start, bound_name, given_after, given_by, given_by_all, after_one, after, after_all}
 use Rattle.shader_runs.specs.Bindings.{text_lets, Binding, function_bindings, emit_bindings, statement_bindings, statements_bindings, cases_bindings}
@@ -22,8 +22,8 @@ use Rattle.wgsl_text.proofs.RowText.{text-append}
 use Rattle.std.specs.Option.{option_map, option_and_then}
 use Rattle.naga_info.specs.declared.info.TypeResolution.{TypeResolution}
 use Rattle.naga_info.specs.declared.info.TypeResolution.TheVariants as resolution
-use Rattle.type_spelling.specs.Trees.{Names as TypeNames, resolution_tree}
-use Rattle.type_spelling.proofs.Forms.{type_row, inner_tree_row}
+use Rattle.naga_form.specs.TypeTrees.{resolution_tree}
+use Rattle.naga_form.proofs.TypeTexts.{type_row, inner_tree_row}
 use Rattle.wgsl_text.specs.Tree as tree
 use Rattle.naga_form.specs.Types.{told_type, told_spelling, spelled_resolution}
 use Rattle.naga_form.specs.Names.{module_names}

@@ -5,8 +5,8 @@ use Rattle.std.specs.Option.{option_map}
 use Rattle.std.proofs.lemmas.Bool.{eqb-true}
 use Rattle.naga_ir.specs.StatementTree.{emit, store, return, StatementTree, simple, block, branch, switch, loop, BlockTree, no_statements, statement, CaseTrees, no_cases, case}
 use Rattle.naga_ir.specs.declared.expression.Expression as ir
-use Rattle.naga_enumerations.specs.declared.expression.Literal as ir_literal
-use Rattle.naga_enumerations.specs.declared.expression.Literal.TheVariants as literal
+use Rattle.naga_ir.specs.declared.expression.Literal as ir_literal
+use Rattle.naga_ir.specs.declared.expression.Literal.TheVariants as literal
 use Rattle.naga_ir.specs.declared.module.Function as ir_function
 use Rattle.naga_ir.specs.declared.module.LocalVariable.{LocalVariable}
 use Rattle.naga_ir.specs.declared.types.Type_.{Type_}
@@ -14,7 +14,7 @@ use Rattle.naga_info.specs.declared.info.ExpressionInfo.{ExpressionInfo}
 use Rattle.accepted_modules.specs.Types.{word_at, spelling_of, local_pointer, literal_word, spelling_at, operator_word}
 use Rattle.accepted_modules.specs.Accepted.{statement_fits, return_fits, block_fits, function_fits}
 use Rattle.accepted_modules.specs.Part.{names_nothing}
-use Rattle.item_names.specs.Reset.{Labelled, labelled_items, labels_of}
+use Rattle.naga_names.specs.Reset.{Labelled, labelled_items, labels_of}
 use Rattle.shader_runs.specs.Value.{ValueType, BooleanType, PointerType, type_at}
 use Rattle.shader_runs.specs.Program as shapes
 use Rattle.shader_runs.specs.Program.{operands_of, handle_type, argument_count, expression_of, is_given, local_count, from}
@@ -22,7 +22,7 @@ use Rattle.shader_runs.specs.Scope.{Naming, given_by_all, given_by_cases, given_
 use Rattle.shader_runs.specs.Premises.{AllBelow, WordFits, IsLiteral, literal_type, LeafFits, ReturnFits, AreRegular, AreDistinct, FunctionFits, FixedKey, NumberedKey, GivenKey, ArgumentName, LocalName, ConstantName, GlobalName, OperatesBy, StandsFree, IsNoName, IsRegular, IsName, NameKey, name_at}
 use Rattle.naga_info.proofs.Options.{then_some}
 use Rattle.shader_runs.proofs.Update.{and_left, and_right}
-use Rattle.item_names.proofs.Counts.{element}
+use Rattle.naga_names.proofs.Counts.{element}
 use Rattle.naga_form.specs.Names.{argument_name, numbered_name, wgsl_names, module_names, name_in, function_name, local_name, numbered_text, NamesAreCounted}
 use Rattle.naga_form.specs.Types.{value_type, pointer_to_local, declared_type, type_spelled, type_told}
 use Rattle.naga_info.specs.declared.info.TypeResolution.TheVariants.{Handle}
@@ -35,15 +35,15 @@ use Rattle.naga_form.proofs.Facts.{returned_at}
 use Rattle.std.proofs.lemmas.Option.{slice_get-map}
 use Rattle.indexmap.specs.IndexMap.{keys}
 use Rattle.naga_ir.specs.declared.expression.Expression.TheVariants as expression
-use Rattle.naga_operators.specs.declared.BinaryOperator.{BinaryOperator}
-use Rattle.naga_operators.specs.declared.BinaryOperator.TheVariants as operator
+use Rattle.naga_ir.specs.declared.operators.BinaryOperator.{BinaryOperator}
+use Rattle.naga_ir.specs.declared.operators.BinaryOperator.TheVariants as operator
 use Rattle.naga_ir.specs.declared.module.Module.{Module}
 use Rattle.accepted_modules.proofs.Accepting.{function_fits_word_at, function_fits_expressions, function_fits_block, local_word_at, load_word_at, binary_at}
 use Rattle.naga_keywords.specs.Plain.{is_word}
-use Rattle.item_names.specs.Naming.{label_or}
-use Rattle.name_keys.specs.declared.key.NameKey.TheVariants as key
-use Rattle.item_names.proofs.NameShapes.{name_after_is_word}
-use Rattle.item_names.proofs.NamedItems.{Stands, local_stands}
+use Rattle.naga_names.specs.Naming.{label_or}
+use Rattle.naga_names.specs.declared.key.NameKey.TheVariants as key
+use Rattle.naga_names.proofs.NameShapes.{name_after_is_word}
+use Rattle.naga_names.proofs.NamedItems.{Stands, local_stands}
 use Rattle.naga_form.specs.Abstraction.{is_request}
 
 -- what stands at an index of a list made from other things

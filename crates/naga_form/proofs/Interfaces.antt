@@ -7,15 +7,14 @@ use Rattle.naga_ir.specs.declared.module.Module.{Module}
 use Rattle.naga_ir.specs.declared.types.Type_.{Type_}
 use Rattle.naga_info.specs.declared.info.ExpressionInfo.{ExpressionInfo}
 use Rattle.naga_info.specs.declared.info.ModuleInfo.{ModuleInfo}
-use Rattle.name_keys.specs.Keys.{NameMap}
-use Rattle.type_spelling.specs.Contexts.{names_of}
-use Rattle.type_spelling.specs.Trees.{Names as TypeNames}
+use Rattle.naga_names.specs.Keys.{NameMap}
+use Rattle.naga_words.specs.Contexts.{names_of, Names as TypeNames}
 use Rattle.naga_ir.specs.declared.expression.Expression as ir
 use Rattle.naga_ir.specs.declared.module.LocalVariable.{LocalVariable}
 use Rattle.shader_runs.specs.Scope.{Naming}
 use Rattle.naga_form.specs.Types.{type_form, spelled_type}
-use Rattle.type_spelling.specs.Trees.{type_tree}
-use Rattle.type_spelling.proofs.Forms.{type_row}
+use Rattle.naga_form.specs.TypeTrees.{type_tree}
+use Rattle.naga_form.proofs.TypeTexts.{type_row}
 use Rattle.wgsl_text.proofs.RowText.{text-append}
 use Rattle.std.specs.Option.{option_map}
 use Rattle.std.specs.Prelude.{unwrap_or}

@@ -2,9 +2,9 @@
 use Rattle.std.proofs.Common.{◌≡◌, ℕ, ◌+◌, ◌*◌, ◌/◌, ◌%◌, ◌==◌, ℤ, pos, negsuc, codes, refl, sym, ap, ◌∙◌, arith}
 use Rattle.std.specs.Prelude.{if◌then◌else◌}
 use Rattle.std.specs.Str.{bytes_eq}
-use Rattle.naga_enumerations.specs.declared.expression.Literal.{Literal}
-use Rattle.naga_enumerations.specs.declared.expression.Literal.TheVariants as literal
-use Rattle.naga_enumerations.specs.declared.types.ScalarKind.TheVariants as kind
+use Rattle.naga_ir.specs.declared.expression.Literal.{Literal}
+use Rattle.naga_ir.specs.declared.expression.Literal.TheVariants as literal
+use Rattle.naga_ir.specs.declared.types.ScalarKind.TheVariants as kind
 use Rattle.shader_runs.specs.Value.{Value, Truth, Whole, Opaque}
 use Rattle.naga_form.specs.Literals.{literal_value, integer_payload, abstract_word}
 

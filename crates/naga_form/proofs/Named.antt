@@ -12,16 +12,16 @@ use Rattle.std.proofs.lemmas.Slice.Eq.{bytes_eq-Decides}
 use Rattle.naga_ir.specs.declared.module.Function as ir_function
 use Rattle.naga_ir.specs.declared.module.FunctionArgument.{FunctionArgument}
 use Rattle.naga_ir.specs.declared.module.Module.{Module}
-use Rattle.item_names.specs.Naming.{label_or, name_after}
+use Rattle.naga_names.specs.Naming.{label_or, name_after}
 use Rattle.naga_keywords.specs.Plain.{is_identifier_char, is_word}
-use Rattle.item_names.specs.Reset.{Labelled, labelled_items, labels_of, named_items, PutsInto}
+use Rattle.naga_names.specs.Reset.{Labelled, labelled_items, labels_of, named_items, PutsInto}
 use Rattle.naga_keywords.specs.declared.keywords.TheConstants.{RESERVED, BUILTIN_IDENTIFIERS}
-use Rattle.name_keys.specs.declared.key.NameKey.TheVariants as key
+use Rattle.naga_names.specs.declared.key.NameKey.TheVariants as key
 use Rattle.naga_keywords.proofs.Plains.{words_are}
 use Rattle.naga_keywords.proofs.SetLemmas.{texts_of, contains-texts_of}
-use Rattle.item_names.proofs.NameShapes.{name_after_is_word, name_after_no_keyword, name_after_no_builtin, plain_ends, name_after_not_numbered}
-use Rattle.item_names.proofs.NameKeys.{items_apart}
-use Rattle.item_names.proofs.NamedItems.{Stands, put_at, item_names_tell, function_stands, argument_stands}
+use Rattle.naga_names.proofs.NameShapes.{name_after_is_word, name_after_no_keyword, name_after_no_builtin, plain_ends, name_after_not_numbered}
+use Rattle.naga_names.proofs.NameKeys.{items_apart}
+use Rattle.naga_names.proofs.NamedItems.{Stands, put_at, item_names_tell, function_stands, argument_stands}
 use Rattle.wgsl_text.specs.Keywords.{reserved_words, builtin_words}
 use Rattle.wgsl_text.specs.Words.{is_letter, is_word_byte, all_word_bytes, is_word_text, stands_in, is_reserved, is_builtin, IsIdentifier}
 use Rattle.shader_runs.proofs.Update.{and_left, and_right}

@@ -6,7 +6,7 @@ use Rattle.std.specs.List.{list_all}
 use Rattle.std.specs.Option.{option_map_or, option_or}
 use Rattle.std.proofs.lemmas.Bool.{false≢true, true≢false, and_parts, not-true}
 use Rattle.std.proofs.lemmas.Option.{same_Some}
-use Rattle.naga_operators.specs.declared.UnaryOperator.TheVariants as unary
+use Rattle.naga_ir.specs.declared.operators.UnaryOperator.TheVariants as unary
 use Rattle.wgsl_text.specs.Words.{stands_in, is_builtin}
 use Rattle.wgsl_text.specs.Grammar.{IsType, is_type, PartsRule, TakesNone, rule_among, type_templates}
 use Rattle.wgsl_text.specs.Reading.{type_layout}

@@ -5,27 +5,27 @@ use Rattle.std.specs.Str.{bytes_eq}
 use Rattle.std.proofs.lemmas.Bool.{false≢true}
 use Rattle.std.proofs.lemmas.Option.{same_Some}
 use Rattle.std.specs.Option.{option_or}
-use Rattle.naga_enumerations.specs.declared.expression.SwizzleComponent.{SwizzleComponent}
-use Rattle.naga_enumerations.specs.declared.expression.SwizzleComponent.TheVariants as component
-use Rattle.naga_enumerations.specs.declared.types.VectorSize.{VectorSize}
-use Rattle.naga_enumerations.specs.declared.types.VectorSize.TheVariants as vector
-use Rattle.naga_operators.specs.declared.BinaryOperator.{BinaryOperator}
-use Rattle.naga_operators.specs.declared.BinaryOperator.TheVariants as binary
-use Rattle.naga_operators.specs.declared.UnaryOperator.{UnaryOperator}
-use Rattle.naga_operators.specs.declared.UnaryOperator.TheVariants as unary
-use Rattle.naga_operators.specs.declared.MathFunction.{MathFunction}
-use Rattle.naga_operators.specs.declared.MathFunction.TheVariants as math
-use Rattle.naga_operators.specs.declared.RelationalFunction.{RelationalFunction}
-use Rattle.naga_operators.specs.declared.RelationalFunction.TheVariants as relational
-use Rattle.naga_operators.specs.declared.DerivativeAxis.{DerivativeAxis}
-use Rattle.naga_operators.specs.declared.DerivativeAxis.TheVariants as axis
-use Rattle.naga_operators.specs.declared.DerivativeControl.{DerivativeControl}
-use Rattle.naga_operators.specs.declared.DerivativeControl.TheVariants as control
-use Rattle.naga_operators.specs.declared.SubgroupOperation.{SubgroupOperation}
-use Rattle.naga_operators.specs.declared.SubgroupOperation.TheVariants as subgroup
-use Rattle.naga_operators.specs.declared.CollectiveOperation.{CollectiveOperation}
-use Rattle.naga_operators.specs.declared.CollectiveOperation.TheVariants as collective
-use Rattle.naga_operators.specs.declared.Direction.TheVariants as direction
+use Rattle.naga_ir.specs.declared.expression.SwizzleComponent.{SwizzleComponent}
+use Rattle.naga_ir.specs.declared.expression.SwizzleComponent.TheVariants as component
+use Rattle.naga_ir.specs.declared.types.VectorSize.{VectorSize}
+use Rattle.naga_ir.specs.declared.types.VectorSize.TheVariants as vector
+use Rattle.naga_ir.specs.declared.operators.BinaryOperator.{BinaryOperator}
+use Rattle.naga_ir.specs.declared.operators.BinaryOperator.TheVariants as binary
+use Rattle.naga_ir.specs.declared.operators.UnaryOperator.{UnaryOperator}
+use Rattle.naga_ir.specs.declared.operators.UnaryOperator.TheVariants as unary
+use Rattle.naga_ir.specs.declared.operators.MathFunction.{MathFunction}
+use Rattle.naga_ir.specs.declared.operators.MathFunction.TheVariants as math
+use Rattle.naga_ir.specs.declared.operators.RelationalFunction.{RelationalFunction}
+use Rattle.naga_ir.specs.declared.operators.RelationalFunction.TheVariants as relational
+use Rattle.naga_ir.specs.declared.operators.DerivativeAxis.{DerivativeAxis}
+use Rattle.naga_ir.specs.declared.operators.DerivativeAxis.TheVariants as axis
+use Rattle.naga_ir.specs.declared.operators.DerivativeControl.{DerivativeControl}
+use Rattle.naga_ir.specs.declared.operators.DerivativeControl.TheVariants as control
+use Rattle.naga_ir.specs.declared.operators.SubgroupOperation.{SubgroupOperation}
+use Rattle.naga_ir.specs.declared.operators.SubgroupOperation.TheVariants as subgroup
+use Rattle.naga_ir.specs.declared.operators.CollectiveOperation.{CollectiveOperation}
+use Rattle.naga_ir.specs.declared.operators.CollectiveOperation.TheVariants as collective
+use Rattle.naga_ir.specs.declared.operators.Direction.TheVariants as direction
 use Rattle.naga_form.specs.OperatorTable.{Operator, BinarySign, UnarySign, Choice, Mathematical, Relation, Derivative, ArrayLength, Sample, Gather, Texel, TexelStore, TexelChange, ImageSize, CountOf, AtomicLoad, AtomicStore, AtomicChange, UniformLoad, Ballot, Collective, FromSubgroup, Barrier, CooperativeLoad, CooperativeStore, CooperativeMultiplyAdd, TraceRay, RayStep, RayIntersection, RayCorners, Construct, Splat, Convert, Reinterpret, Level, Automatic, Zero, Exact, Biased, Graded, OnlyTexel, BothTexel, ImageCount, Levels, Layers, Samples, Change, AddTo, SubtractFrom, AndWith, OrWith, XorWith, MinimumOf, MaximumOf, Exchange, CompareExchange, Source, First, Indexed, Shuffled, ShuffledDown, ShuffledUp, ShuffledXor, QuadIndexed, QuadSwapped, Kept, StorageKept, WorkgroupKept, SubgroupKept, TextureKept, run_word, operand_count, one_word, is_told, is_untyped}
 
 -- the operators of different words that take no type

@@ -1,7 +1,7 @@
 -- What stands between the operands of an operator's form is the operator's text.
 use Rattle.std.proofs.Common.{◌≡◌, refl}
-use Rattle.naga_operators.specs.declared.BinaryOperator.{BinaryOperator}
-use Rattle.naga_operators.specs.declared.BinaryOperator.TheVariants as operator
+use Rattle.naga_ir.specs.declared.operators.BinaryOperator.{BinaryOperator}
+use Rattle.naga_ir.specs.declared.operators.BinaryOperator.TheVariants as operator
 use Rattle.naga_form.specs.Operators.{operator_form}
 use Rattle.wgsl_text.specs.Pieces.{binary_pieces}
 use Rattle.wgsl_text.specs.Text.{text}

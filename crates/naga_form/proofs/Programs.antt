@@ -5,11 +5,11 @@ use Rattle.std.specs.List.{list_all}
 use Rattle.std.specs.Option.{is_some, option_map}
 use Rattle.std.proofs.lemmas.Bool.{eqb-false, ltb-true, leb-true, lt-ltb, and_from, or_right}
 use Rattle.naga_ir.specs.StatementTree.{SimpleStatement, emit, store, return, StatementTree, simple, block, branch, switch, loop, BlockTree, no_statements, statement, CaseTrees, no_cases, case}
-use Rattle.naga_enumerations.specs.declared.statement.SwitchValue.{SwitchValue}
-use Rattle.naga_enumerations.specs.declared.statement.SwitchValue.TheVariants as label
+use Rattle.naga_ir.specs.declared.statement.SwitchValue.{SwitchValue}
+use Rattle.naga_ir.specs.declared.statement.SwitchValue.TheVariants as label
 use Rattle.naga_ir.specs.declared.expression.Expression as ir
-use Rattle.naga_enumerations.specs.declared.expression.Literal as ir_literal
-use Rattle.naga_enumerations.specs.declared.expression.Literal.TheVariants as literal
+use Rattle.naga_ir.specs.declared.expression.Literal as ir_literal
+use Rattle.naga_ir.specs.declared.expression.Literal.TheVariants as literal
 use Rattle.naga_ir.specs.declared.module.Function as ir_function
 use Rattle.naga_ir.specs.declared.module.FunctionArgument.{FunctionArgument}
 use Rattle.naga_ir.specs.declared.module.FunctionResult.{FunctionResult}
@@ -29,7 +29,7 @@ use Rattle.wgsl_text.specs.GrammarOfLines.{IsStatement, IsStatements, IsLabel, I
 use Rattle.naga_info.proofs.Options.{then_some}
 use Rattle.shader_runs.proofs.Update.{and_left, and_right}
 use Rattle.shader_runs.proofs.Sources.{forgotten_named}
-use Rattle.item_names.proofs.Counts.{element}
+use Rattle.naga_names.proofs.Counts.{element}
 use Rattle.naga_form.specs.Form.{parameters_form, result_form, function_form, functions_form, PlainForm, ValueForm, ReferenceForm, as_value, as_reference, own_plain, own_if, standing_plain, plain_below, plain_form, value_form, let_form, then_if, lets_form, return_line, simple_form, loop_form, label_form, labels_form, line_form, lines_form, cases_form, locals_form, written_program}
 use Rattle.naga_form.specs.Premises.{nothing_named, handles_are_counted}
 use Rattle.naga_form.specs.Names.{module_names, wgsl_names, numbered_text, numbered_name}
@@ -42,10 +42,10 @@ use Rattle.std.specs.Char.{is_ascii_digit}
 use Rattle.std.specs.Str.{bytes_eq}
 use Rattle.std.proofs.lemmas.Option.{slice_get_within, slice_get-map}
 use Rattle.std.proofs.lemmas.Slice.Eq.{bytes_eq-Decides}
-use Rattle.item_names.proofs.NamedItems.{local_stands}
+use Rattle.naga_names.proofs.NamedItems.{local_stands}
 use Rattle.naga_ir.specs.declared.expression.Expression.TheVariants as expression
 use Rattle.naga_ir.specs.declared.module.LocalVariable.{LocalVariable}
-use Rattle.item_names.proofs.BaseShapes.{all_digits-decimal}
+use Rattle.naga_names.proofs.BaseShapes.{all_digits-decimal}
 use Rattle.wgsl_text.specs.Keywords.{reserved_words, builtin_words}
 use Rattle.wgsl_text.specs.Tree as tree
 use Rattle.shader_runs.specs.World.{update}

@@ -14,14 +14,14 @@ use Rattle.accepted_modules.specs.Accepted.{is_scalar_type, is_accepted, functio
 use Rattle.naga_info.specs.declared.info.ExpressionInfo.{ExpressionInfo}
 use Rattle.naga_info.specs.declared.info.ModuleInfo.{ModuleInfo}
 use Rattle.std.specs.Option.{option_map_or, is_some}
-use Rattle.naga_enumerations.specs.declared.expression.Literal.{Literal}
+use Rattle.naga_ir.specs.declared.expression.Literal.{Literal}
 use Rattle.naga_ir.specs.declared.expression.Expression as ir
 use Rattle.naga_ir.specs.declared.expression.Expression.TheVariants as expression
 use Rattle.accepted_modules.specs.Types.{literal_word}
 use Rattle.accepted_modules.proofs.Accepting.{accepted_parts, function_fits_word_at}
 use Rattle.naga_form.specs.Literals.{LiteralsAreWritten, literal_is_written}
-use Rattle.name_keys.specs.Keys.{NameMap}
-use Rattle.name_keys.specs.declared.key.NameKey.TheVariants as key
+use Rattle.naga_names.specs.Keys.{NameMap}
+use Rattle.naga_names.specs.declared.key.NameKey.TheVariants as key
 use Rattle.shader_runs.specs.Program as shapes
 use Rattle.shader_runs.specs.Scope.{Naming, fits_function}
 use Rattle.shader_runs.specs.Text.{TextModule}
@@ -32,7 +32,7 @@ use Rattle.shader_runs.specs.Correct.{ModuleFits}
 use Rattle.shader_runs.proofs.Calls.{runs_alike}
 use Rattle.shader_runs.proofs.Names.{length-functions_of}
 use Rattle.shader_runs.proofs.Update.{and_left, and_right}
-use Rattle.item_names.proofs.Counts.{element}
+use Rattle.naga_names.proofs.Counts.{element}
 use Rattle.naga_form.specs.Form.{functions_form, written_program}
 use Rattle.naga_form.specs.Premises.{nothing_named, scope_holds, ScopesHold}
 use Rattle.naga_form.specs.Names.{NamesAreCounted, module_names, function_name}

@@ -12,7 +12,7 @@ use Rattle.naga_info.specs.declared.info.ExpressionInfo.{ExpressionInfo}
 use Rattle.naga_info.specs.declared.info.ModuleInfo.{ModuleInfo}
 use Rattle.accepted_modules.specs.Accepted.{is_accepted, function_fits, functions_fit}
 use Rattle.accepted_modules.proofs.Accepting.{accepted_functions_fit}
-use Rattle.name_keys.specs.Keys.{NameMap}
+use Rattle.naga_names.specs.Keys.{NameMap}
 use Rattle.shader_runs.specs.Program as shapes
 use Rattle.shader_runs.specs.Program.{expression_of, operands_of}
 use Rattle.shader_runs.specs.Scope.{Naming, fits_function}

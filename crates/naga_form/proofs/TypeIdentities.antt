@@ -14,28 +14,28 @@ use Rattle.naga_form.specs.Types.{type_spelled, type_told, value_type, integer_w
 use Rattle.wgsl_text.specs.Words.{stands_in}
 use Rattle.std.specs.List.{starts_with}
 use Rattle.std.specs.Bool.{nat_eq}
-use Rattle.naga_enumerations.specs.declared.image.StorageFormat.{StorageFormat}
-use Rattle.naga_enumerations.specs.declared.image.StorageFormat.TheVariants as format
-use Rattle.naga_enumerations.specs.declared.image.ImageClass.{ImageClass}
-use Rattle.naga_enumerations.specs.declared.image.ImageClass.TheVariants as class
-use Rattle.naga_enumerations.specs.declared.image.ImageDimension.{ImageDimension}
-use Rattle.naga_enumerations.specs.declared.image.ImageDimension.TheVariants as dimension
-use Rattle.naga_enumerations.specs.declared.types.AddressSpace.{AddressSpace}
-use Rattle.naga_enumerations.specs.declared.types.AddressSpace.TheVariants as space
-use Rattle.naga_enumerations.specs.declared.types.CooperativeRole.{CooperativeRole}
-use Rattle.naga_enumerations.specs.declared.types.CooperativeRole.TheVariants as role
-use Rattle.naga_enumerations.specs.declared.types.CooperativeSize.{CooperativeSize}
-use Rattle.naga_enumerations.specs.declared.types.CooperativeSize.TheVariants as cooperative
-use Rattle.naga_enumerations.specs.declared.types.Scalar.{Scalar}
-use Rattle.naga_enumerations.specs.declared.types.ScalarKind.{ScalarKind}
-use Rattle.naga_enumerations.specs.declared.types.ScalarKind.TheVariants as kind
-use Rattle.naga_enumerations.specs.declared.types.VectorSize.{VectorSize}
-use Rattle.naga_enumerations.specs.declared.types.VectorSize.TheVariants as vector
+use Rattle.naga_ir.specs.declared.image.StorageFormat.{StorageFormat}
+use Rattle.naga_ir.specs.declared.image.StorageFormat.TheVariants as format
+use Rattle.naga_ir.specs.declared.image.ImageClass.{ImageClass}
+use Rattle.naga_ir.specs.declared.image.ImageClass.TheVariants as class
+use Rattle.naga_ir.specs.declared.image.ImageDimension.{ImageDimension}
+use Rattle.naga_ir.specs.declared.image.ImageDimension.TheVariants as dimension
+use Rattle.naga_ir.specs.declared.types.AddressSpace.{AddressSpace}
+use Rattle.naga_ir.specs.declared.types.AddressSpace.TheVariants as space
+use Rattle.naga_ir.specs.declared.types.CooperativeRole.{CooperativeRole}
+use Rattle.naga_ir.specs.declared.types.CooperativeRole.TheVariants as role
+use Rattle.naga_ir.specs.declared.types.CooperativeSize.{CooperativeSize}
+use Rattle.naga_ir.specs.declared.types.CooperativeSize.TheVariants as cooperative
+use Rattle.naga_ir.specs.declared.types.Scalar.{Scalar}
+use Rattle.naga_ir.specs.declared.types.ScalarKind.{ScalarKind}
+use Rattle.naga_ir.specs.declared.types.ScalarKind.TheVariants as kind
+use Rattle.naga_ir.specs.declared.types.VectorSize.{VectorSize}
+use Rattle.naga_ir.specs.declared.types.VectorSize.TheVariants as vector
 use Rattle.naga_ir.specs.declared.types.ArraySize.{ArraySize}
 use Rattle.naga_ir.specs.declared.types.ArraySize.TheVariants as size
 use Rattle.naga_ir.specs.declared.types.TypeInner.{TypeInner}
 use Rattle.naga_ir.specs.declared.types.TypeInner.TheVariants as inner
-use Rattle.type_spelling.specs.Spelling.{is_struct}
+use Rattle.naga_words.specs.Spelling.{is_struct}
 use Rattle.wgsl_words.specs.Words.{format_word}
 use Rattle.naga_form.specs.TypeIdentity.{Identity, Nothing, StructAt, Itself, truth_number, kind_number, vector_number, components_number, cooperative_number, role_number, space_number, space_bits, dimension_number, length_code, class_code, inner_code, identity, identity_at, identity_code, unspelled}
 

@@ -5,10 +5,10 @@ use Rattle.std.specs.List.{list_all}
 use Rattle.std.specs.Option.{option_map, option_and_then}
 use Rattle.std.proofs.lemmas.Bool.{eqb-true}
 use Rattle.std.proofs.lemmas.Option.{slice_get_within, same_Some}
-use Rattle.naga_enumerations.specs.declared.types.AddressSpace.{AddressSpace}
-use Rattle.naga_enumerations.specs.declared.types.AddressSpace.TheVariants as space
-use Rattle.naga_enumerations.specs.declared.types.ScalarKind.{ScalarKind}
-use Rattle.naga_enumerations.specs.declared.types.ScalarKind.TheVariants as kind
+use Rattle.naga_ir.specs.declared.types.AddressSpace.{AddressSpace}
+use Rattle.naga_ir.specs.declared.types.AddressSpace.TheVariants as space
+use Rattle.naga_ir.specs.declared.types.ScalarKind.{ScalarKind}
+use Rattle.naga_ir.specs.declared.types.ScalarKind.TheVariants as kind
 use Rattle.naga_ir.specs.declared.module.Function.{Function}
 use Rattle.naga_ir.specs.declared.types.Type_.{Type_}
 use Rattle.naga_ir.specs.declared.types.TypeInner.{TypeInner}
@@ -22,17 +22,16 @@ use Rattle.accepted_modules.specs.Types.{word_of_width, word_of_type, word_at, p
 use Rattle.naga_info.proofs.Options.{map_some, then_some}
 use Rattle.accepted_modules.proofs.Accepting.{scalar_types_word_at, function_fits_expressions, function_fits_word_at}
 use Rattle.wgsl_words.specs.Words.{scalar_word_of, space_word, space_access_word}
-use Rattle.name_keys.specs.Keys.{NameMap}
-use Rattle.type_spelling.specs.Contexts.{names_of}
-use Rattle.type_spelling.specs.Trees.{Names as TypeNames, of_two, inner_tree, named_tree_by, pointer_tree_in, found_tree_by, tree_within, type_tree, resolution_tree}
+use Rattle.naga_names.specs.Keys.{NameMap}
+use Rattle.naga_words.specs.Contexts.{names_of, Names as TypeNames}
+use Rattle.naga_form.specs.TypeTrees.{of_two, inner_tree, named_tree_by, pointer_tree_in, found_tree_by, tree_within, type_tree, resolution_tree}
 use Rattle.wgsl_text.specs.Grammar.{IsType}
 use Rattle.wgsl_text.specs.Tables.{scalar_words}
 use Rattle.wgsl_text.specs.Tree.{TypeSpecifier, Named}
 use Rattle.wgsl_text.specs.Words.{stands_in}
 use Rattle.wgsl_text.proofs.TypeWords.{scalar_word_is, pointer_to_is}
 use Rattle.wgsl_text.proofs.ValueWords.{value_words}
-use Rattle.naga_form.specs.Types.{told_type}
-use Rattle.naga_form.specs.Types.{type_form}
+use Rattle.naga_form.specs.Types.{told_type, type_form}
 use Rattle.naga_form.proofs.Facts.{expression_at}
 
 -- a pointer to a local of the type with this word

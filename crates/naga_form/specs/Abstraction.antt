@@ -3,7 +3,7 @@ use Rattle.std.specs.Prelude.{pos, Bool, ◌||◌, List, [], ◌∷◌, ◌++◌
 use Rattle.std.specs.Option.{option_map}
 use Rattle.wgsl_text.specs.Words.{stands_in}
 use Rattle.wgsl_text.specs.Tree as tree
-use Rattle.type_spelling.specs.Trees.{pointer_tree}
+use Rattle.naga_form.specs.TypeTrees.{pointer_tree}
 use Rattle.wgsl_text.specs.Tree.{NoSpace, SpaceAlone, SpaceAndAccess, Constant, Name as NameExpression, Binary, Unary, Call, Member, IndexAt, AddressOf as Address, Dereference, NoArguments, Argument, NumberArgument, ZeroArgument, BinaryOperator, LogicalAnd, LogicalOr, UnaryOperator, TypeSpecifier, DefaultLabel, SignedLabel, UnsignedLabel, LastLabel, MoreLabels, TypedLet, CallStatement, ReturnValue, Discard, If, Loop, LoopBreakIf, Switch, NoStatements, Then, NoCases, Case}
 use Rattle.wgsl_text.specs.Pieces.{binary_pieces, unary_mark}
 use Rattle.wgsl_text.specs.Text.{text, mark_text}

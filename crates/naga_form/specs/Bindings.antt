@@ -3,7 +3,7 @@ use Rattle.std.specs.Prelude.{◌≡◌, ℕ, List, [], ◌∷◌, ◌++◌, map
 use Rattle.naga_ir.specs.declared.module.Module.{Module}
 use Rattle.naga_info.specs.declared.info.ExpressionInfo.{ExpressionInfo}
 use Rattle.naga_info.specs.declared.info.ModuleInfo.{ModuleInfo}
-use Rattle.type_spelling.specs.Trees.{Names as TypeNames}
+use Rattle.naga_words.specs.Contexts.{Names as TypeNames}
 use Rattle.shader_runs.specs.Scope.{Naming}
 use Rattle.shader_runs.specs.Bindings.{text_lets, function_bindings, bound_names}
 use Rattle.wgsl_text.specs.Reading.{type_layout}

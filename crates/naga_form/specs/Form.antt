@@ -3,8 +3,8 @@
 -- their names are in scope, is what the runs say of a function's shape.
 use Rattle.std.specs.Prelude.{[], ℕ, pos, negsuc, ◌++◌, ◌+◌, false, List, ◌∷◌, Option, Some, None, slice_get, zero, suc, ◌-◌, Bool, true, length}
 use Rattle.std.specs.Option.{option_map_or, option_map}
-use Rattle.naga_enumerations.specs.declared.statement.SwitchValue.{SwitchValue}
-use Rattle.naga_enumerations.specs.declared.statement.SwitchValue.TheVariants as label
+use Rattle.naga_ir.specs.declared.statement.SwitchValue.{SwitchValue}
+use Rattle.naga_ir.specs.declared.statement.SwitchValue.TheVariants as label
 use Rattle.naga_ir.specs.StatementTree.{SimpleStatement, emit, store, return, break, continue, kill, StatementTree, simple, block, branch, switch, loop, BlockTree, no_statements, statement, CaseTrees, no_cases, case}
 use Rattle.naga_ir.specs.declared.expression.Expression as ir
 use Rattle.naga_ir.specs.declared.expression.Expression.TheVariants as expression
@@ -13,11 +13,10 @@ use Rattle.naga_ir.specs.declared.module.FunctionArgument.{FunctionArgument}
 use Rattle.naga_ir.specs.declared.module.FunctionResult.{FunctionResult}
 use Rattle.naga_ir.specs.declared.module.Module.{Module}
 use Rattle.naga_ir.specs.declared.types.Type_.{Type_}
-use Rattle.name_keys.specs.Keys.{NameMap}
+use Rattle.naga_names.specs.Keys.{NameMap}
 use Rattle.wgsl_text.specs.Tree.{Truth, Expression, Constant, Name, Statement, Return, ReturnValue, Statements, NoStatements, Then, Parameter, Result, NoResult, ResultOf, Function, Program, no_declarations, TypeSpecifier, Binary, AddressOf, Dereference, Let, TypedLet, Assign, Break, Continue, Discard, If, Loop, LoopBreakIf, Switch, Block, Cases, NoCases, Case, Label, DefaultLabel, SignedLabel, UnsignedLabel, Labels, LastLabel, MoreLabels, Local}
 use Rattle.naga_form.specs.Names.{function_name, argument_name, module_names}
-use Rattle.type_spelling.specs.Contexts.{names_of}
-use Rattle.type_spelling.specs.Trees.{Names as TypeNames}
+use Rattle.naga_words.specs.Contexts.{names_of, Names as TypeNames}
 use Rattle.naga_form.specs.Types.{type_form, told_type}
 use Rattle.naga_form.specs.Literals.{literal_form}
 use Rattle.naga_ir.specs.declared.module.LocalVariable.{LocalVariable}

@@ -5,12 +5,11 @@ use Rattle.naga_ir.specs.declared.module.Function as ir_function
 use Rattle.naga_ir.specs.declared.module.FunctionResult.{FunctionResult}
 use Rattle.naga_ir.specs.declared.module.Module as ir_module
 use Rattle.naga_ir.specs.declared.types.Type_.{Type_}
-use Rattle.name_keys.specs.Keys.{NameMap}
+use Rattle.naga_names.specs.Keys.{NameMap}
 use Rattle.wgsl_text.specs.Reading.{type_layout}
 use Rattle.wgsl_text.specs.Tree.{Attribute, Parameter, Result, NoResult, ResultOf, Function, EntryPoint, Struct, NamedConstant, Override, Global, Program}
 use Rattle.naga_form.specs.Names.{function_name}
-use Rattle.type_spelling.specs.Contexts.{names_of}
-use Rattle.type_spelling.specs.Trees.{Names as TypeNames}
+use Rattle.naga_words.specs.Contexts.{names_of, Names as TypeNames}
 use Rattle.naga_form.specs.Types.{spelled_type}
 
 -- what passes in or out of a function: the attributes that bind it, and its type's spelling

@@ -1,9 +1,9 @@
 -- Literals: how they are written, and the values that they have in the module and in its text.
 use Rattle.std.specs.Prelude.{ℕ, suc, ℤ, pos, negsuc, Bool, true, false, List, [], ◌==◌, ◌+◌, ◌*◌, IsTrue, slice_get, if◌then◌else◌, codes}
-use Rattle.naga_enumerations.specs.declared.expression.Literal as ir
-use Rattle.naga_enumerations.specs.declared.expression.Literal.TheVariants as literal
-use Rattle.naga_enumerations.specs.declared.types.ScalarKind.{ScalarKind}
-use Rattle.naga_enumerations.specs.declared.types.ScalarKind.TheVariants as kind
+use Rattle.naga_ir.specs.declared.expression.Literal as ir
+use Rattle.naga_ir.specs.declared.expression.Literal.TheVariants as literal
+use Rattle.naga_ir.specs.declared.types.ScalarKind.{ScalarKind}
+use Rattle.naga_ir.specs.declared.types.ScalarKind.TheVariants as kind
 use Rattle.naga_ir.specs.declared.types.TypeInner.TheVariants as inner
 use Rattle.naga_form.specs.TypeIdentity.{Itself, unspelled}
 use Rattle.naga_ir.specs.declared.expression.Expression.{Expression}

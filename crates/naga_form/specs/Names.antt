@@ -4,11 +4,11 @@ use Rattle.std.specs.FinSet as set
 use Rattle.std.specs.Map.{update_all}
 use Rattle.naga_ir.specs.declared.module.Function as ir_function
 use Rattle.naga_ir.specs.declared.module.Module.{Module}
-use Rattle.item_names.specs.Naming.{Names, new_names, labels_with_base}
-use Rattle.name_keys.specs.Keys.{NameMap, same_key}
-use Rattle.item_names.specs.Reset.{labelled_items, labels_of, named_items}
-use Rattle.name_keys.specs.declared.key.NameKey.{NameKey}
-use Rattle.name_keys.specs.declared.key.NameKey.TheVariants as key
+use Rattle.naga_names.specs.Naming.{Names, new_names, labels_with_base}
+use Rattle.naga_names.specs.Keys.{NameMap, same_key}
+use Rattle.naga_names.specs.Reset.{labelled_items, labels_of, named_items}
+use Rattle.naga_names.specs.declared.key.NameKey.{NameKey}
+use Rattle.naga_names.specs.declared.key.NameKey.TheVariants as key
 use Rattle.wgsl_text.specs.Keywords.{reserved_words, builtin_words}
 
 -- what no name begins with

@@ -3,29 +3,29 @@
 -- there that may be left out belongs to it. What is new is a constructor, and a line of each
 -- function below.
 use Rattle.std.specs.Prelude.{ℕ, ◌||◌, ◌+◌, Bool, true, false, List, [], ◌++◌, Option, Some, None, codes, ⊤, unwrap_or, if◌then◌else◌}
-use Rattle.naga_enumerations.specs.declared.expression.SwizzleComponent.{SwizzleComponent}
-use Rattle.naga_enumerations.specs.declared.expression.SwizzleComponent.TheVariants as component
-use Rattle.naga_enumerations.specs.declared.types.VectorSize.{VectorSize}
-use Rattle.naga_operators.specs.declared.BinaryOperator.{BinaryOperator}
-use Rattle.naga_operators.specs.declared.BinaryOperator.TheVariants as binary
-use Rattle.naga_operators.specs.declared.UnaryOperator.{UnaryOperator}
-use Rattle.naga_operators.specs.declared.UnaryOperator.TheVariants as unary
-use Rattle.naga_operators.specs.declared.MathFunction.{MathFunction}
-use Rattle.naga_operators.specs.declared.MathFunction.TheVariants as math
-use Rattle.naga_operators.specs.declared.RelationalFunction.{RelationalFunction}
-use Rattle.naga_operators.specs.declared.RelationalFunction.TheVariants as relational
-use Rattle.naga_operators.specs.declared.DerivativeAxis.{DerivativeAxis}
-use Rattle.naga_operators.specs.declared.DerivativeAxis.TheVariants as axis
-use Rattle.naga_operators.specs.declared.DerivativeControl.{DerivativeControl}
-use Rattle.naga_operators.specs.declared.DerivativeControl.TheVariants as control
-use Rattle.naga_operators.specs.declared.SubgroupOperation.{SubgroupOperation}
-use Rattle.naga_operators.specs.declared.SubgroupOperation.TheVariants as subgroup
-use Rattle.naga_operators.specs.declared.CollectiveOperation.{CollectiveOperation}
-use Rattle.naga_operators.specs.declared.CollectiveOperation.TheVariants as collective
-use Rattle.naga_operators.specs.declared.Direction.{Direction}
-use Rattle.naga_operators.specs.declared.Direction.TheVariants as direction
+use Rattle.naga_ir.specs.declared.expression.SwizzleComponent.{SwizzleComponent}
+use Rattle.naga_ir.specs.declared.expression.SwizzleComponent.TheVariants as component
+use Rattle.naga_ir.specs.declared.types.VectorSize.{VectorSize}
+use Rattle.naga_ir.specs.declared.operators.BinaryOperator.{BinaryOperator}
+use Rattle.naga_ir.specs.declared.operators.BinaryOperator.TheVariants as binary
+use Rattle.naga_ir.specs.declared.operators.UnaryOperator.{UnaryOperator}
+use Rattle.naga_ir.specs.declared.operators.UnaryOperator.TheVariants as unary
+use Rattle.naga_ir.specs.declared.operators.MathFunction.{MathFunction}
+use Rattle.naga_ir.specs.declared.operators.MathFunction.TheVariants as math
+use Rattle.naga_ir.specs.declared.operators.RelationalFunction.{RelationalFunction}
+use Rattle.naga_ir.specs.declared.operators.RelationalFunction.TheVariants as relational
+use Rattle.naga_ir.specs.declared.operators.DerivativeAxis.{DerivativeAxis}
+use Rattle.naga_ir.specs.declared.operators.DerivativeAxis.TheVariants as axis
+use Rattle.naga_ir.specs.declared.operators.DerivativeControl.{DerivativeControl}
+use Rattle.naga_ir.specs.declared.operators.DerivativeControl.TheVariants as control
+use Rattle.naga_ir.specs.declared.operators.SubgroupOperation.{SubgroupOperation}
+use Rattle.naga_ir.specs.declared.operators.SubgroupOperation.TheVariants as subgroup
+use Rattle.naga_ir.specs.declared.operators.CollectiveOperation.{CollectiveOperation}
+use Rattle.naga_ir.specs.declared.operators.CollectiveOperation.TheVariants as collective
+use Rattle.naga_ir.specs.declared.operators.Direction.{Direction}
+use Rattle.naga_ir.specs.declared.operators.Direction.TheVariants as direction
 use Rattle.wgsl_words.specs.Words.{math_word, operator_text, unary_text}
-use Rattle.spelling_parts.specs.Words.{vector_word}
+use Rattle.naga_words.specs.Words.{vector_word}
 use Rattle.wgsl_text.specs.Grammar.{IsType}
 use Rattle.wgsl_text.specs.Reading.{type_layout}
 use Rattle.wgsl_text.specs.Tree.{TypeSpecifier}

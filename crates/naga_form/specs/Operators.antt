@@ -1,6 +1,6 @@
 -- Operators between two operands, as they are written.
-use Rattle.naga_operators.specs.declared.BinaryOperator as ir
-use Rattle.naga_operators.specs.declared.BinaryOperator.TheVariants as operator
+use Rattle.naga_ir.specs.declared.operators.BinaryOperator as ir
+use Rattle.naga_ir.specs.declared.operators.BinaryOperator.TheVariants as operator
 use Rattle.wgsl_text.specs.Tree.{BinaryOperator, Add, Subtract, Multiply, Divide, Modulo, Equal, NotEqual, Less, LessEqual, Greater, GreaterEqual, And, ExclusiveOr, InclusiveOr, LogicalAnd, LogicalOr, ShiftLeft, ShiftRight}
 
 abbrev pub operator_form : ir.BinaryOperator → BinaryOperator

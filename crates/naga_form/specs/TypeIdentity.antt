@@ -2,20 +2,20 @@
 use Rattle.std.specs.Prelude.{ℕ, Bool, true, false, List, [], ◌∷◌, Option, Some, None, if◌then◌else◌, slice_get}
 use Rattle.std.specs.Option.{option_map}
 use Rattle.std.specs.Int.NonZero.{non_zero_u32_get}
-use Rattle.naga_enumerations.specs.declared.image.ImageClass.{ImageClass}
-use Rattle.naga_enumerations.specs.declared.image.ImageClass.TheVariants as class
-use Rattle.naga_enumerations.specs.declared.image.ImageDimension.{ImageDimension}
-use Rattle.naga_enumerations.specs.declared.image.ImageDimension.TheVariants as dimension
-use Rattle.naga_enumerations.specs.declared.types.AddressSpace.{AddressSpace}
-use Rattle.naga_enumerations.specs.declared.types.AddressSpace.TheVariants as space
-use Rattle.naga_enumerations.specs.declared.types.CooperativeRole.{CooperativeRole}
-use Rattle.naga_enumerations.specs.declared.types.CooperativeRole.TheVariants as role
-use Rattle.naga_enumerations.specs.declared.types.CooperativeSize.{CooperativeSize}
-use Rattle.naga_enumerations.specs.declared.types.CooperativeSize.TheVariants as cooperative
-use Rattle.naga_enumerations.specs.declared.types.ScalarKind.{ScalarKind}
-use Rattle.naga_enumerations.specs.declared.types.ScalarKind.TheVariants as kind
-use Rattle.naga_enumerations.specs.declared.types.VectorSize.{VectorSize}
-use Rattle.naga_enumerations.specs.declared.types.VectorSize.TheVariants as vector
+use Rattle.naga_ir.specs.declared.image.ImageClass.{ImageClass}
+use Rattle.naga_ir.specs.declared.image.ImageClass.TheVariants as class
+use Rattle.naga_ir.specs.declared.image.ImageDimension.{ImageDimension}
+use Rattle.naga_ir.specs.declared.image.ImageDimension.TheVariants as dimension
+use Rattle.naga_ir.specs.declared.types.AddressSpace.{AddressSpace}
+use Rattle.naga_ir.specs.declared.types.AddressSpace.TheVariants as space
+use Rattle.naga_ir.specs.declared.types.CooperativeRole.{CooperativeRole}
+use Rattle.naga_ir.specs.declared.types.CooperativeRole.TheVariants as role
+use Rattle.naga_ir.specs.declared.types.CooperativeSize.{CooperativeSize}
+use Rattle.naga_ir.specs.declared.types.CooperativeSize.TheVariants as cooperative
+use Rattle.naga_ir.specs.declared.types.ScalarKind.{ScalarKind}
+use Rattle.naga_ir.specs.declared.types.ScalarKind.TheVariants as kind
+use Rattle.naga_ir.specs.declared.types.VectorSize.{VectorSize}
+use Rattle.naga_ir.specs.declared.types.VectorSize.TheVariants as vector
 use Rattle.naga_info.specs.declared.info.TypeResolution.{TypeResolution}
 use Rattle.naga_info.specs.declared.info.TypeResolution.TheVariants.{Handle, Value}
 use Rattle.naga_ir.specs.declared.types.ArraySize.{ArraySize}
@@ -23,7 +23,7 @@ use Rattle.naga_ir.specs.declared.types.ArraySize.TheVariants as size
 use Rattle.naga_ir.specs.declared.types.Type_.{Type_}
 use Rattle.naga_ir.specs.declared.types.TypeInner.{TypeInner}
 use Rattle.naga_ir.specs.declared.types.TypeInner.TheVariants as inner
-use Rattle.type_spelling.specs.Spelling.{is_struct}
+use Rattle.naga_words.specs.Spelling.{is_struct}
 use Rattle.wgsl_words.specs.Words.{format_word}
 
 -- What a type is told by. A handle out of range and a struct without a handle, which stand in no module, are told by

@@ -12,10 +12,10 @@ use Rattle.naga_info.specs.declared.info.ExpressionInfo.{ExpressionInfo}
 use Rattle.naga_info.specs.declared.info.TypeResolution.{TypeResolution}
 use Rattle.naga_info.specs.declared.info.TypeResolution.TheVariants.{Handle}
 use Rattle.accepted_modules.specs.Types.{word_at, spelling_of, local_pointer}
-use Rattle.type_spelling.specs.Contexts.{names_of}
-use Rattle.spelling_parts.specs.Parts.{known_text}
-use Rattle.type_spelling.specs.Spelling.{Context, type_parts, resolution_parts}
-use Rattle.type_spelling.specs.Trees.{Names as TypeNames, type_tree, resolution_tree, writer_context}
+use Rattle.naga_words.specs.Contexts.{names_of, Names as TypeNames, writer_context}
+use Rattle.naga_words.specs.Parts.{known_text}
+use Rattle.naga_words.specs.Spelling.{Context, type_parts, resolution_parts}
+use Rattle.naga_form.specs.TypeTrees.{type_tree, resolution_tree}
 use Rattle.naga_form.specs.TypeIdentity.{Identity, identity, unspelled}
 use Rattle.naga_form.specs.Names.{module_names}
 use Rattle.wgsl_text.specs.Words.{stands_in}

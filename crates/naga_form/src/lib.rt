@@ -1,17 +1,19 @@
 //! What is written for a module, and why it does what the module does. The public functions are laws.
 #![tactic(auto)]
 
+pub mod types;
+
 ghost use Rattle.std.specs.Prelude.{◌≡◌, ◌↔◌, ℕ, List, Some, None, IsTrue, Bool, length};
 ghost use Rattle.naga_ir.specs.declared.module.Function.{Function};
 ghost use Rattle.naga_ir.specs.declared.module.Module.{Module};
 ghost use Rattle.naga_ir.specs.declared.types.Type_.{Type_};
 ghost use Rattle.naga_info.specs.declared.info.ExpressionInfo.{ExpressionInfo};
-ghost use Rattle.name_keys.specs.Keys.{NameMap};
+ghost use Rattle.naga_names.specs.Keys.{NameMap};
 ghost use Rattle.shader_runs.specs.Form.{form_function, form_module};
 ghost use Rattle.naga_form.specs.Abstraction.{function_read, is_request, program_read};
 ghost use Rattle.naga_form.specs.Resolution.{ResolvesAs};
 ghost use Rattle.naga_form.specs.Literals.{LiteralsAreWritten, literal_value};
-ghost use Rattle.naga_enumerations.specs.declared.expression.Literal.{Literal};
+ghost use Rattle.naga_ir.specs.declared.expression.Literal.{Literal};
 ghost use Rattle.naga_form.specs.Types.{value_type, LocalsAreSpelled};
 ghost use Rattle.naga_form.specs.TypeIdentity.{identity};
 ghost use Rattle.accepted_modules.specs.Types.{spelling_of};

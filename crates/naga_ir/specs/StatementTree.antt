@@ -1,13 +1,13 @@
 -- Blocks as a plain tree, in which a handle is its index. Contracts see a `Block` as a `BlockTree`.
 use Rattle.std.specs.Prelude.{ℕ, ◌+◌, List, Bool, true, false, Option}
 use Rattle.naga_ir.specs.declared.expression.CooperativeData.{CooperativeData}
-use Rattle.naga_flags.specs.declared.flags.Barrier.{Barrier}
+use Rattle.naga_ir.specs.declared.flags.Barrier.{Barrier}
 use Rattle.naga_ir.specs.declared.operators.AtomicFunction.{AtomicFunction}
-use Rattle.naga_operators.specs.declared.CollectiveOperation.{CollectiveOperation}
+use Rattle.naga_ir.specs.declared.operators.CollectiveOperation.{CollectiveOperation}
 use Rattle.naga_ir.specs.declared.operators.GatherMode.{GatherMode}
-use Rattle.naga_operators.specs.declared.SubgroupOperation.{SubgroupOperation}
+use Rattle.naga_ir.specs.declared.operators.SubgroupOperation.{SubgroupOperation}
 use Rattle.naga_ir.specs.declared.statement.RayPipelineFunction.{RayPipelineFunction}
-use Rattle.naga_enumerations.specs.declared.statement.SwitchValue.{SwitchValue}
+use Rattle.naga_ir.specs.declared.statement.SwitchValue.{SwitchValue}
 
 -- the statements that hold no block
 pub data SimpleStatement : Type 0 where

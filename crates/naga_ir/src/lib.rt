@@ -10,26 +10,30 @@
 //! contract cannot spell has a `_` behind it: [`Type_`], `data_`.
 #![tactic(auto)]
 
+pub mod arena;
+pub mod binding;
+pub mod diagnostics;
 pub mod expression;
+pub mod flags;
+pub mod image;
 pub mod module;
 pub mod operators;
 pub mod statement;
 pub mod types;
+pub mod unique_arena;
 
+pub use arena::{Arena, Handle, Item, Place};
+pub use binding::{Binding, BuiltIn, Interpolation, ResourceBinding, Sampling};
+pub use diagnostics::{FilterableTriggeringRule, Severity, StandardFilterableTriggeringRule};
 pub use expression::{
     CooperativeData, Expression, ImageQuery, Literal, SampleLevel, SwizzleComponent,
 };
+pub use flags::{Barrier, MemoryDecorations, StorageAccess};
+pub use image::{ImageClass, ImageDimension, StorageFormat};
 pub use module::{
     Constant, EntryPoint, Function, FunctionArgument, FunctionResult, GlobalVariable,
     LocalVariable, MeshStageInfo, Module, Override, ShaderStage, SpecialTypes,
 };
-pub use naga_arena::{Arena, Handle, Item, Place, UniqueArena, arena, unique_arena};
-pub use naga_bindings::{Binding, BuiltIn, Interpolation, ResourceBinding, Sampling, binding};
-pub use naga_enumerations::{
-    FilterableTriggeringRule, ImageClass, ImageDimension, Severity,
-    StandardFilterableTriggeringRule, StorageFormat, diagnostics, image,
-};
-pub use naga_flags::{Barrier, MemoryDecorations, StorageAccess, flags};
 pub use operators::{
     AtomicFunction, BinaryOperator, CollectiveOperation, DerivativeAxis, DerivativeControl,
     Direction, GatherMode, MathFunction, RelationalFunction, SubgroupOperation, UnaryOperator,
@@ -39,3 +43,4 @@ pub use types::{
     AddressSpace, ArraySize, CooperativeRole, CooperativeSize, PredeclaredType, Scalar, ScalarKind,
     StructMember, Type_, TypeInner, VectorSize,
 };
+pub use unique_arena::UniqueArena;

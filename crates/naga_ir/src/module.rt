@@ -1,15 +1,37 @@
 //! Modules: what a shader declares.
 
+use crate::arena::{Arena, Handle, Item};
+use crate::binding::{Binding, ResourceBinding};
 use crate::expression::Expression;
+use crate::flags::MemoryDecorations;
 use crate::statement::Block;
-use crate::types::Type_;
+use crate::types::{AddressSpace, PredeclaredType, Type_};
+use crate::unique_arena::UniqueArena;
 use indexmap::IndexMap;
-use naga_arena::{Arena, Handle, Item, UniqueArena};
-use naga_bindings::{Binding, ResourceBinding};
-pub use naga_enumerations::ShaderStage;
-use naga_enumerations::{AddressSpace, PredeclaredType};
-use naga_flags::MemoryDecorations;
 use std::alloc::Global;
+
+/// The stage of a pipeline that an entry point is for.
+#[derive(Debug, Clone, Copy, PartialEq, Eq, Hash)]
+pub enum ShaderStage {
+    /// Places vertices: `@vertex`.
+    Vertex,
+    /// Starts mesh workgroups: `@task`.
+    Task,
+    /// Makes primitives: `@mesh`.
+    Mesh,
+    /// Colours fragments: `@fragment`.
+    Fragment,
+    /// Computes: `@compute`.
+    Compute,
+    /// Sends rays: `@ray_generation`.
+    RayGeneration,
+    /// Answers a ray that hit nothing: `@miss`.
+    Miss,
+    /// Judges each hit of a ray: `@any_hit`.
+    AnyHit,
+    /// Answers a ray's nearest hit: `@closest_hit`.
+    ClosestHit,
+}
 
 /// The mark of [`Constant`] in a handle.
 pub enum ConstantMark {}

@@ -7,14 +7,32 @@ ghost use Rattle.naga_ir.specs.StatementViews.{tree_of, block_of};
 
 use crate::expression::{CooperativeData, Expression};
 use crate::module::Function;
-use crate::operators::{AtomicFunction, GatherMode};
-use naga_arena::Handle;
-pub use naga_enumerations::{Range, SwitchValue};
-use naga_flags::Barrier;
-use naga_operators::{CollectiveOperation, SubgroupOperation};
+use crate::operators::{AtomicFunction, CollectiveOperation, GatherMode, SubgroupOperation};
+use crate::arena::Handle;
+use crate::flags::Barrier;
 use std::alloc::{AllocError, Global};
 use std::marker::Model;
 use std::slice::Iter;
+
+/// The handles of expressions from `first` to before `end`.
+#[derive(Debug, Clone, Copy, PartialEq, Eq, Hash)]
+pub struct Range {
+    /// The index of the first.
+    pub first: usize,
+    /// The index behind the last.
+    pub end: usize,
+}
+
+/// The value that a case of a switch is for.
+#[derive(Debug, Clone, Copy, PartialEq, Eq, Hash)]
+pub enum SwitchValue {
+    /// This one, of a signed selector: `case 1`.
+    I32(i32),
+    /// This one, of an unsigned selector: `case 1u`.
+    U32(u32),
+    /// All that no other case is for: `default`.
+    Default,
+}
 
 /// Sends a ray from an entry point of a ray pipeline.
 #[derive(Debug, Clone, Copy, PartialEq, Eq, Hash)]

@@ -6,15 +6,15 @@ use Rattle.std.specs.Option.{option_or, is_some}
 use Rattle.std.proofs.Math.Bool.{and-false}
 use Rattle.std.proofs.lemmas.List.Folds.{list_all-append}
 use Rattle.naga_ir.specs.declared.module.Module.{Module}
-use Rattle.name_keys.specs.Keys.{NameMap}
-use Rattle.item_names.specs.declared.error.NamerError.{NamerError}
-use Rattle.item_names.specs.declared.error.NamerError.TheVariants.{KeyFull, Memory}
-use Rattle.item_names.specs.Naming.{Names}
-use Rattle.item_names.specs.Refusal.{IsRefusalOfItems, RefusesItems}
-use Rattle.item_names.specs.Reset.{Labelled, key_fits, keys_fit, named_items, PutsInto, PutsBeginning, HasNamedItems, NamesItems, labelled_declarations, labelled_values, labelled_items, type_name, type_names_in}
-use Rattle.item_names.proofs.ResetLemmas.{beginning_more, refusal_more, begins, not_below}
-use Rattle.item_names.proofs.ModuleLemmas.{agree}
-use Rattle.item_names.proofs.NamerLemmas.{has_named_nothing}
+use Rattle.naga_names.specs.Keys.{NameMap}
+use Rattle.naga_names.specs.declared.error.NamerError.{NamerError}
+use Rattle.naga_names.specs.declared.error.NamerError.TheVariants.{KeyFull, Memory}
+use Rattle.naga_names.specs.Naming.{Names}
+use Rattle.naga_names.specs.Refusal.{IsRefusalOfItems, RefusesItems}
+use Rattle.naga_names.specs.Reset.{Labelled, key_fits, keys_fit, named_items, PutsInto, PutsBeginning, HasNamedItems, NamesItems, labelled_declarations, labelled_values, labelled_items, type_name, type_names_in}
+use Rattle.naga_names.proofs.ResetLemmas.{beginning_more, refusal_more, begins, not_below}
+use Rattle.naga_names.proofs.ModuleLemmas.{agree}
+use Rattle.naga_names.proofs.NamerLemmas.{has_named_nothing}
 use Rattle.naga_names.specs.Progress.{Progress, Stands, Gives, GivesModule, Leaves, argument_key}
 use Rattle.naga_names.specs.declared.namer.items.Owner.{Owner}
 use Rattle.naga_names.specs.declared.namer.items.Owner.TheVariants as owner

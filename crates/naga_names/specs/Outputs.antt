@@ -6,9 +6,9 @@ use Rattle.std.specs.HashMap as hash
 use Rattle.std.specs.Option.{option_map}
 use Rattle.naga_ir.specs.declared.types.Type_.{Type_}
 use Rattle.naga_ir.specs.declared.types.TypeInner.{TypeInner}
-use Rattle.name_keys.specs.declared.key.NameKey.TheVariants as key
-use Rattle.item_names.specs.Naming.{label_or}
-use Rattle.item_names.specs.Reset.{Labelled, is_struct, members_of, labelled_members}
+use Rattle.naga_names.specs.declared.key.NameKey.TheVariants as key
+use Rattle.naga_names.specs.Naming.{label_or}
+use Rattle.naga_names.specs.Reset.{Labelled, is_struct, members_of, labelled_members}
 
 abbrev pub words_in : {S : Type 0} → hash.HashMap ℕ (Bor (List ℕ)) S → ℕ → Option (List ℕ)
 words_in words t = option_map (λ word. word.now) (hash.get nat_eq words t)

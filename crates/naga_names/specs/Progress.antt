@@ -6,14 +6,14 @@ use Rattle.naga_ir.specs.declared.module.FunctionArgument.{FunctionArgument}
 use Rattle.naga_ir.specs.declared.module.LocalVariable.{LocalVariable}
 use Rattle.naga_ir.specs.declared.module.Module.{Module}
 use Rattle.naga_ir.specs.declared.types.Type_.{Type_}
-use Rattle.name_keys.specs.Keys.{NameMap, names_in}
-use Rattle.name_keys.specs.declared.key.ExternalTextureNameKey.{ExternalTextureNameKey}
-use Rattle.name_keys.specs.declared.key.NameKey.{NameKey}
-use Rattle.name_keys.specs.declared.key.NameKey.TheVariants as key
-use Rattle.item_names.specs.declared.error.NamerError.{NamerError}
-use Rattle.item_names.specs.Naming.{Names, label_or}
-use Rattle.item_names.specs.Refusal.{IsRefusalOfItems}
-use Rattle.item_names.specs.Reset.{Labelled, HasNamedItems, PutsBeginning, labelled_items, is_external, with_parts}
+use Rattle.naga_names.specs.Keys.{NameMap, names_in}
+use Rattle.naga_names.specs.declared.key.ExternalTextureNameKey.{ExternalTextureNameKey}
+use Rattle.naga_names.specs.declared.key.NameKey.{NameKey}
+use Rattle.naga_names.specs.declared.key.NameKey.TheVariants as key
+use Rattle.naga_names.specs.declared.error.NamerError.{NamerError}
+use Rattle.naga_names.specs.Naming.{Names, label_or}
+use Rattle.naga_names.specs.Refusal.{IsRefusalOfItems}
+use Rattle.naga_names.specs.Reset.{Labelled, HasNamedItems, PutsBeginning, labelled_items, is_external, with_parts}
 use Rattle.naga_names.specs.declared.namer.items.Naming.{Naming}
 use Rattle.naga_names.specs.declared.namer.items.Owner.{Owner}
 use Rattle.naga_names.specs.declared.namer.items.Owner.TheVariants as owner

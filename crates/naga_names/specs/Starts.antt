@@ -2,7 +2,7 @@
 use Rattle.std.specs.Prelude.{ℕ, List, map}
 use denote.Ref.{Bor}
 use Rattle.naga_keywords.specs.Words.{Words}
-use Rattle.item_names.specs.Naming.{Names, new_names}
+use Rattle.naga_names.specs.Naming.{Names, new_names}
 
 -- the words and prefixes given, and no uses
 abbrev pub start_of : Words → Words → Words → List (Bor (List ℕ)) → Names

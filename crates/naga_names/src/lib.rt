@@ -1,10 +1,16 @@
-//! Identifiers for the items of a module.
+//! Identifiers for the items of a module: the keys by which items have their names, the rules by which
+//! labels get identifiers, and the [`Namer`](namer::Namer), which makes of any label an identifier that
+//! it has not given yet.
 //!
-//! `keyword_set` has sets of words that no identifier may be, `keywords` the two tables of words of
-//! WGSL, and `namer` the `Namer`, which makes of any label an identifier that it has not given yet.
+//! `keyword_set` has sets of words that no identifier may be, and `keywords` the two tables of words of
+//! WGSL.
 #![tactic(auto)]
 
+pub mod error;
+pub mod key;
+pub mod laws;
 pub mod namer;
 
-pub use item_names::laws;
+pub use error::NamerError;
+pub use key::{EntryPointIndex, ExternalTextureNameKey, NameKey};
 pub use naga_keywords::{keyword_set, keywords};

@@ -1,20 +1,19 @@
 //! Identifiers from labels.
 ghost use Rattle.std.specs.Prelude.{◌≡◌, true, ◌∷◌, [], ◌++◌, List, ℕ, map, length, false, codes, IfOk, IfErr, OnOk, OnErr, IsErr, string_bytes};
 ghost use Rattle.naga_names.specs.Starts.{start_of};
-ghost use Rattle.item_names.specs.Naming.{Names, names_code, no_names, label_or, first_name, is_taken, name_of, with_use, IsFull, HasNamed, name_after};
-ghost use Rattle.item_names.specs.Members.{PutsName, PutsNoName, HasNamedMembers, RefusesMembers};
-ghost use Rattle.item_names.specs.Refusal.{IsRefusalOf, IsResetRefusal, RefusesItems, SomeNameIsFull, SomeKeyIsFull, KeysRunOut};
-ghost use Rattle.item_names.specs.declared.error.NamerError.TheVariants.{KeyFull};
-ghost use Rattle.name_keys.specs.Keys.{names_in};
-ghost use Rattle.item_names.specs.Reset.{labelled_members, labelled_items, HasNamedItems, PutsBeginning, NamesItems};
+ghost use Rattle.naga_names.specs.Naming.{Names, names_code, no_names, label_or, first_name, is_taken, name_of, with_use, IsFull, HasNamed, name_after};
+ghost use Rattle.naga_names.specs.Members.{PutsName, PutsNoName, HasNamedMembers, RefusesMembers};
+ghost use Rattle.naga_names.specs.Refusal.{IsRefusalOf, IsResetRefusal, RefusesItems, SomeNameIsFull, SomeKeyIsFull, KeysRunOut};
+ghost use Rattle.naga_names.specs.declared.error.NamerError.TheVariants.{KeyFull};
+ghost use Rattle.naga_names.specs.Keys.{names_in};
+ghost use Rattle.naga_names.specs.Reset.{labelled_members, labelled_items, HasNamedItems, PutsBeginning, NamesItems};
 
 use crate::namer::fallback::label_or;
 use crate::namer::items::Naming;
 use crate::namer::uses::Uses;
-pub use item_names::NamerError;
+pub use crate::{EntryPointIndex, ExternalTextureNameKey, NameKey, NamerError};
 use naga_ir::{Handle, Module, StructMember, Type_};
 use naga_keywords::keyword_set::{CaseInsensitiveKeywordSet, KeywordSet};
-pub use name_keys::{EntryPointIndex, ExternalTextureNameKey, NameKey};
 use std::alloc::{AllocError, Global};
 use std::collections::HashMap;
 use std::marker::Model;

@@ -10,7 +10,7 @@ use Rattle.accepted_modules.specs.Part.{names_nothing}
 use Rattle.naga_ir.specs.declared.module.Function as ir_function
 use Rattle.naga_ir.specs.declared.types.Type_.{Type_}
 use Rattle.naga_info.specs.declared.info.ExpressionInfo.{ExpressionInfo}
-use Rattle.name_keys.specs.Keys.{NameMap}
+use Rattle.naga_names.specs.Keys.{NameMap}
 use Rattle.shader_runs.specs.World.{update}
 use Rattle.shader_runs.specs.Program.{Function, binds, binds_as, expression_of, operands_of, from}
 use Rattle.shader_runs.specs.Scope as runs

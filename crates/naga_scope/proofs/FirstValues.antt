@@ -13,8 +13,8 @@ use Rattle.naga_ir.specs.declared.module.Function as ir_function
 use Rattle.naga_ir.specs.declared.module.LocalVariable.{LocalVariable}
 use Rattle.naga_ir.specs.declared.types.Type_.{Type_}
 use Rattle.naga_info.specs.declared.info.ExpressionInfo.{ExpressionInfo}
-use Rattle.naga_operators.specs.declared.BinaryOperator.{BinaryOperator}
-use Rattle.naga_operators.specs.declared.BinaryOperator.TheVariants as operator
+use Rattle.naga_ir.specs.declared.operators.BinaryOperator.{BinaryOperator}
+use Rattle.naga_ir.specs.declared.operators.BinaryOperator.TheVariants as operator
 use Rattle.shader_runs.specs.Program.{Function, local_count}
 use Rattle.shader_runs.specs.Scope.{Standing, Handles, usable_as, usable_if, at_start, before_local, first_values_fit}
 use Rattle.shader_runs.proofs.Update.{and_left, and_right, and_both}

@@ -17,11 +17,11 @@ use Rattle.naga_ir.specs.declared.statement.Statement.{Statement}
 use Rattle.naga_ir.specs.declared.statement.Statement.TheVariants as statement_variant
 use Rattle.naga_ir.specs.declared.types.Type_.{Type_}
 use Rattle.accepted_modules.specs.Accepted.{statement_fits, block_fits, function_fits}
-use Rattle.naga_operators.specs.declared.BinaryOperator.{BinaryOperator}
+use Rattle.naga_ir.specs.declared.operators.BinaryOperator.{BinaryOperator}
 use Rattle.naga_info.specs.declared.info.ExpressionInfo.{ExpressionInfo}
 use Rattle.accepted_modules.proofs.Accepting.{load_word_at, binary_at}
 use Rattle.accepted_modules.proofs.Fitting.{drop_first, item_at}
-use Rattle.name_keys.specs.Keys.{NameMap}
+use Rattle.naga_names.specs.Keys.{NameMap}
 use Rattle.shader_runs.specs.Program.{Function, operands_of}
 use Rattle.shader_runs.specs.Premises.{AllBelow}
 use Rattle.shader_runs.specs.Scope.{Naming, Handles, after, fits, fits_all, fits_function}

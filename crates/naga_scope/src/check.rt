@@ -8,7 +8,7 @@ ghost use Rattle.accepted_modules.specs.Accepted.{is_accepted};
 ghost use Rattle.naga_info.specs.declared.info.ExpressionInfo.{ExpressionInfo};
 ghost use Rattle.naga_ir.specs.StatementViews.{tree_of};
 ghost use Rattle.naga_ir.specs.declared.types.Type_.{Type_};
-ghost use Rattle.name_keys.specs.Keys.{NameMap};
+ghost use Rattle.naga_names.specs.Keys.{NameMap};
 ghost use Rattle.shader_runs.specs.Program.{from};
 ghost use Rattle.shader_runs.specs.Scope.{after, after_emit, at_start, before_local, first_values_fit, fits, fits_function, may_emit_all, usable_if};
 ghost use Rattle.naga_scope.specs.Flat.{holds_no_block, is_flat};

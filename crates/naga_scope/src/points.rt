@@ -6,7 +6,7 @@ ghost use Rattle.accepted_modules.specs.Part.{names_nothing};
 ghost use Rattle.naga_form.specs.Shapes.{expression_shape, function_shape, function_naming, OperandsStandBefore};
 ghost use Rattle.naga_info.specs.declared.info.ExpressionInfo.{ExpressionInfo};
 ghost use Rattle.naga_ir.specs.declared.types.Type_.{Type_};
-ghost use Rattle.name_keys.specs.Keys.{NameMap};
+ghost use Rattle.naga_names.specs.Keys.{NameMap};
 ghost use Rattle.shader_runs.specs.Program.{operands_of};
 ghost use Rattle.shader_runs.specs.Scope.{all_constant, at_start, after_one, is_constant_leaf, is_emittable, is_new, is_present, is_pure, may_emit, usable, usable_all};
 ghost use Rattle.naga_scope.specs.Standings.{emitted_standing, first_standing, handles_of, is_constant_by, standing_of, unbound_standing};

@@ -3,8 +3,8 @@ use Rattle.std.proofs.Common.{◌≡◌, ℕ, zero, suc, ◌<◌, false, List, l
 use Rattle.std.specs.Prelude.{slice_get}
 use Rattle.naga_ir.specs.declared.expression.Expression as ir
 use Rattle.naga_ir.specs.declared.expression.Expression.TheVariants as expression
-use Rattle.naga_operators.specs.declared.BinaryOperator as ir_operator
-use Rattle.naga_operators.specs.declared.BinaryOperator.TheVariants as operator
+use Rattle.naga_ir.specs.declared.operators.BinaryOperator as ir_operator
+use Rattle.naga_ir.specs.declared.operators.BinaryOperator.TheVariants as operator
 use Rattle.shader_runs.specs.Program.{operands_of}
 use Rattle.shader_runs.specs.Premises.{AllBelow}
 use Rattle.shader_runs.specs.Scope.{Handles, Naming}
@@ -18,8 +18,8 @@ use Rattle.naga_scope.specs.Standings.{handles_of, standing_of}
 use Rattle.naga_scope.specs.declared.points.Standing.{Standing}
 use Rattle.naga_scope.specs.declared.points.Standing.TheVariants.{Absent, Barred, Everywhere, Inline, Named}
 use Rattle.naga_scope.proofs.Shaped.{operator_operands}
-use Rattle.spelling_parts.specs.Output.{joined}
-use Rattle.wgsl_pieces.specs.Literals.{literal_text}
+use Rattle.naga_words.specs.Output.{joined}
+use Rattle.naga_wgsl_fns.specs.Literals.{literal_text}
 use Rattle.wgsl_text.specs.Tree.{Binary, Constant, Dereference, Name, Truth}
 use Rattle.wgsl_text.specs.Pieces.{binary_pieces}
 use Rattle.wgsl_text.specs.Reading.{expression_layout}

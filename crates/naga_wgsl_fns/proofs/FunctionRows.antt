@@ -14,17 +14,17 @@ use Rattle.naga_info.specs.declared.info.ModuleInfo.{ModuleInfo}
 use Rattle.accepted_modules.specs.Accepted.{is_accepted, function_fits}
 use Rattle.accepted_modules.specs.Part.{function_is_written, is_written_so_far}
 use Rattle.accepted_modules.proofs.Accepting.{accepted_types_are_scalar, accepted_functions_fit, list_all_at, functions_fit_at}
-use Rattle.name_keys.specs.Keys.{names_in}
-use Rattle.item_names.proofs.Counts.{element}
+use Rattle.naga_names.specs.Keys.{names_in}
+use Rattle.naga_names.proofs.Counts.{element}
 use Rattle.shader_runs.specs.Scope.{Handles}
 use Rattle.naga_form.specs.Names.{HasNamesOf, module_names}
 use Rattle.naga_form.specs.Form.{function_form, lines_form, locals_form, parameter_form, parameters_form, result_form, value_form}
 use Rattle.accepted_modules.proofs.Part.{functions_are_written}
 use Rattle.naga_scope.specs.declared.points.Standing.{Standing}
-use Rattle.spelling_parts.specs.declared.sink.SinkError.{SinkError}
-use Rattle.spelling_parts.specs.declared.sink.SinkError.TheVariants.{Failed, Memory}
-use Rattle.spelling_parts.specs.Output.{IsReason, joined}
-use Rattle.wgsl_pieces.specs.Errors.{IsWant, error_of_sink}
+use Rattle.naga_words.specs.declared.sink.SinkError.{SinkError}
+use Rattle.naga_words.specs.declared.sink.SinkError.TheVariants.{Failed, Memory}
+use Rattle.naga_words.specs.Output.{IsReason, joined}
+use Rattle.naga_wgsl_fns.specs.Errors.{IsWant, error_of_sink}
 use Rattle.wgsl_text.specs.Declarations.{function_pieces, group_end, locals_pieces, more_parameters_pieces, parameter_pieces, parameters_pieces, result_pieces, value_pieces}
 use Rattle.wgsl_text.specs.Reading.{expression_layout, type_layout}
 use Rattle.wgsl_text.specs.Text.{text}

@@ -2,7 +2,7 @@
 use Rattle.std.proofs.Common.{◌≡◌, ℕ, ◌<◌, ◌^◌, codes, decimal, ap}
 use Rattle.std.proofs.lemmas.Bool.{lt-ltb}
 use Rattle.naga_form.specs.Names.{numbered_name, numbered_text}
-use Rattle.spelling_parts.specs.Output.{joined}
+use Rattle.naga_words.specs.Output.{joined}
 
 -- the name of a handle that fits a machine word
 pub bound_row : (handle : ℕ) → handle < 2 ^ 64 → numbered_name handle ≡ joined (codes "_e") (decimal handle)

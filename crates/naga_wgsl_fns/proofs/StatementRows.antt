@@ -6,7 +6,7 @@ use Rattle.std.proofs.lemmas.List.{append-nil, drop_all}
 use Rattle.naga_ir.specs.StatementTree.{BlockTree, StatementTree, emit, return, simple, statement, store, break, continue, kill, block, branch, switch, loop}
 use Rattle.std.specs.Option.{option_map}
 use Rattle.naga_ir.specs.StatementViews.{tree_of, block_of}
-use Rattle.naga_enumerations.specs.declared.statement.Range.{Range}
+use Rattle.naga_ir.specs.declared.statement.Range.{Range}
 use Rattle.naga_ir.specs.declared.statement.Statement.{Statement}
 use Rattle.naga_ir.specs.declared.expression.Expression as ir
 use Rattle.naga_ir.specs.declared.module.FunctionResult.{FunctionResult}
@@ -22,7 +22,7 @@ use Rattle.naga_form.specs.Form.{as_reference, as_value, cases_form, let_form, l
 use Rattle.naga_scope.specs.declared.points.Standing.{Standing}
 use Rattle.naga_scope.specs.Standings.{handles_of}
 use Rattle.naga_scope.proofs.Emitting.{range_more, range_none}
-use Rattle.spelling_parts.specs.Output.{joined}
+use Rattle.naga_words.specs.Output.{joined}
 use Rattle.wgsl_text.specs.Tree.{Block, Expression, NoStatements, Statements, Then, TypeSpecifier}
 use Rattle.wgsl_text.specs.Tree as tree
 use Rattle.wgsl_text.specs.Lines.{statement_pieces, statements_pieces}

@@ -4,8 +4,8 @@ use Rattle.std.specs.Prelude.{IsTrue, unwrap_or}
 use Rattle.std.specs.Option.{is_some, option_map}
 use Rattle.std.specs.List.{list_all}
 use Rattle.std.proofs.lemmas.Option.{slice_get_within}
-use Rattle.naga_enumerations.specs.declared.types.AddressSpace.{AddressSpace}
-use Rattle.naga_enumerations.specs.declared.types.AddressSpace.TheVariants as space
+use Rattle.naga_ir.specs.declared.types.AddressSpace.{AddressSpace}
+use Rattle.naga_ir.specs.declared.types.AddressSpace.TheVariants as space
 use Rattle.naga_ir.specs.declared.types.Type_.{Type_}
 use Rattle.naga_ir.specs.declared.types.TypeInner.{TypeInner}
 use Rattle.naga_ir.specs.declared.types.TypeInner.TheVariants as inner
@@ -14,25 +14,25 @@ use Rattle.naga_info.specs.Resolution.{inner_of}
 use Rattle.accepted_modules.specs.Types.{word_of_type, word_at, pointer_spelling, spelling, spelling_of}
 use Rattle.naga_info.proofs.Options.{map_some, then_some}
 use Rattle.accepted_modules.proofs.Accepting.{list_all_at}
-use Rattle.name_keys.specs.Keys.{NameMap, names_in}
+use Rattle.naga_names.specs.Keys.{NameMap, names_in}
 use Rattle.naga_info.specs.declared.info.TypeResolution.{TypeResolution}
 use Rattle.naga_info.specs.declared.info.TypeResolution.TheVariants as resolution
-use Rattle.spelling_parts.specs.Parts.{Part, Word, Shown, Missing, IsText, lacks, before_missing, known_text, HasWritten, HasBegun}
-use Rattle.type_spelling.specs.Contexts.{names_of, names_context}
-use Rattle.type_spelling.specs.Spelling.{Context, Fits, FitsResolution, IsInOrder, end_of_base, knows_override, type_parts, resolution_parts}
-use Rattle.spelling_parts.specs.Sink.{IsBehind}
-use Rattle.type_spelling.specs.Trees.{type_tree, resolution_tree}
-use Rattle.spelling_parts.specs.declared.sink.SinkError.TheVariants.{Failed, Memory as SinkMemory}
-use Rattle.spelling_parts.specs.declared.error.TypeTextError.{TypeTextError}
-use Rattle.spelling_parts.specs.declared.error.TypeTextError.TheVariants as type_error
-use Rattle.type_spelling.proofs.Forms.{only_text, lacks_unknown, type_row, inner_tree_row}
+use Rattle.naga_words.specs.Parts.{Part, Word, Shown, Missing, IsText, lacks, before_missing, known_text, HasWritten, HasBegun}
+use Rattle.naga_words.specs.Contexts.{names_of, names_context}
+use Rattle.naga_words.specs.Spelling.{Context, Fits, FitsResolution, IsInOrder, end_of_base, knows_override, type_parts, resolution_parts}
+use Rattle.naga_words.specs.Sink.{IsBehind}
+use Rattle.naga_form.specs.TypeTrees.{type_tree, resolution_tree}
+use Rattle.naga_words.specs.declared.sink.SinkError.TheVariants.{Failed, Memory as SinkMemory}
+use Rattle.naga_words.specs.declared.error.TypeTextError.{TypeTextError}
+use Rattle.naga_words.specs.declared.error.TypeTextError.TheVariants as type_error
+use Rattle.naga_form.proofs.TypeTexts.{only_text, lacks_unknown, type_row, inner_tree_row}
 use Rattle.wgsl_text.specs.Reading.{type_layout}
 use Rattle.wgsl_text.specs.Tree.{TypeSpecifier, Named}
 use Rattle.wgsl_text.proofs.RowText.{text-append}
 use Rattle.naga_form.specs.Names.{module_names}
 use Rattle.naga_form.proofs.WrittenTypes.{HasForm, word_has_form, resolution_has_form}
-use Rattle.spelling_parts.specs.declared.sink.SinkError.{SinkError}
-use Rattle.spelling_parts.specs.Output.{Follows, Goes, IsReason, Lies, Seen, Wrote, joined}
+use Rattle.naga_words.specs.declared.sink.SinkError.{SinkError}
+use Rattle.naga_words.specs.Output.{Follows, Goes, IsReason, Lies, Seen, Wrote, joined}
 use Rattle.naga_wgsl_fns.specs.declared.functions.FunctionText.{FunctionText}
 use Rattle.naga_wgsl_fns.specs.Types.{IsWantOf, annotation_text, has_word, resolution_text, type_text}
 

@@ -8,23 +8,23 @@ use Rattle.std.proofs.lemmas.Option.{slice_get_within}
 use Rattle.naga_ir.specs.StatementTree.{emit, store, StatementTree, simple}
 use Rattle.naga_ir.specs.declared.expression.Expression.{Expression}
 use Rattle.naga_ir.specs.declared.expression.Expression.TheVariants as expression
-use Rattle.naga_enumerations.specs.declared.expression.Literal as ir_literal
+use Rattle.naga_ir.specs.declared.expression.Literal as ir_literal
 use Rattle.naga_ir.specs.declared.module.Function.{Function}
 use Rattle.naga_ir.specs.declared.module.FunctionArgument as argument
 use Rattle.naga_ir.specs.declared.module.FunctionResult.{FunctionResult}
 use Rattle.naga_ir.specs.declared.module.LocalVariable.{LocalVariable}
 use Rattle.naga_ir.specs.declared.module.Module.{Module}
-use Rattle.naga_operators.specs.declared.BinaryOperator.{BinaryOperator}
+use Rattle.naga_ir.specs.declared.operators.BinaryOperator.{BinaryOperator}
 use Rattle.naga_info.specs.declared.info.ExpressionInfo.{ExpressionInfo}
-use Rattle.name_keys.specs.Keys.{NameMap, names_in}
-use Rattle.name_keys.specs.declared.key.NameKey.TheVariants as key
+use Rattle.naga_names.specs.Keys.{NameMap, names_in}
+use Rattle.naga_names.specs.declared.key.NameKey.TheVariants as key
 use Rattle.shader_runs.specs.Scope.{bound_name, given_after, given_by}
 use Rattle.naga_form.specs.Names.{module_names, name_in, numbered_name}
 use Rattle.naga_form.specs.Shapes.{statement_shape, OperandsStandBefore}
 use Rattle.naga_form.proofs.Fits.{nothing_outside, not_given, given_line, ordered_at}
 use Rattle.naga_form.specs.Types.{told_type, type_names}
 use Rattle.naga_form.proofs.WrittenTypes.{known_spelled, resolution_has_form}
-use Rattle.type_spelling.specs.Trees.{resolution_tree}
+use Rattle.naga_form.specs.TypeTrees.{resolution_tree}
 use Rattle.wgsl_text.specs.Reading.{type_layout}
 use Rattle.wgsl_text.specs.Tree.{Named}
 use Rattle.accepted_modules.proofs.Part.{written_parts}
@@ -33,7 +33,7 @@ use Rattle.accepted_modules.specs.Accepted.{is_below, expected_type, local_fits,
 use Rattle.accepted_modules.specs.Part.{names_nothing}
 use Rattle.naga_info.proofs.Options.{then_some}
 use Rattle.accepted_modules.proofs.Accepting.{list_all_at, scalar_types_word_at, function_fits_signature, function_fits_locals, function_fits_block, function_fits_length, function_fits_word_at, local_fits_parts, value_fits_word, local_word_at, load_word_at, binary_at, store_fits_word, local_first_word}
-use Rattle.item_names.proofs.Counts.{element}
+use Rattle.naga_names.proofs.Counts.{element}
 use Rattle.naga_wgsl_fns.specs.declared.functions.FunctionText.{FunctionText}
 use Rattle.naga_wgsl_fns.specs.FunctionText.{CanWrite, naming, tells_types}
 use Rattle.naga_wgsl_fns.specs.Types.{annotation_text, has_word, resolution_text, told_text, told_type_text}

@@ -1,6 +1,6 @@
 -- The texts of expressions, by the table of what is in scope where they are written.
 use Rattle.std.specs.Prelude.{ℕ, List, slice_get}
-use Rattle.naga_operators.specs.declared.BinaryOperator.{BinaryOperator}
+use Rattle.naga_ir.specs.declared.operators.BinaryOperator.{BinaryOperator}
 use Rattle.naga_form.specs.Form.{PlainForm, as_reference, as_value, own_if, plain_form}
 use Rattle.naga_form.specs.Operators.{operator_form}
 use Rattle.naga_scope.specs.declared.points.Standing.{Standing}

@@ -4,14 +4,14 @@ use Rattle.std.specs.List.{list_all}
 use Rattle.naga_ir.specs.declared.expression.Expression.{Expression}
 use Rattle.accepted_modules.specs.Accepted.{is_scalar_type, function_fits}
 use Rattle.accepted_modules.specs.Part.{function_is_written}
-use Rattle.name_keys.specs.Keys.{names_in}
+use Rattle.naga_names.specs.Keys.{names_in}
 use Rattle.shader_runs.specs.Scope.{Naming}
 use Rattle.naga_form.specs.Names.{HasNamesOf, module_names}
 use Rattle.naga_form.specs.Shapes.{function_naming}
 use Rattle.naga_form.specs.Types.{told_type, type_names}
-use Rattle.type_spelling.specs.Trees.{Names as TypeNames}
+use Rattle.naga_words.specs.Contexts.{Names as TypeNames}
 use Rattle.wgsl_text.specs.Tree.{TypeSpecifier}
-use Rattle.back_flags.specs.declared.flags.WriterFlags.{WriterFlags}
+use Rattle.naga_back.specs.declared.flags.WriterFlags.{WriterFlags}
 use Rattle.naga_wgsl_fns.specs.declared.functions.FunctionText.{FunctionText}
 
 -- each `let` tells its type

@@ -16,7 +16,7 @@ use Rattle.naga_scope.specs.Standings.{handles_of}
 use Rattle.wgsl_text.specs.Declarations.{function_pieces, group_end, locals_pieces, parameter_pieces, parameters_pieces, result_pieces, value_pieces}
 use Rattle.wgsl_text.specs.Text.{text}
 use Rattle.wgsl_text.specs.Tree.{Expression, Function, Local}
-use Rattle.back_flags.specs.declared.flags.WriterFlags.{WriterFlags}
+use Rattle.naga_back.specs.declared.flags.WriterFlags.{WriterFlags}
 use Rattle.naga_wgsl_fns.specs.declared.functions.FunctionText.{FunctionText}
 use Rattle.naga_wgsl_fns.specs.FunctionText.{expressions, naming, tells_types, type_names_of}
 use Rattle.naga_wgsl_fns.specs.Names.{name_of_function}

@@ -1,6 +1,9 @@
+pub mod Appends
+pub mod Errors
 pub mod Expressions
-pub mod Functions
 pub mod FunctionText
+pub mod Functions
+pub mod Literals
 pub mod Names
 pub mod Statements
 pub mod Types

@@ -3,13 +3,13 @@ use Rattle.std.specs.Prelude.{◌≡◌, ℕ, Bool, List, [], ◌++◌, Option, 
 use Rattle.std.specs.Option.{is_some}
 use Rattle.naga_ir.specs.declared.types.Type_.{Type_}
 use Rattle.naga_info.specs.declared.info.TypeResolution.{TypeResolution}
-use Rattle.spelling_parts.specs.declared.error.TypeTextError.{TypeTextError}
-use Rattle.spelling_parts.specs.declared.error.TypeTextError.TheVariants as type_error
-use Rattle.spelling_parts.specs.declared.sink.SinkError.{SinkError}
-use Rattle.spelling_parts.specs.declared.sink.SinkError.TheVariants as sink_error
+use Rattle.naga_words.specs.declared.error.TypeTextError.{TypeTextError}
+use Rattle.naga_words.specs.declared.error.TypeTextError.TheVariants as type_error
+use Rattle.naga_words.specs.declared.sink.SinkError.{SinkError}
+use Rattle.naga_words.specs.declared.sink.SinkError.TheVariants as sink_error
 use Rattle.accepted_modules.specs.Types.{word_at}
 use Rattle.naga_form.specs.Types.{type_form}
-use Rattle.type_spelling.specs.Trees.{resolution_tree}
+use Rattle.naga_form.specs.TypeTrees.{resolution_tree}
 use Rattle.wgsl_text.specs.Tree.{TypeSpecifier, Named}
 use Rattle.wgsl_text.specs.Reading.{type_layout}
 use Rattle.naga_wgsl_fns.specs.declared.functions.FunctionText.{FunctionText}

@@ -1,7 +1,7 @@
 //! Expressions.
 
 ghost use Rattle.std.specs.Prelude.{◌<◌, length};
-ghost use Rattle.spelling_parts.specs.Output.{Writes};
+ghost use Rattle.naga_words.specs.Output.{Writes};
 ghost use Rattle.naga_wgsl_fns.specs.FunctionText.{CanWrite};
 ghost use Rattle.naga_wgsl_fns.specs.Expressions.{address_text, binary_text, own_text, pointed_text, reference_text, value_text};
 
@@ -10,8 +10,8 @@ use crate::names::write_bound_name;
 use naga_back::binary_operation_str;
 use naga_ir::{BinaryOperator, Expression, Handle, LocalVariable};
 use naga_scope::{Scope, Standing};
-use spelling_parts::{Output, TextSink};
-use wgsl_pieces::literal::write_literal;
+use naga_words::{Output, TextSink};
+use crate::literal::write_literal;
 
 impl FunctionText<'_> {
     /// An expression as a value: its name where it has one here, else what it is made of. A reference
@@ -84,7 +84,7 @@ impl FunctionText<'_> {
 
     /// What the value of an expression points at.
     #[cycle(expression)]
-    #[tactic(auto, using(spelling_parts::proofs::Writing::writes_then, crate::proofs::ExpressionRows::pointed_row))]
+    #[tactic(auto, using(naga_words::proofs::Writing::writes_then, crate::proofs::ExpressionRows::pointed_row))]
     fn write_dereference<W: TextSink>(
         &self,
         scope: &Scope,
@@ -103,7 +103,7 @@ impl FunctionText<'_> {
 
     /// An operator between its operands.
     #[cycle(expression)]
-    #[tactic(auto, using(spelling_parts::proofs::Writing::writes_then, crate::proofs::ExpressionRows::binary_row))]
+    #[tactic(auto, using(naga_words::proofs::Writing::writes_then, crate::proofs::ExpressionRows::binary_row))]
     fn write_binary<W: TextSink>(
         &self,
         scope: &Scope,
@@ -128,7 +128,7 @@ impl FunctionText<'_> {
     }
 
     /// A pointer to a local.
-    #[tactic(auto, using(spelling_parts::proofs::Writing::writes_then, crate::proofs::ExpressionRows::address_row))]
+    #[tactic(auto, using(naga_words::proofs::Writing::writes_then, crate::proofs::ExpressionRows::address_row))]
     fn write_address<W: TextSink>(&self, local: Handle<LocalVariable>, out: &mut Output<'_, W>)
         requires can { CanWrite self.now }
         requires local { local < length self.now.function.now.local_variables }

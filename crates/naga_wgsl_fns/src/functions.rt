@@ -4,26 +4,25 @@ ghost use Rattle.std.specs.Prelude.{◌≡◌, ◌<◌, ◌++◌, IfErr, IsTrue,
 ghost use Rattle.accepted_modules.specs.Accepted.{is_accepted, is_below};
 ghost use Rattle.accepted_modules.specs.Part.{is_written_so_far};
 ghost use Rattle.naga_form.specs.Names.{HasNamesOf};
-ghost use Rattle.name_keys.specs.Keys.{names_in};
-ghost use Rattle.spelling_parts.specs.Output.{Writes};
-ghost use Rattle.spelling_parts.specs.Sink.{IsBehind};
-ghost use Rattle.wgsl_pieces.specs.Errors.{IsWant};
+ghost use Rattle.naga_names.specs.Keys.{names_in};
+ghost use Rattle.naga_words.specs.Output.{Writes};
+ghost use Rattle.naga_words.specs.Sink.{IsBehind};
+ghost use Rattle.naga_wgsl_fns.specs.Errors.{IsWant};
 ghost use Rattle.naga_wgsl_fns.specs.FunctionText.{CanWrite};
 ghost use Rattle.naga_wgsl_fns.specs.Types.{has_word};
 ghost use Rattle.naga_wgsl_fns.specs.Functions.{StartsAt, answer_text, argument_text, arguments_text, body_text, first_text, first_value_text, function_text, group_end_text, head_text, local_text, locals_text, next_argument_text, result_text, separator, text_of_function};
 
-use back_flags::WriterFlags;
-use naga_back::Level;
+use naga_back::{Level, WriterFlags};
 use naga_info::{FunctionInfo, ModuleInfo};
 use naga_ir::{
     Expression, Function, FunctionArgument, Handle, LocalVariable, Module, Place, Type_,
 };
 use naga_scope::Scope;
-use name_keys::NameKey;
-use spelling_parts::{Output, TextSink};
+use naga_names::NameKey;
+use naga_words::{Output, TextSink};
 use std::alloc::Global;
 use std::collections::HashMap;
-use wgsl_pieces::Error;
+use crate::Error;
 
 /// Writes the declaration of a function, with the line end behind its last line: the function, its
 /// arguments and its locals under their names in `names`, which has them all.
@@ -31,7 +30,7 @@ use wgsl_pieces::Error;
 /// The module is accepted with what is known of it, and is one of those that are written so far.
 /// Where the call gives up, for want of memory or because the sink failed, a beginning of the text
 /// stands behind what the sink held. What is used out of scope is not looked for here.
-#[tactic(auto, using(spelling_parts::proofs::Writing::fresh_output))]
+#[tactic(auto, using(naga_words::proofs::Writing::fresh_output))]
 pub fn write_function<W: TextSink>(
     alloc: Global,
     module: &Module,
@@ -80,7 +79,7 @@ pub(crate) struct FunctionText<'a> {
 }
 
 impl FunctionText<'_> {
-    #[tactic(auto, using(spelling_parts::proofs::Writing::writes_then, crate::proofs::FunctionRows::function_row))]
+    #[tactic(auto, using(naga_words::proofs::Writing::writes_then, crate::proofs::FunctionRows::function_row))]
     fn write_declaration<W: TextSink>(&self, alloc: Global, out: &mut Output<'_, W>)
         requires { CanWrite self.now }
         ensures { Writes W.text W.failures out.old out.new (function_text self.now) }
@@ -93,7 +92,7 @@ impl FunctionText<'_> {
     }
 
     /// What stands before the locals.
-    #[tactic(auto, using(spelling_parts::proofs::Writing::writes_then, crate::proofs::FunctionRows::head_row))]
+    #[tactic(auto, using(naga_words::proofs::Writing::writes_then, crate::proofs::FunctionRows::head_row))]
     fn write_head<W: TextSink>(&self, alloc: Global, out: &mut Output<'_, W>)
         requires { CanWrite self.now }
         ensures { Writes W.text W.failures out.old out.new (head_text self.now) }
@@ -107,7 +106,7 @@ impl FunctionText<'_> {
     }
 
     /// The arguments, and the parenthesis behind the last.
-    #[tactic(auto, using(spelling_parts::proofs::Writing::loop_writes))]
+    #[tactic(auto, using(naga_words::proofs::Writing::loop_writes))]
     fn write_arguments<W: TextSink>(&self, alloc: Global, out: &mut Output<'_, W>)
         requires { CanWrite self.now }
         ensures { Writes W.text W.failures out.old out.new (arguments_text self.now) }
@@ -119,7 +118,7 @@ impl FunctionText<'_> {
     }
 
     /// An argument, and what stands between it and the one before.
-    #[tactic(auto, using(spelling_parts::proofs::Writing::writes_then, crate::proofs::FunctionRows::next_argument_row))]
+    #[tactic(auto, using(naga_words::proofs::Writing::writes_then, crate::proofs::FunctionRows::next_argument_row))]
     fn write_next_argument<W: TextSink>(
         &self,
         alloc: Global,
@@ -137,7 +136,7 @@ impl FunctionText<'_> {
         self.write_argument(alloc, number, argument, out);
     }
 
-    #[tactic(auto, using(spelling_parts::proofs::Writing::writes_then, crate::proofs::FunctionRows::argument_row))]
+    #[tactic(auto, using(naga_words::proofs::Writing::writes_then, crate::proofs::FunctionRows::argument_row))]
     fn write_argument<W: TextSink>(
         &self,
         alloc: Global,
@@ -156,7 +155,7 @@ impl FunctionText<'_> {
         self.write_type(alloc, argument.ty, out);
     }
 
-    #[tactic(auto, using(spelling_parts::proofs::Writing::writes_nothing, crate::proofs::FunctionRows::result_row))]
+    #[tactic(auto, using(naga_words::proofs::Writing::writes_nothing, crate::proofs::FunctionRows::result_row))]
     fn write_result<W: TextSink>(&self, alloc: Global, out: &mut Output<'_, W>)
         requires { CanWrite self.now }
         ensures { Writes W.text W.failures out.old out.new (result_text self.now) }
@@ -168,7 +167,7 @@ impl FunctionText<'_> {
     }
 
     /// The type of what is returned.
-    #[tactic(auto, using(spelling_parts::proofs::Writing::writes_then, crate::proofs::FunctionRows::answer_row))]
+    #[tactic(auto, using(naga_words::proofs::Writing::writes_then, crate::proofs::FunctionRows::answer_row))]
     fn write_answer<W: TextSink>(&self, alloc: Global, ty: Handle<Type_>, out: &mut Output<'_, W>)
         requires can { CanWrite self.now }
         requires word { IsTrue (has_word self.now.shader.now.types ty) }
@@ -179,7 +178,7 @@ impl FunctionText<'_> {
     }
 
     /// What stands behind the head. `scope` is what is in scope at the start.
-    #[tactic(auto, using(spelling_parts::proofs::Writing::writes_then, crate::proofs::FunctionRows::body_row))]
+    #[tactic(auto, using(naga_words::proofs::Writing::writes_then, crate::proofs::FunctionRows::body_row))]
     fn write_body<W: TextSink>(&self, alloc: Global, scope: &mut Scope, out: &mut Output<'_, W>)
         requires can { CanWrite self.now }
         requires start { StartsAt self.now scope.old }
@@ -192,7 +191,7 @@ impl FunctionText<'_> {
     }
 
     /// The locals, and an empty line behind them if there are any.
-    #[tactic(auto, using(spelling_parts::proofs::Writing::loop_writes))]
+    #[tactic(auto, using(naga_words::proofs::Writing::loop_writes))]
     fn write_locals<W: TextSink>(&self, alloc: Global, scope: &Scope, out: &mut Output<'_, W>)
         requires can { CanWrite self.now }
         requires start { StartsAt self.now scope.now }
@@ -204,7 +203,7 @@ impl FunctionText<'_> {
         write_group_end(self.function.local_variables.is_empty(), out);
     }
 
-    #[tactic(auto, using(spelling_parts::proofs::Writing::writes_then, crate::proofs::FunctionRows::local_row))]
+    #[tactic(auto, using(naga_words::proofs::Writing::writes_then, crate::proofs::FunctionRows::local_row))]
     fn write_local<W: TextSink>(
         &self,
         alloc: Global,
@@ -244,7 +243,7 @@ impl FunctionText<'_> {
         }
     }
 
-    #[tactic(auto, using(spelling_parts::proofs::Writing::writes_then, crate::proofs::FunctionRows::first_value_row))]
+    #[tactic(auto, using(naga_words::proofs::Writing::writes_then, crate::proofs::FunctionRows::first_value_row))]
     fn write_first<W: TextSink>(
         &self,
         scope: &Scope,

@@ -2,16 +2,16 @@
 
 ghost use Rattle.std.specs.Prelude.{◌≡◌, ◌<◌, Some, length};
 ghost use Rattle.naga_form.specs.Names.{module_names, name_in, numbered_name};
-ghost use Rattle.name_keys.specs.Keys.{names_in};
-ghost use Rattle.spelling_parts.specs.Output.{Writes};
+ghost use Rattle.naga_names.specs.Keys.{names_in};
+ghost use Rattle.naga_words.specs.Output.{Writes};
 ghost use Rattle.naga_wgsl_fns.specs.FunctionText.{CanWrite};
 ghost use Rattle.naga_wgsl_fns.specs.Names.{name_of_argument, name_of_function, name_of_local};
 
 use crate::functions::FunctionText;
 use itoa::Buffer;
 use naga_ir::{Expression, Handle, LocalVariable};
-use name_keys::NameKey;
-use spelling_parts::{Output, TextSink};
+use naga_names::NameKey;
+use naga_words::{Output, TextSink};
 
 // A key is large, and stands in the frames of these functions alone: the writing of nested operands
 // has none.
@@ -64,7 +64,7 @@ impl FunctionText<'_> {
 
 /// The name of an expression that a `let` binds.
 #[inline(never)]
-#[tactic(auto, using(spelling_parts::proofs::Writing::writes_then, crate::proofs::NameRows::bound_row))]
+#[tactic(auto, using(naga_words::proofs::Writing::writes_then, crate::proofs::NameRows::bound_row))]
 pub(crate) fn write_bound_name<W: TextSink>(handle: Handle<Expression>, out: &mut Output<'_, W>)
     ensures { Writes W.text W.failures out.old out.new (numbered_name handle) }
 {

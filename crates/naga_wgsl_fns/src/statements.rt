@@ -8,7 +8,7 @@ ghost use Rattle.naga_ir.specs.StatementViews.{tree_of};
 ghost use Rattle.naga_scope.specs.Standings.{handles_of};
 ghost use Rattle.shader_runs.specs.Program.{from};
 ghost use Rattle.shader_runs.specs.Scope.{after, after_emit};
-ghost use Rattle.spelling_parts.specs.Output.{Writes};
+ghost use Rattle.naga_words.specs.Output.{Writes};
 ghost use Rattle.naga_wgsl_fns.specs.FunctionText.{CanWrite, naming};
 ghost use Rattle.naga_wgsl_fns.specs.Statements.{block_text, emitted_text, let_text, lets_text, line_start, return_text, return_value_text, statement_text, store_text};
 
@@ -17,12 +17,12 @@ use crate::names::write_bound_name;
 use naga_back::{INDENT, Level};
 use naga_ir::{Block, Expression, Handle, Place, Range, Statement};
 use naga_scope::{Scope, binds};
-use spelling_parts::{Output, TextSink};
+use naga_words::{Output, TextSink};
 use std::alloc::Global;
 
 impl FunctionText<'_> {
     /// The statements in order. `scope` is what is in scope before the first.
-    #[tactic(auto, using(spelling_parts::proofs::Writing::loop_writes, crate::proofs::StatementRows::block_none))]
+    #[tactic(auto, using(naga_words::proofs::Writing::loop_writes, crate::proofs::StatementRows::block_none))]
     pub(crate) fn write_block<W: TextSink>(
         &self,
         alloc: Global,
@@ -79,7 +79,7 @@ impl FunctionText<'_> {
 
     /// A `let` for each of these expressions that is to be bound. Behind the call, `scope` is what is in
     /// scope behind the `Emit`.
-    #[tactic(auto, using(spelling_parts::proofs::Writing::loop_writes))]
+    #[tactic(auto, using(naga_words::proofs::Writing::loop_writes))]
     fn write_emit<W: TextSink>(
         &self,
         alloc: Global,
@@ -106,7 +106,7 @@ impl FunctionText<'_> {
     }
 
     /// The `let` of an expression, if it is to be bound.
-    #[tactic(auto, using(spelling_parts::proofs::Writing::writes_nothing), unfolding(crate::specs::Statements::emitted_text))]
+    #[tactic(auto, using(naga_words::proofs::Writing::writes_nothing), unfolding(crate::specs::Statements::emitted_text))]
     fn write_emitted<W: TextSink>(
         &self,
         alloc: Global,
@@ -125,7 +125,7 @@ impl FunctionText<'_> {
         }
     }
 
-    #[tactic(auto, using(spelling_parts::proofs::Writing::writes_then, crate::proofs::StatementRows::let_row))]
+    #[tactic(auto, using(naga_words::proofs::Writing::writes_then, crate::proofs::StatementRows::let_row))]
     fn write_let<W: TextSink>(
         &self,
         alloc: Global,
@@ -147,7 +147,7 @@ impl FunctionText<'_> {
         out.put(";\n");
     }
 
-    #[tactic(auto, using(spelling_parts::proofs::Writing::writes_then, crate::proofs::StatementRows::store_row))]
+    #[tactic(auto, using(naga_words::proofs::Writing::writes_then, crate::proofs::StatementRows::store_row))]
     fn write_store<W: TextSink>(
         &self,
         level: Level,
@@ -188,7 +188,7 @@ impl FunctionText<'_> {
         }
     }
 
-    #[tactic(auto, using(spelling_parts::proofs::Writing::writes_then, crate::proofs::StatementRows::return_value_row))]
+    #[tactic(auto, using(naga_words::proofs::Writing::writes_then, crate::proofs::StatementRows::return_value_row))]
     fn write_return_value<W: TextSink>(
         &self,
         level: Level,
@@ -208,7 +208,7 @@ impl FunctionText<'_> {
 }
 
 /// The blanks before a line, and what it starts with.
-#[tactic(auto, using(spelling_parts::proofs::Writing::writes_then, crate::proofs::StatementRows::line_start_row))]
+#[tactic(auto, using(naga_words::proofs::Writing::writes_then, crate::proofs::StatementRows::line_start_row))]
 fn write_line_start<W: TextSink>(level: Level, word: &str, out: &mut Output<'_, W>)
     ensures { Writes W.text W.failures out.old out.new (line_start level.0 word.now) }
 {
@@ -216,7 +216,7 @@ fn write_line_start<W: TextSink>(level: Level, word: &str, out: &mut Output<'_, 
     out.put(word);
 }
 
-#[tactic(auto, using(spelling_parts::proofs::Writing::loop_writes, crate::proofs::StatementRows::indentation_more, crate::proofs::StatementRows::indentation_none))]
+#[tactic(auto, using(naga_words::proofs::Writing::loop_writes, crate::proofs::StatementRows::indentation_more, crate::proofs::StatementRows::indentation_none))]
 fn write_indentation<W: TextSink>(level: Level, out: &mut Output<'_, W>)
     ensures { Writes W.text W.failures out.old out.new (indentation level.0) }
 {

@@ -3,23 +3,22 @@
 ghost use Rattle.std.specs.Prelude.{◌≡◌, ◌<◌, IsTrue, length};
 ghost use Rattle.std.specs.Option.{is_some};
 ghost use Rattle.accepted_modules.specs.Types.{spelling_of};
-ghost use Rattle.spelling_parts.specs.declared.error.TypeTextError.TheVariants as type_error;
-ghost use Rattle.spelling_parts.specs.Output.{Writes};
+ghost use Rattle.naga_words.specs.declared.error.TypeTextError.TheVariants as type_error;
+ghost use Rattle.naga_words.specs.Output.{Writes};
 ghost use Rattle.naga_wgsl_fns.specs.FunctionText.{CanWrite, tells_types};
 ghost use Rattle.naga_wgsl_fns.specs.Types.{annotation_text, has_word, resolution_text, told_text, type_text, IsWantOf};
 
 use crate::functions::FunctionText;
-use back_flags::WriterFlags;
+use naga_back::WriterFlags;
 use bitflags::Flags;
 use naga_info::TypeResolution;
 use naga_ir::{Expression, Handle, Type_};
-use naga_words::{TypeContext, WriterTypeContext};
-use spelling_parts::{Output, SinkError, TextSink, TypeTextError};
+use naga_words::{Output, SinkError, TextSink, TypeContext, TypeTextError, WriterTypeContext};
 use std::alloc::Global;
 
 impl FunctionText<'_> {
     /// The type with this handle.
-    #[tactic(auto, using(spelling_parts::proofs::Writing::writes_no_more))]
+    #[tactic(auto, using(naga_words::proofs::Writing::writes_no_more))]
     pub(crate) fn write_type<W: TextSink>(
         &self,
         alloc: Global,
@@ -44,7 +43,7 @@ impl FunctionText<'_> {
     }
 
     /// A colon, and the type of an expression.
-    #[tactic(auto, using(spelling_parts::proofs::Writing::writes_then, crate::proofs::TypeRows::annotation_row))]
+    #[tactic(auto, using(naga_words::proofs::Writing::writes_then, crate::proofs::TypeRows::annotation_row))]
     fn write_annotation<W: TextSink>(
         &self,
         alloc: Global,
@@ -60,7 +59,7 @@ impl FunctionText<'_> {
     }
 
     /// The type of an expression.
-    #[tactic(auto, using(spelling_parts::proofs::Writing::writes_no_more))]
+    #[tactic(auto, using(naga_words::proofs::Writing::writes_no_more))]
     fn write_type_of<W: TextSink>(
         &self,
         alloc: Global,

@@ -9,7 +9,7 @@ use Rattle.accepted_modules.specs.Accepted.{is_accepted}
 use Rattle.accepted_modules.specs.Part.{is_written_so_far, function_is_written, names_nothing}
 use Rattle.accepted_modules.proofs.Accepting.{accepted_functions_fit, functions_fit_length}
 use Rattle.naga_info.specs.declared.info.ModuleInfo.{ModuleInfo}
-use Rattle.name_keys.specs.Keys.{NameMap}
+use Rattle.naga_names.specs.Keys.{NameMap}
 use Rattle.wgsl_text.specs.Reading.{Reads, HasOneReading}
 use Rattle.wgsl_text.specs.Text.{tokens}
 use Rattle.wgsl_text.specs.Tree.{Program}
@@ -26,13 +26,13 @@ use Rattle.naga_form.proofs.Resolutions.{resolves}
 use Rattle.accepted_modules.proofs.Part.{functions_name_nothing}
 use Rattle.naga_form.proofs.Runs.{runs_as}
 use Rattle.naga_form.proofs.ScopeRules.{scopes_are_checked}
-use Rattle.spelling_parts.specs.Sink.{IsBehind}
-use Rattle.wgsl_pieces.specs.Appends.{Appends}
-use Rattle.wgsl_pieces.proofs.Appending.{appends_as}
-use Rattle.wgsl_pieces.specs.Errors.{IsWant, IsNotYetWritten, IsCustom}
-use Rattle.wgsl_pieces.specs.declared.error.Error.{Error}
-use Rattle.wgsl_pieces.specs.declared.error.Error.TheVariants.{FmtError, Custom, Unimplemented, Memory}
-use Rattle.back_flags.specs.declared.flags.WriterFlags.{WriterFlags}
+use Rattle.naga_words.specs.Sink.{IsBehind}
+use Rattle.naga_wgsl_fns.specs.Appends.{Appends}
+use Rattle.naga_wgsl_fns.proofs.Appending.{appends_as}
+use Rattle.naga_wgsl_fns.specs.Errors.{IsWant, IsNotYetWritten, IsCustom}
+use Rattle.naga_wgsl_fns.specs.declared.error.Error.{Error}
+use Rattle.naga_wgsl_fns.specs.declared.error.Error.TheVariants.{FmtError, Custom, Unimplemented, Memory}
+use Rattle.naga_back.specs.declared.flags.WriterFlags.{WriterFlags}
 use Rattle.naga_wgsl_fns.specs.FunctionText.{tells_types}
 use Rattle.naga_wgsl_out.specs.Writing.{lines_of, written_text}
 use Rattle.naga_wgsl_out.proofs.Functions.{written_lines}

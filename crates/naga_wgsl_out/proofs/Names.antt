@@ -7,19 +7,19 @@ use Rattle.naga_ir.specs.declared.module.Function.{Function}
 use Rattle.naga_ir.specs.declared.module.Module.{Module}
 use Rattle.naga_keywords.specs.Words.{Words}
 use Rattle.naga_keywords.specs.declared.keywords.TheConstants.{RESERVED, BUILTIN_IDENTIFIERS}
-use Rattle.item_names.specs.Naming.{Names, new_names}
-use Rattle.item_names.specs.Refusal.{SomeNameIsFull, SomeKeyIsFull, IsResetRefusal}
-use Rattle.item_names.specs.declared.error.NamerError.{NamerError}
+use Rattle.naga_names.specs.Naming.{Names, new_names}
+use Rattle.naga_names.specs.Refusal.{SomeNameIsFull, SomeKeyIsFull, IsResetRefusal}
+use Rattle.naga_names.specs.declared.error.NamerError.{NamerError}
 use Rattle.wgsl_text.specs.Keywords.{reserved_words, builtin_words}
-use Rattle.name_keys.specs.Keys.{NameMap}
-use Rattle.item_names.specs.Reset.{labelled_items, key_fits, HasNamedItems}
-use Rattle.name_keys.specs.declared.key.NameKey.TheVariants as key
-use Rattle.item_names.proofs.NamedItems.{named_there, few_labels, local_stands}
+use Rattle.naga_names.specs.Keys.{NameMap}
+use Rattle.naga_names.specs.Reset.{labelled_items, key_fits, HasNamedItems}
+use Rattle.naga_names.specs.declared.key.NameKey.TheVariants as key
+use Rattle.naga_names.proofs.NamedItems.{named_there, few_labels, local_stands}
 use Rattle.naga_form.specs.Names.{reserved_prefixes, wgsl_names, module_names, function_name, HasNamesOf}
 use Rattle.accepted_modules.proofs.Accepting.{list_all_at}
 use Rattle.naga_form.proofs.Fits.{local_item}
 use Rattle.naga_form.proofs.Named.{name_is, function_item, argument_item, function_there, argument_there}
-use Rattle.item_names.proofs.Counts.{element}
+use Rattle.naga_names.proofs.Counts.{element}
 use Rattle.naga_wgsl_out.specs.Refusals.{NamerIsFull, KeyIsOutOfRange, HasAllNames}
 
 module _ (m : Module) (before now : NameMap) (names : Names) (has : HasNamedItems wgsl_names before (labelled_items wgsl_names m) names now) where

@@ -9,7 +9,7 @@ use Rattle.wgsl_text.specs.Reading.{Reads, HasOneReading}
 use Rattle.wgsl_text.specs.Text.{tokens}
 use Rattle.wgsl_text.specs.Tree.{Program}
 use Rattle.naga_form.specs.Faithful.{HasInterfaceOf, RunsAs}
-use Rattle.wgsl_pieces.specs.declared.error.Error.{Error}
+use Rattle.naga_wgsl_fns.specs.declared.error.Error.{Error}
 use Rattle.naga_wgsl_out.specs.Refusals.{RefusesOnlyFor}
 
 -- a text stands behind what the sink held, and it is read as one program and as no other

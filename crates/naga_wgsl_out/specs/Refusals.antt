@@ -1,22 +1,20 @@
 -- Why a module is refused, each reason with what it says.
 --
 -- Throughout, m is the module, and e an error of memory.
-use Rattle.std.specs.Prelude.{◌≡◌, ⊤, ℕ, List, ◌⊎◌, codes, string_bytes, IsTrue, IsFalse, Result}
-use Rattle.std.specs.Prelude.{Ok, Err}
+use Rattle.std.specs.Prelude.{◌≡◌, ⊤, ℕ, List, ◌⊎◌, codes, string_bytes, IsTrue, IsFalse, Result, Ok, Err}
 use Rattle.naga_ir.specs.declared.module.Module.{Module}
 use Rattle.accepted_modules.specs.Part.{is_written_so_far}
 use Rattle.naga_info.specs.declared.info.ModuleInfo.{ModuleInfo}
-use Rattle.item_names.specs.Refusal.{SomeNameIsFull, SomeKeyIsFull}
-use Rattle.item_names.specs.declared.error.NamerError.{NamerError}
-use Rattle.item_names.specs.declared.error.NamerError.TheVariants as namer_error
-use Rattle.name_keys.specs.Keys.{NameMap}
-use Rattle.item_names.specs.Reset.{labelled_items}
+use Rattle.naga_names.specs.Refusal.{SomeNameIsFull, SomeKeyIsFull}
+use Rattle.naga_names.specs.declared.error.NamerError.{NamerError}
+use Rattle.naga_names.specs.declared.error.NamerError.TheVariants as namer_error
+use Rattle.naga_names.specs.Keys.{NameMap}
+use Rattle.naga_names.specs.Reset.{labelled_items}
 use Rattle.naga_form.specs.Names.{wgsl_names, HasNamesOf, NamesAreCounted}
 use Rattle.naga_form.specs.Premises.{ScopesHold}
-use Rattle.wgsl_pieces.specs.Errors.{IsCustom, IsSinkWant}
-use Rattle.wgsl_pieces.specs.declared.error.Error.{Error}
-use Rattle.wgsl_pieces.specs.declared.error.Error.TheVariants.{FmtError, Custom, Unimplemented}
-use Rattle.wgsl_pieces.specs.declared.error.Error.TheVariants.{Memory}
+use Rattle.naga_wgsl_fns.specs.Errors.{IsCustom, IsSinkWant}
+use Rattle.naga_wgsl_fns.specs.declared.error.Error.{Error}
+use Rattle.naga_wgsl_fns.specs.declared.error.Error.TheVariants.{FmtError, Custom, Unimplemented, Memory}
 
 -- the names of some items of the module can't be told: so many of them have one base, or the key of
 -- one is out of range

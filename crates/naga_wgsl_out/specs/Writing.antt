@@ -13,7 +13,7 @@ use Rattle.wgsl_text.specs.Text.{text}
 use Rattle.wgsl_text.specs.Reading.{layout}
 use Rattle.naga_wgsl_fns.specs.FunctionText.{tells_types}
 use Rattle.naga_wgsl_fns.specs.Functions.{known_of}
-use Rattle.back_flags.specs.declared.flags.WriterFlags.{WriterFlags}
+use Rattle.naga_back.specs.declared.flags.WriterFlags.{WriterFlags}
 
 pub record Writing (W : Type 0) : Type 0 where
   pub sink : W

@@ -1,5 +1,5 @@
 //! The writer of modules.
 
 pub use crate::writer::{Writer, write_string};
-pub use back_flags::WriterFlags;
-pub use wgsl_pieces::{Error, to_wgsl_if_implemented};
+pub use naga_back::WriterFlags;
+pub use naga_wgsl_fns::{Error, to_wgsl_if_implemented};

@@ -4,20 +4,20 @@ ghost use Rattle.std.specs.Prelude.{◌≡◌, ◌<◌, ◌++◌, [], IfErr, IfO
 ghost use Rattle.std.specs.List.{enumerate_from};
 ghost use Rattle.accepted_modules.specs.Accepted.{is_accepted};
 ghost use Rattle.accepted_modules.specs.Part.{is_written_so_far};
-ghost use Rattle.name_keys.specs.Keys.{names_in};
-ghost use Rattle.spelling_parts.specs.Sink.{IsBehind};
-ghost use Rattle.item_names.specs.Refusal.{IsResetRefusal};
+ghost use Rattle.naga_names.specs.Keys.{names_in};
+ghost use Rattle.naga_words.specs.Sink.{IsBehind};
+ghost use Rattle.naga_names.specs.Refusal.{IsResetRefusal};
 ghost use Rattle.naga_form.specs.Names.{HasNamesOf, wgsl_names};
 ghost use Rattle.naga_form.specs.Resolution.{ResolvesAs};
 ghost use Rattle.naga_form.specs.Bindings.{BindsAs};
-ghost use Rattle.wgsl_pieces.specs.Appends.{Appends};
+ghost use Rattle.naga_wgsl_fns.specs.Appends.{Appends};
 ghost use Rattle.naga_wgsl_fns.specs.FunctionText.{tells_types};
 ghost use Rattle.naga_wgsl_fns.specs.Functions.{text_of_function};
 ghost use Rattle.naga_wgsl_out.specs.Headline.{EachReading, FaithfulWriting, answer_of, text_of};
 ghost use Rattle.naga_wgsl_out.specs.Refusals.{HasAllNames, IsErrorOfNames, IsNamesRefusal, TellsOfModule};
 ghost use Rattle.naga_wgsl_out.specs.Writing.{Writing, lines_of, written_text};
 
-use back_flags::WriterFlags;
+use naga_back::WriterFlags;
 use naga_acceptance::is_written_so_far;
 use naga_info::ModuleInfo;
 use naga_ir::{Function, Handle, Module};
@@ -25,13 +25,12 @@ use naga_names::keyword_set::{CaseInsensitiveKeywordSet, KeywordSet};
 use naga_names::keywords::{BUILTIN_IDENTIFIERS, RESERVED};
 use naga_names::namer::{NameKey, Namer, NamerError};
 use naga_scope::scope_holds;
-use naga_wgsl_fns::write_function;
+use naga_wgsl_fns::{Error, put, write_function};
 use naga_words::TextSink;
 use std::alloc::Global;
 use std::collections::HashMap;
 use std::marker::Model;
-use wgsl_pieces::error::{custom, not_yet_written};
-use wgsl_pieces::{Error, put};
+use naga_wgsl_fns::error::{custom, not_yet_written};
 
 /// What no identifier begins with.
 const RESERVED_PREFIXES: [&str; 2] = ["__", "_naga"];

@@ -1,0 +1,9 @@
+pub mod Contexts
+pub mod Output
+pub mod Parts
+pub mod Predeclared
+pub mod Rules
+pub mod Sink
+pub mod Spelling
+pub mod Values
+pub mod Words

@@ -1,8 +1,20 @@
-//! The spelling of types in a context. It passes on text sinks and WGSL's words.
+//! Text sinks, and the spelling of types: words, and whole types in a context that names structs and
+//! overrides. It passes on WGSL's words.
 #![tactic(auto)]
 
+pub mod error;
+pub mod images;
+pub mod output;
+pub mod pieces;
+pub mod predeclared;
+pub mod scalars;
+pub mod sink;
 pub mod types;
+pub mod words;
 
-pub use spelling_parts::{PredeclaredName, SinkError, TextSink, predeclared, sink};
-pub use types::{TypeContext, TypeTextError, WriterTypeContext};
+pub use error::TypeTextError;
+pub use output::Output;
+pub use predeclared::PredeclaredName;
+pub use sink::{SinkError, TextSink};
+pub use types::{TypeContext, WriterTypeContext};
 pub use wgsl_words::{ToWgsl, TryToWgsl, address_space_str, to_wgsl};

@@ -1,12 +1,12 @@
 //! How types are spelled, in a context that names what they are made of.
 
 ghost use Rattle.std.specs.Prelude.{◌≡◌, ℕ, ◌<◌, true, List, length, None, IfOk, string_bytes, OnOk, IsErrOf, IsTrue, slice_get, Some};
-ghost use Rattle.spelling_parts.specs.declared.error.TypeTextError.TheVariants as error;
-ghost use Rattle.spelling_parts.specs.Parts.{HasWritten, HasBegun, IsText, lacks};
+ghost use Rattle.naga_words.specs.declared.error.TypeTextError.TheVariants as error;
+ghost use Rattle.naga_words.specs.Parts.{HasWritten, HasBegun, IsText, lacks};
 ghost use Rattle.wgsl_words.specs.Words.{scalar_word};
-ghost use Rattle.type_spelling.specs.Rules.{conclusion_parts, rule_parts, AllFit, FitsConclusion};
-ghost use Rattle.spelling_parts.specs.Values.{formless_parts, formless_scalar_parts, scalar_parts};
-ghost use Rattle.type_spelling.specs.Spelling.{Context, Fits, FitsResolution, IsInOrder, is_struct, is_formless_pointer, inner_parts, type_parts, resolution_parts};
+ghost use Rattle.naga_words.specs.Rules.{conclusion_parts, rule_parts, AllFit, FitsConclusion};
+ghost use Rattle.naga_words.specs.Values.{formless_parts, formless_scalar_parts, scalar_parts};
+ghost use Rattle.naga_words.specs.Spelling.{Context, Fits, FitsResolution, IsInOrder, is_struct, is_formless_pointer, inner_parts, type_parts, resolution_parts};
 
 pub mod contexts;
 pub mod order;
@@ -21,11 +21,10 @@ pub use contexts::WriterTypeContext;
 use naga_info::{Conclusion, Rule, TypeResolution};
 use naga_ir::{Handle, Override, Scalar, Type_, TypeInner};
 pub use order::{type_fits, types_in_order};
-pub use spelling_parts::TypeTextError;
-use spelling_parts::scalars::write_formless_scalar;
-use spelling_parts::{SinkError, TextSink};
+pub use crate::TypeTextError;
+use crate::scalars::write_formless_scalar;
+use crate::{SinkError, TextSink};
 use std::alloc::Global;
-pub use type_spelling::laws;
 
 /// What the spelling of a type takes from around it: the types that it names, the names of structs
 /// and overrides, and what becomes of a type without a form.

@@ -4,11 +4,10 @@ use Rattle.std.specs.Prelude.{Option, None, Some, IsTrue}
 use Rattle.std.proofs.lemmas.Bool.{false≢true}
 use Rattle.wgsl_text.specs.Token.{Fixed, At, OpenBrace, Piece, Blank}
 use Rattle.wgsl_text.specs.Words.{is_builtin}
-use Rattle.wgsl_text.specs.Tree.{Expression, TypeSpecifier, Named, Template, NoStatements, PlainAttribute, Invariant, PerPrimitive, Coherent, Volatile, Vertex, Fragment, Compute, Task, RayGeneration, AnyHit, ClosestHit, Miss, NumberedAttribute, Location, BlendSource, Id, Group, Binding, Size, Align, WordedAttribute, Builtin, Interpolate, Mesh, Payload, IncomingPayload, Attribute, Plain, Numbered, Worded, Interpolated, WorkgroupSize, Parameter, Result, NoResult, ResultOf, Local, Function, EntryPoint, StructMember, Struct, NamedConstant, Override, Space, NoSpace, SpaceAlone, SpaceAndAccess, Global, Program}
+use Rattle.wgsl_text.specs.Tree.{Expression, TypeSpecifier, Named, Template, NoStatements, PlainAttribute, Invariant, PerPrimitive, Coherent, Volatile, Vertex, Fragment, Compute, Task, RayGeneration, AnyHit, ClosestHit, Miss, NumberedAttribute, Location, BlendSource, Id, Group, Binding, Size, Align, WordedAttribute, Builtin, Interpolate, Mesh, Payload, IncomingPayload, Attribute, Plain, Numbered, Worded, Interpolated, WorkgroupSize, Parameter, Result, NoResult, ResultOf, Local, Function, EntryPoint, StructMember, Struct, NamedConstant, Override, Space, NoSpace, SpaceAlone, SpaceAndAccess, Global, Program, no_declarations}
 use Rattle.wgsl_text.specs.Pieces.{mark, word, type_pieces}
 use Rattle.wgsl_text.specs.Declarations.{plain_attribute_word, numbered_attribute_word, worded_attribute_word, attribute_pieces, attributes_pieces, value_pieces, parameter_pieces, parameters_pieces, more_parameters_pieces, result_pieces, locals_pieces, group_end, function_pieces, enables_pieces, members_pieces, structs_pieces, constants_pieces, overrides_pieces, behind_attribute, global_attributes_pieces, space_pieces, globals_pieces, functions_pieces, entry_point_pieces, more_entry_points_pieces, entry_points_pieces, program_pieces}
 use Rattle.wgsl_text.specs.GrammarOfLines.{is_stage, IsValue, IsParameter, IsResult, IsLocal, Each, IsFunction, IsEntryPoint, IsMember, IsStruct, IsNamedConstant, IsOverride, IsGlobal, IsProgram}
-use Rattle.wgsl_text.specs.Tree.{no_declarations}
 use Rattle.wgsl_text.proofs.Machine.{Stack, InProgram, InParameters, InParameterType, InResult, InLocals, InLocalType, InMembers, InOverrideType, InGlobalType, InStatements, State, Want, GotType, WantParameter, AfterParameters, WantResult, WantType, AttributeName, WantMemberName, AfterVar, AfterGlobalName, PlainKind, NumberedKind, WordedKind, kind_of, attribute_named, turned, add_attribute, add_local, add_global, add_override, function_added, close_parameters, step}
 use Rattle.wgsl_text.proofs.Chain.{◌$◌}
 use Rattle.wgsl_text.proofs.Runs.{Runs, ◌then◌, tok, gap, line, indent, end, as_state, expression_runs, type_runs}

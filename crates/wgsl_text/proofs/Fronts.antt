@@ -7,8 +7,7 @@ use Rattle.std.specs.Str.Parse.{digits_value}
 use Rattle.std.proofs.lemmas.Bool.{false≢true, not-true, and_parts}
 use Rattle.std.proofs.lemmas.Slice.Eq.{bytes_eq-Decides}
 use Rattle.std.proofs.Math.Seq.{take-append_seam, drop-append_seam}
-use Rattle.wgsl_text.specs.Token.{Mark, Equals, LessThan, Ampersand, Bar, Not, Minus, EqualsEquals, NotEquals, LessEquals, AndAnd, BarBar, LessLess}
-use Rattle.wgsl_text.specs.Token.{Suffix, NoSuffix, Token, Fixed, Number, ZeroPointZero, Foreign}
+use Rattle.wgsl_text.specs.Token.{Mark, Equals, LessThan, Ampersand, Bar, Not, Minus, EqualsEquals, NotEquals, LessEquals, AndAnd, BarBar, LessLess, Suffix, NoSuffix, Token, Fixed, Number, ZeroPointZero, Foreign}
 use Rattle.wgsl_text.specs.Words.{is_letter, is_word_byte, all_word_bytes}
 use Rattle.wgsl_text.specs.Text.{Lexeme, Takes, Skips, mark_text, suffix_text, starts_with, word_length, digits_length, word_token, word_lexeme, suffix_at, is_point_zero, is_empty, number_of, number_lexeme, one_more, minus_lexeme, sign_or, single, single_signs, sign_lexeme, lexeme, behind, scan}
 use Rattle.wgsl_text.specs.Spelling.{is_sign, Spells, SpellsWord, SpellsNumber, SpellsZeroPointZero, SpellsSign, is_blank, Begins, AtBlank, AtToken, AtForeign}

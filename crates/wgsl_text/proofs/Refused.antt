@@ -4,8 +4,7 @@ use Rattle.std.specs.Prelude.{codes, ◌==◌, ◌<◌, ◌^◌}
 use Rattle.std.proofs.lemmas.Bool.{false≢true}
 use Rattle.wgsl_text.specs.Token.{Token, SuffixI, SuffixU}
 use Rattle.wgsl_text.specs.Words.{is_reserved, is_builtin}
-use Rattle.wgsl_text.specs.Tree.{TypeSpecifier, Expression, Program, Named, Template, TypePart, NoParts, Name, Call, Argument, NoArguments, NumberArgument, ZeroArgument, Member, Unary, Negate, Constant, Suffixed}
-use Rattle.wgsl_text.specs.Tree.{no_declarations, NoResult, Plain, Compute, Worded, Builtin, Attribute, Numbered, Location, Size, Align}
+use Rattle.wgsl_text.specs.Tree.{TypeSpecifier, Expression, Program, Named, Template, TypePart, NoParts, Name, Call, Argument, NoArguments, NumberArgument, ZeroArgument, Member, Unary, Negate, Constant, Suffixed, no_declarations, NoResult, Plain, Compute, Worded, Builtin, Attribute, Numbered, Location, Size, Align}
 use Rattle.wgsl_text.specs.WorkedTrees.{named, name, call, parameter, function, of_functions, member, struct}
 use Rattle.wgsl_text.specs.Reading.{ReadsType, ReadsExpression, Reads}
 use Rattle.wgsl_text.specs.Refused.{Refused, IsNoExpression}

@@ -4,9 +4,7 @@ use Rattle.std.proofs.lemmas.List.{append-nil}
 use Rattle.std.specs.Fmt.{decimal}
 use Rattle.std.specs.Prelude.{codes, replicate, ◌*◌, Some}
 use Rattle.wgsl_text.specs.Token.{CloseBracket, Piece, TokenPiece, Blank, LineEnd, Indent}
-use Rattle.wgsl_text.specs.Tree.{BinaryOperator, UnaryOperator, TypeSpecifier, Named, Template, TypeParts, TypePart, SizePart, Expression, Name, Binary, Unary, Call, Member, Index, IndexAt, AddressOf, Dereference, Arguments, Argument}
-use Rattle.wgsl_text.specs.Tree.{Statement, Let, TypedLet, Assign, CallStatement, ReturnValue, If, Loop, Switch, Block, Statements, Then, Cases, Case, Labels}
-use Rattle.wgsl_text.specs.Tree.{LoopBreakIf, Attribute, Parameter, ResultOf, Local, Function, EntryPoint, StructMember, Struct, NamedConstant, Override, Global, Program}
+use Rattle.wgsl_text.specs.Tree.{BinaryOperator, UnaryOperator, TypeSpecifier, Named, Template, TypeParts, TypePart, SizePart, Expression, Name, Binary, Unary, Call, Member, Index, IndexAt, AddressOf, Dereference, Arguments, Argument, Statement, Let, TypedLet, Assign, CallStatement, ReturnValue, If, Loop, Switch, Block, Statements, Then, Cases, Case, Labels, LoopBreakIf, Attribute, Parameter, ResultOf, Local, Function, EntryPoint, StructMember, Struct, NamedConstant, Override, Global, Program}
 use Rattle.wgsl_text.specs.Pieces.{mark, plain, has_gaps, binary_pieces, unary_mark, parts_pieces, more_parts_pieces, base_pieces, expression_pieces, arguments_pieces, more_arguments_pieces}
 use Rattle.wgsl_text.specs.Lines.{case_pieces, statement_pieces, statements_pieces, else_pieces, continuing_pieces, cases_pieces}
 use Rattle.wgsl_text.specs.Declarations.{attribute_pieces, attributes_pieces, value_pieces, parameter_pieces, parameters_pieces, more_parameters_pieces, result_pieces, locals_pieces, group_end, function_pieces, enables_pieces, members_pieces, structs_pieces, constants_pieces, overrides_pieces, global_attributes_pieces, space_pieces, globals_pieces, functions_pieces, entry_point_pieces, more_entry_points_pieces, entry_points_pieces}

@@ -4,24 +4,24 @@ use Rattle.std.specs.Prelude.{if◌then◌else◌}
 use Rattle.std.specs.Str.{bytes_eq}
 use Rattle.std.proofs.lemmas.Bool.{false≢true}
 use Rattle.std.proofs.lemmas.Slice.Eq.{bytes_eq-Decides}
-use Rattle.naga_bindings.specs.declared.binding.BuiltIn.{BuiltIn}
-use Rattle.naga_bindings.specs.declared.binding.BuiltIn.TheVariants as builtin
-use Rattle.naga_bindings.specs.declared.binding.Interpolation.{Interpolation}
-use Rattle.naga_bindings.specs.declared.binding.Interpolation.TheVariants as interpolation
-use Rattle.naga_bindings.specs.declared.binding.Sampling.{Sampling}
-use Rattle.naga_bindings.specs.declared.binding.Sampling.TheVariants as sampling
-use Rattle.naga_enumerations.specs.declared.image.StorageFormat.{StorageFormat}
-use Rattle.naga_enumerations.specs.declared.image.StorageFormat.TheVariants as format
-use Rattle.naga_enumerations.specs.declared.types.AddressSpace.{AddressSpace}
-use Rattle.naga_enumerations.specs.declared.types.AddressSpace.TheVariants as space
-use Rattle.naga_enumerations.specs.declared.types.CooperativeRole.{CooperativeRole}
-use Rattle.naga_enumerations.specs.declared.types.CooperativeRole.TheVariants as role
-use Rattle.naga_enumerations.specs.declared.types.Scalar.{Scalar}
-use Rattle.naga_enumerations.specs.declared.types.ScalarKind.{ScalarKind}
-use Rattle.naga_enumerations.specs.declared.types.ScalarKind.TheVariants as kind
-use Rattle.naga_flags.specs.declared.flags.StorageAccess.{StorageAccess}
-use Rattle.naga_operators.specs.declared.MathFunction.{MathFunction}
-use Rattle.naga_operators.specs.declared.MathFunction.TheVariants as math
+use Rattle.naga_ir.specs.declared.binding.BuiltIn.{BuiltIn}
+use Rattle.naga_ir.specs.declared.binding.BuiltIn.TheVariants as builtin
+use Rattle.naga_ir.specs.declared.binding.Interpolation.{Interpolation}
+use Rattle.naga_ir.specs.declared.binding.Interpolation.TheVariants as interpolation
+use Rattle.naga_ir.specs.declared.binding.Sampling.{Sampling}
+use Rattle.naga_ir.specs.declared.binding.Sampling.TheVariants as sampling
+use Rattle.naga_ir.specs.declared.image.StorageFormat.{StorageFormat}
+use Rattle.naga_ir.specs.declared.image.StorageFormat.TheVariants as format
+use Rattle.naga_ir.specs.declared.types.AddressSpace.{AddressSpace}
+use Rattle.naga_ir.specs.declared.types.AddressSpace.TheVariants as space
+use Rattle.naga_ir.specs.declared.types.CooperativeRole.{CooperativeRole}
+use Rattle.naga_ir.specs.declared.types.CooperativeRole.TheVariants as role
+use Rattle.naga_ir.specs.declared.types.Scalar.{Scalar}
+use Rattle.naga_ir.specs.declared.types.ScalarKind.{ScalarKind}
+use Rattle.naga_ir.specs.declared.types.ScalarKind.TheVariants as kind
+use Rattle.naga_ir.specs.declared.flags.StorageAccess.{StorageAccess}
+use Rattle.naga_ir.specs.declared.operators.MathFunction.{MathFunction}
+use Rattle.naga_ir.specs.declared.operators.MathFunction.TheVariants as math
 use Rattle.wgsl_words.specs.Words.{scalar_word, scalar_word_of, interpolation_word, sampling_word, role_word, format_word, builtin_word, space_word, image_access_word, math_word, has, atomic_bit, load_bit, store_bit}
 use Rattle.wgsl_text.specs.Tables.{scalar_words, sampled_words, address_space_words, access_words, format_words, role_words, builtin_value_words, interpolation_words, sampling_words}
 use Rattle.wgsl_text.specs.ValueWords.{AreTheWordsOf, ValueWords}

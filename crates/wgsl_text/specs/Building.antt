@@ -3,13 +3,10 @@
 -- Throughout, w is a word, t a type or a callee, n a number, e an expression (es are several), and
 -- s the name of a struct.
 use Rattle.std.specs.Prelude.{◌≡◌, ℕ, ◌<◌, List, ◌∷◌, codes, IsTrue}
-use Rattle.wgsl_text.specs.Grammar.{IsPlainNumber, IsType, IsCallee, IsExpression, TakesScalar}
-use Rattle.wgsl_text.specs.Grammar.{TakesElements, rule_among, type_templates, plain_type_words}
+use Rattle.wgsl_text.specs.Grammar.{IsPlainNumber, IsType, IsCallee, IsExpression, TakesScalar, TakesElements, rule_among, type_templates, plain_type_words}
 use Rattle.wgsl_text.specs.GrammarOfLines.{Each, IsStatement}
 use Rattle.wgsl_text.specs.Tables.{scalar_words, address_space_words, gather_words, level_words}
-use Rattle.wgsl_text.specs.Tree.{TypeSpecifier, Named, Template, NoParts, TypePart, SizePart}
-use Rattle.wgsl_text.specs.Tree.{NumberArgument, Expression, Call, CallStatement, operands}
-use Rattle.wgsl_text.specs.Tree.{operands_with_level}
+use Rattle.wgsl_text.specs.Tree.{TypeSpecifier, Named, Template, NoParts, TypePart, SizePart, NumberArgument, Expression, Call, CallStatement, operands, operands_with_level}
 use Rattle.wgsl_text.specs.Words.{IsIdentifier, stands_in, is_builtin}
 
 -- types of a word alone, and of a word with parts

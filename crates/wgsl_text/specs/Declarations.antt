@@ -4,19 +4,8 @@
 -- and each declaration goes by its first letter: parameter, local, function, member, struct,
 -- constant, override, global, entry point.
 use Rattle.std.specs.Prelude.{ℕ, List, [], ◌∷◌, ◌++◌, codes, Option, None, Some}
-use Rattle.wgsl_text.specs.Token.{CloseParen, OpenParen, OpenBrace, CloseBrace, Comma, Semicolon}
-use Rattle.wgsl_text.specs.Token.{Colon, Equals, GreaterThan, LessThan, Minus, At, KeywordVar}
-use Rattle.wgsl_text.specs.Token.{KeywordFn, KeywordStruct, KeywordConst, KeywordEnable}
-use Rattle.wgsl_text.specs.Token.{KeywordOverride, Piece, Blank, LineEnd, Indent}
-use Rattle.wgsl_text.specs.Tree.{Expression, PlainAttribute, Invariant, PerPrimitive, Coherent}
-use Rattle.wgsl_text.specs.Tree.{Volatile, Vertex, Fragment, Compute, Task, RayGeneration, AnyHit}
-use Rattle.wgsl_text.specs.Tree.{ClosestHit, Miss, NumberedAttribute, Location, BlendSource, Id}
-use Rattle.wgsl_text.specs.Tree.{Group, Binding, Size, Align, WordedAttribute, Builtin, Interpolate}
-use Rattle.wgsl_text.specs.Tree.{Mesh, Payload, IncomingPayload, Attribute, Plain, Numbered, Worded}
-use Rattle.wgsl_text.specs.Tree.{Interpolated, WorkgroupSize, Parameter, Result, NoResult, ResultOf}
-use Rattle.wgsl_text.specs.Tree.{Local, Function, EntryPoint, StructMember, Struct, NamedConstant}
-use Rattle.wgsl_text.specs.Tree.{Override, Space, NoSpace, SpaceAlone, SpaceAndAccess, Global}
-use Rattle.wgsl_text.specs.Tree.{Program}
+use Rattle.wgsl_text.specs.Token.{CloseParen, OpenParen, OpenBrace, CloseBrace, Comma, Semicolon, Colon, Equals, GreaterThan, LessThan, Minus, At, KeywordVar, KeywordFn, KeywordStruct, KeywordConst, KeywordEnable, KeywordOverride, Piece, Blank, LineEnd, Indent}
+use Rattle.wgsl_text.specs.Tree.{Expression, PlainAttribute, Invariant, PerPrimitive, Coherent, Volatile, Vertex, Fragment, Compute, Task, RayGeneration, AnyHit, ClosestHit, Miss, NumberedAttribute, Location, BlendSource, Id, Group, Binding, Size, Align, WordedAttribute, Builtin, Interpolate, Mesh, Payload, IncomingPayload, Attribute, Plain, Numbered, Worded, Interpolated, WorkgroupSize, Parameter, Result, NoResult, ResultOf, Local, Function, EntryPoint, StructMember, Struct, NamedConstant, Override, Space, NoSpace, SpaceAlone, SpaceAndAccess, Global, Program}
 use Rattle.wgsl_text.specs.Pieces.{mark, word, plain, expression_pieces, type_pieces}
 use Rattle.wgsl_text.specs.Lines.{line_end, statements_pieces}
 

@@ -1,19 +1,8 @@
 -- Worked programs, and beside each its text.
 use Rattle.std.specs.Prelude.{ℕ, true, false, List, [], ◌∷◌, codes, None, Some}
 use Rattle.wgsl_text.specs.Token.{SuffixLi}
-use Rattle.wgsl_text.specs.Tree.{Truth, Suffixed, Add, Multiply, Negate, Constant, Binary, Unary}
-use Rattle.wgsl_text.specs.Tree.{IndexAt, AddressOf, Dereference, NoArguments, Argument}
-use Rattle.wgsl_text.specs.Tree.{ZeroArgument, DefaultLabel, SignedLabel, LastLabel, MoreLabels}
-use Rattle.wgsl_text.specs.Tree.{Assign, CallStatement, ReturnValue, Continue, If, LoopBreakIf}
-use Rattle.wgsl_text.specs.Tree.{Switch, NoStatements, NoCases, Case, Vertex, Fragment, Compute}
-use Rattle.wgsl_text.specs.Tree.{Location, Id, Group, Binding, Size, Builtin, Interpolate, Plain}
-use Rattle.wgsl_text.specs.Tree.{Numbered, WorkgroupSize, NoResult, ResultOf, Program}
-use Rattle.wgsl_text.specs.Tree.{no_declarations, operands}
-use Rattle.wgsl_text.specs.WorkedTrees.{IsText, lines, named, template_of, sized, name, names}
-use Rattle.wgsl_text.specs.WorkedTrees.{integer, unsigned, call, member_of, bound, typed}
-use Rattle.wgsl_text.specs.WorkedTrees.{statements, parameter, bound_parameter, gives, local}
-use Rattle.wgsl_text.specs.WorkedTrees.{function, worded, member, struct, constant, override, space}
-use Rattle.wgsl_text.specs.WorkedTrees.{space_and_access, global, entry_point, of_functions}
+use Rattle.wgsl_text.specs.Tree.{Truth, Suffixed, Add, Multiply, Negate, Constant, Binary, Unary, IndexAt, AddressOf, Dereference, NoArguments, Argument, ZeroArgument, DefaultLabel, SignedLabel, LastLabel, MoreLabels, Assign, CallStatement, ReturnValue, Continue, If, LoopBreakIf, Switch, NoStatements, NoCases, Case, Vertex, Fragment, Compute, Location, Id, Group, Binding, Size, Builtin, Interpolate, Plain, Numbered, WorkgroupSize, NoResult, ResultOf, Program, no_declarations, operands}
+use Rattle.wgsl_text.specs.WorkedTrees.{IsText, lines, named, template_of, sized, name, names, integer, unsigned, call, member_of, bound, typed, statements, parameter, bound_parameter, gives, local, function, worded, member, struct, constant, override, space, space_and_access, global, entry_point, of_functions}
 
 abbrev pub identity : Program
 identity = of_functions (

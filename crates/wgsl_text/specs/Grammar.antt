@@ -3,22 +3,12 @@
 -- Throughout, w is a word, t a type, e an expression, i an index, l a literal, n a number, b a
 -- truth value; in the parts of a type a is an address space, m an access, f a format, r a role, s a
 -- scalar, and v a vertex return.
-use Rattle.std.specs.Prelude.{ℕ, ◌<◌, ◌≤◌, ◌^◌, Bool, true, false, not, ◌&&◌, ◌||◌, if◌then◌else◌}
-use Rattle.std.specs.Prelude.{List, [], ◌∷◌, ◌++◌, ⊤, codes, nat_lt, IsTrue}
+use Rattle.std.specs.Prelude.{ℕ, ◌<◌, ◌≤◌, ◌^◌, Bool, true, false, not, ◌&&◌, ◌||◌, if◌then◌else◌, List, [], ◌∷◌, ◌++◌, ⊤, codes, nat_lt, IsTrue}
 use Rattle.std.specs.Str.{bytes_eq}
 use Rattle.wgsl_text.specs.Token.{Suffix, SuffixI, SuffixU, SuffixLi, SuffixLu}
 use Rattle.wgsl_text.specs.Words.{stands_in, is_builtin, IsWord, IsIdentifier}
-use Rattle.wgsl_text.specs.Tables.{scalar_words, sampled_words, vector_words, matrix_words}
-use Rattle.wgsl_text.specs.Tables.{sampled_image_words, depth_image_words, storage_image_words}
-use Rattle.wgsl_text.specs.Tables.{cooperative_matrix_words, sampler_words, ray_words}
-use Rattle.wgsl_text.specs.Tables.{address_space_words, access_words, format_words, role_words}
-use Rattle.wgsl_text.specs.Tables.{atomic_words, array_words, pointer_words, type_taking_words}
-use Rattle.wgsl_text.specs.Tables.{gather_words, level_words}
-use Rattle.wgsl_text.specs.Tree.{Literal, Truth, Suffixed, SignedShort, UnsignedShort, LeastInteger}
-use Rattle.wgsl_text.specs.Tree.{LeastLong, TypeSpecifier, Named, Template, TypeParts, NoParts}
-use Rattle.wgsl_text.specs.Tree.{TypePart, SizePart, Expression, Constant, Name, Binary, Unary}
-use Rattle.wgsl_text.specs.Tree.{Call, Member, Index, IndexAt, AddressOf, Dereference, Arguments}
-use Rattle.wgsl_text.specs.Tree.{NoArguments, Argument, NumberArgument, ZeroArgument}
+use Rattle.wgsl_text.specs.Tables.{scalar_words, sampled_words, vector_words, matrix_words, sampled_image_words, depth_image_words, storage_image_words, cooperative_matrix_words, sampler_words, ray_words, address_space_words, access_words, format_words, role_words, atomic_words, array_words, pointer_words, type_taking_words, gather_words, level_words}
+use Rattle.wgsl_text.specs.Tree.{Literal, Truth, Suffixed, SignedShort, UnsignedShort, LeastInteger, LeastLong, TypeSpecifier, Named, Template, TypeParts, NoParts, TypePart, SizePart, Expression, Constant, Name, Binary, Unary, Call, Member, Index, IndexAt, AddressOf, Dereference, Arguments, NoArguments, Argument, NumberArgument, ZeroArgument}
 
 -- a size, an index, or a number of an attribute
 abbrev pub IsPlainNumber : ℕ → Type 0

@@ -4,27 +4,12 @@
 -- index or an interpolation, n a number, s a statement, a sampling or a struct,
 -- l a label or a local, and each other declaration goes by its first letter:
 -- parameter, function, member, constant, override, global, entry point.
-use Rattle.std.specs.Prelude.{ℕ, ◌<◌, ◌^◌, Bool, true, false, ◌&&◌, List, [], ◌∷◌, ⊤, codes, IsTrue}
-use Rattle.std.specs.Prelude.{Option, None, Some}
+use Rattle.std.specs.Prelude.{ℕ, ◌<◌, ◌^◌, Bool, true, false, ◌&&◌, List, [], ◌∷◌, ⊤, codes, IsTrue, Option, None, Some}
 use Rattle.std.specs.Str.{bytes_eq}
 use Rattle.wgsl_text.specs.Words.{stands_in, IsWord, IsIdentifier}
-use Rattle.wgsl_text.specs.Tables.{address_space_words, access_words, builtin_value_words}
-use Rattle.wgsl_text.specs.Tables.{interpolation_words, sampling_words, enable_words}
-use Rattle.wgsl_text.specs.Tree.{Expression, Name, Member, Index, IndexAt, Dereference, Label}
-use Rattle.wgsl_text.specs.Tree.{DefaultLabel, SignedLabel, UnsignedLabel, Labels, LastLabel}
-use Rattle.wgsl_text.specs.Tree.{MoreLabels, Statement, Let, TypedLet, Assign, CallStatement}
-use Rattle.wgsl_text.specs.Tree.{ReturnValue, If, Loop, LoopBreakIf, Switch, Block, Statements}
-use Rattle.wgsl_text.specs.Tree.{NoStatements, Then, Cases, NoCases, Case, Invariant, PerPrimitive}
-use Rattle.wgsl_text.specs.Tree.{Coherent, Volatile, Vertex, Fragment, Compute, Task, RayGeneration}
-use Rattle.wgsl_text.specs.Tree.{AnyHit, ClosestHit, Miss, Location, BlendSource, Id, Group}
-use Rattle.wgsl_text.specs.Tree.{Binding, Size, Align, Builtin, Interpolate, Mesh, Payload}
-use Rattle.wgsl_text.specs.Tree.{IncomingPayload, Attribute, Plain, Numbered, Worded, Interpolated}
-use Rattle.wgsl_text.specs.Tree.{WorkgroupSize, Parameter, Result, NoResult, ResultOf, Local}
-use Rattle.wgsl_text.specs.Tree.{Function, EntryPoint, StructMember, Struct, NamedConstant}
-use Rattle.wgsl_text.specs.Tree.{Override, Space, NoSpace, SpaceAlone, SpaceAndAccess, Global}
-use Rattle.wgsl_text.specs.Tree.{Program}
-use Rattle.wgsl_text.specs.Grammar.{IsPlainNumber, IsSigned, IsType, IsCallee, may_take}
-use Rattle.wgsl_text.specs.Grammar.{IsExpression, IsArguments}
+use Rattle.wgsl_text.specs.Tables.{address_space_words, access_words, builtin_value_words, interpolation_words, sampling_words, enable_words}
+use Rattle.wgsl_text.specs.Tree.{Expression, Name, Member, Index, IndexAt, Dereference, Label, DefaultLabel, SignedLabel, UnsignedLabel, Labels, LastLabel, MoreLabels, Statement, Let, TypedLet, Assign, CallStatement, ReturnValue, If, Loop, LoopBreakIf, Switch, Block, Statements, NoStatements, Then, Cases, NoCases, Case, Invariant, PerPrimitive, Coherent, Volatile, Vertex, Fragment, Compute, Task, RayGeneration, AnyHit, ClosestHit, Miss, Location, BlendSource, Id, Group, Binding, Size, Align, Builtin, Interpolate, Mesh, Payload, IncomingPayload, Attribute, Plain, Numbered, Worded, Interpolated, WorkgroupSize, Parameter, Result, NoResult, ResultOf, Local, Function, EntryPoint, StructMember, Struct, NamedConstant, Override, Space, NoSpace, SpaceAlone, SpaceAndAccess, Global, Program}
+use Rattle.wgsl_text.specs.Grammar.{IsPlainNumber, IsSigned, IsType, IsCallee, may_take, IsExpression, IsArguments}
 
 -- what may stand on the left of an assignment
 abbrev pub is_reference : Expression → Bool

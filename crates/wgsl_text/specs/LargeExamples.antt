@@ -2,9 +2,7 @@
 --
 -- Throughout, n is the depth.
 use Rattle.std.specs.Prelude.{◌≡◌, ℕ, zero, suc, ◌*◌, List, [], ◌∷◌, ◌++◌, codes, length, replicate}
-use Rattle.wgsl_text.specs.Tree.{Add, Template, NoParts, TypePart, Expression, Binary, Index}
-use Rattle.wgsl_text.specs.Tree.{ReturnValue, Block, Statements, NoStatements, Then, NoResult}
-use Rattle.wgsl_text.specs.Tree.{ResultOf, Program}
+use Rattle.wgsl_text.specs.Tree.{Add, Template, NoParts, TypePart, Expression, Binary, Index, ReturnValue, Block, Statements, NoStatements, Then, NoResult, ResultOf, Program}
 use Rattle.wgsl_text.specs.WorkedTrees.{IsText, named, name, parameter, function, of_functions}
 
 -- blocks, each inside the one before

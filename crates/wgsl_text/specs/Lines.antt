@@ -4,17 +4,8 @@
 -- Throughout, n is the level of indentation, w a word, t a type, e an expression, a and b are two,
 -- l is a label, and s a statement.
 use Rattle.std.specs.Prelude.{ℕ, suc, false, List, [], ◌∷◌, ◌++◌}
-use Rattle.wgsl_text.specs.Token.{OpenParen, OpenBrace, CloseBrace, Comma, Semicolon, Colon, Equals}
-use Rattle.wgsl_text.specs.Token.{KeywordLet, KeywordIf, KeywordElse, KeywordLoop}
-use Rattle.wgsl_text.specs.Token.{KeywordContinuing, KeywordBreak, KeywordContinue, KeywordSwitch}
-use Rattle.wgsl_text.specs.Token.{KeywordCase, KeywordDefault, KeywordReturn, KeywordDiscard}
-use Rattle.wgsl_text.specs.Token.{NoSuffix, SuffixU, Number, Piece, TokenPiece, Blank, LineEnd}
-use Rattle.wgsl_text.specs.Token.{Indent}
-use Rattle.wgsl_text.specs.Tree.{Label, DefaultLabel, SignedLabel, UnsignedLabel, Labels, LastLabel}
-use Rattle.wgsl_text.specs.Tree.{MoreLabels, Statement, Let, TypedLet, Assign, CallStatement}
-use Rattle.wgsl_text.specs.Tree.{Return, ReturnValue, Discard, Break, Continue, If, Loop}
-use Rattle.wgsl_text.specs.Tree.{LoopBreakIf, Switch, Block, Statements, NoStatements, Then, Cases}
-use Rattle.wgsl_text.specs.Tree.{NoCases, Case}
+use Rattle.wgsl_text.specs.Token.{OpenParen, OpenBrace, CloseBrace, Comma, Semicolon, Colon, Equals, KeywordLet, KeywordIf, KeywordElse, KeywordLoop, KeywordContinuing, KeywordBreak, KeywordContinue, KeywordSwitch, KeywordCase, KeywordDefault, KeywordReturn, KeywordDiscard, NoSuffix, SuffixU, Number, Piece, TokenPiece, Blank, LineEnd, Indent}
+use Rattle.wgsl_text.specs.Tree.{Label, DefaultLabel, SignedLabel, UnsignedLabel, Labels, LastLabel, MoreLabels, Statement, Let, TypedLet, Assign, CallStatement, Return, ReturnValue, Discard, Break, Continue, If, Loop, LoopBreakIf, Switch, Block, Statements, NoStatements, Then, Cases, NoCases, Case}
 use Rattle.wgsl_text.specs.Pieces.{mark, word, expression_pieces, type_pieces, arguments_pieces}
 
 -- the end of a line that is a statement

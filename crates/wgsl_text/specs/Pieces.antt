@@ -4,23 +4,10 @@
 -- Throughout, w is a word, m a mark, n a number, t a type, e an expression, a and b are two, i is
 -- an index, and l a literal.
 use Rattle.std.specs.Prelude.{ℕ, Bool, true, false, not, ◌||◌, List, [], ◌∷◌, ◌++◌, codes}
-use Rattle.wgsl_text.specs.Token.{Mark, OpenParen, CloseParen, OpenBracket, CloseBracket, Comma}
-use Rattle.wgsl_text.specs.Token.{Dot, Equals, LessThan, GreaterThan, Plus, Minus, Star, Slash}
-use Rattle.wgsl_text.specs.Token.{Percent, Ampersand, Bar, Caret, Not, Tilde, EqualsEquals}
-use Rattle.wgsl_text.specs.Token.{NotEquals, LessEquals, AndAnd, BarBar, LessLess, KeywordTrue}
-use Rattle.wgsl_text.specs.Token.{KeywordFalse, NoSuffix, Fixed, Word, Number, ZeroPointZero, Piece}
-use Rattle.wgsl_text.specs.Token.{TokenPiece, Blank}
+use Rattle.wgsl_text.specs.Token.{Mark, OpenParen, CloseParen, OpenBracket, CloseBracket, Comma, Dot, Equals, LessThan, GreaterThan, Plus, Minus, Star, Slash, Percent, Ampersand, Bar, Caret, Not, Tilde, EqualsEquals, NotEquals, LessEquals, AndAnd, BarBar, LessLess, KeywordTrue, KeywordFalse, NoSuffix, Fixed, Word, Number, ZeroPointZero, Piece, TokenPiece, Blank}
 use Rattle.wgsl_text.specs.Words.{stands_in}
 use Rattle.wgsl_text.specs.Tables.{storage_image_words, cooperative_matrix_words}
-use Rattle.wgsl_text.specs.Tree.{BinaryOperator, Add, Subtract, Multiply, Divide, Modulo, Equal}
-use Rattle.wgsl_text.specs.Tree.{NotEqual, Less, LessEqual, Greater, GreaterEqual, And, ExclusiveOr}
-use Rattle.wgsl_text.specs.Tree.{InclusiveOr, LogicalAnd, LogicalOr, ShiftLeft, ShiftRight}
-use Rattle.wgsl_text.specs.Tree.{UnaryOperator, Negate, LogicalNot, BitwiseNot, Literal, Truth}
-use Rattle.wgsl_text.specs.Tree.{Suffixed, SignedShort, UnsignedShort, LeastInteger, LeastLong}
-use Rattle.wgsl_text.specs.Tree.{TypeSpecifier, Named, Template, TypeParts, NoParts, TypePart}
-use Rattle.wgsl_text.specs.Tree.{SizePart, Expression, Constant, Name, Binary, Unary, Call, Member}
-use Rattle.wgsl_text.specs.Tree.{Index, IndexAt, AddressOf, Dereference, Arguments, NoArguments}
-use Rattle.wgsl_text.specs.Tree.{Argument, NumberArgument, ZeroArgument}
+use Rattle.wgsl_text.specs.Tree.{BinaryOperator, Add, Subtract, Multiply, Divide, Modulo, Equal, NotEqual, Less, LessEqual, Greater, GreaterEqual, And, ExclusiveOr, InclusiveOr, LogicalAnd, LogicalOr, ShiftLeft, ShiftRight, UnaryOperator, Negate, LogicalNot, BitwiseNot, Literal, Truth, Suffixed, SignedShort, UnsignedShort, LeastInteger, LeastLong, TypeSpecifier, Named, Template, TypeParts, NoParts, TypePart, SizePart, Expression, Constant, Name, Binary, Unary, Call, Member, Index, IndexAt, AddressOf, Dereference, Arguments, NoArguments, Argument, NumberArgument, ZeroArgument}
 
 abbrev pub mark : Mark → Piece
 mark m = TokenPiece (Fixed m)

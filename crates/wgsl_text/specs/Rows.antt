@@ -4,29 +4,10 @@
 use Prim.Native.String.{String}
 use Rattle.std.specs.Prelude.{◌≡◌, ℕ, true, false, List, [], ◌∷◌, codes, None, Some}
 use Rattle.wgsl_text.specs.Token.{SuffixI, SuffixLi, SuffixLu}
-use Rattle.wgsl_text.specs.Tree.{Truth, Suffixed, SignedShort, UnsignedShort, LeastInteger}
-use Rattle.wgsl_text.specs.Tree.{LeastLong, Add, Subtract, Multiply, Divide, Modulo, Equal}
-use Rattle.wgsl_text.specs.Tree.{NotEqual, Less, LessEqual, Greater, GreaterEqual, And, ExclusiveOr}
-use Rattle.wgsl_text.specs.Tree.{InclusiveOr, LogicalAnd, LogicalOr, ShiftLeft, ShiftRight, Negate}
-use Rattle.wgsl_text.specs.Tree.{LogicalNot, BitwiseNot, TypeSpecifier, Expression, Constant}
-use Rattle.wgsl_text.specs.Tree.{Binary, Unary, Call, Index, IndexAt, AddressOf, Dereference}
-use Rattle.wgsl_text.specs.Tree.{NoArguments, Argument, NumberArgument, ZeroArgument, DefaultLabel}
-use Rattle.wgsl_text.specs.Tree.{SignedLabel, UnsignedLabel, LastLabel, MoreLabels, Assign}
-use Rattle.wgsl_text.specs.Tree.{CallStatement, Return, ReturnValue, Discard, Break, If, Loop}
-use Rattle.wgsl_text.specs.Tree.{Switch, Block, NoStatements, NoCases, Case, Invariant}
-use Rattle.wgsl_text.specs.Tree.{PerPrimitive, Coherent, Volatile, Vertex, Fragment, Task}
-use Rattle.wgsl_text.specs.Tree.{RayGeneration, AnyHit, ClosestHit, Miss, Location, BlendSource, Id}
-use Rattle.wgsl_text.specs.Tree.{Group, Binding, Size, Align, Builtin, Interpolate, Mesh, Payload}
-use Rattle.wgsl_text.specs.Tree.{IncomingPayload, Plain, Numbered, WorkgroupSize, NoResult}
-use Rattle.wgsl_text.specs.Tree.{ResultOf, NoSpace, Program, no_declarations, operands}
+use Rattle.wgsl_text.specs.Tree.{Truth, Suffixed, SignedShort, UnsignedShort, LeastInteger, LeastLong, Add, Subtract, Multiply, Divide, Modulo, Equal, NotEqual, Less, LessEqual, Greater, GreaterEqual, And, ExclusiveOr, InclusiveOr, LogicalAnd, LogicalOr, ShiftLeft, ShiftRight, Negate, LogicalNot, BitwiseNot, TypeSpecifier, Expression, Constant, Binary, Unary, Call, Index, IndexAt, AddressOf, Dereference, NoArguments, Argument, NumberArgument, ZeroArgument, DefaultLabel, SignedLabel, UnsignedLabel, LastLabel, MoreLabels, Assign, CallStatement, Return, ReturnValue, Discard, Break, If, Loop, Switch, Block, NoStatements, NoCases, Case, Invariant, PerPrimitive, Coherent, Volatile, Vertex, Fragment, Task, RayGeneration, AnyHit, ClosestHit, Miss, Location, BlendSource, Id, Group, Binding, Size, Align, Builtin, Interpolate, Mesh, Payload, IncomingPayload, Plain, Numbered, WorkgroupSize, NoResult, ResultOf, NoSpace, Program, no_declarations, operands}
 use Rattle.wgsl_text.specs.Grammar.{IsType, IsExpression}
 use Rattle.wgsl_text.specs.Reading.{type_layout, expression_layout}
-use Rattle.wgsl_text.specs.WorkedTrees.{lines, names, template_of, named, template, sized}
-use Rattle.wgsl_text.specs.WorkedTrees.{member_of, bound, typed, bound_parameter, worded}
-use Rattle.wgsl_text.specs.WorkedTrees.{interpolated, member, struct, constant, override, space}
-use Rattle.wgsl_text.specs.WorkedTrees.{global, entry_point, name, integer, unsigned, call}
-use Rattle.wgsl_text.specs.WorkedTrees.{statements, parameter, local, function, of_functions}
-use Rattle.wgsl_text.specs.WorkedTrees.{IsText}
+use Rattle.wgsl_text.specs.WorkedTrees.{lines, names, template_of, named, template, sized, member_of, bound, typed, bound_parameter, worded, interpolated, member, struct, constant, override, space, global, entry_point, name, integer, unsigned, call, statements, parameter, local, function, of_functions, IsText}
 
 -- The tree is a type, and this is its layout.
 pub record IsTypeText (t : TypeSpecifier) (spelling : String) : Type 0 where

@@ -5,13 +5,7 @@
 use Prim.Native.String.{String}
 use Rattle.std.specs.Prelude.{◌≡◌, ℕ, false, List, [], ◌∷◌, ◌++◌, codes, Option}
 use Rattle.wgsl_text.specs.Token.{SuffixI, SuffixU}
-use Rattle.wgsl_text.specs.Tree.{Suffixed, TypeSpecifier, Named, Template, TypeParts, NoParts}
-use Rattle.wgsl_text.specs.Tree.{TypePart, SizePart, Expression, Constant, Name, Call, Member}
-use Rattle.wgsl_text.specs.Tree.{Arguments, NoArguments, Argument, Let, TypedLet, Statement}
-use Rattle.wgsl_text.specs.Tree.{Statements, NoStatements, Then, Worded, Interpolated, Attribute}
-use Rattle.wgsl_text.specs.Tree.{WordedAttribute, Parameter, Result, ResultOf, Local, Function}
-use Rattle.wgsl_text.specs.Tree.{EntryPoint, StructMember, Struct, NamedConstant, Override, Space}
-use Rattle.wgsl_text.specs.Tree.{Global, SpaceAlone, SpaceAndAccess, Program, no_declarations}
+use Rattle.wgsl_text.specs.Tree.{Suffixed, TypeSpecifier, Named, Template, TypeParts, NoParts, TypePart, SizePart, Expression, Constant, Name, Call, Member, Arguments, NoArguments, Argument, Let, TypedLet, Statement, Statements, NoStatements, Then, Worded, Interpolated, Attribute, WordedAttribute, Parameter, Result, ResultOf, Local, Function, EntryPoint, StructMember, Struct, NamedConstant, Override, Space, Global, SpaceAlone, SpaceAndAccess, Program, no_declarations}
 use Rattle.wgsl_text.specs.GrammarOfLines.{IsProgram}
 use Rattle.wgsl_text.specs.Reading.{layout}
 

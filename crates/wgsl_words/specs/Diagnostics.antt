@@ -1,8 +1,8 @@
 -- What a diagnostic calls a value.
 use Rattle.std.specs.Prelude.{◌≡◌, ℕ, List, ◌++◌, Option, Some, None, codes}
-use Rattle.naga_enumerations.specs.declared.types.Scalar.{Scalar}
-use Rattle.naga_enumerations.specs.declared.types.ScalarKind.{ScalarKind}
-use Rattle.naga_enumerations.specs.declared.types.ScalarKind.TheVariants.{AbstractInt, AbstractFloat}
+use Rattle.naga_ir.specs.declared.types.Scalar.{Scalar}
+use Rattle.naga_ir.specs.declared.types.ScalarKind.{ScalarKind}
+use Rattle.naga_ir.specs.declared.types.ScalarKind.TheVariants.{AbstractInt, AbstractFloat}
 use Rattle.wgsl_words.specs.Words.{scalar_word}
 
 -- the text in braces for a value without a word, by its kind and its debug text

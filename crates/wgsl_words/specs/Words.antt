@@ -1,30 +1,30 @@
 -- The words that WGSL has for values of the IR: one table for each kind of value. `None` stands where WGSL has no word.
 use Rattle.std.specs.Prelude.{ℕ, true, false, List, Option, Some, None, codes, if◌then◌else◌, ◌==◌, Bool}
-use Rattle.naga_bindings.specs.declared.binding.Interpolation.{Interpolation}
-use Rattle.naga_bindings.specs.declared.binding.Interpolation.TheVariants as interpolation
-use Rattle.naga_bindings.specs.declared.binding.Sampling.{Sampling}
-use Rattle.naga_bindings.specs.declared.binding.Sampling.TheVariants as sampling
-use Rattle.naga_enumerations.specs.declared.types.CooperativeRole.{CooperativeRole}
-use Rattle.naga_enumerations.specs.declared.types.CooperativeRole.TheVariants as role
-use Rattle.naga_enumerations.specs.declared.image.ImageDimension.{ImageDimension}
-use Rattle.naga_enumerations.specs.declared.image.ImageDimension.TheVariants as dimension
-use Rattle.naga_enumerations.specs.declared.image.StorageFormat.{StorageFormat}
-use Rattle.naga_enumerations.specs.declared.image.StorageFormat.TheVariants as format
-use Rattle.naga_operators.specs.declared.MathFunction.{MathFunction}
-use Rattle.naga_operators.specs.declared.MathFunction.TheVariants as math
-use Rattle.naga_bindings.specs.declared.binding.BuiltIn.{BuiltIn}
-use Rattle.naga_bindings.specs.declared.binding.BuiltIn.TheVariants as builtin
-use Rattle.naga_flags.specs.declared.flags.StorageAccess.{StorageAccess}
-use Rattle.naga_enumerations.specs.declared.types.AddressSpace.{AddressSpace}
-use Rattle.naga_enumerations.specs.declared.types.AddressSpace.TheVariants as space
-use Rattle.naga_enumerations.specs.declared.types.Scalar.{Scalar}
+use Rattle.naga_ir.specs.declared.binding.Interpolation.{Interpolation}
+use Rattle.naga_ir.specs.declared.binding.Interpolation.TheVariants as interpolation
+use Rattle.naga_ir.specs.declared.binding.Sampling.{Sampling}
+use Rattle.naga_ir.specs.declared.binding.Sampling.TheVariants as sampling
+use Rattle.naga_ir.specs.declared.types.CooperativeRole.{CooperativeRole}
+use Rattle.naga_ir.specs.declared.types.CooperativeRole.TheVariants as role
+use Rattle.naga_ir.specs.declared.image.ImageDimension.{ImageDimension}
+use Rattle.naga_ir.specs.declared.image.ImageDimension.TheVariants as dimension
+use Rattle.naga_ir.specs.declared.image.StorageFormat.{StorageFormat}
+use Rattle.naga_ir.specs.declared.image.StorageFormat.TheVariants as format
+use Rattle.naga_ir.specs.declared.operators.MathFunction.{MathFunction}
+use Rattle.naga_ir.specs.declared.operators.MathFunction.TheVariants as math
+use Rattle.naga_ir.specs.declared.binding.BuiltIn.{BuiltIn}
+use Rattle.naga_ir.specs.declared.binding.BuiltIn.TheVariants as builtin
+use Rattle.naga_ir.specs.declared.flags.StorageAccess.{StorageAccess}
+use Rattle.naga_ir.specs.declared.types.AddressSpace.{AddressSpace}
+use Rattle.naga_ir.specs.declared.types.AddressSpace.TheVariants as space
+use Rattle.naga_ir.specs.declared.types.Scalar.{Scalar}
 use Rattle.std.specs.Int.RustNames.{bit_and}
-use Rattle.naga_enumerations.specs.declared.types.ScalarKind.{ScalarKind}
-use Rattle.naga_enumerations.specs.declared.types.ScalarKind.TheVariants as kind
-use Rattle.naga_operators.specs.declared.BinaryOperator.{BinaryOperator}
-use Rattle.naga_operators.specs.declared.BinaryOperator.TheVariants as binary
-use Rattle.naga_operators.specs.declared.UnaryOperator.{UnaryOperator}
-use Rattle.naga_operators.specs.declared.UnaryOperator.TheVariants as unary
+use Rattle.naga_ir.specs.declared.types.ScalarKind.{ScalarKind}
+use Rattle.naga_ir.specs.declared.types.ScalarKind.TheVariants as kind
+use Rattle.naga_ir.specs.declared.operators.BinaryOperator.{BinaryOperator}
+use Rattle.naga_ir.specs.declared.operators.BinaryOperator.TheVariants as binary
+use Rattle.naga_ir.specs.declared.operators.UnaryOperator.{UnaryOperator}
+use Rattle.naga_ir.specs.declared.operators.UnaryOperator.TheVariants as unary
 
 -- scalar types, by what the bits mean and the number of bytes
 abbrev pub scalar_word_of : ScalarKind → ℕ → Option (List ℕ)

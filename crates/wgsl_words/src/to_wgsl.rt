@@ -6,12 +6,7 @@ ghost use Rattle.wgsl_words.specs.Words.{interpolation_word, sampling_word, role
 ghost use Rattle.wgsl_words.specs.Diagnostics.{IsWordOrBraced, IsScalarDiagnostic, braced_text};
 
 use bitflags::Flags;
-use naga_bindings::{BuiltIn, Interpolation, Sampling};
-use naga_enumerations::{
-    AddressSpace, CooperativeRole, ImageDimension, Scalar, ScalarKind, StorageFormat,
-};
-use naga_flags::StorageAccess;
-use naga_operators::MathFunction;
+use naga_ir::{AddressSpace, BuiltIn, CooperativeRole, ImageDimension, Interpolation, MathFunction, Sampling, Scalar, ScalarKind, StorageAccess, StorageFormat};
 use std::alloc::{AllocError, Global};
 use std::fmt::Debug;
 

@@ -1,9 +1,9 @@
 //! What an item without a label is labelled.
 ghost use Rattle.std.specs.Prelude.{◌≡◌, ℕ, ◌++◌, length, IfOk, string_bytes};
 ghost use Rattle.std.specs.Option.{option_map};
-ghost use Rattle.item_names.specs.Naming.{label_or};
-ghost use Rattle.name_keys.specs.Keys.{names_in};
-ghost use Rattle.item_names.specs.Reset.{output_word, output_label, is_struct, type_names_in};
+ghost use Rattle.naga_names.specs.Naming.{label_or};
+ghost use Rattle.naga_names.specs.Keys.{names_in};
+ghost use Rattle.naga_names.specs.Reset.{output_word, output_label, is_struct, type_names_in};
 ghost use Rattle.naga_names.specs.Outputs.{words_in, unnamed_label_by, type_label_by};
 
 use crate::namer::NameKey;

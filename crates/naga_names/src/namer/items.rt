@@ -2,11 +2,11 @@
 ghost use Rattle.std.specs.Prelude.{◌≡◌, ℕ, true, false, ◌∷◌, [], ◌++◌, length, map, IfOk, IfErr, None, Some};
 ghost use Rattle.std.specs.List.{flat_map, enumerate_from};
 ghost use Rattle.std.specs.Option.{option_or};
-ghost use Rattle.name_keys.specs.declared.key.NameKey.TheVariants as keys;
-ghost use Rattle.name_keys.specs.declared.key.ExternalTextureNameKey.{ExternalTextureNameKey};
-ghost use Rattle.name_keys.specs.Keys.{same_key, names_in};
-ghost use Rattle.item_names.specs.Naming.{label_or};
-ghost use Rattle.item_names.specs.Reset.{is_external_inner, is_external, is_member, key_fits, labelled_types, labelled_entry_points, labelled_functions, labelled_globals, labelled_constants, labelled_overrides, labelled_members, members_of, type_names_in, value_label, with_parts};
+ghost use Rattle.naga_names.specs.declared.key.NameKey.TheVariants as keys;
+ghost use Rattle.naga_names.specs.declared.key.ExternalTextureNameKey.{ExternalTextureNameKey};
+ghost use Rattle.naga_names.specs.Keys.{same_key, names_in};
+ghost use Rattle.naga_names.specs.Naming.{label_or};
+ghost use Rattle.naga_names.specs.Reset.{is_external_inner, is_external, is_member, key_fits, labelled_types, labelled_entry_points, labelled_functions, labelled_globals, labelled_constants, labelled_overrides, labelled_members, members_of, type_names_in, value_label, with_parts};
 ghost use Rattle.naga_names.specs.Progress.{progress, Gives, GivesModule, argument_key, local_key, part_key, has_parts, argument_items, local_item};
 
 use crate::namer::fallback::{label_or, output_words, type_label, value_label};

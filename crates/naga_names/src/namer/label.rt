@@ -3,15 +3,15 @@ ghost use Rattle.std.specs.Prelude.{◌≡◌, ℕ, true, List, ◌∷◌, [], �
 ghost use Rattle.std.specs.List.{list_any, starts_with};
 ghost use Rattle.std.specs.Bool.{nat_eq};
 ghost use Rattle.std.specs.Str.{chars};
-ghost use Rattle.item_names.specs.Label.{is_numeric, is_mark, is_foreign, by_number, after_numerics, spelling, with_separator, without_last_separators, or_unnamed, base_of};
-ghost use Rattle.item_names.specs.Naming.{ends_in_digit};
+ghost use Rattle.naga_names.specs.Label.{is_numeric, is_mark, is_foreign, by_number, after_numerics, spelling, with_separator, without_last_separators, or_unnamed, base_of};
+ghost use Rattle.naga_names.specs.Naming.{ends_in_digit};
 
 use std::alloc::{AllocError, Global};
 use std::fmt::Write;
 use ucd_category::{GeneralCategory, GeneralCategoryGroup};
 
 /// The base of the label, where identifiers keep off the prefixes.
-#[tactic(auto, unfolding(item_names::specs::Label::base_of))]
+#[tactic(auto, unfolding(crate::specs::Label::base_of))]
 pub fn base(alloc: Global, prefixes: &[&'static str], label: &str) -> Result<String, AllocError>
     ensures { IfOk result (λ base. string_bytes base ≡ base_of (map (λ p. p.now) prefixes.now) (chars label.now)) }
 {
@@ -56,7 +56,7 @@ fn spell(alloc: Global, label: &str) -> Result<String, AllocError>
 }
 
 /// Whether the general category is Nd, Nl or No.
-#[tactic(auto, unfolding(item_names::specs::Label::is_numeric))]
+#[tactic(auto, unfolding(crate::specs::Label::is_numeric))]
 fn is_numeric(c: &char) -> bool
     ensures { result ≡ is_numeric c.now }
 {

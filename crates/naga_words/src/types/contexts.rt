@@ -1,17 +1,17 @@
 //! Contexts: types alone, the arenas of a module, and a module with the names of its items.
 
 ghost use Rattle.std.specs.Prelude.{◌≡◌, ◌<◌, None, Some, slice_get, string_bytes, codes, OnOk, IsErrOf};
-ghost use Rattle.name_keys.specs.Keys.{names_in};
-ghost use Rattle.type_spelling.specs.Contexts.{arena_context, global_context, names_context, name_or_nothing};
-ghost use Rattle.spelling_parts.specs.Parts.{HasWritten, HasBegun, shown_between};
-ghost use Rattle.spelling_parts.specs.declared.error.TypeTextError.TheVariants as error;
+ghost use Rattle.naga_names.specs.Keys.{names_in};
+ghost use Rattle.naga_words.specs.Contexts.{arena_context, global_context, names_context, name_or_nothing};
+ghost use Rattle.naga_words.specs.Parts.{HasWritten, HasBegun, shown_between};
+ghost use Rattle.naga_words.specs.declared.error.TypeTextError.TheVariants as error;
 
 use crate::types::TypeContext;
 use naga_info::GlobalCtx;
 use naga_ir::{Handle, Module, Override, Type_, TypeInner, UniqueArena};
-use name_keys::NameKey;
-use spelling_parts::pieces::{write_shown, write_word};
-use spelling_parts::{SinkError, TextSink, TypeTextError};
+use naga_names::NameKey;
+use crate::pieces::{write_shown, write_word};
+use crate::{SinkError, TextSink, TypeTextError};
 use std::alloc::Global;
 use std::collections::HashMap;
 
@@ -20,7 +20,7 @@ const ANONYMOUS_TYPE: &str = "{anonymous type}";
 
 /// Labels are names, and what has no form is shown in braces, with overrides and structs without a
 /// handle.
-#[tactic(auto, using(spelling_parts::proofs::Arounds::fails_at_once))]
+#[tactic(auto, using(crate::proofs::Arounds::fails_at_once))]
 impl TypeContext for UniqueArena<Type_> {
     ghost context = { arena_context };
 
@@ -62,7 +62,7 @@ impl TypeContext for UniqueArena<Type_> {
 
 /// Labels are names, and what has no form is shown in braces, with overrides without a label and
 /// structs without a handle.
-#[tactic(auto, using(spelling_parts::proofs::Arounds::fails_at_once))]
+#[tactic(auto, using(crate::proofs::Arounds::fails_at_once))]
 impl TypeContext for GlobalCtx<'_> {
     ghost context = { λ c. global_context c.types.now c.overrides.now };
 
@@ -113,7 +113,7 @@ pub struct WriterTypeContext<'a> {
     pub names: &'a HashMap<NameKey, String>,
 }
 
-#[tactic(auto, using(spelling_parts::proofs::Arounds::fails_at_once))]
+#[tactic(auto, using(crate::proofs::Arounds::fails_at_once))]
 impl TypeContext for WriterTypeContext<'_> {
     ghost context = { λ c. names_context c.«module».now.types (names_in c.names.now) };
 
@@ -149,7 +149,7 @@ impl TypeContext for WriterTypeContext<'_> {
 }
 
 /// Writes an override without a label in braces.
-#[tactic(auto, using(spelling_parts::proofs::Arounds::fails_at_once))]
+#[tactic(auto, using(crate::proofs::Arounds::fails_at_once))]
 fn write_anonymous_override<W: TextSink>(
     alloc: Global,
     handle: Handle<Override>,

@@ -1,18 +1,18 @@
 //! Typing rules in a context.
 
 ghost use Rattle.std.specs.Prelude.{◌≡◌, ◌<◌, true, [], ◌∷◌, OnOk, IsErrOf};
-ghost use Rattle.spelling_parts.specs.declared.error.TypeTextError.TheVariants as error;
-ghost use Rattle.spelling_parts.specs.Parts.{HasWritten, HasBegun, lacks, Word};
-ghost use Rattle.spelling_parts.specs.Predeclared.{predeclared_name};
-ghost use Rattle.type_spelling.specs.Rules.{more_arguments_parts, arguments_parts, conclusion_parts, rule_parts, AllFit, FitsConclusion};
-ghost use Rattle.type_spelling.specs.Spelling.{IsInOrder, FitsResolution, resolution_parts};
+ghost use Rattle.naga_words.specs.declared.error.TypeTextError.TheVariants as error;
+ghost use Rattle.naga_words.specs.Parts.{HasWritten, HasBegun, lacks, Word};
+ghost use Rattle.naga_words.specs.Predeclared.{predeclared_name};
+ghost use Rattle.naga_words.specs.Rules.{more_arguments_parts, arguments_parts, conclusion_parts, rule_parts, AllFit, FitsConclusion};
+ghost use Rattle.naga_words.specs.Spelling.{IsInOrder, FitsResolution, resolution_parts};
 
 use crate::types::TypeContext;
 use crate::types::spelling::{write_inner_in, write_type_in};
 use naga_info::{Conclusion, Rule, TypeResolution};
 use naga_ir::PredeclaredType;
-use spelling_parts::pieces::{write_three, write_word};
-use spelling_parts::{PredeclaredName, SinkError, TextSink, TypeTextError};
+use crate::pieces::{write_three, write_word};
+use crate::{PredeclaredName, SinkError, TextSink, TypeTextError};
 use std::alloc::Global;
 
 /// Writes the type of an expression.
@@ -36,7 +36,7 @@ pub(crate) fn write_resolution_in<C: TypeContext, W: TextSink>(
     }
 }
 
-#[tactic(auto, using(spelling_parts::proofs::Arounds::lacks_before, spelling_parts::proofs::Arounds::lacks_behind))]
+#[tactic(auto, using(crate::proofs::Arounds::lacks_before, crate::proofs::Arounds::lacks_behind))]
 fn write_more_arguments<C: TypeContext, W: TextSink>(
     context: &C,
     alloc: Global,
@@ -62,7 +62,7 @@ fn write_more_arguments<C: TypeContext, W: TextSink>(
     }
 }
 
-#[tactic(auto, using(spelling_parts::proofs::Arounds::lacks_before, spelling_parts::proofs::Arounds::lacks_behind))]
+#[tactic(auto, using(crate::proofs::Arounds::lacks_before, crate::proofs::Arounds::lacks_behind))]
 fn write_arguments<C: TypeContext, W: TextSink>(
     context: &C,
     alloc: Global,
@@ -87,7 +87,7 @@ fn write_arguments<C: TypeContext, W: TextSink>(
     }
 }
 
-#[tactic(auto, using(spelling_parts::proofs::Arounds::fails_at_once))]
+#[tactic(auto, using(crate::proofs::Arounds::fails_at_once))]
 fn write_predeclared<W: TextSink>(
     alloc: Global,
     predeclared: &PredeclaredType,
@@ -125,7 +125,7 @@ pub(crate) fn write_conclusion_in<C: TypeContext, W: TextSink>(
 }
 
 /// Writes a rule by its function's name.
-#[tactic(auto, using(spelling_parts::proofs::Arounds::lacks_before, spelling_parts::proofs::Arounds::lacks_behind))]
+#[tactic(auto, using(crate::proofs::Arounds::lacks_before, crate::proofs::Arounds::lacks_behind))]
 pub(crate) fn write_rule_in<C: TypeContext, W: TextSink>(
     context: &C,
     alloc: Global,

@@ -1,15 +1,15 @@
 //! Scalars and images in a context, which says what becomes of those without a form.
 
 ghost use Rattle.std.specs.Prelude.{◌≡◌, ◌<◌, true, OnOk, IsErrOf};
-ghost use Rattle.spelling_parts.specs.declared.error.TypeTextError.TheVariants as error;
-ghost use Rattle.spelling_parts.specs.Parts.{HasWritten, HasBegun, lacks};
-ghost use Rattle.spelling_parts.specs.Values.{scalar_parts, template_parts, image_parts};
+ghost use Rattle.naga_words.specs.declared.error.TypeTextError.TheVariants as error;
+ghost use Rattle.naga_words.specs.Parts.{HasWritten, HasBegun, lacks};
+ghost use Rattle.naga_words.specs.Values.{scalar_parts, template_parts, image_parts};
 
 use crate::types::TypeContext;
 use naga_ir::{ImageClass, ImageDimension, Scalar};
-use spelling_parts::images::write_image;
-use spelling_parts::scalars::{write_scalar, write_template};
-use spelling_parts::{SinkError, TextSink, TypeTextError};
+use crate::images::write_image;
+use crate::scalars::{write_scalar, write_template};
+use crate::{SinkError, TextSink, TypeTextError};
 use std::alloc::Global;
 
 /// Writes a scalar.

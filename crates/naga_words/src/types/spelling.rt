@@ -1,22 +1,22 @@
 //! Types in a context, each by its row: a word and the types that it names.
 
 ghost use Rattle.std.specs.Prelude.{◌≡◌, ◌<◌, ◌≤◌, true, [], ◌∷◌, codes, length, OnOk, IsErrOf, IsTrue};
-ghost use Rattle.spelling_parts.specs.declared.error.TypeTextError.TheVariants as error;
-ghost use Rattle.spelling_parts.specs.Parts.{HasWritten, HasBegun, lacks, Word, shown_between};
+ghost use Rattle.naga_words.specs.declared.error.TypeTextError.TheVariants as error;
+ghost use Rattle.naga_words.specs.Parts.{HasWritten, HasBegun, lacks, Word, shown_between};
 ghost use Rattle.wgsl_words.specs.Words.{space_word, space_access_word};
-ghost use Rattle.spelling_parts.specs.Values.{formless_parts, value_parts, pointer_in, value_pointer_parts};
-ghost use Rattle.type_spelling.specs.Spelling.{IsInOrder, is_struct, end_of_base, knows_size, knows_override, pointer_parts, length_of_override, length_parts, array_parts, inner_parts, named_parts_by, type_parts};
+ghost use Rattle.naga_words.specs.Values.{formless_parts, value_parts, pointer_in, value_pointer_parts};
+ghost use Rattle.naga_words.specs.Spelling.{IsInOrder, is_struct, end_of_base, knows_size, knows_override, pointer_parts, length_of_override, length_parts, array_parts, inner_parts, named_parts_by, type_parts};
 
 use crate::types::TypeContext;
 use crate::types::scalars::{write_image_in, write_scalar_in, write_template_in};
 use naga_ir::{AddressSpace, ArraySize, Handle, Override, Scalar, Type_, TypeInner, VectorSize};
-use spelling_parts::pieces::{write_number_length, write_shown, write_three, write_word};
-use spelling_parts::scalars::{write_access, write_value_pointer_in};
-use spelling_parts::words::{
+use crate::pieces::{write_number_length, write_shown, write_three, write_word};
+use crate::scalars::{write_access, write_value_pointer_in};
+use crate::words::{
     acceleration_structure_str, cooperative_str, matrix_str, ray_query_str, role_tail_str,
     sampler_str, vector_str,
 };
-use spelling_parts::{SinkError, TextSink, TypeTextError};
+use crate::{SinkError, TextSink, TypeTextError};
 use std::alloc::Global;
 use wgsl_words::space_str;
 
@@ -28,7 +28,7 @@ pub(crate) fn is_struct_type(inner: &TypeInner) -> bool
 }
 
 /// Writes a type's debug text in braces.
-#[tactic(auto, using(spelling_parts::proofs::Arounds::fails_at_once))]
+#[tactic(auto, using(crate::proofs::Arounds::fails_at_once))]
 fn write_shown_inner<W: TextSink>(
     alloc: Global,
     inner: &TypeInner,
@@ -45,7 +45,7 @@ fn write_shown_inner<W: TextSink>(
 }
 
 /// Writes a type without a form in braces, or refuses it.
-#[tactic(auto, using(spelling_parts::proofs::Arounds::fails_at_once))]
+#[tactic(auto, using(crate::proofs::Arounds::fails_at_once))]
 pub(crate) fn write_formless_inner<C: TypeContext, W: TextSink>(
     context: &C,
     alloc: Global,
@@ -94,7 +94,7 @@ fn write_value_pointer<C: TypeContext, W: TextSink>(
     }
 }
 
-#[tactic(auto, using(spelling_parts::proofs::Arounds::lacks_before, spelling_parts::proofs::Arounds::lacks_behind))]
+#[tactic(auto, using(crate::proofs::Arounds::lacks_before, crate::proofs::Arounds::lacks_behind))]
 fn write_pending_length<C: TypeContext, W: TextSink>(
     context: &C,
     alloc: Global,
@@ -136,7 +136,7 @@ fn write_length<C: TypeContext, W: TextSink>(
 }
 
 #[cycle(spelling)]
-#[tactic(auto, using(spelling_parts::proofs::Arounds::lacks_before, spelling_parts::proofs::Arounds::lacks_behind))]
+#[tactic(auto, using(crate::proofs::Arounds::lacks_before, crate::proofs::Arounds::lacks_behind))]
 fn write_pointer_in<C: TypeContext, W: TextSink>(
     context: &C,
     alloc: Global,
@@ -183,7 +183,7 @@ fn write_pointer<C: TypeContext, W: TextSink>(
 }
 
 #[cycle(spelling)]
-#[tactic(auto, using(spelling_parts::proofs::Arounds::lacks_before, spelling_parts::proofs::Arounds::lacks_behind))]
+#[tactic(auto, using(crate::proofs::Arounds::lacks_before, crate::proofs::Arounds::lacks_behind))]
 fn write_array<C: TypeContext, W: TextSink>(
     context: &C,
     alloc: Global,
@@ -311,7 +311,7 @@ fn write_named<C: TypeContext, W: TextSink>(
 
 /// Writes the type at a handle.
 #[cycle(spelling)]
-#[tactic(auto, using(type_spelling::proofs::Levels::type_parts_is))]
+#[tactic(auto, using(crate::proofs::Levels::type_parts_is))]
 pub(crate) fn write_type_in<C: TypeContext, W: TextSink>(
     context: &C,
     alloc: Global,

@@ -1,6 +1,6 @@
 use Rattle.std.proofs.Common.{◌≡◌, ℕ, ◌-◌, List, length}
 use Rattle.naga_ir.specs.declared.types.Type_.{Type_}
-use Rattle.name_keys.specs.Keys.{NameMap}
+use Rattle.naga_names.specs.Keys.{NameMap}
 use Rattle.shader_runs.specs.Program.{from}
 use Rattle.shader_runs.specs.Scope.{may_emit_all, after_emit}
 use Rattle.naga_form.specs.Shapes.{function_naming}

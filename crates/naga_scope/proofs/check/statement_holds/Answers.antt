@@ -1,7 +1,7 @@
 use Rattle.std.proofs.Common.{ℕ, List, ◌&&◌, refl, ap, ap₂, sym, ◌∙◌}
 use Rattle.naga_ir.specs.StatementViews.{tree_of}
 use Rattle.naga_ir.specs.declared.types.Type_.{Type_}
-use Rattle.name_keys.specs.Keys.{NameMap}
+use Rattle.naga_names.specs.Keys.{NameMap}
 use Rattle.shader_runs.specs.Scope.{after, fits, usable}
 use Rattle.naga_form.specs.Shapes.{function_shape, function_naming, statement_shape}
 use Rattle.naga_scope.specs.Standings.{handles_of}

@@ -1,7 +1,7 @@
 use Rattle.std.proofs.Common.{◌≡◌, ◌<◌, ◌∙◌, arith, ap, length, subst, sym}
 use Rattle.accepted_modules.proofs.Accepting.{accepted_functions_fit, functions_fit_length}
-use Rattle.spelling_parts.proofs.Writing.{held_part_as, held_whole_as, reason_given, same_sink, writes_as}
-use Rattle.wgsl_pieces.specs.Errors.{IsWant}
+use Rattle.naga_words.proofs.Writing.{held_part_as, held_whole_as, reason_given, same_sink, writes_as}
+use Rattle.naga_wgsl_fns.specs.Errors.{IsWant}
 use Rattle.naga_wgsl_fns.proofs.FunctionRows.{can_write, reason_told, text_of_function_at}
 use Rattle.naga_wgsl_fns.proofs.functions.write_function.Goals as goal
 

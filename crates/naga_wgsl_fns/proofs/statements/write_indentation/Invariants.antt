@@ -1,7 +1,7 @@
 use Rattle.std.proofs.Common.{◌-◌}
 use Rattle.naga_back.specs.Indentation.{indentation}
-use Rattle.spelling_parts.specs.Output.{seen}
-use Rattle.spelling_parts.proofs.Writing.{Leaves}
+use Rattle.naga_words.specs.Output.{seen}
+use Rattle.naga_words.proofs.Writing.{Leaves}
 use Rattle.naga_wgsl_fns.proofs.statements.write_indentation.Given as goal
 
 abbrev pub invariant-loop-level : goal.invariant-loop-level

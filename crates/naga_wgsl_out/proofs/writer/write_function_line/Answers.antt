@@ -1,4 +1,4 @@
-use Rattle.wgsl_pieces.proofs.Appending.{appends_then, appends_stopped, stopped_first}
+use Rattle.naga_wgsl_fns.proofs.Appending.{appends_then, appends_stopped, stopped_first}
 use Rattle.naga_wgsl_out.proofs.writer.write_function_line.Goals as goal
 
 pub returns-in_err-write_function : goal.returns-in_err-write_function

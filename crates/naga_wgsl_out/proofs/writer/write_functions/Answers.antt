@@ -1,7 +1,7 @@
 use Rattle.std.proofs.Common.{◌+◌, ◌++◌, codes, length, drop, ap, ◌∙◌}
 use Rattle.std.specs.List.{enumerate_from}
 use Rattle.std.proofs.lemmas.Iterator.Consumers.{YieldsList-from_first, YieldsList-at, YieldsList-turn, YieldsList-end}
-use Rattle.wgsl_pieces.proofs.Appending.{along_start, along_more, along_stopped, along_done, appends_stopped}
+use Rattle.naga_wgsl_fns.proofs.Appending.{along_start, along_more, along_stopped, along_done, appends_stopped}
 use Rattle.naga_wgsl_fns.specs.Functions.{text_of_function}
 use Rattle.naga_wgsl_out.specs.Writing.{lines_of}
 use Rattle.naga_wgsl_out.proofs.Functions.{within, one_more, here_line, all_written}

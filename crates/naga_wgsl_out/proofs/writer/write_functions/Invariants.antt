@@ -1,6 +1,6 @@
 use Rattle.std.proofs.Common.{drop, length}
 use Rattle.std.specs.List.{enumerate_from}
-use Rattle.wgsl_pieces.proofs.Appending.{IsAlong}
+use Rattle.naga_wgsl_fns.proofs.Appending.{IsAlong}
 use Rattle.naga_wgsl_out.specs.Writing.{lines_of}
 use Rattle.naga_wgsl_out.proofs.writer.write_functions.Given as goal
 

@@ -1,6 +1,5 @@
 use Rattle.std.proofs.Common.{◌∙◌}
-use Rattle.naga_keywords.specs.Words.{lowered}
-use Rattle.naga_keywords.specs.Words.{same_words}
+use Rattle.naga_keywords.specs.Words.{lowered, same_words}
 use Rattle.naga_keywords.proofs.SetLemmas.{same_words-texts_of, same_words_decides}
 use Rattle.naga_keywords.proofs.keyword_set.CaseInsensitiveKeywordSetPartialEq.eq.Goals as goal
 

@@ -1,9 +1,9 @@
 use Rattle.std.proofs.Common.{◌+◌, ◌++◌, [], ◌∷◌, map, string_bytes, decimal, append_assoc, sym, ap, subst, ◌∙◌}
 use Rattle.std.specs.FinMap as finite
 use Rattle.std.specs.Str.{chars}
-use Rattle.item_names.specs.Label.{base_of}
-use Rattle.item_names.specs.Naming.{HasNamed, first_name}
-use Rattle.item_names.proofs.NamerLemmas.{first_named, first_used, later_named, later_used, first_room, later_room, name_of-after, has_named-push}
+use Rattle.naga_names.specs.Label.{base_of}
+use Rattle.naga_names.specs.Naming.{HasNamed, first_name}
+use Rattle.naga_names.proofs.NamerLemmas.{first_named, first_used, later_named, later_used, first_room, later_room, name_of-after, has_named-push}
 use Rattle.naga_names.proofs.namer.Namer.call.Goals as goal
 
 pub returns-in_ok-put-in-None-clause-name : goal.returns-in_ok-put-in-None-clause-name

@@ -1,5 +1,5 @@
 use Rattle.std.proofs.Common.{◌≡◌, ℕ, take}
-use Rattle.item_names.specs.Reset.{output_label}
+use Rattle.naga_names.specs.Reset.{output_label}
 use Rattle.naga_names.specs.Outputs.{words_in}
 use Rattle.naga_names.proofs.namer.fallback.output_words.Given as goal
 

@@ -3,8 +3,8 @@ use Rattle.std.specs.Str.{chars}
 use Rattle.std.proofs.lemmas.Iterator.{YieldsList-from_chars}
 use Rattle.std.proofs.lemmas.Iterator.Adapters.{YieldsList-from_skip_while}
 use Rattle.std.proofs.lemmas.Iterator.Consumers.{YieldsList-at, YieldsList-end}
-use Rattle.item_names.specs.Label.{spelling, is_numeric}
-use Rattle.item_names.proofs.Spellings.{spelling-nil, same_items, after_numerics-drop}
+use Rattle.naga_names.specs.Label.{spelling, is_numeric}
+use Rattle.naga_names.proofs.Spellings.{spelling-nil, same_items, after_numerics-drop}
 use Rattle.naga_names.proofs.namer.label.spell.Goals as goal
 
 pub loop-c-init : goal.loop-c-init

@@ -1,5 +1,5 @@
 use Rattle.std.proofs.Common.{◌≡◌, string_bytes}
-use Rattle.item_names.specs.Label.{spelling}
+use Rattle.naga_names.specs.Label.{spelling}
 use Rattle.naga_names.proofs.namer.label.spell.Given as goal
 
 abbrev pub invariant-loop-c : goal.invariant-loop-c

@@ -1,6 +1,6 @@
 use Rattle.std.proofs.Common.{drop}
-use Rattle.spelling_parts.specs.Output.{seen}
-use Rattle.spelling_parts.proofs.Writing.{Leaves}
+use Rattle.naga_words.specs.Output.{seen}
+use Rattle.naga_words.proofs.Writing.{Leaves}
 use Rattle.naga_wgsl_fns.specs.Functions.{arguments_text}
 use Rattle.naga_wgsl_fns.proofs.FunctionRows.{arguments_left}
 use Rattle.naga_wgsl_fns.proofs.functions.FunctionText.write_arguments.Given as goal

@@ -2,7 +2,7 @@ use Rattle.std.proofs.Common.{◌+◌, IsTrue, drop, refl, sym, ap, subst, ◌�
 use Rattle.accepted_modules.specs.Accepted.{block_fits}
 use Rattle.naga_ir.specs.StatementTree.{BlockTree}
 use Rattle.naga_ir.specs.StatementViews.{tree_of, block_of}
-use Rattle.spelling_parts.proofs.Writing.{leaves_as, leaves_more, leaves_start}
+use Rattle.naga_words.proofs.Writing.{leaves_as, leaves_more, leaves_start}
 use Rattle.naga_wgsl_fns.specs.Statements.{block_text}
 use Rattle.naga_wgsl_fns.proofs.StatementRows.{block_step, fits_parts, statements_more}
 use Rattle.naga_wgsl_fns.proofs.functions.FunctionText.write_block.Goals as goal

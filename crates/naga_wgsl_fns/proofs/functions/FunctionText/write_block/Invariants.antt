@@ -1,8 +1,8 @@
 use Rattle.std.proofs.Common.{◌≡◌, drop, length, IsTrue}
 use Rattle.accepted_modules.specs.Accepted.{block_fits}
 use Rattle.naga_ir.specs.StatementViews.{block_of}
-use Rattle.spelling_parts.specs.Output.{seen}
-use Rattle.spelling_parts.proofs.Writing.{Leaves}
+use Rattle.naga_words.specs.Output.{seen}
+use Rattle.naga_words.proofs.Writing.{Leaves}
 use Rattle.naga_wgsl_fns.specs.Statements.{block_text}
 use Rattle.naga_wgsl_fns.proofs.functions.FunctionText.write_block.Given as goal
 

@@ -1,4 +1,4 @@
-use Rattle.spelling_parts.proofs.Writing.{writes_as, writes_then}
+use Rattle.naga_words.proofs.Writing.{writes_as, writes_then}
 use Rattle.naga_wgsl_fns.proofs.FunctionRows.{body_row}
 use Rattle.naga_wgsl_fns.proofs.functions.FunctionText.write_body.Goals as goal
 

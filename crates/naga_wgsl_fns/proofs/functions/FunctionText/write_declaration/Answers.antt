@@ -1,5 +1,5 @@
 use Rattle.std.proofs.Common.{sym}
-use Rattle.spelling_parts.proofs.Writing.{writes_as, writes_then}
+use Rattle.naga_words.proofs.Writing.{writes_as, writes_then}
 use Rattle.naga_wgsl_fns.specs.Functions.{body_text}
 use Rattle.naga_wgsl_fns.proofs.FunctionRows.{function_row}
 use Rattle.naga_wgsl_fns.proofs.Wanted.{ordered}

@@ -3,7 +3,7 @@ use Rattle.naga_form.specs.Names.{module_names}
 use Rattle.naga_scope.specs.Standings.{handles_of}
 use Rattle.naga_scope.proofs.Emitting.{range_none}
 use Rattle.shader_runs.specs.Scope.{after_emit, after_one}
-use Rattle.spelling_parts.proofs.Writing.{leaves_more, leaves_none, leaves_start}
+use Rattle.naga_words.proofs.Writing.{leaves_more, leaves_none, leaves_start}
 use Rattle.naga_wgsl_fns.specs.FunctionText.{naming}
 use Rattle.naga_wgsl_fns.proofs.StatementRows.{after_step, lets_none, lets_step}
 use Rattle.naga_wgsl_fns.proofs.functions.FunctionText.write_emit.Goals as goal

@@ -2,8 +2,8 @@ use Rattle.std.proofs.Common.{◌≡◌, ◌-◌, length}
 use Rattle.naga_scope.specs.Standings.{handles_of}
 use Rattle.shader_runs.specs.Program.{from}
 use Rattle.shader_runs.specs.Scope.{after_emit}
-use Rattle.spelling_parts.specs.Output.{seen}
-use Rattle.spelling_parts.proofs.Writing.{Leaves}
+use Rattle.naga_words.specs.Output.{seen}
+use Rattle.naga_words.proofs.Writing.{Leaves}
 use Rattle.naga_wgsl_fns.specs.FunctionText.{naming}
 use Rattle.naga_wgsl_fns.specs.Statements.{lets_text}
 use Rattle.naga_wgsl_fns.proofs.functions.FunctionText.write_emit.Given as goal

@@ -1,6 +1,6 @@
 use Rattle.std.proofs.Common.{Bool, [], sym, ap, ◌∙◌}
 use Rattle.std.specs.Prelude.{cond}
-use Rattle.spelling_parts.proofs.Writing.{writes_as, writes_nothing}
+use Rattle.naga_words.proofs.Writing.{writes_as, writes_nothing}
 use Rattle.naga_wgsl_fns.specs.Statements.{emitted_text, let_text}
 use Rattle.naga_wgsl_fns.proofs.functions.FunctionText.write_emitted.Goals as goal
 

@@ -1,5 +1,5 @@
 use Rattle.std.proofs.Common.{sym}
-use Rattle.spelling_parts.proofs.Writing.{writes_as, writes_then}
+use Rattle.naga_words.proofs.Writing.{writes_as, writes_then}
 use Rattle.naga_wgsl_fns.proofs.FunctionRows.{local_row}
 use Rattle.naga_wgsl_fns.proofs.Wanted.{first_within, local_has_word}
 use Rattle.naga_wgsl_fns.proofs.functions.FunctionText.write_local.Goals as goal

@@ -1,5 +1,5 @@
 use Rattle.std.proofs.Common.{sym, ◌∙◌}
-use Rattle.spelling_parts.proofs.Writing.{writes_as, writes_nothing}
+use Rattle.naga_words.proofs.Writing.{writes_as, writes_nothing}
 use Rattle.naga_wgsl_fns.proofs.Wanted.{known_within_infos, spelled_at, told_row, untold_row}
 use Rattle.naga_wgsl_fns.proofs.functions.FunctionText.write_told_type.Goals as goal
 

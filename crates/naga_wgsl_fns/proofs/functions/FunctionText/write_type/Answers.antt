@@ -1,7 +1,7 @@
 use Rattle.std.proofs.Common.{Err, ap, arith, sym, ◌∙◌}
-use Rattle.name_keys.specs.Keys.{names_in}
-use Rattle.type_spelling.specs.Contexts.{names_context}
-use Rattle.type_spelling.specs.Spelling.{type_parts}
+use Rattle.naga_names.specs.Keys.{names_in}
+use Rattle.naga_words.specs.Contexts.{names_context}
+use Rattle.naga_words.specs.Spelling.{type_parts}
 use Rattle.naga_wgsl_fns.specs.Types.{type_text}
 use Rattle.naga_wgsl_fns.proofs.TypeRows.{has_word_within, in_order, known_begun, known_written, lacks_nothing, type_known}
 use Rattle.naga_wgsl_fns.proofs.functions.FunctionText.write_type.Goals as goal

@@ -1,7 +1,7 @@
 use Rattle.std.proofs.Common.{◌∙◌, sym, subst, ◌++◌, ◌≡◌}
 use Rattle.std.specs.Prelude.{true, OnOk, OnErr}
 use Rattle.accepted_modules.specs.Part.{is_written_so_far}
-use Rattle.spelling_parts.specs.Sink.{IsBehind}
+use Rattle.naga_words.specs.Sink.{IsBehind}
 use Rattle.naga_wgsl_out.specs.Headline.{EachReading, FaithfulWriting}
 use Rattle.naga_form.specs.Resolution.{ResolvesAs}
 use Rattle.naga_form.specs.Bindings.{BindsAs}

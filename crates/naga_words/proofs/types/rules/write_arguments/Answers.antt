@@ -1,6 +1,5 @@
-use Rattle.spelling_parts.proofs.Arounds.{wrote_nothing, fails_at_once}
-use Rattle.type_spelling.proofs.Empties.{no_items}
-use Rattle.spelling_parts.proofs.Arounds.{parts_then, parts_fail, parts_then_fail, begun_all}
+use Rattle.naga_words.proofs.Arounds.{wrote_nothing, fails_at_once, parts_then, parts_fail, parts_then_fail, begun_all}
+use Rattle.naga_words.proofs.Empties.{no_items}
 use Rattle.naga_words.proofs.types.rules.write_arguments.Goals as goal
 
 pub returns-in_err-write_resolution_in-in-Some-clause-begun : goal.returns-in_err-write_resolution_in-in-Some-clause-begun

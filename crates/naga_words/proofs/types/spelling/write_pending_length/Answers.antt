@@ -1,4 +1,4 @@
-use Rattle.spelling_parts.proofs.Arounds.{word_then, word_last, parts_then, word_fails, parts_fail, word_then_fails, parts_then_fail, begun_all}
+use Rattle.naga_words.proofs.Arounds.{word_then, word_last, parts_then, word_fails, parts_fail, word_then_fails, parts_then_fail, begun_all}
 use Rattle.naga_words.proofs.types.spelling.write_pending_length.Goals as goal
 
 pub returns-in_err-write_str-clause-begun : goal.returns-in_err-write_str-clause-begun

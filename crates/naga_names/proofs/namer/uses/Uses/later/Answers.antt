@@ -1,7 +1,7 @@
 use Rattle.std.proofs.Common.{◌+◌, sym, ap, ◌∙◌}
 use Rattle.std.specs.FinMap as finite
 use Rattle.std.specs.Option.{option_map}
-use Rattle.item_names.proofs.UsesLemmas.{get-uses_in}
+use Rattle.naga_names.proofs.UsesLemmas.{get-uses_in}
 use Rattle.naga_names.proofs.namer.uses.Uses.later.Goals as goal
 
 pub returns : goal.returns

@@ -1,0 +1,10 @@
+use Rattle.naga_form.proofs.Likeness.{alike_itself, alike_back, alike_through, strides_are_alike}
+use Rattle.naga_form.proofs.types.alike_types.Goals as goal
+
+pub returns : goal.returns
+returns c = record {
+  itself = alike_itself;
+  back = alike_back;
+  through = alike_through;
+  stride = strides_are_alike;
+}

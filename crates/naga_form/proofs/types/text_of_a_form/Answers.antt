@@ -1,0 +1,10 @@
+use Rattle.naga_form.proofs.TypeTexts.{type_row, inner_tree_row, only_text, lacks_unknown}
+use Rattle.naga_form.proofs.types.text_of_a_form.Goals as goal
+
+pub returns : goal.returns
+returns c = record {
+  type_ = type_row c.text_of_appended.ensures;
+  inner = inner_tree_row c.text_of_appended.ensures;
+  only = only_text;
+  refused = lacks_unknown;
+}

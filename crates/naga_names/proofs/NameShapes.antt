@@ -1,0 +1,363 @@
+-- What every name looks like, and that a name tells its base and its number.
+use Rattle.std.proofs.Common.{◌≡◌, ℕ, ◌+◌, ◌<◌, ◌≤◌, ◌^◌, Bool, true, false, not, ◌&&◌, ◌||◌, ◌==◌, cond, List, [], ◌∷◌, ◌++◌, get_or, drop, codes, refl, sym, ap, ◌∙◌, arith, append_assoc, append-nil, All}
+use Rattle.std.specs.List.{list_all, starts_with}
+use Rattle.std.specs.Bool.{nat_eq}
+use Rattle.std.specs.Prelude.{◌⊎◌}
+use mathlib.Core.Logic.{inl, inr}
+use Rattle.std.specs.Char.{is_ascii_digit, to_ascii_lowercase}
+use Rattle.std.specs.Fmt.{decimal}
+use Rattle.std.specs.FinSet as set
+use Rattle.std.specs.Str.{bytes_eq, chars}
+use Rattle.std.specs.Cmp.Lexicographic.{slice_cmp, nat_list_cmp_total, bytes_decides}
+use Rattle.std.specs.Ordering.{nat_cmp, eq_by_cmp}
+use Rattle.std.proofs.lemmas.Fmt.{decimal_injective}
+use Rattle.std.proofs.lemmas.List.Folds.{list_all-append, list_any_none}
+use Rattle.std.proofs.lemmas.List.Sums.{sum_by-append, sum_by-cons}
+use Rattle.std.proofs.lemmas.Bool.Decides.{nat_tests}
+use Rattle.std.proofs.lemmas.Map.Text.{is_eq-slice_cmp}
+use Rattle.std.proofs.lemmas.Bool.{and_parts, and_from, true≢false, or_parts}
+use Rattle.std.proofs.Math.Bool.{and-false}
+use Rattle.naga_names.proofs.Spellings.{get_or-last}
+use Rattle.naga_names.specs.Label.{ends_separated, after_numerics, spelling, without_last_separators, or_unnamed, kept_off, base_of}
+use Rattle.naga_keywords.specs.Plain.{is_identifier_char, is_word, is_identifier, is_empty_or_separated, HasPlainEnds, IsPlain}
+use Rattle.naga_keywords.specs.Words.{lowered}
+use Rattle.naga_names.specs.Naming.{Names, label_base, is_taken, ends_in_digit, first_name, later_name, name_of_base, labels_with_base, name_after}
+use Rattle.naga_names.proofs.BaseShapes.{base_is_word, base_ends, begins_double, base_not_double, is_text, is_text-decimal, all_digits-decimal}
+
+-- ---- the last character
+-- the text ends in a character that passes
+pub ends_by : (ℕ → Bool) → List ℕ → Bool
+ends_by p [] = false
+ends_by p (c ∷ []) = p c
+ends_by p (c ∷ d ∷ cs) = ends_by p (d ∷ cs)
+
+ends_by-append : (p : ℕ → Bool) (xs : List ℕ) (y : ℕ) (ys : List ℕ) → ends_by p (xs ++ y ∷ ys) ≡ ends_by p (y ∷ ys)
+unfolding ends_by
+ends_by-append p [] y ys = refl
+ends_by-append p (x ∷ []) y ys = refl
+ends_by-append p (x ∷ z ∷ xs) y ys = ends_by-append p (z ∷ xs) y ys
+
+ends_by-all : (p : ℕ → Bool) (text : List ℕ) → is_text text ≡ true → list_all p text ≡ true → ends_by p text ≡ true
+unfolding ends_by is_text
+ends_by-all p [] some all = absurd (cc)
+ends_by-all p (c ∷ []) some all = (and_parts (p c) true all).0
+ends_by-all p (c ∷ d ∷ cs) some all = ends_by-all p (d ∷ cs) refl (and_parts (p c) (list_all p (d ∷ cs)) all).1
+
+ends_by-last : (text : List ℕ) → ends_in_digit text ≡ ends_by is_ascii_digit text
+unfolding ends_by
+ends_by-last [] = refl
+ends_by-last (c ∷ []) = refl
+ends_by-last (c ∷ d ∷ text) = ap is_ascii_digit (get_or-last c d text) ∙ ends_by-last (d ∷ text)
+
+ends_separated-append : (xs : List ℕ) → ends_separated (xs ++ 95 ∷ []) ≡ true
+ends_separated-append [] = refl
+ends_separated-append (x ∷ []) = refl
+ends_separated-append (x ∷ y ∷ xs) = ends_separated-append (y ∷ xs)
+
+-- ---- the last `_`
+abbrev has_none : List ℕ → Bool
+has_none text = list_all (λ c. not (c == 95)) text
+
+has_none-not : (xs ys : List ℕ) → has_none (xs ++ 95 ∷ ys) ≡ false
+has_none-not xs ys = list_all-append (λ c. not (c == 95)) xs (95 ∷ ys) ∙ and-false (has_none xs)
+
+split_last : (a b c d : List ℕ) → has_none b ≡ true → has_none d ≡ true → a ++ 95 ∷ b ≡ c ++ 95 ∷ d → (a ≡ c) × (b ≡ d)
+split_last [] b [] d nb nd e = (refl, ap (drop 1) e)
+split_last [] b (x ∷ c) d nb nd e = absurd (true≢false (sym nb ∙ ap (λ t. has_none (drop 1 t)) e ∙ has_none-not c d))
+split_last (x ∷ a) b [] d nb nd e = absurd (true≢false (sym nd ∙ ap (λ t. has_none (drop 1 t)) (sym e) ∙ has_none-not a b))
+split_last (x ∷ a) b (y ∷ c) d nb nd e =
+    let rest = split_last a b c d nb nd (ap (drop 1) e) in
+    ((λ i. ap (λ t. get_or t 0 0) e i ∷ rest.0 i), rest.1)
+
+digits_have_none : (ds : List ℕ) → list_all is_ascii_digit ds ≡ true → has_none ds ≡ true
+digits_have_none [] e = refl
+digits_have_none (d ∷ ds) e =
+    let parts = and_parts (is_ascii_digit d) (list_all is_ascii_digit ds) e in
+    and_from _ _ (one d parts.0) (digits_have_none ds parts.1)
+  where
+    one : (d : ℕ) → is_ascii_digit d ≡ true → not (d == 95) ≡ true
+    one d e = grind (arith, nat_tests)
+
+number_has_none : (n : ℕ) → has_none (decimal n) ≡ true
+number_has_none n = digits_have_none (decimal n) (all_digits-decimal n)
+
+-- ---- a name by its base and the uses before it
+module _ (names : Names) (base : List ℕ) where
+  first_cases : (first_name names base ≡ base ++ 95 ∷ []) ⊎ ((first_name names base ≡ base) × (ends_in_digit base ≡ false) × (is_taken names base ≡ false))
+  first_cases = either (ends_in_digit base || is_taken names base) refl
+    where
+      either : (b : Bool) → (ends_in_digit base || is_taken names base) ≡ b → (cond b (base ++ codes "_") base ≡ base ++ 95 ∷ []) ⊎ ((cond b (base ++ codes "_") base ≡ base) × (ends_in_digit base ≡ false) × (is_taken names base ≡ false))
+      either true e = inl refl
+      either false e = let parts = or_parts (ends_in_digit base) (is_taken names base) e in inr (refl, parts.0, parts.1)
+
+  later_is : (n : ℕ) → later_name base n ≡ base ++ 95 ∷ decimal n
+  later_is n = append_assoc base (95 ∷ []) (decimal n)
+
+  name_cases : (n : ℕ) → ((n ≡ 0) × (name_of_base names base n ≡ first_name names base)) ⊎ (name_of_base names base n ≡ base ++ 95 ∷ decimal n)
+  name_cases n = either (n == 0) refl
+    where
+      none : (n == 0) ≡ true → n ≡ 0
+      none e = grind (arith, nat_tests)
+
+      either : (b : Bool) → (n == 0) ≡ b → ((n ≡ 0) × (cond b (first_name names base) (later_name base n) ≡ first_name names base)) ⊎ (cond b (first_name names base) (later_name base n) ≡ base ++ 95 ∷ decimal n)
+      either true e = inl (none e, refl)
+      either false e = inr (later_is n)
+
+  first_ends : ends_by is_ascii_digit (first_name names base) ≡ false
+  unfolding ends_by
+  first_ends = either first_cases
+    where
+      either : (first_name names base ≡ base ++ 95 ∷ []) ⊎ ((first_name names base ≡ base) × (ends_in_digit base ≡ false) × (is_taken names base ≡ false)) → ends_by is_ascii_digit (first_name names base) ≡ false
+      either (inl is) = ap (ends_by is_ascii_digit) is ∙ ends_by-append is_ascii_digit base 95 []
+      either (inr is) = ap (ends_by is_ascii_digit) is.0 ∙ sym (ends_by-last base) ∙ is.1
+
+  later_ends : (n : ℕ) → ends_by is_ascii_digit (base ++ 95 ∷ decimal n) ≡ true
+  unfolding is_text
+  later_ends n = ap (ends_by is_ascii_digit) (sym (append_assoc base (95 ∷ []) (decimal n))) ∙ ended (decimal n) (is_text-decimal n) (all_digits-decimal n)
+    where
+      ended : (ds : List ℕ) → is_text ds ≡ true → list_all is_ascii_digit ds ≡ true → ends_by is_ascii_digit ((base ++ 95 ∷ []) ++ ds) ≡ true
+      ended [] some all = absurd (cc)
+      ended (d ∷ ds) some all = ends_by-append is_ascii_digit (base ++ 95 ∷ []) d ds ∙ ends_by-all is_ascii_digit (d ∷ ds) refl all
+
+  -- ---- a name is a word
+  only_more : (more : List ℕ) → is_word base ≡ true → list_all is_identifier_char more ≡ true → is_word (base ++ more) ≡ true
+  only_more more word all = grown base word
+    where
+      grown : (base : List ℕ) → is_word base ≡ true → is_word (base ++ more) ≡ true
+      grown [] e = absurd (cc)
+      grown (c ∷ cs) e =
+          let parts = and_parts (list_all is_identifier_char (c ∷ cs)) (not (is_ascii_digit c)) e in
+          and_from _ _ (list_all-append is_identifier_char (c ∷ cs) more ∙ and_from _ _ parts.0 all) parts.1
+
+  digits_are_only : (ds : List ℕ) → list_all is_ascii_digit ds ≡ true → list_all is_identifier_char ds ≡ true
+  digits_are_only [] e = refl
+  digits_are_only (d ∷ ds) e =
+      let parts = and_parts (is_ascii_digit d) (list_all is_ascii_digit ds) e in
+      and_from _ _ (one d parts.0) (digits_are_only ds parts.1)
+    where
+      one : (d : ℕ) → is_ascii_digit d ≡ true → is_identifier_char d ≡ true
+      one d e = grind (arith, nat_tests)
+
+  word_of_base : is_word base ≡ true → (n : ℕ) → is_word (name_of_base names base n) ≡ true
+  word_of_base word n = either (name_cases n)
+    where
+      first : (first_name names base ≡ base ++ 95 ∷ []) ⊎ ((first_name names base ≡ base) × (ends_in_digit base ≡ false) × (is_taken names base ≡ false)) → is_word (first_name names base) ≡ true
+      first (inl is) = ap is_word is ∙ only_more (95 ∷ []) word refl
+      first (inr is) = ap is_word is.0 ∙ word
+
+      either : ((n ≡ 0) × (name_of_base names base n ≡ first_name names base)) ⊎ (name_of_base names base n ≡ base ++ 95 ∷ decimal n) → is_word (name_of_base names base n) ≡ true
+      either (inl is) = ap is_word is.1 ∙ first first_cases
+      either (inr is) = ap is_word is ∙ only_more (95 ∷ decimal n) word (digits_are_only (decimal n) (all_digits-decimal n))
+
+  -- ---- a name is none of these words
+  module _ (taken : List ℕ → Bool) (plain : (front digits : List ℕ) → list_all is_ascii_digit digits ≡ true → taken (front ++ 95 ∷ digits) ≡ false) (kept : is_taken names base ≡ false → taken base ≡ false) where
+    free_of_base : (n : ℕ) → taken (name_of_base names base n) ≡ false
+    free_of_base n = either (name_cases n)
+      where
+        first : (first_name names base ≡ base ++ 95 ∷ []) ⊎ ((first_name names base ≡ base) × (ends_in_digit base ≡ false) × (is_taken names base ≡ false)) → taken (first_name names base) ≡ false
+        first (inl is) = ap taken is ∙ plain base [] refl
+        first (inr is) = ap taken is.0 ∙ kept is.2
+
+        either : ((n ≡ 0) × (name_of_base names base n ≡ first_name names base)) ⊎ (name_of_base names base n ≡ base ++ 95 ∷ decimal n) → taken (name_of_base names base n) ≡ false
+        either (inl is) = ap taken is.1 ∙ first first_cases
+        either (inr is) = ap taken is ∙ plain base (decimal n) (all_digits-decimal n)
+
+  -- ---- no name is `_e` and a number
+  numbered_of_base : is_word base ≡ true → (n h : ℕ) → name_of_base names base n ≡ codes "_e" ++ decimal h → ⊥
+  unfolding is_text
+  numbered_of_base word n h is = either (name_cases n)
+    where
+      nothing : base ≡ [] → ⊥
+      nothing e = true≢false (sym word ∙ ap is_word e)
+
+      either : ((n ≡ 0) × (name_of_base names base n ≡ first_name names base)) ⊎ (name_of_base names base n ≡ base ++ 95 ∷ decimal n) → ⊥
+      either (inl first) = true≢false (sym numbered_ends ∙ ap (ends_by is_ascii_digit) (sym is ∙ first.1) ∙ first_ends)
+        where
+          numbered_ends : ends_by is_ascii_digit (codes "_e" ++ decimal h) ≡ true
+          numbered_ends = ended (decimal h) (is_text-decimal h) (all_digits-decimal h)
+            where
+              ended : (ds : List ℕ) → is_text ds ≡ true → list_all is_ascii_digit ds ≡ true → ends_by is_ascii_digit (codes "_e" ++ ds) ≡ true
+              ended [] some all = absurd (cc)
+              ended (d ∷ ds) some all = ends_by-append is_ascii_digit (codes "_e") d ds ∙ ends_by-all is_ascii_digit (d ∷ ds) refl all
+      either (inr later) = nothing (split_last base (decimal n) [] (101 ∷ decimal h) (number_has_none n) (number_has_none h) (sym later ∙ is)).0
+
+-- ---- a name tells its base and its number
+module _ (names : Names) (b c : List ℕ) (m n : ℕ) (b_ends : ends_separated b ≡ false) (c_ends : ends_separated c ≡ false) (m_small : m < 2 ^ 64) (n_small : n < 2 ^ 64) where
+  abbrev FirstCases : List ℕ → Type 0
+  FirstCases d = (first_name names d ≡ d ++ 95 ∷ []) ⊎ ((first_name names d ≡ d) × (ends_in_digit d ≡ false) × (is_taken names d ≡ false))
+
+  abbrev NameCases : List ℕ → ℕ → Type 0
+  NameCases d k = ((k ≡ 0) × (name_of_base names d k ≡ first_name names d)) ⊎ (name_of_base names d k ≡ d ++ 95 ∷ decimal k)
+
+  both_first : FirstCases b → FirstCases c → first_name names b ≡ first_name names c → b ≡ c
+  both_first (inl x) (inl y) e = (split_last b [] c [] refl refl (sym x ∙ e ∙ y)).0
+  both_first (inl x) (inr y) e = absurd (true≢false (sym (ends_separated-append b) ∙ ap ends_separated (sym x ∙ e ∙ y.0) ∙ c_ends))
+  both_first (inr x) (inl y) e = absurd (true≢false (sym (ends_separated-append c) ∙ ap ends_separated (sym y ∙ sym e ∙ x.0) ∙ b_ends))
+  both_first (inr x) (inr y) e = sym x.0 ∙ e ∙ y.0
+
+  both : NameCases b m → NameCases c n → name_of_base names b m ≡ name_of_base names c n → (b ≡ c) × (m ≡ n)
+  both (inl x) (inl y) e = (both_first (first_cases names b) (first_cases names c) (sym x.1 ∙ e ∙ y.1), x.0 ∙ sym y.0)
+  both (inl x) (inr y) e = absurd (true≢false (sym (later_ends names c n) ∙ ap (ends_by is_ascii_digit) (sym y ∙ sym e ∙ x.1) ∙ first_ends names b))
+  both (inr x) (inl y) e = absurd (true≢false (sym (later_ends names b m) ∙ ap (ends_by is_ascii_digit) (sym x ∙ e ∙ y.1) ∙ first_ends names c))
+  both (inr x) (inr y) e =
+      let parts = split_last b (decimal m) c (decimal n) (number_has_none m) (number_has_none n) (sym x ∙ e ∙ y) in
+      (parts.0, decimal_injective m n m_small n_small parts.1)
+
+  pub same_base_and_number : name_of_base names b m ≡ name_of_base names c n → (b ≡ c) × (m ≡ n)
+  same_base_and_number e = both (name_cases names b m) (name_cases names c n) e
+
+-- ---- the laws, over the labels that were named before
+-- a name is a word: ASCII letters, digits and `_`, at least one of them, and no digit first
+pub name_after_is_word : (start : Names) (earlier : List (List ℕ)) (label : List ℕ) → is_word (name_after start earlier label) ≡ true
+name_after_is_word start earlier label = word_of_base start (label_base start label) (base_is_word start.reserved_prefixes (chars label)) (labels_with_base start earlier (label_base start label))
+
+kept_three : (start : Names) (word : List ℕ) → is_taken start word ≡ false → (set.contains start.keywords word ≡ false) × (set.contains start.builtin_identifiers word ≡ false) × (set.contains start.caseless_keywords (lowered word) ≡ false)
+kept_three start word e =
+    let outer = or_parts (set.contains start.keywords word || set.contains start.builtin_identifiers word) (set.contains start.caseless_keywords (lowered word)) e in
+    let inner = or_parts (set.contains start.keywords word) (set.contains start.builtin_identifiers word) outer.0 in
+    (inner.0, inner.1, outer.1)
+
+-- a word that does not begin with `__`, with more behind it, where it does not end in `_`
+identifier_more : (base more : List ℕ) → is_word base ≡ true → ends_separated base ≡ false → begins_double base ≡ false → is_word (base ++ more) ≡ true → is_identifier (base ++ more) ≡ true
+identifier_more [] more some ends single word = absurd (cc)
+identifier_more (c ∷ []) more some ends single word = and_from _ _ word (ap (λ b. not (b && is_empty_or_separated more)) ends)
+identifier_more (c ∷ d ∷ cs) more some ends single word = and_from _ _ word (ap not single)
+
+identifier_of_base : (names : Names) (base : List ℕ) (n : ℕ) → is_word base ≡ true → ends_separated base ≡ false → begins_double base ≡ false → is_identifier (name_of_base names base n) ≡ true
+identifier_of_base names base n some ends single = either (name_cases names base n) (word_of_base names base some n)
+  where
+    plain : is_word base ≡ true → is_identifier base ≡ true
+    plain word = ap is_identifier (sym (append-nil base)) ∙ identifier_more base [] some ends single (ap is_word (append-nil base) ∙ word)
+
+    first : (first_name names base ≡ base ++ 95 ∷ []) ⊎ ((first_name names base ≡ base) × (ends_in_digit base ≡ false) × (is_taken names base ≡ false)) → is_word (first_name names base) ≡ true → is_identifier (first_name names base) ≡ true
+    first (inl is) word = ap is_identifier is ∙ identifier_more base (95 ∷ []) some ends single (ap is_word (sym is) ∙ word)
+    first (inr is) word = ap is_identifier is.0 ∙ plain some
+
+    either : ((n ≡ 0) × (name_of_base names base n ≡ first_name names base)) ⊎ (name_of_base names base n ≡ base ++ 95 ∷ decimal n) → is_word (name_of_base names base n) ≡ true → is_identifier (name_of_base names base n) ≡ true
+    either (inl is) word = ap is_identifier is.1 ∙ first (first_cases names base) (ap is_word (sym is.1) ∙ word)
+    either (inr is) word = ap is_identifier is ∙ identifier_more base (95 ∷ decimal n) some ends single (ap is_word (sym is) ∙ word)
+
+-- a name is an identifier: a word that does not begin with `__`, and is not `_`
+pub name_after_is_identifier : (start : Names) (earlier : List (List ℕ)) (label : List ℕ) → is_identifier (name_after start earlier label) ≡ true
+name_after_is_identifier start earlier label =
+    identifier_of_base start (label_base start label) (labels_with_base start earlier (label_base start label)) (base_is_word start.reserved_prefixes (chars label)) (base_ends start.reserved_prefixes (chars label)) (base_not_double start.reserved_prefixes (chars label))
+
+-- ---- the prefixes of WGSL's implementations
+abbrev naga : List ℕ → Bool
+naga text = starts_with nat_eq text (codes "_naga")
+
+naga_parted : (base more : List ℕ) → is_word base ≡ true → naga (base ++ 95 ∷ more) ≡ naga base
+naga_parted [] more some = absurd (cc)
+naga_parted (a ∷ []) more some = refl
+naga_parted (a ∷ b ∷ []) more some = refl
+naga_parted (a ∷ b ∷ c ∷ []) more some = refl
+naga_parted (a ∷ b ∷ c ∷ d ∷ []) more some = refl
+naga_parted (a ∷ b ∷ c ∷ d ∷ e ∷ rest) more some = refl
+
+base_no_naga : (prefixes : List (List ℕ)) (characters : List ℕ) → prefixes ≡ codes "__" ∷ codes "_naga" ∷ [] → naga (base_of prefixes characters) ≡ false
+unfolding base_of
+base_no_naga prefixes characters is =
+    ap (λ ps. naga (kept_off ps text)) is ∙ either (starts_with nat_eq text (codes "__") || (naga text || false)) refl
+  where
+    text : List ℕ
+    text = or_unnamed (without_last_separators (spelling (after_numerics characters)))
+
+    either : (b : Bool) → (starts_with nat_eq text (codes "__") || (naga text || false)) ≡ b → naga (cond b (codes "gen_" ++ text) text) ≡ false
+    either true e = refl
+    either false e = (or_parts (naga text) false (or_parts (starts_with nat_eq text (codes "__")) (naga text || false) e).1).0
+
+naga_of_base : (names : Names) (base : List ℕ) (n : ℕ) → is_word base ≡ true → naga base ≡ false → naga (name_of_base names base n) ≡ false
+naga_of_base names base n some off = either (name_cases names base n)
+  where
+    first : (first_name names base ≡ base ++ 95 ∷ []) ⊎ ((first_name names base ≡ base) × (ends_in_digit base ≡ false) × (is_taken names base ≡ false)) → naga (first_name names base) ≡ false
+    first (inl is) = ap naga is ∙ naga_parted base [] some ∙ off
+    first (inr is) = ap naga is.0 ∙ off
+
+    either : ((n ≡ 0) × (name_of_base names base n ≡ first_name names base)) ⊎ (name_of_base names base n ≡ base ++ 95 ∷ decimal n) → naga (name_of_base names base n) ≡ false
+    either (inl is) = ap naga is.1 ∙ first (first_cases names base)
+    either (inr is) = ap naga is ∙ naga_parted base (decimal n) some ∙ off
+
+-- under the prefixes `__` and `_naga` no name begins with `_naga`
+pub name_after_no_naga : (start : Names) (earlier : List (List ℕ)) (label : List ℕ) → start.reserved_prefixes ≡ codes "__" ∷ codes "_naga" ∷ [] → starts_with nat_eq (name_after start earlier label) (codes "_naga") ≡ false
+name_after_no_naga start earlier label prefixes =
+    naga_of_base start (label_base start label) (labels_with_base start earlier (label_base start label)) (base_is_word start.reserved_prefixes (chars label)) (base_no_naga start.reserved_prefixes (chars label) prefixes)
+
+-- no name is a word of the sets
+pub name_after_no_keyword : (start : Names) (earlier : List (List ℕ)) (label : List ℕ) → HasPlainEnds start.keywords → set.contains start.keywords (name_after start earlier label) ≡ false
+name_after_no_keyword start earlier label plain = free_of_base start (label_base start label) (set.contains start.keywords) plain.no_end (λ e. (kept_three start (label_base start label) e).0) (labels_with_base start earlier (label_base start label))
+
+pub name_after_no_builtin : (start : Names) (earlier : List (List ℕ)) (label : List ℕ) → HasPlainEnds start.builtin_identifiers → set.contains start.builtin_identifiers (name_after start earlier label) ≡ false
+name_after_no_builtin start earlier label plain =
+    let base = label_base start label in
+    free_of_base start base (set.contains start.builtin_identifiers) plain.no_end
+    (λ e. (kept_three start base e).1) (labels_with_base start earlier base)
+
+pub name_after_no_caseless : (start : Names) (earlier : List (List ℕ)) (label : List ℕ) → HasPlainEnds start.caseless_keywords → set.contains start.caseless_keywords (lowered (name_after start earlier label)) ≡ false
+name_after_no_caseless start earlier label plain =
+    let base = label_base start label in
+    free_of_base start base (λ word. set.contains start.caseless_keywords (lowered word))
+    (λ front digits all. ap (set.contains start.caseless_keywords) (lowered_end front digits) ∙ plain.no_end (lowered front) (lowered digits) (lowered_digits digits all))
+    (λ e. (kept_three start base e).2) (labels_with_base start earlier base)
+  where
+    lowered_end : (front digits : List ℕ) → lowered (front ++ 95 ∷ digits) ≡ lowered front ++ 95 ∷ lowered digits
+    lowered_end [] digits = refl
+    lowered_end (c ∷ front) digits = ap (λ t. to_ascii_lowercase c ∷ t) (lowered_end front digits)
+
+    lowered_digits : (digits : List ℕ) → list_all is_ascii_digit digits ≡ true → list_all is_ascii_digit (lowered digits) ≡ true
+    lowered_digits [] e = refl
+    lowered_digits (d ∷ digits) e =
+        let parts = and_parts (is_ascii_digit d) (list_all is_ascii_digit digits) e in
+        and_from _ _ (one d parts.0) (lowered_digits digits parts.1)
+      where
+        one : (d : ℕ) → is_ascii_digit d ≡ true → is_ascii_digit (to_ascii_lowercase d) ≡ true
+        one d e = grind (arith, nat_tests)
+
+-- a set of plain words has plain ends
+pub plain_ends : (words : List (List ℕ)) → All IsPlain words → HasPlainEnds (set.from_list words)
+plain_ends words all = record {
+  no_end = λ front digits digit.
+      set.contains-from_list nat_list_cmp_total words (front ++ 95 ∷ digits)
+      ∙ list_any_none (eq_by_cmp (slice_cmp nat_cmp) (front ++ 95 ∷ digits)) words (λ k d lt. other (front ++ 95 ∷ digits) (get_or words k d) (λ same. (all k d lt).no_end front digits digit (sym same)));
+}
+  where
+    other : (q word : List ℕ) → (q ≡ word → ⊥) → eq_by_cmp (slice_cmp nat_cmp) q word ≡ false
+    other q word apart = is_eq-slice_cmp q word ∙ either (bytes_eq q word) refl
+      where
+        either : (b : Bool) → bytes_eq q word ≡ b → b ≡ false
+        either true e = absurd (apart ((bytes_decides q word).0 e))
+        either false e = refl
+
+-- no name is `_e` and a number behind it
+pub name_after_not_numbered : (start : Names) (earlier : List (List ℕ)) (label : List ℕ) (h : ℕ) → name_after start earlier label ≡ codes "_e" ++ decimal h → ⊥
+name_after_not_numbered start earlier label h is = numbered_of_base start (label_base start label) (base_is_word start.reserved_prefixes (chars label)) (labels_with_base start earlier (label_base start label)) h is
+
+-- ---- no name comes twice
+-- no base is used so often that a counter would pass its end
+abbrev AreFew : Names → List (List ℕ) → Type 0
+AreFew start labels = (base : List ℕ) → labels_with_base start labels base ≤ 2 ^ 32
+
+module _ (start : Names) where
+  pub counted_more : (first : List (List ℕ)) (a : List ℕ) (rest : List (List ℕ)) (base : List ℕ) → label_base start a ≡ base → labels_with_base start (first ++ a ∷ rest) base ≡ labels_with_base start first base + (1 + labels_with_base start rest base)
+  counted_more first a rest base same =
+      sum_by-append (λ l. cond (bytes_eq (label_base start l) base) 1 0) first (a ∷ rest)
+      ∙ ap (λ n. labels_with_base start first base + n)
+      (sum_by-cons (λ l. cond (bytes_eq (label_base start l) base) 1 0) a rest
+      ∙ ap (λ b. cond b 1 0 + labels_with_base start rest base) ((bytes_decides (label_base start a) base).1 same))
+
+  counted_less : (first rest : List (List ℕ)) (base : List ℕ) → labels_with_base start first base ≤ labels_with_base start (first ++ rest) base
+  counted_less first rest base = omega (arith, sum_by-append (λ l. cond (bytes_eq (label_base start l) base) 1 0) first rest)
+
+  -- labels at two places have different names
+  pub names_differ : (first : List (List ℕ)) (a : List ℕ) (middle : List (List ℕ)) (b : List ℕ) (rest : List (List ℕ)) → ((base : List ℕ) → labels_with_base start ((first ++ a ∷ middle) ++ b ∷ rest) base ≤ 2 ^ 32) → name_after start first a ≡ name_after start (first ++ a ∷ middle) b → ⊥
+  names_differ first a middle b rest few is =
+      let base_a : List ℕ = label_base start a in
+      let base_b : List ℕ = label_base start b in
+      let m : ℕ = labels_with_base start first base_a in
+      let n : ℕ = labels_with_base start (first ++ a ∷ middle) base_b in
+      let m_small : m < 2 ^ 64 = omega (arith, few base_a, counted_less first (a ∷ middle) base_a, counted_less (first ++ a ∷ middle) (b ∷ rest) base_a) in
+      let n_small : n < 2 ^ 64 = omega (arith, few base_b, counted_less (first ++ a ∷ middle) (b ∷ rest) base_b) in
+      let same = same_base_and_number start base_a base_b m n (base_ends start.reserved_prefixes (chars a)) (base_ends start.reserved_prefixes (chars b)) m_small n_small is in
+      let more : n ≡ labels_with_base start first base_b + (1 + labels_with_base start middle base_b) = counted_more first a middle base_b same.0 in
+      let less : m ≡ labels_with_base start first base_b = ap (labels_with_base start first) same.0 in
+      let equal : m ≡ n = same.1 in
+      absurd (omega (arith, more, less, equal))

@@ -1,0 +1,308 @@
+-- How a spelling grows at its end, one character after another.
+use Rattle.std.proofs.Common.{◌≡◌, ℕ, ◌+◌, ◌-◌, ◌<◌, Bool, true, false, not, ◌&&◌, ◌||◌, ◌==◌, cond, List, [], ◌∷◌, ◌++◌, length, get_or, drop, take, codes, refl, sym, ap, subst, ◌∙◌, arith, length-append, one-add, add-one, drop-cons, map, Bor, zero, suc, replicate, ◌/◌, ◌%◌, ◌^◌, append_assoc, append-nil}
+use Rattle.std.specs.Result.{is_ok, OnOk}
+use Rattle.std.specs.declared.result.Result.{Result}
+use Rattle.std.specs.declared.result.Result.TheVariants.{Ok, Err}
+use Rattle.std.specs.List.{flat_map, list_all, list_any, prefix_len}
+use Rattle.std.specs.Fmt.{digits, digits_onto, digit_glyph, padded_integral, format_spec, char_count, digits_output, styled_digits_output, AppendsText, ◌++?◌}
+use Rattle.std.specs.Option.{option_map}
+use Rattle.std.specs.declared.option.Option.TheVariants.{Some}
+use Rattle.std.specs.Char.{is_ascii_alphanumeric}
+use Rattle.std.proofs.lemmas.Grind.{flat_map-append}
+use Rattle.std.proofs.lemmas.List.Folds.{list_all-append}
+use Rattle.std.proofs.lemmas.Bool.Decides.{nat_tests}
+use Rattle.std.proofs.lemmas.Bool.{and_parts, not-true, or_parts}
+use Rattle.std.proofs.Math.Bool.{and-false}
+use borrow.Author.Tests.{eqb-true}
+use Rattle.naga_keywords.specs.Plain.{is_identifier_char}
+use Rattle.naga_names.specs.Label.{is_numeric, after_numerics, is_mark, is_foreign, hexadecimal, by_number, spelled, begins_separated, squeezed, begins_foreign, spelling, ends_separated, with_separator, kept_before, without_last_separators}
+
+-- ---- numeric characters at the front
+pub after_numerics-drop : (cs : List ℕ) → after_numerics cs ≡ drop (prefix_len is_numeric cs) cs
+after_numerics-drop [] = refl
+after_numerics-drop (c ∷ cs) = elim (is_numeric c) as (λ b. cond b (after_numerics cs) (c ∷ cs) ≡ drop (cond b (1 + prefix_len is_numeric cs) 0) (c ∷ cs)) [ true ↦ after_numerics-drop cs ∙ rw one-add refl | false ↦ refl ]
+
+-- ---- `_` at the end
+pub get_or-last : (c d : ℕ) (text : List ℕ) → get_or (c ∷ d ∷ text) (length (c ∷ d ∷ text) - 1) 0 ≡ get_or (d ∷ text) (length (d ∷ text) - 1) 0
+get_or-last c d text = grind (arith)
+
+pub ends_separated-last : (text : List ℕ) → (get_or text (length text - 1) 0 == 95) ≡ ends_separated text
+ends_separated-last [] = refl
+ends_separated-last (c ∷ []) = refl
+ends_separated-last (c ∷ d ∷ text) = ap (λ x. x == 95) (get_or-last c d text) ∙ ends_separated-last (d ∷ text)
+
+pub with_separator-yes : (text : List ℕ) → ends_separated text ≡ true → with_separator text ≡ text
+with_separator-yes text e = ap (λ b. cond b text (text ++ codes "_")) e
+
+pub with_separator-not : (text : List ℕ) → ends_separated text ≡ false → with_separator text ≡ text ++ codes "_"
+with_separator-not text e = ap (λ b. cond b text (text ++ codes "_")) e
+
+with_separator-cons : (c d : ℕ) (text : List ℕ) → with_separator (c ∷ d ∷ text) ≡ c ∷ with_separator (d ∷ text)
+with_separator-cons c d text = elim (ends_separated (d ∷ text)) as (λ b. cond b (c ∷ d ∷ text) (c ∷ d ∷ text ++ codes "_") ≡ c ∷ cond b (d ∷ text) (d ∷ text ++ codes "_")) [ true ↦ refl | false ↦ refl ]
+
+pub without_last-push : (text : List ℕ) → without_last_separators (text ++ 95 ∷ []) ≡ without_last_separators text
+without_last-push [] = refl
+without_last-push (c ∷ text) = ap (kept_before c) (without_last-push text)
+
+pub without_last-done : (text : List ℕ) → ends_separated text ≡ false → without_last_separators text ≡ text
+without_last-done [] e = refl
+without_last-done (c ∷ []) e = ap (λ b. cond b [] (c ∷ [])) e
+without_last-done (c ∷ d ∷ text) e = ap (kept_before c) (without_last-done (d ∷ text) e)
+
+-- ---- squeezing
+squeezed_cons : (c : ℕ) (cs : List ℕ) → (d : ℕ) × (ds : List ℕ) × (squeezed (c ∷ cs) ≡ d ∷ ds)
+squeezed_cons c [] = elim (c == 95) as (λ b. (d : ℕ) × (ds : List ℕ) × (cond (b && false) [] (c ∷ []) ≡ d ∷ ds)) [ true ↦ (c, [], refl) | false ↦ (c, [], refl) ]
+squeezed_cons c (e ∷ es) = elim (c == 95 && e == 95) as (λ b. (d : ℕ) × (ds : List ℕ) × (cond b (squeezed (e ∷ es)) (c ∷ squeezed (e ∷ es)) ≡ d ∷ ds)) [ true ↦ squeezed_cons e es | false ↦ (c, squeezed (e ∷ es), refl) ]
+
+pub squeezed-push_separator : (cs : List ℕ) → squeezed (cs ++ 95 ∷ []) ≡ with_separator (squeezed cs)
+squeezed-push_separator [] = refl
+squeezed-push_separator (c ∷ []) = one (c == 95) refl
+  where
+    one : (b : Bool) → (c == 95) ≡ b → cond (b && true) (95 ∷ []) (c ∷ 95 ∷ []) ≡ with_separator (cond (b && false) [] (c ∷ []))
+    one true e = ap (λ x. x ∷ []) (sym (eqb-true c 95 e)) ∙ sym (with_separator-yes (c ∷ []) e)
+    one false e = sym (with_separator-not (c ∷ []) e)
+squeezed-push_separator (c ∷ d ∷ cs) = more (squeezed-push_separator (d ∷ cs)) (squeezed_cons d cs) (c == 95 && d == 95)
+  where
+    more : squeezed (d ∷ cs ++ 95 ∷ []) ≡ with_separator (squeezed (d ∷ cs)) → (e : ℕ) × (es : List ℕ) × (squeezed (d ∷ cs) ≡ e ∷ es) → (b : Bool) → cond b (squeezed (d ∷ cs ++ 95 ∷ [])) (c ∷ squeezed (d ∷ cs ++ 95 ∷ [])) ≡ with_separator (cond b (squeezed (d ∷ cs)) (c ∷ squeezed (d ∷ cs)))
+    more so_far some true = so_far
+    more so_far some false = ap (λ t. c ∷ t) so_far ∙ ap (λ t. c ∷ with_separator t) some.2 ∙ sym (with_separator-cons c some.0 some.1) ∙ sym (ap (λ t. with_separator (c ∷ t)) some.2)
+
+pub squeezed-append : (cs : List ℕ) (d : ℕ) (ds : List ℕ) → (d == 95) ≡ false → squeezed (cs ++ d ∷ ds) ≡ squeezed cs ++ squeezed (d ∷ ds)
+squeezed-append [] d ds e = refl
+squeezed-append (c ∷ []) d ds e =
+    ap (λ b. cond b (squeezed (d ∷ ds)) (c ∷ squeezed (d ∷ ds))) (ap (λ b. c == 95 && b) e ∙ and-false (c == 95))
+    ∙ sym (ap (λ b. cond b [] (c ∷ []) ++ squeezed (d ∷ ds)) (and-false (c == 95)))
+squeezed-append (c ∷ x ∷ cs) d ds e = more (c == 95 && x == 95) (squeezed-append (x ∷ cs) d ds e)
+  where
+    more : (b : Bool) → squeezed (x ∷ cs ++ d ∷ ds) ≡ squeezed (x ∷ cs) ++ squeezed (d ∷ ds) → cond b (squeezed (x ∷ cs ++ d ∷ ds)) (c ∷ squeezed (x ∷ cs ++ d ∷ ds)) ≡ cond b (squeezed (x ∷ cs)) (c ∷ squeezed (x ∷ cs)) ++ squeezed (d ∷ ds)
+    more true so_far = so_far
+    more false so_far = ap (λ t. c ∷ t) so_far
+
+-- no character is `_`
+abbrev pub unseparated : List ℕ → Bool
+unseparated cs = list_all (λ c. not (c == 95)) cs
+
+unseparated-ends : (cs : List ℕ) → unseparated cs ≡ true → ends_separated cs ≡ false
+unseparated-ends [] e = refl
+unseparated-ends (c ∷ []) e = not-true (c == 95) (and_parts (not (c == 95)) true e).0
+unseparated-ends (c ∷ d ∷ cs) e = unseparated-ends (d ∷ cs) (and_parts (not (c == 95)) (unseparated (d ∷ cs)) e).1
+
+unseparated-squeezed : (cs : List ℕ) → unseparated cs ≡ true → squeezed cs ≡ cs
+unseparated-squeezed [] e = refl
+unseparated-squeezed (c ∷ cs) e =
+    let parts = and_parts (not (c == 95)) (unseparated cs) e in
+    ap (λ b. cond (b && begins_separated cs) (squeezed cs) (c ∷ squeezed cs)) (not-true (c == 95) parts.0) ∙ ap (λ t. c ∷ t) (unseparated-squeezed cs parts.1)
+
+unseparated-zeros : (n : ℕ) → unseparated (replicate n 48) ≡ true
+unseparated-zeros zero = refl
+unseparated-zeros (suc n) = unseparated-zeros n
+
+no_separator_glyph : (d : ℕ) → d < 16 → not (digit_glyph false d == 95) ≡ true
+no_separator_glyph d lt = grind (arith, nat_tests)
+
+unseparated-digits : (k n : ℕ) (behind : List ℕ) → unseparated behind ≡ true → unseparated (digits_onto k 16 false n behind) ≡ true
+unseparated-digits zero n behind e = e
+unseparated-digits (suc k) n behind e =
+    more (n / 16 == 0) (ap (λ b. b && unseparated behind) (no_separator_glyph (n % 16) (omega arith)) ∙ e) (unseparated-digits k (n / 16) (digit_glyph false (n % 16) ∷ behind))
+  where
+    more : (b : Bool) → unseparated (digit_glyph false (n % 16) ∷ behind) ≡ true → (unseparated (digit_glyph false (n % 16) ∷ behind) ≡ true → unseparated (digits_onto k 16 false (n / 16) (digit_glyph false (n % 16) ∷ behind)) ≡ true) → unseparated (cond b (digit_glyph false (n % 16) ∷ behind) (digits_onto k 16 false (n / 16) (digit_glyph false (n % 16) ∷ behind))) ≡ true
+    more true one rest = one
+    more false one rest = rest one
+
+unseparated-hexadecimal : (c : ℕ) → unseparated (hexadecimal c) ≡ true
+unfolding hexadecimal digits
+unseparated-hexadecimal c =
+    list_all-append (λ d. not (d == 95)) (replicate (4 - length (digits_onto 64 16 false c [])) 48) (digits_onto 64 16 false c [])
+    ∙ ap (λ b. b && unseparated (digits_onto 64 16 false c [])) (unseparated-zeros (4 - length (digits_onto 64 16 false c [])))
+    ∙ unseparated-digits 64 c [] refl
+
+-- ---- spellings
+pub spelling-nil : spelling [] ≡ []
+unfolding spelling
+spelling-nil = refl
+
+pub spelled-mark : (c : ℕ) → is_mark c ≡ true → spelled c ≡ codes "_"
+spelled-mark c mark = ap (λ b. cond b (codes "_") (cond (is_identifier_char c) (c ∷ []) (codes "_" ++ by_number c))) mark
+
+pub spelled-plain : (c : ℕ) → is_mark c ≡ false → is_identifier_char c ≡ true → spelled c ≡ c ∷ []
+spelled-plain c mark plain =
+    ap (λ b. cond b (codes "_") (cond (is_identifier_char c) (c ∷ []) (codes "_" ++ by_number c))) mark
+    ∙ ap (λ b. cond b (c ∷ []) (codes "_" ++ by_number c)) plain
+
+pub spelled-foreign : (c : ℕ) → is_foreign c ≡ true → spelled c ≡ 95 ∷ by_number c
+spelled-foreign c foreign =
+    let parts = and_parts (not (is_mark c)) (not (is_identifier_char c)) foreign in
+    ap (λ b. cond b (codes "_") (cond (is_identifier_char c) (c ∷ []) (codes "_" ++ by_number c))) (not-true (is_mark c) parts.0)
+    ∙ ap (λ b. cond b (c ∷ []) (codes "_" ++ by_number c)) (not-true (is_identifier_char c) parts.1)
+
+squeezed-by_number : (c : ℕ) → squeezed (by_number c) ≡ by_number c
+squeezed-by_number c =
+    squeezed-push_separator (117 ∷ hexadecimal c)
+    ∙ ap with_separator (unseparated-squeezed (117 ∷ hexadecimal c) (unseparated-hexadecimal c))
+    ∙ with_separator-not (117 ∷ hexadecimal c) (unseparated-ends (117 ∷ hexadecimal c) (unseparated-hexadecimal c))
+
+-- the spelled characters, of a foreign first one without its `_`
+unfoldable pub body : List ℕ → List ℕ
+body cs = cond (begins_foreign cs) (drop 1 (flat_map spelled cs)) (flat_map spelled cs)
+
+pub spelling-body : (cs : List ℕ) → spelling cs ≡ squeezed (body cs)
+unfolding spelling body
+spelling-body [] = refl
+spelling-body (c ∷ cs) = either (is_foreign c) refl
+  where
+    either : (b : Bool) → is_foreign c ≡ b → cond b (drop 1 (squeezed (spelled c ++ flat_map spelled cs))) (squeezed (spelled c ++ flat_map spelled cs)) ≡ squeezed (cond b (drop 1 (spelled c ++ flat_map spelled cs)) (spelled c ++ flat_map spelled cs))
+    either true e = ap (λ t. drop 1 (squeezed (t ++ flat_map spelled cs))) (spelled-foreign c e) ∙ sym (ap (λ t. squeezed (drop 1 (t ++ flat_map spelled cs))) (spelled-foreign c e))
+    either false e = refl
+
+body-push : (c : ℕ) (cs : List ℕ) (d : ℕ) → body (c ∷ cs ++ d ∷ []) ≡ body (c ∷ cs) ++ spelled d
+unfolding body
+body-push c cs d =
+    ap (λ t. cond (is_foreign c) (drop 1 t) t) (flat_map-append spelled (c ∷ cs) (d ∷ []) ∙ ap (λ t. flat_map spelled (c ∷ cs) ++ t) (append-nil (spelled d)))
+    ∙ either (is_foreign c) refl
+  where
+    either : (b : Bool) → is_foreign c ≡ b → cond b (drop 1 (spelled c ++ flat_map spelled cs ++ spelled d)) (spelled c ++ flat_map spelled cs ++ spelled d) ≡ cond b (drop 1 (spelled c ++ flat_map spelled cs)) (spelled c ++ flat_map spelled cs) ++ spelled d
+    either true e = ap (λ t. drop 1 (t ++ flat_map spelled cs ++ spelled d)) (spelled-foreign c e) ∙ sym (ap (λ t. drop 1 (t ++ flat_map spelled cs) ++ spelled d) (spelled-foreign c e))
+    either false e = refl
+
+-- one more character
+spelling-push : (c : ℕ) (cs : List ℕ) (d : ℕ) (text : List ℕ) → spelled d ≡ text → spelling (c ∷ cs ++ d ∷ []) ≡ squeezed (body (c ∷ cs) ++ text)
+spelling-push c cs d text is = spelling-body (c ∷ cs ++ d ∷ []) ∙ ap squeezed (body-push c cs d ∙ ap (λ t. body (c ∷ cs) ++ t) is)
+
+-- the first character, where it is not foreign
+spelling-first : (d : ℕ) (text : List ℕ) → is_foreign d ≡ false → spelled d ≡ text → spelling (d ∷ []) ≡ squeezed text
+unfolding spelling
+spelling-first d text plain is =
+    ap (λ b. cond b (drop 1 (squeezed (spelled d ++ []))) (squeezed (spelled d ++ []))) plain ∙ ap squeezed (append-nil (spelled d) ∙ is)
+
+not_foreign-mark : (c : ℕ) → is_mark c ≡ true → is_foreign c ≡ false
+not_foreign-mark c mark = ap (λ b. not b && not (is_identifier_char c)) mark
+
+not_foreign-plain : (c : ℕ) → is_identifier_char c ≡ true → is_foreign c ≡ false
+not_foreign-plain c plain = ap (λ b. not (is_mark c) && not b) plain ∙ and-false (not (is_mark c))
+
+pub spelling-separator : (cs : List ℕ) (c : ℕ) → is_mark c ≡ true → spelling (cs ++ c ∷ []) ≡ with_separator (spelling cs)
+spelling-separator [] c mark = spelling-first c (codes "_") (not_foreign-mark c mark) (spelled-mark c mark) ∙ sym (ap with_separator spelling-nil)
+spelling-separator (d ∷ cs) c mark =
+    spelling-push d cs c (codes "_") (spelled-mark c mark) ∙ squeezed-push_separator (body (d ∷ cs)) ∙ ap with_separator (sym (spelling-body (d ∷ cs)))
+
+pub spelling-underscore : (cs : List ℕ) → spelling (cs ++ 95 ∷ []) ≡ with_separator (spelling cs)
+spelling-underscore [] = spelling-first 95 (codes "_") refl refl ∙ sym (ap with_separator spelling-nil)
+spelling-underscore (d ∷ cs) =
+    spelling-push d cs 95 (codes "_") refl ∙ squeezed-push_separator (body (d ∷ cs)) ∙ ap with_separator (sym (spelling-body (d ∷ cs)))
+
+squeezed-one : (c : ℕ) → squeezed (c ∷ []) ≡ c ∷ []
+squeezed-one c = ap (λ b. cond b [] (c ∷ [])) (and-false (c == 95))
+
+pub spelling-plain : (cs : List ℕ) (c : ℕ) → is_mark c ≡ false → is_identifier_char c ≡ true → (c == 95) ≡ false → spelling (cs ++ c ∷ []) ≡ spelling cs ++ c ∷ []
+spelling-plain [] c mark plain other = spelling-first c (c ∷ []) (not_foreign-plain c plain) (spelled-plain c mark plain) ∙ squeezed-one c ∙ sym (ap (λ t. t ++ c ∷ []) spelling-nil)
+spelling-plain (d ∷ cs) c mark plain other =
+    spelling-push d cs c (c ∷ []) (spelled-plain c mark plain)
+    ∙ squeezed-append (body (d ∷ cs)) c [] other
+    ∙ ap (λ t. squeezed (body (d ∷ cs)) ++ t) (squeezed-one c)
+    ∙ ap (λ t. t ++ c ∷ []) (sym (spelling-body (d ∷ cs)))
+
+body_cons : (c : ℕ) (cs : List ℕ) → (d : ℕ) × (ds : List ℕ) × (body (c ∷ cs) ≡ d ∷ ds)
+unfolding body
+body_cons c cs = either (is_foreign c) (is_mark c) (is_identifier_char c) refl refl refl
+  where
+    either : (f m p : Bool) → is_foreign c ≡ f → is_mark c ≡ m → is_identifier_char c ≡ p → (d : ℕ) × (ds : List ℕ) × (cond f (drop 1 (spelled c ++ flat_map spelled cs)) (spelled c ++ flat_map spelled cs) ≡ d ∷ ds)
+    either true m p f_is m_is p_is = (117, hexadecimal c ++ codes "_" ++ flat_map spelled cs, ap (λ t. drop 1 (t ++ flat_map spelled cs)) (spelled-foreign c f_is))
+    either false true p f_is m_is p_is = (95, flat_map spelled cs, ap (λ t. t ++ flat_map spelled cs) (spelled-mark c m_is))
+    either false false true f_is m_is p_is = (c, flat_map spelled cs, ap (λ t. t ++ flat_map spelled cs) (spelled-plain c m_is p_is))
+    either false false false f_is m_is p_is = absurd (cc (ap (λ b. not b && not (is_identifier_char c)) m_is, ap not p_is, f_is))
+
+pub spelling_cons : (c : ℕ) (cs : List ℕ) → (d : ℕ) × (ds : List ℕ) × (spelling (c ∷ cs) ≡ d ∷ ds)
+spelling_cons c cs =
+    let some = body_cons c cs in
+    let text = squeezed_cons some.0 some.1 in
+    (text.0, text.1, spelling-body (c ∷ cs) ∙ ap squeezed some.2 ∙ text.2)
+
+body-foreign : (c : ℕ) → is_foreign c ≡ true → body (c ∷ []) ≡ by_number c
+unfolding body
+body-foreign c foreign = ap (λ b. cond b (drop 1 (spelled c ++ [])) (spelled c ++ [])) foreign ∙ ap (λ t. drop 1 (t ++ [])) (spelled-foreign c foreign) ∙ append-nil (by_number c)
+
+pub spelling-first_foreign : (cs : List ℕ) (c : ℕ) → is_foreign c ≡ true → length (spelling cs) ≡ 0 → spelling (cs ++ c ∷ []) ≡ by_number c
+spelling-first_foreign [] c foreign none = spelling-body (c ∷ []) ∙ ap squeezed (body-foreign c foreign) ∙ squeezed-by_number c
+spelling-first_foreign (d ∷ cs) c foreign none = let some = spelling_cons d cs in let long = ap length some.2 in absurd (omega (arith, long))
+
+pub spelling-later_foreign : (cs : List ℕ) (c : ℕ) → is_foreign c ≡ true → (length (spelling cs) ≡ 0 → ⊥) → spelling (cs ++ c ∷ []) ≡ with_separator (spelling cs) ++ by_number c
+spelling-later_foreign [] c foreign some = absurd (some (ap length spelling-nil))
+spelling-later_foreign (d ∷ cs) c foreign some =
+    spelling-push d cs c (95 ∷ by_number c) (spelled-foreign c foreign)
+    ∙ ap squeezed (sym (append_assoc (body (d ∷ cs)) (95 ∷ []) (by_number c)))
+    ∙ squeezed-append (body (d ∷ cs) ++ 95 ∷ []) 117 (hexadecimal c ++ codes "_") refl
+    ∙ ap (λ t. squeezed (body (d ∷ cs) ++ 95 ∷ []) ++ t) (squeezed-by_number c)
+    ∙ ap (λ t. t ++ by_number c) (squeezed-push_separator (body (d ∷ cs)) ∙ ap with_separator (sym (spelling-body (d ∷ cs))))
+
+-- ---- the same by the tests that the code makes
+pub spelling-separating : (cs : List ℕ) (c : ℕ) → (is_mark c || c == 95) ≡ true → spelling (cs ++ c ∷ []) ≡ with_separator (spelling cs)
+spelling-separating cs c test = either (is_mark c) refl test
+  where
+    either : (b : Bool) → is_mark c ≡ b → (b || c == 95) ≡ true → spelling (cs ++ c ∷ []) ≡ with_separator (spelling cs)
+    either true mark test = spelling-separator cs c mark
+    either false mark test = ap (λ d. spelling (cs ++ d ∷ [])) (eqb-true c 95 test) ∙ spelling-underscore cs
+
+pub spelling-alphanumeric : (cs : List ℕ) (c : ℕ) → (is_mark c || c == 95) ≡ false → is_ascii_alphanumeric c ≡ true → spelling (cs ++ c ∷ []) ≡ spelling cs ++ c ∷ []
+spelling-alphanumeric cs c test plain =
+    let parts = or_parts (is_mark c) (c == 95) test in spelling-plain cs c parts.0 (ap (λ b. b || c == 95) plain) parts.1
+
+pub foreign-from_tests : (c : ℕ) → (is_mark c || c == 95) ≡ false → is_ascii_alphanumeric c ≡ false → is_foreign c ≡ true
+foreign-from_tests c test plain =
+    let parts = or_parts (is_mark c) (c == 95) test in
+    ap (λ b. not b && not (is_ascii_alphanumeric c || c == 95)) parts.0 ∙ ap (λ b. not (b || c == 95)) plain ∙ ap not parts.1
+
+-- what `{:04x}` writes
+pub padded-hexadecimal : (c : ℕ) → padded_integral (format_spec 32 0 4 4 (2 ^ 64 - 1)) false [] (digits 16 false c) ≡ hexadecimal c
+unfolding padded_integral hexadecimal char_count
+padded-hexadecimal c =
+    let short : 4 - length (digits 16 false c) - 0 - 0 ≡ 4 - length (digits 16 false c) = omega arith in
+    ap (λ n. replicate n 48 ++ (digits 16 false c ++ [])) short ∙ ap (λ t. replicate (4 - length (digits 16 false c)) 48 ++ t) (append-nil (digits 16 false c))
+
+-- ---- what holds on `Ok`
+pub on_ok : {T E P : Type 0} (r : Result T E) → (is_ok r ≡ true → P) → OnOk r P
+on_ok (Ok x) f = f refl
+on_ok (Err e) f = tt
+
+pub on_ok_then : {T E P Q : Type 0} (r : Result T E) → OnOk r P → (P → Q) → OnOk r Q
+on_ok_then (Ok x) p f = f p
+on_ok_then (Err e) p f = tt
+
+-- what a `push` of a text on `Ok` leaves
+pub pushed : {T E : Type 0} (r : Result T E) (old new more : List ℕ) → new ≡ cond (is_ok r) (old ++ more) old → is_ok r ≡ true → new ≡ old ++ more
+pushed r old new more is ok = is ∙ ap (λ b. cond b (old ++ more) old) ok
+
+-- what `write!` of `u{:04x}_` leaves
+pub number_written : {T E : Type 0} (r : Result T E) (old new : List ℕ) (c : ℕ) (d : _) (s : _) → digits_output d ≡ Some (digits 16 false c) → s ≡ format_spec 32 0 4 4 (2 ^ 64 - 1) → OnOk r (AppendsText old new (Some (codes "u") ++? (styled_digits_output d s ++? Some (codes "_")))) → OnOk r (new ≡ old ++ by_number c)
+number_written r old new c d s number options written =
+    let shown : styled_digits_output d s ≡ Some (hexadecimal c) = ap (styled_digits_output d) options ∙ ap (option_map (padded_integral (format_spec 32 0 4 4 (2 ^ 64 - 1)) false [])) number ∙ ap Some (padded-hexadecimal c) in
+    on_ok_then r written (λ appended. subst (λ o. AppendsText old new (Some (codes "u") ++? (o ++? Some (codes "_")))) shown appended)
+
+pub nothing_there : (text : List ℕ) → length text ≡ 0 → text ≡ []
+nothing_there [] e = refl
+nothing_there (c ∷ text) e = absurd (omega arith)
+
+-- the same of a `push` of an ASCII character
+pub pushed_char : {T E : Type 0} (r : Result T E) (old new encoded : List ℕ) (c : ℕ) → encoded ≡ c ∷ [] → new ≡ cond (is_ok r) (old ++ encoded) old → is_ok r ≡ true → new ≡ old ++ c ∷ []
+pushed_char r old new encoded c one is ok = pushed r old new encoded is ok ∙ ap (λ t. old ++ t) one
+
+pub alphanumeric_is_ascii : (c : ℕ) → is_ascii_alphanumeric c ≡ true → c < 128
+alphanumeric_is_ascii c e = grind (arith, nat_tests)
+
+-- ---- prefixes
+-- what a test says of the prefixes from the one at i on
+pub any_from : (test : List ℕ → Bool) (prefixes : List (Bor (List ℕ))) (i : ℕ) (d : Bor (List ℕ)) → i < length prefixes → list_any test (map (λ p. p.now) (drop i prefixes)) ≡ (test (get_or prefixes i d).now || list_any test (map (λ p. p.now) (drop (i + 1) prefixes)))
+any_from test prefixes i d lt =
+    let split : drop i prefixes ≡ get_or prefixes i d ∷ drop (i + 1) prefixes = rw add-one (drop-cons prefixes i d lt) in
+    ap (λ ps. list_any test (map (λ p. p.now) ps)) split
+
+pub same_items : (xs : List ℕ) → map (λ c. c) xs ≡ xs
+same_items [] = refl
+same_items (x ∷ xs) = ap (λ t. x ∷ t) (same_items xs)
+
+-- what `pop` leaves of a text that ends in `_`
+pub without_last-pop : (text shorter : List ℕ) (n : ℕ) → n ≡ length text → (get_or text (length text - 1) 0 == 95) ≡ true → text ≡ take (length text - 1) text ++ 95 ∷ [] → (0 < n → get_or text (n - 1) 0 < 128 → shorter ≡ take (n - 1) text) → without_last_separators shorter ≡ without_last_separators text
+without_last-pop text shorter n long last split cut =
+    let some : 0 < n = omega (arith, ap length split ∙ length-append (take (length text - 1) text) (95 ∷ [])) in
+    let same : get_or text (n - 1) 0 ≡ 95 = ap (λ m. get_or text (m - 1) 0) long ∙ eqb-true _ 95 last in
+    let front = cut some (omega (arith, same)) ∙ ap (λ m. take (m - 1) text) long in
+    ap without_last_separators front ∙ sym (ap without_last_separators split ∙ without_last-push (take (length text - 1) text))

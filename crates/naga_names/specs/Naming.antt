@@ -1,0 +1,139 @@
+-- The names that a `Namer` gives.
+--
+-- Throughout, n are names, and p their parts as a pair.
+use Rattle.std.specs.Prelude.{◌≡◌, ℕ, ◌+◌, ◌-◌, ◌^◌, ◌≤◌, Bool, ◌||◌, ◌==◌, if◌then◌else◌, List, ◌++◌, length, slice_index, [], codes, count_by, unwrap_or, decimal, refl, string_bytes}
+use Rattle.std.specs.Option.{option_map_or}
+use Rattle.std.specs.declared.option.Option.{Option}
+use Rattle.std.specs.declared.string.String.{String}
+use Rattle.std.specs.Char.{is_ascii_digit}
+use Rattle.std.specs.Coded.{Coded, code_by, coded×, coded_list, coded_ℕ}
+use Rattle.std.specs.Cmp.Lexicographic.{slice_cmp}
+use Rattle.std.specs.FinMap as map
+use Rattle.std.specs.FinSet as set
+use Rattle.std.specs.Ordering.{nat_cmp}
+use Rattle.std.specs.Str.{bytes_eq, chars}
+use Rattle.naga_names.specs.Label.{base_of}
+use Rattle.naga_keywords.specs.Words.{Words, lowered}
+
+-- how often each base was used; a base that was never used isn't there
+abbrev pub Uses : Type 0
+Uses = map.FinMap (slice_cmp nat_cmp) ℕ
+
+abbrev pub uses_of : Uses → List ℕ → ℕ
+uses_of uses base = unwrap_or (map.get uses base) 0
+
+abbrev pub words_code : Coded Words
+words_code = set.code (coded_list coded_ℕ)
+
+abbrev pub uses_code : Coded Uses
+uses_code = map.code (coded_list coded_ℕ) coded_ℕ
+
+-- what a `Namer` goes by: its three sets of words, the prefixes that it keeps off, and its uses
+pub record Names : Type 0 where
+  pub keywords : Words
+  pub builtin_identifiers : Words
+  -- with their ASCII letters in lower case
+  pub caseless_keywords : Words
+  pub reserved_prefixes : List (List ℕ)
+  pub uses : Uses
+
+abbrev pub names_code : Coded Names
+names_code =
+    let prefixes_code = coded_list (coded_list coded_ℕ) in
+    let rest_code = coded× words_code (coded× prefixes_code uses_code) in
+    code_by (Words × (Words × (Words × (List (List ℕ) × Uses))))
+    (coded× words_code (coded× words_code rest_code))
+    (λ n.
+    (n.keywords, (n.builtin_identifiers, (n.caseless_keywords, (n.reserved_prefixes, n.uses)))))
+    (λ p. record {
+      keywords = p.0;
+      builtin_identifiers = p.1.0;
+      caseless_keywords = p.1.1.0;
+      reserved_prefixes = p.1.1.1.0;
+      uses = p.1.1.1.1;
+    })
+    (λ _. refl)
+
+-- no words, no prefixes, no uses
+abbrev pub no_names : Names
+no_names =
+    record {
+      keywords = set.empty;
+      builtin_identifiers = set.empty;
+      caseless_keywords = set.empty;
+      reserved_prefixes = [];
+      uses = map.empty;
+    }
+
+-- these words and prefixes, and no uses
+abbrev pub new_names : Words → Words → Words → List (List ℕ) → Names
+new_names keywords builtins caseless prefixes =
+    record {
+      keywords = keywords;
+      builtin_identifiers = builtins;
+      caseless_keywords = caseless;
+      reserved_prefixes = prefixes;
+      uses = map.empty;
+    }
+
+-- the label, or the fallback where there is none
+abbrev pub label_or : {Y : Type 0} → Option (String Y) → List ℕ → List ℕ
+label_or label fallback = option_map_or string_bytes label fallback
+
+-- the base of a label that has these bytes
+abbrev pub label_base : Names → List ℕ → List ℕ
+label_base names label = base_of names.reserved_prefixes (chars label)
+
+-- the word is in one of the three sets
+abbrev pub is_taken : Names → List ℕ → Bool
+is_taken names word =
+    set.contains names.keywords word || set.contains names.builtin_identifiers word ||
+    set.contains names.caseless_keywords (lowered word)
+
+abbrev pub ends_in_digit : List ℕ → Bool
+ends_in_digit text = is_ascii_digit (slice_index text (length text - 1))
+
+-- the first name of a base has a `_` behind it where
+-- the base ends in a digit or is in one of the sets
+abbrev pub first_name : Names → List ℕ → List ℕ
+first_name names base =
+    if ends_in_digit base || is_taken names base then base ++ codes "_" else base
+
+-- a later one has `_` and the number of earlier uses behind it
+abbrev pub later_name : List ℕ → ℕ → List ℕ
+later_name base uses = base ++ codes "_" ++ decimal uses
+
+-- the name of a base that was used so often before
+abbrev pub name_of_base : Names → List ℕ → ℕ → List ℕ
+name_of_base names base uses = if uses == 0 then first_name names base else later_name base uses
+
+-- the name of a label, by the uses of its base so far
+unfoldable pub name_of : Names → List ℕ → List ℕ
+name_of names label =
+    let base = label_base names label in name_of_base names base (uses_of names.uses base)
+
+-- one more use of the label's base, and nothing else
+unfoldable pub with_use : Names → List ℕ → Names
+with_use names label =
+    let base = label_base names label in
+    record names { uses = map.insert names.uses base (uses_of names.uses base + 1) }
+
+-- the base has been used so often that there is no next name: its counter is at the greatest `u32`
+abbrev pub IsFull : Names → List ℕ → Type 0
+IsFull names label = uses_of names.uses (label_base names label) ≡ 2 ^ 32
+
+-- how many of these labels have this base
+abbrev pub labels_with_base : Names → List (List ℕ) → List ℕ → ℕ
+labels_with_base names labels base =
+    count_by (λ label. bytes_eq (label_base names label) base) labels
+
+-- the name of a label after these earlier ones
+abbrev pub name_after : Names → List (List ℕ) → List ℕ → List ℕ
+name_after names earlier label =
+    let base = label_base names label in
+    name_of_base names base (labels_with_base names earlier base)
+
+-- the uses so far are those of these labels, and none of them are more than can be counted
+pub record HasNamed (names : Names) (labels : List (List ℕ)) : Type 0 where
+  pub uses_are : (base : List ℕ) → uses_of names.uses base ≡ labels_with_base names labels base
+  pub few : (base : List ℕ) → labels_with_base names labels base ≤ 2 ^ 32

@@ -1,0 +1,82 @@
+-- Why a label gets no name, and why a module gets none.
+use Rattle.std.specs.Prelude.{◌≡◌, ⊤, ◌⊎◌, List, [], length, slice_get, Some, ℕ, ◌<◌, ◌^◌, ◌∷◌, ◌++◌, false}
+use Rattle.naga_ir.specs.declared.module.EntryPoint.{EntryPoint}
+use Rattle.naga_ir.specs.declared.module.Function.{Function}
+use Rattle.naga_ir.specs.declared.module.Module.{Module}
+use Rattle.naga_ir.specs.declared.types.Type_.{Type_}
+use Rattle.naga_names.specs.declared.error.NamerError.{NamerError}
+use Rattle.naga_names.specs.declared.error.NamerError.TheVariants.{Full, KeyFull, Memory}
+use Rattle.naga_names.specs.Naming.{Names, IsFull, label_base, labels_with_base}
+use Rattle.naga_names.specs.Keys.{NameMap}
+use Rattle.naga_names.specs.Reset.{Labelled, members_of, is_member, labels_of, keys_fit, labelled_items, HasNamedItems, PutsBeginning}
+
+-- `Full` comes only where the label's base is full,
+-- `KeyFull` never, and `Memory` may come at any time
+abbrev pub IsRefusalOf : Names → List ℕ → NamerError → Type 0
+IsRefusalOf names label Full = IsFull names label
+IsRefusalOf names label KeyFull = ⊥
+IsRefusalOf names label (Memory e) = ⊤
+
+-- at one of these items, which is no member of a struct, the label's base is full: the labels
+-- before it used it so often that there is no next name
+pub record SomeNameIsFull (start : Names) (items : List Labelled) : Type 0 where
+  pub named : List Labelled
+  pub item : Labelled
+  pub left : List Labelled
+  pub all : items ≡ named ++ item ∷ left
+  pub outside : is_member item.0 ≡ false
+  pub full : labels_with_base start (labels_of named) (label_base start item.1) ≡ 2 ^ 32
+
+-- some item has a key that can't be told: an entry point behind the first 65,536, or a member or an
+-- argument whose index is no `u32`
+abbrev pub SomeKeyIsFull : List Labelled → Type 0
+SomeKeyIsFull items = keys_fit items ≡ false
+
+-- a struct with more members than a `u32` can count
+pub record HasLongStruct (module_ : Module) : Type 0 where
+  pub place : ℕ
+  pub ty : Type_
+  pub there : slice_get module_.types place ≡ Some ty
+  pub long : 2 ^ 32 < length (members_of ty.inner)
+
+-- a function with more arguments than that
+pub record HasLongFunction (module_ : Module) : Type 0 where
+  pub place : ℕ
+  pub function : Function
+  pub there : slice_get module_.functions place ≡ Some function
+  pub long : 2 ^ 32 < length function.arguments.items
+
+-- an entry point with so many
+pub record HasLongEntryPoint (module_ : Module) : Type 0 where
+  pub place : ℕ
+  pub entry_point : EntryPoint
+  pub there : slice_get module_.entry_points.items place ≡ Some entry_point
+  pub long : 2 ^ 32 < length entry_point.function.arguments.items
+
+-- the module has more than 65,536 entry points, or an
+-- index of a member or of an argument that is no `u32`
+abbrev pub KeysRunOut : Module → Type 0
+KeysRunOut module_ =
+    (2 ^ 16 < length module_.entry_points.items)
+    ⊎ (HasLongStruct module_ ⊎ (HasLongFunction module_ ⊎ HasLongEntryPoint module_))
+
+-- `Full` comes only where one of the items meets a full base, `KeyFull` only where one has a key
+-- that can't be told, and `Memory` may come at any time
+abbrev pub IsRefusalOfItems : Names → List Labelled → NamerError → Type 0
+IsRefusalOfItems start items Full = SomeNameIsFull start items
+IsRefusalOfItems start items KeyFull = SomeKeyIsFull items
+IsRefusalOfItems start items (Memory e) = ⊤
+
+-- the same of all items of a module
+abbrev pub IsResetRefusal : Names → Module → NamerError → Type 0
+IsResetRefusal start module_ error = IsRefusalOfItems start (labelled_items start module_) error
+
+-- after any items that were named before, these are refused
+-- for a reason, and the map has the names of some beginning
+pub record RefusesItems (old : Names) (before : NameMap) (items : List Labelled) (now : NameMap)
+    (error : NamerError) : Type 0 where
+  pub some : (start : Names) (first : NameMap) (earlier : List Labelled) →
+      HasNamedItems start first earlier old before →
+      PutsBeginning start first (earlier ++ items) now
+  pub why : (start : Names) (first : NameMap) (earlier : List Labelled) →
+      HasNamedItems start first earlier old before → IsRefusalOfItems start (earlier ++ items) error

@@ -1,0 +1,27 @@
+-- The texts of integers, from what is written of them in turn.
+use Rattle.std.proofs.Common.{◌≡◌, ◌++◌, ℕ, ℤ, pos, negsuc, suc, false, codes, decimal, refl, ap, ◌==◌, ne_eqb}
+use Rattle.std.specs.Fmt.{digits, signed_decimal}
+use Rattle.std.proofs.lemmas.List.{append-nil}
+use Rattle.naga_wgsl_fns.specs.Literals.{integer_text, long_text}
+
+pub least_integer_row : integer_text (negsuc 2147483647) ≡ codes "i32(-2147483648)"
+unfolding integer_text digits
+least_integer_row = refl
+
+pub least_long_row : long_text (negsuc 9223372036854775807) ≡ codes "i64(-9223372036854775807 - 1)"
+unfolding long_text digits
+least_long_row = refl
+
+pub integer_row : (z : ℤ) → (z ≡ negsuc 2147483647 → ⊥) → integer_text z ≡ signed_decimal z ++ codes "i"
+unfolding integer_text
+integer_row (pos n) other = append-nil (decimal n ++ codes "i")
+integer_row (negsuc n) other =
+    let another : (n == 2147483647) ≡ false = ne_eqb n 2147483647 (λ is. other (ap negsuc is)) in
+    rw another (append-nil (signed_decimal (negsuc n) ++ codes "i"))
+
+pub long_row : (z : ℤ) → (z ≡ negsuc 9223372036854775807 → ⊥) → long_text z ≡ signed_decimal z ++ codes "li"
+unfolding long_text
+long_row (pos n) other = append-nil (decimal n ++ codes "li")
+long_row (negsuc n) other =
+    let another : (n == 9223372036854775807) ≡ false = ne_eqb n 9223372036854775807 (λ is. other (ap negsuc is)) in
+    rw another (append-nil (signed_decimal (negsuc n) ++ codes "li"))

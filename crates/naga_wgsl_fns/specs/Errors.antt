@@ -1,0 +1,34 @@
+-- What the writer's errors say.
+use Rattle.std.specs.Prelude.{◌≡◌, ⊤, ℕ, ◌<◌, List, codes, string_bytes}
+use Rattle.naga_words.specs.declared.sink.SinkError.{SinkError}
+use Rattle.naga_words.specs.declared.sink.SinkError.TheVariants.{Failed, Memory}
+use Rattle.naga_wgsl_fns.specs.declared.error.Error.{Error}
+use Rattle.naga_wgsl_fns.specs.declared.error.Error.TheVariants.{FmtError, Memory as Want, Custom as CustomError, Unimplemented}
+
+-- want of memory is told as such, whoever wanted it
+abbrev pub error_of_sink : SinkError → Error
+error_of_sink Failed = FmtError Failed
+error_of_sink (Memory e) = Want e
+
+-- why a sink failed
+abbrev pub IsSinkWant : (old new : ℕ) → SinkError → Type 0
+IsSinkWant old new Failed = old < new
+IsSinkWant old new (Memory e) = ⊥
+
+-- why a text was not written to a sink: memory ran out, or the sink failed once more. There is no other reason
+abbrev pub IsWant : (old new : ℕ) → Error → Type 0
+IsWant old new (FmtError e) = IsSinkWant old new e
+IsWant old new (Want e) = ⊤
+IsWant old new _ = ⊥
+
+-- the refusal of what is not written so far, or want of memory for its text
+abbrev pub IsNotYetWritten : Error → Type 0
+IsNotYetWritten (Unimplemented message) = string_bytes message ≡ codes "not yet written"
+IsNotYetWritten (Want e) = ⊤
+IsNotYetWritten _ = ⊥
+
+-- the refusal with this text, or want of memory for it
+abbrev pub IsCustom : List ℕ → Error → Type 0
+IsCustom text (CustomError message) = string_bytes message ≡ text
+IsCustom text (Want e) = ⊤
+IsCustom text _ = ⊥

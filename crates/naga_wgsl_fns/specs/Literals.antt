@@ -1,0 +1,15 @@
+-- The texts of literals.
+use Rattle.std.specs.Prelude.{ℕ, ℤ, List}
+use Rattle.naga_ir.specs.declared.expression.Literal.{Literal}
+use Rattle.naga_form.specs.Literals.{integer_form, literal_form, long_form}
+use Rattle.wgsl_text.specs.Pieces.{literal_pieces}
+use Rattle.wgsl_text.specs.Text.{text}
+
+unfoldable pub literal_text : Literal → List ℕ
+literal_text value = text (literal_pieces (literal_form value))
+
+unfoldable pub integer_text : ℤ → List ℕ
+integer_text value = text (literal_pieces (integer_form value))
+
+unfoldable pub long_text : ℤ → List ℕ
+long_text value = text (literal_pieces (long_form value))

@@ -1,0 +1,79 @@
+//! Why a module is not written.
+
+ghost use Rattle.std.specs.Prelude.{◌≡◌, codes};
+ghost use Rattle.naga_wgsl_fns.specs.declared.error.Error.TheVariants.{Memory};
+ghost use Rattle.naga_wgsl_fns.specs.Errors.{error_of_sink, IsNotYetWritten, IsCustom};
+
+use naga_ir::RelationalFunction;
+use naga_words::SinkError;
+use std::alloc::{AllocError, Global};
+use thiserror::Error as DisplayedError;
+
+/// Why a module is not written, by the construct that has no form in WGSL, or by what was wanting.
+#[derive(Debug, Drop, DisplayedError)]
+pub enum Error {
+    /// The sink failed.
+    #[error("{0}")]
+    FmtError(SinkError),
+    /// The module holds something that cannot be written, as the text says.
+    #[error("{0}")]
+    Custom(String),
+    /// The module holds something that this writer does not write, as the text says.
+    #[error("{0}")]
+    Unimplemented(String),
+    /// The module tests a number by a function that WGSL lacks.
+    #[error("Unsupported relational function: {0:?}")]
+    UnsupportedRelationalFunction(RelationalFunction),
+    /// The module holds something that WGSL has no word for.
+    #[error("Unsupported {kind}: {value}")]
+    Unsupported {
+        /// What kind of thing it is: `math function`, `builtin value` or `scalar type`.
+        kind: &'static str,
+        /// The thing itself, as its debug text.
+        value: String,
+    },
+    /// There was not enough memory, here or in the sink.
+    #[error("out of memory")]
+    Memory(AllocError),
+}
+
+/// A sink's want of memory is told as [`Error::Memory`], its failure as [`Error::FmtError`].
+impl From<SinkError> for Error {
+    ghost from_gives = { λ s e. e ≡ error_of_sink s };
+
+    fn from(error: SinkError) -> Error {
+        match error {
+            SinkError::Failed => Error::FmtError(SinkError::Failed),
+            SinkError::Memory(error) => Error::Memory(error),
+        }
+    }
+}
+
+impl From<AllocError> for Error {
+    ghost from_gives = { λ a e. e ≡ Memory a };
+
+    fn from(error: AllocError) -> Error {
+        Error::Memory(error)
+    }
+}
+
+/// The refusal of a module that holds more than this writer writes so far; want of memory where
+/// there is none for its text.
+pub fn not_yet_written(alloc: Global) -> Error
+    ensures { IsNotYetWritten result }
+{
+    match String::from_str(alloc, "not yet written") {
+        Ok(text) => Error::Unimplemented(text),
+        Err(error) => Error::Memory(error),
+    }
+}
+
+/// The refusal that says `text`; want of memory where there is none for the text.
+pub fn custom(alloc: Global, text: &str) -> Error
+    ensures { IsCustom text.now result }
+{
+    match String::from_str(alloc, text) {
+        Ok(text) => Error::Custom(text),
+        Err(error) => Error::Memory(error),
+    }
+}

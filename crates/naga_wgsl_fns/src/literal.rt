@@ -1,0 +1,59 @@
+//! Literals.
+
+ghost use Rattle.std.specs.Prelude.{◌++◌, IsTrue};
+ghost use Rattle.std.specs.Option.{is_some};
+ghost use Rattle.accepted_modules.specs.Types.{literal_word};
+ghost use Rattle.naga_words.specs.Output.{Writes};
+ghost use Rattle.naga_wgsl_fns.specs.Literals.{integer_text, literal_text, long_text};
+
+use itoa::{Buffer, Integer};
+use naga_ir::Literal;
+use naga_words::{Output, TextSink};
+
+/// Writes a literal as one expression: `5i`, `-5i`, `5u`, `5li`, `5lu`, `true`. The least `i32` and
+/// the least `i64` have no literal in WGSL, whose `-` stands outside, and are written
+/// `i32(-2147483648)` and `i64(-9223372036854775807 - 1)`.
+#[tactic(auto, unfolding(crate::specs::Literals::literal_text, crate::specs::Literals::integer_text, crate::specs::Literals::long_text))]
+pub fn write_literal<W: TextSink>(literal: Literal, out: &mut Output<'_, W>)
+    requires { IsTrue (is_some (literal_word literal)) }
+    ensures { Writes W.text W.failures out.old out.new (literal_text literal) }
+{
+    match literal {
+        Literal::Bool(value) => out.put(if value { "true" } else { "false" }),
+        Literal::I32(value) => write_i32(value, out),
+        Literal::U32(value) => write_number(value, "u", out),
+        Literal::I64(value) => write_i64(value, out),
+        Literal::U64(value) => write_number(value, "lu", out),
+        _ => unreachable!(),
+    }
+}
+
+fn write_i32<W: TextSink>(value: i32, out: &mut Output<'_, W>)
+    ensures { Writes W.text W.failures out.old out.new (integer_text value) }
+{
+    if value == i32::MIN {
+        out.put("i32(-2147483648)");
+    } else {
+        write_number(value, "i", out);
+    }
+}
+
+fn write_i64<W: TextSink>(value: i64, out: &mut Output<'_, W>)
+    ensures { Writes W.text W.failures out.old out.new (long_text value) }
+{
+    if value == i64::MIN {
+        out.put("i64(-9223372036854775807 - 1)");
+    } else {
+        write_number(value, "li", out);
+    }
+}
+
+/// Writes a number, and the suffix of its type.
+#[tactic(auto, using(naga_words::proofs::Writing::writes_then), unfolding(naga_words::specs::Output::joined))]
+fn write_number<I: Integer, W: TextSink>(number: I, suffix: &str, out: &mut Output<'_, W>)
+    ensures { Writes W.text W.failures out.old out.new (I.text number ++ suffix.now) }
+{
+    let mut buffer = Buffer::new();
+    out.put(buffer.format(number));
+    out.put(suffix);
+}

@@ -1,0 +1,61 @@
+//! What text is written to.
+
+ghost use Rattle.std.specs.Prelude.{◌≡◌, ℕ, ◌<◌, List, ◌++◌, OnOk, OnErr, IsErrOf, string_bytes, alloc_error};
+ghost use Rattle.naga_words.specs.declared.sink.SinkError.TheVariants.{Memory};
+ghost use Rattle.naga_words.specs.Sink.{IsBehind};
+
+use std::alloc::AllocError;
+use thiserror::Error;
+
+/// Why a sink did not take a piece of text.
+#[derive(Clone, Copy, Debug, PartialEq, Eq, Error)]
+pub enum SinkError {
+    /// It failed.
+    #[error("sink failed")]
+    Failed,
+    /// It found no memory.
+    #[error("out of memory")]
+    Memory(AllocError),
+}
+
+impl From<AllocError> for SinkError {
+    ghost from_gives = { λ e r. r ≡ Memory e };
+
+    fn from(error: AllocError) -> SinkError {
+        SinkError::Memory(error)
+    }
+}
+
+/// Takes text piece by piece.
+///
+/// A contract sees the text that it has taken, and the number of its failures, which it need not
+/// keep and which has no greatest value. Where a piece is refused, the sink may hold a beginning of
+/// it behind what it held.
+pub trait TextSink {
+    ghost text: { Self → List ℕ };
+
+    ghost failures: { Self → ℕ };
+
+    /// Takes `piece` behind what it has taken. `Failed` comes only together with one more failure.
+    fn write_str(&mut self, piece: &str) -> Result<(), SinkError>
+        ensures text_ok { OnOk result (text self.new ≡ text self.old ++ piece.now) }
+        ensures text_err { OnErr result (IsBehind (text self.old) piece.now (text self.new)) }
+        ensures failures_ok { OnOk result (failures self.new ≡ failures self.old) }
+        ensures failed { IsErrOf result SinkError.Failed → failures self.old < failures self.new };
+}
+
+/// Refuses for want of memory alone, and is then unchanged.
+impl TextSink for String {
+    ghost text = { string_bytes };
+
+    ghost failures = { λ _. 0 };
+
+    fn write_str(&mut self, piece: &str) -> Result<(), SinkError>
+        ensures text_ok { OnOk result (string_bytes self.new ≡ string_bytes self.old ++ piece.now) }
+        ensures text_err { OnErr result (string_bytes self.new ≡ string_bytes self.old) }
+        ensures memory { OnErr result (result ≡ Err (SinkError.Memory alloc_error)) }
+    {
+        self.push_str(piece)?;
+        Ok(())
+    }
+}

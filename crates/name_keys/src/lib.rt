@@ -1,6 +1,0 @@
-//! The keys by which a module's items have their names.
-#![tactic(auto)]
-
-pub mod key;
-
-pub use key::{EntryPointIndex, ExternalTextureNameKey, NameKey};

@@ -1,8 +1,0 @@
-use Rattle.type_spelling.proofs.TypeForms.{resolution_is}
-use Rattle.type_spelling.proofs.laws.forms_are_types.Goals as goal
-
-pub returns : goal.returns
-returns c = record {
-  form = resolution_is;
-  reading = λ n overrides named r within t is. c.one_reading_of_a_type.ensures.layout t (resolution_is n overrides named r within t is);
-}

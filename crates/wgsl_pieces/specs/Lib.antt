@@ -1,3 +1,0 @@
-pub mod Errors
-pub mod Appends
-pub mod Literals
