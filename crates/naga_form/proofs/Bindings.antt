@@ -124,7 +124,7 @@ functions_tell explicit names types g (f ∷ fs) (es ∷ ess) =
     let n = function_naming names types g f es in
     let t = names_of types names in
     let line = lines_tell n (told_type explicit t es) f.expressions 0 f.body (at_start n.function)
-        ∙ (λ i. map (λ b. told_spells explicit t es b.handle i) (function_bindings n)) in
+    ∙ (λ i. map (λ b. told_spells explicit t es b.handle i) (function_bindings n)) in
     λ i. line i ∷ functions_tell explicit names types (g + 1) fs ess i
 
 pub binds_as : (m : Module) (info : ModuleInfo) (explicit : Bool) → IsTrue (is_accepted m info) → BindsAs m info explicit (written_program m info explicit)

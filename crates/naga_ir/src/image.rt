@@ -1,7 +1,7 @@
 //! Images: their dimensions, their classes, and the formats of their texels.
 
-use crate::types::ScalarKind;
 use crate::flags::StorageAccess;
+use crate::types::ScalarKind;
 
 /// How many coordinates a texel of an image has.
 #[derive(Debug, Clone, Copy, PartialEq, Eq, Hash)]

@@ -5,11 +5,11 @@ ghost use Rattle.std.specs.Slice.Iter.{iter_rest};
 ghost use Rattle.naga_ir.specs.StatementTree.{no_statements, statement_count, has_no_statements, with_statement};
 ghost use Rattle.naga_ir.specs.StatementViews.{tree_of, block_of};
 
+use crate::arena::Handle;
 use crate::expression::{CooperativeData, Expression};
+use crate::flags::Barrier;
 use crate::module::Function;
 use crate::operators::{AtomicFunction, CollectiveOperation, GatherMode, SubgroupOperation};
-use crate::arena::Handle;
-use crate::flags::Barrier;
 use std::alloc::{AllocError, Global};
 use std::marker::Model;
 use std::slice::Iter;

@@ -6,12 +6,12 @@ ghost use Rattle.naga_wgsl_fns.specs.FunctionText.{CanWrite};
 ghost use Rattle.naga_wgsl_fns.specs.Expressions.{address_text, binary_text, own_text, pointed_text, reference_text, value_text};
 
 use crate::functions::FunctionText;
+use crate::literal::write_literal;
 use crate::names::write_bound_name;
 use naga_back::binary_operation_str;
 use naga_ir::{BinaryOperator, Expression, Handle, LocalVariable};
 use naga_scope::{Scope, Standing};
 use naga_words::{Output, TextSink};
-use crate::literal::write_literal;
 
 impl FunctionText<'_> {
     /// An expression as a value: its name where it has one here, else what it is made of. A reference

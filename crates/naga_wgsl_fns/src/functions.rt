@@ -12,17 +12,17 @@ ghost use Rattle.naga_wgsl_fns.specs.FunctionText.{CanWrite};
 ghost use Rattle.naga_wgsl_fns.specs.Types.{has_word};
 ghost use Rattle.naga_wgsl_fns.specs.Functions.{StartsAt, answer_text, argument_text, arguments_text, body_text, first_text, first_value_text, function_text, group_end_text, head_text, local_text, locals_text, next_argument_text, result_text, separator, text_of_function};
 
+use crate::Error;
 use naga_back::{Level, WriterFlags};
 use naga_info::{FunctionInfo, ModuleInfo};
 use naga_ir::{
     Expression, Function, FunctionArgument, Handle, LocalVariable, Module, Place, Type_,
 };
-use naga_scope::Scope;
 use naga_names::NameKey;
+use naga_scope::Scope;
 use naga_words::{Output, TextSink};
 use std::alloc::Global;
 use std::collections::HashMap;
-use crate::Error;
 
 /// Writes the declaration of a function, with the line end behind its last line: the function, its
 /// arguments and its locals under their names in `names`, which has them all.

@@ -9,8 +9,8 @@ ghost use Rattle.naga_wgsl_fns.specs.FunctionText.{CanWrite, tells_types};
 ghost use Rattle.naga_wgsl_fns.specs.Types.{annotation_text, has_word, resolution_text, told_text, type_text, IsWantOf};
 
 use crate::functions::FunctionText;
-use naga_back::WriterFlags;
 use bitflags::Flags;
+use naga_back::WriterFlags;
 use naga_info::TypeResolution;
 use naga_ir::{Expression, Handle, Type_};
 use naga_words::{Output, SinkError, TextSink, TypeContext, TypeTextError, WriterTypeContext};

@@ -17,20 +17,20 @@ ghost use Rattle.naga_wgsl_out.specs.Headline.{EachReading, FaithfulWriting, ans
 ghost use Rattle.naga_wgsl_out.specs.Refusals.{HasAllNames, IsErrorOfNames, IsNamesRefusal, TellsOfModule};
 ghost use Rattle.naga_wgsl_out.specs.Writing.{Writing, lines_of, written_text};
 
-use naga_back::WriterFlags;
 use naga_acceptance::is_written_so_far;
+use naga_back::WriterFlags;
 use naga_info::ModuleInfo;
 use naga_ir::{Function, Handle, Module};
 use naga_names::keyword_set::{CaseInsensitiveKeywordSet, KeywordSet};
 use naga_names::keywords::{BUILTIN_IDENTIFIERS, RESERVED};
 use naga_names::namer::{NameKey, Namer, NamerError};
 use naga_scope::scope_holds;
+use naga_wgsl_fns::error::{custom, not_yet_written};
 use naga_wgsl_fns::{Error, put, write_function};
 use naga_words::TextSink;
 use std::alloc::Global;
 use std::collections::HashMap;
 use std::marker::Model;
-use naga_wgsl_fns::error::{custom, not_yet_written};
 
 /// What no identifier begins with.
 const RESERVED_PREFIXES: [&str; 2] = ["__", "_naga"];

@@ -14,16 +14,16 @@ pub(crate) mod rules;
 pub(crate) mod scalars;
 pub(crate) mod spelling;
 
+pub use crate::TypeTextError;
+use crate::scalars::write_formless_scalar;
 use crate::types::rules::{write_conclusion_in, write_resolution_in, write_rule_in};
 use crate::types::scalars::write_scalar_in;
 use crate::types::spelling::{write_formless_inner, write_inner_in, write_type_in};
+use crate::{SinkError, TextSink};
 pub use contexts::WriterTypeContext;
 use naga_info::{Conclusion, Rule, TypeResolution};
 use naga_ir::{Handle, Override, Scalar, Type_, TypeInner};
 pub use order::{type_fits, types_in_order};
-pub use crate::TypeTextError;
-use crate::scalars::write_formless_scalar;
-use crate::{SinkError, TextSink};
 use std::alloc::Global;
 
 /// What the spelling of a type takes from around it: the types that it names, the names of structs

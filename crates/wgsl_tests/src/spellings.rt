@@ -1,22 +1,22 @@
 //! The types that the tests spell, in a module.
 use super::*;
+use crate::{Limited, NumberedTypes};
 use naga_info::{Conclusion, GlobalCtx, Rule, TypeResolution};
 use naga_ir::{
     AddressSpace, ArraySize, BuiltIn, CooperativeRole, CooperativeSize, Handle, ImageClass,
     ImageDimension, MathFunction, Module, Override, Place, PredeclaredType, Scalar, ScalarKind,
     StorageAccess, StorageFormat, StructMember, Type_, TypeInner, UniqueArena, VectorSize,
 };
+use naga_names::NameKey;
 use naga_words::types::{type_fits, types_in_order};
 use naga_words::{
     PredeclaredName, SinkError, TextSink, TryToWgsl, TypeContext, TypeTextError, WriterTypeContext,
 };
-use naga_names::NameKey;
 use std::alloc::{AllocError, Global};
 use std::collections::HashMap;
 use std::num::NonZeroU32;
 use std::process::Abort;
 use std::test::Fail;
-use crate::{Limited, NumberedTypes};
 
 mod handles;
 mod labels;

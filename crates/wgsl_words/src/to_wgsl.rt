@@ -6,7 +6,10 @@ ghost use Rattle.wgsl_words.specs.Words.{interpolation_word, sampling_word, role
 ghost use Rattle.wgsl_words.specs.Diagnostics.{IsWordOrBraced, IsScalarDiagnostic, braced_text};
 
 use bitflags::Flags;
-use naga_ir::{AddressSpace, BuiltIn, CooperativeRole, ImageDimension, Interpolation, MathFunction, Sampling, Scalar, ScalarKind, StorageAccess, StorageFormat};
+use naga_ir::{
+    AddressSpace, BuiltIn, CooperativeRole, ImageDimension, Interpolation, MathFunction, Sampling,
+    Scalar, ScalarKind, StorageAccess, StorageFormat,
+};
 use std::alloc::{AllocError, Global};
 use std::fmt::Debug;
 

@@ -6,12 +6,12 @@ ghost use Rattle.naga_words.specs.Contexts.{arena_context, global_context, names
 ghost use Rattle.naga_words.specs.Parts.{HasWritten, HasBegun, shown_between};
 ghost use Rattle.naga_words.specs.declared.error.TypeTextError.TheVariants as error;
 
+use crate::pieces::{write_shown, write_word};
 use crate::types::TypeContext;
+use crate::{SinkError, TextSink, TypeTextError};
 use naga_info::GlobalCtx;
 use naga_ir::{Handle, Module, Override, Type_, TypeInner, UniqueArena};
 use naga_names::NameKey;
-use crate::pieces::{write_shown, write_word};
-use crate::{SinkError, TextSink, TypeTextError};
 use std::alloc::Global;
 use std::collections::HashMap;
 

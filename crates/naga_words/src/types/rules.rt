@@ -7,12 +7,12 @@ ghost use Rattle.naga_words.specs.Predeclared.{predeclared_name};
 ghost use Rattle.naga_words.specs.Rules.{more_arguments_parts, arguments_parts, conclusion_parts, rule_parts, AllFit, FitsConclusion};
 ghost use Rattle.naga_words.specs.Spelling.{IsInOrder, FitsResolution, resolution_parts};
 
+use crate::pieces::{write_three, write_word};
 use crate::types::TypeContext;
 use crate::types::spelling::{write_inner_in, write_type_in};
+use crate::{PredeclaredName, SinkError, TextSink, TypeTextError};
 use naga_info::{Conclusion, Rule, TypeResolution};
 use naga_ir::PredeclaredType;
-use crate::pieces::{write_three, write_word};
-use crate::{PredeclaredName, SinkError, TextSink, TypeTextError};
 use std::alloc::Global;
 
 /// Writes the type of an expression.

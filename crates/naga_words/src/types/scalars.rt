@@ -5,11 +5,11 @@ ghost use Rattle.naga_words.specs.declared.error.TypeTextError.TheVariants as er
 ghost use Rattle.naga_words.specs.Parts.{HasWritten, HasBegun, lacks};
 ghost use Rattle.naga_words.specs.Values.{scalar_parts, template_parts, image_parts};
 
-use crate::types::TypeContext;
-use naga_ir::{ImageClass, ImageDimension, Scalar};
 use crate::images::write_image;
 use crate::scalars::{write_scalar, write_template};
+use crate::types::TypeContext;
 use crate::{SinkError, TextSink, TypeTextError};
+use naga_ir::{ImageClass, ImageDimension, Scalar};
 use std::alloc::Global;
 
 /// Writes a scalar.

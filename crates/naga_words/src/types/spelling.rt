@@ -7,16 +7,16 @@ ghost use Rattle.wgsl_words.specs.Words.{space_word, space_access_word};
 ghost use Rattle.naga_words.specs.Values.{formless_parts, value_parts, pointer_in, value_pointer_parts};
 ghost use Rattle.naga_words.specs.Spelling.{IsInOrder, is_struct, end_of_base, knows_size, knows_override, pointer_parts, length_of_override, length_parts, array_parts, inner_parts, named_parts_by, type_parts};
 
-use crate::types::TypeContext;
-use crate::types::scalars::{write_image_in, write_scalar_in, write_template_in};
-use naga_ir::{AddressSpace, ArraySize, Handle, Override, Scalar, Type_, TypeInner, VectorSize};
 use crate::pieces::{write_number_length, write_shown, write_three, write_word};
 use crate::scalars::{write_access, write_value_pointer_in};
+use crate::types::TypeContext;
+use crate::types::scalars::{write_image_in, write_scalar_in, write_template_in};
 use crate::words::{
     acceleration_structure_str, cooperative_str, matrix_str, ray_query_str, role_tail_str,
     sampler_str, vector_str,
 };
 use crate::{SinkError, TextSink, TypeTextError};
+use naga_ir::{AddressSpace, ArraySize, Handle, Override, Scalar, Type_, TypeInner, VectorSize};
 use std::alloc::Global;
 use wgsl_words::space_str;
 
