@@ -7,7 +7,7 @@ use Rattle.std.specs.Str.{bytes_eq}
 use Rattle.std.proofs.lemmas.Bool.{and_parts, eqb-true, eqb-false}
 use Rattle.std.proofs.lemmas.List.{length-set, get_or-set_same, get_or-set_other, get_or-replicate, length-replicate}
 use Rattle.std.proofs.lemmas.Slice.Eq.{bytes_eq-Decides}
-use Rattle.accepted_modules.specs.Operations.{Operation, agrees, all_agree, operation_of}
+use Rattle.module_meaning.specs.Operations.{Operation, agrees, all_agree, operation_of}
 use Rattle.naga_acceptance.specs.Table.{position, type_words, operator_words, type_number, operator_number, operation_place, entered_over, entered, all_entered, entered_numbers, entered_where}
 
 -- ---- tests

@@ -11,7 +11,7 @@ use Rattle.naga_ir.specs.declared.statement.SwitchCase.{SwitchCase}
 use Rattle.naga_ir.specs.StatementTree.{block_size, cases_size}
 use Rattle.naga_ir.specs.StatementViews.{tree_of, block_of, cases_of}
 use Rattle.naga_info.specs.declared.info.ExpressionInfo.{ExpressionInfo}
-use Rattle.accepted_modules.proofs.Fitting.{drop_first}
+use Rattle.module_meaning.proofs.Fitting.{drop_first}
 use Rattle.naga_acceptance.specs.Operands.{expression_operands, statement_operands, block_operands, cases_operands}
 use Rattle.naga_acceptance.specs.Counts.{with_use, with_uses, used_again, counted_from, use_count, greatest_count, without_uses, operand_places, counted, all_counted, functions_of}
 

@@ -10,10 +10,10 @@ use Rattle.naga_ir.specs.declared.module.Function.{Function}
 use Rattle.naga_ir.specs.declared.operators.BinaryOperator.{BinaryOperator}
 use Rattle.naga_ir.specs.declared.types.Type_.{Type_}
 use Rattle.naga_info.specs.declared.info.ExpressionInfo.{ExpressionInfo}
-use Rattle.accepted_modules.specs.Accepted.{signature_fits, names_fit, operand_fits, expression_fits, expressions_fit_from, expressions_fit, local_fits, block_fits, function_fits, functions_fit}
-use Rattle.accepted_modules.specs.Operations.{Operation, expression_operations, function_operations, all_operations, operators_agree}
-use Rattle.accepted_modules.proofs.Fitting.{drop_first, item_at, expressions_fit-step, functions_fit-step}
-use Rattle.accepted_modules.specs.Types.{is_alike, operator_word, spelling_of, spelling_at}
+use Rattle.module_meaning.specs.Accepted.{signature_fits, names_fit, operand_fits, expression_fits, expressions_fit_from, expressions_fit, local_fits, block_fits, function_fits, functions_fit}
+use Rattle.module_meaning.specs.Operations.{Operation, expression_operations, function_operations, all_operations, operators_agree}
+use Rattle.module_meaning.proofs.Fitting.{drop_first, item_at, expressions_fit-step, functions_fit-step}
+use Rattle.module_meaning.specs.Spelled.{is_alike, operator_word, spelling_of, spelling_at}
 use Rattle.naga_acceptance.specs.Fitting.{surroundings_fit, operation_fits}
 use Rattle.naga_acceptance.specs.Table.{all_entered, entered_where, written}
 use Rattle.naga_acceptance.proofs.Agreeing.{all_entered_append, all_entered_none}

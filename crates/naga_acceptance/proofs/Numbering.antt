@@ -17,13 +17,13 @@ use Rattle.naga_ir.specs.declared.types.TypeInner.{TypeInner}
 use Rattle.naga_ir.specs.declared.types.TypeInner.TheVariants.{Scalar as ScalarType, Pointer}
 use Rattle.naga_info.specs.declared.info.ExpressionInfo.{ExpressionInfo}
 use Rattle.naga_info.specs.Resolution.{inner_of}
-use Rattle.accepted_modules.specs.Types.{word_of_width, scalar_word, word_of_type, word_at, local_pointer, spelling, spelling_of, spelling_at, operator_word}
-use Rattle.accepted_modules.specs.Operations.{Operation, operation_of, expression_operations, function_operations, all_operations, operators_agree}
+use Rattle.module_meaning.specs.Spelled.{word_of_width, scalar_word, word_of_type, word_at, local_pointer, spelling, spelling_of, spelling_at, operator_word}
+use Rattle.module_meaning.specs.Operations.{Operation, operation_of, expression_operations, function_operations, all_operations, operators_agree}
 use Rattle.naga_acceptance.specs.Table.{type_number, operator_number, all_entered}
 use Rattle.std.proofs.lemmas.Option.{same_Some}
 use Rattle.naga_info.proofs.Options.{then_some, map_some}
 use Rattle.naga_acceptance.proofs.Agreeing.{AreNumbered, entered_where_all_agree}
-use Rattle.accepted_modules.proofs.Fitting.{drop_first, item_at}
+use Rattle.module_meaning.proofs.Fitting.{drop_first, item_at}
 
 -- one of the five words of scalars: its number, and that of a pointer to a local of this type
 pub record IsScalarWord (w : List ℕ) : Type 0 where

@@ -12,9 +12,9 @@ use Rattle.naga_ir.specs.declared.module.Module.{Module}
 use Rattle.naga_ir.specs.declared.types.Type_.{Type_}
 use Rattle.naga_info.specs.declared.info.ExpressionInfo.{ExpressionInfo}
 use Rattle.naga_info.specs.declared.info.ModuleInfo.{ModuleInfo}
-use Rattle.accepted_modules.specs.Types.{word_at, spelling_at, spelling_of, pointee_at, operator_word, is_alike}
-use Rattle.accepted_modules.specs.Accepted.{declares_functions, is_scalar_type, special_types_fit, signature_fits, names_fit, expected_type, is_within, expressions_fit_from, value_fits, local_fits, return_fits, simple_fits, statement_fits, block_fits, function_fits, functions_fit, is_accepted}
-use Rattle.accepted_modules.specs.Operations.{operation_of, expression_operations, all_operations, all_agree, operators_agree}
+use Rattle.module_meaning.specs.Spelled.{word_at, spelling_at, spelling_of, pointee_at, operator_word, is_alike}
+use Rattle.module_meaning.specs.Accepted.{declares_functions, is_scalar_type, special_types_fit, signature_fits, names_fit, expected_type, is_within, expressions_fit_from, value_fits, local_fits, return_fits, simple_fits, statement_fits, block_fits, function_fits, functions_fit, is_accepted}
+use Rattle.module_meaning.specs.Operations.{operation_of, expression_operations, all_operations, all_agree, operators_agree}
 use Rattle.naga_acceptance.specs.Counts.{counted_from, all_counted, use_count, operand_places}
 
 -- the counts don't change the types, nor how many there are

@@ -7,8 +7,8 @@ use Rattle.naga_ir.specs.declared.module.Function.{Function}
 use Rattle.naga_ir.specs.declared.operators.BinaryOperator.{BinaryOperator}
 use Rattle.naga_ir.specs.declared.types.Type_.{Type_}
 use Rattle.naga_info.specs.declared.info.ExpressionInfo.{ExpressionInfo}
-use Rattle.accepted_modules.specs.Accepted.{signature_fits, names_fit, operand_fits, local_fits, block_fits}
-use Rattle.accepted_modules.specs.Types.{word_at, local_pointer, spelling_at, pointee_at, operator_word}
+use Rattle.module_meaning.specs.Accepted.{signature_fits, names_fit, operand_fits, local_fits, block_fits}
+use Rattle.module_meaning.specs.Spelled.{word_at, local_pointer, spelling_at, pointee_at, operator_word}
 
 -- the signature, the named expressions, the locals and the body
 abbrev pub surroundings_fit : List Type_ → Function → List ExpressionInfo → Bool

@@ -3,7 +3,7 @@ use Rattle.std.specs.Prelude.{ℕ, List, Option, None}
 use Rattle.std.specs.Option.{option_map}
 use Rattle.naga_acceptance.specs.declared.spelling.Spelled.{Spelled}
 use Rattle.naga_acceptance.specs.declared.spelling.Spelled.TheVariants.{Nothing, Scalar, LocalPointer}
-use Rattle.accepted_modules.specs.Types.{scalar_word, local_pointer}
+use Rattle.module_meaning.specs.Spelled.{scalar_word, local_pointer}
 
 abbrev pub spelled : Spelled → Option (List ℕ)
 spelled Nothing = None

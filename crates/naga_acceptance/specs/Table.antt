@@ -4,8 +4,8 @@
 use Rattle.std.specs.Prelude.{◌≡◌, ℕ, Bool, suc, ◌+◌, ◌*◌, ◌==◌, if◌then◌else◌, List, [], ◌∷◌, Option, Some, None, codes, slice_index_or, slice_set}
 use Rattle.std.specs.Option.{option_and_then}
 use Rattle.std.specs.Str.{bytes_eq}
-use Rattle.accepted_modules.specs.Types.{local_pointer}
-use Rattle.accepted_modules.specs.Operations.{Operation}
+use Rattle.module_meaning.specs.Spelled.{local_pointer}
+use Rattle.module_meaning.specs.Operations.{Operation}
 
 -- where a word stands in a list of words
 abbrev pub position : List (List ℕ) → List ℕ → ℕ

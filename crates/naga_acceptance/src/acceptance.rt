@@ -4,10 +4,10 @@ ghost use Rattle.std.specs.Prelude.{◌≡◌, ◌&&◌, length, nat_lt, slice_g
 ghost use Rattle.std.specs.List.{list_all};
 ghost use Rattle.indexmap.specs.IndexMap.{values};
 ghost use Rattle.naga_ir.specs.StatementViews.{tree_of};
-ghost use Rattle.accepted_modules.specs.Accepted.{block_fits, declares_functions, expression_fits, expressions_fit, function_fits, functions_fit, is_accepted, is_below, is_scalar_type, local_fits, names_fit, return_fits, signature_fits, special_types_fit, statement_fits, value_fits};
+ghost use Rattle.module_meaning.specs.Accepted.{block_fits, declares_functions, expression_fits, expressions_fit, function_fits, functions_fit, is_accepted, is_below, is_scalar_type, local_fits, names_fit, return_fits, signature_fits, special_types_fit, statement_fits, value_fits};
 ghost use Rattle.naga_acceptance.specs.Spelled.{spelled};
-ghost use Rattle.accepted_modules.specs.Operations.{all_operations, expression_operations, function_operations, operators_agree};
-ghost use Rattle.accepted_modules.specs.Types.{literal_is_within};
+ghost use Rattle.module_meaning.specs.Operations.{all_operations, expression_operations, function_operations, operators_agree};
+ghost use Rattle.module_meaning.specs.Spelled.{literal_is_within};
 ghost use Rattle.naga_acceptance.specs.Fitting.{argument_word, load_word, local_pointer_word, surroundings_fit};
 ghost use Rattle.naga_acceptance.specs.Table.{IsEntered};
 
@@ -43,7 +43,7 @@ use naga_ir::{
 ///   where the function has no result.
 ///
 /// The counts are not looked at. Each other module is answered `false`.
-#[tactic(auto, using(accepted_modules::proofs::Accepting::functions_fit_length), unfolding(accepted_modules::specs::Accepted::is_accepted))]
+#[tactic(auto, using(module_meaning::proofs::Accepting::functions_fit_length), unfolding(module_meaning::specs::Accepted::is_accepted))]
 pub fn accepts(module: &Module, info: &ModuleInfo) -> bool
     ensures { result ≡ is_accepted «module».now info.now }
 {

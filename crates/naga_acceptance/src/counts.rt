@@ -5,7 +5,7 @@ ghost use Rattle.std.specs.Option.{option_to_list};
 ghost use Rattle.std.specs.List.{flat_map};
 ghost use Rattle.naga_ir.specs.StatementViews.{tree_of, cases_of};
 ghost use Rattle.naga_acceptance.specs.Operands.{level_operands, query_operands, cooperative_operands, expression_operands, atomic_operands, gather_operands, ray_operands, statement_operands, block_operands, cases_operands};
-ghost use Rattle.accepted_modules.specs.Accepted.{is_accepted};
+ghost use Rattle.module_meaning.specs.Accepted.{is_accepted};
 ghost use Rattle.naga_acceptance.specs.Counts.{counted, all_counted, functions_of, with_use, with_uses, without_uses};
 
 use naga_info::{ExpressionInfo, FunctionInfo, ModuleInfo};

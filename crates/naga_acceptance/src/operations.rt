@@ -5,12 +5,12 @@
 
 ghost use Rattle.std.specs.Prelude.{◌≡◌, ◌<◌, if◌then◌else◌, length, nat_lt, IfSome, None, Some};
 ghost use Rattle.std.specs.Option.{option_map};
-ghost use Rattle.accepted_modules.specs.Operations.{expression_operations};
+ghost use Rattle.module_meaning.specs.Operations.{expression_operations};
 ghost use Rattle.naga_acceptance.specs.Spelled.{spelled};
 ghost use Rattle.naga_acceptance.specs.Fitting.{operation_fits};
 ghost use Rattle.naga_acceptance.specs.Table.{IsEntered, entered, operator_number, type_number, written};
 ghost use Rattle.naga_ir.specs.declared.expression.Expression.TheVariants.{Binary};
-ghost use Rattle.accepted_modules.specs.Types.{operator_word, scalar_word, spelling_at};
+ghost use Rattle.module_meaning.specs.Spelled.{operator_word, scalar_word, spelling_at};
 
 use crate::spelling::{Spelled, spelled_expression};
 use naga_info::ExpressionInfo;

@@ -4,9 +4,9 @@ ghost use Rattle.std.specs.Prelude.{◌≡◌, slice_get};
 ghost use Rattle.std.specs.List.{list_all};
 ghost use Rattle.std.specs.Option.{is_none, is_some};
 ghost use Rattle.naga_ir.specs.StatementViews.{tree_of};
-ghost use Rattle.accepted_modules.specs.Accepted.{declares_functions, is_scalar_type};
-ghost use Rattle.accepted_modules.specs.Part.{block_is_written, expression_is_written, function_is_written, is_literal, is_unbound, is_written_so_far, local_is_written, names_nothing, statement_is_written};
-ghost use Rattle.accepted_modules.specs.Types.{literal_word, operator_word};
+ghost use Rattle.module_meaning.specs.Accepted.{declares_functions, is_scalar_type};
+ghost use Rattle.module_meaning.specs.Part.{block_is_written, expression_is_written, function_is_written, is_literal, is_unbound, is_written_so_far, local_is_written, names_nothing, statement_is_written};
+ghost use Rattle.module_meaning.specs.Spelled.{literal_word, operator_word};
 
 use crate::spelling::has_word;
 use naga_ir::{
@@ -19,7 +19,7 @@ use naga_ir::{
 /// bound to nothing, whose locals have a literal as first value or none, whose expressions are
 /// arguments, locals, literals of these types, loads, sums, differences and products, and whose
 /// statements are `Emit`s, `Store`s and `Return`s.
-#[tactic(auto, unfolding(accepted_modules::specs::Part::is_written_so_far))]
+#[tactic(auto, unfolding(module_meaning::specs::Part::is_written_so_far))]
 pub fn is_written_so_far(module: &Module) -> bool
     ensures { result ≡ is_written_so_far «module».now }
 {

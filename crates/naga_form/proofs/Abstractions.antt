@@ -17,9 +17,9 @@ use Rattle.naga_ir.specs.declared.module.LocalVariable.{LocalVariable}
 use Rattle.naga_ir.specs.declared.types.Type_.{Type_}
 use Rattle.naga_info.specs.declared.info.ExpressionInfo.{ExpressionInfo}
 use Rattle.std.specs.List.{list_all}
-use Rattle.accepted_modules.specs.Accepted.{is_scalar_type, local_fits, function_fits}
-use Rattle.accepted_modules.specs.Types.{word_at, local_pointer, literal_word}
-use Rattle.accepted_modules.proofs.Accepting.{list_all_at, scalar_types_word_at, function_fits_locals, local_fits_parts}
+use Rattle.module_meaning.specs.Accepted.{is_scalar_type, local_fits, function_fits}
+use Rattle.module_meaning.specs.Spelled.{word_at, local_pointer, literal_word}
+use Rattle.module_meaning.proofs.Accepting.{list_all_at, scalar_types_word_at, function_fits_locals, local_fits_parts}
 use Rattle.naga_names.specs.Keys.{NameMap}
 use Rattle.wgsl_text.specs.Token.{GreaterThan, SuffixI, SuffixLi}
 use Rattle.wgsl_text.specs.Tree.{LeastInteger, LeastLong, Suffixed, TypeSpecifier, Named}
@@ -30,11 +30,14 @@ use Rattle.shader_runs.specs.Text.{LiteralOf, before, ReturnLine, Apply, Logical
 use Rattle.shader_runs.specs.Form.{written_below, names_from, variables_from, form_function, Plain, AsValue, AsPlace, let_if}
 use Rattle.naga_form.specs.Form.{parameters_form, function_form, PlainForm, ValueForm, ReferenceForm, as_value, as_reference, own_plain, own_if, standing_plain, plain_below, plain_form, value_form, let_form, then_if, lets_form, return_line, simple_form, loop_form, label_form, labels_form, line_form, lines_form, cases_form, locals_form}
 use Rattle.naga_words.specs.Contexts.{names_of}
-use Rattle.naga_form.specs.Names.{function_name, argument_name}
-use Rattle.naga_form.specs.Types.{type_form, pointer_to_local, told_type, declared_type, LocalsAreSpelled}
-use Rattle.naga_form.specs.Literals.{literal_form, literal_value, value_read, literal_is_written, LiteralsAreWritten}
-use Rattle.naga_form.specs.Shapes.{expression_shape, label_shape, simple_shape, statements_shape, cases_shape, function_shape, function_naming, statement_shape}
-use Rattle.naga_form.specs.Abstraction.{expression_read, label_read, labels_read, statements_read, cases_read, function_read, statement_read, local_pointer_read, variable_read}
+use Rattle.module_meaning.specs.Names.{function_name, argument_name}
+use Rattle.naga_form.specs.Types.{type_form, told_type}
+use Rattle.module_meaning.specs.Types.{pointer_to_local, declared_type, LocalsAreSpelled}
+use Rattle.naga_form.specs.Literals.{literal_form, literal_is_written, LiteralsAreWritten}
+use Rattle.module_meaning.specs.Literals.{literal_value}
+use Rattle.text_meaning.specs.Literals.{value_read}
+use Rattle.module_meaning.specs.Shapes.{expression_shape, label_shape, simple_shape, statements_shape, cases_shape, function_shape, function_naming, statement_shape}
+use Rattle.text_meaning.specs.Abstraction.{expression_read, label_read, labels_read, statements_read, cases_read, function_read, statement_read, local_pointer_read, variable_read}
 use Rattle.naga_ir.specs.declared.expression.Expression.TheVariants as expression
 use Rattle.naga_ir.specs.declared.operators.BinaryOperator.{BinaryOperator}
 use Rattle.naga_ir.specs.declared.operators.BinaryOperator.TheVariants as operator

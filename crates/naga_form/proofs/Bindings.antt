@@ -9,7 +9,7 @@ use Rattle.naga_ir.specs.declared.module.Module.{Module}
 use Rattle.naga_ir.specs.declared.types.Type_.{Type_}
 use Rattle.naga_info.specs.declared.info.ExpressionInfo.{ExpressionInfo}
 use Rattle.naga_info.specs.declared.info.ModuleInfo.{ModuleInfo}
-use Rattle.accepted_modules.specs.Accepted.{is_accepted}
+use Rattle.module_meaning.specs.Accepted.{is_accepted}
 use Rattle.naga_names.specs.Keys.{NameMap}
 use Rattle.naga_words.specs.Contexts.{names_of, Names as TypeNames}
 use Rattle.shader_runs.specs.Program.{binds, from}
@@ -25,11 +25,13 @@ use Rattle.naga_info.specs.declared.info.TypeResolution.TheVariants as resolutio
 use Rattle.naga_form.specs.TypeTrees.{resolution_tree}
 use Rattle.naga_form.proofs.TypeTexts.{type_row, inner_tree_row}
 use Rattle.wgsl_text.specs.Tree as tree
-use Rattle.naga_form.specs.Types.{told_type, told_spelling, spelled_resolution}
-use Rattle.naga_form.specs.Names.{module_names}
-use Rattle.naga_form.specs.Shapes.{simple_shape, statement_shape, statements_shape, cases_shape, function_shapes, program_shape, namings_from, namings, outer_names, function_naming}
+use Rattle.naga_form.specs.Types.{told_type}
+use Rattle.module_meaning.specs.Types.{told_spelling, spelled_resolution}
+use Rattle.module_meaning.specs.Names.{module_names}
+use Rattle.module_meaning.specs.Shapes.{simple_shape, statement_shape, statements_shape, cases_shape, function_shapes, program_shape, namings_from, namings, outer_names, function_naming}
 use Rattle.naga_form.specs.Form.{as_value, own_if, plain_form, let_form, then_if, lets_form, return_line, simple_form, loop_form, label_form, line_form, lines_form, cases_form, functions_form, written_program}
-use Rattle.naga_form.specs.Bindings.{statement_annotations, statements_annotations, cases_annotations, module_annotations, BindsAs}
+use Rattle.text_meaning.specs.Bindings.{statement_annotations, statements_annotations, cases_annotations}
+use Rattle.module_meaning.specs.Bindings.{module_annotations, BindsAs}
 use Rattle.naga_form.proofs.Runs.{program_reads}
 
 module _ (n : Naming) (told : ℕ → Option TypeSpecifier) (es : List ir.Expression) where

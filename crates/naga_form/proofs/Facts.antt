@@ -7,9 +7,9 @@ use Rattle.naga_ir.specs.declared.module.FunctionResult.{FunctionResult}
 use Rattle.naga_ir.specs.declared.types.Type_.{Type_}
 use Rattle.naga_info.proofs.Options.{then_some}
 use Rattle.naga_info.specs.declared.info.ExpressionInfo.{ExpressionInfo}
-use Rattle.accepted_modules.specs.Types.{word_at, spelling_of, spelling_at}
-use Rattle.accepted_modules.specs.Accepted.{expression_fits, expressions_fit, return_fits}
-use Rattle.accepted_modules.proofs.Accepting.{alike_word, expressions_fit_known, expressions_fit_length}
+use Rattle.module_meaning.specs.Spelled.{word_at, spelling_of, spelling_at}
+use Rattle.module_meaning.specs.Accepted.{expression_fits, expressions_fit, return_fits}
+use Rattle.module_meaning.proofs.Accepting.{alike_word, expressions_fit_known, expressions_fit_length}
 
 -- an expression of an accepted function, and what is known of it
 pub record IsKnown (types : List Type_) (f : Function) (es : List ExpressionInfo) (h : ℕ) (e : Expression) : Type 0 where

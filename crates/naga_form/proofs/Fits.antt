@@ -11,9 +11,9 @@ use Rattle.naga_ir.specs.declared.module.Function as ir_function
 use Rattle.naga_ir.specs.declared.module.LocalVariable.{LocalVariable}
 use Rattle.naga_ir.specs.declared.types.Type_.{Type_}
 use Rattle.naga_info.specs.declared.info.ExpressionInfo.{ExpressionInfo}
-use Rattle.accepted_modules.specs.Types.{word_at, spelling_of, local_pointer, literal_word, spelling_at, operator_word}
-use Rattle.accepted_modules.specs.Accepted.{statement_fits, return_fits, block_fits, function_fits}
-use Rattle.accepted_modules.specs.Part.{names_nothing}
+use Rattle.module_meaning.specs.Spelled.{word_at, spelling_of, local_pointer, literal_word, spelling_at, operator_word}
+use Rattle.module_meaning.specs.Accepted.{statement_fits, return_fits, block_fits, function_fits}
+use Rattle.module_meaning.specs.Part.{names_nothing}
 use Rattle.naga_names.specs.Reset.{Labelled, labelled_items, labels_of}
 use Rattle.shader_runs.specs.Value.{ValueType, BooleanType, PointerType, type_at}
 use Rattle.shader_runs.specs.Program as shapes
@@ -23,13 +23,13 @@ use Rattle.shader_runs.specs.Premises.{AllBelow, WordFits, IsLiteral, literal_ty
 use Rattle.naga_info.proofs.Options.{then_some}
 use Rattle.shader_runs.proofs.Update.{and_left, and_right}
 use Rattle.naga_names.proofs.Counts.{element}
-use Rattle.naga_form.specs.Names.{argument_name, numbered_name, wgsl_names, module_names, name_in, function_name, local_name, numbered_text, NamesAreCounted}
-use Rattle.naga_form.specs.Types.{value_type, pointer_to_local, declared_type, type_spelled, type_told}
+use Rattle.module_meaning.specs.Names.{argument_name, numbered_name, wgsl_names, module_names, name_in, function_name, local_name, numbered_text, NamesAreCounted}
+use Rattle.module_meaning.specs.Types.{value_type, pointer_to_local, declared_type, type_spelled, type_told}
 use Rattle.naga_info.specs.declared.info.TypeResolution.TheVariants.{Handle}
-use Rattle.naga_form.specs.TypeIdentity.{Nothing, identity}
+use Rattle.module_meaning.specs.TypeIdentity.{Nothing, identity}
 use Rattle.naga_form.proofs.TypeIdentities.{declared_spelling}
-use Rattle.naga_form.specs.Literals.{literal_value}
-use Rattle.naga_form.specs.Shapes.{no_parts, expression_shape, statements_shape, cases_shape, function_shape, outer_names, function_naming, binary_shape, statement_shape, given_from}
+use Rattle.module_meaning.specs.Literals.{literal_value}
+use Rattle.module_meaning.specs.Shapes.{no_parts, expression_shape, statements_shape, cases_shape, function_shape, outer_names, function_naming, binary_shape, statement_shape, given_from}
 use Rattle.naga_form.proofs.Named.{numbered_distinct, name_is, item_not_numbered, items_tell, function_item, argument_item, function_there, argument_there}
 use Rattle.naga_form.proofs.Facts.{returned_at}
 use Rattle.std.proofs.lemmas.Option.{slice_get-map}
@@ -38,13 +38,13 @@ use Rattle.naga_ir.specs.declared.expression.Expression.TheVariants as expressio
 use Rattle.naga_ir.specs.declared.operators.BinaryOperator.{BinaryOperator}
 use Rattle.naga_ir.specs.declared.operators.BinaryOperator.TheVariants as operator
 use Rattle.naga_ir.specs.declared.module.Module.{Module}
-use Rattle.accepted_modules.proofs.Accepting.{function_fits_word_at, function_fits_expressions, function_fits_block, local_word_at, load_word_at, binary_at}
+use Rattle.module_meaning.proofs.Accepting.{function_fits_word_at, function_fits_expressions, function_fits_block, local_word_at, load_word_at, binary_at}
 use Rattle.naga_keywords.specs.Plain.{is_word}
 use Rattle.naga_names.specs.Naming.{label_or}
 use Rattle.naga_names.specs.declared.key.NameKey.TheVariants as key
 use Rattle.naga_names.proofs.NameShapes.{name_after_is_word}
 use Rattle.naga_names.proofs.NamedItems.{Stands, local_stands}
-use Rattle.naga_form.specs.Abstraction.{is_request}
+use Rattle.wgsl_text.specs.Requests.{is_request}
 
 -- what stands at an index of a list made from other things
 pub mapped_at : {X Y : Type 0} (t : X → Y) (d : Y) (xs : List X) (i : ℕ) (x : X) → slice_get xs i ≡ Some x → get_or (map t xs) i d ≡ t x

@@ -12,7 +12,8 @@ use Rattle.naga_words.specs.Contexts.{names_of, Names as TypeNames}
 use Rattle.naga_ir.specs.declared.expression.Expression as ir
 use Rattle.naga_ir.specs.declared.module.LocalVariable.{LocalVariable}
 use Rattle.shader_runs.specs.Scope.{Naming}
-use Rattle.naga_form.specs.Types.{type_form, spelled_type}
+use Rattle.naga_form.specs.Types.{type_form}
+use Rattle.module_meaning.specs.Types.{spelled_type}
 use Rattle.naga_form.specs.TypeTrees.{type_tree}
 use Rattle.naga_form.proofs.TypeTexts.{type_row}
 use Rattle.wgsl_text.proofs.RowText.{text-append}
@@ -20,11 +21,12 @@ use Rattle.std.specs.Option.{option_map}
 use Rattle.std.specs.Prelude.{unwrap_or}
 use Rattle.wgsl_text.specs.Reading.{type_layout}
 use Rattle.wgsl_text.specs.Tree.{TypeSpecifier, Named}
-use Rattle.naga_form.specs.Shapes.{function_naming}
-use Rattle.naga_form.specs.Names.{module_names}
+use Rattle.module_meaning.specs.Shapes.{function_naming}
+use Rattle.module_meaning.specs.Names.{module_names}
 use Rattle.naga_form.specs.Form.{locals_form, parameters_form, result_form, function_form, functions_form, written_program}
-use Rattle.naga_form.specs.Interface.{parameter_read, result_read, function_interface_read, Passed, passed, result_passed, function_interface, function_interfaces}
-use Rattle.naga_form.specs.Faithful.{HasInterfaceOf}
+use Rattle.text_meaning.specs.Interface.{parameter_read, result_read, function_interface_read, Passed}
+use Rattle.module_meaning.specs.Interface.{passed, result_passed, function_interface, function_interfaces}
+use Rattle.module_meaning.specs.Faithful.{HasInterfaceOf}
 
 -- the layout of a type's form is its spelling, and nothing where it has no form
 spelled_form : (t : TypeNames) (ty : ℕ) → type_layout (type_form t ty) ≡ spelled_type t ty

@@ -6,7 +6,7 @@ use Rattle.naga_ir.specs.declared.expression.Literal.{Literal}
 use Rattle.naga_ir.specs.declared.expression.Literal.TheVariants as literal
 use Rattle.naga_ir.specs.declared.types.ScalarKind.TheVariants as kind
 use Rattle.shader_runs.specs.Value.{Value, Truth, Whole, Opaque}
-use Rattle.naga_form.specs.Literals.{literal_value, integer_payload, abstract_word}
+use Rattle.module_meaning.specs.Literals.{literal_value, integer_payload, abstract_word}
 
 -- the integer of a payload
 abbrev integer_of : ℕ → ℤ

@@ -18,10 +18,10 @@ use Rattle.naga_ir.specs.declared.operators.BinaryOperator.TheVariants as operat
 use Rattle.naga_info.specs.declared.info.ExpressionInfo.{ExpressionInfo}
 use Rattle.naga_info.specs.declared.info.ModuleInfo.{ModuleInfo}
 use Rattle.std.proofs.lemmas.Option.{same_Some}
-use Rattle.accepted_modules.specs.Types.{spelling_at, local_pointer}
-use Rattle.accepted_modules.specs.Accepted.{is_accepted, function_fits, functions_fit, statement_fits, block_fits}
-use Rattle.accepted_modules.proofs.Accepting.{accepted_parts, function_fits_block, load_word_at, store_fits_word, binary_at, IsOperation}
-use Rattle.accepted_modules.proofs.Operating.{accepted_operations_agree}
+use Rattle.module_meaning.specs.Spelled.{spelling_at, local_pointer}
+use Rattle.module_meaning.specs.Accepted.{is_accepted, function_fits, functions_fit, statement_fits, block_fits}
+use Rattle.module_meaning.proofs.Accepting.{accepted_parts, function_fits_block, load_word_at, store_fits_word, binary_at, IsOperation}
+use Rattle.module_meaning.proofs.Operating.{accepted_operations_agree}
 use Rattle.shader_runs.specs.Value.{ValueType, BooleanType, IntegerType, PointerType, OtherType, Spelled, Value}
 use Rattle.shader_runs.specs.World.{World, Meaning, Event, entries, Environment}
 use Rattle.shader_runs.specs.Outcome.{Reached, and_then, answer}
@@ -38,13 +38,13 @@ use Rattle.shader_runs.proofs.Typing.{has_typed_meaning, no_signature}
 use Rattle.shader_runs.proofs.Starts.{steady_world}
 use Rattle.shader_runs.proofs.Progress.{runs_are_not_stuck}
 use Rattle.wgsl_text.specs.Words.{stands_in}
-use Rattle.naga_form.specs.Premises.{nothing_named, ScopesHold}
-use Rattle.naga_form.specs.Names.{NamesAreCounted, module_names, function_name}
-use Rattle.naga_form.specs.Types.{type_spelled, integer_words}
-use Rattle.naga_form.specs.Shapes.{binary_shape, expression_shape, statement_shape, statements_shape, function_shape, function_shapes, program_shape, namings, outer_names}
-use Rattle.naga_form.specs.Abstraction.{is_request}
+use Rattle.module_meaning.specs.Premises.{nothing_named, ScopesHold}
+use Rattle.module_meaning.specs.Names.{NamesAreCounted, module_names, function_name}
+use Rattle.module_meaning.specs.Types.{type_spelled, integer_words}
+use Rattle.module_meaning.specs.Shapes.{binary_shape, expression_shape, statement_shape, statements_shape, function_shape, function_shapes, program_shape, namings, outer_names}
+use Rattle.wgsl_text.specs.Requests.{is_request}
 use Rattle.naga_form.specs.Form.{written_program}
-use Rattle.naga_form.specs.Meanings.{OperatorsAreConsistent, HasTypedMeaning, HasTypedWorld, IsNeverStuck}
+use Rattle.module_meaning.specs.Meanings.{OperatorsAreConsistent, HasTypedMeaning, HasTypedWorld, IsNeverStuck}
 use Rattle.naga_form.proofs.Fits.{typed_as, at_any}
 use Rattle.naga_form.proofs.ScopeRules.{scopes_are_checked}
 use Rattle.naga_form.proofs.Runs.{module_fits, program_reads}

@@ -25,7 +25,7 @@ use Rattle.naga_names.proofs.NamedItems.{Stands, put_at, item_names_tell, functi
 use Rattle.wgsl_text.specs.Keywords.{reserved_words, builtin_words}
 use Rattle.wgsl_text.specs.Words.{is_letter, is_word_byte, all_word_bytes, is_word_text, stands_in, is_reserved, is_builtin, IsIdentifier}
 use Rattle.shader_runs.proofs.Update.{and_left, and_right}
-use Rattle.naga_form.specs.Names.{wgsl_names, module_names, name_in, numbered_text, numbered_name, NamesAreCounted}
+use Rattle.module_meaning.specs.Names.{wgsl_names, module_names, name_in, numbered_text, numbered_name, NamesAreCounted}
 
 -- ---- words
 letter_of : (d u l s : Bool) → (((d || u) || l) || s) ≡ true → not d ≡ true → (l || (u || s)) ≡ true

@@ -17,10 +17,10 @@ use Rattle.naga_ir.specs.declared.module.Module.{Module}
 use Rattle.naga_ir.specs.declared.types.Type_.{Type_}
 use Rattle.naga_info.specs.declared.info.ExpressionInfo.{ExpressionInfo}
 use Rattle.naga_info.specs.declared.info.ModuleInfo.{ModuleInfo}
-use Rattle.accepted_modules.specs.Types.{literal_word, literal_is_within, spelling_of, is_alike, word_at}
-use Rattle.accepted_modules.specs.Part.{names_nothing}
-use Rattle.accepted_modules.specs.Accepted.{is_scalar_type, is_below, is_accepted, statement_fits, block_fits, function_fits, functions_fit, local_fits}
-use Rattle.accepted_modules.proofs.Accepting.{accepted_parts, function_fits_word_at, function_fits_expressions, function_fits_parts, function_fits_block, expressions_fit_known, local_word_at, local_fits_parts}
+use Rattle.module_meaning.specs.Spelled.{literal_word, literal_is_within, spelling_of, is_alike, word_at}
+use Rattle.module_meaning.specs.Part.{names_nothing}
+use Rattle.module_meaning.specs.Accepted.{is_scalar_type, is_below, is_accepted, statement_fits, block_fits, function_fits, functions_fit, local_fits}
+use Rattle.module_meaning.proofs.Accepting.{accepted_parts, function_fits_word_at, function_fits_expressions, function_fits_parts, function_fits_block, expressions_fit_known, local_word_at, local_fits_parts}
 use Rattle.wgsl_text.specs.Words.{IsIdentifier, is_reserved, is_letter, is_word_byte, all_word_bytes, stands_in, is_builtin}
 use Rattle.wgsl_text.specs.Tree.{LeastInteger, Suffixed, LeastLong, TypeSpecifier, Named as NamedType}
 use Rattle.wgsl_text.specs.Token.{SuffixI, SuffixLi}
@@ -31,9 +31,10 @@ use Rattle.shader_runs.proofs.Update.{and_left, and_right}
 use Rattle.shader_runs.proofs.Sources.{forgotten_named}
 use Rattle.naga_names.proofs.Counts.{element}
 use Rattle.naga_form.specs.Form.{parameters_form, result_form, function_form, functions_form, PlainForm, ValueForm, ReferenceForm, as_value, as_reference, own_plain, own_if, standing_plain, plain_below, plain_form, value_form, let_form, then_if, lets_form, return_line, simple_form, loop_form, label_form, labels_form, line_form, lines_form, cases_form, locals_form, written_program}
-use Rattle.naga_form.specs.Premises.{nothing_named, handles_are_counted}
-use Rattle.naga_form.specs.Names.{module_names, wgsl_names, numbered_text, numbered_name}
-use Rattle.naga_form.specs.Types.{type_names, told_type}
+use Rattle.module_meaning.specs.Premises.{nothing_named, handles_are_counted}
+use Rattle.module_meaning.specs.Names.{module_names, wgsl_names, numbered_text, numbered_name}
+use Rattle.module_meaning.specs.Types.{type_names}
+use Rattle.naga_form.specs.Types.{told_type}
 use Rattle.naga_form.proofs.WrittenTypes.{is_type_at, told_is, known_spelled}
 use Rattle.naga_form.specs.Literals.{literal_form}
 use Rattle.naga_form.proofs.Facts.{further, from_start}
@@ -51,7 +52,7 @@ use Rattle.wgsl_text.specs.Tree as tree
 use Rattle.shader_runs.specs.World.{update}
 use Rattle.shader_runs.specs.Program.{expression_of, operands_of, binds, binds_as, from, holds_continue}
 use Rattle.shader_runs.specs.Scope.{Standing, Absent, Barred, Everywhere, Inline, Named, Handles, Naming, bound_name, usable_all, is_pure, is_constant_below, start_standing, at_start, unbound, emitted, after_one, given_after, given_by, given_by_all, after_emit, after, after_all, forgotten_if}
-use Rattle.naga_form.specs.Shapes.{expression_shape, statement_shape, statements_shape, function_naming}
+use Rattle.module_meaning.specs.Shapes.{expression_shape, statement_shape, statements_shape, function_naming}
 use Rattle.naga_form.proofs.Fits.{local_item, not_given, nothing_outside}
 
 -- ---- literals

@@ -13,9 +13,9 @@ use Rattle.naga_ir.specs.declared.operators.BinaryOperator.TheVariants as operat
 use Rattle.naga_info.specs.declared.info.ExpressionInfo.{ExpressionInfo}
 use Rattle.naga_info.specs.declared.info.ModuleInfo.{ModuleInfo}
 use Rattle.naga_info.proofs.Options.{then_some}
-use Rattle.accepted_modules.specs.Accepted.{is_accepted, function_fits, functions_fit}
-use Rattle.accepted_modules.specs.Types.{word_at}
-use Rattle.accepted_modules.proofs.Accepting.{accepted_functions_fit, function_fits_word_at, local_word_at}
+use Rattle.module_meaning.specs.Accepted.{is_accepted, function_fits, functions_fit}
+use Rattle.module_meaning.specs.Spelled.{word_at}
+use Rattle.module_meaning.proofs.Accepting.{accepted_functions_fit, function_fits_word_at, local_word_at}
 use Rattle.naga_names.specs.Keys.{NameMap}
 use Rattle.shader_runs.specs.Program.{expression_of}
 use Rattle.shader_runs.specs.Scope.{Naming}
@@ -23,12 +23,12 @@ use Rattle.shader_runs.specs.Resolution.{text_targets}
 use Rattle.shader_runs.specs.Identifiers.{LeafStands, LeavesStand}
 use Rattle.shader_runs.proofs.Resolution.{resolves_as_meant}
 use Rattle.shader_runs.proofs.Update.{and_left, and_right}
-use Rattle.naga_form.specs.Names.{NamesAreCounted, module_names}
-use Rattle.naga_form.specs.Types.{declared_type}
-use Rattle.naga_form.specs.Shapes.{binary_shape, expression_shape, function_shape, function_shapes, program_shape, namings_from, namings, outer_names, function_naming}
+use Rattle.module_meaning.specs.Names.{NamesAreCounted, module_names}
+use Rattle.module_meaning.specs.Types.{declared_type}
+use Rattle.module_meaning.specs.Shapes.{binary_shape, expression_shape, function_shape, function_shapes, program_shape, namings_from, namings, outer_names, function_naming}
 use Rattle.naga_form.specs.Form.{written_program}
-use Rattle.naga_form.specs.Premises.{nothing_named, ScopesHold}
-use Rattle.naga_form.specs.Resolution.{ResolvesAs}
+use Rattle.module_meaning.specs.Premises.{nothing_named, ScopesHold}
+use Rattle.module_meaning.specs.Resolution.{ResolvesAs}
 use Rattle.naga_form.proofs.Fits.{mapped_length, at_any}
 use Rattle.naga_form.proofs.ScopeRules.{scopes_are_checked}
 use Rattle.naga_form.proofs.Runs.{program_reads, module_fits}

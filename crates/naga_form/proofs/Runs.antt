@@ -9,16 +9,16 @@ use Rattle.indexmap.proofs.ReorderLemmas.{map-reverse}
 use Rattle.naga_ir.specs.declared.module.Function as ir_function
 use Rattle.naga_ir.specs.declared.module.Module.{Module}
 use Rattle.naga_ir.specs.declared.types.Type_.{Type_}
-use Rattle.accepted_modules.specs.Part.{names_nothing}
-use Rattle.accepted_modules.specs.Accepted.{is_scalar_type, is_accepted, function_fits, functions_fit}
+use Rattle.module_meaning.specs.Part.{names_nothing}
+use Rattle.module_meaning.specs.Accepted.{is_scalar_type, is_accepted, function_fits, functions_fit}
 use Rattle.naga_info.specs.declared.info.ExpressionInfo.{ExpressionInfo}
 use Rattle.naga_info.specs.declared.info.ModuleInfo.{ModuleInfo}
 use Rattle.std.specs.Option.{option_map_or, is_some}
 use Rattle.naga_ir.specs.declared.expression.Literal.{Literal}
 use Rattle.naga_ir.specs.declared.expression.Expression as ir
 use Rattle.naga_ir.specs.declared.expression.Expression.TheVariants as expression
-use Rattle.accepted_modules.specs.Types.{literal_word}
-use Rattle.accepted_modules.proofs.Accepting.{accepted_parts, function_fits_word_at}
+use Rattle.module_meaning.specs.Spelled.{literal_word}
+use Rattle.module_meaning.proofs.Accepting.{accepted_parts, function_fits_word_at}
 use Rattle.naga_form.specs.Literals.{LiteralsAreWritten, literal_is_written}
 use Rattle.naga_names.specs.Keys.{NameMap}
 use Rattle.naga_names.specs.declared.key.NameKey.TheVariants as key
@@ -34,11 +34,12 @@ use Rattle.shader_runs.proofs.Names.{length-functions_of}
 use Rattle.shader_runs.proofs.Update.{and_left, and_right}
 use Rattle.naga_names.proofs.Counts.{element}
 use Rattle.naga_form.specs.Form.{functions_form, written_program}
-use Rattle.naga_form.specs.Premises.{nothing_named, scope_holds, ScopesHold}
-use Rattle.naga_form.specs.Names.{NamesAreCounted, module_names, function_name}
-use Rattle.naga_form.specs.Shapes.{function_shapes, program_shape, namings_from, namings, outer_names, function_naming}
-use Rattle.naga_form.specs.Abstraction.{function_read, program_read, is_request}
-use Rattle.naga_form.specs.Faithful.{RunsAs}
+use Rattle.module_meaning.specs.Premises.{nothing_named, scope_holds, ScopesHold}
+use Rattle.module_meaning.specs.Names.{NamesAreCounted, module_names, function_name}
+use Rattle.module_meaning.specs.Shapes.{function_shapes, program_shape, namings_from, namings, outer_names, function_naming}
+use Rattle.text_meaning.specs.Abstraction.{function_read, program_read}
+use Rattle.wgsl_text.specs.Requests.{is_request}
+use Rattle.module_meaning.specs.Faithful.{RunsAs}
 use Rattle.naga_form.proofs.Facts.{further, from_start}
 use Rattle.naga_form.proofs.Abstractions.{locals_spelled, function_reads}
 use Rattle.naga_form.proofs.Fits.{function_fits_shape}

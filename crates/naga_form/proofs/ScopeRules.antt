@@ -10,8 +10,8 @@ use Rattle.naga_ir.specs.declared.module.Module.{Module}
 use Rattle.naga_ir.specs.declared.types.Type_.{Type_}
 use Rattle.naga_info.specs.declared.info.ExpressionInfo.{ExpressionInfo}
 use Rattle.naga_info.specs.declared.info.ModuleInfo.{ModuleInfo}
-use Rattle.accepted_modules.specs.Accepted.{is_accepted, function_fits, functions_fit}
-use Rattle.accepted_modules.proofs.Accepting.{accepted_functions_fit}
+use Rattle.module_meaning.specs.Accepted.{is_accepted, function_fits, functions_fit}
+use Rattle.module_meaning.proofs.Accepting.{accepted_functions_fit}
 use Rattle.naga_names.specs.Keys.{NameMap}
 use Rattle.shader_runs.specs.Program as shapes
 use Rattle.shader_runs.specs.Program.{expression_of, operands_of}
@@ -20,9 +20,9 @@ use Rattle.shader_runs.specs.Form.{functions_of}
 use Rattle.shader_runs.specs.Premises.{AllBelow}
 use Rattle.shader_runs.proofs.ScopeRules.{scope_check_is_the_rules}
 use Rattle.shader_runs.proofs.Update.{and_left, and_right}
-use Rattle.naga_form.specs.Names.{module_names}
-use Rattle.naga_form.specs.Premises.{scope_holds, EachScopeHolds, ScopesHold}
-use Rattle.naga_form.specs.Shapes.{function_shapes, program_shape, namings_from, namings, function_naming}
+use Rattle.module_meaning.specs.Names.{module_names}
+use Rattle.module_meaning.specs.Premises.{scope_holds, EachScopeHolds, ScopesHold}
+use Rattle.module_meaning.specs.Shapes.{function_shapes, program_shape, namings_from, namings, function_naming}
 use Rattle.naga_form.proofs.Fits.{ordered}
 
 pub functions_of-map : (ns : List Naming) → functions_of ns ≡ map (λ n. n.function) ns

@@ -39,7 +39,8 @@ use Rattle.wgsl_text.proofs.WordLemmas.{table_word, address_spaces_free, accesse
 use Rattle.naga_form.specs.Readable.{LengthIsWithin, InnerIsWithin, ResolutionIsWithin, AreNamed}
 use Rattle.naga_words.specs.Words.{vector_word, matrix_word, cooperative_word, image_word, sampler_word}
 use Rattle.naga_words.specs.Spelling.{is_struct}
-use Rattle.naga_form.specs.TypeTrees.{of_one, of_two, scalar_tree, value_tree, pointer_tree, pointer_tree_in, value_pointer_tree_in, array_tree, image_tree, ray_tree, inner_tree_by, found_tree_by, tree_within, type_tree, resolution_tree}
+use Rattle.wgsl_text.specs.Templates.{of_one, of_two, pointer_tree}
+use Rattle.naga_form.specs.TypeTrees.{scalar_tree, value_tree, pointer_tree_in, value_pointer_tree_in, array_tree, image_tree, ray_tree, inner_tree_by, found_tree_by, tree_within, type_tree, resolution_tree}
 use Rattle.naga_words.specs.Contexts.{Names}
 
 -- ---- words

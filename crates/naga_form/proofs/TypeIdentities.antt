@@ -4,13 +4,13 @@ use Rattle.std.proofs.Math.Bridge.{le_prop}
 use Rattle.std.specs.Str.{bytes_eq}
 use Rattle.std.specs.Prelude.{if◌then◌else◌}
 use Rattle.std.specs.Option.{option_map, option_map_or, option_and_then}
-use Rattle.accepted_modules.specs.Types.{word_of_width, word_of_type, word_at, pointer_spelling, spelling, spelling_of}
+use Rattle.module_meaning.specs.Spelled.{word_of_width, word_of_type, word_at, pointer_spelling, spelling, spelling_of}
 use Rattle.naga_info.specs.declared.info.TypeResolution.{TypeResolution}
 use Rattle.naga_info.specs.declared.info.TypeResolution.TheVariants.{Handle, Value}
 use Rattle.naga_info.specs.Resolution.{inner_of as resolved}
 use Rattle.naga_ir.specs.declared.types.Type_.{Type_}
 use Rattle.shader_runs.specs.Value.{ValueType, BooleanType, IntegerType, PointerType, OtherType}
-use Rattle.naga_form.specs.Types.{type_spelled, type_told, value_type, integer_words}
+use Rattle.module_meaning.specs.Types.{type_spelled, type_told, value_type, integer_words}
 use Rattle.wgsl_text.specs.Words.{stands_in}
 use Rattle.std.specs.List.{starts_with}
 use Rattle.std.specs.Bool.{nat_eq}
@@ -37,7 +37,7 @@ use Rattle.naga_ir.specs.declared.types.TypeInner.{TypeInner}
 use Rattle.naga_ir.specs.declared.types.TypeInner.TheVariants as inner
 use Rattle.naga_words.specs.Spelling.{is_struct}
 use Rattle.wgsl_words.specs.Words.{format_word}
-use Rattle.naga_form.specs.TypeIdentity.{Identity, Nothing, StructAt, Itself, truth_number, kind_number, vector_number, components_number, cooperative_number, role_number, space_number, space_bits, dimension_number, length_code, class_code, inner_code, identity, identity_at, identity_code, unspelled}
+use Rattle.module_meaning.specs.TypeIdentity.{Identity, Nothing, StructAt, Itself, truth_number, kind_number, vector_number, components_number, cooperative_number, role_number, space_number, space_bits, dimension_number, length_code, class_code, inner_code, identity, identity_at, identity_code, unspelled}
 
 -- ---- what each number stands for
 abbrev truth_of : ℕ → Bool

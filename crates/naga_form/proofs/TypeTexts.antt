@@ -30,7 +30,8 @@ use Rattle.naga_words.specs.Parts.{Part, Word, Shown, Missing, IsText, NoParts, 
 use Rattle.naga_words.specs.Words.{vector_word, matrix_word, cooperative_word, image_word, role_tail, acceleration_structure_text, ray_query_text}
 use Rattle.naga_words.specs.Values.{scalar_parts_of, template_parts, value_parts, pointer_in, value_pointer_parts, access_parts, storage_image_parts, image_parts}
 use Rattle.naga_words.specs.Spelling.{length_parts, inner_parts, pointer_parts, array_parts, is_struct, inner_parts_by, found_parts_by, parts_within, type_parts}
-use Rattle.naga_form.specs.TypeTrees.{of_one, of_two, value_tree, pointer_tree, pointer_tree_in, value_pointer_tree_in, array_tree, image_tree, ray_tree, inner_tree, inner_tree_by, found_tree_by, tree_within, type_tree}
+use Rattle.wgsl_text.specs.Templates.{of_one, of_two, pointer_tree}
+use Rattle.naga_form.specs.TypeTrees.{value_tree, pointer_tree_in, value_pointer_tree_in, array_tree, image_tree, ray_tree, inner_tree, inner_tree_by, found_tree_by, tree_within, type_tree}
 use Rattle.naga_words.specs.Contexts.{Names, writer_context}
 
 -- the only text of parts that are words alone

@@ -16,15 +16,16 @@ use Rattle.naga_ir.specs.declared.types.TypeInner.TheVariants as inner
 use Rattle.naga_info.specs.declared.info.ExpressionInfo.{ExpressionInfo}
 use Rattle.naga_info.specs.declared.info.TypeResolution.{TypeResolution}
 use Rattle.naga_info.specs.declared.info.TypeResolution.TheVariants.{Handle, Value}
-use Rattle.accepted_modules.specs.Accepted.{is_scalar_type, function_fits}
+use Rattle.module_meaning.specs.Accepted.{is_scalar_type, function_fits}
 use Rattle.naga_info.specs.Resolution.{inner_of}
-use Rattle.accepted_modules.specs.Types.{word_of_width, word_of_type, word_at, pointer_spelling, spelling, spelling_of}
+use Rattle.module_meaning.specs.Spelled.{word_of_width, word_of_type, word_at, pointer_spelling, spelling, spelling_of}
 use Rattle.naga_info.proofs.Options.{map_some, then_some}
-use Rattle.accepted_modules.proofs.Accepting.{scalar_types_word_at, function_fits_expressions, function_fits_word_at}
+use Rattle.module_meaning.proofs.Accepting.{scalar_types_word_at, function_fits_expressions, function_fits_word_at}
 use Rattle.wgsl_words.specs.Words.{scalar_word_of, space_word, space_access_word}
 use Rattle.naga_names.specs.Keys.{NameMap}
 use Rattle.naga_words.specs.Contexts.{names_of, Names as TypeNames}
-use Rattle.naga_form.specs.TypeTrees.{of_two, inner_tree, named_tree_by, pointer_tree_in, found_tree_by, tree_within, type_tree, resolution_tree}
+use Rattle.wgsl_text.specs.Templates.{of_two}
+use Rattle.naga_form.specs.TypeTrees.{inner_tree, named_tree_by, pointer_tree_in, found_tree_by, tree_within, type_tree, resolution_tree}
 use Rattle.wgsl_text.specs.Grammar.{IsType}
 use Rattle.wgsl_text.specs.Tables.{scalar_words}
 use Rattle.wgsl_text.specs.Tree.{TypeSpecifier, Named}

@@ -15,7 +15,7 @@ use Rattle.naga_ir.specs.declared.module.Module.{Module}
 use Rattle.naga_ir.specs.declared.types.Type_.{Type_}
 use Rattle.naga_names.specs.Keys.{NameMap}
 use Rattle.wgsl_text.specs.Tree.{Truth, Expression, Constant, Name, Statement, Return, ReturnValue, Statements, NoStatements, Then, Parameter, Result, NoResult, ResultOf, Function, Program, no_declarations, TypeSpecifier, Binary, AddressOf, Dereference, Let, TypedLet, Assign, Break, Continue, Discard, If, Loop, LoopBreakIf, Switch, Block, Cases, NoCases, Case, Label, DefaultLabel, SignedLabel, UnsignedLabel, Labels, LastLabel, MoreLabels, Local}
-use Rattle.naga_form.specs.Names.{function_name, argument_name, module_names}
+use Rattle.module_meaning.specs.Names.{function_name, argument_name, module_names}
 use Rattle.naga_words.specs.Contexts.{names_of, Names as TypeNames}
 use Rattle.naga_form.specs.Types.{type_form, told_type}
 use Rattle.naga_form.specs.Literals.{literal_form}
@@ -25,7 +25,7 @@ use Rattle.naga_info.specs.declared.info.ModuleInfo.{ModuleInfo}
 use Rattle.shader_runs.specs.Program.{binds, from}
 use Rattle.shader_runs.specs.Scope.{Standing, Named, Handles, Naming, bound_name, at_start, given_after, given_by, given_by_all, after_one, after, after_all}
 use Rattle.naga_form.specs.Operators.{operator_form}
-use Rattle.naga_form.specs.Shapes.{statement_shape, statements_shape, function_naming}
+use Rattle.module_meaning.specs.Shapes.{statement_shape, statements_shape, function_naming}
 
 -- a plain form: a value or a reference
 pub data PlainForm : Type 0 where

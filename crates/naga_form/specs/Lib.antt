@@ -1,17 +1,7 @@
-pub mod Abstraction
-pub mod Bindings
-pub mod Faithful
 pub mod Form
-pub mod Interface
 pub mod Literals
-pub mod Meanings
-pub mod Names
 pub mod OperatorTable
 pub mod Operators
-pub mod Premises
 pub mod Readable
-pub mod Resolution
-pub mod Shapes
-pub mod TypeIdentity
 pub mod TypeTrees
 pub mod Types

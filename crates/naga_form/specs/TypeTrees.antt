@@ -22,19 +22,8 @@ use Rattle.naga_ir.specs.declared.image.ImageDimension.{ImageDimension}
 use Rattle.wgsl_words.specs.Words.{scalar_word, space_word, space_access_word, image_access_word, role_word, format_word}
 use Rattle.naga_words.specs.Words.{vector_word, matrix_word, cooperative_word, image_word, sampler_word}
 use Rattle.naga_words.specs.Contexts.{Names}
-use Rattle.naga_words.specs.Spelling.{Context, is_struct}
-use Rattle.naga_words.specs.Parts.{Word, Missing}
-
--- a word with one part, two or three
-abbrev pub of_one : List ℕ → TypeSpecifier → TypeSpecifier
-of_one word part = Template word (TypePart part NoParts)
-
-abbrev pub of_two : List ℕ → TypeSpecifier → TypeSpecifier → TypeSpecifier
-of_two word first second = Template word (TypePart first (TypePart second NoParts))
-
-abbrev pub of_three : List ℕ → TypeSpecifier → TypeSpecifier → TypeSpecifier → TypeSpecifier
-of_three word first second third =
-    Template word (TypePart first (TypePart second (TypePart third NoParts)))
+use Rattle.naga_words.specs.Spelling.{is_struct}
+use Rattle.wgsl_text.specs.Templates.{of_one, of_two, pointer_tree}
 
 abbrev pub scalar_tree : Scalar → Option TypeSpecifier
 scalar_tree scalar = option_map Named (scalar_word scalar)
@@ -45,12 +34,6 @@ vector_tree size scalar = option_map (of_one (vector_word size)) (scalar_tree sc
 abbrev pub value_tree : Option VectorSize → Scalar → Option TypeSpecifier
 value_tree None scalar = scalar_tree scalar
 value_tree (Some size) scalar = vector_tree size scalar
-
--- a pointer in a space that has a word, by the word of its access
-abbrev pub pointer_tree : List ℕ → Option (List ℕ) → TypeSpecifier → TypeSpecifier
-pointer_tree space None pointee = of_two (codes "ptr") (Named space) pointee
-pointer_tree space (Some access) pointee =
-    of_three (codes "ptr") (Named space) pointee (Named access)
 
 abbrev pub pointer_tree_in :
     Option (List ℕ) → Option (List ℕ) → Option TypeSpecifier → Option TypeSpecifier

@@ -13,8 +13,8 @@ use Rattle.naga_info.specs.declared.info.ExpressionInfo.{ExpressionInfo}
 use Rattle.shader_runs.specs.Program.{Expression, Constant, operands_of}
 use Rattle.shader_runs.specs.Scope.{is_pure, all_constant, is_constant_leaf, constant_test, is_constant_below, start_standing, at_start}
 use Rattle.shader_runs.specs.Premises.{AllBelow}
-use Rattle.naga_form.specs.Names.{numbered_name}
-use Rattle.naga_form.specs.Shapes.{expression_shape, function_shape, OperandsStandBefore}
+use Rattle.module_meaning.specs.Names.{numbered_name}
+use Rattle.module_meaning.specs.Shapes.{expression_shape, function_shape, OperandsStandBefore}
 use Rattle.naga_scope.specs.declared.points.Standing.{Standing}
 use Rattle.naga_scope.specs.declared.points.Standing.TheVariants.{Absent}
 use Rattle.naga_scope.specs.Standings.{standing_of, handles_of, shape_at, is_everywhere, is_constant_by, first_standing}

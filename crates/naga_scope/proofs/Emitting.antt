@@ -6,7 +6,7 @@ use Rattle.std.proofs.lemmas.Bool.{eqb-false}
 use Rattle.std.proofs.lemmas.List.{get_or-set_other, set-get_or}
 use Rattle.std.proofs.lemmas.Grind.{get_or-set_at}
 use Rattle.std.proofs.lemmas.Option.{slice_get-map, slice_get_past}
-use Rattle.accepted_modules.specs.Part.{names_nothing}
+use Rattle.module_meaning.specs.Part.{names_nothing}
 use Rattle.naga_ir.specs.declared.module.Function as ir_function
 use Rattle.naga_ir.specs.declared.types.Type_.{Type_}
 use Rattle.naga_info.specs.declared.info.ExpressionInfo.{ExpressionInfo}
@@ -15,8 +15,8 @@ use Rattle.shader_runs.specs.World.{update}
 use Rattle.shader_runs.specs.Program.{Function, binds, binds_as, expression_of, operands_of, from}
 use Rattle.shader_runs.specs.Scope as runs
 use Rattle.shader_runs.specs.Scope.{Naming, Handles, is_pure, is_new, is_emittable, usable_all, emitted, after_one, after_emit, given_after, may_emit, may_emit_all}
-use Rattle.naga_form.specs.Names.{numbered_name}
-use Rattle.naga_form.specs.Shapes.{expression_shape, function_shape, function_naming}
+use Rattle.module_meaning.specs.Names.{numbered_name}
+use Rattle.module_meaning.specs.Shapes.{expression_shape, function_shape, function_naming}
 use Rattle.naga_form.proofs.Fits.{none_is_given}
 use Rattle.naga_scope.specs.declared.points.Standing.{Standing}
 use Rattle.naga_scope.specs.declared.points.Standing.TheVariants.{Absent, Named}

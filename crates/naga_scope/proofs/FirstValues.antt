@@ -18,7 +18,7 @@ use Rattle.naga_ir.specs.declared.operators.BinaryOperator.TheVariants as operat
 use Rattle.shader_runs.specs.Program.{Function, local_count}
 use Rattle.shader_runs.specs.Scope.{Standing, Handles, usable_as, usable_if, at_start, before_local, first_values_fit}
 use Rattle.shader_runs.proofs.Update.{and_left, and_right, and_both}
-use Rattle.naga_form.specs.Shapes.{expression_shape, binary_shape, function_shape}
+use Rattle.module_meaning.specs.Shapes.{expression_shape, binary_shape, function_shape}
 use Rattle.naga_scope.specs.Standings.{names_earlier, is_earlier}
 
 -- each local with its index: its first value is in scope where it stands

@@ -5,7 +5,7 @@ use Rattle.std.specs.List.{list_all, enumerate_from}
 use mathlib.Core.List.{reverse_aux}
 use Rattle.std.proofs.lemmas.Bool.{and_parts, and_from}
 use Rattle.std.proofs.lemmas.List.{drop_all}
-use Rattle.accepted_modules.specs.Part.{names_nothing}
+use Rattle.module_meaning.specs.Part.{names_nothing}
 use Rattle.naga_ir.specs.StatementTree.{StatementTree, simple, BlockTree, no_statements, statement}
 use Rattle.naga_ir.specs.StatementViews.{tree_of, block_of}
 use Rattle.naga_ir.specs.declared.expression.Expression.TheVariants as expression
@@ -16,16 +16,16 @@ use Rattle.naga_ir.specs.declared.statement.Range.{Range}
 use Rattle.naga_ir.specs.declared.statement.Statement.{Statement}
 use Rattle.naga_ir.specs.declared.statement.Statement.TheVariants as statement_variant
 use Rattle.naga_ir.specs.declared.types.Type_.{Type_}
-use Rattle.accepted_modules.specs.Accepted.{statement_fits, block_fits, function_fits}
+use Rattle.module_meaning.specs.Accepted.{statement_fits, block_fits, function_fits}
 use Rattle.naga_ir.specs.declared.operators.BinaryOperator.{BinaryOperator}
 use Rattle.naga_info.specs.declared.info.ExpressionInfo.{ExpressionInfo}
-use Rattle.accepted_modules.proofs.Accepting.{load_word_at, binary_at}
-use Rattle.accepted_modules.proofs.Fitting.{drop_first, item_at}
+use Rattle.module_meaning.proofs.Accepting.{load_word_at, binary_at}
+use Rattle.module_meaning.proofs.Fitting.{drop_first, item_at}
 use Rattle.naga_names.specs.Keys.{NameMap}
 use Rattle.shader_runs.specs.Program.{Function, operands_of}
 use Rattle.shader_runs.specs.Premises.{AllBelow}
 use Rattle.shader_runs.specs.Scope.{Naming, Handles, after, fits, fits_all, fits_function}
-use Rattle.naga_form.specs.Shapes.{binary_shape, statement_shape, statements_shape, function_shape, function_shapes, function_naming, namings_from, OperandsStandBefore}
+use Rattle.module_meaning.specs.Shapes.{binary_shape, statement_shape, statements_shape, function_shape, function_shapes, function_naming, namings_from, OperandsStandBefore}
 use Rattle.naga_form.proofs.Fits.{none_given_by}
 use Rattle.naga_scope.specs.Flat.{holds_no_block, is_flat}
 use Rattle.naga_scope.proofs.Shaped.{operator_operands}

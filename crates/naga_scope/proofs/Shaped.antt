@@ -3,7 +3,7 @@ use Rattle.std.proofs.Common.{◌≡◌, ◌≢◌, ℕ, ◌&&◌, ◌||◌, Boo
 use Rattle.std.specs.Prelude.{IsTrue, slice_get}
 use Rattle.std.specs.Option.{option_map}
 use Rattle.std.proofs.lemmas.Option.{slice_get-map}
-use Rattle.accepted_modules.specs.Part.{names_nothing}
+use Rattle.module_meaning.specs.Part.{names_nothing}
 use Rattle.naga_ir.specs.declared.expression.Expression as ir
 use Rattle.naga_ir.specs.declared.expression.Expression.TheVariants as expression
 use Rattle.naga_ir.specs.declared.module.Function as ir_function
@@ -13,7 +13,7 @@ use Rattle.naga_ir.specs.declared.types.Type_.{Type_}
 use Rattle.naga_info.specs.declared.info.ExpressionInfo.{ExpressionInfo}
 use Rattle.shader_runs.specs.Program.{Function, operands_of, expression_of, is_counted, binds_as, binds}
 use Rattle.shader_runs.specs.Scope.{Standing, Handles, is_present, usable_as, usable, usable_all, is_pure, is_constant_leaf, is_emittable}
-use Rattle.naga_form.specs.Shapes.{binary_shape, expression_shape, function_shape}
+use Rattle.module_meaning.specs.Shapes.{binary_shape, expression_shape, function_shape}
 use Rattle.naga_form.proofs.Fits.{none_is_given}
 
 -- ---- operators

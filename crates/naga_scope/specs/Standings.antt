@@ -8,8 +8,8 @@ use Rattle.naga_ir.specs.declared.expression.Expression as ir
 use Rattle.naga_ir.specs.declared.expression.Expression.TheVariants.{LocalVariable}
 use Rattle.shader_runs.specs.Program as shapes
 use Rattle.shader_runs.specs.Scope as runs
-use Rattle.naga_form.specs.Names.{numbered_name}
-use Rattle.naga_form.specs.Shapes.{expression_shape}
+use Rattle.module_meaning.specs.Names.{numbered_name}
+use Rattle.module_meaning.specs.Shapes.{expression_shape}
 use Rattle.naga_scope.specs.declared.points.Standing.{Standing}
 use Rattle.naga_scope.specs.declared.points.Standing.TheVariants.{Absent, Barred, Everywhere, Inline, Named}
 

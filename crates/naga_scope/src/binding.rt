@@ -2,8 +2,8 @@
 
 ghost use Rattle.std.specs.Prelude.{◌≡◌, List, get_or, map, slice_get, IsTrue};
 ghost use Rattle.std.specs.Option.{option_map};
-ghost use Rattle.accepted_modules.specs.Part.{names_nothing};
-ghost use Rattle.naga_form.specs.Shapes.{function_shape};
+ghost use Rattle.module_meaning.specs.Part.{names_nothing};
+ghost use Rattle.module_meaning.specs.Shapes.{function_shape};
 ghost use Rattle.naga_ir.specs.declared.types.Type_.{Type_};
 ghost use Rattle.shader_runs.specs.Program.{binds};
 

@@ -1,10 +1,10 @@
 //! The check that each expression is in scope where it is used.
 
 ghost use Rattle.std.specs.Prelude.{◌≡◌, ◌-◌, ◌^◌, ℕ, List, length, nat_le, IsTrue, IfOk};
-ghost use Rattle.accepted_modules.specs.Part.{names_nothing};
-ghost use Rattle.naga_form.specs.Premises.{handles_are_counted, nothing_named, scope_holds};
-ghost use Rattle.naga_form.specs.Shapes.{function_shape, function_naming, statement_shape, OperandsStandBefore};
-ghost use Rattle.accepted_modules.specs.Accepted.{is_accepted};
+ghost use Rattle.module_meaning.specs.Part.{names_nothing};
+ghost use Rattle.module_meaning.specs.Premises.{handles_are_counted, nothing_named, scope_holds};
+ghost use Rattle.module_meaning.specs.Shapes.{function_shape, function_naming, statement_shape, OperandsStandBefore};
+ghost use Rattle.module_meaning.specs.Accepted.{is_accepted};
 ghost use Rattle.naga_info.specs.declared.info.ExpressionInfo.{ExpressionInfo};
 ghost use Rattle.naga_ir.specs.StatementViews.{tree_of};
 ghost use Rattle.naga_ir.specs.declared.types.Type_.{Type_};

@@ -2,8 +2,8 @@
 
 ghost use Rattle.std.specs.Prelude.{◌≡◌, ◌&&◌, ◌^◌, ℕ, List, length, nat_le, get_or, IsTrue, IfOk, Some};
 ghost use Rattle.std.specs.Option.{option_map};
-ghost use Rattle.accepted_modules.specs.Part.{names_nothing};
-ghost use Rattle.naga_form.specs.Shapes.{expression_shape, function_shape, function_naming, OperandsStandBefore};
+ghost use Rattle.module_meaning.specs.Part.{names_nothing};
+ghost use Rattle.module_meaning.specs.Shapes.{expression_shape, function_shape, function_naming, OperandsStandBefore};
 ghost use Rattle.naga_info.specs.declared.info.ExpressionInfo.{ExpressionInfo};
 ghost use Rattle.naga_ir.specs.declared.types.Type_.{Type_};
 ghost use Rattle.naga_names.specs.Keys.{NameMap};

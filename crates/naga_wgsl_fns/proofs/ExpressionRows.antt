@@ -10,9 +10,9 @@ use Rattle.shader_runs.specs.Premises.{AllBelow}
 use Rattle.shader_runs.specs.Scope.{Handles, Naming}
 use Rattle.wgsl_words.specs.Words.{operator_text}
 use Rattle.naga_form.proofs.Operators.{operator_row}
-use Rattle.naga_form.specs.Names.{numbered_name}
+use Rattle.module_meaning.specs.Names.{numbered_name}
 use Rattle.naga_form.specs.Operators.{operator_form}
-use Rattle.naga_form.specs.Shapes.{expression_shape, OperandsStandBefore}
+use Rattle.module_meaning.specs.Shapes.{expression_shape, OperandsStandBefore}
 use Rattle.naga_form.specs.Form.{PlainForm, ValueForm, as_value, as_reference, own_plain, own_if, standing_plain, plain_below, plain_form, value_form}
 use Rattle.naga_scope.specs.Standings.{handles_of, standing_of}
 use Rattle.naga_scope.specs.declared.points.Standing.{Standing}

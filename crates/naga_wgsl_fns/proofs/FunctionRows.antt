@@ -11,15 +11,15 @@ use Rattle.naga_ir.specs.declared.module.FunctionResult.{FunctionResult}
 use Rattle.naga_ir.specs.declared.module.LocalVariable.{LocalVariable}
 use Rattle.naga_info.specs.declared.info.ExpressionInfo.{ExpressionInfo}
 use Rattle.naga_info.specs.declared.info.ModuleInfo.{ModuleInfo}
-use Rattle.accepted_modules.specs.Accepted.{is_accepted, function_fits}
-use Rattle.accepted_modules.specs.Part.{function_is_written, is_written_so_far}
-use Rattle.accepted_modules.proofs.Accepting.{accepted_types_are_scalar, accepted_functions_fit, list_all_at, functions_fit_at}
+use Rattle.module_meaning.specs.Accepted.{is_accepted, function_fits}
+use Rattle.module_meaning.specs.Part.{function_is_written, is_written_so_far}
+use Rattle.module_meaning.proofs.Accepting.{accepted_types_are_scalar, accepted_functions_fit, list_all_at, functions_fit_at}
 use Rattle.naga_names.specs.Keys.{names_in}
 use Rattle.naga_names.proofs.Counts.{element}
 use Rattle.shader_runs.specs.Scope.{Handles}
-use Rattle.naga_form.specs.Names.{HasNamesOf, module_names}
+use Rattle.module_meaning.specs.Names.{HasNamesOf, module_names}
 use Rattle.naga_form.specs.Form.{function_form, lines_form, locals_form, parameter_form, parameters_form, result_form, value_form}
-use Rattle.accepted_modules.proofs.Part.{functions_are_written}
+use Rattle.module_meaning.proofs.Part.{functions_are_written}
 use Rattle.naga_scope.specs.declared.points.Standing.{Standing}
 use Rattle.naga_words.specs.declared.sink.SinkError.{SinkError}
 use Rattle.naga_words.specs.declared.sink.SinkError.TheVariants.{Failed, Memory}

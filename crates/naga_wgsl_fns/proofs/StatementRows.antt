@@ -13,11 +13,11 @@ use Rattle.naga_ir.specs.declared.module.FunctionResult.{FunctionResult}
 use Rattle.naga_ir.specs.declared.types.Type_.{Type_}
 use Rattle.naga_info.specs.declared.info.ExpressionInfo.{ExpressionInfo}
 use Rattle.naga_back.specs.Indentation.{indentation}
-use Rattle.accepted_modules.specs.Accepted.{statement_fits, block_fits}
+use Rattle.module_meaning.specs.Accepted.{statement_fits, block_fits}
 use Rattle.shader_runs.specs.Program.{binds, from}
 use Rattle.shader_runs.specs.Scope.{Handles, Naming, after, after_all, after_emit, after_one, bound_name, given_after, given_by_all}
-use Rattle.naga_form.specs.Names.{numbered_name}
-use Rattle.naga_form.specs.Shapes.{statement_shape, statements_shape}
+use Rattle.module_meaning.specs.Names.{numbered_name}
+use Rattle.module_meaning.specs.Shapes.{statement_shape, statements_shape}
 use Rattle.naga_form.specs.Form.{as_reference, as_value, cases_form, let_form, lets_form, line_form, lines_form, loop_form, own_if, return_line, plain_form, then_if, value_form}
 use Rattle.naga_scope.specs.declared.points.Standing.{Standing}
 use Rattle.naga_scope.specs.Standings.{handles_of}

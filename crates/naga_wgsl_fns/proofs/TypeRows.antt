@@ -9,11 +9,11 @@ use Rattle.naga_ir.specs.declared.types.AddressSpace.TheVariants as space
 use Rattle.naga_ir.specs.declared.types.Type_.{Type_}
 use Rattle.naga_ir.specs.declared.types.TypeInner.{TypeInner}
 use Rattle.naga_ir.specs.declared.types.TypeInner.TheVariants as inner
-use Rattle.accepted_modules.specs.Accepted.{is_scalar_type}
+use Rattle.module_meaning.specs.Accepted.{is_scalar_type}
 use Rattle.naga_info.specs.Resolution.{inner_of}
-use Rattle.accepted_modules.specs.Types.{word_of_type, word_at, pointer_spelling, spelling, spelling_of}
+use Rattle.module_meaning.specs.Spelled.{word_of_type, word_at, pointer_spelling, spelling, spelling_of}
 use Rattle.naga_info.proofs.Options.{map_some, then_some}
-use Rattle.accepted_modules.proofs.Accepting.{list_all_at}
+use Rattle.module_meaning.proofs.Accepting.{list_all_at}
 use Rattle.naga_names.specs.Keys.{NameMap, names_in}
 use Rattle.naga_info.specs.declared.info.TypeResolution.{TypeResolution}
 use Rattle.naga_info.specs.declared.info.TypeResolution.TheVariants as resolution
@@ -29,7 +29,7 @@ use Rattle.naga_form.proofs.TypeTexts.{only_text, lacks_unknown, type_row, inner
 use Rattle.wgsl_text.specs.Reading.{type_layout}
 use Rattle.wgsl_text.specs.Tree.{TypeSpecifier, Named}
 use Rattle.wgsl_text.proofs.RowText.{text-append}
-use Rattle.naga_form.specs.Names.{module_names}
+use Rattle.module_meaning.specs.Names.{module_names}
 use Rattle.naga_form.proofs.WrittenTypes.{HasForm, word_has_form, resolution_has_form}
 use Rattle.naga_words.specs.declared.sink.SinkError.{SinkError}
 use Rattle.naga_words.specs.Output.{Follows, Goes, IsReason, Lies, Seen, Wrote, joined}

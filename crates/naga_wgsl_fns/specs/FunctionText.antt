@@ -2,13 +2,14 @@
 use Rattle.std.specs.Prelude.{◌≡◌, ℕ, Bool, List, Option, Some, IsTrue, slice_get, bit_and, ◌==◌}
 use Rattle.std.specs.List.{list_all}
 use Rattle.naga_ir.specs.declared.expression.Expression.{Expression}
-use Rattle.accepted_modules.specs.Accepted.{is_scalar_type, function_fits}
-use Rattle.accepted_modules.specs.Part.{function_is_written}
+use Rattle.module_meaning.specs.Accepted.{is_scalar_type, function_fits}
+use Rattle.module_meaning.specs.Part.{function_is_written}
 use Rattle.naga_names.specs.Keys.{names_in}
 use Rattle.shader_runs.specs.Scope.{Naming}
-use Rattle.naga_form.specs.Names.{HasNamesOf, module_names}
-use Rattle.naga_form.specs.Shapes.{function_naming}
-use Rattle.naga_form.specs.Types.{told_type, type_names}
+use Rattle.module_meaning.specs.Names.{HasNamesOf, module_names}
+use Rattle.module_meaning.specs.Shapes.{function_naming}
+use Rattle.naga_form.specs.Types.{told_type}
+use Rattle.module_meaning.specs.Types.{type_names}
 use Rattle.naga_words.specs.Contexts.{Names as TypeNames}
 use Rattle.wgsl_text.specs.Tree.{TypeSpecifier}
 use Rattle.naga_back.specs.declared.flags.WriterFlags.{WriterFlags}

@@ -8,7 +8,7 @@ use Rattle.naga_ir.specs.declared.module.Module.{Module}
 use Rattle.naga_info.specs.declared.info.ExpressionInfo.{ExpressionInfo}
 use Rattle.naga_info.specs.declared.info.ModuleInfo.{ModuleInfo}
 use Rattle.shader_runs.specs.Scope.{at_start}
-use Rattle.naga_form.specs.Names.{module_names}
+use Rattle.module_meaning.specs.Names.{module_names}
 use Rattle.naga_form.specs.Form.{function_form, parameter_form, value_form}
 use Rattle.naga_form.specs.Types.{type_form}
 use Rattle.naga_scope.specs.declared.points.Standing.{Standing}

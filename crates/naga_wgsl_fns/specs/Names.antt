@@ -1,6 +1,6 @@
 -- The names that the text of a function uses.
 use Rattle.std.specs.Prelude.{ℕ, List}
-use Rattle.naga_form.specs.Names.{argument_name, function_name, local_name, module_names}
+use Rattle.module_meaning.specs.Names.{argument_name, function_name, local_name, module_names}
 use Rattle.naga_wgsl_fns.specs.declared.functions.FunctionText.{FunctionText}
 
 -- the function itself

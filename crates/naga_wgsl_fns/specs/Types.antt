@@ -7,7 +7,7 @@ use Rattle.naga_words.specs.declared.error.TypeTextError.{TypeTextError}
 use Rattle.naga_words.specs.declared.error.TypeTextError.TheVariants as type_error
 use Rattle.naga_words.specs.declared.sink.SinkError.{SinkError}
 use Rattle.naga_words.specs.declared.sink.SinkError.TheVariants as sink_error
-use Rattle.accepted_modules.specs.Types.{word_at}
+use Rattle.module_meaning.specs.Spelled.{word_at}
 use Rattle.naga_form.specs.Types.{type_form}
 use Rattle.naga_form.specs.TypeTrees.{resolution_tree}
 use Rattle.wgsl_text.specs.Tree.{TypeSpecifier, Named}

@@ -1,9 +1,9 @@
 //! Functions.
 
 ghost use Rattle.std.specs.Prelude.{◌≡◌, ◌<◌, ◌++◌, IfErr, IsTrue, OnErr, OnOk, Some, length, slice_get};
-ghost use Rattle.accepted_modules.specs.Accepted.{is_accepted, is_below};
-ghost use Rattle.accepted_modules.specs.Part.{is_written_so_far};
-ghost use Rattle.naga_form.specs.Names.{HasNamesOf};
+ghost use Rattle.module_meaning.specs.Accepted.{is_accepted, is_below};
+ghost use Rattle.module_meaning.specs.Part.{is_written_so_far};
+ghost use Rattle.module_meaning.specs.Names.{HasNamesOf};
 ghost use Rattle.naga_names.specs.Keys.{names_in};
 ghost use Rattle.naga_words.specs.Output.{Writes};
 ghost use Rattle.naga_words.specs.Sink.{IsBehind};

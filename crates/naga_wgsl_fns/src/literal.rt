@@ -2,7 +2,7 @@
 
 ghost use Rattle.std.specs.Prelude.{◌++◌, IsTrue};
 ghost use Rattle.std.specs.Option.{is_some};
-ghost use Rattle.accepted_modules.specs.Types.{literal_word};
+ghost use Rattle.module_meaning.specs.Spelled.{literal_word};
 ghost use Rattle.naga_words.specs.Output.{Writes};
 ghost use Rattle.naga_wgsl_fns.specs.Literals.{integer_text, literal_text, long_text};
 

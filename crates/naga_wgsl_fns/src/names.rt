@@ -1,7 +1,7 @@
 //! Names, of which a function's module has a text for each key.
 
 ghost use Rattle.std.specs.Prelude.{◌≡◌, ◌<◌, Some, length};
-ghost use Rattle.naga_form.specs.Names.{module_names, name_in, numbered_name};
+ghost use Rattle.module_meaning.specs.Names.{module_names, name_in, numbered_name};
 ghost use Rattle.naga_names.specs.Keys.{names_in};
 ghost use Rattle.naga_words.specs.Output.{Writes};
 ghost use Rattle.naga_wgsl_fns.specs.FunctionText.{CanWrite};

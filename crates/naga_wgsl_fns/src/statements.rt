@@ -1,9 +1,9 @@
 //! Blocks and statements.
 
 ghost use Rattle.std.specs.Prelude.{◌≡◌, ◌<◌, ◌-◌, ◌≤◌, IsTrue, length};
-ghost use Rattle.accepted_modules.specs.Accepted.{block_fits, is_below, statement_fits};
+ghost use Rattle.module_meaning.specs.Accepted.{block_fits, is_below, statement_fits};
 ghost use Rattle.naga_back.specs.Indentation.{indentation};
-ghost use Rattle.naga_form.specs.Shapes.{statement_shape};
+ghost use Rattle.module_meaning.specs.Shapes.{statement_shape};
 ghost use Rattle.naga_ir.specs.StatementViews.{tree_of};
 ghost use Rattle.naga_scope.specs.Standings.{handles_of};
 ghost use Rattle.shader_runs.specs.Program.{from};

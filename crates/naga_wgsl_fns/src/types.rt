@@ -2,7 +2,7 @@
 
 ghost use Rattle.std.specs.Prelude.{◌≡◌, ◌<◌, IsTrue, length};
 ghost use Rattle.std.specs.Option.{is_some};
-ghost use Rattle.accepted_modules.specs.Types.{spelling_of};
+ghost use Rattle.module_meaning.specs.Spelled.{spelling_of};
 ghost use Rattle.naga_words.specs.declared.error.TypeTextError.TheVariants as type_error;
 ghost use Rattle.naga_words.specs.Output.{Writes};
 ghost use Rattle.naga_wgsl_fns.specs.FunctionText.{CanWrite, tells_types};

@@ -5,25 +5,25 @@ use Rattle.std.specs.List.{enumerate_from, list_all}
 use Rattle.std.proofs.lemmas.Bool.{and_parts}
 use Rattle.naga_ir.specs.declared.module.Function.{Function}
 use Rattle.naga_ir.specs.declared.module.Module.{Module}
-use Rattle.accepted_modules.specs.Accepted.{is_accepted}
-use Rattle.accepted_modules.specs.Part.{is_written_so_far, function_is_written, names_nothing}
-use Rattle.accepted_modules.proofs.Accepting.{accepted_functions_fit, functions_fit_length}
+use Rattle.module_meaning.specs.Accepted.{is_accepted}
+use Rattle.module_meaning.specs.Part.{is_written_so_far, function_is_written, names_nothing}
+use Rattle.module_meaning.proofs.Accepting.{accepted_functions_fit, functions_fit_length}
 use Rattle.naga_info.specs.declared.info.ModuleInfo.{ModuleInfo}
 use Rattle.naga_names.specs.Keys.{NameMap}
 use Rattle.wgsl_text.specs.Reading.{Reads, HasOneReading}
 use Rattle.wgsl_text.specs.Text.{tokens}
 use Rattle.wgsl_text.specs.Tree.{Program}
 use Rattle.wgsl_text.proofs.Reading.{program_has_one_reading}
-use Rattle.naga_form.specs.Faithful.{HasInterfaceOf, RunsAs}
+use Rattle.module_meaning.specs.Faithful.{HasInterfaceOf, RunsAs}
 use Rattle.naga_form.specs.Form.{written_program}
-use Rattle.naga_form.specs.Premises.{nothing_named, scope_holds, handles_are_counted}
-use Rattle.naga_form.specs.Bindings.{BindsAs}
+use Rattle.module_meaning.specs.Premises.{nothing_named, scope_holds, handles_are_counted}
+use Rattle.module_meaning.specs.Bindings.{BindsAs}
 use Rattle.naga_form.proofs.Bindings.{binds_as}
 use Rattle.naga_form.proofs.Interfaces.{has_interface}
 use Rattle.naga_form.proofs.Programs.{is_program}
-use Rattle.naga_form.specs.Resolution.{ResolvesAs}
+use Rattle.module_meaning.specs.Resolution.{ResolvesAs}
 use Rattle.naga_form.proofs.Resolutions.{resolves}
-use Rattle.accepted_modules.proofs.Part.{functions_name_nothing}
+use Rattle.module_meaning.proofs.Part.{functions_name_nothing}
 use Rattle.naga_form.proofs.Runs.{runs_as}
 use Rattle.naga_form.proofs.ScopeRules.{scopes_are_checked}
 use Rattle.naga_words.specs.Sink.{IsBehind}

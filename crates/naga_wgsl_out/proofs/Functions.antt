@@ -6,14 +6,14 @@ use Rattle.naga_ir.specs.declared.module.Function.{Function}
 use Rattle.naga_ir.specs.declared.module.Module.{Module}
 use Rattle.naga_info.specs.declared.info.ExpressionInfo.{ExpressionInfo}
 use Rattle.naga_info.specs.declared.info.ModuleInfo.{ModuleInfo}
-use Rattle.accepted_modules.specs.Accepted.{is_accepted}
-use Rattle.accepted_modules.proofs.Accepting.{accepted_functions_fit, functions_fit_length}
+use Rattle.module_meaning.specs.Accepted.{is_accepted}
+use Rattle.module_meaning.proofs.Accepting.{accepted_functions_fit, functions_fit_length}
 use Rattle.wgsl_text.specs.Declarations.{function_pieces, functions_pieces}
 use Rattle.wgsl_text.specs.Text.{text}
 use Rattle.wgsl_text.specs.Token.{LineEnd}
 use Rattle.wgsl_text.proofs.RowText.{text-append}
 use Rattle.naga_form.specs.Form.{function_form, functions_form}
-use Rattle.naga_form.specs.Names.{module_names}
+use Rattle.module_meaning.specs.Names.{module_names}
 use Rattle.naga_wgsl_fns.specs.FunctionText.{tells_types}
 use Rattle.naga_wgsl_fns.specs.Functions.{known_of, text_of_function}
 use Rattle.naga_back.specs.declared.flags.WriterFlags.{WriterFlags}

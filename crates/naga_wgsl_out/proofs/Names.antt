@@ -15,8 +15,8 @@ use Rattle.naga_names.specs.Keys.{NameMap}
 use Rattle.naga_names.specs.Reset.{labelled_items, key_fits, HasNamedItems}
 use Rattle.naga_names.specs.declared.key.NameKey.TheVariants as key
 use Rattle.naga_names.proofs.NamedItems.{named_there, few_labels, local_stands}
-use Rattle.naga_form.specs.Names.{reserved_prefixes, wgsl_names, module_names, function_name, HasNamesOf}
-use Rattle.accepted_modules.proofs.Accepting.{list_all_at}
+use Rattle.module_meaning.specs.Names.{reserved_prefixes, wgsl_names, module_names, function_name, HasNamesOf}
+use Rattle.module_meaning.proofs.Accepting.{list_all_at}
 use Rattle.naga_form.proofs.Fits.{local_item}
 use Rattle.naga_form.proofs.Named.{name_is, function_item, argument_item, function_there, argument_there}
 use Rattle.naga_names.proofs.Counts.{element}

@@ -3,15 +3,15 @@
 -- Throughout, m is the module, and e an error of memory.
 use Rattle.std.specs.Prelude.{◌≡◌, ⊤, ℕ, List, ◌⊎◌, codes, string_bytes, IsTrue, IsFalse, Result, Ok, Err}
 use Rattle.naga_ir.specs.declared.module.Module.{Module}
-use Rattle.accepted_modules.specs.Part.{is_written_so_far}
+use Rattle.module_meaning.specs.Part.{is_written_so_far}
 use Rattle.naga_info.specs.declared.info.ModuleInfo.{ModuleInfo}
 use Rattle.naga_names.specs.Refusal.{SomeNameIsFull, SomeKeyIsFull}
 use Rattle.naga_names.specs.declared.error.NamerError.{NamerError}
 use Rattle.naga_names.specs.declared.error.NamerError.TheVariants as namer_error
 use Rattle.naga_names.specs.Keys.{NameMap}
 use Rattle.naga_names.specs.Reset.{labelled_items}
-use Rattle.naga_form.specs.Names.{wgsl_names, HasNamesOf, NamesAreCounted}
-use Rattle.naga_form.specs.Premises.{ScopesHold}
+use Rattle.module_meaning.specs.Names.{wgsl_names, HasNamesOf, NamesAreCounted}
+use Rattle.module_meaning.specs.Premises.{ScopesHold}
 use Rattle.naga_wgsl_fns.specs.Errors.{IsCustom, IsSinkWant}
 use Rattle.naga_wgsl_fns.specs.declared.error.Error.{Error}
 use Rattle.naga_wgsl_fns.specs.declared.error.Error.TheVariants.{FmtError, Custom, Unimplemented, Memory}

@@ -7,7 +7,7 @@ use Rattle.naga_ir.specs.declared.module.Function.{Function}
 use Rattle.naga_ir.specs.declared.module.Module.{Module}
 use Rattle.naga_info.specs.declared.info.ModuleInfo.{ModuleInfo}
 use Rattle.naga_form.specs.Form.{function_form, written_program}
-use Rattle.naga_form.specs.Names.{module_names}
+use Rattle.module_meaning.specs.Names.{module_names}
 use Rattle.wgsl_text.specs.Declarations.{function_pieces}
 use Rattle.wgsl_text.specs.Text.{text}
 use Rattle.wgsl_text.specs.Reading.{layout}

@@ -2,14 +2,14 @@
 
 ghost use Rattle.std.specs.Prelude.{◌≡◌, ◌<◌, ◌++◌, [], IfErr, IfOk, IsTrue, OnErr, OnOk, codes, length, string_bytes};
 ghost use Rattle.std.specs.List.{enumerate_from};
-ghost use Rattle.accepted_modules.specs.Accepted.{is_accepted};
-ghost use Rattle.accepted_modules.specs.Part.{is_written_so_far};
+ghost use Rattle.module_meaning.specs.Accepted.{is_accepted};
+ghost use Rattle.module_meaning.specs.Part.{is_written_so_far};
 ghost use Rattle.naga_names.specs.Keys.{names_in};
 ghost use Rattle.naga_words.specs.Sink.{IsBehind};
 ghost use Rattle.naga_names.specs.Refusal.{IsResetRefusal};
-ghost use Rattle.naga_form.specs.Names.{HasNamesOf, wgsl_names};
-ghost use Rattle.naga_form.specs.Resolution.{ResolvesAs};
-ghost use Rattle.naga_form.specs.Bindings.{BindsAs};
+ghost use Rattle.module_meaning.specs.Names.{HasNamesOf, wgsl_names};
+ghost use Rattle.module_meaning.specs.Resolution.{ResolvesAs};
+ghost use Rattle.module_meaning.specs.Bindings.{BindsAs};
 ghost use Rattle.naga_wgsl_fns.specs.Appends.{Appends};
 ghost use Rattle.naga_wgsl_fns.specs.FunctionText.{tells_types};
 ghost use Rattle.naga_wgsl_fns.specs.Functions.{text_of_function};

@@ -1,6 +1,6 @@
 use Rattle.std.proofs.Common.{◌≡◌, drop}
 use Rattle.naga_ir.specs.StatementViews.{block_of}
-use Rattle.accepted_modules.specs.Accepted.{block_fits}
+use Rattle.module_meaning.specs.Accepted.{block_fits}
 use Rattle.naga_acceptance.proofs.acceptance.block_fits.Given as goal
 
 abbrev pub invariant-loop-statement : goal.invariant-loop-statement

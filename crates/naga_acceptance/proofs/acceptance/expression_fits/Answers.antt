@@ -1,6 +1,6 @@
 use Rattle.std.proofs.Common.{ap, sym, ◌∙◌, Some}
-use Rattle.accepted_modules.specs.Accepted.{expression_fits}
-use Rattle.accepted_modules.specs.Operations.{expression_operations}
+use Rattle.module_meaning.specs.Accepted.{expression_fits}
+use Rattle.module_meaning.specs.Operations.{expression_operations}
 use Rattle.naga_ir.specs.declared.expression.Expression.TheVariants.{Binary}
 use Rattle.naga_acceptance.specs.Table.{all_entered, entered_where}
 use Rattle.naga_acceptance.proofs.Entering.{operation_test}

@@ -1,8 +1,8 @@
 use Rattle.std.proofs.Common.{◌≡◌, ◌≢◌, ◌<◌, length, ap, sym, ◌∙◌, arith, slice_get, Some}
 use Rattle.std.proofs.lemmas.Option.{slice_get-get_or}
-use Rattle.accepted_modules.specs.Accepted.{expression_fits}
-use Rattle.accepted_modules.specs.Operations.{expression_operations, function_operations}
-use Rattle.accepted_modules.proofs.Fitting.{expressions_fit-unequal}
+use Rattle.module_meaning.specs.Accepted.{expression_fits}
+use Rattle.module_meaning.specs.Operations.{expression_operations, function_operations}
+use Rattle.module_meaning.proofs.Fitting.{expressions_fit-unequal}
 use Rattle.naga_acceptance.specs.Table.{all_entered, entered_where}
 use Rattle.naga_acceptance.proofs.Entering.{ExpressionIsEntered, expression_next, expression_not}
 use Rattle.naga_acceptance.proofs.acceptance.expressions_fit.Goals as goal

@@ -1,6 +1,6 @@
 use Rattle.std.proofs.Common.{◌≡◌, length, Some}
-use Rattle.accepted_modules.specs.Accepted.{expressions_fit}
-use Rattle.accepted_modules.specs.Operations.{function_operations}
+use Rattle.module_meaning.specs.Accepted.{expressions_fit}
+use Rattle.module_meaning.specs.Operations.{function_operations}
 use Rattle.naga_acceptance.specs.Table.{all_entered, entered_where}
 use Rattle.naga_acceptance.proofs.Entering.{expressions_entered}
 use Rattle.naga_acceptance.proofs.acceptance.expressions_fit.Given as goal

@@ -1,7 +1,7 @@
 use Rattle.std.proofs.Common.{◌≡◌, ◌≢◌, ◌<◌, length, ap, sym, ◌∙◌, arith, slice_get, slice_index_or, Some}
-use Rattle.accepted_modules.specs.Accepted.{function_fits}
-use Rattle.accepted_modules.specs.Operations.{function_operations, all_operations}
-use Rattle.accepted_modules.proofs.Fitting.{functions_fit-unequal}
+use Rattle.module_meaning.specs.Accepted.{function_fits}
+use Rattle.module_meaning.specs.Operations.{function_operations, all_operations}
+use Rattle.module_meaning.proofs.Fitting.{functions_fit-unequal}
 use Rattle.naga_acceptance.specs.Table.{all_entered, entered_where}
 use Rattle.naga_acceptance.proofs.Entering.{FunctionIsEntered, function_next, function_not}
 use Rattle.naga_acceptance.proofs.acceptance.functions_fit.Goals as goal

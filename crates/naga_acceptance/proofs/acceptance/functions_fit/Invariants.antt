@@ -1,6 +1,6 @@
 use Rattle.std.proofs.Common.{◌≡◌, length, Some}
-use Rattle.accepted_modules.specs.Accepted.{functions_fit}
-use Rattle.accepted_modules.specs.Operations.{all_operations}
+use Rattle.module_meaning.specs.Accepted.{functions_fit}
+use Rattle.module_meaning.specs.Operations.{all_operations}
 use Rattle.naga_acceptance.specs.Table.{all_entered, entered_where}
 use Rattle.naga_acceptance.proofs.Entering.{functions_entered}
 use Rattle.naga_acceptance.proofs.acceptance.functions_fit.Given as goal

@@ -1,7 +1,7 @@
 use Rattle.std.proofs.Common.{ap, ◌∙◌}
 use Rattle.std.specs.List.{list_all}
-use Rattle.accepted_modules.specs.Accepted.{local_fits}
-use Rattle.accepted_modules.proofs.Fitting.{list_all-pairs}
+use Rattle.module_meaning.specs.Accepted.{local_fits}
+use Rattle.module_meaning.proofs.Fitting.{list_all-pairs}
 use Rattle.naga_acceptance.proofs.acceptance.locals_fit.Goals as goal
 
 pub loop-local-init : goal.loop-local-init

@@ -1,6 +1,6 @@
 use Rattle.std.proofs.Common.{◌≡◌}
 use Rattle.std.specs.List.{list_all}
-use Rattle.accepted_modules.specs.Accepted.{local_fits}
+use Rattle.module_meaning.specs.Accepted.{local_fits}
 use Rattle.naga_acceptance.proofs.acceptance.locals_fit.Given as goal
 
 abbrev pub invariant-loop-local : goal.invariant-loop-local

@@ -1,7 +1,7 @@
 use Rattle.std.proofs.Common.{ap, ◌∙◌}
 use Rattle.std.specs.List.{list_all}
-use Rattle.accepted_modules.specs.Accepted.{is_scalar_type}
-use Rattle.accepted_modules.proofs.Fitting.{list_all-pairs}
+use Rattle.module_meaning.specs.Accepted.{is_scalar_type}
+use Rattle.module_meaning.proofs.Fitting.{list_all-pairs}
 use Rattle.naga_acceptance.proofs.acceptance.types_are_scalar.Goals as goal
 
 pub loop-ty-init : goal.loop-ty-init

@@ -1,6 +1,6 @@
 use Rattle.std.proofs.Common.{◌≡◌}
 use Rattle.std.specs.List.{list_all}
-use Rattle.accepted_modules.specs.Accepted.{is_scalar_type}
+use Rattle.module_meaning.specs.Accepted.{is_scalar_type}
 use Rattle.naga_acceptance.proofs.acceptance.types_are_scalar.Given as goal
 
 abbrev pub invariant-loop-ty : goal.invariant-loop-ty

@@ -1,6 +1,6 @@
 use Rattle.std.proofs.Common.{◌≡◌, drop}
 use Rattle.naga_ir.specs.StatementViews.{block_of}
-use Rattle.accepted_modules.specs.Part.{block_is_written}
+use Rattle.module_meaning.specs.Part.{block_is_written}
 use Rattle.naga_acceptance.proofs.part.block_is_written.Given as goal
 
 abbrev pub invariant-loop-statement : goal.invariant-loop-statement

@@ -1,6 +1,6 @@
 use Rattle.std.proofs.Common.{◌≡◌}
 use Rattle.std.specs.List.{list_all}
-use Rattle.accepted_modules.specs.Part.{expression_is_written}
+use Rattle.module_meaning.specs.Part.{expression_is_written}
 use Rattle.naga_acceptance.proofs.part.expressions_are_written.Given as goal
 
 abbrev pub invariant-loop-expression : goal.invariant-loop-expression

@@ -1,6 +1,6 @@
 use Rattle.std.proofs.Common.{◌≡◌}
 use Rattle.std.specs.List.{list_all}
-use Rattle.accepted_modules.specs.Part.{function_is_written}
+use Rattle.module_meaning.specs.Part.{function_is_written}
 use Rattle.naga_acceptance.proofs.part.functions_are_written.Given as goal
 
 abbrev pub invariant-loop-function : goal.invariant-loop-function

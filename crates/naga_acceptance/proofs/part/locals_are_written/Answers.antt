@@ -1,7 +1,7 @@
 use Rattle.std.proofs.Common.{ap, ◌∙◌}
 use Rattle.std.specs.List.{list_all}
-use Rattle.accepted_modules.specs.Part.{local_is_written}
-use Rattle.accepted_modules.proofs.Fitting.{list_all-pairs}
+use Rattle.module_meaning.specs.Part.{local_is_written}
+use Rattle.module_meaning.proofs.Fitting.{list_all-pairs}
 use Rattle.naga_acceptance.proofs.part.locals_are_written.Goals as goal
 
 pub loop-local-init : goal.loop-local-init

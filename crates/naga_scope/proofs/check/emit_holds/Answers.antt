@@ -1,6 +1,6 @@
 use Rattle.std.proofs.Common.{ap, sym, ◌∙◌}
 use Rattle.shader_runs.specs.Scope.{may_emit, may_emit_all, after_one, after_emit}
-use Rattle.naga_form.specs.Shapes.{function_shape, function_naming}
+use Rattle.module_meaning.specs.Shapes.{function_shape, function_naming}
 use Rattle.naga_scope.specs.Standings.{handles_of}
 use Rattle.naga_scope.proofs.Emitting.{range_none, range_holds, range_behind, range_refused}
 use Rattle.naga_scope.proofs.check.emit_holds.Goals as goal

@@ -3,7 +3,7 @@ use Rattle.naga_ir.specs.declared.types.Type_.{Type_}
 use Rattle.naga_names.specs.Keys.{NameMap}
 use Rattle.shader_runs.specs.Program.{from}
 use Rattle.shader_runs.specs.Scope.{may_emit_all, after_emit}
-use Rattle.naga_form.specs.Shapes.{function_naming}
+use Rattle.module_meaning.specs.Shapes.{function_naming}
 use Rattle.naga_scope.specs.Standings.{handles_of}
 use Rattle.naga_scope.proofs.check.emit_holds.Given as goal
 

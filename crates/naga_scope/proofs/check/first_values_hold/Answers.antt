@@ -1,6 +1,6 @@
 use Rattle.std.proofs.Common.{◌&&◌, ap, sym, ◌∙◌}
 use Rattle.shader_runs.specs.Scope.{usable_if, before_local}
-use Rattle.naga_form.specs.Shapes.{function_shape}
+use Rattle.module_meaning.specs.Shapes.{function_shape}
 use Rattle.naga_scope.proofs.FirstValues.{all_fit, all_listed}
 use Rattle.naga_scope.proofs.check.first_values_hold.Goals as goal
 

@@ -2,7 +2,7 @@ use Rattle.std.proofs.Common.{◌≡◌, List}
 use Rattle.naga_ir.specs.declared.types.Type_.{Type_}
 use Rattle.naga_info.specs.declared.info.ExpressionInfo.{ExpressionInfo}
 use Rattle.shader_runs.specs.Scope.{at_start, first_values_fit}
-use Rattle.naga_form.specs.Shapes.{function_shape}
+use Rattle.module_meaning.specs.Shapes.{function_shape}
 use Rattle.naga_scope.specs.Standings.{handles_of}
 use Rattle.naga_scope.proofs.FirstValues.{all_fit}
 use Rattle.naga_scope.proofs.check.first_values_hold.Given as goal

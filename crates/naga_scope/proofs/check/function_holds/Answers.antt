@@ -1,6 +1,6 @@
 use Rattle.std.proofs.Common.{◌&&◌, ap, sym, ◌∙◌}
 use Rattle.shader_runs.specs.Scope.{at_start, fits_all}
-use Rattle.naga_form.specs.Shapes.{function_shape, function_naming, statements_shape}
+use Rattle.module_meaning.specs.Shapes.{function_shape, function_naming, statements_shape}
 use Rattle.naga_scope.specs.Flat.{is_flat}
 use Rattle.naga_scope.specs.Standings.{handles_of}
 use Rattle.naga_scope.proofs.Holding.{flat_at, lines_hold, lines_refused, lines_end}

@@ -3,7 +3,7 @@ use Rattle.naga_ir.specs.StatementViews.{block_of}
 use Rattle.naga_ir.specs.declared.types.Type_.{Type_}
 use Rattle.naga_names.specs.Keys.{NameMap}
 use Rattle.shader_runs.specs.Scope.{at_start, fits_all}
-use Rattle.naga_form.specs.Shapes.{function_shape, function_naming, statements_shape}
+use Rattle.module_meaning.specs.Shapes.{function_shape, function_naming, statements_shape}
 use Rattle.naga_scope.specs.Standings.{handles_of}
 use Rattle.naga_scope.proofs.check.function_holds.Given as goal
 

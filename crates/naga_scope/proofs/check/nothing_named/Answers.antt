@@ -1,7 +1,7 @@
 use Rattle.std.proofs.Common.{ap, ◌∙◌}
 use Rattle.std.specs.List.{list_all}
-use Rattle.accepted_modules.specs.Part.{names_nothing}
-use Rattle.accepted_modules.proofs.Fitting.{list_all-pairs}
+use Rattle.module_meaning.specs.Part.{names_nothing}
+use Rattle.module_meaning.proofs.Fitting.{list_all-pairs}
 use Rattle.naga_scope.proofs.check.nothing_named.Goals as goal
 
 pub loop-function-init : goal.loop-function-init

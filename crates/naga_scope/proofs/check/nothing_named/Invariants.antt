@@ -1,7 +1,7 @@
 use Rattle.std.proofs.Common.{◌≡◌}
 use Rattle.std.specs.List.{list_all}
-use Rattle.accepted_modules.specs.Part.{names_nothing}
-use Rattle.naga_form.specs.Premises.{nothing_named}
+use Rattle.module_meaning.specs.Part.{names_nothing}
+use Rattle.module_meaning.specs.Premises.{nothing_named}
 use Rattle.naga_scope.proofs.check.nothing_named.Given as goal
 
 abbrev pub invariant-loop-function : goal.invariant-loop-function

@@ -1,11 +1,11 @@
 use Rattle.std.proofs.Common.{◌≡◌, ◌<◌, ◌≤◌, ◌&&◌, ◌+◌, ◌^◌, length, nat_le, drop, Some, ap, sym, ◌∙◌, arith, slice_get, slice_index_or}
 use Rattle.std.specs.List.{list_all}
 use Rattle.std.proofs.lemmas.List.{drop_all}
-use Rattle.accepted_modules.specs.Part.{names_nothing}
+use Rattle.module_meaning.specs.Part.{names_nothing}
 use Rattle.shader_runs.specs.Scope.{fits_function}
-use Rattle.accepted_modules.proofs.Accepting.{accepted_functions_fit, functions_fit_length, functions_fit_at, function_fits_block, list_all_at}
-use Rattle.naga_form.specs.Names.{module_names}
-use Rattle.naga_form.specs.Shapes.{function_shapes, namings_from}
+use Rattle.module_meaning.proofs.Accepting.{accepted_functions_fit, functions_fit_length, functions_fit_at, function_fits_block, list_all_at}
+use Rattle.module_meaning.specs.Names.{module_names}
+use Rattle.module_meaning.specs.Shapes.{function_shapes, namings_from}
 use Rattle.naga_scope.proofs.Holding.{ordered_function, accepted_flat, functions_hold, functions_refused, functions_end, all_reversed, counted_more}
 use Rattle.naga_scope.proofs.check.scope_holds.Goals as goal
 use Rattle.naga_scope.proofs.check.scope_holds.Goals.{then-not-branch, else-not-branch}

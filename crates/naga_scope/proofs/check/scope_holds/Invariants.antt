@@ -1,9 +1,9 @@
 use Rattle.std.proofs.Common.{◌≡◌, ◌&&◌, ◌^◌, length, drop, nat_le}
 use Rattle.std.specs.List.{list_all}
 use Rattle.shader_runs.specs.Scope.{fits_function}
-use Rattle.naga_form.specs.Names.{module_names}
-use Rattle.naga_form.specs.Premises.{handles_are_counted}
-use Rattle.naga_form.specs.Shapes.{function_shapes, namings_from}
+use Rattle.module_meaning.specs.Names.{module_names}
+use Rattle.module_meaning.specs.Premises.{handles_are_counted}
+use Rattle.module_meaning.specs.Shapes.{function_shapes, namings_from}
 use Rattle.naga_scope.proofs.check.scope_holds.Given as goal
 
 abbrev pub invariant-loop-index : goal.invariant-loop-index

@@ -3,7 +3,7 @@ use Rattle.naga_ir.specs.StatementViews.{tree_of}
 use Rattle.naga_ir.specs.declared.types.Type_.{Type_}
 use Rattle.naga_names.specs.Keys.{NameMap}
 use Rattle.shader_runs.specs.Scope.{after, fits, usable}
-use Rattle.naga_form.specs.Shapes.{function_shape, function_naming, statement_shape}
+use Rattle.module_meaning.specs.Shapes.{function_shape, function_naming, statement_shape}
 use Rattle.naga_scope.specs.Standings.{handles_of}
 use Rattle.naga_scope.proofs.Holding.{others_hold}
 use Rattle.naga_scope.proofs.check.statement_holds.Goals as goal

@@ -1,5 +1,5 @@
 use Rattle.std.proofs.Common.{◌≡◌, ◌<◌, ◌∙◌, arith, ap, length, subst, sym}
-use Rattle.accepted_modules.proofs.Accepting.{accepted_functions_fit, functions_fit_length}
+use Rattle.module_meaning.proofs.Accepting.{accepted_functions_fit, functions_fit_length}
 use Rattle.naga_words.proofs.Writing.{held_part_as, held_whole_as, reason_given, same_sink, writes_as}
 use Rattle.naga_wgsl_fns.specs.Errors.{IsWant}
 use Rattle.naga_wgsl_fns.proofs.FunctionRows.{can_write, reason_told, text_of_function_at}

@@ -2,7 +2,7 @@ use Rattle.std.proofs.Common.{◌<◌, ◌≤◌, length, get_or, slice_set, ap,
 use Rattle.std.proofs.lemmas.List.{get_or_default}
 use Rattle.shader_runs.specs.Program.{operands_of}
 use Rattle.shader_runs.specs.Scope.{is_pure, usable_all}
-use Rattle.naga_form.specs.Shapes.{function_shape}
+use Rattle.module_meaning.specs.Shapes.{function_shape}
 use Rattle.naga_scope.specs.declared.points.Standing.TheVariants.{Absent}
 use Rattle.naga_scope.specs.Standings.{handles_of, emitted_standing}
 use Rattle.naga_scope.proofs.Shaped.{shape_found}

@@ -2,7 +2,7 @@ use Rattle.std.proofs.Common.{◌&&◌, Some, ap, ap₂, sym, ◌∙◌}
 use Rattle.std.specs.Option.{option_map}
 use Rattle.shader_runs.specs.Program.{operands_of}
 use Rattle.shader_runs.specs.Scope.{usable, usable_all}
-use Rattle.naga_form.specs.Shapes.{expression_shape, function_shape}
+use Rattle.module_meaning.specs.Shapes.{expression_shape, function_shape}
 use Rattle.naga_scope.specs.Standings.{handles_of}
 use Rattle.naga_scope.proofs.Shaped.{load_usable, binary_usable}
 use Rattle.naga_scope.proofs.points.Scope.has_operands.Goals as goal

@@ -2,8 +2,8 @@ use Rattle.std.proofs.Common.{◌||◌, ap, refl, sym, ◌∙◌, true≢false}
 use Rattle.std.specs.Prelude.{not}
 use Rattle.shader_runs.specs.Program.{operands_of}
 use Rattle.shader_runs.specs.Scope.{is_new, is_emittable, usable_all}
-use Rattle.naga_form.specs.Names.{numbered_name}
-use Rattle.naga_form.specs.Shapes.{function_shape}
+use Rattle.module_meaning.specs.Names.{numbered_name}
+use Rattle.module_meaning.specs.Shapes.{function_shape}
 use Rattle.naga_scope.specs.Standings.{standing_of, handles_of, shape_at}
 use Rattle.naga_scope.proofs.Shaped.{shape_found}
 use Rattle.naga_scope.proofs.Emitting.{refused_old, refused_kind, allowed_by}

@@ -2,7 +2,7 @@ use Rattle.std.proofs.Common.{◌≡◌, ◌<◌, ◌&&◌, ◌+◌, [], length,
 use Rattle.std.specs.Option.{option_map}
 use Rattle.shader_runs.specs.Program.{operands_of}
 use Rattle.shader_runs.specs.Scope.{is_pure, all_constant}
-use Rattle.naga_form.specs.Shapes.{expression_shape}
+use Rattle.module_meaning.specs.Shapes.{expression_shape}
 use Rattle.naga_scope.specs.Standings.{is_constant_by, first_standing, shape_at}
 use Rattle.naga_scope.proofs.Constants.{IsStart, is_start_more, start_handles}
 use Rattle.naga_scope.proofs.points.Scope.start.Goals as goal

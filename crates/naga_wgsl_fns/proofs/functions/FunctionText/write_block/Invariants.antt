@@ -1,5 +1,5 @@
 use Rattle.std.proofs.Common.{◌≡◌, drop, length, IsTrue}
-use Rattle.accepted_modules.specs.Accepted.{block_fits}
+use Rattle.module_meaning.specs.Accepted.{block_fits}
 use Rattle.naga_ir.specs.StatementViews.{block_of}
 use Rattle.naga_words.specs.Output.{seen}
 use Rattle.naga_words.proofs.Writing.{Leaves}

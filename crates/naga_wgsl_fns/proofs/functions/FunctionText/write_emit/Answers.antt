@@ -1,5 +1,5 @@
 use Rattle.std.proofs.Common.{◌≡◌, ℕ, List, refl, sym, ap, ◌∙◌}
-use Rattle.naga_form.specs.Names.{module_names}
+use Rattle.module_meaning.specs.Names.{module_names}
 use Rattle.naga_scope.specs.Standings.{handles_of}
 use Rattle.naga_scope.proofs.Emitting.{range_none}
 use Rattle.shader_runs.specs.Scope.{after_emit, after_one}

@@ -1,13 +1,13 @@
 use Rattle.std.proofs.Common.{◌∙◌, sym, subst, ◌++◌, ◌≡◌}
 use Rattle.std.specs.Prelude.{true, OnOk, OnErr}
-use Rattle.accepted_modules.specs.Part.{is_written_so_far}
+use Rattle.module_meaning.specs.Part.{is_written_so_far}
 use Rattle.naga_words.specs.Sink.{IsBehind}
 use Rattle.naga_wgsl_out.specs.Headline.{EachReading, FaithfulWriting}
-use Rattle.naga_form.specs.Resolution.{ResolvesAs}
-use Rattle.naga_form.specs.Bindings.{BindsAs}
+use Rattle.module_meaning.specs.Resolution.{ResolvesAs}
+use Rattle.module_meaning.specs.Bindings.{BindsAs}
 use Rattle.naga_wgsl_fns.specs.FunctionText.{tells_types}
 use Rattle.naga_wgsl_out.specs.Writing.{written_text}
-use Rattle.accepted_modules.proofs.Part.{functions_name_nothing}
+use Rattle.module_meaning.proofs.Part.{functions_name_nothing}
 use Rattle.naga_wgsl_out.proofs.Faithful.{concludes, for_scope, refused}
 use Rattle.naga_wgsl_out.proofs.writer.Writer.write.Goals as goal
 

@@ -10,10 +10,12 @@ use Rattle.shader_runs.specs.Program as shapes
 use Rattle.shader_runs.specs.Premises.{IsTyped, SettingsFit}
 use Rattle.shader_runs.specs.Constants.{run_module, follow_module}
 use Rattle.shader_runs.specs.Correct.{KeepsTypes}
-use Rattle.naga_form.specs.Names.{module_names, function_name}
-use Rattle.naga_form.specs.Shapes.{program_shape}
-use Rattle.naga_form.specs.Abstraction.{program_read, is_request}
-use Rattle.naga_form.specs.Interface.{interface_read, module_interface}
+use Rattle.module_meaning.specs.Names.{module_names, function_name}
+use Rattle.module_meaning.specs.Shapes.{program_shape}
+use Rattle.text_meaning.specs.Abstraction.{program_read}
+use Rattle.wgsl_text.specs.Requests.{is_request}
+use Rattle.text_meaning.specs.Interface.{interface_read}
+use Rattle.module_meaning.specs.Interface.{module_interface}
 
 -- The program declares what the module declares.
 abbrev pub HasInterfaceOf : Module → Program → Type 0

@@ -1,40 +1,17 @@
 -- Which `let`s a function's text has, and the types that they tell.
-use Rattle.std.specs.Prelude.{◌≡◌, ℕ, List, [], ◌∷◌, ◌++◌, map, Bool, Option, Some, None}
+use Rattle.std.specs.Prelude.{◌≡◌, ℕ, List, [], ◌∷◌, ◌++◌, map, Bool, Option}
 use Rattle.naga_ir.specs.declared.module.Module.{Module}
 use Rattle.naga_info.specs.declared.info.ExpressionInfo.{ExpressionInfo}
 use Rattle.naga_info.specs.declared.info.ModuleInfo.{ModuleInfo}
 use Rattle.naga_words.specs.Contexts.{Names as TypeNames}
 use Rattle.shader_runs.specs.Scope.{Naming}
 use Rattle.shader_runs.specs.Bindings.{text_lets, function_bindings, bound_names}
-use Rattle.wgsl_text.specs.Reading.{type_layout}
-use Rattle.wgsl_text.specs.Tree.{Statement, Let, TypedLet, If, Loop, LoopBreakIf, Switch, Block, Statements, NoStatements, Then, Cases, NoCases, Case, Function, Program}
-use Rattle.naga_form.specs.Names.{module_names}
-use Rattle.naga_form.specs.Types.{told_spelling, type_names}
-use Rattle.naga_form.specs.Shapes.{function_shapes, namings_from, namings}
-use Rattle.naga_form.specs.Abstraction.{program_read}
-
--- the types that `let`s tell, by their spellings, in the order of the text: one for each, if it tells one
-abbrev mutual
-  pub statement_annotations : Statement → List (Option (List ℕ))
-  statement_annotations (Let w e) = None ∷ []
-  statement_annotations (TypedLet w t e) = Some (type_layout t) ∷ []
-  statement_annotations (If e accept reject) =
-      statements_annotations accept ++ statements_annotations reject
-  statement_annotations (Loop body rest) =
-      statements_annotations body ++ statements_annotations rest
-  statement_annotations (LoopBreakIf body rest e) =
-      statements_annotations body ++ statements_annotations rest
-  statement_annotations (Switch e cases) = cases_annotations cases
-  statement_annotations (Block body) = statements_annotations body
-  statement_annotations _ = []
-
-  pub statements_annotations : Statements → List (Option (List ℕ))
-  statements_annotations NoStatements = []
-  statements_annotations (Then s more) = statement_annotations s ++ statements_annotations more
-
-  pub cases_annotations : Cases → List (Option (List ℕ))
-  cases_annotations NoCases = []
-  cases_annotations (Case labels body more) = statements_annotations body ++ cases_annotations more
+use Rattle.wgsl_text.specs.Tree.{Function, Program}
+use Rattle.module_meaning.specs.Names.{module_names}
+use Rattle.module_meaning.specs.Types.{told_spelling, type_names}
+use Rattle.module_meaning.specs.Shapes.{function_shapes, namings_from, namings}
+use Rattle.text_meaning.specs.Abstraction.{program_read}
+use Rattle.text_meaning.specs.Bindings.{statements_annotations}
 
 -- the types of the handles that each function binds, where types are to be told
 abbrev pub module_annotations :

@@ -12,7 +12,7 @@ use Rattle.naga_ir.specs.declared.expression.Expression.TheVariants.{Binary}
 use Rattle.naga_ir.specs.declared.module.Function.{Function}
 use Rattle.naga_ir.specs.declared.types.Type_.{Type_}
 use Rattle.naga_info.specs.declared.info.ExpressionInfo.{ExpressionInfo}
-use Rattle.accepted_modules.specs.Types.{spelling_at, operator_word}
+use Rattle.module_meaning.specs.Spelled.{spelling_at, operator_word}
 
 -- an operator where it is used: its word, and the
 -- spellings of the types of its operands and of its result

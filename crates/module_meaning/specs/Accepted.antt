@@ -25,8 +25,8 @@ use Rattle.naga_ir.specs.declared.module.SpecialTypes.{SpecialTypes}
 use Rattle.naga_ir.specs.declared.types.Type_.{Type_}
 use Rattle.naga_info.specs.declared.info.ExpressionInfo.{ExpressionInfo}
 use Rattle.naga_info.specs.declared.info.ModuleInfo.{ModuleInfo}
-use Rattle.accepted_modules.specs.Operations.{operators_agree}
-use Rattle.accepted_modules.specs.Types.{word_of_type, word_at, local_pointer, spelling_at, spelling_of, pointee_at, operator_word, is_alike, literal_word, literal_is_within}
+use Rattle.module_meaning.specs.Operations.{operators_agree}
+use Rattle.module_meaning.specs.Spelled.{word_of_type, word_at, local_pointer, spelling_at, spelling_of, pointee_at, operator_word, is_alike, literal_word, literal_is_within}
 
 -- nothing is declared but types and functions
 abbrev pub declares_functions : Module → Bool

@@ -7,7 +7,7 @@ use Rattle.naga_ir.specs.declared.expression.Expression.{Expression}
 use Rattle.naga_ir.specs.declared.module.Function.{Function}
 use Rattle.naga_ir.specs.declared.types.Type_.{Type_}
 use Rattle.naga_info.specs.declared.info.ExpressionInfo.{ExpressionInfo}
-use Rattle.accepted_modules.specs.Accepted.{expression_fits, expressions_fit_from, function_fits, functions_fit}
+use Rattle.module_meaning.specs.Accepted.{expression_fits, expressions_fit_from, function_fits, functions_fit}
 
 -- an arena's items with their handles, tested by the items alone
 pub list_all-pairs : {X : Type 0} (test : X → Bool) (n : ℕ) (xs : List X) → list_all (λ p. test p.1) (enumerate_from n xs) ≡ list_all test xs

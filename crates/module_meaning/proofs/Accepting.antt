@@ -22,9 +22,9 @@ use Rattle.naga_info.specs.declared.info.ExpressionInfo.{ExpressionInfo}
 use Rattle.naga_info.specs.declared.info.ModuleInfo.{ModuleInfo}
 use Rattle.naga_info.specs.declared.info.TypeResolution.{TypeResolution}
 use Rattle.naga_info.specs.Resolution.{inner_of}
-use Rattle.accepted_modules.specs.Operations.{operators_agree}
-use Rattle.accepted_modules.specs.Types.{word_of_type, word_at, local_pointer, pointee_word, pointee_of, pointee_at, spelling, spelling_at, spelling_of, operator_word, is_alike}
-use Rattle.accepted_modules.specs.Accepted.{declares_functions, is_scalar_type, special_types_fit, signature_fits, names_fit, operand_fits, expected_type, is_within, expression_fits, expressions_fit_from, expressions_fit, value_fits, local_fits, statement_fits, block_fits, function_fits, functions_fit, is_accepted}
+use Rattle.module_meaning.specs.Operations.{operators_agree}
+use Rattle.module_meaning.specs.Spelled.{word_of_type, word_at, local_pointer, pointee_word, pointee_of, pointee_at, spelling, spelling_at, spelling_of, operator_word, is_alike}
+use Rattle.module_meaning.specs.Accepted.{declares_functions, is_scalar_type, special_types_fit, signature_fits, names_fit, operand_fits, expected_type, is_within, expression_fits, expressions_fit_from, expressions_fit, value_fits, local_fits, statement_fits, block_fits, function_fits, functions_fit, is_accepted}
 
 -- ---- an accepted module
 

@@ -13,9 +13,9 @@ use Rattle.naga_ir.specs.declared.operators.BinaryOperator.{BinaryOperator}
 use Rattle.naga_ir.specs.declared.types.Type_.{Type_}
 use Rattle.naga_info.specs.declared.info.ExpressionInfo.{ExpressionInfo}
 use Rattle.naga_info.specs.declared.info.ModuleInfo.{ModuleInfo}
-use Rattle.accepted_modules.specs.Operations.{Operation, agrees, all_agree, operation_of, expression_operations, function_operations, all_operations}
-use Rattle.accepted_modules.specs.Accepted.{is_accepted}
-use Rattle.accepted_modules.proofs.Accepting.{list_all_at, IsOperation, accepted_operators_agree}
+use Rattle.module_meaning.specs.Operations.{Operation, agrees, all_agree, operation_of, expression_operations, function_operations, all_operations}
+use Rattle.module_meaning.specs.Accepted.{is_accepted}
+use Rattle.module_meaning.proofs.Accepting.{list_all_at, IsOperation, accepted_operators_agree}
 
 -- ---- operations that agree
 

@@ -12,8 +12,8 @@ use Rattle.naga_ir.specs.declared.expression.Expression.TheVariants.{Literal, Fu
 use Rattle.naga_ir.specs.declared.module.Function.{Function}
 use Rattle.naga_ir.specs.declared.module.LocalVariable.{LocalVariable as Local}
 use Rattle.naga_ir.specs.declared.module.Module.{Module}
-use Rattle.accepted_modules.specs.Types.{literal_word, operator_word}
-use Rattle.accepted_modules.specs.Accepted.{declares_functions, is_scalar_type}
+use Rattle.module_meaning.specs.Spelled.{literal_word, operator_word}
+use Rattle.module_meaning.specs.Accepted.{declares_functions, is_scalar_type}
 
 -- a literal of one of the scalar types, an argument, a
 -- local, a load, or a sum, a difference or a product

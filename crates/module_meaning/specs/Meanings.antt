@@ -7,8 +7,8 @@ use Rattle.shader_runs.specs.Premises.{IsTyped, SettingsFit}
 use Rattle.shader_runs.specs.Correct.{AlwaysKeepsTypes, KeepsTypes}
 use Rattle.shader_runs.specs.Progress.{IsNotStuck}
 use Rattle.shader_runs.specs.Typing.{IsConsistent}
-use Rattle.naga_form.specs.Faithful.{OfEachRun}
-use Rattle.naga_form.specs.Shapes.{program_shape}
+use Rattle.module_meaning.specs.Faithful.{OfEachRun}
+use Rattle.module_meaning.specs.Shapes.{program_shape}
 
 -- What is spelled alike over operands of types alike has results of types alike, in all functions of the module.
 abbrev pub OperatorsAreConsistent : Module → ModuleInfo → Type 0

@@ -1,14 +1,14 @@
 -- What the laws ask of a module beside its acceptance.
 use Rattle.std.specs.Prelude.{Bool, List, [], ◌∷◌, length, nat_le, ◌^◌}
 use Rattle.std.specs.List.{list_all}
-use Rattle.accepted_modules.specs.Part.{names_nothing}
+use Rattle.module_meaning.specs.Part.{names_nothing}
 use Rattle.naga_ir.specs.declared.module.Module.{Module}
 use Rattle.naga_info.specs.declared.info.ModuleInfo.{ModuleInfo}
 use Rattle.shader_runs.specs.Program as shapes
 use Rattle.shader_runs.specs.Scope.{fits_function}
 use Rattle.shader_runs.specs.ScopeRules.{ScopeHolds}
-use Rattle.naga_form.specs.Names.{module_names}
-use Rattle.naga_form.specs.Shapes.{program_shape, namings}
+use Rattle.module_meaning.specs.Names.{module_names}
+use Rattle.module_meaning.specs.Shapes.{program_shape, namings}
 
 -- no function has expressions that a front end named
 abbrev pub nothing_named : Module → Bool

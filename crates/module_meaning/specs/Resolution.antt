@@ -5,9 +5,9 @@ use Rattle.naga_ir.specs.declared.module.Module.{Module}
 use Rattle.naga_info.specs.declared.info.ModuleInfo.{ModuleInfo}
 use Rattle.shader_runs.specs.Resolution.{text_targets, module_targets}
 use Rattle.wgsl_text.specs.Tree.{Program}
-use Rattle.naga_form.specs.Names.{module_names}
-use Rattle.naga_form.specs.Shapes.{program_shape, namings}
-use Rattle.naga_form.specs.Abstraction.{program_read}
+use Rattle.module_meaning.specs.Names.{module_names}
+use Rattle.module_meaning.specs.Shapes.{program_shape, namings}
+use Rattle.text_meaning.specs.Abstraction.{program_read}
 
 -- Each identifier of each function, in their order, stands for the function, argument, local or
 -- `let` that the module means there.

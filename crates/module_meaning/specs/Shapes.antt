@@ -16,17 +16,17 @@ use Rattle.naga_ir.specs.declared.operators.BinaryOperator.{BinaryOperator}
 use Rattle.naga_ir.specs.declared.operators.BinaryOperator.TheVariants.{LogicalAnd, LogicalOr}
 use Rattle.naga_info.specs.declared.info.ExpressionInfo.{ExpressionInfo}
 use Rattle.naga_info.specs.declared.info.ModuleInfo.{ModuleInfo}
-use Rattle.accepted_modules.specs.Types.{word_at}
+use Rattle.module_meaning.specs.Spelled.{word_at}
 use Rattle.naga_names.specs.Keys.{NameMap}
 use Rattle.shader_runs.specs.Value.{PartTypes, ShortCircuitAnd, ShortCircuitOr}
 use Rattle.shader_runs.specs.Program.{Fixed, Expression, Constant, Argument, Local, Load, Operator, Logical, Result, Label, Numbered, Default, Statement, Emit, Store, Block, If, Switch, Loop, Break, Continue, Return, Kill, Statements, end, then, Cases, no_case, case, Function, Module, operands_of}
 use Rattle.shader_runs.specs.Premises.{AllBelow}
 use Rattle.shader_runs.specs.Scope.{ModuleNames, Names, Naming}
 use Rattle.wgsl_words.specs.Words.{operator_text}
-use Rattle.naga_form.specs.Names.{function_name, argument_name, local_name, numbered_name}
-use Rattle.naga_form.specs.Types.{value_type, pointer_to_local, declared_type}
-use Rattle.naga_form.specs.Literals.{literal_value}
-use Rattle.naga_form.specs.Abstraction.{is_request}
+use Rattle.module_meaning.specs.Names.{function_name, argument_name, local_name, numbered_name}
+use Rattle.module_meaning.specs.Types.{value_type, pointer_to_local, declared_type}
+use Rattle.module_meaning.specs.Literals.{literal_value}
+use Rattle.wgsl_text.specs.Requests.{is_request}
 
 -- `&&` and `||` evaluate their right side only where it decides; any other operator is its sign
 abbrev pub binary_shape : BinaryOperator → ℕ → ℕ → Expression

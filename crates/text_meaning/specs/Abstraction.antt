@@ -1,17 +1,16 @@
 -- What a syntax tree does when it runs: the abstract text of each tree of the grammar, a line for each row.
-use Rattle.std.specs.Prelude.{pos, Bool, ◌||◌, List, [], ◌∷◌, ◌++◌, map, reverse, ◌==◌, if◌then◌else◌, Some, None, codes, decimal}
+use Rattle.std.specs.Prelude.{pos, ◌||◌, List, [], ◌∷◌, ◌++◌, map, reverse, ◌==◌, if◌then◌else◌, Some, None, codes, decimal}
 use Rattle.std.specs.Option.{option_map}
-use Rattle.wgsl_text.specs.Words.{stands_in}
 use Rattle.wgsl_text.specs.Tree as tree
-use Rattle.naga_form.specs.TypeTrees.{pointer_tree}
-use Rattle.wgsl_text.specs.Tree.{NoSpace, SpaceAlone, SpaceAndAccess, Constant, Name as NameExpression, Binary, Unary, Call, Member, IndexAt, AddressOf as Address, Dereference, NoArguments, Argument, NumberArgument, ZeroArgument, BinaryOperator, LogicalAnd, LogicalOr, UnaryOperator, TypeSpecifier, DefaultLabel, SignedLabel, UnsignedLabel, LastLabel, MoreLabels, TypedLet, CallStatement, ReturnValue, Discard, If, Loop, LoopBreakIf, Switch, NoStatements, Then, NoCases, Case}
+use Rattle.wgsl_text.specs.Templates.{pointer_tree}
+use Rattle.wgsl_text.specs.Tree.{NoSpace, SpaceAlone, SpaceAndAccess, Constant, Name as NameExpression, Binary, Unary, Call, Member, IndexAt, AddressOf as Address, Dereference, NoArguments, Argument, NumberArgument, ZeroArgument, BinaryOperator, LogicalAnd, LogicalOr, TypeSpecifier, DefaultLabel, SignedLabel, UnsignedLabel, LastLabel, MoreLabels, TypedLet, CallStatement, ReturnValue, Discard, If, Loop, LoopBreakIf, Switch, NoStatements, Then, NoCases, Case}
 use Rattle.wgsl_text.specs.Pieces.{binary_pieces, unary_mark}
 use Rattle.wgsl_text.specs.Text.{text, mark_text}
 use Rattle.wgsl_text.specs.Reading.{type_layout}
 use Rattle.shader_runs.specs.Value.{Bytes, MemberNamed, ElementAt, Opaque, ShortCircuitAnd, ShortCircuitOr}
 use Rattle.shader_runs.specs.Program.{Label, Numbered, Default}
 use Rattle.shader_runs.specs.Text.{Tree, Name, LiteralOf, Apply, Deref, AddressOf, Index, PartOf, LogicalOf as Logical, Trees, no_more, more, Line, Let, Assign, Braces, IfElse, SwitchOn, LoopOf, BreakLine, ContinueLine, ReturnLine, DiscardLine, Perform, Lines, last, before, Groups, no_group, group, Variable, ModuleVariable, TextFunction, TextModule, TextConstant}
-use Rattle.naga_form.specs.Literals.{value_read, signed}
+use Rattle.text_meaning.specs.Literals.{value_read, signed}
 
 -- `&&` and `||` decide by their left side alone where they can; any other operator is a word with two operands
 abbrev pub binary_tree : BinaryOperator → Tree → Tree → Tree
@@ -112,33 +111,3 @@ program_read p =
       globals = map module_variable_read p.globals;
       functions = reverse (map function_read p.functions ++ map (λ e. function_read e.function) p.entry_points);
     }
-
--- what stands in front of the parts of a word
-abbrev pub head_word : Bytes → Bytes
-head_word [] = []
-head_word (b ∷ bytes) = if b == 60 || b == 32 then [] else b ∷ head_word bytes
-
--- the built-in functions that ask for an event: reads and stores of atomics, operations on images,
--- derivatives, collectives, cooperative loads and stores, ray traces and barriers
-abbrev pub request_words : List Bytes
-request_words =
-    codes "atomicLoad" ∷ codes "atomicStore" ∷ codes "atomicAdd" ∷ codes "atomicSub" ∷ codes "atomicAnd" ∷ codes "atomicOr" ∷ codes "atomicXor" ∷
-    codes "atomicMin" ∷ codes "atomicMax" ∷ codes "atomicExchange" ∷ codes "atomicCompareExchangeWeak" ∷
-    codes "textureSample" ∷ codes "textureSampleLevel" ∷ codes "textureSampleBias" ∷ codes "textureSampleGrad" ∷ codes "textureSampleBaseClampToEdge" ∷
-    codes "textureSampleCompare" ∷ codes "textureSampleCompareLevel" ∷ codes "textureSampleCompareBias" ∷ codes "textureSampleCompareGrad" ∷
-    codes "textureGather" ∷ codes "textureGatherCompare" ∷ codes "textureLoad" ∷ codes "textureStore" ∷
-    codes "textureDimensions" ∷ codes "textureNumLevels" ∷ codes "textureNumLayers" ∷ codes "textureNumSamples" ∷
-    codes "textureAtomicAdd" ∷ codes "textureAtomicSub" ∷ codes "textureAtomicAnd" ∷ codes "textureAtomicOr" ∷ codes "textureAtomicXor" ∷
-    codes "textureAtomicMin" ∷ codes "textureAtomicMax" ∷ codes "textureAtomicExchange" ∷
-    codes "dpdx" ∷ codes "dpdxCoarse" ∷ codes "dpdxFine" ∷ codes "dpdy" ∷ codes "dpdyCoarse" ∷ codes "dpdyFine" ∷ codes "fwidth" ∷ codes "fwidthCoarse" ∷ codes "fwidthFine" ∷
-    codes "workgroupUniformLoad" ∷ codes "subgroupBallot" ∷ codes "subgroupAll" ∷ codes "subgroupAny" ∷ codes "subgroupAdd" ∷ codes "subgroupMul" ∷
-    codes "subgroupMax" ∷ codes "subgroupMin" ∷ codes "subgroupAnd" ∷ codes "subgroupOr" ∷ codes "subgroupXor" ∷
-    codes "subgroupExclusiveAdd" ∷ codes "subgroupExclusiveMul" ∷ codes "subgroupInclusiveAdd" ∷ codes "subgroupInclusiveMul" ∷
-    codes "subgroupBroadcastFirst" ∷ codes "subgroupBroadcast" ∷ codes "subgroupShuffle" ∷ codes "subgroupShuffleDown" ∷ codes "subgroupShuffleUp" ∷ codes "subgroupShuffleXor" ∷
-    codes "quadBroadcast" ∷ codes "quadSwapX" ∷ codes "quadSwapY" ∷ codes "quadSwapDiagonal" ∷
-    codes "coopLoad" ∷ codes "coopLoadT" ∷ codes "coopStore" ∷ codes "coopStoreT" ∷ codes "traceRay" ∷
-    codes "storageBarrier" ∷ codes "workgroupBarrier" ∷ codes "subgroupBarrier" ∷ codes "textureBarrier" ∷ []
-
--- the word asks for an event; others with operands are operators, whatever their parts
-unfoldable pub is_request : Bytes → Bool
-is_request word = stands_in request_words (head_word word)

@@ -1,4 +1,0 @@
-pub mod Accepted
-pub mod Operations
-pub mod Part
-pub mod Types

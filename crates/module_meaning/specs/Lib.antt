@@ -1,0 +1,15 @@
+pub mod Accepted
+pub mod Bindings
+pub mod Faithful
+pub mod Interface
+pub mod Literals
+pub mod Meanings
+pub mod Names
+pub mod Operations
+pub mod Part
+pub mod Premises
+pub mod Resolution
+pub mod Shapes
+pub mod Spelled
+pub mod TypeIdentity
+pub mod Types

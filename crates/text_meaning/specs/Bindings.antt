@@ -1,0 +1,27 @@
+-- The types that the `let`s of a text tell.
+use Rattle.std.specs.Prelude.{◌≡◌, ℕ, List, [], ◌∷◌, ◌++◌, Option, Some, None}
+use Rattle.wgsl_text.specs.Reading.{type_layout}
+use Rattle.wgsl_text.specs.Tree.{Statement, Let, TypedLet, If, Loop, LoopBreakIf, Switch, Block, Statements, NoStatements, Then, Cases, NoCases, Case}
+
+-- the types that `let`s tell, by their spellings, in the order of the text: one for each, if it tells one
+abbrev mutual
+  pub statement_annotations : Statement → List (Option (List ℕ))
+  statement_annotations (Let w e) = None ∷ []
+  statement_annotations (TypedLet w t e) = Some (type_layout t) ∷ []
+  statement_annotations (If e accept reject) =
+      statements_annotations accept ++ statements_annotations reject
+  statement_annotations (Loop body rest) =
+      statements_annotations body ++ statements_annotations rest
+  statement_annotations (LoopBreakIf body rest e) =
+      statements_annotations body ++ statements_annotations rest
+  statement_annotations (Switch e cases) = cases_annotations cases
+  statement_annotations (Block body) = statements_annotations body
+  statement_annotations _ = []
+
+  pub statements_annotations : Statements → List (Option (List ℕ))
+  statements_annotations NoStatements = []
+  statements_annotations (Then s more) = statement_annotations s ++ statements_annotations more
+
+  pub cases_annotations : Cases → List (Option (List ℕ))
+  cases_annotations NoCases = []
+  cases_annotations (Case labels body more) = statements_annotations body ++ cases_annotations more

@@ -1,0 +1,4 @@
+pub mod Abstraction
+pub mod Bindings
+pub mod Interface
+pub mod Literals

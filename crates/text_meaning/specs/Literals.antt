@@ -1,0 +1,27 @@
+-- The values of literals in a text.
+use Rattle.std.specs.Prelude.{ℕ, suc, ℤ, pos, negsuc, Bool, true, List, [], ◌==◌, ◌+◌, ◌*◌, if◌then◌else◌, codes}
+use Rattle.wgsl_text.specs.Token.{Suffix, NoSuffix, SuffixI, SuffixU, SuffixLi, SuffixLu}
+use Rattle.wgsl_text.specs.Tree.{Literal, Truth, Suffixed, SignedShort, UnsignedShort, LeastInteger, LeastLong}
+use Rattle.shader_runs.specs.Value.{Value, Truth as TruthValue, Whole}
+
+-- the integer of a sign and a number
+abbrev pub signed : Bool → ℕ → ℤ
+signed true (suc n) = negsuc n
+signed _ n = pos n
+
+-- the type that a suffix stands for; a number without one has no type of its own
+abbrev pub suffix_type : Suffix → List ℕ
+suffix_type SuffixI = codes "i32"
+suffix_type SuffixU = codes "u32"
+suffix_type SuffixLi = codes "i64"
+suffix_type SuffixLu = codes "u64"
+suffix_type NoSuffix = []
+
+-- the value of a literal of the text
+abbrev pub value_read : Literal → Value
+value_read (Truth b) = TruthValue b
+value_read (Suffixed negative n suffix) = Whole (suffix_type suffix) (signed negative n)
+value_read (SignedShort negative n) = Whole (codes "i16") (signed negative n)
+value_read (UnsignedShort n) = Whole (codes "u16") (pos n)
+value_read LeastInteger = Whole (codes "i32") (negsuc 2147483647)
+value_read LeastLong = Whole (codes "i64") (negsuc 9223372036854775807)
