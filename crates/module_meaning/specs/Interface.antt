@@ -11,6 +11,7 @@ use Rattle.naga_words.specs.Contexts.{names_of, Names as TypeNames}
 use Rattle.module_meaning.specs.Types.{spelled_type}
 use Rattle.text_meaning.specs.Interface.{FunctionInterface, Interface, Passed}
 
+-- what passes in or out by a type of the module: its spelling, bound by nothing
 abbrev pub passed : TypeNames → ℕ → Passed
 passed t ty = record { attributes = []; type = spelled_type t ty }
 
@@ -29,11 +30,15 @@ function_interface names types g f =
       locals = map (λ l. spelled_type t l.ty) f.local_variables;
     }
 
-abbrev pub function_interfaces : NameMap → List Type_ → ℕ → List ir_function.Function → List FunctionInterface
+-- the interfaces of the functions from this handle on
+abbrev pub function_interfaces :
+    NameMap → List Type_ → ℕ → List ir_function.Function → List FunctionInterface
 function_interfaces names types g [] = []
-function_interfaces names types g (f ∷ more) = function_interface names types g f ∷ function_interfaces names types (g + 1) more
+function_interfaces names types g (f ∷ more) =
+    function_interface names types g f ∷ function_interfaces names types (g + 1) more
 
--- the interface of a module: its functions under their names, with the types of their arguments, results and locals
+-- the interface of a module: its functions under their names, with the types of their arguments,
+-- results and locals
 abbrev pub module_interface : NameMap → ir_module.Module → Interface
 module_interface names m =
     record {

@@ -48,13 +48,20 @@ numbered_name h = numbered_text (nat_lt h (2 ^ 64)) h
 
 -- no label's base is used more often than a counter of its uses can tell
 abbrev pub NamesAreCounted : Module → Type 0
-NamesAreCounted m = (base : List ℕ) → labels_with_base wgsl_names (labels_of (labelled_items wgsl_names m)) base ≤ 2 ^ 32
+NamesAreCounted m =
+    (base : List ℕ) →
+    labels_with_base wgsl_names (labels_of (labelled_items wgsl_names m)) base ≤ 2 ^ 32
 
--- The map has the name of each function, of each argument, whose numbers are no greater than the greatest `u32`, and of each local.
+-- The map has the name of each function, of each argument, whose numbers are no greater than the
+-- greatest `u32`, and of each local.
 pub record HasNamesOf (m : Module) (names : NameMap) : Type 0 where
-  pub functions : (g : ℕ) → g < length m.functions → names (key.Function g) ≡ Some (function_name (module_names m) g)
-  pub arguments : (g : ℕ) (f : ir_function.Function) → slice_get m.functions g ≡ Some f → (n : ℕ) → n < length f.arguments.items →
+  pub functions : (g : ℕ) → g < length m.functions →
+      names (key.Function g) ≡ Some (function_name (module_names m) g)
+  pub arguments : (g : ℕ) (f : ir_function.Function) → slice_get m.functions g ≡ Some f →
+      (n : ℕ) → n < length f.arguments.items →
       names (key.FunctionArgument g n) ≡ Some (argument_name (module_names m) g n)
-  pub locals : (g : ℕ) (f : ir_function.Function) → slice_get m.functions g ≡ Some f → (l : ℕ) → l < length f.local_variables →
+  pub locals : (g : ℕ) (f : ir_function.Function) → slice_get m.functions g ≡ Some f →
+      (l : ℕ) → l < length f.local_variables →
       names (key.FunctionLocal g l) ≡ Some (local_name (module_names m) g l)
-  pub numbers : (g : ℕ) (f : ir_function.Function) → slice_get m.functions g ≡ Some f → length f.arguments.items ≤ 2 ^ 32
+  pub numbers : (g : ℕ) (f : ir_function.Function) → slice_get m.functions g ≡ Some f →
+      length f.arguments.items ≤ 2 ^ 32

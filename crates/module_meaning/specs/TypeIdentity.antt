@@ -115,7 +115,8 @@ inner_code (inner.Vector n s) = 1 ∷ kind_number s.kind ∷ s.width ∷ vector_
 inner_code (inner.Matrix columns rows s) =
     2 ∷ kind_number s.kind ∷ s.width ∷ vector_number columns ∷ vector_number rows ∷ []
 inner_code (inner.CooperativeMatrix columns rows s role) =
-    3 ∷ kind_number s.kind ∷ s.width ∷ cooperative_number columns ∷ cooperative_number rows ∷ role_number role ∷ []
+    3 ∷ kind_number s.kind ∷ s.width
+    ∷ cooperative_number columns ∷ cooperative_number rows ∷ role_number role ∷ []
 inner_code (inner.Atomic s) = 4 ∷ kind_number s.kind ∷ s.width ∷ []
 inner_code (inner.Pointer base space) = 5 ∷ base ∷ space_number space ∷ space_bits space ∷ []
 inner_code (inner.ValuePointer n s space) =

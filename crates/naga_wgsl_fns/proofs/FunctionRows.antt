@@ -36,6 +36,7 @@ use Rattle.naga_wgsl_fns.specs.Names.{name_of_argument, name_of_function, name_o
 use Rattle.naga_wgsl_fns.specs.Types.{type_text}
 use Rattle.naga_wgsl_fns.specs.Expressions.{value_text}
 use Rattle.naga_wgsl_fns.specs.Statements.{block_text, lines_text}
+use Rattle.naga_wgsl_fns.proofs.StatementRows.{drop_first}
 use Rattle.naga_wgsl_fns.specs.Functions.{StartsAt, answer_text, argument_text, arguments_text, body_text, first_form, first_text, first_value_text, form_of, function_text, group_end_text, head_text, known_of, local_form, local_text, local_text_of, locals_text, next_argument_text, result_text, separator, text_of_function}
 
 -- ---- what is wanted
@@ -123,10 +124,6 @@ arguments_row f n a more = by n
     by (suc n) =
         let next : (suc n == 0) ≡ false = ne_eqb (suc n) 0 (λ same. absurd (omega arith))
         in rw next (ap (λ t. codes ", " ++ t) (split (suc n)))
-
--- a list from an item of it on
-pub drop_first : {X : Type 0} (i : ℕ) (xs : List X) (x : X) → i < length xs → x ≡ slice_index_or xs i x → drop i xs ≡ x ∷ drop (i + 1) xs
-drop_first i xs x h is = rw (add-one, drop-cons xs i x) (ap (λ y. y ∷ drop (suc i) xs) (sym is))
 
 -- a loop over arguments: one more, and none
 pub arguments_more : (f : FunctionText) (n : ℕ) (items : List FunctionArgument) (a : FunctionArgument) → n < length items → a ≡ slice_index_or items n a

@@ -10,22 +10,9 @@ use Rattle.shader_runs.specs.TextRun.{some_continue, some_group_continues}
 use Rattle.shader_runs.specs.Form.{value_form, own_form, written, let_if, lets, perform_each, form, form_all, form_cases}
 use Rattle.shader_runs.specs.Premises.{FallsFrom, IsRegular, AreRegular, CasesAreRegular}
 use Rattle.shader_runs.specs.Resolution.{LetTarget, Lookup, lets_behind_all, lets_behind_groups, names_left, lets_after, lets_after_all, lets_by, lets_by_all, lets_by_cases}
+use Rattle.shader_runs.proofs.Scope.{lets_continue, performs_continue}
 
 -- ---- `continue`
-let_continues : (b : Bool) (x : Bytes) (e : Tree) (tail : Lines) → some_continue (let_if b x e tail) ≡ some_continue tail
-let_continues true x e tail = refl
-let_continues false x e tail = refl
-
-lets_continue : (f : Naming) (k : ℕ) (hs : List ℕ) (s : Handles) (tail : Lines) → some_continue (lets f k hs s tail) ≡ some_continue tail
-lets_continue f k [] s tail = refl
-lets_continue f k (h ∷ hs) s tail =
-    let_continues (binds f.function h) (bound_name f k h) _ (lets f (given_after f.function h k) hs (after_one f k h s) tail)
-    ∙ lets_continue f (given_after f.function h k) hs (after_one f k h s) tail
-
-performs_continue : (ws : List Bytes) (tail : Lines) → some_continue (perform_each ws tail) ≡ some_continue tail
-performs_continue [] tail = refl
-performs_continue (w ∷ ws) tail = performs_continue ws tail
-
 -- a case that falls through is empty
 falls_continue : (b : Statements) (cs : Cases) → FallsFrom true b cs → any_continue b ≡ false
 falls_continue end cs falls = refl

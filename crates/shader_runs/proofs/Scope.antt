@@ -18,14 +18,14 @@ let_continue : (b : Bool) (x : Bytes) (e : Tree) (tail : Lines) → some_continu
 let_continue true x e tail = refl
 let_continue false x e tail = refl
 
-lets_continue : (f : Naming) (k : ℕ) (hs : List ℕ) (s : Handles) (tail : Lines) → some_continue (lets f k hs s tail) ≡ some_continue tail
+pub lets_continue : (f : Naming) (k : ℕ) (hs : List ℕ) (s : Handles) (tail : Lines) → some_continue (lets f k hs s tail) ≡ some_continue tail
 lets_continue f k [] s tail = refl
 lets_continue f k (h ∷ hs) s tail =
     let rest = lets f (given_after f.function h k) hs (after_one f k h s) tail in
     let_continue (binds f.function h) (bound_name f k h) (value_form (own_form f (written f s) (handle_type f.function h) (expression_of f.function h))) rest
     ∙ lets_continue f (given_after f.function h k) hs (after_one f k h s) tail
 
-performs_continue : (ws : List Bytes) (tail : Lines) → some_continue (perform_each ws tail) ≡ some_continue tail
+pub performs_continue : (ws : List Bytes) (tail : Lines) → some_continue (perform_each ws tail) ≡ some_continue tail
 performs_continue [] tail = refl
 performs_continue (w ∷ ws) tail = performs_continue ws tail
 
