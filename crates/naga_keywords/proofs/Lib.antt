@@ -1,2 +1,4 @@
 pub mod Plains
 pub mod SetLemmas
+pub mod Halving
+pub mod SortedSets

@@ -17,7 +17,7 @@ use Rattle.naga_keywords.specs.Words.{Words, same_words, same_words_itself, equa
 antisymmetric : set.IsAntisymmetric (slice_cmp nat_cmp)
 antisymmetric = set.slice_cmp-IsAntisymmetric set.nat_cmp-IsAntisymmetric
 
-or_true_right : (a : Bool) → (a || true) ≡ true
+pub or_true_right : (a : Bool) → (a || true) ≡ true
 or_true_right true = refl
 or_true_right false = refl
 
@@ -50,7 +50,7 @@ module _ {K : Type 0} (read : K → List ℕ) where
       mapped (x ∷ ks) = ap (λ xs. read x ∷ xs) (mapped ks)
 
   -- a key at the front, in whatever order the keys then stand
-  texts_of-permuted : (old new : List K) (k : K) → IsPermutation (k ∷ old) new → texts_of read new ≡ set.insert (texts_of read old) (read k)
+  pub texts_of-permuted : (old new : List K) (k : K) → IsPermutation (k ∷ old) new → texts_of read new ≡ set.insert (texts_of read old) (read k)
   texts_of-permuted old new k moved =
       alike_words (texts_of read new) (set.insert (texts_of read old) (read k)) (λ q.
       contains-texts_of new q
@@ -60,7 +60,7 @@ module _ {K : Type 0} (read : K → List ℕ) where
       ∙ ap (λ b. bytes_eq q (read k) || b) (contains-texts_of old q)))
 
   -- a text that is there already changes nothing
-  texts_of-again : (ks : List K) (word : List ℕ) → set.contains (texts_of read ks) word ≡ true → texts_of read ks ≡ set.insert (texts_of read ks) word
+  pub texts_of-again : (ks : List K) (word : List ℕ) → set.contains (texts_of read ks) word ≡ true → texts_of read ks ≡ set.insert (texts_of read ks) word
   texts_of-again ks word had =
       alike_words (texts_of read ks) (set.insert (texts_of read ks) word) (λ q.
       sym (set.contains-insert nat_list_cmp_total (texts_of read ks) word q

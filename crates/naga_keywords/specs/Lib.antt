@@ -1,2 +1,3 @@
 pub mod Plain
 pub mod Words
+pub mod SortedWords

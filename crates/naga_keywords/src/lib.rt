@@ -5,3 +5,4 @@
 
 pub mod keyword_set;
 pub mod keywords;
+mod sorted;

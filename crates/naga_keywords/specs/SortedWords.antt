@@ -1,0 +1,63 @@
+-- Words in ascending order, and where one stands among them.
+--
+-- Throughout, ks are the keys that members are compared by, and w is that of the wanted word.
+use Rattle.std.specs.Prelude.{◌≡◌, ℕ, ◌<◌, ◌≤◌, ◌^◌, List, map, length, get_or, MatchOption, MatchResult, Option, Result}
+use Rattle.std.specs.Cmp.Lexicographic.{slice_cmp}
+use Rattle.std.specs.FinSet as set
+use Rattle.std.specs.Ordering.{nat_cmp}
+use Rattle.std.specs.declared.cmp.Ordering.{Ordering}
+use Rattle.std.specs.declared.cmp.Ordering.TheVariants.{Less, Greater}
+use Rattle.naga_keywords.specs.Words.{Words, lowered}
+use Rattle.naga_keywords.specs.declared.sorted.Case.{Case}
+use Rattle.naga_keywords.specs.declared.sorted.Case.TheVariants.{Sensitive, Insensitive}
+use Rattle.std.specs.Coded.{Coded, codes, coded_ℕ, coded_list}
+use denote.Ref.{Bor}
+
+-- what a word is compared by: its bytes, with the ASCII letters in lower case where case is ignored
+abbrev pub read : Case → List ℕ → List ℕ
+read Sensitive word = word
+read Insensitive word = lowered word
+
+-- texts are in the order of their bytes
+abbrev pub word_cmp : List ℕ → List ℕ → Ordering
+word_cmp = slice_cmp nat_cmp
+
+-- what the members are compared by
+abbrev pub keys_of : Case → List (Bor (List ℕ)) → List (List ℕ)
+keys_of case members = map (λ member. read case member.now) members
+
+-- all keys before the index come before the wanted one, and those from there on behind it
+pub record IsPlaceOf (ks : List (List ℕ)) (w : List ℕ) (index : ℕ) : Type 0 where
+  pub within : index ≤ length ks
+  pub before : (i : ℕ) (d : List ℕ) → i < index → word_cmp (get_or ks i d) w ≡ Less
+  pub behind : (i : ℕ) (d : List ℕ) → index ≤ i → i < length ks →
+      word_cmp (get_or ks i d) w ≡ Greater
+
+-- the wanted one stands at the index
+pub record StandsAt (ks : List (List ℕ)) (w : List ℕ) (index : ℕ) : Type 0 where
+  pub within : index < length ks
+  pub is : (d : List ℕ) → get_or ks index d ≡ w
+
+-- where the wanted one stands, or where it would be put
+abbrev pub IsFoundAt : List (List ℕ) → List ℕ → Result ℕ ℕ → Type 0
+IsFoundAt ks w place = MatchResult place (StandsAt ks w) (IsPlaceOf ks w)
+
+-- No more comparisons than the number of members has binary digits, which are the least k for which
+-- it is below 2 ^ k.
+abbrev pub IsWithinDigits : (comparisons members : ℕ) → Type 0
+IsWithinDigits comparisons members = (k : ℕ) → members < 2 ^ k → comparisons ≤ k
+
+-- where the wanted one is to be put, if it isn't there
+abbrev pub IsPlaceFor : List (List ℕ) → List ℕ → Option ℕ → Type 0
+IsPlaceFor ks w place = MatchOption place ((index : ℕ) × StandsAt ks w index) (IsPlaceOf ks w)
+
+-- what contracts see of a set: how its words are read, and these as they are read
+pub record Seen : Type 0 where
+  pub case : Case
+  pub words : Words
+
+abbrev pub seen_words : Case → List (Bor (List ℕ)) → Seen
+seen_words case members = record { case = case; words = set.from_list (keys_of case members) }
+
+pub seen_code : Coded Seen
+seen_code = Prim.hlevel (codes, set.code {R = word_cmp} (coded_list coded_ℕ))

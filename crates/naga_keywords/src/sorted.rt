@@ -1,0 +1,244 @@
+//! Words in ascending order, among which one is found by halving.
+
+ghost use Rattle.std.specs.Prelude.{◌≡◌, ◌+◌, ◌<◌, ◌^◌, IfOk, IsTrue, OnErr, OnOk, length, map};
+ghost use Rattle.std.specs.FinSet as set;
+ghost use Rattle.std.specs.Iterator.{IsFinite};
+ghost use Rattle.std.specs.List.Sorted.{IsStrictlySortedBy};
+ghost use Rattle.naga_keywords.specs.SortedWords.{IsFoundAt, IsPlaceFor, IsWithinDigits, Seen, seen_code, keys_of, read, seen_words, word_cmp};
+ghost use Rattle.naga_keywords.specs.Words.{AddsAll, AddsSome, lowered, same_words};
+
+use std::alloc::{AllocError, Global};
+use std::cmp::Ordering;
+use std::marker::Model;
+
+/// Whether words that differ in ASCII case alone are different words.
+#[derive(Clone, Copy, Debug, PartialEq, Eq)]
+pub(crate) enum Case {
+    /// They are.
+    Sensitive,
+    /// They are one word.
+    Insensitive,
+}
+
+impl Case {
+    /// How two words stand to each other, by their bytes.
+    fn compare(self, word: &str, other: &str) -> Ordering
+        ensures { result ≡ word_cmp (read self word.now) (read self other.now) }
+    {
+        match self {
+            Case::Sensitive => word.cmp(other),
+            Case::Insensitive => compare_lowered(word, other),
+        }
+    }
+}
+
+/// How two words stand to each other, by their bytes with the ASCII letters in lower case.
+fn compare_lowered(word: &str, other: &str) -> Ordering
+    ensures { result ≡ word_cmp (lowered word.now) (lowered other.now) }
+{
+    let word = word.bytes().map(|byte| byte.to_ascii_lowercase());
+    let other = other.bytes().map(|byte| byte.to_ascii_lowercase());
+    word.cmp(other)
+}
+
+/// A wanted word, and how often a member was compared with it.
+#[derive(Drop)]
+struct Counter<'a> {
+    case: Case,
+    wanted: &'a str,
+    comparisons: usize,
+}
+
+impl<'a> Counter<'a> {
+    fn new(case: Case, wanted: &'a str) -> Self
+        ensures case { result.case ≡ case }
+        ensures wanted { result.wanted.now ≡ wanted.now }
+        ensures fresh { result.comparisons ≡ 0 }
+    {
+        Self {
+            case,
+            wanted,
+            comparisons: 0,
+        }
+    }
+
+    /// How the member stands to the wanted word. It counts one comparison more.
+    fn compare(&mut self, member: &str) -> Ordering
+        requires { self.old.comparisons < 2 ^ 63 }
+        ensures order { result ≡ word_cmp (read self.old.case member.now)
+            (read self.old.case self.old.wanted.now) }
+        ensures counted { self.new.comparisons ≡ self.old.comparisons + 1 }
+        ensures case { self.new.case ≡ self.old.case }
+        ensures wanted { self.new.wanted ≡ self.old.wanted }
+    {
+        self.comparisons += 1;
+        self.case.compare(member, self.wanted)
+    }
+}
+
+/// Where the wanted word stands among words in ascending order, or where it would be put.
+fn search(members: &[&'static str], counter: &mut Counter) -> Result<usize, usize>
+    requires sorted { IsStrictlySortedBy word_cmp (keys_of counter.old.case members.now) }
+    requires fresh { counter.old.comparisons ≡ 0 }
+    ensures found { IsFoundAt (keys_of counter.old.case members.now)
+        (read counter.old.case counter.old.wanted.now) result }
+    ensures probes { IsWithinDigits counter.new.comparisons (length members.now) }
+{
+    let mut low = 0;
+    let mut high = members.len();
+    while low < high {
+        let middle = low + (high - low) / 2;
+        match counter.compare(members[middle]) {
+            Ordering::Less => low = middle + 1,
+            Ordering::Equal => return Ok(middle),
+            Ordering::Greater => high = middle,
+        }
+    }
+    Err(low)
+}
+
+
+/// Where the word is to be put among words in ascending order, if it isn't there. One that comes
+/// behind all of them takes one comparison.
+fn place(case: Case, members: &[&'static str], word: &str) -> Option<usize>
+    requires sorted { IsStrictlySortedBy word_cmp (keys_of case members.now) }
+    ensures { IsPlaceFor (keys_of case members.now) (read case word.now) result }
+{
+    let Some(last) = members.last() else {
+        return Some(0);
+    };
+    match Counter::new(case, word).compare(last) {
+        Ordering::Less => Some(members.len()),
+        Ordering::Equal => None,
+        Ordering::Greater => search(members, &mut Counter::new(case, word)).err(),
+    }
+}
+
+/// A set of words, which keeps them in ascending order and without repeats.
+#[derive(Drop)]
+pub(crate) struct SortedWords {
+    case: Case,
+    members: Vec<&'static str>,
+}
+
+impl Model for SortedWords {
+    ghost Value = { Seen };
+
+    ghost coded = { seen_code };
+
+    ghost view = { λ s. seen_words s.case s.members.items };
+
+    ghost invariant = { λ s. IsStrictlySortedBy word_cmp (keys_of s.case s.members.items) };
+}
+
+impl SortedWords {
+    /// The empty set, which takes no memory.
+    pub(crate) fn new(alloc: Global, case: Case) -> Self
+        ensures case { result.case ≡ case }
+        ensures words { result.words ≡ set.empty }
+    {
+        Self {
+            case,
+            members: Vec::new(alloc),
+        }
+    }
+
+    /// Whether the word is in the set, and how many comparisons it took to tell.
+    pub(crate) fn probe(&self, word: &str) -> (bool, usize)
+        ensures contains { result.0 ≡ set.contains self.now.words (read self.now.case word.now) }
+        ensures probes { IsWithinDigits result.1 (set.len self.now.words) }
+    {
+        let mut counter = Counter::new(self.case, word);
+        let found = search(&self.members, &mut counter);
+        (found.is_ok(), counter.comparisons)
+    }
+
+    /// Takes memory for so many words more.
+    fn reserve(&mut self, more: usize) -> Result<(), AllocError>
+        ensures { self.new ≡ self.old }
+    {
+        self.members.reserve(more)?;
+        Ok(())
+    }
+
+    fn insert(&mut self, word: &'static str) -> Result<(), AllocError>
+        ensures case { self.new.case ≡ self.old.case }
+        ensures ok { OnOk result (self.new.words
+            ≡ set.insert self.old.words (read self.old.case word.now)) }
+        ensures err { OnErr result (self.new.words ≡ self.old.words) }
+    {
+        if let Some(index) = place(self.case, &self.members, word) {
+            self.members.insert(index, word)?;
+        }
+        Ok(())
+    }
+
+    /// The set of the words of a slice. Words that come in ascending order take one comparison each;
+    /// memory is taken once, for as many words as the slice has.
+    pub(crate) fn from_slice(
+        alloc: Global,
+        case: Case,
+        words: &[&'static str],
+    ) -> Result<Self, AllocError>
+        ensures case { IfOk result (λ s. s.case ≡ case) }
+        ensures words { IfOk result (λ s. s.words
+            ≡ set.from_list (map (λ word. read case word.now) words.now)) }
+    {
+        let members = Vec::with_capacity(alloc, words.len())?;
+        let mut sorted = Self { case, members };
+        for word in words {
+            sorted.insert(word)?;
+        }
+        Ok(sorted)
+    }
+
+    /// Adds the words that the iterator gives. Where memory runs out, the set has got the words of
+    /// some beginning of them.
+    pub(crate) fn extend<I: Iterator<Item = &'static str> + Drop>(
+        &mut self,
+        words: I,
+    ) -> Result<(), AllocError>
+        requires can { I.can_next words }
+        requires ends { IsFinite (I.remaining words) }
+        ensures case { self.new.case ≡ self.old.case }
+        ensures ok { OnOk result
+            (AddsAll I.next_gives (read self.old.case) words self.old.words self.new.words) }
+        ensures err { OnErr result
+            (AddsSome I.next_gives (read self.old.case) words self.old.words self.new.words) }
+    {
+        let (least, _) = words.size_hint();
+        self.reserve(least)?;
+        for word in words {
+            self.insert(word)?;
+        }
+        Ok(())
+    }
+
+    /// Whether each word of the set is one of the other.
+    fn is_within(&self, other: &Self) -> bool
+        requires { self.now.case ≡ other.now.case }
+        ensures { result ≡ set.is_subset self.now.words other.now.words }
+    {
+        self.members.iter().all(|word| other.probe(word).0)
+    }
+
+    /// Whether the two sets, which regard case alike, have the same words.
+    pub(crate) fn has_words_of(&self, other: &Self) -> bool
+        requires { self.now.case ≡ other.now.case }
+        ensures { result ≡ same_words self.now.words other.now.words }
+    {
+        self.is_within(other) && other.is_within(self)
+    }
+}
+
+impl Clone for SortedWords {
+    ghost is_clone = { λ s copy. copy ≡ s };
+
+    fn clone(&self) -> Result<Self, AllocError> {
+        let members = self.members.clone()?;
+        Ok(Self {
+            case: self.case,
+            members,
+        })
+    }
+}
