@@ -2,3 +2,4 @@ pub mod Plains
 pub mod SetLemmas
 pub mod Halving
 pub mod SortedSets
+pub mod Rearranged

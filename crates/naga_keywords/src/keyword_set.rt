@@ -1,27 +1,29 @@
 //! Sets of words that no identifier may be.
 ghost use Rattle.std.specs.Prelude.{◌≡◌, IsTrue, ◌↔◌, IfOk, OnOk, OnErr, map};
-ghost use Rattle.std.specs.Cmp.Lexicographic.{slice_cmp, nat_list_eq_equiv};
-ghost use Rattle.std.specs.Ordering.{nat_cmp};
+ghost use Rattle.std.specs.Cmp.Lexicographic.{nat_list_eq_equiv};
 ghost use Rattle.std.specs.Cmp.{partial_equiv_from_equiv, on_per, on_equiv};
 ghost use Rattle.std.specs.Coded.{coded_ℕ, coded_list};
 ghost use Rattle.std.specs.FinSet as set;
 ghost use Rattle.std.specs.Iterator.{IsFinite};
 ghost use Rattle.std.proofs.Common.{rules};
+ghost use Rattle.naga_keywords.specs.SortedWords.{IsWithinDigits};
 ghost use Rattle.naga_keywords.specs.Words.{Words, lowered, same_caseless, caseless_writes, same_words, same_words_equiv, AddsAll, AddsSome};
+ghost use Rattle.naga_keywords.specs.declared.sorted.Case.TheVariants.{Sensitive, Insensitive};
 
+use crate::sorted::{Case, SortedWords};
 use std::alloc::{AllocError, Global};
-use std::collections::HashSet;
 use std::convert::AsStr;
 use std::fmt;
 use std::hash::{Hash, Hasher};
 use std::marker::Model;
 
-/// A set of words, case-sensitive, which a `Namer` keeps its identifiers out of.
+/// A set of words, case-sensitive, which a `Namer` keeps its identifiers out of. It keeps them in the
+/// order of their bytes.
 ///
 /// Contracts see it as the finite set of its words' bytes.
 #[derive(Drop)]
 pub struct KeywordSet {
-    words: HashSet<&'static str>,
+    words: SortedWords,
 }
 
 impl Model for KeywordSet {
@@ -29,7 +31,9 @@ impl Model for KeywordSet {
 
     ghost coded = { set.code (coded_list coded_ℕ) };
 
-    ghost view = { λ s. set.from_list (map (λ w. w.now) s.words.keys) };
+    ghost view = { λ s. s.words.words };
+
+    ghost invariant = { λ s. s.words.case ≡ Sensitive };
 }
 
 impl KeywordSet {
@@ -38,7 +42,7 @@ impl KeywordSet {
         ensures { result ≡ set.empty }
     {
         Self {
-            words: HashSet::new(alloc),
+            words: SortedWords::new(alloc, Case::Sensitive),
         }
     }
 
@@ -46,7 +50,18 @@ impl KeywordSet {
     pub fn contains(&self, identifier: &str) -> bool
         ensures { result ≡ set.contains self.now identifier.now }
     {
-        self.words.contains(identifier)
+        self.words.probe(identifier).0
+    }
+
+    /// What [`contains`](Self::contains) answers, and how many members were compared with the word to
+    /// tell: at most as many as the number of members has binary digits, so none in the empty set,
+    /// one where there is one member, and two where there are two or three. It takes no memory and
+    /// always succeeds.
+    pub fn contains_probes(&self, identifier: &str) -> (bool, usize)
+        ensures contains { result.0 ≡ set.contains self.now identifier.now }
+        ensures probes { IsWithinDigits result.1 (set.len self.now) }
+    {
+        self.words.probe(identifier)
     }
 
     /// The set of the words that the iterator gives.
@@ -63,19 +78,17 @@ impl KeywordSet {
         Ok(set)
     }
 
-    /// The set of the words of a slice.
+    /// The set of the words of a slice. Memory is taken once, for as many words as the slice has; words
+    /// that come in ascending order take one comparison each.
     pub fn from_slice(alloc: Global, words: &[&'static str]) -> Result<Self, AllocError>
         ensures { IfOk result (λ s. s ≡ set.from_list (map (λ w. w.now) words.now)) }
     {
-        let mut set = Self::new(alloc);
-        for word in words {
-            set.insert(word)?;
-        }
-        Ok(set)
+        let words = SortedWords::from_slice(alloc, Case::Sensitive, words)?;
+        Ok(Self { words })
     }
 
-    /// Adds the words that the iterator gives. Where memory runs out, the set has got the words of
-    /// some beginning of them.
+    /// Adds the words that the iterator gives. Memory is taken once where the iterator says how many
+    /// there are. Where memory runs out, the set has got the words of some beginning of them.
     pub fn extend<I: Iterator<Item = &'static str> + Drop>(
         &mut self,
         words: I,
@@ -85,18 +98,7 @@ impl KeywordSet {
         ensures ok { OnOk result (AddsAll I.next_gives (λ w. w) words self.old self.new) }
         ensures err { OnErr result (AddsSome I.next_gives (λ w. w) words self.old self.new) }
     {
-        for word in words {
-            self.insert(word)?;
-        }
-        Ok(())
-    }
-
-    fn insert(&mut self, word: &'static str) -> Result<(), AllocError>
-        ensures ok { OnOk result (self.new ≡ set.insert self.old word.now) }
-        ensures err { OnErr result (self.new ≡ self.old) }
-    {
-        self.words.insert(word)?;
-        Ok(())
+        self.words.extend(words)
     }
 }
 
@@ -119,7 +121,7 @@ impl PartialEq for KeywordSet {
         ensures value { result ≡ same_words self.now other.now }
         ensures same { IsTrue result ↔ (self.now ≡ other.now) }
     {
-        self.words == other.words
+        self.words.has_words_of(&other.words)
     }
 }
 
@@ -127,12 +129,13 @@ impl Eq for KeywordSet {
     ghost laws = { same_words_equiv };
 }
 
-/// A set of ASCII words that regards no case, which a `Namer` keeps its identifiers out of.
+/// A set of ASCII words that regards no case, which a `Namer` keeps its identifiers out of. It keeps
+/// them in the order of their bytes with the ASCII letters in lower case.
 ///
 /// Contracts see it as the finite set of its words' bytes, with the ASCII letters in lower case.
 #[derive(Drop)]
 pub struct CaseInsensitiveKeywordSet {
-    folded: HashSet<AsciiUniCase<&'static str>>,
+    folded: SortedWords,
 }
 
 impl Model for CaseInsensitiveKeywordSet {
@@ -140,7 +143,9 @@ impl Model for CaseInsensitiveKeywordSet {
 
     ghost coded = { set.code (coded_list coded_ℕ) };
 
-    ghost view = { λ s. set.from_list (map (λ w. lowered w.word.now) s.folded.keys) };
+    ghost view = { λ s. s.folded.words };
+
+    ghost invariant = { λ s. s.folded.case ≡ Insensitive };
 }
 
 impl CaseInsensitiveKeywordSet {
@@ -149,7 +154,7 @@ impl CaseInsensitiveKeywordSet {
         ensures { result ≡ set.empty }
     {
         Self {
-            folded: HashSet::new(alloc),
+            folded: SortedWords::new(alloc, Case::Insensitive),
         }
     }
 
@@ -157,7 +162,18 @@ impl CaseInsensitiveKeywordSet {
     pub fn contains(&self, identifier: &str) -> bool
         ensures { result ≡ set.contains self.now (lowered identifier.now) }
     {
-        self.folded.contains(&AsciiUniCase { word: identifier })
+        self.folded.probe(identifier).0
+    }
+
+    /// What [`contains`](Self::contains) answers, and how many members were compared with the word to
+    /// tell: at most as many as the number of members has binary digits, so none in the empty set,
+    /// one where there is one member, and two where there are two or three. It takes no memory and
+    /// always succeeds.
+    pub fn contains_probes(&self, identifier: &str) -> (bool, usize)
+        ensures contains { result.0 ≡ set.contains self.now (lowered identifier.now) }
+        ensures probes { IsWithinDigits result.1 (set.len self.now) }
+    {
+        self.folded.probe(identifier)
     }
 
     /// The set of the words that the iterator gives.
@@ -174,19 +190,17 @@ impl CaseInsensitiveKeywordSet {
         Ok(caseless)
     }
 
-    /// The set of the words of a slice.
+    /// The set of the words of a slice. Memory is taken once, for as many words as the slice has; words
+    /// that come in ascending order take one comparison each.
     pub fn from_slice(alloc: Global, words: &[&'static str]) -> Result<Self, AllocError>
         ensures { IfOk result (λ s. s ≡ set.from_list (map (λ w. lowered w.now) words.now)) }
     {
-        let mut caseless = Self::new(alloc);
-        for keyword in words {
-            caseless.insert(keyword)?;
-        }
-        Ok(caseless)
+        let folded = SortedWords::from_slice(alloc, Case::Insensitive, words)?;
+        Ok(Self { folded })
     }
 
-    /// Adds the words that the iterator gives. Where memory runs out, the set has got the words of
-    /// some beginning of them.
+    /// Adds the words that the iterator gives. Memory is taken once where the iterator says how many
+    /// there are. Where memory runs out, the set has got the words of some beginning of them.
     pub fn extend<I: Iterator<Item = &'static str> + Drop>(
         &mut self,
         words: I,
@@ -196,18 +210,7 @@ impl CaseInsensitiveKeywordSet {
         ensures ok { OnOk result (AddsAll I.next_gives lowered words self.old self.new) }
         ensures err { OnErr result (AddsSome I.next_gives lowered words self.old self.new) }
     {
-        for keyword in words {
-            self.insert(keyword)?;
-        }
-        Ok(())
-    }
-
-    fn insert(&mut self, word: &'static str) -> Result<(), AllocError>
-        ensures ok { OnOk result (self.new ≡ set.insert self.old (lowered word.now)) }
-        ensures err { OnErr result (self.new ≡ self.old) }
-    {
-        self.folded.insert(AsciiUniCase { word })?;
-        Ok(())
+        self.folded.extend(words)
     }
 }
 
@@ -230,7 +233,7 @@ impl PartialEq for CaseInsensitiveKeywordSet {
         ensures value { result ≡ same_words self.now other.now }
         ensures same { IsTrue result ↔ (self.now ≡ other.now) }
     {
-        self.folded == other.folded
+        self.folded.has_words_of(&other.folded)
     }
 }
 

@@ -3,6 +3,7 @@
 //! `keyword_set` has sets of words, `keywords` the two tables of words of WGSL.
 #![tactic(auto)]
 
+pub mod by_bytes;
 pub mod keyword_set;
 pub mod keywords;
 mod sorted;

@@ -1,4 +1,4 @@
-use Rattle.std.proofs.Common.{rules, tests, ◌≡◌, refl, List, ℕ}
+use Rattle.std.proofs.Common.{rules, tests, ◌≡◌, refl}
 use Rattle.std.specs.Char.{to_ascii_lowercase}
 use Rattle.std.specs.Ordering.{nat_cmp}
 use Rattle.std.proofs.lemmas.Iterator.{YieldsList-from_map}

@@ -1,5 +1,5 @@
-use Rattle.std.proofs.Common.{◌≡◌, ◌-◌, ◌<◌, length, ap, sym, ◌∙◌, [], Less, Equal, arith}
-use Rattle.naga_keywords.specs.SortedWords.{keys_of, read, word_cmp}
+use Rattle.std.proofs.Common.{◌-◌, length, ap, sym, ◌∙◌, [], Less, arith}
+use Rattle.naga_keywords.specs.SortedWords.{read, word_cmp}
 use Rattle.naga_keywords.proofs.Halving.{equal_at, keys_length, order_at, place_behind}
 use Rattle.naga_keywords.proofs.sorted.place.Goals as goal
 

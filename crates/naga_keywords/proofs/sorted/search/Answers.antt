@@ -1,6 +1,6 @@
-use Rattle.std.proofs.Common.{rules, ◌≡◌, ◌+◌, ◌<◌, length, ℕ, ◌-◌, ◌/◌, List, refl, sym, ap, ◌∙◌, arith, Less, Greater}
-use Rattle.naga_keywords.specs.SortedWords.{IsFoundAt, IsPlaceOf, keys_of, read}
-use Rattle.naga_keywords.proofs.Halving.{HasProbesLeft, IsBetween, at_first, equal_at, everywhere, goes_before, goes_behind, keys_length, left_before, left_behind, middle_below, nowhere, one_probe, counted, order_at, some_left, within_digits}
+use Rattle.std.proofs.Common.{rules, ◌+◌, ◌<◌, length, ◌-◌, ◌/◌, refl, sym, ap, ◌∙◌, arith, Less, Greater}
+use Rattle.naga_keywords.specs.SortedWords.{keys_of, read}
+use Rattle.naga_keywords.proofs.Halving.{HasProbesLeft, at_first, equal_at, everywhere, goes_before, goes_behind, keys_length, left_before, left_behind, middle_below, nowhere, one_probe, counted, order_at, some_left, within_digits}
 use Rattle.naga_keywords.proofs.sorted.search.Goals as goal
 
 pub loop-low-init : goal.loop-low-init

@@ -1,4 +1,4 @@
-use Rattle.std.proofs.Common.{◌-◌, ◌≡◌, ◌+◌, ◌<◌, ◌^◌, length, ℕ, ◌*◌, ◌≤◌}
+use Rattle.std.proofs.Common.{◌-◌, ◌≡◌, ◌<◌, ◌^◌, length}
 use Rattle.naga_keywords.specs.SortedWords.{keys_of, read}
 use Rattle.naga_keywords.proofs.Halving.{IsBetween, HasProbesLeft}
 use Rattle.naga_keywords.proofs.sorted.search.Given as goal

@@ -1,11 +1,9 @@
 use Rattle.std.proofs.Common.{◌∙◌}
 use Rattle.naga_keywords.specs.Words.{same_words}
-use Rattle.naga_keywords.proofs.SetLemmas.{same_words-texts_of, same_words_decides}
+use Rattle.naga_keywords.proofs.SetLemmas.{same_words_decides}
 use Rattle.naga_keywords.proofs.keyword_set.KeywordSetPartialEq.eq.Goals as goal
 
-pub returns-clause-value : goal.returns-clause-value
-returns-clause-value c =
-    c.eq.ensures ∙ same_words-texts_of (λ w. w.now) c.self.inside.words.keys c.other.inside.words.keys ∙ (λ i. same_words (c.self.view_is i) (c.other.view_is i))
-
 pub returns-clause-same : goal.returns-clause-same
-returns-clause-same c = same_words_decides c.args.self.now c.args.other.now c.eq.result (returns-clause-value c)
+returns-clause-same c =
+    same_words_decides c.args.self.now c.args.other.now c.has_words_of.result
+    (c.has_words_of.ensures ∙ (λ i. same_words (c.self.view_is i) (c.other.view_is i)))

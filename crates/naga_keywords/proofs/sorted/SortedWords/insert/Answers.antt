@@ -1,5 +1,5 @@
 use Rattle.std.proofs.Common.{ℕ, subst}
-use Rattle.naga_keywords.specs.SortedWords.{IsPlaceFor, IsPlaceOf, StandsAt, keys_of, read}
+use Rattle.naga_keywords.specs.SortedWords.{IsPlaceOf, StandsAt, keys_of, read}
 use Rattle.naga_keywords.proofs.SortedSets.{contained_already, one_more, stays_sorted}
 use Rattle.naga_keywords.proofs.sorted.SortedWords.insert.Goals as goal
 

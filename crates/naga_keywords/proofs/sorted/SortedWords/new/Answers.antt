@@ -1,6 +1,3 @@
-use Rattle.std.proofs.Common.{ap, subst, sym, List, ℕ}
-use Rattle.std.specs.List.Sorted.{IsStrictlySortedBy}
-use Rattle.naga_keywords.specs.SortedWords.{keys_of, word_cmp}
 use Rattle.naga_keywords.proofs.SortedSets.{none_sorted}
 use Rattle.naga_keywords.proofs.sorted.SortedWords.new.Goals as goal
 
