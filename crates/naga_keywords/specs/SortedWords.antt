@@ -1,7 +1,8 @@
 -- Words in ascending order, and where one stands among them.
 --
 -- Throughout, ks are the keys that members are compared by, and w is that of the wanted word.
-use Rattle.std.specs.Prelude.{◌≡◌, ℕ, ◌<◌, ◌≤◌, ◌^◌, List, map, length, get_or, MatchOption, MatchResult, Option, Result}
+use Rattle.std.specs.Prelude.{◌≡◌, ℕ, ◌<◌, ◌≤◌, ◌^◌, List, map, length, get_or}
+use Rattle.std.specs.Prelude.{MatchOption, MatchResult, Option, Result}
 use Rattle.std.specs.Cmp.Lexicographic.{slice_cmp}
 use Rattle.std.specs.FinSet as set
 use Rattle.std.specs.Ordering.{nat_cmp}

@@ -480,8 +480,8 @@ pub const BUILTIN_IDENTIFIERS_BY_BYTES: &[&str] = &[
     "write",
 ];
 
-/// The tables in the order of their bytes have the words of the tables themselves, each as often. It does
-/// nothing; its contract says so.
+/// The tables in the order of their bytes have the words of the tables themselves, each as often. It
+/// does nothing; its contract says so.
 pub fn tables_are_rearranged()
     ensures reserved { IsPermutation (map (λ word. word.now) RESERVED.now)
         (map (λ word. word.now) RESERVED_BY_BYTES.now) }
@@ -498,7 +498,8 @@ pub fn reserved_words(alloc: Global) -> Result<KeywordSet, AllocError>
 
 /// The set of the words of [`BUILTIN_IDENTIFIERS`].
 pub fn builtin_words(alloc: Global) -> Result<KeywordSet, AllocError>
-    ensures { IfOk result (λ s. s ≡ set.from_list (map (λ word. word.now) BUILTIN_IDENTIFIERS.now)) }
+    ensures { IfOk result (λ s.
+        s ≡ set.from_list (map (λ word. word.now) BUILTIN_IDENTIFIERS.now)) }
 {
     KeywordSet::from_slice(alloc, BUILTIN_IDENTIFIERS_BY_BYTES)
 }

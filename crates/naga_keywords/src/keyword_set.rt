@@ -7,7 +7,8 @@ ghost use Rattle.std.specs.FinSet as set;
 ghost use Rattle.std.specs.Iterator.{IsFinite};
 ghost use Rattle.std.proofs.Common.{rules};
 ghost use Rattle.naga_keywords.specs.SortedWords.{IsWithinDigits};
-ghost use Rattle.naga_keywords.specs.Words.{Words, lowered, same_caseless, caseless_writes, same_words, same_words_equiv, AddsAll, AddsSome};
+ghost use Rattle.naga_keywords.specs.Words.{Words, lowered, same_caseless, caseless_writes};
+ghost use Rattle.naga_keywords.specs.Words.{same_words, same_words_equiv, AddsAll, AddsSome};
 ghost use Rattle.naga_keywords.specs.declared.sorted.Case.TheVariants.{Sensitive, Insensitive};
 
 use crate::sorted::{Case, SortedWords};
@@ -17,8 +18,8 @@ use std::fmt;
 use std::hash::{Hash, Hasher};
 use std::marker::Model;
 
-/// A set of words, case-sensitive, which a `Namer` keeps its identifiers out of. It keeps them in the
-/// order of their bytes.
+/// A set of words, case-sensitive, which a `Namer` keeps its identifiers out of. It keeps them in
+/// the order of their bytes.
 ///
 /// Contracts see it as the finite set of its words' bytes.
 #[derive(Drop)]
@@ -53,10 +54,10 @@ impl KeywordSet {
         self.words.probe(identifier).0
     }
 
-    /// What [`contains`](Self::contains) answers, and how many members were compared with the word to
-    /// tell: at most as many as the number of members has binary digits, so none in the empty set,
-    /// one where there is one member, and two where there are two or three. It takes no memory and
-    /// always succeeds.
+    /// What [`contains`](Self::contains) answers, and how many members were compared with the word
+    /// to tell: at most as many as the number of members has binary digits, so none in the empty
+    /// set, one where there is one member, and two where there are two or three. It takes no memory
+    /// and always succeeds.
     pub fn contains_probes(&self, identifier: &str) -> (bool, usize)
         ensures contains { result.0 ≡ set.contains self.now identifier.now }
         ensures probes { IsWithinDigits result.1 (set.len self.now) }
@@ -78,8 +79,8 @@ impl KeywordSet {
         Ok(set)
     }
 
-    /// The set of the words of a slice. Memory is taken once, for as many words as the slice has; words
-    /// that come in ascending order take one comparison each.
+    /// The set of the words of a slice. Memory is taken once, for as many words as the slice has;
+    /// words that come in ascending order take one comparison each.
     pub fn from_slice(alloc: Global, words: &[&'static str]) -> Result<Self, AllocError>
         ensures { IfOk result (λ s. s ≡ set.from_list (map (λ w. w.now) words.now)) }
     {
@@ -87,8 +88,8 @@ impl KeywordSet {
         Ok(Self { words })
     }
 
-    /// Adds the words that the iterator gives. Memory is taken once where the iterator says how many
-    /// there are. Where memory runs out, the set has got the words of some beginning of them.
+    /// Adds the words that the iterator gives. Memory is taken once where the iterator says how
+    /// many there are. Where memory runs out, the set has got the words of some beginning of them.
     pub fn extend<I: Iterator<Item = &'static str> + Drop>(
         &mut self,
         words: I,
@@ -129,8 +130,8 @@ impl Eq for KeywordSet {
     ghost laws = { same_words_equiv };
 }
 
-/// A set of ASCII words that regards no case, which a `Namer` keeps its identifiers out of. It keeps
-/// them in the order of their bytes with the ASCII letters in lower case.
+/// A set of ASCII words that regards no case, which a `Namer` keeps its identifiers out of. It
+/// keeps them in the order of their bytes with the ASCII letters in lower case.
 ///
 /// Contracts see it as the finite set of its words' bytes, with the ASCII letters in lower case.
 #[derive(Drop)]
@@ -165,10 +166,10 @@ impl CaseInsensitiveKeywordSet {
         self.folded.probe(identifier).0
     }
 
-    /// What [`contains`](Self::contains) answers, and how many members were compared with the word to
-    /// tell: at most as many as the number of members has binary digits, so none in the empty set,
-    /// one where there is one member, and two where there are two or three. It takes no memory and
-    /// always succeeds.
+    /// What [`contains`](Self::contains) answers, and how many members were compared with the word
+    /// to tell: at most as many as the number of members has binary digits, so none in the empty
+    /// set, one where there is one member, and two where there are two or three. It takes no memory
+    /// and always succeeds.
     pub fn contains_probes(&self, identifier: &str) -> (bool, usize)
         ensures contains { result.0 ≡ set.contains self.now (lowered identifier.now) }
         ensures probes { IsWithinDigits result.1 (set.len self.now) }
@@ -190,8 +191,8 @@ impl CaseInsensitiveKeywordSet {
         Ok(caseless)
     }
 
-    /// The set of the words of a slice. Memory is taken once, for as many words as the slice has; words
-    /// that come in ascending order take one comparison each.
+    /// The set of the words of a slice. Memory is taken once, for as many words as the slice has;
+    /// words that come in ascending order take one comparison each.
     pub fn from_slice(alloc: Global, words: &[&'static str]) -> Result<Self, AllocError>
         ensures { IfOk result (λ s. s ≡ set.from_list (map (λ w. lowered w.now) words.now)) }
     {
@@ -199,8 +200,8 @@ impl CaseInsensitiveKeywordSet {
         Ok(Self { folded })
     }
 
-    /// Adds the words that the iterator gives. Memory is taken once where the iterator says how many
-    /// there are. Where memory runs out, the set has got the words of some beginning of them.
+    /// Adds the words that the iterator gives. Memory is taken once where the iterator says how
+    /// many there are. Where memory runs out, the set has got the words of some beginning of them.
     pub fn extend<I: Iterator<Item = &'static str> + Drop>(
         &mut self,
         words: I,
@@ -256,7 +257,8 @@ impl<S: AsStr> fmt::Debug for AsciiUniCase<S> {
 impl<S: AsStr> PartialEq for AsciiUniCase<S> {
     ghost eq = { λ a b. same_caseless (S.text a.word) (S.text b.word) };
 
-    ghost laws = { on_per (λ a. lowered (S.text a.word)) (partial_equiv_from_equiv nat_list_eq_equiv) };
+    ghost laws = { on_per (λ a. lowered (S.text a.word))
+        (partial_equiv_from_equiv nat_list_eq_equiv) };
 
     fn eq(&self, other: &Self) -> bool {
         self.word.as_str().eq_ignore_ascii_case(other.word.as_str())

@@ -4,7 +4,8 @@ ghost use Rattle.std.specs.Prelude.{◌≡◌, ◌+◌, ◌<◌, ◌^◌, IfOk, 
 ghost use Rattle.std.specs.FinSet as set;
 ghost use Rattle.std.specs.Iterator.{IsFinite};
 ghost use Rattle.std.specs.List.Sorted.{IsStrictlySortedBy};
-ghost use Rattle.naga_keywords.specs.SortedWords.{IsFoundAt, IsPlaceFor, IsWithinDigits, Seen, seen_code, keys_of, read, seen_words, word_cmp};
+ghost use Rattle.naga_keywords.specs.SortedWords.{IsFoundAt, IsPlaceFor, IsWithinDigits, keys_of};
+ghost use Rattle.naga_keywords.specs.SortedWords.{Seen, read, seen_code, seen_words, word_cmp};
 ghost use Rattle.naga_keywords.specs.Words.{AddsAll, AddsSome, lowered, same_words};
 
 use std::alloc::{AllocError, Global};
@@ -173,8 +174,8 @@ impl SortedWords {
         Ok(())
     }
 
-    /// The set of the words of a slice. Words that come in ascending order take one comparison each;
-    /// memory is taken once, for as many words as the slice has.
+    /// The set of the words of a slice. Words that come in ascending order take one comparison
+    /// each; memory is taken once, for as many words as the slice has.
     pub(crate) fn from_slice(
         alloc: Global,
         case: Case,

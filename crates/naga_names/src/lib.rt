@@ -2,8 +2,8 @@
 //! labels get identifiers, and the [`Namer`](namer::Namer), which makes of any label an identifier that
 //! it has not given yet.
 //!
-//! `keyword_set` has sets of words that no identifier may be, and `keywords` the two tables of words of
-//! WGSL.
+//! `keyword_set` has sets of words that no identifier may be, `keywords` the two tables of words of
+//! WGSL, and `by_bytes` these in the order of their bytes, with the sets of them.
 #![tactic(auto)]
 
 pub mod error;
@@ -13,4 +13,4 @@ pub mod namer;
 
 pub use error::NamerError;
 pub use key::{EntryPointIndex, ExternalTextureNameKey, NameKey};
-pub use naga_keywords::{keyword_set, keywords};
+pub use naga_keywords::{by_bytes, keyword_set, keywords};

@@ -21,8 +21,8 @@ use naga_acceptance::is_written_so_far;
 use naga_back::WriterFlags;
 use naga_info::ModuleInfo;
 use naga_ir::{Function, Handle, Module};
-use naga_names::keyword_set::{CaseInsensitiveKeywordSet, KeywordSet};
-use naga_names::keywords::{BUILTIN_IDENTIFIERS, RESERVED};
+use naga_names::by_bytes::{builtin_words, reserved_words};
+use naga_names::keyword_set::CaseInsensitiveKeywordSet;
 use naga_names::namer::{NameKey, Namer, NamerError};
 use naga_scope::scope_holds;
 use naga_wgsl_fns::error::{custom, not_yet_written};
@@ -186,8 +186,8 @@ fn reset_for_wgsl(
     ensures ok { OnOk result (HasAllNames «module».now (names_in names.new)) }
     ensures err { IfErr result (IsResetRefusal wgsl_names «module».now) }
 {
-    let reserved = KeywordSet::from_slice(alloc, RESERVED)?;
-    let builtin = KeywordSet::from_slice(alloc, BUILTIN_IDENTIFIERS)?;
+    let reserved = reserved_words(alloc)?;
+    let builtin = builtin_words(alloc)?;
     namer.reset(
         module,
         reserved,
