@@ -19,7 +19,7 @@ use crate::scalars::write_formless_scalar;
 use crate::types::rules::{write_conclusion_in, write_resolution_in, write_rule_in};
 use crate::types::scalars::write_scalar_in;
 use crate::types::spelling::{write_formless_inner, write_inner_in, write_type_in};
-use crate::{SinkError, TextSink};
+use crate::{Output, SinkError, TextSink};
 pub use contexts::WriterTypeContext;
 use naga_info::{Conclusion, Rule, TypeResolution};
 use naga_ir::{Handle, Override, Scalar, Type_, TypeInner};
@@ -76,6 +76,7 @@ pub trait TypeContext {
 
     /// Writes a type without a form, a value pointer in a space without a word, in braces, or refuses
     /// it.
+    #[tactic(auto, using(crate::proofs::PartWriting::outcomes))]
     final fn write_non_wgsl_inner<W: TextSink>(
         &self,
         alloc: Global,
@@ -89,10 +90,13 @@ pub trait TypeContext {
         ensures failures_ok { OnOk result (W.failures out.new ≡ W.failures out.old) }
         ensures failed { IsErrOf result (error.Sink SinkError.Failed) → W.failures out.old < W.failures out.new }
     {
-        write_formless_inner(self, alloc, inner, out)
+        let mut output = Output::new(out);
+        write_formless_inner(self, alloc, inner, &mut output);
+        output.outcome()
     }
 
     /// Writes a type by itself. A struct needs its handle; one by itself is written as an unnamed one.
+    #[tactic(auto, using(crate::proofs::PartWriting::outcomes))]
     final fn write_type_inner<W: TextSink>(
         &self,
         alloc: Global,
@@ -107,10 +111,13 @@ pub trait TypeContext {
         ensures failures_ok { OnOk result (W.failures out.new ≡ W.failures out.old) }
         ensures failed { IsErrOf result (error.Sink SinkError.Failed) → W.failures out.old < W.failures out.new }
     {
-        write_inner_in(self, alloc, inner, out)
+        let mut output = Output::new(out);
+        write_inner_in(self, alloc, inner, &mut output);
+        output.outcome()
     }
 
     /// Writes a scalar without a word in braces, or refuses it.
+    #[tactic(auto, using(crate::proofs::PartWriting::outcomes))]
     final fn write_non_wgsl_scalar<W: TextSink>(
         &self,
         alloc: Global,
@@ -124,10 +131,13 @@ pub trait TypeContext {
         ensures failures_ok { OnOk result (W.failures out.new ≡ W.failures out.old) }
         ensures failed { IsErrOf result (error.Sink SinkError.Failed) → W.failures out.old < W.failures out.new }
     {
-        write_formless_scalar(self.refuses(), alloc, scalar, out)
+        let mut output = Output::new(out);
+        write_formless_scalar(self.refuses(), alloc, scalar, &mut output);
+        output.outcome()
     }
 
     /// Writes a scalar.
+    #[tactic(auto, using(crate::proofs::PartWriting::outcomes))]
     final fn write_scalar<W: TextSink>(
         &self,
         alloc: Global,
@@ -140,10 +150,13 @@ pub trait TypeContext {
         ensures failures_ok { OnOk result (W.failures out.new ≡ W.failures out.old) }
         ensures failed { IsErrOf result (error.Sink SinkError.Failed) → W.failures out.old < W.failures out.new }
     {
-        write_scalar_in(self, alloc, scalar, out)
+        let mut output = Output::new(out);
+        write_scalar_in(self, alloc, scalar, &mut output);
+        output.outcome()
     }
 
     /// Writes the type at a handle, which lies in the context's types: a struct by its name.
+    #[tactic(auto, using(crate::proofs::PartWriting::outcomes))]
     final fn write_type<W: TextSink>(
         &self,
         alloc: Global,
@@ -158,10 +171,13 @@ pub trait TypeContext {
         ensures failures_ok { OnOk result (W.failures out.new ≡ W.failures out.old) }
         ensures failed { IsErrOf result (error.Sink SinkError.Failed) → W.failures out.old < W.failures out.new }
     {
-        write_type_in(self, alloc, handle, out)
+        let mut output = Output::new(out);
+        write_type_in(self, alloc, handle, &mut output);
+        output.outcome()
     }
 
     /// Writes the type of an expression.
+    #[tactic(auto, using(crate::proofs::PartWriting::outcomes))]
     final fn write_type_resolution<W: TextSink>(
         &self,
         alloc: Global,
@@ -176,10 +192,13 @@ pub trait TypeContext {
         ensures failures_ok { OnOk result (W.failures out.new ≡ W.failures out.old) }
         ensures failed { IsErrOf result (error.Sink SinkError.Failed) → W.failures out.old < W.failures out.new }
     {
-        write_resolution_in(self, alloc, resolution, out)
+        let mut output = Output::new(out);
+        write_resolution_in(self, alloc, resolution, &mut output);
+        output.outcome()
     }
 
     /// Writes what a function gives.
+    #[tactic(auto, using(crate::proofs::PartWriting::outcomes))]
     final fn write_type_conclusion<W: TextSink>(
         &self,
         alloc: Global,
@@ -194,10 +213,13 @@ pub trait TypeContext {
         ensures failures_ok { OnOk result (W.failures out.new ≡ W.failures out.old) }
         ensures failed { IsErrOf result (error.Sink SinkError.Failed) → W.failures out.old < W.failures out.new }
     {
-        write_conclusion_in(self, alloc, conclusion, out)
+        let mut output = Output::new(out);
+        write_conclusion_in(self, alloc, conclusion, &mut output);
+        output.outcome()
     }
 
     /// Writes a rule by its function's name: `fn dot(vec3<f32>, vec3<f32>) -> f32`.
+    #[tactic(auto, using(crate::proofs::PartWriting::outcomes))]
     final fn write_type_rule<W: TextSink>(
         &self,
         alloc: Global,
@@ -214,7 +236,9 @@ pub trait TypeContext {
         ensures failures_ok { OnOk result (W.failures out.new ≡ W.failures out.old) }
         ensures failed { IsErrOf result (error.Sink SinkError.Failed) → W.failures out.old < W.failures out.new }
     {
-        write_rule_in(self, alloc, name, rule, out)
+        let mut output = Output::new(out);
+        write_rule_in(self, alloc, name, rule, &mut output);
+        output.outcome()
     }
 
     /// The text of the type at a handle, which lies in the context's types.
