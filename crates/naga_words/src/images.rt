@@ -52,7 +52,7 @@ fn write_sampled_image<W: TextSink>(
 }
 
 /// Writes an image, as `texture_2d<f32>` or `texture_storage_2d<rgba8unorm,write>`.
-#[tactic(auto, using(crate::proofs::PartWriting::rows))]
+#[tactic(auto, using(crate::proofs::PartWriting::spells_any))]
 pub fn write_image<W: TextSink>(
     refuses: bool,
     alloc: Global,
