@@ -1,11 +1,13 @@
 -- What the writer's errors say.
 use Rattle.std.specs.Prelude.{◌≡◌, ⊤, ℕ, ◌<◌, List, codes, string_bytes}
 use Rattle.naga_words.specs.declared.error.TypeTextError.{TypeTextError}
-use Rattle.naga_words.specs.declared.error.TypeTextError.TheVariants.{Sink, Memory as NoMemory, NoForm}
+use Rattle.naga_words.specs.declared.error.TypeTextError.TheVariants.{Sink, NoForm}
+use Rattle.naga_words.specs.declared.error.TypeTextError.TheVariants.{Memory as NoMemory}
 use Rattle.naga_words.specs.declared.sink.SinkError.{SinkError}
 use Rattle.naga_words.specs.declared.sink.SinkError.TheVariants.{Failed, Memory}
 use Rattle.naga_wgsl_fns.specs.declared.error.Error.{Error}
-use Rattle.naga_wgsl_fns.specs.declared.error.Error.TheVariants.{FmtError, Memory as Want, Custom as CustomError, Unimplemented}
+use Rattle.naga_wgsl_fns.specs.declared.error.Error.TheVariants.{Custom as CustomError, FmtError}
+use Rattle.naga_wgsl_fns.specs.declared.error.Error.TheVariants.{Memory as Want, Unimplemented}
 
 -- want of memory is told as such, whoever wanted it
 abbrev pub error_of_sink : SinkError → Error

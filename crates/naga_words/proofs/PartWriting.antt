@@ -7,7 +7,7 @@ use Rattle.naga_words.specs.Sink.{IsBehind}
 use Rattle.naga_words.specs.Output.{Follow, Follows, Go, Goes, IsReason, Lies, Seen, Spelled, Stand}
 use Rattle.naga_words.specs.Output.{Wrote}
 use Rattle.naga_words.proofs.Writing.{behind_first, behind_then}
-use Rattle.naga_words.specs.Parts.{Part, Word, Shown, Missing, lacks, before_missing}
+use Rattle.naga_words.specs.Parts.{Part, Word, Shown, Missing, IsRefused, lacks, before_missing}
 use Rattle.naga_words.specs.Parts.{IsText, NoParts, WordThen, ShownThen, HasWritten, HasBegun}
 use Rattle.naga_words.specs.declared.error.TypeTextError.{TypeTextError}
 use Rattle.naga_words.specs.declared.error.TypeTextError.TheVariants.{Sink, Memory, NoForm}
@@ -76,7 +76,8 @@ parts_fail ps qs a b p = let r = begun_more_text ps qs p.whole p.is_text in reco
 begun_all : (ps : List Part) (a b : List ℕ) → HasWritten ps a b → HasBegun ps a b
 begun_all ps a b p = record {
   whole = p.text;
-  is_text = rw (sym (append-nil ps)) (rw (before_written [] p.is_text) (rw (append-nil ps) p.is_text));
+  is_text =
+      rw (sym (append-nil ps)) (rw (before_written [] p.is_text) (rw (append-nil ps) p.is_text));
   behind = (p.text, [], sym (append-nil p.text), p.behind);
 }
 
@@ -101,7 +102,7 @@ lacks_behind (Missing ∷ ps) qs h = refl
 
 -- ---- a row of parts, written to an output
 -- a reason of one kind is one of another
-reason_as : {one other : Type 0} (f : one → other) (failed failures : ℕ) (e : TypeTextError)
+pub reason_as : {one other : Type 0} (f : one → other) (failed failures : ℕ) (e : TypeTextError)
     → IsReason one failed failures e → IsReason other failed failures e
 reason_as f failed failures (Sink Failed) reason = reason
 reason_as f failed failures (Sink (SinkMemory a)) reason = reason
@@ -119,7 +120,7 @@ module _ (refuses : Bool) (before after : Seen) where
     after_whole (Some want) w kept stand = (
       parts_then_fail ps qs before.held middle.held after.held w stand.0,
       reason_as (λ r. (r.0, lacks_behind ps qs r.1)) before.failures after.failures want
-      (subst (λ n. IsReason ((refuses ≡ true) × (lacks qs ≡ true)) n after.failures want) kept stand.1),
+          (subst (λ n. IsReason (IsRefused refuses qs) n after.failures want) kept stand.1),
     )
 
     -- and where a beginning of the first does
@@ -144,8 +145,8 @@ module _ (refuses : Bool) (before after : Seen) where
     follow_then None is first more = after_middle middle.want refl first more
     follow_then (Some want) is first more =
         let stays : Follow (Some want) refuses qs middle after =
-            subst (λ o. Follow o refuses qs middle after) (ap (λ (s : Seen). s.want) first ∙ sym is)
-            more in
+        subst (λ o. Follow o refuses qs middle after) (ap (λ (s : Seen). s.want) first ∙ sym is)
+        more in
         stays ∙ first
 
   -- a text that is one part
@@ -154,16 +155,22 @@ module _ (refuses : Bool) (before after : Seen) where
     stands : (want : Option TypeTextError)
         → Lies before.held before.failures text after.held after.failures want
         → Stand refuses (part ∷ []) before after want
-    stands None lies = (record {
-      text = text ++ [];
-      is_text = is_text;
-      behind = lies.0 ∙ ap (λ t. before.held ++ t) (sym (append-nil text));
-    }, lies.1)
-    stands (Some want) lies = (record {
-      whole = text ++ [];
-      is_text = subst (λ ps. IsText ps (text ++ [])) (sym known) is_text;
-      behind = behind_first before.held text after.held [] lies.0;
-    }, reason_as (λ none. absurd none) before.failures after.failures want lies.1)
+    stands None lies = (
+      record {
+        text = text ++ [];
+        is_text = is_text;
+        behind = lies.0 ∙ ap (λ t. before.held ++ t) (sym (append-nil text));
+      },
+      lies.1,
+    )
+    stands (Some want) lies = (
+      record {
+        whole = text ++ [];
+        is_text = subst (λ ps. IsText ps (text ++ [])) (sym known) is_text;
+        behind = behind_first before.held text after.held [] lies.0;
+      },
+      reason_as (λ none. absurd none) before.failures after.failures want lies.1,
+    )
 
     follow_one : (want : Option TypeTextError) → Follows want before text after
         → Follow want refuses (part ∷ []) before after
@@ -185,7 +192,8 @@ spells_then {refuses} {before} {middle} {after} {ps} {qs} w v = record {
 pub spells_any : {refuses : Bool} {before after : Seen} {parts : List Part}
     → Spelled false before after parts → Spelled refuses before after parts
 unfolding Go
-spells_any {refuses} {before} {after} {parts} w = record { goes = (by before.want w.goes.0, w.goes.1) }
+spells_any {refuses} {before} {after} {parts} w =
+    record { goes = (by before.want w.goes.0, w.goes.1) }
   where
     on : (want : Option TypeTextError) → Stand false parts before after want
         → Stand refuses parts before after want
@@ -210,18 +218,18 @@ unfolding Go Goes
 spells_word {refuses} {before} {after} {word} w = record {
   goes = (
     follow_one refuses before after (Word word) word (WordThen word NoParts) refl before.want
-    w.goes.0,
+        w.goes.0,
     w.goes.1,
   );
 }
 
-pub spells_shown : {refuses : Bool} {before after : Seen} {debug : List ℕ} → Wrote before after debug
-    → Spelled refuses before after (Shown ∷ [])
+pub spells_shown : {refuses : Bool} {before after : Seen} {debug : List ℕ}
+    → Wrote before after debug → Spelled refuses before after (Shown ∷ [])
 unfolding Go Goes
 spells_shown {refuses} {before} {after} {debug} w = record {
   goes = (
     follow_one refuses before after Shown debug (ShownThen debug NoParts) refl before.want
-    w.goes.0,
+        w.goes.0,
     w.goes.1,
   );
 }
@@ -231,13 +239,15 @@ pub spells_word_then : {refuses : Bool} {before middle after : Seen} {word : Lis
     {parts : List Part} → Wrote before middle word → Spelled refuses middle after parts
     → Spelled refuses before after (Word word ∷ parts)
 spells_word_then {refuses} {before} {middle} {after} {word} w v =
-    let first : Spelled refuses before middle (Word word ∷ []) = spells_word w in spells_then first v
+    let first : Spelled refuses before middle (Word word ∷ []) = spells_word w in
+    spells_then first v
 
 pub spells_shown_then : {refuses : Bool} {before middle after : Seen} {debug : List ℕ}
     {parts : List Part} → Wrote before middle debug → Spelled refuses middle after parts
     → Spelled refuses before after (Shown ∷ parts)
 spells_shown_then {refuses} {before} {middle} {after} w v =
-    let first : Spelled refuses before middle (Shown ∷ []) = spells_shown w in spells_then first v
+    let first : Spelled refuses before middle (Shown ∷ []) = spells_shown w in
+    spells_then first v
 
 -- nothing is written
 pub spells_nothing : {refuses : Bool} (before : Seen) → Spelled refuses before before []
@@ -255,7 +265,8 @@ pub spells_no_more : {refuses : Bool} (before : Seen) (parts : List Part)
 unfolding Go
 spells_no_more {refuses} before parts some = record { goes = (by before.want some, refl) }
   where
-    by : (want : Option TypeTextError) → is_some want ≡ true → Follow want refuses parts before before
+    by : (want : Option TypeTextError) → is_some want ≡ true
+        → Follow want refuses parts before before
     by None some = absurd (cc)
     by (Some want) some = refl
 
@@ -267,7 +278,8 @@ unfolding Go
 stands_so refuses before after parts fresh same stand =
     record { goes = (by before.want fresh, same) }
   where
-    by : (want : Option TypeTextError) → is_some want ≡ false → Follow want refuses parts before after
+    by : (want : Option TypeTextError) → is_some want ≡ false
+        → Follow want refuses parts before after
     by None none = stand
     by (Some want) none = absurd (cc)
 
@@ -277,7 +289,8 @@ pub spells_answered : {refuses : Bool} {before after : Seen} {parts : List Part}
     → after.want ≡ before.want → Spelled refuses before after parts
 spells_answered {refuses} {before} {after} {parts} fresh same w kept want =
     stands_so refuses before after parts fresh same
-    (subst (λ o. Stand refuses parts before after o) (sym (want ∙ none before.want fresh)) (w, kept))
+    (subst (λ o. Stand refuses parts before after o) (sym (want ∙ none before.want fresh))
+    (w, kept))
   where
     none : (o : Option TypeTextError) → is_some o ≡ false → o ≡ None
     none None is = refl
@@ -286,28 +299,29 @@ spells_answered {refuses} {before} {after} {parts} fresh same w kept want =
 pub spells_wanting : {refuses : Bool} {before after : Seen} {parts : List Part} (e : TypeTextError)
     → is_some before.want ≡ false → after.sink ≡ before.sink → after.want ≡ Some e
     → HasBegun parts before.held after.held
-    → (e ≡ NoForm → (refuses ≡ true) × (lacks parts ≡ true))
+    → (e ≡ NoForm → IsRefused refuses parts)
     → (e ≡ Sink Failed → before.failures < after.failures) → Spelled refuses before after parts
 spells_wanting {refuses} {before} {after} {parts} e fresh same is begun form failure =
     stands_so refuses before after parts fresh same
     (subst (λ o. Stand refuses parts before after o) (sym is) (begun, by e form failure))
   where
-    by : (e : TypeTextError) → (e ≡ NoForm → (refuses ≡ true) × (lacks parts ≡ true))
+    by : (e : TypeTextError) → (e ≡ NoForm → IsRefused refuses parts)
         → (e ≡ Sink Failed → before.failures < after.failures)
-        → IsReason ((refuses ≡ true) × (lacks parts ≡ true)) before.failures after.failures e
+        → IsReason (IsRefused refuses parts) before.failures after.failures e
     by (Sink Failed) form failure = failure refl
     by (Sink (SinkMemory a)) form failure = tt
     by (Memory a) form failure = tt
     by NoForm form failure = form refl
 
 -- ---- an output that had no want at first
-from_fresh : (refuses : Bool) (start now : Seen) (parts : List Part) → Spelled refuses start now parts
-    → start.want ≡ None → (want : Option TypeTextError) → now.want ≡ want
+from_fresh : (refuses : Bool) (start now : Seen) (parts : List Part)
+    → Spelled refuses start now parts → start.want ≡ None → (want : Option TypeTextError)
+    → now.want ≡ want
     → Stand refuses parts start now want
 unfolding Go
 from_fresh refuses start now parts w fresh want is =
     let follow : Follow None refuses parts start now =
-        subst (λ o. Follow o refuses parts start now) fresh w.goes.0 in
+    subst (λ o. Follow o refuses parts start now) fresh w.goes.0 in
     subst (λ o. Stand refuses parts start now o) is follow
 
 module _ {refuses : Bool} {start now : Seen} {parts : List Part} where
@@ -329,7 +343,7 @@ module _ {refuses : Bool} {start now : Seen} {parts : List Part} where
   spelled_kept w fresh none = (from_fresh refuses start now parts w fresh None none).1
 
   pub spelled_refused : Spelled refuses start now parts → start.want ≡ None
-      → now.want ≡ Some NoForm → (refuses ≡ true) × (lacks parts ≡ true)
+      → now.want ≡ Some NoForm → IsRefused refuses parts
   spelled_refused w fresh some = (from_fresh refuses start now parts w fresh (Some NoForm) some).1
 
   pub spelled_failed : Spelled refuses start now parts → start.want ≡ None
@@ -341,9 +355,8 @@ module _ {refuses : Bool} {start now : Seen} {parts : List Part} where
   unfolding Go
   spelled_sink w = w.goes.1
 
-pub ruleset rows = (
-  spells_then, spells_word_then, spells_shown_then, spells_word, spells_shown, spells_nothing, spells_any
-)
+pub ruleset rows =
+    (spells_then, spells_word_then, spells_shown_then, spells_word, spells_shown, spells_any)
 
 pub ruleset lent = (spells_no_more, spells_answered, spells_wanting)
 

@@ -4,6 +4,7 @@ use Rattle.std.specs.Option.{is_some}
 use Rattle.std.proofs.lemmas.List.{append-nil}
 use Rattle.naga_words.specs.Sink.{IsBehind}
 use Rattle.naga_words.specs.declared.error.TypeTextError.{TypeTextError}
+use Rattle.naga_words.specs.declared.error.TypeTextError.TheVariants.{NoForm}
 use Rattle.naga_words.specs.Output.{Seen, IsReason, Lies, Follows, Goes, Wrote, joined}
 
 -- ---- rows
@@ -125,6 +126,11 @@ held_part start now text want w fresh some = (from_fresh start now text w fresh 
 
 pub reason_given : (start now : Seen) (text : List ℕ) (want : TypeTextError) → Wrote start now text → start.want ≡ None → now.want ≡ Some want → IsReason ⊥ start.failures now.failures want
 reason_given start now text want w fresh some = (from_fresh start now text w fresh (Some want) some).1
+
+-- and no text lacks a form
+pub never_formless : (start now : Seen) (text : List ℕ) → Wrote start now text → start.want ≡ None
+    → now.want ≡ Some NoForm → ⊥
+never_formless start now text w fresh some = (from_fresh start now text w fresh (Some NoForm) some).1
 
 -- the same by what the sink shows before the output is made, and once the output is done with
 pub held_whole_as : (start now : Seen) (text before after : List ℕ) → start.held ≡ before → now.held ≡ after → Wrote start now text → start.want ≡ None → now.want ≡ None → after ≡ before ++ text

@@ -1,6 +1,6 @@
 -- What a call that writes to an output does.
-use Rattle.std.specs.Prelude.{◌≡◌, ⊤, ℕ, ◌<◌, Bool, true, List, ◌++◌, Option, Some, None}
-use Rattle.naga_words.specs.Parts.{Part, HasBegun, HasWritten, lacks}
+use Rattle.std.specs.Prelude.{◌≡◌, ⊤, ℕ, ◌<◌, Bool, List, ◌++◌, Option, Some, None}
+use Rattle.naga_words.specs.Parts.{Part, HasBegun, HasWritten, IsRefused}
 use Rattle.naga_words.specs.Sink.{IsBehind}
 use Rattle.naga_words.specs.declared.error.TypeTextError.{TypeTextError}
 use Rattle.naga_words.specs.declared.error.TypeTextError.TheVariants.{Sink, Memory, NoForm}
@@ -8,8 +8,8 @@ use Rattle.naga_words.specs.declared.output.Output.{Output}
 use Rattle.naga_words.specs.declared.sink.SinkError.{SinkError}
 use Rattle.naga_words.specs.declared.sink.SinkError.TheVariants.{Failed, Memory as SinkMemory}
 
--- what a contract sees of an output: which sink it lends, what that holds, how often that has failed,
--- and the first want, if there was one
+-- what a contract sees of an output: which sink it lends, what that holds, how often that has
+-- failed, and the first want, if there was one
 pub record Seen : Type 0 where
   pub sink : ℕ
   pub held : List ℕ
@@ -61,8 +61,8 @@ abbrev pub Writes : {Sink : Type 0} → (text : Sink → List ℕ) (failures : S
 Writes text failures before after written =
     Wrote (seen text failures before) (seen text failures after) written
 
--- One text behind another. By this word a search sees the parts of a row, where `++` behind a literal
--- computes away.
+-- One text behind another. By this word a search sees the parts of a row, where `++` behind a
+-- literal computes away.
 unfoldable pub joined : (first more : List ℕ) → List ℕ
 joined first more = first ++ more
 
@@ -73,7 +73,7 @@ Stand refuses parts before after None =
     HasWritten parts before.held after.held × (after.failures ≡ before.failures)
 Stand refuses parts before after (Some want) =
     HasBegun parts before.held after.held ×
-    IsReason ((refuses ≡ true) × (lacks parts ≡ true)) before.failures after.failures want
+    IsReason (IsRefused refuses parts) before.failures after.failures want
 
 abbrev pub Follow : Option TypeTextError → (refuses : Bool) (parts : List Part)
     → (before after : Seen) → Type 0

@@ -1,7 +1,7 @@
 //! Images.
 //!
-//! Where `refuses` holds, an image of a scalar without a word is refused; otherwise it shows the scalar
-//! in braces.
+//! Where `refuses` holds, an image of a scalar without a word is refused; otherwise it shows the
+//! scalar in braces.
 
 ghost use Rattle.std.specs.Prelude.{false};
 ghost use Rattle.naga_ir.specs.declared.image.ImageClass.TheVariants as class;
@@ -18,12 +18,7 @@ use std::alloc::Global;
 use wgsl_words::{ToWgsl, image_access_str};
 
 #[tactic(auto, using(crate::proofs::PartWriting::rows))]
-fn write_storage_image<W: TextSink>(
-    word: &str,
-    format: &str,
-    access: &str,
-    out: &mut Output<'_, W>,
-)
+fn write_storage_image<W: TextSink>(word: &str, format: &str, access: &str, out: &mut Output<'_, W>)
     ensures { Spells W.text W.failures false out.old out.new
         (storage_image_parts word.now format.now access.now) }
 {

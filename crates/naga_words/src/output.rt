@@ -9,11 +9,11 @@ use crate::error::TypeTextError;
 use crate::sink::TextSink;
 use std::alloc::AllocError;
 
-/// Takes text piece by piece for a sink, up to the first want: of memory, of a form for a type, or a
-/// failure of the sink.
+/// Takes text piece by piece for a sink, up to the first want: of memory, of a form for a type, or
+/// a failure of the sink.
 ///
-/// Behind a want nothing is written. So a writer goes on as if there were none, and whoever made the
-/// output asks for its [outcome](Output::outcome) once, at the end.
+/// Behind a want nothing is written. So a writer goes on as if there were none, and whoever made
+/// the output asks for its [outcome](Output::outcome) once, at the end.
 #[derive(Drop)]
 pub struct Output<'a, W: TextSink> {
     /// What takes the text. A call that writes to it directly is for where there is no want.
@@ -67,7 +67,8 @@ impl<'a, W: TextSink> Output<'a, W> {
     #[tactic(auto, using(crate::proofs::PartWriting::begun_at_once), unfolding(crate::specs::Output::Goes, crate::specs::Output::Go))]
     pub fn remember(&mut self, error: AllocError)
         ensures text { (text : List ℕ) → Writes W.text W.failures self.old self.new text }
-        ensures parts { (parts : List Part) → Spells W.text W.failures false self.old self.new parts }
+        ensures parts { (parts : List Part) →
+            Spells W.text W.failures false self.old self.new parts }
     {
         if self.want.is_none() {
             self.want = Some(TypeTextError::Memory(error));

@@ -22,12 +22,7 @@ pub fn write_word<W: TextSink>(word: &str, out: &mut Output<'_, W>)
 
 /// Writes three words.
 #[tactic(auto, using(crate::proofs::PartWriting::rows))]
-pub fn write_three<W: TextSink>(
-    first: &str,
-    second: &str,
-    third: &str,
-    out: &mut Output<'_, W>,
-)
+pub fn write_three<W: TextSink>(first: &str, second: &str, third: &str, out: &mut Output<'_, W>)
     ensures { Spells W.text W.failures false out.old out.new
         (three first.now second.now third.now) }
 {
@@ -38,12 +33,7 @@ pub fn write_three<W: TextSink>(
 
 /// Writes a debug text between two words.
 #[tactic(auto, using(crate::proofs::PartWriting::rows))]
-pub fn write_shown<W: TextSink>(
-    head: &str,
-    debug: &str,
-    tail: &str,
-    out: &mut Output<'_, W>,
-)
+pub fn write_shown<W: TextSink>(head: &str, debug: &str, tail: &str, out: &mut Output<'_, W>)
     ensures { Spells W.text W.failures false out.old out.new
         (shown_between head.now tail.now) }
 {
@@ -53,11 +43,7 @@ pub fn write_shown<W: TextSink>(
 }
 
 /// Writes the length of an array that has so many elements, and the bracket that closes it: `, 4>`.
-pub fn write_number_length<W: TextSink>(
-    alloc: Global,
-    number: NonZeroU32,
-    out: &mut Output<'_, W>,
-)
+pub fn write_number_length<W: TextSink>(alloc: Global, number: NonZeroU32, out: &mut Output<'_, W>)
     ensures { Spells W.text W.failures false out.old out.new
         (length_of_number (non_zero_u32_get number)) }
 {

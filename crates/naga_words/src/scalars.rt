@@ -18,11 +18,7 @@ use std::alloc::Global;
 use wgsl_words::{TryToWgsl, space_access_str};
 
 /// Writes a scalar's debug text in braces.
-fn write_shown_scalar<W: TextSink>(
-    alloc: Global,
-    scalar: Scalar,
-    out: &mut Output<'_, W>,
-)
+fn write_shown_scalar<W: TextSink>(alloc: Global, scalar: Scalar, out: &mut Output<'_, W>)
     ensures { Spells W.text W.failures false out.old out.new
         (shown_between (codes "{non-WGSL Naga scalar ") (codes "}")) }
 {
@@ -33,11 +29,7 @@ fn write_shown_scalar<W: TextSink>(
 }
 
 /// Writes a scalar without a word in braces.
-fn write_braced_scalar<W: TextSink>(
-    alloc: Global,
-    scalar: Scalar,
-    out: &mut Output<'_, W>,
-)
+fn write_braced_scalar<W: TextSink>(alloc: Global, scalar: Scalar, out: &mut Output<'_, W>)
     ensures { Spells W.text W.failures false out.old out.new
         (braced_scalar_parts scalar.kind) }
 {

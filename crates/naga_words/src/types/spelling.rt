@@ -4,8 +4,9 @@ ghost use Rattle.std.specs.Prelude.{◌≡◌, ◌<◌, ◌≤◌, codes, false,
 ghost use Rattle.naga_words.specs.Output.{Spells};
 ghost use Rattle.naga_words.specs.Parts.{shown_between};
 ghost use Rattle.naga_words.specs.Spelling.{IsInOrder, end_of_base, is_struct, knows_override};
-ghost use Rattle.naga_words.specs.Spelling.{array_parts, inner_parts, knows_size, length_of_override};
-ghost use Rattle.naga_words.specs.Spelling.{length_parts, named_parts_by, pointer_parts, type_parts};
+ghost use Rattle.naga_words.specs.Spelling.{array_parts, inner_parts, knows_size, length_parts};
+ghost use Rattle.naga_words.specs.Spelling.{length_of_override, named_parts_by, pointer_parts};
+ghost use Rattle.naga_words.specs.Spelling.{type_parts};
 ghost use Rattle.naga_words.specs.Values.{formless_parts, pointer_in, value_parts};
 ghost use Rattle.naga_words.specs.Values.{value_pointer_parts};
 ghost use Rattle.wgsl_words.specs.Words.{space_word, space_access_word};
@@ -31,11 +32,7 @@ pub(crate) fn is_struct_type(inner: &TypeInner) -> bool
 }
 
 /// Writes a type's debug text in braces.
-fn write_shown_inner<W: TextSink>(
-    alloc: Global,
-    inner: &TypeInner,
-    out: &mut Output<'_, W>,
-)
+fn write_shown_inner<W: TextSink>(alloc: Global, inner: &TypeInner, out: &mut Output<'_, W>)
     ensures { Spells W.text W.failures false out.old out.new
         (shown_between (codes "{non-WGSL Naga type ") (codes "}")) }
 {
@@ -74,7 +71,8 @@ fn write_value_pointer<C: TypeContext, W: TextSink>(
     out: &mut Output<'_, W>,
 )
     ensures { Spells W.text W.failures (C.context context.now).refuses out.old out.new
-        (value_pointer_parts (C.context context.now).refuses (space_word space) (space_access_word space) (value_parts (C.context context.now).refuses size scalar)) }
+        (value_pointer_parts (C.context context.now).refuses (space_word space)
+        (space_access_word space) (value_parts (C.context context.now).refuses size scalar)) }
 {
     match space_str(space) {
         Some(word) => write_value_pointer_in(
@@ -199,7 +197,8 @@ fn write_pointer<C: TypeContext, W: TextSink>(
     requires order { IsInOrder (C.context context.now) }
     requires in_range { base < length (C.context context.now).types }
     ensures { Spells W.text W.failures (C.context context.now).refuses out.old out.new
-        (pointer_parts (space_word space) (space_access_word space) (type_parts (C.context context.now) base)) }
+        (pointer_parts (space_word space) (space_access_word space)
+        (type_parts (C.context context.now) base)) }
 {
     match space_str(space) {
         Some(word) => write_pointer_in(context, alloc, word, base, space, out),
@@ -221,7 +220,8 @@ fn write_array<C: TypeContext, W: TextSink>(
     requires in_range { base < length (C.context context.now).types }
     requires knows { IsTrue (knows_size (C.context context.now) size) }
     ensures { Spells W.text W.failures (C.context context.now).refuses out.old out.new
-        (array_parts (C.context context.now) word.now (type_parts (C.context context.now) base) size) }
+        (array_parts (C.context context.now) word.now (type_parts (C.context context.now) base)
+        size) }
 {
     out.put(word);
     out.put("<");
@@ -318,7 +318,8 @@ fn write_named<C: TypeContext, W: TextSink>(
     requires before { end_of_base inner.now ≤ handle }
     requires knows { IsTrue (knows_override (C.context context.now) inner.now) }
     ensures { Spells W.text W.failures (C.context context.now).refuses out.old out.new
-        (named_parts_by (C.context context.now) (type_parts (C.context context.now)) handle inner.now) }
+        (named_parts_by (C.context context.now) (type_parts (C.context context.now)) handle
+        inner.now) }
 {
     if is_struct_type(inner) {
         write_word(context.type_name(handle), out);
