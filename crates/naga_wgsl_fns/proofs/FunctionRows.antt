@@ -1,6 +1,9 @@
 -- Each function of a module that is accepted and written so far can be written; and the texts of its parts, from what is
 -- written of them in turn.
-use Rattle.std.proofs.Common.{◌≡◌, ℕ, ◌+◌, ◌<◌, ◌≤◌, ◌==◌, zero, suc, true, false, List, [], ◌∷◌, ◌++◌, Option, None, Some, length, refl, sym, ap, ◌∙◌, arith, add-one, codes, drop, drop-cons, slice_index_or, ne_eqb, append_assoc, slice_get}
+use Rattle.std.proofs.Common.{◌≡◌, ℕ, ◌+◌, ◌<◌, ◌≤◌, ◌==◌, zero, suc, add-one, arith, ne_eqb}
+use Rattle.std.proofs.Common.{true, false, Option, None, Some, refl, sym, ap, subst, ◌∙◌, codes}
+use Rattle.std.proofs.Common.{List, [], ◌∷◌, ◌++◌, append_assoc, drop, drop-cons, length}
+use Rattle.std.proofs.Common.{slice_get, slice_index_or}
 use Rattle.std.specs.Prelude.{if◌then◌else◌, unwrap_or}
 use Rattle.std.specs.Option.{option_map_or}
 use Rattle.std.proofs.lemmas.List.{append-nil, drop_all}
@@ -21,10 +24,12 @@ use Rattle.module_meaning.specs.Names.{HasNamesOf, module_names}
 use Rattle.naga_form.specs.Form.{function_form, lines_form, locals_form, parameter_form, parameters_form, result_form, value_form}
 use Rattle.module_meaning.proofs.Part.{functions_are_written}
 use Rattle.naga_scope.specs.declared.points.Standing.{Standing}
-use Rattle.naga_words.specs.declared.sink.SinkError.{SinkError}
-use Rattle.naga_words.specs.declared.sink.SinkError.TheVariants.{Failed, Memory}
+use Rattle.naga_words.specs.declared.error.TypeTextError.{TypeTextError}
+use Rattle.naga_words.specs.declared.error.TypeTextError.TheVariants.{Sink, Memory, NoForm}
+use Rattle.naga_words.specs.declared.sink.SinkError.TheVariants.{Failed, Memory as SinkMemory}
 use Rattle.naga_words.specs.Output.{IsReason, joined}
-use Rattle.naga_wgsl_fns.specs.Errors.{IsWant, error_of_sink}
+use Rattle.naga_wgsl_fns.specs.Errors.{IsErrorOf, IsWant}
+use Rattle.naga_wgsl_fns.specs.declared.error.Error.{Error}
 use Rattle.wgsl_text.specs.Declarations.{function_pieces, group_end, locals_pieces, more_parameters_pieces, parameter_pieces, parameters_pieces, result_pieces, value_pieces}
 use Rattle.wgsl_text.specs.Reading.{expression_layout, type_layout}
 use Rattle.wgsl_text.specs.Text.{text}
@@ -226,6 +231,12 @@ function_row f =
     ∙ ap (λ t. result_text f ++ (codes " {\n" ++ t)) (append_assoc locals end behind)))))
 
 -- why a function was not written
-pub reason_told : (failed failures : ℕ) (want : SinkError) → IsReason failed failures want → IsWant failed failures (error_of_sink want)
-reason_told failed failures Failed reason = reason
-reason_told failed failures (Memory error) reason = reason
+pub reason_told : (failed failures : ℕ) (want : TypeTextError) (error : Error)
+    → IsReason ⊥ failed failures want → IsErrorOf want error → IsWant failed failures error
+reason_told failed failures (Sink Failed) error reason is =
+    subst (IsWant failed failures) (sym is) reason
+reason_told failed failures (Sink (SinkMemory a)) error reason is =
+    subst (IsWant failed failures) (sym is) tt
+reason_told failed failures (Memory a) error reason is =
+    subst (IsWant failed failures) (sym is) tt
+reason_told failed failures NoForm error reason is = absurd reason

@@ -1,6 +1,6 @@
 -- What is said of a type's spelling, for types that have a form.
 use Rattle.std.proofs.Common.{◌≡◌, ℕ, ◌<◌, true, false, codes, List, [], ◌∷◌, ◌++◌, Option, Some, None, refl, sym, ap, subst, ◌∙◌, ◌≤◌, arith, slice_get, length}
-use Rattle.std.specs.Prelude.{IsTrue, unwrap_or}
+use Rattle.std.specs.Prelude.{Bool, IsTrue, unwrap_or}
 use Rattle.std.specs.Option.{is_some, option_map}
 use Rattle.std.specs.List.{list_all}
 use Rattle.std.proofs.lemmas.Option.{slice_get_within}
@@ -17,24 +17,24 @@ use Rattle.module_meaning.proofs.Accepting.{list_all_at}
 use Rattle.naga_names.specs.Keys.{NameMap, names_in}
 use Rattle.naga_info.specs.declared.info.TypeResolution.{TypeResolution}
 use Rattle.naga_info.specs.declared.info.TypeResolution.TheVariants as resolution
-use Rattle.naga_words.specs.Parts.{Part, Word, Shown, Missing, IsText, lacks, before_missing, known_text, HasWritten, HasBegun}
+use Rattle.naga_words.specs.Parts.{Part, Word, Shown, Missing}
+use Rattle.naga_words.specs.Parts.{IsText, before_missing, known_text, lacks}
+use Rattle.naga_words.proofs.PartWriting.{reason_as}
 use Rattle.naga_words.specs.Contexts.{names_of, names_context}
 use Rattle.naga_words.specs.Spelling.{Context, Fits, FitsResolution, IsInOrder, end_of_base, knows_override, type_parts, resolution_parts}
 use Rattle.naga_words.specs.Sink.{IsBehind}
 use Rattle.naga_form.specs.TypeTrees.{type_tree, resolution_tree}
-use Rattle.naga_words.specs.declared.sink.SinkError.TheVariants.{Failed, Memory as SinkMemory}
 use Rattle.naga_words.specs.declared.error.TypeTextError.{TypeTextError}
-use Rattle.naga_words.specs.declared.error.TypeTextError.TheVariants as type_error
 use Rattle.naga_form.proofs.TypeTexts.{only_text, lacks_unknown, type_row, inner_tree_row}
 use Rattle.wgsl_text.specs.Reading.{type_layout}
 use Rattle.wgsl_text.specs.Tree.{TypeSpecifier, Named}
 use Rattle.wgsl_text.proofs.RowText.{text-append}
 use Rattle.module_meaning.specs.Names.{module_names}
 use Rattle.naga_form.proofs.WrittenTypes.{HasForm, word_has_form, resolution_has_form}
-use Rattle.naga_words.specs.declared.sink.SinkError.{SinkError}
-use Rattle.naga_words.specs.Output.{Follows, Goes, IsReason, Lies, Seen, Wrote, joined}
+use Rattle.naga_words.specs.Output.{Follow, Follows, Go, Goes, Lies, Seen, Spelled, Stand, Wrote}
+use Rattle.naga_words.specs.Output.{joined}
 use Rattle.naga_wgsl_fns.specs.declared.functions.FunctionText.{FunctionText}
-use Rattle.naga_wgsl_fns.specs.Types.{IsWantOf, annotation_text, has_word, resolution_text, type_text}
+use Rattle.naga_wgsl_fns.specs.Types.{annotation_text, has_word, resolution_text, type_text}
 
 some_is : {X : Type 0} (o : Option X) → IsTrue (is_some o) → (x : X) × (o ≡ Some x)
 some_is None has = absurd (cc)
@@ -51,43 +51,33 @@ known_whole (Word w ∷ ps) t e = whole_word w ps t (known_text ps) refl (λ u k
 known_whole (Shown ∷ ps) t e = absurd (cc)
 known_whole (Missing ∷ ps) t e = absurd (cc)
 
--- a call that spells a type of known text to the sink of an output without a want
-module _ (ps : List Part) (t : List ℕ) (known : known_text ps ≡ Some t) (before after : Seen) (fresh : is_some before.want ≡ false) (same : after.sink ≡ before.sink) where
-  -- it writes what lies so behind what was held
-  lies_written : Lies before.held before.failures t after.held after.failures after.want → Wrote before after t
-  unfolding Goes
-  lies_written lies = record { goes = (by before.want fresh, same) }
-    where
-      by : (want : Option SinkError) → is_some want ≡ false → Follows want before t after
-      by None none = lies
-      by (Some want) none = absurd (cc)
+-- parts of known text, written to an output
+module _ (ps : List Part) (t : List ℕ) (known : known_text ps ≡ Some t) where
+  lacks_nothing : lacks ps ≡ true → ⊥
+  lacks_nothing lack = let none : Some t ≡ None = sym known ∙ lacks_unknown ps lack in cc
 
-  -- the text was written
-  pub known_written : HasWritten ps before.held after.held → after.failures ≡ before.failures → after.want ≡ before.want → Wrote before after t
-  known_written w kept want =
-      lies_written
-      (subst (λ o. Lies before.held before.failures t after.held after.failures o) (sym (want ∙ none before.want fresh)) (w.behind ∙ ap (λ u. before.held ++ u) (only_text ps w.text t w.is_text known), kept))
-    where
-      none : (o : Option SinkError) → is_some o ≡ false → o ≡ None
-      none None is = refl
-      none (Some want) is = absurd (cc)
+  module _ (refuses : Bool) (before after : Seen) where
+    known_lies : (want : Option TypeTextError) → Stand refuses ps before after want
+        → Lies before.held before.failures t after.held after.failures want
+    known_lies None stand =
+        (stand.0.behind ∙ ap (λ u. before.held ++ u) (only_text ps stand.0.text t stand.0.is_text known), stand.1)
+    known_lies (Some want) stand = (
+      subst (λ u. IsBehind before.held u after.held)
+      (only_text ps stand.0.whole t (subst (λ qs. IsText qs stand.0.whole) (known_whole ps t known) stand.0.is_text) known)
+      stand.0.behind,
+      reason_as (λ refused. lacks_nothing refused.1) before.failures after.failures want stand.1,
+    )
 
-  -- or a beginning of it, for want of memory or because the sink failed
-  pub known_begun : (e : TypeTextError) (want : SinkError) → after.want ≡ Some want → IsWantOf e want → HasBegun ps before.held after.held → (e ≡ type_error.Sink Failed → before.failures < after.failures) → Wrote before after t
-  known_begun e want is_want is begun failure =
-      lies_written
-      (subst (λ o. Lies before.held before.failures t after.held after.failures o) (sym is_want)
-      (subst (λ u. IsBehind before.held u after.held) (only_text ps begun.whole t (subst (λ qs. IsText qs begun.whole) (known_whole ps t known) begun.is_text) known) begun.behind, by e want is failure))
-    where
-      by : (e : TypeTextError) (want : SinkError) → IsWantOf e want → (e ≡ type_error.Sink Failed → before.failures < after.failures) → IsReason before.failures after.failures want
-      by (type_error.Sink Failed) want is failure = subst (IsReason before.failures after.failures) (sym is) (failure refl)
-      by (type_error.Sink (SinkMemory a)) want is failure = subst (IsReason before.failures after.failures) (sym is) tt
-      by (type_error.Memory a) want is failure = subst (IsReason before.failures after.failures) (sym is) tt
-      by type_error.NoForm want is failure = absurd is
+    known_follows : (want : Option TypeTextError) → Follow want refuses ps before after
+        → Follows want before t after
+    known_follows None follow = known_lies after.want follow
+    known_follows (Some want) follow = follow
 
--- what is known lacks nothing
-pub lacks_nothing : (ps : List Part) (t : List ℕ) → known_text ps ≡ Some t → lacks ps ≡ true → ⊥
-lacks_nothing ps t known lack = let none : Some t ≡ None = sym known ∙ lacks_unknown ps lack in cc
+  pub known_wrote : {refuses : Bool} {before after : Seen} → Spelled refuses before after ps
+      → Wrote before after t
+  unfolding Go Goes
+  known_wrote {refuses} {before} {after} w =
+      record { goes = (known_follows refuses before after before.want w.goes.0, w.goes.1) }
 
 -- a type that is told
 pub annotation_row : (f : FunctionText) (ty : TypeResolution) → annotation_text f ty ≡ joined (codes ": ") (resolution_text f ty)

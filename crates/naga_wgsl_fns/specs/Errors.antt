@@ -1,14 +1,24 @@
 -- What the writer's errors say.
 use Rattle.std.specs.Prelude.{◌≡◌, ⊤, ℕ, ◌<◌, List, codes, string_bytes}
+use Rattle.naga_words.specs.declared.error.TypeTextError.{TypeTextError}
+use Rattle.naga_words.specs.declared.error.TypeTextError.TheVariants.{Sink, NoForm}
+use Rattle.naga_words.specs.declared.error.TypeTextError.TheVariants.{Memory as NoMemory}
 use Rattle.naga_words.specs.declared.sink.SinkError.{SinkError}
 use Rattle.naga_words.specs.declared.sink.SinkError.TheVariants.{Failed, Memory}
 use Rattle.naga_wgsl_fns.specs.declared.error.Error.{Error}
-use Rattle.naga_wgsl_fns.specs.declared.error.Error.TheVariants.{FmtError, Memory as Want, Custom as CustomError, Unimplemented}
+use Rattle.naga_wgsl_fns.specs.declared.error.Error.TheVariants.{Custom as CustomError, FmtError}
+use Rattle.naga_wgsl_fns.specs.declared.error.Error.TheVariants.{Memory as Want, Unimplemented}
 
 -- want of memory is told as such, whoever wanted it
 abbrev pub error_of_sink : SinkError → Error
 error_of_sink Failed = FmtError Failed
 error_of_sink (Memory e) = Want e
+
+-- what was wanting in a text whose types all have forms
+abbrev pub IsErrorOf : TypeTextError → Error → Type 0
+IsErrorOf (Sink reason) error = error ≡ error_of_sink reason
+IsErrorOf (NoMemory reason) error = error ≡ Want reason
+IsErrorOf NoForm error = ⊥
 
 -- why a sink failed
 abbrev pub IsSinkWant : (old new : ℕ) → SinkError → Type 0

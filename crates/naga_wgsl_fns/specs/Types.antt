@@ -1,12 +1,8 @@
 -- The texts of types.
-use Rattle.std.specs.Prelude.{◌≡◌, ℕ, Bool, List, [], ◌++◌, Option, Some, None, codes, unwrap_or}
+use Rattle.std.specs.Prelude.{ℕ, Bool, List, [], ◌++◌, Option, Some, None, codes, unwrap_or}
 use Rattle.std.specs.Option.{is_some}
 use Rattle.naga_ir.specs.declared.types.Type_.{Type_}
 use Rattle.naga_info.specs.declared.info.TypeResolution.{TypeResolution}
-use Rattle.naga_words.specs.declared.error.TypeTextError.{TypeTextError}
-use Rattle.naga_words.specs.declared.error.TypeTextError.TheVariants as type_error
-use Rattle.naga_words.specs.declared.sink.SinkError.{SinkError}
-use Rattle.naga_words.specs.declared.sink.SinkError.TheVariants as sink_error
 use Rattle.module_meaning.specs.Spelled.{word_at}
 use Rattle.naga_form.specs.Types.{type_form}
 use Rattle.naga_form.specs.TypeTrees.{resolution_tree}
@@ -39,9 +35,3 @@ told_type_text (Some ty) = codes ": " ++ type_layout ty
 -- the same in the `let` of a handle
 unfoldable pub told_text : FunctionText → (handle : ℕ) → List ℕ
 told_text f handle = told_type_text (told f handle)
-
--- what was wanting, where a type that has a form was not written
-abbrev pub IsWantOf : TypeTextError → SinkError → Type 0
-IsWantOf (type_error.Sink reason) want = want ≡ reason
-IsWantOf (type_error.Memory error) want = want ≡ sink_error.Memory error
-IsWantOf type_error.NoForm want = ⊥

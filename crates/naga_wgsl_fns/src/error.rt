@@ -2,10 +2,11 @@
 
 ghost use Rattle.std.specs.Prelude.{◌≡◌, codes};
 ghost use Rattle.naga_wgsl_fns.specs.declared.error.Error.TheVariants.{Memory};
-ghost use Rattle.naga_wgsl_fns.specs.Errors.{error_of_sink, IsNotYetWritten, IsCustom};
+ghost use Rattle.naga_wgsl_fns.specs.Errors.{error_of_sink, IsCustom, IsErrorOf, IsNotYetWritten};
+ghost use Rattle.naga_words.specs.declared.error.TypeTextError.TheVariants as type_error;
 
 use naga_ir::RelationalFunction;
-use naga_words::SinkError;
+use naga_words::{SinkError, TypeTextError};
 use std::alloc::{AllocError, Global};
 use thiserror::Error as DisplayedError;
 
@@ -54,6 +55,18 @@ impl From<AllocError> for Error {
 
     fn from(error: AllocError) -> Error {
         Error::Memory(error)
+    }
+}
+
+/// What was wanting in a text whose types all have forms.
+pub(crate) fn error_of_want(want: TypeTextError) -> Error
+    requires { want ≡ type_error.NoForm → ⊥ }
+    ensures { IsErrorOf want result }
+{
+    match want {
+        TypeTextError::Sink(error) => Error::from(error),
+        TypeTextError::Memory(error) => Error::Memory(error),
+        TypeTextError::NoForm => unreachable!(),
     }
 }
 

@@ -13,6 +13,7 @@ ghost use Rattle.naga_wgsl_fns.specs.Types.{has_word};
 ghost use Rattle.naga_wgsl_fns.specs.Functions.{StartsAt, answer_text, argument_text, arguments_text, body_text, first_text, first_value_text, function_text, group_end_text, head_text, local_text, locals_text, next_argument_text, result_text, separator, text_of_function};
 
 use crate::Error;
+use crate::error::error_of_want;
 use naga_back::{Level, WriterFlags};
 use naga_info::{FunctionInfo, ModuleInfo};
 use naga_ir::{
@@ -61,9 +62,9 @@ pub fn write_function<W: TextSink>(
     };
     let mut written = Output::new(out);
     text.write_declaration(alloc, &mut written);
-    match written.want {
-        None => Ok(()),
-        Some(want) => Err(Error::from(want)),
+    match written.outcome() {
+        Ok(()) => Ok(()),
+        Err(want) => Err(error_of_want(want)),
     }
 }
 

@@ -1,5 +1,5 @@
-pub mod Arounds
 pub mod Empties
 pub mod Levels
 pub mod Orders
+pub mod PartWriting
 pub mod Writing

@@ -3,7 +3,8 @@ use Rattle.std.proofs.Common.{◌≡◌, ℕ, ◌<◌, true, List, [], ◌++◌,
 use Rattle.std.specs.Option.{is_some}
 use Rattle.std.proofs.lemmas.List.{append-nil}
 use Rattle.naga_words.specs.Sink.{IsBehind}
-use Rattle.naga_words.specs.declared.sink.SinkError.{SinkError}
+use Rattle.naga_words.specs.declared.error.TypeTextError.{TypeTextError}
+use Rattle.naga_words.specs.declared.error.TypeTextError.TheVariants.{NoForm}
 use Rattle.naga_words.specs.Output.{Seen, IsReason, Lies, Follows, Goes, Wrote, joined}
 
 -- ---- rows
@@ -22,15 +23,15 @@ behind_then held text middle more now at (taken, rest, whole, is) = (
 )
 
 -- the second text, where the first stands whole
-after_whole : (held : List ℕ) (failed : ℕ) (text middle more now : List ℕ) (among failures : ℕ) (want : Option SinkError) → middle ≡ held ++ text → among ≡ failed
+after_whole : (held : List ℕ) (failed : ℕ) (text middle more now : List ℕ) (among failures : ℕ) (want : Option TypeTextError) → middle ≡ held ++ text → among ≡ failed
     → Lies middle among more now failures want → Lies held failed (text ++ more) now failures want
 after_whole held failed text middle more now among failures None at kept lies =
     (lies.0 ∙ ap (λ t. t ++ more) at ∙ append_assoc held text more, lies.1 ∙ kept)
 after_whole held failed text middle more now among failures (Some want) at kept lies =
-    (behind_then held text middle more now at lies.0, subst (λ n. IsReason n failures want) kept lies.1)
+    (behind_then held text middle more now at lies.0, subst (λ n. IsReason ⊥ n failures want) kept lies.1)
 
 -- and where a beginning of the first does
-after_part : (held : List ℕ) (failed : ℕ) (text more : List ℕ) (middle after : Seen) (want : SinkError) → Lies held failed text middle.held middle.failures (Some want) → middle.want ≡ Some want → after ≡ middle
+after_part : (held : List ℕ) (failed : ℕ) (text more : List ℕ) (middle after : Seen) (want : TypeTextError) → Lies held failed text middle.held middle.failures (Some want) → middle.want ≡ Some want → after ≡ middle
     → Lies held failed (text ++ more) after.held after.failures after.want
 after_part held failed text more middle after want lies is same =
     subst (λ (s : Seen). Lies held failed (text ++ more) s.held s.failures s.want) (sym same)
@@ -40,13 +41,13 @@ pub writes_then : {before middle after : Seen} {first more : List ℕ} → Wrote
 unfolding joined Goes
 writes_then {before} {middle} {after} {first} {more} w v = record { goes = (by before.want refl w.goes.0, v.goes.1 ∙ w.goes.1) }
   where
-    on : (want : Option SinkError) → want ≡ middle.want → Lies before.held before.failures first middle.held middle.failures want → Follows want middle more after
+    on : (want : Option TypeTextError) → want ≡ middle.want → Lies before.held before.failures first middle.held middle.failures want → Follows want middle more after
         → Lies before.held before.failures (first ++ more) after.held after.failures after.want
     on None is lies follows =
         after_whole before.held before.failures first middle.held more after.held middle.failures after.failures after.want lies.0 lies.1 follows
     on (Some want) is lies follows = after_part before.held before.failures first more middle after want lies (sym is) follows
 
-    by : (want : Option SinkError) → want ≡ before.want → Follows want before first middle → Follows want before (first ++ more) after
+    by : (want : Option TypeTextError) → want ≡ before.want → Follows want before first middle → Follows want before (first ++ more) after
     by None is follows = on middle.want refl follows v.goes.0
     by (Some want) is follows =
         let stays : Follows (Some want) middle more after = subst (λ o. Follows o middle more after) (ap (λ (s : Seen). s.want) follows ∙ sym is) v.goes.0 in
@@ -57,7 +58,7 @@ pub writes_nothing : (before : Seen) → Wrote before before []
 unfolding Goes
 writes_nothing before = record { goes = (by before.want refl, refl) }
   where
-    by : (want : Option SinkError) → want ≡ before.want → Follows want before [] before
+    by : (want : Option TypeTextError) → want ≡ before.want → Follows want before [] before
     by None is = subst (λ o. Lies before.held before.failures [] before.held before.failures o) is (sym (append-nil before.held), refl)
     by (Some want) is = refl
 
@@ -66,7 +67,7 @@ pub writes_no_more : (before : Seen) (text : List ℕ) → is_some before.want �
 unfolding Goes
 writes_no_more before text some = record { goes = (by before.want some, refl) }
   where
-    by : (want : Option SinkError) → is_some want ≡ true → Follows want before text before
+    by : (want : Option TypeTextError) → is_some want ≡ true → Follows want before text before
     by None some = absurd (cc)
     by (Some want) some = refl
 
@@ -103,7 +104,7 @@ leaves_wanting start now whole left leaves some = leaves.with now (writes_no_mor
 pub ruleset loop_writes = (leaves_start, leaves_more, leaves_none, leaves_wanting)
 
 -- ---- an output that had no want at first
-from_fresh : (start now : Seen) (text : List ℕ) → Wrote start now text → start.want ≡ None → (want : Option SinkError) → now.want ≡ want
+from_fresh : (start now : Seen) (text : List ℕ) → Wrote start now text → start.want ≡ None → (want : Option TypeTextError) → now.want ≡ want
     → Lies start.held start.failures text now.held now.failures want
 unfolding Goes
 from_fresh start now text w fresh want is =
@@ -120,17 +121,22 @@ held_whole start now text w fresh none = (from_fresh start now text w fresh None
 pub never_failed : (start now : Seen) (text : List ℕ) → Wrote start now text → start.want ≡ None → now.want ≡ None → now.failures ≡ start.failures
 never_failed start now text w fresh none = (from_fresh start now text w fresh None none).1
 
-pub held_part : (start now : Seen) (text : List ℕ) (want : SinkError) → Wrote start now text → start.want ≡ None → now.want ≡ Some want → IsBehind start.held text now.held
+pub held_part : (start now : Seen) (text : List ℕ) (want : TypeTextError) → Wrote start now text → start.want ≡ None → now.want ≡ Some want → IsBehind start.held text now.held
 held_part start now text want w fresh some = (from_fresh start now text w fresh (Some want) some).0
 
-pub reason_given : (start now : Seen) (text : List ℕ) (want : SinkError) → Wrote start now text → start.want ≡ None → now.want ≡ Some want → IsReason start.failures now.failures want
+pub reason_given : (start now : Seen) (text : List ℕ) (want : TypeTextError) → Wrote start now text → start.want ≡ None → now.want ≡ Some want → IsReason ⊥ start.failures now.failures want
 reason_given start now text want w fresh some = (from_fresh start now text w fresh (Some want) some).1
+
+-- and no text lacks a form
+pub never_formless : (start now : Seen) (text : List ℕ) → Wrote start now text → start.want ≡ None
+    → now.want ≡ Some NoForm → ⊥
+never_formless start now text w fresh some = (from_fresh start now text w fresh (Some NoForm) some).1
 
 -- the same by what the sink shows before the output is made, and once the output is done with
 pub held_whole_as : (start now : Seen) (text before after : List ℕ) → start.held ≡ before → now.held ≡ after → Wrote start now text → start.want ≡ None → now.want ≡ None → after ≡ before ++ text
 held_whole_as start now text before after first last w fresh none = sym last ∙ held_whole start now text w fresh none ∙ ap (λ h. h ++ text) first
 
-pub held_part_as : (start now : Seen) (text before after : List ℕ) (want : SinkError) → start.held ≡ before → now.held ≡ after → Wrote start now text → start.want ≡ None → now.want ≡ Some want → IsBehind before text after
+pub held_part_as : (start now : Seen) (text before after : List ℕ) (want : TypeTextError) → start.held ≡ before → now.held ≡ after → Wrote start now text → start.want ≡ None → now.want ≡ Some want → IsBehind before text after
 held_part_as start now text before after want first last w fresh some =
     subst (λ h. IsBehind h text after) first (subst (λ h. IsBehind start.held text h) last (held_part start now text want w fresh some))
 

@@ -1,17 +1,20 @@
--- What a call that writes a text to an output does.
-use Rattle.std.specs.Prelude.{◌≡◌, ⊤, ℕ, ◌<◌, List, ◌++◌, Option, None, Some}
+-- What a call that writes to an output does.
+use Rattle.std.specs.Prelude.{◌≡◌, ⊤, ℕ, ◌<◌, Bool, List, ◌++◌, Option, Some, None}
+use Rattle.naga_words.specs.Parts.{Part, HasBegun, HasWritten, IsRefused}
 use Rattle.naga_words.specs.Sink.{IsBehind}
+use Rattle.naga_words.specs.declared.error.TypeTextError.{TypeTextError}
+use Rattle.naga_words.specs.declared.error.TypeTextError.TheVariants.{Sink, Memory, NoForm}
 use Rattle.naga_words.specs.declared.output.Output.{Output}
 use Rattle.naga_words.specs.declared.sink.SinkError.{SinkError}
-use Rattle.naga_words.specs.declared.sink.SinkError.TheVariants.{Failed, Memory}
+use Rattle.naga_words.specs.declared.sink.SinkError.TheVariants.{Failed, Memory as SinkMemory}
 
--- what a contract sees of an output: which sink it lends, what that holds, how often that has failed,
--- and the first want, if there was one
+-- what a contract sees of an output: which sink it lends, what that holds, how often that has
+-- failed, and the first want, if there was one
 pub record Seen : Type 0 where
   pub sink : ℕ
   pub held : List ℕ
   pub failures : ℕ
-  pub want : Option SinkError
+  pub want : Option TypeTextError
 
 -- by what a sink shows of itself
 abbrev pub seen : {Sink : Type 0} → (text : Sink → List ℕ) (failures : Sink → ℕ)
@@ -23,20 +26,22 @@ seen text failures out = record {
   want = out.want;
 }
 
--- a failure of the sink has been counted
-abbrev pub IsReason : (failed failures : ℕ) → SinkError → Type 0
-IsReason failed failures Failed = failed < failures
-IsReason failed failures (Memory error) = ⊤
+-- a failure of the sink has been counted, and there was a refusal only where there may be one
+abbrev pub IsReason : (may_refuse : Type 0) (failed failures : ℕ) → TypeTextError → Type 0
+IsReason may_refuse failed failures (Sink Failed) = failed < failures
+IsReason may_refuse failed failures (Sink (SinkMemory error)) = ⊤
+IsReason may_refuse failed failures (Memory error) = ⊤
+IsReason may_refuse failed failures NoForm = may_refuse
 
 -- with no want the text stands behind what was held; with one, a beginning of it
 abbrev pub Lies : (held : List ℕ) (failed : ℕ) (text now : List ℕ) (failures : ℕ)
-    → Option SinkError → Type 0
+    → Option TypeTextError → Type 0
 Lies held failed text now failures None = (now ≡ held ++ text) × (failures ≡ failed)
 Lies held failed text now failures (Some want) =
-    IsBehind held text now × IsReason failed failures want
+    IsBehind held text now × IsReason ⊥ failed failures want
 
 -- behind a want nothing is done
-abbrev pub Follows : Option SinkError → (before : Seen) (text : List ℕ) (after : Seen) → Type 0
+abbrev pub Follows : Option TypeTextError → (before : Seen) (text : List ℕ) (after : Seen) → Type 0
 Follows None before text after =
     Lies before.held before.failures text after.held after.failures after.want
 Follows (Some want) before text after = after ≡ before
@@ -56,7 +61,35 @@ abbrev pub Writes : {Sink : Type 0} → (text : Sink → List ℕ) (failures : S
 Writes text failures before after written =
     Wrote (seen text failures before) (seen text failures after) written
 
--- One text behind another. By this word a search sees the parts of a row, where `++` behind a literal
--- computes away.
+-- One text behind another. By this word a search sees the parts of a row, where `++` behind a
+-- literal computes away.
 unfoldable pub joined : (first more : List ℕ) → List ℕ
 joined first more = first ++ more
+
+-- ---- the same of a text in parts, of which a context that refuses may refuse one
+abbrev pub Stand : (refuses : Bool) (parts : List Part) (before after : Seen)
+    → Option TypeTextError → Type 0
+Stand refuses parts before after None =
+    HasWritten parts before.held after.held × (after.failures ≡ before.failures)
+Stand refuses parts before after (Some want) =
+    HasBegun parts before.held after.held ×
+    IsReason (IsRefused refuses parts) before.failures after.failures want
+
+abbrev pub Follow : Option TypeTextError → (refuses : Bool) (parts : List Part)
+    → (before after : Seen) → Type 0
+Follow None refuses parts before after = Stand refuses parts before after after.want
+Follow (Some want) refuses parts before after = after ≡ before
+
+unfoldable pub Go : (refuses : Bool) (parts : List Part) (before after : Seen) → Type 0
+Go refuses parts before after =
+    Follow before.want refuses parts before after × (after.sink ≡ before.sink)
+
+pub record Spelled (refuses : Bool) (before after : Seen) (parts : List Part) : Type 0 where
+  pub goes : Go refuses parts before after
+
+-- The parts are written to an output, or a beginning of them, up to a want, which is a refusal only
+-- where the context refuses and a part is missing.
+abbrev pub Spells : {Sink : Type 0} → (text : Sink → List ℕ) (failures : Sink → ℕ)
+    → (refuses : Bool) (before after : Output Sink) → List Part → Type 0
+Spells text failures refuses before after parts =
+    Spelled refuses (seen text failures before) (seen text failures after) parts

@@ -23,8 +23,10 @@ three first second third = Word first ∷ Word second ∷ Word third ∷ []
 -- The bytes are a text of these parts. It says nothing of debug texts.
 pub data IsText : List Part → List ℕ → Type 0 where
   NoParts : IsText [] []
-  WordThen : (word : List ℕ) {parts : List Part} {bytes : List ℕ} → IsText parts bytes → IsText (Word word ∷ parts) (word ++ bytes)
-  ShownThen : (debug : List ℕ) {parts : List Part} {bytes : List ℕ} → IsText parts bytes → IsText (Shown ∷ parts) (debug ++ bytes)
+  WordThen : (word : List ℕ) {parts : List Part} {bytes : List ℕ} → IsText parts bytes
+      → IsText (Word word ∷ parts) (word ++ bytes)
+  ShownThen : (debug : List ℕ) {parts : List Part} {bytes : List ℕ} → IsText parts bytes
+      → IsText (Shown ∷ parts) (debug ++ bytes)
 
 -- the text of parts that are words alone
 abbrev pub known_text : List Part → Option (List ℕ)
@@ -38,6 +40,10 @@ lacks [] = false
 lacks (Missing ∷ parts) = true
 lacks (_ ∷ parts) = lacks parts
 
+-- It is refused for want of a form: the context refuses such parts, and one is missing.
+abbrev pub IsRefused : (refuses : Bool) → List Part → Type 0
+IsRefused refuses parts = (refuses ≡ true) × (lacks parts ≡ true)
+
 -- the parts before the first that is refused
 abbrev pub before_missing : List Part → List Part
 before_missing [] = []
@@ -50,7 +56,8 @@ pub record HasWritten (parts : List Part) (held now : List ℕ) : Type 0 where
   pub is_text : IsText parts text
   pub behind : now ≡ held ++ text
 
--- A beginning of a text of the parts before the first that is refused stands behind what was held before.
+-- A beginning of a text of the parts before the first that is refused stands behind what was held
+-- before.
 pub record HasBegun (parts : List Part) (held now : List ℕ) : Type 0 where
   pub whole : List ℕ
   pub is_text : IsText (before_missing parts) whole

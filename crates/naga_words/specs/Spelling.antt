@@ -2,7 +2,9 @@
 -- overrides are named and whether what has no form is refused or shown in braces.
 --
 -- Throughout, c is the context, f gives the parts of the type at a handle, and t is the type there.
-use Rattle.std.specs.Prelude.{◌≡◌, ℕ, zero, suc, IsTrue, nat_lt, ◌≤◌, ◌<◌, ◌+◌, Bool, true, false, if◌then◌else◌, List, [], ◌∷◌, ◌++◌, Option, Some, None, codes, slice_get, length}
+use Rattle.std.specs.Prelude.{◌≡◌, ℕ, zero, suc, nat_lt, ◌≤◌, ◌<◌, ◌+◌, codes, slice_get}
+use Rattle.std.specs.Prelude.{Bool, true, false, if◌then◌else◌, IsTrue, Option, Some, None}
+use Rattle.std.specs.Prelude.{List, [], ◌∷◌, ◌++◌, length}
 use Rattle.std.specs.Int.NonZero.{non_zero_u32_get}
 use Rattle.naga_ir.specs.declared.types.Type_.{Type_}
 use Rattle.naga_ir.specs.declared.types.TypeInner.{TypeInner}
@@ -14,8 +16,10 @@ use Rattle.naga_info.specs.declared.info.TypeResolution.TheVariants.{Handle, Val
 use Rattle.std.specs.Option.{is_none}
 use Rattle.wgsl_words.specs.Words.{space_word, space_access_word}
 use Rattle.naga_words.specs.Parts.{Part, Word, Missing}
-use Rattle.naga_words.specs.Words.{matrix_word, cooperative_word, role_tail, sampler_word, acceleration_structure_text, ray_query_text}
-use Rattle.naga_words.specs.Values.{scalar_parts, vector_parts, template_parts, pointer_in, value_parts, value_pointer_parts, length_of_number, image_parts}
+use Rattle.naga_words.specs.Words.{cooperative_word, matrix_word, role_tail, sampler_word}
+use Rattle.naga_words.specs.Words.{acceleration_structure_text, ray_query_text}
+use Rattle.naga_words.specs.Values.{image_parts, length_of_number, scalar_parts, template_parts}
+use Rattle.naga_words.specs.Values.{pointer_in, value_parts, value_pointer_parts, vector_parts}
 
 -- how a context spells what is its own
 pub record Context : Type 0 where

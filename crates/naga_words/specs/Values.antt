@@ -1,6 +1,7 @@
--- How the types are spelled that name no type of a module: scalars, vectors, pointers to these, and images. What has no
--- form is refused or shown in braces.
-use Rattle.std.specs.Prelude.{ℕ, Bool, true, false, List, [], ◌∷◌, ◌++◌, Option, Some, None, codes, decimal}
+-- How the types are spelled that name no type of a module: scalars, vectors, pointers to these, and
+-- images. What has no form is refused or shown in braces.
+use Rattle.std.specs.Prelude.{ℕ, decimal, codes, Bool, true, false, List, [], ◌∷◌, ◌++◌}
+use Rattle.std.specs.Prelude.{Option, Some, None}
 use Rattle.naga_ir.specs.declared.types.VectorSize.{VectorSize}
 use Rattle.naga_ir.specs.declared.types.Scalar.{Scalar}
 use Rattle.naga_ir.specs.declared.types.ScalarKind.{ScalarKind}
@@ -41,7 +42,8 @@ abbrev pub template_parts : List ℕ → List Part → List ℕ → List Part
 template_parts word parts tail = Word word ∷ Word (codes "<") ∷ (parts ++ (Word tail ∷ []))
 
 abbrev pub vector_parts : Bool → VectorSize → Scalar → List Part
-vector_parts refuses size scalar = template_parts (vector_word size) (scalar_parts refuses scalar) (codes ">")
+vector_parts refuses size scalar =
+    template_parts (vector_word size) (scalar_parts refuses scalar) (codes ">")
 
 -- what a value pointer points to: one scalar, or a vector
 abbrev pub value_parts : Bool → Option VectorSize → Scalar → List Part
@@ -55,7 +57,8 @@ access_parts (Some w) = three (codes ", ") w (codes ">")
 
 -- a pointer in a space that has a word
 abbrev pub pointer_in : List ℕ → Option (List ℕ) → List Part → List Part
-pointer_in space access pointee = Word (codes "ptr<") ∷ Word space ∷ Word (codes ", ") ∷ (pointee ++ access_parts access)
+pointer_in space access pointee =
+    Word (codes "ptr<") ∷ Word space ∷ Word (codes ", ") ∷ (pointee ++ access_parts access)
 
 -- a pointer to a value; where its space has no word, it has no form
 abbrev pub value_pointer_parts : Bool → Option (List ℕ) → Option (List ℕ) → List Part → List Part
@@ -65,14 +68,20 @@ value_pointer_parts refuses (Some space) access value = pointer_in space access 
 abbrev pub length_of_number : ℕ → List Part
 length_of_number number = three (codes ", ") (decimal number) (codes ">")
 
--- a storage image, by its word, its format and what may be done with it; no blank stands behind the comma
+-- a storage image, by its word, its format and what may be done with it; no blank stands behind the
+-- comma
 abbrev pub storage_image_parts : List ℕ → List ℕ → List ℕ → List Part
-storage_image_parts word format access = Word word ∷ Word (codes "<") ∷ Word format ∷ Word (codes ",") ∷ Word access ∷ Word (codes ">") ∷ []
+storage_image_parts word format access =
+    Word word ∷ Word (codes "<") ∷ Word format ∷ Word (codes ",") ∷ Word access ∷
+    Word (codes ">") ∷ []
 
 abbrev pub image_parts : Bool → ImageDimension → Bool → ImageClass → List Part
 image_parts refuses dim arrayed (class.Sampled kind multi) =
-    template_parts (image_word (codes "texture_") multi dim arrayed) (scalar_parts refuses (record { kind = kind; width = 4 })) (codes ">")
-image_parts refuses dim arrayed (class.Depth multi) = Word (image_word (codes "texture_depth_") multi dim arrayed) ∷ []
+    template_parts (image_word (codes "texture_") multi dim arrayed)
+    (scalar_parts refuses (record { kind = kind; width = 4 })) (codes ">")
+image_parts refuses dim arrayed (class.Depth multi) =
+    Word (image_word (codes "texture_depth_") multi dim arrayed) ∷ []
 image_parts refuses dim arrayed class.External = Word (codes "texture_external") ∷ []
 image_parts refuses dim arrayed (class.Storage format access) =
-    storage_image_parts (image_word (codes "texture_storage_") false dim arrayed) (format_word format) (image_access_word access)
+    storage_image_parts (image_word (codes "texture_storage_") false dim arrayed)
+    (format_word format) (image_access_word access)

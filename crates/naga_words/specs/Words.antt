@@ -27,7 +27,9 @@ abbrev pub matrix_word : VectorSize → VectorSize → List ℕ
 matrix_word columns rows = codes "mat" ++ (size_text columns ++ (codes "x" ++ size_text rows))
 
 abbrev pub cooperative_word : CooperativeSize → CooperativeSize → List ℕ
-cooperative_word columns rows = codes "coop_mat" ++ (cooperative_size_text columns ++ (codes "x" ++ cooperative_size_text rows))
+cooperative_word columns rows =
+    codes "coop_mat" ++
+    (cooperative_size_text columns ++ (codes "x" ++ cooperative_size_text rows))
 
 -- the words of images
 abbrev pub array_suffix : Bool → List ℕ
@@ -39,7 +41,8 @@ multisampled_prefix true = codes "multisampled_"
 multisampled_prefix false = []
 
 abbrev pub image_word : List ℕ → Bool → ImageDimension → Bool → List ℕ
-image_word prefix multi dim arrayed = prefix ++ (multisampled_prefix multi ++ (dimension_word dim ++ array_suffix arrayed))
+image_word prefix multi dim arrayed =
+    prefix ++ (multisampled_prefix multi ++ (dimension_word dim ++ array_suffix arrayed))
 
 -- the end of a cooperative matrix; no blank stands behind the comma
 abbrev pub role_tail : CooperativeRole → List ℕ

@@ -1,5 +1,5 @@
-//! Text sinks, and the spelling of types: words, and whole types in a context that names structs and
-//! overrides. It passes on WGSL's words.
+//! Text sinks, outputs over them, and the spelling of types: words, and whole types in a context
+//! that names structs and overrides. It passes on WGSL's words.
 #![tactic(auto)]
 
 pub mod error;

@@ -1,22 +1,25 @@
 //! Output that remembers its first want.
 
-ghost use Rattle.std.specs.Prelude.{◌≡◌, ℕ, List, None};
+ghost use Rattle.std.specs.Prelude.{◌≡◌, ℕ, [], ◌∷◌, false, true, List, None, Some, OnOk, IfErr};
 ghost use Rattle.std.specs.Option.{is_some};
-ghost use Rattle.naga_words.specs.Output.{Writes};
+ghost use Rattle.naga_words.specs.Output.{Spells, Writes};
+ghost use Rattle.naga_words.specs.Parts.{Missing, Part};
 
-use crate::sink::{SinkError, TextSink};
+use crate::error::TypeTextError;
+use crate::sink::TextSink;
 use std::alloc::AllocError;
 
-/// Takes text piece by piece for a sink, up to the first want: of memory, or a failure of the sink.
+/// Takes text piece by piece for a sink, up to the first want: of memory, of a form for a type, or
+/// a failure of the sink.
 ///
-/// Behind a want nothing is written. So a writer goes on as if there were none, and whoever made the
-/// output looks for it once, at the end.
+/// Behind a want nothing is written. So a writer goes on as if there were none, and whoever made
+/// the output asks for its [outcome](Output::outcome) once, at the end.
 #[derive(Drop)]
 pub struct Output<'a, W: TextSink> {
     /// What takes the text. A call that writes to it directly is for where there is no want.
-    pub sink: &'a mut W,
+    pub(crate) sink: &'a mut W,
     /// The first want, if there was one.
-    pub want: Option<SinkError>,
+    pub(crate) want: Option<TypeTextError>,
 }
 
 impl<'a, W: TextSink> Output<'a, W> {
@@ -36,6 +39,17 @@ impl<'a, W: TextSink> Output<'a, W> {
         self.want.is_some()
     }
 
+    /// The first want, where there was one.
+    pub fn outcome(&self) -> Result<(), TypeTextError>
+        ensures whole { OnOk result (self.now.want ≡ None) }
+        ensures wanting { IfErr result (λ want. self.now.want ≡ Some want) }
+    {
+        match self.want {
+            None => Ok(()),
+            Some(want) => Err(want),
+        }
+    }
+
     /// Writes a piece of text.
     #[tactic(auto, unfolding(crate::specs::Output::Goes))]
     pub fn put(&mut self, piece: &str)
@@ -45,17 +59,29 @@ impl<'a, W: TextSink> Output<'a, W> {
             return;
         }
         if let Err(error) = self.sink.write_str(piece) {
-            self.want = Some(error);
+            self.want = Some(TypeTextError::Sink(error));
         }
     }
 
     /// Remembers that there was no memory for what was to be written, whatever that is.
-    #[tactic(auto, unfolding(crate::specs::Output::Goes))]
+    #[tactic(auto, using(crate::proofs::PartWriting::begun_at_once), unfolding(crate::specs::Output::Goes, crate::specs::Output::Go))]
     pub fn remember(&mut self, error: AllocError)
-        ensures { (text : List ℕ) → Writes W.text W.failures self.old self.new text }
+        ensures text { (text : List ℕ) → Writes W.text W.failures self.old self.new text }
+        ensures parts { (parts : List Part) →
+            Spells W.text W.failures false self.old self.new parts }
     {
         if self.want.is_none() {
-            self.want = Some(SinkError::Memory(error));
+            self.want = Some(TypeTextError::Memory(error));
+        }
+    }
+
+    /// Remembers that a part was refused.
+    #[tactic(auto, using(crate::proofs::PartWriting::begun_at_once), unfolding(crate::specs::Output::Go))]
+    pub(crate) fn refuse(&mut self)
+        ensures { Spells W.text W.failures true self.old self.new (Missing ∷ []) }
+    {
+        if self.want.is_none() {
+            self.want = Some(TypeTextError::NoForm);
         }
     }
 }

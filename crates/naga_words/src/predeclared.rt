@@ -1,7 +1,8 @@
 //! The names of structs that WGSL has without a declaration.
 
-ghost use Rattle.std.specs.Prelude.{◌≡◌, ℕ, List, ◌++◌, codes, decimal, IfOk, string_bytes};
-ghost use Rattle.naga_words.specs.Predeclared.{kind_name, result_name, predeclared_name};
+ghost use Rattle.std.specs.Prelude.{◌≡◌, ℕ, List, IfOk, string_bytes};
+ghost use Rattle.naga_words.specs.Predeclared.{kind_name, predeclared_name, result_name};
+ghost use Rattle.naga_words.specs.Predeclared.{exchange_name};
 
 use crate::words::vector_str;
 use naga_ir::{PredeclaredType, Scalar, ScalarKind, VectorSize};
@@ -49,7 +50,7 @@ fn kind_str(kind: ScalarKind) -> &'static str
 }
 
 fn exchange_name(alloc: Global, scalar: Scalar) -> Result<String, AllocError>
-    ensures { IfOk result (λ text. string_bytes text ≡ codes "__atomic_compare_exchange_result<" ++ (kind_name scalar.kind ++ (codes "," ++ (decimal scalar.width ++ codes ">")))) }
+    ensures { IfOk result (λ text. string_bytes text ≡ exchange_name scalar) }
 {
     let width = scalar.width.to_string(alloc)?;
     let mut text = String::from_str(alloc, "__atomic_compare_exchange_result<")?;

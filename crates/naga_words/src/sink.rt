@@ -1,6 +1,7 @@
 //! What text is written to.
 
-ghost use Rattle.std.specs.Prelude.{◌≡◌, ℕ, ◌<◌, List, ◌++◌, OnOk, OnErr, IsErrOf, string_bytes, alloc_error};
+ghost use Rattle.std.specs.Prelude.{◌≡◌, ℕ, ◌<◌, IsErrOf, List, ◌++◌, OnErr, OnOk, alloc_error};
+ghost use Rattle.std.specs.Prelude.{string_bytes};
 ghost use Rattle.naga_words.specs.declared.sink.SinkError.TheVariants.{Memory};
 ghost use Rattle.naga_words.specs.Sink.{IsBehind};
 

@@ -1,12 +1,15 @@
 //! How types are spelled, in a context that names what they are made of.
 
-ghost use Rattle.std.specs.Prelude.{◌≡◌, ℕ, ◌<◌, true, List, length, None, IfOk, string_bytes, OnOk, IsErrOf, IsTrue, slice_get, Some};
+ghost use Rattle.std.specs.Prelude.{◌≡◌, ◌<◌, IfOk, IsErrOf, IsTrue, None, OnOk, Some, length};
+ghost use Rattle.std.specs.Prelude.{slice_get, string_bytes};
 ghost use Rattle.naga_words.specs.declared.error.TypeTextError.TheVariants as error;
-ghost use Rattle.naga_words.specs.Parts.{HasWritten, HasBegun, IsText, lacks};
+ghost use Rattle.naga_words.specs.Parts.{HasBegun, HasWritten, IsRefused, IsText};
 ghost use Rattle.wgsl_words.specs.Words.{scalar_word};
 ghost use Rattle.naga_words.specs.Rules.{conclusion_parts, rule_parts, AllFit, FitsConclusion};
 ghost use Rattle.naga_words.specs.Values.{formless_parts, formless_scalar_parts, scalar_parts};
-ghost use Rattle.naga_words.specs.Spelling.{Context, Fits, FitsResolution, IsInOrder, is_struct, is_formless_pointer, inner_parts, type_parts, resolution_parts};
+ghost use Rattle.naga_words.specs.Spelling.{Context, Fits, FitsResolution, IsInOrder};
+ghost use Rattle.naga_words.specs.Spelling.{inner_parts, is_formless_pointer, is_struct};
+ghost use Rattle.naga_words.specs.Spelling.{resolution_parts, type_parts};
 
 pub mod contexts;
 pub mod order;
@@ -16,10 +19,12 @@ pub(crate) mod spelling;
 
 pub use crate::TypeTextError;
 use crate::scalars::write_formless_scalar;
-use crate::types::rules::{write_conclusion_in, write_resolution_in, write_rule_in};
+pub use crate::types::rules::write_resolution_in;
+use crate::types::rules::{write_conclusion_in, write_rule_in};
 use crate::types::scalars::write_scalar_in;
-use crate::types::spelling::{write_formless_inner, write_inner_in, write_type_in};
-use crate::{SinkError, TextSink};
+pub use crate::types::spelling::write_type_in;
+use crate::types::spelling::{write_formless_inner, write_inner_in};
+use crate::{Output, SinkError, TextSink};
 pub use contexts::WriterTypeContext;
 use naga_info::{Conclusion, Rule, TypeResolution};
 use naga_ir::{Handle, Override, Scalar, Type_, TypeInner};
@@ -50,11 +55,15 @@ pub trait TypeContext {
         out: &mut W,
     ) -> Result<(), TypeTextError>
         requires { IsTrue ((context self.now).knows handle) }
-        ensures written { OnOk result (HasWritten ((context self.now).override_parts handle) (W.text out.old) (W.text out.new)) }
-        ensures begun { HasBegun ((context self.now).override_parts handle) (W.text out.old) (W.text out.new) }
-        ensures no_form { IsErrOf result error.NoForm → ((context self.now).refuses ≡ true) × (lacks ((context self.now).override_parts handle) ≡ true) }
+        ensures written { OnOk result (HasWritten ((context self.now).override_parts handle)
+            (W.text out.old) (W.text out.new)) }
+        ensures begun { HasBegun ((context self.now).override_parts handle)
+            (W.text out.old) (W.text out.new) }
+        ensures no_form { IsErrOf result error.NoForm →
+            IsRefused (context self.now).refuses ((context self.now).override_parts handle) }
         ensures failures_ok { OnOk result (W.failures out.new ≡ W.failures out.old) }
-        ensures failed { IsErrOf result (error.Sink SinkError.Failed) → W.failures out.old < W.failures out.new };
+        ensures failed { IsErrOf result (error.Sink SinkError.Failed) →
+            W.failures out.old < W.failures out.new };
 
     /// Writes a struct that no handle names.
     fn write_unnamed_struct<W: TextSink>(
@@ -64,18 +73,23 @@ pub trait TypeContext {
         out: &mut W,
     ) -> Result<(), TypeTextError>
         requires { IsTrue (is_struct inner.now) }
-        ensures written { OnOk result (HasWritten (context self.now).unnamed_parts (W.text out.old) (W.text out.new)) }
-        ensures begun { HasBegun (context self.now).unnamed_parts (W.text out.old) (W.text out.new) }
-        ensures no_form { IsErrOf result error.NoForm → ((context self.now).refuses ≡ true) × (lacks (context self.now).unnamed_parts ≡ true) }
+        ensures written { OnOk result (HasWritten (context self.now).unnamed_parts
+            (W.text out.old) (W.text out.new)) }
+        ensures begun { HasBegun (context self.now).unnamed_parts
+            (W.text out.old) (W.text out.new) }
+        ensures no_form { IsErrOf result error.NoForm →
+            IsRefused (context self.now).refuses (context self.now).unnamed_parts }
         ensures failures_ok { OnOk result (W.failures out.new ≡ W.failures out.old) }
-        ensures failed { IsErrOf result (error.Sink SinkError.Failed) → W.failures out.old < W.failures out.new };
+        ensures failed { IsErrOf result (error.Sink SinkError.Failed) →
+            W.failures out.old < W.failures out.new };
 
     /// Whether a type without a form is refused. Otherwise it is shown in braces.
     fn refuses(&self) -> bool
         ensures { result ≡ (context self.now).refuses };
 
-    /// Writes a type without a form, a value pointer in a space without a word, in braces, or refuses
-    /// it.
+    /// Writes a type without a form, a value pointer in a space without a word, in braces, or
+    /// refuses it.
+    #[tactic(auto, using(crate::proofs::PartWriting::outcomes))]
     final fn write_non_wgsl_inner<W: TextSink>(
         &self,
         alloc: Global,
@@ -83,16 +97,24 @@ pub trait TypeContext {
         out: &mut W,
     ) -> Result<(), TypeTextError>
         requires { IsTrue (is_formless_pointer inner.now) }
-        ensures written { OnOk result (HasWritten (formless_parts (context self.now).refuses) (W.text out.old) (W.text out.new)) }
-        ensures begun { HasBegun (formless_parts (context self.now).refuses) (W.text out.old) (W.text out.new) }
-        ensures no_form { IsErrOf result error.NoForm → ((context self.now).refuses ≡ true) × (lacks (formless_parts (context self.now).refuses) ≡ true) }
+        ensures written { OnOk result (HasWritten (formless_parts (context self.now).refuses)
+            (W.text out.old) (W.text out.new)) }
+        ensures begun { HasBegun (formless_parts (context self.now).refuses)
+            (W.text out.old) (W.text out.new) }
+        ensures no_form { IsErrOf result error.NoForm →
+            IsRefused (context self.now).refuses (formless_parts (context self.now).refuses) }
         ensures failures_ok { OnOk result (W.failures out.new ≡ W.failures out.old) }
-        ensures failed { IsErrOf result (error.Sink SinkError.Failed) → W.failures out.old < W.failures out.new }
+        ensures failed { IsErrOf result (error.Sink SinkError.Failed) →
+            W.failures out.old < W.failures out.new }
     {
-        write_formless_inner(self, alloc, inner, out)
+        let mut output = Output::new(out);
+        write_formless_inner(self, alloc, inner, &mut output);
+        output.outcome()
     }
 
-    /// Writes a type by itself. A struct needs its handle; one by itself is written as an unnamed one.
+    /// Writes a type by itself. A struct needs its handle; one by itself is written as an unnamed
+    /// one.
+    #[tactic(auto, using(crate::proofs::PartWriting::outcomes))]
     final fn write_type_inner<W: TextSink>(
         &self,
         alloc: Global,
@@ -101,16 +123,23 @@ pub trait TypeContext {
     ) -> Result<(), TypeTextError>
         requires order { IsInOrder (context self.now) }
         requires fits { Fits (context self.now) inner.now }
-        ensures written { OnOk result (HasWritten (inner_parts (context self.now) inner.now) (W.text out.old) (W.text out.new)) }
-        ensures begun { HasBegun (inner_parts (context self.now) inner.now) (W.text out.old) (W.text out.new) }
-        ensures no_form { IsErrOf result error.NoForm → ((context self.now).refuses ≡ true) × (lacks (inner_parts (context self.now) inner.now) ≡ true) }
+        ensures written { OnOk result (HasWritten (inner_parts (context self.now) inner.now)
+            (W.text out.old) (W.text out.new)) }
+        ensures begun { HasBegun (inner_parts (context self.now) inner.now)
+            (W.text out.old) (W.text out.new) }
+        ensures no_form { IsErrOf result error.NoForm →
+            IsRefused (context self.now).refuses (inner_parts (context self.now) inner.now) }
         ensures failures_ok { OnOk result (W.failures out.new ≡ W.failures out.old) }
-        ensures failed { IsErrOf result (error.Sink SinkError.Failed) → W.failures out.old < W.failures out.new }
+        ensures failed { IsErrOf result (error.Sink SinkError.Failed) →
+            W.failures out.old < W.failures out.new }
     {
-        write_inner_in(self, alloc, inner, out)
+        let mut output = Output::new(out);
+        write_inner_in(self, alloc, inner, &mut output);
+        output.outcome()
     }
 
     /// Writes a scalar without a word in braces, or refuses it.
+    #[tactic(auto, using(crate::proofs::PartWriting::outcomes))]
     final fn write_non_wgsl_scalar<W: TextSink>(
         &self,
         alloc: Global,
@@ -118,32 +147,48 @@ pub trait TypeContext {
         out: &mut W,
     ) -> Result<(), TypeTextError>
         requires { scalar_word scalar ≡ None }
-        ensures written { OnOk result (HasWritten (formless_scalar_parts (context self.now).refuses scalar.kind) (W.text out.old) (W.text out.new)) }
-        ensures begun { HasBegun (formless_scalar_parts (context self.now).refuses scalar.kind) (W.text out.old) (W.text out.new) }
-        ensures no_form { IsErrOf result error.NoForm → ((context self.now).refuses ≡ true) × (lacks (formless_scalar_parts (context self.now).refuses scalar.kind) ≡ true) }
+        ensures written { OnOk result (HasWritten
+            (formless_scalar_parts (context self.now).refuses scalar.kind)
+            (W.text out.old) (W.text out.new)) }
+        ensures begun { HasBegun (formless_scalar_parts (context self.now).refuses scalar.kind)
+            (W.text out.old) (W.text out.new) }
+        ensures no_form { IsErrOf result error.NoForm →
+            IsRefused (context self.now).refuses
+            (formless_scalar_parts (context self.now).refuses scalar.kind) }
         ensures failures_ok { OnOk result (W.failures out.new ≡ W.failures out.old) }
-        ensures failed { IsErrOf result (error.Sink SinkError.Failed) → W.failures out.old < W.failures out.new }
+        ensures failed { IsErrOf result (error.Sink SinkError.Failed) →
+            W.failures out.old < W.failures out.new }
     {
-        write_formless_scalar(self.refuses(), alloc, scalar, out)
+        let mut output = Output::new(out);
+        write_formless_scalar(self.refuses(), alloc, scalar, &mut output);
+        output.outcome()
     }
 
     /// Writes a scalar.
+    #[tactic(auto, using(crate::proofs::PartWriting::outcomes))]
     final fn write_scalar<W: TextSink>(
         &self,
         alloc: Global,
         scalar: Scalar,
         out: &mut W,
     ) -> Result<(), TypeTextError>
-        ensures written { OnOk result (HasWritten (scalar_parts (context self.now).refuses scalar) (W.text out.old) (W.text out.new)) }
-        ensures begun { HasBegun (scalar_parts (context self.now).refuses scalar) (W.text out.old) (W.text out.new) }
-        ensures no_form { IsErrOf result error.NoForm → ((context self.now).refuses ≡ true) × (lacks (scalar_parts (context self.now).refuses scalar) ≡ true) }
+        ensures written { OnOk result (HasWritten (scalar_parts (context self.now).refuses scalar)
+            (W.text out.old) (W.text out.new)) }
+        ensures begun { HasBegun (scalar_parts (context self.now).refuses scalar)
+            (W.text out.old) (W.text out.new) }
+        ensures no_form { IsErrOf result error.NoForm →
+            IsRefused (context self.now).refuses (scalar_parts (context self.now).refuses scalar) }
         ensures failures_ok { OnOk result (W.failures out.new ≡ W.failures out.old) }
-        ensures failed { IsErrOf result (error.Sink SinkError.Failed) → W.failures out.old < W.failures out.new }
+        ensures failed { IsErrOf result (error.Sink SinkError.Failed) →
+            W.failures out.old < W.failures out.new }
     {
-        write_scalar_in(self, alloc, scalar, out)
+        let mut output = Output::new(out);
+        write_scalar_in(self, alloc, scalar, &mut output);
+        output.outcome()
     }
 
     /// Writes the type at a handle, which lies in the context's types: a struct by its name.
+    #[tactic(auto, using(crate::proofs::PartWriting::outcomes))]
     final fn write_type<W: TextSink>(
         &self,
         alloc: Global,
@@ -152,16 +197,23 @@ pub trait TypeContext {
     ) -> Result<(), TypeTextError>
         requires order { IsInOrder (context self.now) }
         requires in_range { handle < length (context self.now).types }
-        ensures written { OnOk result (HasWritten (type_parts (context self.now) handle) (W.text out.old) (W.text out.new)) }
-        ensures begun { HasBegun (type_parts (context self.now) handle) (W.text out.old) (W.text out.new) }
-        ensures no_form { IsErrOf result error.NoForm → ((context self.now).refuses ≡ true) × (lacks (type_parts (context self.now) handle) ≡ true) }
+        ensures written { OnOk result (HasWritten (type_parts (context self.now) handle)
+            (W.text out.old) (W.text out.new)) }
+        ensures begun { HasBegun (type_parts (context self.now) handle)
+            (W.text out.old) (W.text out.new) }
+        ensures no_form { IsErrOf result error.NoForm →
+            IsRefused (context self.now).refuses (type_parts (context self.now) handle) }
         ensures failures_ok { OnOk result (W.failures out.new ≡ W.failures out.old) }
-        ensures failed { IsErrOf result (error.Sink SinkError.Failed) → W.failures out.old < W.failures out.new }
+        ensures failed { IsErrOf result (error.Sink SinkError.Failed) →
+            W.failures out.old < W.failures out.new }
     {
-        write_type_in(self, alloc, handle, out)
+        let mut output = Output::new(out);
+        write_type_in(self, alloc, handle, &mut output);
+        output.outcome()
     }
 
     /// Writes the type of an expression.
+    #[tactic(auto, using(crate::proofs::PartWriting::outcomes))]
     final fn write_type_resolution<W: TextSink>(
         &self,
         alloc: Global,
@@ -170,16 +222,25 @@ pub trait TypeContext {
     ) -> Result<(), TypeTextError>
         requires order { IsInOrder (context self.now) }
         requires fits { FitsResolution (context self.now) resolution.now }
-        ensures written { OnOk result (HasWritten (resolution_parts (context self.now) resolution.now) (W.text out.old) (W.text out.new)) }
-        ensures begun { HasBegun (resolution_parts (context self.now) resolution.now) (W.text out.old) (W.text out.new) }
-        ensures no_form { IsErrOf result error.NoForm → ((context self.now).refuses ≡ true) × (lacks (resolution_parts (context self.now) resolution.now) ≡ true) }
+        ensures written { OnOk result (HasWritten
+            (resolution_parts (context self.now) resolution.now)
+            (W.text out.old) (W.text out.new)) }
+        ensures begun { HasBegun (resolution_parts (context self.now) resolution.now)
+            (W.text out.old) (W.text out.new) }
+        ensures no_form { IsErrOf result error.NoForm →
+            IsRefused (context self.now).refuses
+            (resolution_parts (context self.now) resolution.now) }
         ensures failures_ok { OnOk result (W.failures out.new ≡ W.failures out.old) }
-        ensures failed { IsErrOf result (error.Sink SinkError.Failed) → W.failures out.old < W.failures out.new }
+        ensures failed { IsErrOf result (error.Sink SinkError.Failed) →
+            W.failures out.old < W.failures out.new }
     {
-        write_resolution_in(self, alloc, resolution, out)
+        let mut output = Output::new(out);
+        write_resolution_in(self, alloc, resolution, &mut output);
+        output.outcome()
     }
 
     /// Writes what a function gives.
+    #[tactic(auto, using(crate::proofs::PartWriting::outcomes))]
     final fn write_type_conclusion<W: TextSink>(
         &self,
         alloc: Global,
@@ -188,16 +249,25 @@ pub trait TypeContext {
     ) -> Result<(), TypeTextError>
         requires order { IsInOrder (context self.now) }
         requires fits { FitsConclusion (context self.now) conclusion.now }
-        ensures written { OnOk result (HasWritten (conclusion_parts (context self.now) conclusion.now) (W.text out.old) (W.text out.new)) }
-        ensures begun { HasBegun (conclusion_parts (context self.now) conclusion.now) (W.text out.old) (W.text out.new) }
-        ensures no_form { IsErrOf result error.NoForm → ((context self.now).refuses ≡ true) × (lacks (conclusion_parts (context self.now) conclusion.now) ≡ true) }
+        ensures written { OnOk result (HasWritten
+            (conclusion_parts (context self.now) conclusion.now)
+            (W.text out.old) (W.text out.new)) }
+        ensures begun { HasBegun (conclusion_parts (context self.now) conclusion.now)
+            (W.text out.old) (W.text out.new) }
+        ensures no_form { IsErrOf result error.NoForm →
+            IsRefused (context self.now).refuses
+            (conclusion_parts (context self.now) conclusion.now) }
         ensures failures_ok { OnOk result (W.failures out.new ≡ W.failures out.old) }
-        ensures failed { IsErrOf result (error.Sink SinkError.Failed) → W.failures out.old < W.failures out.new }
+        ensures failed { IsErrOf result (error.Sink SinkError.Failed) →
+            W.failures out.old < W.failures out.new }
     {
-        write_conclusion_in(self, alloc, conclusion, out)
+        let mut output = Output::new(out);
+        write_conclusion_in(self, alloc, conclusion, &mut output);
+        output.outcome()
     }
 
     /// Writes a rule by its function's name: `fn dot(vec3<f32>, vec3<f32>) -> f32`.
+    #[tactic(auto, using(crate::proofs::PartWriting::outcomes))]
     final fn write_type_rule<W: TextSink>(
         &self,
         alloc: Global,
@@ -208,13 +278,19 @@ pub trait TypeContext {
         requires order { IsInOrder (context self.now) }
         requires fits { AllFit (context self.now) rule.now.arguments.items }
         requires gives { FitsConclusion (context self.now) rule.now.conclusion }
-        ensures written { OnOk result (HasWritten (rule_parts (context self.now) name.now rule.now) (W.text out.old) (W.text out.new)) }
-        ensures begun { HasBegun (rule_parts (context self.now) name.now rule.now) (W.text out.old) (W.text out.new) }
-        ensures no_form { IsErrOf result error.NoForm → ((context self.now).refuses ≡ true) × (lacks (rule_parts (context self.now) name.now rule.now) ≡ true) }
+        ensures written { OnOk result (HasWritten (rule_parts (context self.now) name.now rule.now)
+            (W.text out.old) (W.text out.new)) }
+        ensures begun { HasBegun (rule_parts (context self.now) name.now rule.now)
+            (W.text out.old) (W.text out.new) }
+        ensures no_form { IsErrOf result error.NoForm →
+            IsRefused (context self.now).refuses (rule_parts (context self.now) name.now rule.now) }
         ensures failures_ok { OnOk result (W.failures out.new ≡ W.failures out.old) }
-        ensures failed { IsErrOf result (error.Sink SinkError.Failed) → W.failures out.old < W.failures out.new }
+        ensures failed { IsErrOf result (error.Sink SinkError.Failed) →
+            W.failures out.old < W.failures out.new }
     {
-        write_rule_in(self, alloc, name, rule, out)
+        let mut output = Output::new(out);
+        write_rule_in(self, alloc, name, rule, &mut output);
+        output.outcome()
     }
 
     /// The text of the type at a handle, which lies in the context's types.
@@ -225,8 +301,10 @@ pub trait TypeContext {
     ) -> Result<String, TypeTextError>
         requires order { IsInOrder (context self.now) }
         requires in_range { handle < length (context self.now).types }
-        ensures text { IfOk result (λ text. IsText (type_parts (context self.now) handle) (string_bytes text)) }
-        ensures no_form { IsErrOf result error.NoForm → ((context self.now).refuses ≡ true) × (lacks (type_parts (context self.now) handle) ≡ true) }
+        ensures text { IfOk result (λ text. IsText (type_parts (context self.now) handle)
+            (string_bytes text)) }
+        ensures no_form { IsErrOf result error.NoForm →
+            IsRefused (context self.now).refuses (type_parts (context self.now) handle) }
         ensures no_failure { IsErrOf result (error.Sink SinkError.Failed) → ⊥ }
     {
         let mut text = String::new(alloc);
@@ -242,8 +320,12 @@ pub trait TypeContext {
     ) -> Result<String, TypeTextError>
         requires order { IsInOrder (context self.now) }
         requires fits { FitsResolution (context self.now) resolution.now }
-        ensures text { IfOk result (λ text. IsText (resolution_parts (context self.now) resolution.now) (string_bytes text)) }
-        ensures no_form { IsErrOf result error.NoForm → ((context self.now).refuses ≡ true) × (lacks (resolution_parts (context self.now) resolution.now) ≡ true) }
+        ensures text { IfOk result (λ text. IsText
+            (resolution_parts (context self.now) resolution.now)
+            (string_bytes text)) }
+        ensures no_form { IsErrOf result error.NoForm →
+            IsRefused (context self.now).refuses
+            (resolution_parts (context self.now) resolution.now) }
         ensures no_failure { IsErrOf result (error.Sink SinkError.Failed) → ⊥ }
     {
         let mut text = String::new(alloc);
@@ -261,8 +343,10 @@ pub trait TypeContext {
         requires order { IsInOrder (context self.now) }
         requires fits { AllFit (context self.now) rule.now.arguments.items }
         requires gives { FitsConclusion (context self.now) rule.now.conclusion }
-        ensures text { IfOk result (λ text. IsText (rule_parts (context self.now) name.now rule.now) (string_bytes text)) }
-        ensures no_form { IsErrOf result error.NoForm → ((context self.now).refuses ≡ true) × (lacks (rule_parts (context self.now) name.now rule.now) ≡ true) }
+        ensures text { IfOk result (λ text. IsText (rule_parts (context self.now) name.now rule.now)
+            (string_bytes text)) }
+        ensures no_form { IsErrOf result error.NoForm →
+            IsRefused (context self.now).refuses (rule_parts (context self.now) name.now rule.now) }
         ensures no_failure { IsErrOf result (error.Sink SinkError.Failed) → ⊥ }
     {
         let mut text = String::new(alloc);

@@ -1,7 +1,9 @@
 //! Words that types begin with.
 
 ghost use Rattle.std.specs.Prelude.{◌≡◌, codes, false};
-ghost use Rattle.naga_words.specs.Words.{vector_word, matrix_word, cooperative_word, image_word, role_tail, sampler_word, acceleration_structure_text, ray_query_text};
+ghost use Rattle.naga_words.specs.Words.{acceleration_structure_text, cooperative_word};
+ghost use Rattle.naga_words.specs.Words.{image_word, matrix_word, ray_query_text, role_tail};
+ghost use Rattle.naga_words.specs.Words.{sampler_word, vector_word};
 
 use naga_ir::{CooperativeRole, CooperativeSize, ImageDimension, VectorSize};
 

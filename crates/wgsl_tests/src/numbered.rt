@@ -6,7 +6,8 @@ ghost use Rattle.wgsl_tests.specs.Numbered.{numbered_context, AreNumbered};
 
 use naga_ir::{Handle, Override, Type_, TypeInner, UniqueArena};
 use naga_words::types::types_in_order;
-use naga_words::{TextSink, TypeContext, TypeTextError};
+use naga_words::pieces::write_word;
+use naga_words::{Output, TextSink, TypeContext, TypeTextError};
 use std::alloc::{AllocError, Global};
 
 /// Names the struct at a handle `T` and the handle's index, as `T12`, and overrides likewise `O` and
@@ -42,7 +43,7 @@ impl<'a> NumberedTypes<'a> {
     }
 }
 
-#[tactic(auto, using(naga_words::proofs::Arounds::fails_at_once))]
+#[tactic(auto, using(naga_words::proofs::PartWriting::begun_at_once, naga_words::proofs::PartWriting::outcomes))]
 impl TypeContext for NumberedTypes<'_> {
     ghost context = { λ c. numbered_context c.types.now };
 
@@ -61,9 +62,12 @@ impl TypeContext for NumberedTypes<'_> {
         out: &mut W,
     ) -> Result<(), TypeTextError> {
         let index = handle.index();
-        let name = format!(in alloc; "O{index}")?;
-        out.write_str(name.as_str())?;
-        Ok(())
+        let mut output = Output::new(out);
+        match format!(in alloc; "O{index}") {
+            Ok(name) => write_word(name.as_str(), &mut output),
+            Err(error) => output.remember(error),
+        }
+        output.outcome()
     }
 
     fn write_unnamed_struct<W: TextSink>(

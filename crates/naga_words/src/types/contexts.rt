@@ -1,14 +1,15 @@
 //! Contexts: types alone, the arenas of a module, and a module with the names of its items.
 
-ghost use Rattle.std.specs.Prelude.{◌≡◌, ◌<◌, None, Some, slice_get, string_bytes, codes, OnOk, IsErrOf};
+ghost use Rattle.std.specs.Prelude.{◌≡◌, ◌<◌, false, None, Some, slice_get, string_bytes, codes};
 ghost use Rattle.naga_names.specs.Keys.{names_in};
-ghost use Rattle.naga_words.specs.Contexts.{arena_context, global_context, names_context, name_or_nothing};
-ghost use Rattle.naga_words.specs.Parts.{HasWritten, HasBegun, shown_between};
-ghost use Rattle.naga_words.specs.declared.error.TypeTextError.TheVariants as error;
+ghost use Rattle.naga_words.specs.Contexts.{arena_context, global_context, names_context};
+ghost use Rattle.naga_words.specs.Contexts.{name_or_nothing};
+ghost use Rattle.naga_words.specs.Output.{Spells};
+ghost use Rattle.naga_words.specs.Parts.{shown_between};
 
 use crate::pieces::{write_shown, write_word};
 use crate::types::TypeContext;
-use crate::{SinkError, TextSink, TypeTextError};
+use crate::{Output, TextSink, TypeTextError};
 use naga_info::GlobalCtx;
 use naga_ir::{Handle, Module, Override, Type_, TypeInner, UniqueArena};
 use naga_names::NameKey;
@@ -20,7 +21,7 @@ const ANONYMOUS_TYPE: &str = "{anonymous type}";
 
 /// Labels are names, and what has no form is shown in braces, with overrides and structs without a
 /// handle.
-#[tactic(auto, using(crate::proofs::Arounds::fails_at_once))]
+#[tactic(auto, using(crate::proofs::PartWriting::outcomes))]
 impl TypeContext for UniqueArena<Type_> {
     ghost context = { arena_context };
 
@@ -41,8 +42,9 @@ impl TypeContext for UniqueArena<Type_> {
         handle: Handle<Override>,
         out: &mut W,
     ) -> Result<(), TypeTextError> {
-        let debug = format!(in alloc; "{handle:?}")?;
-        write_shown("{override ", debug.as_str(), "}", out)
+        let mut output = Output::new(out);
+        write_shown_override(alloc, handle, &mut output);
+        output.outcome()
     }
 
     fn write_unnamed_struct<W: TextSink>(
@@ -51,8 +53,9 @@ impl TypeContext for UniqueArena<Type_> {
         inner: &TypeInner,
         out: &mut W,
     ) -> Result<(), TypeTextError> {
-        let debug = format!(in alloc; "{inner:?}")?;
-        write_shown("{unnamed struct ", debug.as_str(), "}", out)
+        let mut output = Output::new(out);
+        write_shown_struct(alloc, inner, &mut output);
+        output.outcome()
     }
 
     fn refuses(&self) -> bool {
@@ -62,7 +65,7 @@ impl TypeContext for UniqueArena<Type_> {
 
 /// Labels are names, and what has no form is shown in braces, with overrides without a label and
 /// structs without a handle.
-#[tactic(auto, using(crate::proofs::Arounds::fails_at_once))]
+#[tactic(auto, using(crate::proofs::PartWriting::outcomes))]
 impl TypeContext for GlobalCtx<'_> {
     ghost context = { λ c. global_context c.types.now c.overrides.now };
 
@@ -83,10 +86,12 @@ impl TypeContext for GlobalCtx<'_> {
         handle: Handle<Override>,
         out: &mut W,
     ) -> Result<(), TypeTextError> {
+        let mut output = Output::new(out);
         match &self.overrides[handle].name {
-            Some(name) => write_word(name.as_str(), out),
-            None => write_anonymous_override(alloc, handle, out),
+            Some(name) => write_word(name.as_str(), &mut output),
+            None => write_anonymous_override(alloc, handle, &mut output),
         }
+        output.outcome()
     }
 
     fn write_unnamed_struct<W: TextSink>(
@@ -95,7 +100,9 @@ impl TypeContext for GlobalCtx<'_> {
         _inner: &TypeInner,
         out: &mut W,
     ) -> Result<(), TypeTextError> {
-        write_word("{unnamed struct}", out)
+        let mut output = Output::new(out);
+        write_word("{unnamed struct}", &mut output);
+        output.outcome()
     }
 
     fn refuses(&self) -> bool {
@@ -113,7 +120,7 @@ pub struct WriterTypeContext<'a> {
     pub names: &'a HashMap<NameKey, String>,
 }
 
-#[tactic(auto, using(crate::proofs::Arounds::fails_at_once))]
+#[tactic(auto, using(crate::proofs::PartWriting::begun_at_once, crate::proofs::PartWriting::outcomes))]
 impl TypeContext for WriterTypeContext<'_> {
     ghost context = { λ c. names_context c.«module».now.types (names_in c.names.now) };
 
@@ -131,7 +138,9 @@ impl TypeContext for WriterTypeContext<'_> {
         handle: Handle<Override>,
         out: &mut W,
     ) -> Result<(), TypeTextError> {
-        write_word(name_in(self.names, &NameKey::Override(handle)), out)
+        let mut output = Output::new(out);
+        write_word(name_in(self.names, &NameKey::Override(handle)), &mut output);
+        output.outcome()
     }
 
     fn write_unnamed_struct<W: TextSink>(
@@ -148,21 +157,45 @@ impl TypeContext for WriterTypeContext<'_> {
     }
 }
 
+/// Writes an override in braces.
+fn write_shown_override<W: TextSink>(
+    alloc: Global,
+    handle: Handle<Override>,
+    out: &mut Output<'_, W>,
+)
+    ensures { Spells W.text W.failures false out.old out.new
+        (shown_between (codes "{override ") (codes "}")) }
+{
+    match format!(in alloc; "{handle:?}") {
+        Ok(debug) => write_shown("{override ", debug.as_str(), "}", out),
+        Err(error) => out.remember(error),
+    }
+}
+
+/// Writes a struct without a handle in braces.
+fn write_shown_struct<W: TextSink>(alloc: Global, inner: &TypeInner, out: &mut Output<'_, W>)
+    ensures { Spells W.text W.failures false out.old out.new
+        (shown_between (codes "{unnamed struct ") (codes "}")) }
+{
+    match format!(in alloc; "{inner:?}") {
+        Ok(debug) => write_shown("{unnamed struct ", debug.as_str(), "}", out),
+        Err(error) => out.remember(error),
+    }
+}
+
 /// Writes an override without a label in braces.
-#[tactic(auto, using(crate::proofs::Arounds::fails_at_once))]
 fn write_anonymous_override<W: TextSink>(
     alloc: Global,
     handle: Handle<Override>,
-    out: &mut W,
-) -> Result<(), TypeTextError>
-    ensures written { OnOk result (HasWritten (shown_between (codes "{anonymous override ") (codes "}")) (W.text out.old) (W.text out.new)) }
-    ensures begun { HasBegun (shown_between (codes "{anonymous override ") (codes "}")) (W.text out.old) (W.text out.new) }
-    ensures form { IsErrOf result error.NoForm → ⊥ }
-    ensures failures_ok { OnOk result (W.failures out.new ≡ W.failures out.old) }
-    ensures failed { IsErrOf result (error.Sink SinkError.Failed) → W.failures out.old < W.failures out.new }
+    out: &mut Output<'_, W>,
+)
+    ensures { Spells W.text W.failures false out.old out.new
+        (shown_between (codes "{anonymous override ") (codes "}")) }
 {
-    let debug = format!(in alloc; "{handle:?}")?;
-    write_shown("{anonymous override ", debug.as_str(), "}", out)
+    match format!(in alloc; "{handle:?}") {
+        Ok(debug) => write_shown("{anonymous override ", debug.as_str(), "}", out),
+        Err(error) => out.remember(error),
+    }
 }
 
 /// The name at a key, and nothing where there is none.

@@ -49,7 +49,8 @@ pub fn type_fits(types: usize, overrides: usize, inner: &TypeInner) -> bool
 /// one of the first `overrides`. Then the types are in order for each context.
 pub fn types_in_order(types: &UniqueArena<Type_>, overrides: usize) -> bool
     ensures arena { IsTrue result → IsInOrder (arena_context types.now) }
-    ensures global { IsTrue result → (os : List Override) → length os ≡ overrides → IsInOrder (global_context types.now os) }
+    ensures global { IsTrue result → (os : List Override) → length os ≡ overrides →
+        IsInOrder (global_context types.now os) }
     ensures names { IsTrue result → (names : NameMap) → IsInOrder (names_context types.now names) }
 {
     for index in 0..types.len() {

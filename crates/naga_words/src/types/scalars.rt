@@ -1,14 +1,12 @@
 //! Scalars and images in a context, which says what becomes of those without a form.
 
-ghost use Rattle.std.specs.Prelude.{◌≡◌, ◌<◌, true, OnOk, IsErrOf};
-ghost use Rattle.naga_words.specs.declared.error.TypeTextError.TheVariants as error;
-ghost use Rattle.naga_words.specs.Parts.{HasWritten, HasBegun, lacks};
+ghost use Rattle.naga_words.specs.Output.{Spells};
 ghost use Rattle.naga_words.specs.Values.{scalar_parts, template_parts, image_parts};
 
 use crate::images::write_image;
 use crate::scalars::{write_scalar, write_template};
 use crate::types::TypeContext;
-use crate::{SinkError, TextSink, TypeTextError};
+use crate::{Output, TextSink};
 use naga_ir::{ImageClass, ImageDimension, Scalar};
 use std::alloc::Global;
 
@@ -17,13 +15,10 @@ pub(crate) fn write_scalar_in<C: TypeContext, W: TextSink>(
     context: &C,
     alloc: Global,
     scalar: Scalar,
-    out: &mut W,
-) -> Result<(), TypeTextError>
-    ensures written { OnOk result (HasWritten (scalar_parts (C.context context.now).refuses scalar) (W.text out.old) (W.text out.new)) }
-    ensures begun { HasBegun (scalar_parts (C.context context.now).refuses scalar) (W.text out.old) (W.text out.new) }
-    ensures no_form { IsErrOf result error.NoForm → ((C.context context.now).refuses ≡ true) × (lacks (scalar_parts (C.context context.now).refuses scalar) ≡ true) }
-    ensures failures_ok { OnOk result (W.failures out.new ≡ W.failures out.old) }
-    ensures failed { IsErrOf result (error.Sink SinkError.Failed) → W.failures out.old < W.failures out.new }
+    out: &mut Output<'_, W>,
+)
+    ensures { Spells W.text W.failures (C.context context.now).refuses out.old out.new
+        (scalar_parts (C.context context.now).refuses scalar) }
 {
     write_scalar(context.refuses(), alloc, scalar, out)
 }
@@ -35,13 +30,10 @@ pub(crate) fn write_template_in<C: TypeContext, W: TextSink>(
     word: &str,
     scalar: Scalar,
     tail: &str,
-    out: &mut W,
-) -> Result<(), TypeTextError>
-    ensures written { OnOk result (HasWritten (template_parts word.now (scalar_parts (C.context context.now).refuses scalar) tail.now) (W.text out.old) (W.text out.new)) }
-    ensures begun { HasBegun (template_parts word.now (scalar_parts (C.context context.now).refuses scalar) tail.now) (W.text out.old) (W.text out.new) }
-    ensures no_form { IsErrOf result error.NoForm → ((C.context context.now).refuses ≡ true) × (lacks (template_parts word.now (scalar_parts (C.context context.now).refuses scalar) tail.now) ≡ true) }
-    ensures failures_ok { OnOk result (W.failures out.new ≡ W.failures out.old) }
-    ensures failed { IsErrOf result (error.Sink SinkError.Failed) → W.failures out.old < W.failures out.new }
+    out: &mut Output<'_, W>,
+)
+    ensures { Spells W.text W.failures (C.context context.now).refuses out.old out.new
+        (template_parts word.now (scalar_parts (C.context context.now).refuses scalar) tail.now) }
 {
     write_template(context.refuses(), alloc, word, scalar, tail, out)
 }
@@ -53,13 +45,10 @@ pub(crate) fn write_image_in<C: TypeContext, W: TextSink>(
     dim: ImageDimension,
     arrayed: bool,
     class: ImageClass,
-    out: &mut W,
-) -> Result<(), TypeTextError>
-    ensures written { OnOk result (HasWritten (image_parts (C.context context.now).refuses dim arrayed class) (W.text out.old) (W.text out.new)) }
-    ensures begun { HasBegun (image_parts (C.context context.now).refuses dim arrayed class) (W.text out.old) (W.text out.new) }
-    ensures no_form { IsErrOf result error.NoForm → ((C.context context.now).refuses ≡ true) × (lacks (image_parts (C.context context.now).refuses dim arrayed class) ≡ true) }
-    ensures failures_ok { OnOk result (W.failures out.new ≡ W.failures out.old) }
-    ensures failed { IsErrOf result (error.Sink SinkError.Failed) → W.failures out.old < W.failures out.new }
+    out: &mut Output<'_, W>,
+)
+    ensures { Spells W.text W.failures (C.context context.now).refuses out.old out.new
+        (image_parts (C.context context.now).refuses dim arrayed class) }
 {
     write_image(context.refuses(), alloc, dim, arrayed, class, out)
 }

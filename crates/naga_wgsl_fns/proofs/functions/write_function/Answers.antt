@@ -1,6 +1,7 @@
-use Rattle.std.proofs.Common.{◌≡◌, ◌<◌, ◌∙◌, arith, ap, length, subst, sym}
+use Rattle.std.proofs.Common.{◌≡◌, ◌<◌, ◌∙◌, Some, arith, ap, length, subst, sym}
 use Rattle.module_meaning.proofs.Accepting.{accepted_functions_fit, functions_fit_length}
-use Rattle.naga_words.proofs.Writing.{held_part_as, held_whole_as, reason_given, same_sink, writes_as}
+use Rattle.naga_words.proofs.Writing.{held_part_as, held_whole_as, never_formless, reason_given}
+use Rattle.naga_words.proofs.Writing.{same_sink, writes_as}
 use Rattle.naga_wgsl_fns.specs.Errors.{IsWant}
 use Rattle.naga_wgsl_fns.proofs.FunctionRows.{can_write, reason_told, text_of_function_at}
 use Rattle.naga_wgsl_fns.proofs.functions.write_function.Goals as goal
@@ -16,26 +17,30 @@ index-requires-2 g c =
     let counted : length info.functions.items ≡ info.functions.len = sym info.functions.ok.0 in
     subst (λ n. c.args.handle < n) (same ∙ counted) c.requires.handle
 
-pub returns-in-None-clause-text_ok : goal.returns-in-None-clause-text_ok
-returns-in-None-clause-text_ok g c =
+pub returns-in-Ok-clause-text_ok : goal.returns-in-Ok-clause-text_ok
+returns-in-Ok-clause-text_ok g c =
     let same : c.write_declaration.new.out.sink.ghost_name ≡ c.new-written.result.sink.ghost_name = same_sink _ _ _ c.write_declaration.ensures in
     held_whole_as _ _ _ _ _ (grind arith) (grind arith)
     (writes_as (sym (text_of_function_at _ c.args.info.now c.index.ensures c.index-2.ensures)) c.write_declaration.ensures)
-    c.new-written.ensures.want c.in-None.is
+    c.new-written.ensures.want c.in-Ok.ensures.whole
 
-pub returns-in-Some-clause-text_err : goal.returns-in-Some-clause-text_err
-returns-in-Some-clause-text_err g c =
+pub returns-in-Err-clause-text_err : goal.returns-in-Err-clause-text_err
+returns-in-Err-clause-text_err g c =
     let same : c.write_declaration.new.out.sink.ghost_name ≡ c.new-written.result.sink.ghost_name = same_sink _ _ _ c.write_declaration.ensures in
     held_part_as _ _ _ _ _ _ (grind arith) (grind arith)
     (writes_as (sym (text_of_function_at _ c.args.info.now c.index.ensures c.index-2.ensures)) c.write_declaration.ensures)
-    c.new-written.ensures.want c.in-Some.is
+    c.new-written.ensures.want c.in-Err.ensures.wanting
 
-pub returns-in-Some-clause-reason : goal.returns-in-Some-clause-reason
-returns-in-Some-clause-reason g c =
+pub returns-in-Err-clause-reason : goal.returns-in-Err-clause-reason
+returns-in-Err-clause-reason g c =
     let same : c.write_declaration.new.out.sink.ghost_name ≡ c.new-written.result.sink.ghost_name = same_sink _ _ _ c.write_declaration.ensures in
-    let reason = reason_given _ _ _ c.in-Some.want c.write_declaration.ensures c.new-written.ensures.want c.in-Some.is in
-    let told = reason_told (g.W.TextSink.failures c.new-written.result.sink.now) (g.W.TextSink.failures c.write_declaration.new.out.sink.now) c.in-Some.want reason in
+    let reason = reason_given _ _ _ c.in-Err.want c.write_declaration.ensures c.new-written.ensures.want c.in-Err.ensures.wanting in
+    let told = reason_told (g.W.TextSink.failures c.new-written.result.sink.now) (g.W.TextSink.failures c.write_declaration.new.out.sink.now) c.in-Err.want c.error_of_want.result reason c.error_of_want.ensures in
     let before = ap (λ s. g.W.TextSink.failures s) c.new-written.ensures.held in
-    subst (λ n. IsWant (g.W.TextSink.failures c.args.out.now) n c.from.result) (grind arith)
-    (subst (λ n. IsWant n (g.W.TextSink.failures c.write_declaration.new.out.sink.now) c.from.result) before
-    (subst (λ e. IsWant (g.W.TextSink.failures c.new-written.result.sink.now) (g.W.TextSink.failures c.write_declaration.new.out.sink.now) e) (sym c.from.ensures) told))
+    subst (λ n. IsWant (g.W.TextSink.failures c.args.out.now) n c.error_of_want.result) (grind arith)
+    (subst (λ n. IsWant n (g.W.TextSink.failures c.write_declaration.new.out.sink.now) c.error_of_want.result) before told)
+
+pub error_of_want-requires : goal.error_of_want-requires
+error_of_want-requires g c is =
+    never_formless _ _ _ c.write_declaration.ensures c.new-written.ensures.want
+    (c.in-Err.ensures.wanting ∙ ap Some is)

@@ -14,4 +14,4 @@ write_body-requires-clause-start g c = c.in-Ok.ensures.start c.args.self.now.sha
 pub returns-in-Err : goal.returns-in-Err
 returns-in-Err g c =
     let self = c.args.self.now in
-    writes_as (sym (function_row self)) (writes_then c.write_head.ensures (c.remember.ensures (body_text self)))
+    writes_as (sym (function_row self)) (writes_then c.write_head.ensures (c.remember.ensures.text (body_text self)))

@@ -1,21 +1,6 @@
-use Rattle.naga_words.proofs.Arounds.{wrote_nothing, fails_at_once, parts_then, parts_fail, parts_then_fail, begun_all}
 use Rattle.naga_words.proofs.Empties.{no_items}
+use Rattle.naga_words.proofs.PartWriting.{spells_nothing}
 use Rattle.naga_words.proofs.types.rules.write_arguments.Goals as goal
 
-pub returns-in_err-write_resolution_in-in-Some-clause-begun : goal.returns-in_err-write_resolution_in-in-Some-clause-begun
-returns-in_err-write_resolution_in-in-Some-clause-begun g c = rw c.in-Some.ensures.cases.0 (parts_fail _ _ _ _ c.in_err-write_resolution_in-in-Some.ensures.begun)
-
-pub returns-in_err-write_more_arguments-in-Some-clause-begun : goal.returns-in_err-write_more_arguments-in-Some-clause-begun
-returns-in_err-write_more_arguments-in-Some-clause-begun g c = rw c.in-Some.ensures.cases.0 (parts_then_fail _ _ _ _ _ c.in_ok-write_resolution_in-in-Some.ensures.written c.in_err-write_more_arguments-in-Some.ensures.begun)
-
-pub returns-in_ok-write_more_arguments-in-Some-clause-written : goal.returns-in_ok-write_more_arguments-in-Some-clause-written
-returns-in_ok-write_more_arguments-in-Some-clause-written g c = rw c.in-Some.ensures.cases.0 (parts_then _ _ _ _ _ c.in_ok-write_resolution_in-in-Some.ensures.written c.in_ok-write_more_arguments-in-Some.ensures.written)
-
-pub returns-in_ok-write_more_arguments-in-Some-clause-begun : goal.returns-in_ok-write_more_arguments-in-Some-clause-begun
-returns-in_ok-write_more_arguments-in-Some-clause-begun g c = rw c.in-Some.ensures.cases.0 (begun_all _ _ _ (parts_then _ _ _ _ _ c.in_ok-write_resolution_in-in-Some.ensures.written c.in_ok-write_more_arguments-in-Some.ensures.written))
-
-pub returns-in-None-clause-written : goal.returns-in-None-clause-written
-returns-in-None-clause-written g c = rw (no_items c.args.arguments.now c.in-None.ensures.cases) (wrote_nothing _)
-
-pub returns-in-None-clause-begun : goal.returns-in-None-clause-begun
-returns-in-None-clause-begun g c = rw (no_items c.args.arguments.now c.in-None.ensures.cases) (fails_at_once _ _)
+pub returns-in-None : goal.returns-in-None
+returns-in-None g c = rw (no_items c.args.arguments.now c.in-None.ensures.cases) (spells_nothing _)
