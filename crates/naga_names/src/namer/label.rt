@@ -1,9 +1,9 @@
 //! The base of a label: the part of an identifier that comes from the label alone.
-ghost use Rattle.std.specs.Prelude.{◌≡◌, ℕ, true, List, ◌∷◌, [], ◌++◌, ◌||◌, ◌==◌, map, IfOk, OnOk, string_bytes};
+ghost use Rattle.std.specs.Prelude.{◌≡◌, ℕ, ◌<◌, length, false, true, slice_index, IsTrue, List, ◌∷◌, [], ◌++◌, ◌||◌, ◌==◌, map, IfOk, OnOk, string_bytes};
 ghost use Rattle.std.specs.List.{list_any, starts_with};
 ghost use Rattle.std.specs.Bool.{nat_eq};
 ghost use Rattle.std.specs.Str.{chars};
-ghost use Rattle.naga_names.specs.Label.{is_numeric, is_mark, is_foreign, by_number, after_numerics, spelling, with_separator, without_last_separators, or_unnamed, base_of};
+ghost use Rattle.naga_names.specs.Label.{is_numeric, is_mark, is_foreign, by_number, after_numerics, spelling, with_separator, without_last_separators, or_unnamed, base_of, ends_separated, IsSpelledAlike};
 ghost use Rattle.naga_names.specs.Naming.{ends_in_digit};
 
 use std::alloc::{AllocError, Global};
@@ -20,6 +20,45 @@ pub fn base(alloc: Global, prefixes: &[&'static str], label: &str) -> Result<Str
         return format!(in alloc; "gen_{base}");
     }
     Ok(base)
+}
+
+/// Whether the label is seen to be its own base, where identifiers keep off the prefixes. It has no
+/// need of a text of its own then.
+#[tactic(auto, unfolding(crate::specs::Label::base_of))]
+pub fn is_base(prefixes: &[&'static str], label: &str) -> bool
+    ensures { IsTrue result →
+        base_of (map (λ p. p.now) prefixes.now) (chars label.now) ≡ label.now }
+{
+    begins_plainly(label) && is_spelled_alike(label) && !begins_reserved(label, prefixes)
+}
+
+/// Whether the text has a first byte, which is no number as a character.
+fn begins_plainly(text: &str) -> bool
+    ensures { IsTrue result →
+        (0 < length text.now) × (is_numeric (slice_index text.now 0) ≡ false) }
+{
+    match text.as_bytes().first() {
+        Some(first) => !is_numeric(&(*first as char)),
+        None => false,
+    }
+}
+
+/// Whether the text has letters, digits and lone `_` of ASCII alone, and no `_` at its end.
+fn is_spelled_alike(text: &str) -> bool
+    ensures { IsTrue result → IsSpelledAlike text.now × (ends_separated text.now ≡ false) }
+{
+    let bytes = text.as_bytes();
+    let mut is_separated = false;
+    for byte in bytes {
+        if byte.is_ascii_alphanumeric() {
+            is_separated = false;
+        } else if *byte == b'_' && !is_separated {
+            is_separated = true;
+        } else {
+            return false;
+        }
+    }
+    !is_separated
 }
 
 /// The text without the `_` at its end, or `unnamed` where nothing is left of it.
