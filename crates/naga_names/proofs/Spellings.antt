@@ -1,5 +1,5 @@
 -- How a spelling grows at its end, one character after another.
-use Rattle.std.proofs.Common.{◌≡◌, ℕ, ◌+◌, ◌-◌, ◌<◌, Bool, true, false, not, ◌&&◌, ◌||◌, ◌==◌, cond, List, [], ◌∷◌, ◌++◌, length, get_or, drop, take, codes, refl, sym, ap, subst, ◌∙◌, arith, length-append, one-add, add-one, drop-cons, map, Bor, zero, suc, replicate, ◌/◌, ◌%◌, ◌^◌, append_assoc, append-nil}
+use Rattle.std.proofs.Common.{◌≡◌, ◌⊎◌, inl, inr, ℕ, ◌+◌, ◌-◌, ◌<◌, Bool, true, false, not, ◌&&◌, ◌||◌, ◌==◌, cond, List, [], ◌∷◌, ◌++◌, length, get_or, drop, take, codes, refl, sym, ap, subst, ◌∙◌, arith, length-append, one-add, add-one, drop-cons, map, Bor, zero, suc, replicate, ◌/◌, ◌%◌, ◌^◌, append_assoc, append-nil}
 use Rattle.std.specs.Result.{is_ok, OnOk, OnErr}
 use Rattle.std.specs.Bool.{nat_eq}
 use Rattle.std.specs.Str.{chars}
@@ -19,7 +19,7 @@ use Rattle.std.proofs.lemmas.Bool.{and_parts, not-true, or_parts}
 use Rattle.std.proofs.Math.Bool.{and-false}
 use borrow.Author.Tests.{eqb-true}
 use Rattle.naga_keywords.specs.Plain.{is_identifier_char}
-use Rattle.naga_names.specs.Label.{is_numeric, after_numerics, is_mark, is_foreign, hexadecimal, by_number, spelled, begins_separated, squeezed, begins_foreign, spelling, ends_separated, with_separator, kept_before, without_last_separators, or_unnamed, kept_off, base_of, IsSpelledAlike}
+use Rattle.naga_names.specs.Label.{is_numeric, after_numerics, is_mark, is_foreign, hexadecimal, by_number, spelled, begins_separated, squeezed, begins_foreign, spelling, ends_separated, with_separator, kept_before, without_last_separators, or_unnamed, kept_off, base_of, IsPlain, IsSpelledAlike}
 
 -- ---- numeric characters at the front
 pub after_numerics-drop : (cs : List ℕ) → after_numerics cs ≡ drop (prefix_len is_numeric cs) cs
@@ -296,16 +296,22 @@ alike-separator cs c is so_far lone =
       ends_separated-push cs c ∙ ap (λ d. d == 95) is,
     )
 
--- a label that begins with no number and is spelled as it stands is its own base
-pub base_of-alike : (prefixes : List (List ℕ)) (label : List ℕ) → 0 < length label → is_numeric (get_or label 0 0) ≡ false → IsSpelledAlike label → ends_separated label ≡ false → list_any (starts_with nat_eq label) prefixes ≡ false → base_of prefixes (chars label) ≡ label
+base_of-front : (prefixes : List (List ℕ)) (c : ℕ) (cs rest : List ℕ) → is_numeric c ≡ false → list_any (starts_with nat_eq (c ∷ cs)) prefixes ≡ false → IsSpelledAlike (c ∷ rest) → without_last_separators (c ∷ rest) ≡ c ∷ cs → base_of prefixes (chars (c ∷ rest)) ≡ c ∷ cs
 unfolding base_of
-base_of-alike prefixes [] some plain alike done free = absurd (omega (arith, some))
-base_of-alike prefixes (c ∷ cs) some plain alike done free =
-    let label : List ℕ = c ∷ cs in
-    ap (λ text. kept_off prefixes (or_unnamed (without_last_separators (spelling (after_numerics text))))) (chars-IsAscii label alike.ascii)
-    ∙ ap (λ b. kept_off prefixes (or_unnamed (without_last_separators (spelling (cond b (after_numerics cs) label))))) plain
-    ∙ ap (λ text. kept_off prefixes (or_unnamed text)) (ap without_last_separators alike.alike ∙ without_last-done label done)
-    ∙ ap (λ b. cond b (codes "gen_" ++ label) label) free
+base_of-front prefixes c cs rest first free alike done =
+    ap (λ text. kept_off prefixes (or_unnamed (without_last_separators (spelling (after_numerics text))))) (chars-IsAscii (c ∷ rest) alike.ascii)
+    ∙ ap (λ b. kept_off prefixes (or_unnamed (without_last_separators (spelling (cond b (after_numerics rest) (c ∷ rest)))))) first
+    ∙ ap (λ text. kept_off prefixes (or_unnamed text)) (ap without_last_separators alike.alike ∙ done)
+    ∙ ap (λ b. cond b (codes "gen_" ++ c ∷ cs) (c ∷ cs)) free
+
+-- a plain text is the base of itself, also where a `_` follows it
+pub base_of-plain : (prefixes : List (List ℕ)) (text label : List ℕ) → IsPlain text → (label ≡ text) ⊎ (label ≡ text ++ 95 ∷ []) → list_any (starts_with nat_eq text) prefixes ≡ false → base_of prefixes (chars label) ≡ text
+base_of-plain prefixes [] label plain either free = let some = plain.some in absurd (omega (arith, some))
+base_of-plain prefixes (c ∷ cs) label plain (inl same) free =
+    ap (λ text. base_of prefixes (chars text)) same ∙ base_of-front prefixes c cs cs plain.first free plain.alike (without_last-done (c ∷ cs) plain.last)
+base_of-plain prefixes (c ∷ cs) label plain (inr more) free =
+    ap (λ text. base_of prefixes (chars text)) more
+    ∙ base_of-front prefixes c cs (cs ++ 95 ∷ []) plain.first free (alike-separator (c ∷ cs) 95 refl plain.alike plain.last).0 (without_last-push (c ∷ cs) ∙ without_last-done (c ∷ cs) plain.last)
 
 -- ---- what holds on `Ok`
 pub on_err : {T E P : Type 0} (r : Result T E) → P → OnErr r P

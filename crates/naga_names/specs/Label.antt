@@ -1,7 +1,7 @@
 -- The base of a label: the part of an identifier that comes from the label alone.
 --
 -- Throughout, c is a character (cs are several), d the next one, and n a number.
-use Rattle.std.specs.Prelude.{◌≡◌, ℕ, ◌-◌, Bool, false, not, ◌||◌, ◌&&◌, ◌==◌, if◌then◌else◌, List, [], ◌∷◌, ◌++◌, length, drop, replicate, codes}
+use Rattle.std.specs.Prelude.{◌≡◌, ℕ, ◌-◌, Bool, false, not, ◌||◌, ◌&&◌, ◌==◌, if◌then◌else◌, List, [], ◌∷◌, ◌++◌, ◌<◌, length, slice_index, drop, replicate, codes}
 use Rattle.std.specs.Fmt.{digits}
 use Rattle.std.specs.List.{flat_map, list_any, starts_with}
 use Rattle.std.specs.Bool.{nat_eq}
@@ -97,6 +97,13 @@ kept_off prefixes text =
 pub record IsSpelledAlike (text : List ℕ) : Type 0 where
   pub ascii : IsAscii text
   pub alike : spelling text ≡ text
+
+-- an ASCII text that a label keeps: spelled as it stands, with no number first and no `_` at its end
+pub record IsPlain (text : List ℕ) : Type 0 where
+  pub some : 0 < length text
+  pub first : is_numeric (slice_index text 0) ≡ false
+  pub alike : IsSpelledAlike text
+  pub last : ends_separated text ≡ false
 
 -- the base of a label, of which these are the characters, where identifiers keep off these prefixes
 unfoldable pub base_of : List (List ℕ) → List ℕ → List ℕ

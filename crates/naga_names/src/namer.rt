@@ -90,8 +90,8 @@ impl Namer {
         ensures reason { IfErr result (IsRefusalOf self.old label.now) }
         ensures full { IsFull self.old label.now → IsErr result }
     {
-        if label::is_base(&self.reserved_prefixes, label) {
-            return self.name_of_base(label);
+        if let Some(base) = label::own_base(&self.reserved_prefixes, label) {
+            return self.name_of_base(base);
         }
         let base = label::base(self.alloc, &self.reserved_prefixes, label)?;
         self.name_of_base(base.as_str())

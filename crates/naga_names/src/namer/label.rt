@@ -1,9 +1,9 @@
 //! The base of a label: the part of an identifier that comes from the label alone.
-ghost use Rattle.std.specs.Prelude.{◌≡◌, ℕ, ◌<◌, length, false, true, slice_index, IsTrue, List, ◌∷◌, [], ◌++◌, ◌||◌, ◌==◌, map, IfOk, OnOk, string_bytes};
+ghost use Rattle.std.specs.Prelude.{◌≡◌, ℕ, ◌<◌, length, false, true, slice_index, codes, ◌⊎◌, IfSome, IsTrue, List, ◌∷◌, [], ◌++◌, ◌||◌, ◌==◌, map, IfOk, OnOk, string_bytes};
 ghost use Rattle.std.specs.List.{list_any, starts_with};
 ghost use Rattle.std.specs.Bool.{nat_eq};
 ghost use Rattle.std.specs.Str.{chars};
-ghost use Rattle.naga_names.specs.Label.{is_numeric, is_mark, is_foreign, by_number, after_numerics, spelling, with_separator, without_last_separators, or_unnamed, base_of, ends_separated, IsSpelledAlike};
+ghost use Rattle.naga_names.specs.Label.{is_numeric, is_mark, is_foreign, by_number, after_numerics, spelling, with_separator, without_last_separators, or_unnamed, base_of, ends_separated, IsPlain, IsSpelledAlike};
 ghost use Rattle.naga_names.specs.Naming.{ends_in_digit};
 
 use std::alloc::{AllocError, Global};
@@ -22,14 +22,34 @@ pub fn base(alloc: Global, prefixes: &[&'static str], label: &str) -> Result<Str
     Ok(base)
 }
 
-/// Whether the label is seen to be its own base, where identifiers keep off the prefixes. It has no
-/// need of a text of its own then.
-#[tactic(auto, unfolding(crate::specs::Label::base_of))]
-pub fn is_base(prefixes: &[&'static str], label: &str) -> bool
-    ensures { IsTrue result →
-        base_of (map (λ p. p.now) prefixes.now) (chars label.now) ≡ label.now }
+/// The base of the label, where identifiers keep off the prefixes, if it is seen to stand in the label
+/// itself: then it needs no text of its own.
+pub fn own_base<'a>(prefixes: &[&'static str], label: &'a str) -> Option<&'a str>
+    ensures { IfSome result (λ base.
+        base.now ≡ base_of (map (λ p. p.now) prefixes.now) (chars label.now)) }
 {
-    begins_plainly(label) && is_spelled_alike(label) && !begins_reserved(label, prefixes)
+    let base = without_last_separator(label);
+    if is_plain(base) && !begins_reserved(base, prefixes) {
+        Some(base)
+    } else {
+        None
+    }
+}
+
+/// The text without a `_` at its end.
+fn without_last_separator(text: &str) -> &str
+    ensures { (text.now ≡ result.now) ⊎ (text.now ≡ result.now ++ codes "_") }
+{
+    match text.strip_suffix('_') {
+        Some(shorter) => shorter,
+        None => text,
+    }
+}
+
+fn is_plain(text: &str) -> bool
+    ensures { IsTrue result → IsPlain text.now }
+{
+    begins_plainly(text) && is_spelled_alike(text)
 }
 
 /// Whether the text has a first byte, which is no number as a character.

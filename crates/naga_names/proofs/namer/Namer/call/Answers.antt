@@ -6,23 +6,23 @@ use Rattle.naga_names.proofs.NamerLemmas.{name_of-by_base, with_use-by_base, pus
 use Rattle.naga_names.proofs.Spellings.{on_ok_both}
 use Rattle.naga_names.proofs.namer.Namer.call.Goals as goal
 
-pub returns-then-is_base-clause-name : goal.returns-then-is_base-clause-name
-returns-then-is_base-clause-name c =
-    let base_is : c.args.label.now ≡ label_base c.args.self.now c.args.label.now = sym (c.if-is_base.ensures refl) ∙ ap (λ ps. base_of (map (λ p. p.now) ps) (chars c.args.label.now)) c.deref.ensures.value ∙ ap (λ n. label_base n c.args.label.now) c.self.view_is in
+pub returns-in-Some-clause-name : goal.returns-in-Some-clause-name
+returns-in-Some-clause-name c =
+    let base_is : c.in-Some.base.now ≡ label_base c.args.self.now c.args.label.now = c.in-Some.ensures ∙ ap (λ ps. base_of (map (λ p. p.now) ps) (chars c.args.label.now)) c.deref.ensures.value ∙ ap (λ n. label_base n c.args.label.now) c.self.view_is in
     subst (λ n. IfOk c.name_of_base.result (λ name. string_bytes name ≡ n)) (name_of-by_base _ _ _ base_is) c.name_of_base.ensures.name
 
-pub returns-then-is_base-clause-used : goal.returns-then-is_base-clause-used
-returns-then-is_base-clause-used c =
-    let base_is : c.args.label.now ≡ label_base c.args.self.now c.args.label.now = sym (c.if-is_base.ensures refl) ∙ ap (λ ps. base_of (map (λ p. p.now) ps) (chars c.args.label.now)) c.deref.ensures.value ∙ ap (λ n. label_base n c.args.label.now) c.self.view_is in
+pub returns-in-Some-clause-used : goal.returns-in-Some-clause-used
+returns-in-Some-clause-used c =
+    let base_is : c.in-Some.base.now ≡ label_base c.args.self.now c.args.label.now = c.in-Some.ensures ∙ ap (λ ps. base_of (map (λ p. p.now) ps) (chars c.args.label.now)) c.deref.ensures.value ∙ ap (λ n. label_base n c.args.label.now) c.self.view_is in
     subst (λ n. OnOk c.name_of_base.result (c.name_of_base.new.self ≡ n)) (with_use-by_base _ _ _ base_is) c.name_of_base.ensures.used
 
-pub returns-then-is_base-clause-history : goal.returns-then-is_base-clause-history
-returns-then-is_base-clause-history c = λ earlier has.
-    subst (λ n. IfOk c.name_of_base.result (λ name. string_bytes name ≡ n)) (name_of-after c.args.self.now earlier c.args.label.now has) (returns-then-is_base-clause-name c)
+pub returns-in-Some-clause-history : goal.returns-in-Some-clause-history
+returns-in-Some-clause-history c = λ earlier has.
+    subst (λ n. IfOk c.name_of_base.result (λ name. string_bytes name ≡ n)) (name_of-after c.args.self.now earlier c.args.label.now has) (returns-in-Some-clause-name c)
 
-pub returns-then-is_base-clause-more_history : goal.returns-then-is_base-clause-more_history
-returns-then-is_base-clause-more_history c = λ earlier has.
-    let base_is : c.args.label.now ≡ label_base c.args.self.now c.args.label.now = sym (c.if-is_base.ensures refl) ∙ ap (λ ps. base_of (map (λ p. p.now) ps) (chars c.args.label.now)) c.deref.ensures.value ∙ ap (λ n. label_base n c.args.label.now) c.self.view_is in
+pub returns-in-Some-clause-more_history : goal.returns-in-Some-clause-more_history
+returns-in-Some-clause-more_history c = λ earlier has.
+    let base_is : c.in-Some.base.now ≡ label_base c.args.self.now c.args.label.now = c.in-Some.ensures ∙ ap (λ ps. base_of (map (λ p. p.now) ps) (chars c.args.label.now)) c.deref.ensures.value ∙ ap (λ n. label_base n c.args.label.now) c.self.view_is in
     on_ok_both c.name_of_base.result c.name_of_base.ensures.used c.name_of_base.ensures.room (push-by_base c.args.self.now c.args.label.now _ base_is earlier c.name_of_base.new.self has)
 
 pub returns-clause-name : goal.returns-clause-name
