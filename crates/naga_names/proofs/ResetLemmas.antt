@@ -219,20 +219,20 @@ module _ {X : Type 0} (entry : ℕ → X → Labelled) where
   pub entries_grown : (n : ℕ) (xs ys : List X) → map (λ p. entry p.0 p.1) (enumerate_from n (xs ++ ys)) ≡ map (λ p. entry p.0 p.1) (enumerate_from n xs) ++ map (λ p. entry p.0 p.1) (enumerate_from (n + length xs) ys)
   entries_grown n xs ys = ap (map (λ p. entry p.0 p.1)) (enumerate_from-append n xs ys) ∙ map-append (λ p. entry p.0 p.1) (enumerate_from n xs) (enumerate_from (n + length xs) ys)
 
--- the word of the last entry point, of one more
-option_or_assoc : {X : Type 0} (a b c : Option X) → option_or (option_or a b) c ≡ option_or a (option_or b c)
-option_or_assoc (Some x) b c = refl
-option_or_assoc None b c = refl
+-- ---- optional values, and the word of the last entry point
+pub option_or-assoc : {X : Type 0} (a b c : Option X) → option_or (option_or a b) c ≡ option_or a (option_or b c)
+option_or-assoc (Some x) b c = refl
+option_or-assoc None b c = refl
 
-option_or_none : {X : Type 0} (a : Option X) → option_or a None ≡ a
-option_or_none (Some x) = refl
-option_or_none None = refl
+pub option_or-none : {X : Type 0} (a : Option X) → option_or a None ≡ a
+option_or-none (Some x) = refl
+option_or-none None = refl
 
 pub output_label-push : (t : ℕ) (entry_points : List EntryPoint) (entry_point : EntryPoint) → output_label t (entry_points ++ entry_point ∷ []) ≡ option_or (cond (returns t entry_point) (output_word entry_point.stage) None) (output_label t entry_points)
-output_label-push t [] entry_point = sym (option_or_none (cond (returns t entry_point) (output_word entry_point.stage) None))
+output_label-push t [] entry_point = sym (option_or-none (cond (returns t entry_point) (output_word entry_point.stage) None))
 output_label-push t (first ∷ entry_points) entry_point =
     ap (λ o. option_or o (cond (returns t first) (output_word first.stage) None)) (output_label-push t entry_points entry_point)
-    ∙ option_or_assoc (cond (returns t entry_point) (output_word entry_point.stage) None) (output_label t entry_points) (cond (returns t first) (output_word first.stage) None)
+    ∙ option_or-assoc (cond (returns t entry_point) (output_word entry_point.stage) None) (output_label t entry_points) (cond (returns t first) (output_word first.stage) None)
 
 pub output_label-more : (t : ℕ) (entry_points : List EntryPoint) (i : ℕ) (entry_point : EntryPoint) → i < length entry_points → entry_point ≡ get_or entry_points i entry_point → output_label t (take (i + 1) entry_points) ≡ option_or (cond (returns t entry_point) (output_word entry_point.stage) None) (output_label t (take i entry_points))
 output_label-more t entry_points i entry_point lt is =

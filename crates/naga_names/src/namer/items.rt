@@ -443,15 +443,16 @@ fn make_room(module: &Module, output: &mut HashMap<NameKey, String>)
     let _ = output.reserve(name_count(module));
 }
 
-/// About how many names the module has: those of members and of parts are left out.
+/// How many names the module has, but for those of parts.
 fn name_count(module: &Module) -> usize {
-    let declared = module
-        .types
+    let mut count = module
+        .global_variables
         .len()
-        .saturating_add(module.global_variables.len())
         .saturating_add(module.constants.len())
         .saturating_add(module.overrides.len());
-    let mut count = declared;
+    for (_, ty) in module.types.iter() {
+        count = count.saturating_add(members_of(&ty.inner).len()).saturating_add(1);
+    }
     for entry_point in &module.entry_points {
         count = count.saturating_add(own_name_count(&entry_point.function));
     }
@@ -464,9 +465,8 @@ fn name_count(module: &Module) -> usize {
 /// How many names a function has with its arguments and its variables.
 fn own_name_count(function: &Function) -> usize {
     let arguments = function.arguments.len();
-    arguments
-        .saturating_add(function.local_variables.len())
-        .saturating_add(1)
+    let locals = function.local_variables.len();
+    arguments.saturating_add(locals).saturating_add(1)
 }
 
 /// The key of a part of what has this key.

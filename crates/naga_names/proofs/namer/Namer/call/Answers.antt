@@ -1,4 +1,4 @@
-use Rattle.std.proofs.Common.{◌≡◌, IfOk, OnOk, map, string_bytes, refl, sym, ap, subst, ◌∙◌}
+use Rattle.std.proofs.Common.{◌≡◌, IfOk, OnOk, map, string_bytes, ap, subst, ◌∙◌}
 use Rattle.std.specs.Str.{chars}
 use Rattle.naga_names.specs.Label.{base_of}
 use Rattle.naga_names.specs.Naming.{label_base}
