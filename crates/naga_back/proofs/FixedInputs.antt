@@ -7,15 +7,8 @@ use Rattle.naga_ir.specs.declared.binding.BuiltIn.{BuiltIn}
 use Rattle.naga_ir.specs.declared.expression.Expression.{Expression}
 use Rattle.naga_ir.specs.declared.expression.Expression.TheVariants.{FunctionArgument, AccessIndex}
 use Rattle.naga_ir.specs.declared.module.FunctionArgument.{FunctionArgument as Argument}
+use Rattle.naga_names.proofs.ResetLemmas.{option_or-assoc, option_or-none}
 use Rattle.naga_back.specs.FixedInput.{builtin_of, way_by, way_of, first_builtin}
-
-option_or-assoc : {A : Type 0} (a b c : Option A) → option_or (option_or a b) c ≡ option_or a (option_or b c)
-option_or-assoc None b c = refl
-option_or-assoc (Some x) b c = refl
-
-option_or-none : {A : Type 0} (a : Option A) → option_or a None ≡ a
-option_or-none None = refl
-option_or-none (Some x) = refl
 
 -- the value named by a way, or where it names none the one found so far
 abbrev pub named_by : Option BuiltIn → List (Option Binding) → Option BuiltIn

@@ -17,7 +17,7 @@ use Rattle.std.proofs.lemmas.Bool.Decides.{nat_tests}
 use Rattle.std.proofs.lemmas.Map.Text.{is_eq-slice_cmp}
 use Rattle.std.proofs.lemmas.Bool.{and_parts, and_from, true≢false, or_parts}
 use Rattle.std.proofs.Math.Bool.{and-false}
-use Rattle.naga_names.proofs.Spellings.{get_or-last}
+use Rattle.naga_names.proofs.Spellings.{ends_separated-push, get_or-last}
 use Rattle.naga_names.specs.Label.{ends_separated, after_numerics, spelling, without_last_separators, or_unnamed, kept_off, base_of}
 use Rattle.naga_keywords.specs.Plain.{is_identifier_char, is_word, is_identifier, is_empty_or_separated, HasPlainEnds, IsPlain}
 use Rattle.naga_keywords.specs.Words.{lowered}
@@ -48,11 +48,6 @@ unfolding ends_by
 ends_by-last [] = refl
 ends_by-last (c ∷ []) = refl
 ends_by-last (c ∷ d ∷ text) = ap is_ascii_digit (get_or-last c d text) ∙ ends_by-last (d ∷ text)
-
-ends_separated-append : (xs : List ℕ) → ends_separated (xs ++ 95 ∷ []) ≡ true
-ends_separated-append [] = refl
-ends_separated-append (x ∷ []) = refl
-ends_separated-append (x ∷ y ∷ xs) = ends_separated-append (y ∷ xs)
 
 -- ---- the last `_`
 abbrev has_none : List ℕ → Bool
@@ -191,8 +186,8 @@ module _ (names : Names) (b c : List ℕ) (m n : ℕ) (b_ends : ends_separated b
 
   both_first : FirstCases b → FirstCases c → first_name names b ≡ first_name names c → b ≡ c
   both_first (inl x) (inl y) e = (split_last b [] c [] refl refl (sym x ∙ e ∙ y)).0
-  both_first (inl x) (inr y) e = absurd (true≢false (sym (ends_separated-append b) ∙ ap ends_separated (sym x ∙ e ∙ y.0) ∙ c_ends))
-  both_first (inr x) (inl y) e = absurd (true≢false (sym (ends_separated-append c) ∙ ap ends_separated (sym y ∙ sym e ∙ x.0) ∙ b_ends))
+  both_first (inl x) (inr y) e = absurd (true≢false (sym (ends_separated-push b 95) ∙ ap ends_separated (sym x ∙ e ∙ y.0) ∙ c_ends))
+  both_first (inr x) (inl y) e = absurd (true≢false (sym (ends_separated-push c 95) ∙ ap ends_separated (sym y ∙ sym e ∙ x.0) ∙ b_ends))
   both_first (inr x) (inr y) e = sym x.0 ∙ e ∙ y.0
 
   both : NameCases b m → NameCases c n → name_of_base names b m ≡ name_of_base names c n → (b ≡ c) × (m ≡ n)

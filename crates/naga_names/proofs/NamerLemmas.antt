@@ -1,5 +1,5 @@
 -- Names by the uses so far, and by the labels so far.
-use Rattle.std.proofs.Common.{◌≡◌, ℕ, ◌+◌, ◌^◌, ◌<◌, ◌≤◌, Bool, true, false, cond, List, [], ◌∷◌, ◌++◌, Option, Some, None, unwrap_or, refl, sym, ap, ◌∙◌, arith, add-zero, ◌==◌}
+use Rattle.std.proofs.Common.{◌≡◌, ℕ, ◌+◌, ◌^◌, ◌<◌, ◌≤◌, Bool, true, false, cond, List, [], ◌∷◌, ◌++◌, Option, Some, None, unwrap_or, refl, sym, ap, subst, ◌∙◌, arith, add-zero, ◌==◌}
 use Rattle.std.proofs.lemmas.Bool.Decides.{nat_tests}
 use Rattle.std.specs.Cmp.Lexicographic.{slice_cmp, nat_list_cmp_total, nat_list_eq_equiv, bytes_decides}
 use Rattle.std.specs.FinMap as map
@@ -8,7 +8,7 @@ use Rattle.std.specs.Str.{bytes_eq}
 use Rattle.std.specs.Option.{option_map}
 use Rattle.std.proofs.lemmas.List.Sums.{sum_by_push}
 use Rattle.std.proofs.lemmas.Map.Text.{is_eq-slice_cmp}
-use Rattle.naga_names.specs.Naming.{Uses, Names, uses_of, label_base, first_name, later_name, name_of_base, name_of, with_use, labels_with_base, name_after, HasNamed}
+use Rattle.naga_names.specs.Naming.{Uses, Names, uses_of, label_base, first_name, later_name, name_of_base, name_of, with_use, with_use_of_base, labels_with_base, name_after, HasNamed}
 
 pub uses_of-empty : (base : List ℕ) → uses_of map.empty base ≡ 0
 uses_of-empty base = ap (λ u. unwrap_or u 0) (map.get-empty (slice_cmp nat_cmp) base)
@@ -78,26 +78,17 @@ uses_of-unused uses b later is none = ap (λ u. unwrap_or u 0) (sym is ∙ ap (o
 pub uses_of-used : (uses : Uses) (b : List ℕ) (later : Option ℕ) (n : ℕ) → option_map (λ n. n + 1) later ≡ map.get uses b → later ≡ Some n → uses_of uses b ≡ n + 1
 uses_of-used uses b later n is some = ap (λ u. unwrap_or u 0) (sym is ∙ ap (option_map (λ n. n + 1)) some)
 
--- ---- what a call leaves, seen through the fields that it began with
-module _ (inside names : Names) (same : inside ≡ names) (label b : List ℕ) (base_is : b ≡ label_base inside label) (later : Option ℕ) (later_is : option_map (λ n. n + 1) later ≡ map.get inside.uses b) where
-  pub first_named : later ≡ None → (name : List ℕ) → name ≡ first_name inside b → name ≡ name_of names label
-  first_named none name is = is ∙ name_of-first inside label b base_is (uses_of-unused inside.uses b later later_is none) ∙ ap (λ n. name_of n label) same
+-- a label that has the base b
+module _ (names : Names) (label b : List ℕ) (base_is : b ≡ label_base names label) where
+  pub name_of-by_base : name_of_base names b (uses_of names.uses b) ≡ name_of names label
+  unfolding name_of
+  name_of-by_base = ap (λ d. name_of_base names d (uses_of names.uses d)) base_is
 
-  pub first_used : later ≡ None → (after : Uses) → after ≡ map.insert inside.uses b (0 + 1) → record inside { uses = after } ≡ with_use names label
-  first_used none after is = with_use_is inside label b 0 after base_is (uses_of-unused inside.uses b later later_is none) is ∙ ap (λ n. with_use n label) same
+  pub with_use-by_base : with_use_of_base names b ≡ with_use names label
+  unfolding with_use
+  with_use-by_base = ap (with_use_of_base names) base_is
 
-  pub later_named : (n : ℕ) → later ≡ Some n → (name : List ℕ) → name ≡ later_name b (n + 1) → name ≡ name_of names label
-  later_named n some name is = is ∙ name_of-later inside label b n base_is (uses_of-used inside.uses b later n later_is some) ∙ ap (λ n. name_of n label) same
-
-  pub later_used : (n : ℕ) → later ≡ Some n → (after : Uses) → after ≡ map.insert inside.uses b (n + 1 + 1) → record inside { uses = after } ≡ with_use names label
-  later_used n some after is = with_use_is inside label b (n + 1) after base_is (uses_of-used inside.uses b later n later_is some) is ∙ ap (λ n. with_use n label) same
-
-  used_so_far : (n : ℕ) → uses_of inside.uses b ≡ n → uses_of names.uses (label_base names label) ≡ n
-  used_so_far n is = ap (λ (m : Names). uses_of m.uses (label_base m label)) (sym same) ∙ ap (uses_of inside.uses) (sym base_is) ∙ is
-
-  -- the next use can be counted
-  pub first_room : later ≡ None → uses_of names.uses (label_base names label) < 2 ^ 32
-  first_room none = let used = used_so_far 0 (uses_of-unused inside.uses b later later_is none) in omega (arith, used)
-
-  pub later_room : (n : ℕ) → later ≡ Some n → n + 1 < 2 ^ 32 → uses_of names.uses (label_base names label) < 2 ^ 32
-  later_room n some lt = let used = used_so_far (n + 1) (uses_of-used inside.uses b later n later_is some) in omega (arith, used, lt)
+  pub push-by_base : (earlier : List (List ℕ)) (new : Names) → HasNamed names earlier → new ≡ with_use_of_base names b → uses_of names.uses b < 2 ^ 32 → HasNamed new (earlier ++ label ∷ [])
+  push-by_base earlier new has used room =
+      subst (λ n. HasNamed n (earlier ++ label ∷ [])) (sym (used ∙ with_use-by_base))
+      (has_named-push names earlier label (subst (λ d. uses_of names.uses d < 2 ^ 32) base_is room) has)

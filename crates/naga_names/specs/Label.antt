@@ -1,10 +1,11 @@
 -- The base of a label: the part of an identifier that comes from the label alone.
 --
 -- Throughout, c is a character (cs are several), d the next one, and n a number.
-use Rattle.std.specs.Prelude.{ℕ, ◌-◌, Bool, false, not, ◌||◌, ◌&&◌, ◌==◌, if◌then◌else◌, List, [], ◌∷◌, ◌++◌, length, drop, replicate, codes}
+use Rattle.std.specs.Prelude.{◌≡◌, ℕ, ◌-◌, Bool, false, not, ◌||◌, ◌&&◌, ◌==◌, if◌then◌else◌, List, [], ◌∷◌, ◌++◌, ◌<◌, length, slice_index, drop, replicate, codes}
 use Rattle.std.specs.Fmt.{digits}
 use Rattle.std.specs.List.{flat_map, list_any, starts_with}
 use Rattle.std.specs.Bool.{nat_eq}
+use Rattle.std.specs.Str.{IsAscii}
 use Rattle.ucd_category.specs.GeneralCategory.{general_category}
 use Rattle.ucd_category.specs.GeneralCategoryGroup.{in_group}
 use Rattle.ucd_category.specs.declared.GeneralCategoryGroup.TheVariants.{Number}
@@ -91,6 +92,18 @@ or_unnamed (c ∷ cs) = c ∷ cs
 abbrev pub kept_off : List (List ℕ) → List ℕ → List ℕ
 kept_off prefixes text =
     if list_any (starts_with nat_eq text) prefixes then codes "gen_" ++ text else text
+
+-- an ASCII text that is spelled as it stands
+pub record IsSpelledAlike (text : List ℕ) : Type 0 where
+  pub ascii : IsAscii text
+  pub alike : spelling text ≡ text
+
+-- an ASCII text that a label keeps: spelled as it stands, with no number first and no `_` at its end
+pub record IsPlain (text : List ℕ) : Type 0 where
+  pub some : 0 < length text
+  pub first : is_numeric (slice_index text 0) ≡ false
+  pub alike : IsSpelledAlike text
+  pub last : ends_separated text ≡ false
 
 -- the base of a label, of which these are the characters, where identifiers keep off these prefixes
 unfoldable pub base_of : List (List ℕ) → List ℕ → List ℕ

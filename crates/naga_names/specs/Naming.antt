@@ -1,7 +1,7 @@
 -- The names that a `Namer` gives.
 --
 -- Throughout, n are names, and p their parts as a pair.
-use Rattle.std.specs.Prelude.{◌≡◌, ℕ, ◌+◌, ◌-◌, ◌^◌, ◌≤◌, Bool, ◌||◌, ◌==◌, if◌then◌else◌, List, ◌++◌, length, slice_index, [], codes, count_by, unwrap_or, decimal, refl, string_bytes}
+use Rattle.std.specs.Prelude.{◌≡◌, ℕ, ◌+◌, ◌-◌, ◌^◌, ◌<◌, ◌≤◌, Some, None, Bool, ◌||◌, ◌==◌, if◌then◌else◌, List, ◌++◌, length, slice_index, [], codes, count_by, unwrap_or, decimal, refl, string_bytes}
 use Rattle.std.specs.Option.{option_map_or}
 use Rattle.std.specs.declared.option.Option.{Option}
 use Rattle.std.specs.declared.string.String.{String}
@@ -112,11 +112,22 @@ unfoldable pub name_of : Names → List ℕ → List ℕ
 name_of names label =
     let base = label_base names label in name_of_base names base (uses_of names.uses base)
 
--- one more use of the label's base, and nothing else
-unfoldable pub with_use : Names → List ℕ → Names
-with_use names label =
-    let base = label_base names label in
+-- one more use of the base, and nothing else
+abbrev pub with_use_of_base : Names → List ℕ → Names
+with_use_of_base names base =
     record names { uses = map.insert names.uses base (uses_of names.uses base + 1) }
+
+-- one more use of the label's base
+unfoldable pub with_use : Names → List ℕ → Names
+with_use names label = with_use_of_base names (label_base names label)
+
+-- a base that was used before has got its next name and one more use; any other one has got none
+abbrev pub GivesLaterName : Uses → List ℕ → Option (List ℕ) → Uses → Type 0
+GivesLaterName before base None after = (uses_of before base ≡ 0) × (after ≡ before)
+GivesLaterName before base (Some name) after =
+    let uses = uses_of before base in
+    (0 < uses) × (uses < 2 ^ 32) × (name ≡ later_name base uses)
+    × (after ≡ map.insert before base (uses + 1))
 
 -- the base has been used so often that there is no next name: its counter is at the greatest `u32`
 abbrev pub IsFull : Names → List ℕ → Type 0

@@ -1,21 +1,25 @@
 -- Why a label gets no name, and why a module gets none.
-use Rattle.std.specs.Prelude.{◌≡◌, ⊤, ◌⊎◌, List, [], length, slice_get, Some, ℕ, ◌<◌, ◌^◌, ◌∷◌, ◌++◌, false}
+use Rattle.std.specs.Prelude.{◌≡◌, ⊤, ◌⊎◌, List, length, slice_get, Some, ℕ, ◌<◌, ◌^◌, ◌∷◌, ◌++◌, false}
 use Rattle.naga_ir.specs.declared.module.EntryPoint.{EntryPoint}
 use Rattle.naga_ir.specs.declared.module.Function.{Function}
 use Rattle.naga_ir.specs.declared.module.Module.{Module}
 use Rattle.naga_ir.specs.declared.types.Type_.{Type_}
 use Rattle.naga_names.specs.declared.error.NamerError.{NamerError}
 use Rattle.naga_names.specs.declared.error.NamerError.TheVariants.{Full, KeyFull, Memory}
-use Rattle.naga_names.specs.Naming.{Names, IsFull, label_base, labels_with_base}
+use Rattle.naga_names.specs.Naming.{Names, Uses, uses_of, label_base, labels_with_base}
 use Rattle.naga_names.specs.Keys.{NameMap}
 use Rattle.naga_names.specs.Reset.{Labelled, members_of, is_member, labels_of, keys_fit, labelled_items, HasNamedItems, PutsBeginning}
 
--- `Full` comes only where the label's base is full,
+-- `Full` comes only where the base is full,
 -- `KeyFull` never, and `Memory` may come at any time
+abbrev pub IsRefusalOfBase : Uses → List ℕ → NamerError → Type 0
+IsRefusalOfBase uses base Full = uses_of uses base ≡ 2 ^ 32
+IsRefusalOfBase uses base KeyFull = ⊥
+IsRefusalOfBase uses base (Memory e) = ⊤
+
+-- the same of the label's base
 abbrev pub IsRefusalOf : Names → List ℕ → NamerError → Type 0
-IsRefusalOf names label Full = IsFull names label
-IsRefusalOf names label KeyFull = ⊥
-IsRefusalOf names label (Memory e) = ⊤
+IsRefusalOf names label error = IsRefusalOfBase names.uses (label_base names label) error
 
 -- at one of these items, which is no member of a struct, the label's base is full: the labels
 -- before it used it so often that there is no next name

@@ -1,9 +1,9 @@
 //! Identifiers from labels.
-ghost use Rattle.std.specs.Prelude.{◌≡◌, true, ◌∷◌, [], ◌++◌, List, ℕ, map, length, false, codes, IfOk, IfErr, OnOk, OnErr, IsErr, string_bytes};
+ghost use Rattle.std.specs.Prelude.{◌≡◌, ◌<◌, ◌^◌, true, ◌∷◌, [], ◌++◌, List, ℕ, map, length, false, codes, IfOk, IfErr, OnOk, OnErr, IsErr, string_bytes};
 ghost use Rattle.naga_names.specs.Starts.{start_of};
-ghost use Rattle.naga_names.specs.Naming.{Names, names_code, no_names, label_or, first_name, is_taken, name_of, with_use, IsFull, HasNamed, name_after};
+ghost use Rattle.naga_names.specs.Naming.{Names, names_code, no_names, label_or, first_name, is_taken, name_of, name_of_base, uses_of, with_use, with_use_of_base, IsFull, HasNamed, name_after};
 ghost use Rattle.naga_names.specs.Members.{PutsName, PutsNoName, HasNamedMembers, RefusesMembers};
-ghost use Rattle.naga_names.specs.Refusal.{IsRefusalOf, IsResetRefusal, RefusesItems, SomeNameIsFull, SomeKeyIsFull, KeysRunOut};
+ghost use Rattle.naga_names.specs.Refusal.{IsRefusalOf, IsRefusalOfBase, IsResetRefusal, RefusesItems, SomeNameIsFull, SomeKeyIsFull, KeysRunOut};
 ghost use Rattle.naga_names.specs.declared.error.NamerError.TheVariants.{KeyFull};
 ghost use Rattle.naga_names.specs.Keys.{names_in};
 ghost use Rattle.naga_names.specs.Reset.{labelled_members, labelled_items, HasNamedItems, PutsBeginning, NamesItems};
@@ -90,22 +90,30 @@ impl Namer {
         ensures reason { IfErr result (IsRefusalOf self.old label.now) }
         ensures full { IsFull self.old label.now → IsErr result }
     {
-        let base = label::base(self.alloc, &self.reserved_prefixes, label)?;
-        match self.uses.later(base.as_str()) {
-            None => {
-                let name = self.first_name(base.as_str())?;
-                self.uses.put(base, 0)?;
-                Ok(name)
-            }
-            Some(later) => {
-                let Some(number) = later.checked_add(1) else {
-                    return Err(NamerError::Full);
-                };
-                let name = format!(in self.alloc; "{base}_{number}")?;
-                self.uses.put(base, number)?;
-                Ok(name)
-            }
+        if let Some(base) = label::own_base(&self.reserved_prefixes, label) {
+            return self.name_of_base(base);
         }
+        let base = label::base(self.alloc, &self.reserved_prefixes, label)?;
+        self.name_of_base(base.as_str())
+    }
+
+    /// The next identifier of the base, and one more use of it. A refused call changes nothing.
+    fn name_of_base(&mut self, base: &str) -> Result<String, NamerError>
+        ensures name { IfOk result (λ name. string_bytes name
+            ≡ name_of_base self.old base.now (uses_of self.old.uses base.now)) }
+        ensures used { OnOk result (self.new ≡ with_use_of_base self.old base.now) }
+        ensures room { OnOk result (uses_of self.old.uses base.now < 2 ^ 32) }
+        ensures err { OnErr result (self.new ≡ self.old) }
+        ensures reason { IfErr result (IsRefusalOfBase self.old.uses base.now) }
+        ensures full { uses_of self.old.uses base.now ≡ 2 ^ 32 → IsErr result }
+    {
+        if let Some(name) = self.uses.later_name(self.alloc, base)? {
+            return Ok(name);
+        }
+        let name = self.first_name(base)?;
+        let base = String::from_str(self.alloc, base)?;
+        self.uses.begin(base)?;
+        Ok(name)
     }
 
     /// `call` of the label, or of the fallback where there is none. An empty label is one.

@@ -110,6 +110,7 @@ impl Naming {
             «module».now
             (progress self.new output.new) }
     {
+        make_room(module, output);
         let types = &module.types;
         self.name_types(&module.entry_points, types, output);
         self.name_entry_points(types, &module.entry_points, output);
@@ -432,6 +433,40 @@ impl Naming {
             self.refusal = Some(refusal);
         }
     }
+}
+
+/// Makes room for the names of the module, so that the map need not grow while it gets them. Where there
+/// is no memory for all of them at once, the map grows as they come.
+fn make_room(module: &Module, output: &mut HashMap<NameKey, String>)
+    ensures { names_in output.new ≡ names_in output.old }
+{
+    let _ = output.reserve(name_count(module));
+}
+
+/// How many names the module has, but for those of parts.
+fn name_count(module: &Module) -> usize {
+    let mut count = module
+        .global_variables
+        .len()
+        .saturating_add(module.constants.len())
+        .saturating_add(module.overrides.len());
+    for (_, ty) in module.types.iter() {
+        count = count.saturating_add(members_of(&ty.inner).len()).saturating_add(1);
+    }
+    for entry_point in &module.entry_points {
+        count = count.saturating_add(own_name_count(&entry_point.function));
+    }
+    for (_, function) in module.functions.iter() {
+        count = count.saturating_add(own_name_count(function));
+    }
+    count
+}
+
+/// How many names a function has with its arguments and its variables.
+fn own_name_count(function: &Function) -> usize {
+    let arguments = function.arguments.len();
+    let locals = function.local_variables.len();
+    arguments.saturating_add(locals).saturating_add(1)
 }
 
 /// The key of a part of what has this key.

@@ -1,9 +1,9 @@
 //! The base of a label: the part of an identifier that comes from the label alone.
-ghost use Rattle.std.specs.Prelude.{◌≡◌, ℕ, true, List, ◌∷◌, [], ◌++◌, ◌||◌, ◌==◌, map, IfOk, OnOk, string_bytes};
+ghost use Rattle.std.specs.Prelude.{◌≡◌, ℕ, ◌<◌, length, false, true, slice_index, codes, ◌⊎◌, IfSome, IsTrue, List, ◌∷◌, [], ◌++◌, ◌||◌, ◌==◌, map, IfOk, OnOk, string_bytes};
 ghost use Rattle.std.specs.List.{list_any, starts_with};
 ghost use Rattle.std.specs.Bool.{nat_eq};
 ghost use Rattle.std.specs.Str.{chars};
-ghost use Rattle.naga_names.specs.Label.{is_numeric, is_mark, is_foreign, by_number, after_numerics, spelling, with_separator, without_last_separators, or_unnamed, base_of};
+ghost use Rattle.naga_names.specs.Label.{is_numeric, is_mark, is_foreign, by_number, after_numerics, spelling, with_separator, without_last_separators, or_unnamed, base_of, ends_separated, IsPlain, IsSpelledAlike};
 ghost use Rattle.naga_names.specs.Naming.{ends_in_digit};
 
 use std::alloc::{AllocError, Global};
@@ -20,6 +20,65 @@ pub fn base(alloc: Global, prefixes: &[&'static str], label: &str) -> Result<Str
         return format!(in alloc; "gen_{base}");
     }
     Ok(base)
+}
+
+/// The base of the label, where identifiers keep off the prefixes, if it is seen to stand in the label
+/// itself: then it needs no text of its own.
+pub fn own_base<'a>(prefixes: &[&'static str], label: &'a str) -> Option<&'a str>
+    ensures { IfSome result (λ base.
+        base.now ≡ base_of (map (λ p. p.now) prefixes.now) (chars label.now)) }
+{
+    let base = without_last_separator(label);
+    if is_plain(base) && !begins_reserved(base, prefixes) {
+        Some(base)
+    } else {
+        None
+    }
+}
+
+/// The text without a `_` at its end.
+fn without_last_separator(text: &str) -> &str
+    ensures { (text.now ≡ result.now) ⊎ (text.now ≡ result.now ++ codes "_") }
+{
+    match text.strip_suffix('_') {
+        Some(shorter) => shorter,
+        None => text,
+    }
+}
+
+fn is_plain(text: &str) -> bool
+    ensures { IsTrue result → IsPlain text.now }
+{
+    begins_plainly(text) && is_spelled_alike(text)
+}
+
+/// Whether the text has a first byte, which is no number as a character.
+fn begins_plainly(text: &str) -> bool
+    ensures { IsTrue result →
+        (0 < length text.now) × (is_numeric (slice_index text.now 0) ≡ false) }
+{
+    match text.as_bytes().first() {
+        Some(first) => !is_numeric(&(*first as char)),
+        None => false,
+    }
+}
+
+/// Whether the text has letters, digits and lone `_` of ASCII alone, and no `_` at its end.
+fn is_spelled_alike(text: &str) -> bool
+    ensures { IsTrue result → IsSpelledAlike text.now × (ends_separated text.now ≡ false) }
+{
+    let bytes = text.as_bytes();
+    let mut is_separated = false;
+    for byte in bytes {
+        if byte.is_ascii_alphanumeric() {
+            is_separated = false;
+        } else if *byte == b'_' && !is_separated {
+            is_separated = true;
+        } else {
+            return false;
+        }
+    }
+    !is_separated
 }
 
 /// The text without the `_` at its end, or `unnamed` where nothing is left of it.

@@ -1,11 +1,15 @@
 //! How often each base was used.
-ghost use Rattle.std.specs.Prelude.{◌≡◌, ℕ, ◌+◌, map, OnOk, OnErr, string_bytes};
-ghost use Rattle.std.specs.Option.{option_map};
+ghost use Rattle.std.specs.Prelude.{◌≡◌, ℕ, ◌+◌, ◌^◌, ◌<◌, map, IfSome, IfOk, IfErr, IsErr, OnOk, OnErr, string_bytes};
+ghost use Rattle.std.specs.Option.{IfNone, option_map};
 ghost use Rattle.std.specs.Cmp.Lexicographic.{slice_cmp};
 ghost use Rattle.std.specs.Coded.{coded_ℕ, coded_list};
 ghost use Rattle.std.specs.FinMap as finite;
 ghost use Rattle.std.specs.Ordering.{nat_cmp};
+ghost use Rattle.naga_names.specs.Naming.{GivesLaterName, later_name, uses_of};
+ghost use Rattle.naga_names.specs.Refusal.{IsRefusalOfBase};
 
+use crate::namer::NamerError;
+use itoa::Buffer;
 use std::alloc::{AllocError, Global};
 use std::collections::HashMap;
 use std::marker::Model;
@@ -35,19 +39,57 @@ impl Uses {
         }
     }
 
-    /// How often the base was used after its first use, if it was used.
-    pub fn later(&self, base: &str) -> Option<u32>
-        ensures { option_map (λ later. later + 1) result ≡ finite.get self.now base.now }
+    /// The next name of a base that was used before, and one more use of it. A base that was never used
+    /// has none. A refused call changes nothing.
+    pub fn later_name(
+        &mut self,
+        alloc: Global,
+        base: &str,
+    ) -> Result<Option<String>, NamerError>
+        ensures ok { IfOk result (λ name.
+            GivesLaterName self.old base.now (option_map string_bytes name) self.new) }
+        ensures err { OnErr result (self.new ≡ self.old) }
+        ensures reason { IfErr result (IsRefusalOfBase self.old base.now) }
+        ensures full { uses_of self.old base.now ≡ 2 ^ 32 → IsErr result }
     {
-        self.later.get(base).copied()
+        let Some(later) = self.later.get_mut(base) else {
+            return Ok(None);
+        };
+        let Some(number) = number_after(*later) else {
+            return Err(NamerError::Full);
+        };
+        let name = numbered(alloc, base, number)?;
+        *later = number;
+        Ok(Some(name))
     }
 
-    /// Sets how often the base was used after its first use.
-    pub fn put(&mut self, base: String, later: u32) -> Result<(), AllocError>
-        ensures ok { OnOk result (self.new ≡ finite.insert self.old (string_bytes base) (later + 1)) }
+    /// The first use of the base.
+    pub fn begin(&mut self, base: String) -> Result<(), AllocError>
+        ensures ok { OnOk result (self.new ≡ finite.insert self.old (string_bytes base) 1) }
         ensures err { OnErr result (self.new ≡ self.old) }
     {
-        self.later.insert(base, later)?;
+        self.later.insert(base, 0)?;
         Ok(())
     }
+}
+
+/// The number behind this one, unless this is the greatest.
+fn number_after(later: u32) -> Option<u32>
+    ensures number { IfSome result (λ number. (number ≡ later + 1) × (number < 2 ^ 32)) }
+    ensures none { IfNone result (later + 1 ≡ 2 ^ 32) }
+{
+    later.checked_add(1)
+}
+
+/// The base with `_` and the number behind it.
+fn numbered(alloc: Global, base: &str, number: u32) -> Result<String, AllocError>
+    ensures { IfOk result (λ name. string_bytes name ≡ later_name base.now number) }
+{
+    let mut buffer = Buffer::new();
+    let digits = buffer.format(number);
+    let mut name = String::with_capacity(alloc, base.len() + 1 + digits.len())?;
+    name.push_str(base)?;
+    name.push('_')?;
+    name.push_str(digits)?;
+    Ok(name)
 }
