@@ -1,0 +1,162 @@
+-- The operand places of expressions and statements, each with the handle that it holds, in the
+-- order of the fields. The result of a statement is no operand place, nor is an `Emit`'s range.
+use Rattle.std.specs.Prelude.{ℕ, List, [], ◌∷◌, ◌++◌}
+use Rattle.std.specs.Option.{option_to_list}
+use Rattle.naga_ir.specs.StatementTree.{SimpleStatement, emit, break, continue, return, kill}
+use Rattle.naga_ir.specs.StatementTree.{control_barrier, memory_barrier, store, image_store, atomic}
+use Rattle.naga_ir.specs.StatementTree.{image_atomic, work_group_uniform_load, call, ray_query}
+use Rattle.naga_ir.specs.StatementTree.{subgroup_ballot, subgroup_gather}
+use Rattle.naga_ir.specs.StatementTree.{subgroup_collective_operation, cooperative_store}
+use Rattle.naga_ir.specs.StatementTree.{ray_pipeline_function, StatementTree, simple, block, branch}
+use Rattle.naga_ir.specs.StatementTree.{switch, loop, BlockTree, no_statements, statement}
+use Rattle.naga_ir.specs.StatementTree.{CaseTrees, no_cases, case}
+use Rattle.naga_ir.specs.declared.expression.CooperativeData.{CooperativeData}
+use Rattle.naga_ir.specs.declared.expression.Expression.{Expression}
+use Rattle.naga_ir.specs.declared.expression.Expression.TheVariants.{Compose, Access, AccessIndex}
+use Rattle.naga_ir.specs.declared.expression.Expression.TheVariants.{Splat, Swizzle, Load}
+use Rattle.naga_ir.specs.declared.expression.Expression.TheVariants.{ImageSample, ImageLoad}
+use Rattle.naga_ir.specs.declared.expression.Expression.TheVariants.{ImageQuery, Unary, Binary}
+use Rattle.naga_ir.specs.declared.expression.Expression.TheVariants.{Select, Derivative, Relational}
+use Rattle.naga_ir.specs.declared.expression.Expression.TheVariants.{Math, As, ArrayLength}
+use Rattle.naga_ir.specs.declared.expression.Expression.TheVariants.{RayQueryGetIntersection}
+use Rattle.naga_ir.specs.declared.expression.Expression.TheVariants.{RayQueryVertexPositions}
+use Rattle.naga_ir.specs.declared.expression.Expression.TheVariants.{CooperativeLoad}
+use Rattle.naga_ir.specs.declared.expression.Expression.TheVariants.{CooperativeMultiplyAdd}
+use Rattle.naga_ir.specs.declared.expression.Expression.TheVariants.{Literal, Constant, Override}
+use Rattle.naga_ir.specs.declared.expression.Expression.TheVariants.{ZeroValue, FunctionArgument}
+use Rattle.naga_ir.specs.declared.expression.Expression.TheVariants.{GlobalVariable, LocalVariable}
+use Rattle.naga_ir.specs.declared.expression.Expression.TheVariants.{CallResult, AtomicResult}
+use Rattle.naga_ir.specs.declared.expression.Expression.TheVariants.{WorkGroupUniformLoadResult}
+use Rattle.naga_ir.specs.declared.expression.Expression.TheVariants.{RayQueryProceedResult}
+use Rattle.naga_ir.specs.declared.expression.Expression.TheVariants.{SubgroupBallotResult}
+use Rattle.naga_ir.specs.declared.expression.Expression.TheVariants.{SubgroupOperationResult}
+use Rattle.naga_ir.specs.declared.expression.ImageQuery.{ImageQuery as Query}
+use Rattle.naga_ir.specs.declared.expression.ImageQuery.TheVariants.{Size, NumLevels, NumLayers}
+use Rattle.naga_ir.specs.declared.expression.ImageQuery.TheVariants.{NumSamples}
+use Rattle.naga_ir.specs.declared.expression.SampleLevel.{SampleLevel}
+use Rattle.naga_ir.specs.declared.expression.SampleLevel.TheVariants.{Auto, Zero, Exact, Bias}
+use Rattle.naga_ir.specs.declared.expression.SampleLevel.TheVariants.{Gradient}
+use Rattle.naga_ir.specs.declared.operators.AtomicFunction.{AtomicFunction}
+use Rattle.naga_ir.specs.declared.operators.AtomicFunction.TheVariants.{Exchange}
+use Rattle.naga_ir.specs.declared.operators.GatherMode.{GatherMode}
+use Rattle.naga_ir.specs.declared.operators.GatherMode.TheVariants.{BroadcastFirst, Broadcast}
+use Rattle.naga_ir.specs.declared.operators.GatherMode.TheVariants.{Shuffle, ShuffleDown, ShuffleUp}
+use Rattle.naga_ir.specs.declared.operators.GatherMode.TheVariants.{ShuffleXor, QuadBroadcast}
+use Rattle.naga_ir.specs.declared.operators.GatherMode.TheVariants.{QuadSwap}
+use Rattle.naga_ir.specs.declared.statement.RayPipelineFunction.{RayPipelineFunction}
+use Rattle.naga_ir.specs.declared.statement.RayPipelineFunction.TheVariants.{TraceRay}
+
+abbrev pub level_operands : SampleLevel → List ℕ
+level_operands Auto = []
+level_operands Zero = []
+level_operands (Exact level) = level ∷ []
+level_operands (Bias bias) = bias ∷ []
+level_operands (Gradient x y) = x ∷ y ∷ []
+
+abbrev pub query_operands : Query → List ℕ
+query_operands (Size level) = option_to_list level
+query_operands NumLevels = []
+query_operands NumLayers = []
+query_operands NumSamples = []
+
+abbrev pub cooperative_operands : CooperativeData → List ℕ
+cooperative_operands place = place.pointer ∷ place.stride ∷ []
+
+abbrev pub expression_operands : Expression → List ℕ
+expression_operands (Literal value) = []
+expression_operands (Constant handle) = []
+expression_operands (Override handle) = []
+expression_operands (ZeroValue ty) = []
+expression_operands (Compose ty components) = components.items
+expression_operands (Access base index) = base ∷ index ∷ []
+expression_operands (AccessIndex base index) = base ∷ []
+expression_operands (Splat size value) = value ∷ []
+expression_operands (Swizzle size vector pattern) = vector ∷ []
+expression_operands (FunctionArgument number) = []
+expression_operands (GlobalVariable handle) = []
+expression_operands (LocalVariable handle) = []
+expression_operands (Load pointer) = pointer ∷ []
+expression_operands
+    (ImageSample image sampler gather coordinate array_index offset level depth_ref clamp) =
+    image ∷ sampler ∷ coordinate ∷ option_to_list array_index ++ option_to_list offset ++
+    level_operands level ++ option_to_list depth_ref
+expression_operands (ImageLoad image coordinate array_index sample level) =
+    image ∷ coordinate ∷ option_to_list array_index ++ option_to_list sample ++ option_to_list level
+expression_operands (ImageQuery image query) = image ∷ query_operands query
+expression_operands (Unary op expr) = expr ∷ []
+expression_operands (Binary op left right) = left ∷ right ∷ []
+expression_operands (Select condition accept reject) = condition ∷ accept ∷ reject ∷ []
+expression_operands (Derivative axis ctrl expr) = expr ∷ []
+expression_operands (Relational fun argument) = argument ∷ []
+expression_operands (Math fun arg arg1 arg2 arg3) =
+    arg ∷ option_to_list arg1 ++ option_to_list arg2 ++ option_to_list arg3
+expression_operands (As expr kind convert) = expr ∷ []
+expression_operands (CallResult function) = []
+expression_operands (AtomicResult ty comparison) = []
+expression_operands (WorkGroupUniformLoadResult ty) = []
+expression_operands (ArrayLength array) = array ∷ []
+expression_operands RayQueryProceedResult = []
+expression_operands (RayQueryGetIntersection query committed) = query ∷ []
+expression_operands (RayQueryVertexPositions query committed) = query ∷ []
+expression_operands SubgroupBallotResult = []
+expression_operands (SubgroupOperationResult ty) = []
+expression_operands (CooperativeLoad columns rows role place) = cooperative_operands place
+expression_operands (CooperativeMultiplyAdd a b c) = a ∷ b ∷ c ∷ []
+
+abbrev pub atomic_operands : AtomicFunction → List ℕ
+atomic_operands (Exchange compare) = option_to_list compare
+atomic_operands _ = []
+
+abbrev pub gather_operands : GatherMode → List ℕ
+gather_operands BroadcastFirst = []
+gather_operands (Broadcast index) = index ∷ []
+gather_operands (Shuffle index) = index ∷ []
+gather_operands (ShuffleDown delta) = delta ∷ []
+gather_operands (ShuffleUp delta) = delta ∷ []
+gather_operands (ShuffleXor mask) = mask ∷ []
+gather_operands (QuadBroadcast index) = index ∷ []
+gather_operands (QuadSwap direction) = []
+
+abbrev pub ray_operands : RayPipelineFunction → List ℕ
+ray_operands (TraceRay structure descriptor payload) = structure ∷ descriptor ∷ payload ∷ []
+
+abbrev pub simple_operands : SimpleStatement → List ℕ
+simple_operands (emit first end) = []
+simple_operands break = []
+simple_operands continue = []
+simple_operands (return value) = option_to_list value
+simple_operands kill = []
+simple_operands (control_barrier flags) = []
+simple_operands (memory_barrier flags) = []
+simple_operands (store pointer value) = pointer ∷ value ∷ []
+simple_operands (image_store image coordinate array_index value) =
+    image ∷ coordinate ∷ option_to_list array_index ++ value ∷ []
+simple_operands (atomic pointer fun value outcome) = pointer ∷ atomic_operands fun ++ value ∷ []
+simple_operands (image_atomic image coordinate array_index fun value) =
+    image ∷ coordinate ∷ option_to_list array_index ++ atomic_operands fun ++ value ∷ []
+simple_operands (work_group_uniform_load pointer outcome) = pointer ∷ []
+simple_operands (call function arguments outcome) = arguments
+simple_operands (ray_query query) = query ∷ []
+simple_operands (subgroup_ballot outcome predicate) = option_to_list predicate
+simple_operands (subgroup_gather mode argument outcome) = gather_operands mode ++ argument ∷ []
+simple_operands (subgroup_collective_operation op collective_op argument outcome) = argument ∷ []
+simple_operands (cooperative_store target place) = target ∷ cooperative_operands place
+simple_operands (ray_pipeline_function fun) = ray_operands fun
+
+abbrev mutual
+  pub statement_operands : StatementTree → List ℕ
+  statement_operands (simple s) = simple_operands s
+  statement_operands (block b) = block_operands b
+  statement_operands (branch condition accept reject) =
+      condition ∷ block_operands accept ++ block_operands reject
+  statement_operands (switch selector cases) = selector ∷ cases_operands cases
+  statement_operands (loop body continuing break_if) =
+      block_operands body ++ block_operands continuing ++ option_to_list break_if
+
+  pub block_operands : BlockTree → List ℕ
+  block_operands no_statements = []
+  block_operands (statement s b) = statement_operands s ++ block_operands b
+
+  pub cases_operands : CaseTrees → List ℕ
+  cases_operands no_cases = []
+  cases_operands (case value body falls cases) = block_operands body ++ cases_operands cases
