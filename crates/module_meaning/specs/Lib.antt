@@ -13,3 +13,4 @@ pub mod Shapes
 pub mod Spelled
 pub mod TypeIdentity
 pub mod Types
+pub mod ShapeKinds

@@ -5,7 +5,7 @@ use Prim.Native.Nat.{zero, suc}
 use Rattle.naga_ir.specs.declared.module.Function.{Function}
 use Rattle.naga_ir.specs.declared.module.EntryPoint.{EntryPoint}
 use Rattle.naga_info.specs.declared.info.ExpressionInfo.{ExpressionInfo}
-use Rattle.naga_acceptance.specs.Operands.{expression_operands, block_operands}
+use Rattle.naga_ir.specs.Operands.{expression_operands, block_operands}
 
 -- the operand places of a function's expressions and statements
 abbrev pub operand_places : Function → List ℕ
