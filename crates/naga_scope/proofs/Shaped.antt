@@ -11,27 +11,17 @@ use Rattle.naga_ir.specs.declared.operators.BinaryOperator.{BinaryOperator}
 use Rattle.naga_ir.specs.declared.operators.BinaryOperator.TheVariants.{LogicalAnd, LogicalOr}
 use Rattle.naga_ir.specs.declared.types.Type_.{Type_}
 use Rattle.naga_info.specs.declared.info.ExpressionInfo.{ExpressionInfo}
-use Rattle.shader_runs.specs.Program.{Function, operands_of, expression_of, is_counted, binds_as, binds}
-use Rattle.shader_runs.specs.Scope.{Standing, Handles, is_present, usable_as, usable, usable_all, is_pure, is_constant_leaf, is_emittable}
+use Rattle.naga_back.specs.Baking.{count_to_bind}
+use Rattle.shader_runs.specs.Program.{Expression, Load, Operator, Access, AccessIndex, Logical}
+use Rattle.shader_runs.specs.Program.{Swizzle, Request}
+use Rattle.shader_runs.specs.Program.{Function, operands_of, expression_of}
+use Rattle.shader_runs.specs.Program.{is_counted, binds_as, binds}
+use Rattle.shader_runs.specs.Scope.{Standing, is_present, usable_as}
+use Rattle.shader_runs.specs.Scope.{is_emittable}
 use Rattle.module_meaning.specs.Shapes.{binary_shape, expression_shape, function_shape}
 use Rattle.naga_form.proofs.Fits.{none_is_given}
 
 -- ---- operators
-pub pure_operator : (op : BinaryOperator) (l r : ℕ) → is_pure (Some (binary_shape op l r)) ≡ true
-pure_operator LogicalAnd l r = refl
-pure_operator LogicalOr l r = refl
-pure_operator _ l r = refl
-
-pub emittable_operator : (op : BinaryOperator) (l r : ℕ) → is_emittable (Some (binary_shape op l r)) ≡ true
-emittable_operator LogicalAnd l r = refl
-emittable_operator LogicalOr l r = refl
-emittable_operator _ l r = refl
-
-pub no_leaf_operator : (op : BinaryOperator) (l r : ℕ) → is_constant_leaf (Some (binary_shape op l r)) ≡ false
-no_leaf_operator LogicalAnd l r = refl
-no_leaf_operator LogicalOr l r = refl
-no_leaf_operator _ l r = refl
-
 pub operator_operands : (op : BinaryOperator) (l r : ℕ) → operands_of (Some (binary_shape op l r)) ≡ l ∷ r ∷ []
 operator_operands LogicalAnd l r = refl
 operator_operands LogicalOr l r = refl
@@ -48,6 +38,18 @@ operator_usable f LogicalOr l r s = refl
 operator_usable f _ l r s = refl
 
 -- ---- what a `let` binds
+never_bound : (f : Function) (h : ℕ) (o : Option Expression) → is_emittable o ≡ false →
+    binds_as f h o ≡ false
+never_bound f h (Some (Load p)) none = absurd cc
+never_bound f h (Some (Request a w xs es)) none = absurd cc
+never_bound f h (Some (Operator w xs)) none = absurd cc
+never_bound f h (Some (Logical j l r)) none = absurd cc
+never_bound f h (Some (Swizzle w v)) none = absurd cc
+never_bound f h (Some (Access b i)) none = absurd cc
+never_bound f h (Some (AccessIndex x b)) none = absurd cc
+never_bound f h (Some _) none = refl
+never_bound f h None none = refl
+
 module _ (types : List Type_) (f : ir_function.Function) (es : List ExpressionInfo) (h : ℕ) (unnamed : IsTrue (names_nothing f)) where
   abbrev shape : Function
   shape = function_shape types f es
@@ -62,34 +64,22 @@ module _ (types : List Type_) (f : ir_function.Function) (es : List ExpressionIn
   shape_of : (o : Option ir.Expression) → slice_get f.expressions h ≡ o → expression_of shape h ≡ option_map expression_shape o
   shape_of o at = slice_get-map expression_shape f.expressions h ∙ ap (option_map expression_shape) at
 
-  pub load_binds : (pointer : ℕ) → slice_get f.expressions h ≡ Some (expression.Load pointer) → nat_le 1 count ≡ binds shape h
-  load_binds pointer at = sym (ap (binds_as shape h) (shape_of (Some (expression.Load pointer)) at) ∙ counted_from 1)
+  -- what an Emit may give is bound from its number of uses on
+  pub emitted_binds : (e : ir.Expression) → slice_get f.expressions h ≡ Some e →
+      is_emittable (Some (expression_shape e)) ≡ true →
+      nat_le (count_to_bind e) count ≡ binds shape h
+  emitted_binds (expression.Load pointer) at may =
+      sym (ap (binds_as shape h) (shape_of (Some (expression.Load pointer)) at) ∙ counted_from 1)
+  emitted_binds (expression.Binary op left right) at may =
+      sym (ap (binds_as shape h) (shape_of (Some (expression.Binary op left right)) at)
+      ∙ operator_bound shape h op left right ∙ counted_from 2)
+  emitted_binds _ at may = absurd cc
 
-  pub binary_binds : (op : BinaryOperator) (left right : ℕ) → slice_get f.expressions h ≡ Some (expression.Binary op left right) → nat_le 2 count ≡ binds shape h
-  binary_binds op left right at = sym (ap (binds_as shape h) (shape_of (Some (expression.Binary op left right)) at) ∙ operator_bound shape h op left right ∙ counted_from 2)
-
-  pub none_binds : slice_get f.expressions h ≡ None → false ≡ binds shape h
-  none_binds at = sym (ap (binds_as shape h) (shape_of None at))
-
-  pub other_binds : (e : ir.Expression) → slice_get f.expressions h ≡ Some e → ((p : ℕ) → e ≢ expression.Load p) → ((op : BinaryOperator) (l r : ℕ) → e ≢ expression.Binary op l r) → false ≡ binds shape h
-  other_binds e at no_load no_binary = sym (ap (binds_as shape h) (shape_of (Some e) at) ∙ by e no_load no_binary)
-    where
-      by : (e : ir.Expression) → ((p : ℕ) → e ≢ expression.Load p) → ((op : BinaryOperator) (l r : ℕ) → e ≢ expression.Binary op l r) → binds_as shape h (Some (expression_shape e)) ≡ false
-      by (expression.Load p) n m = absurd (n p refl)
-      by (expression.Binary op l r) n m = absurd (m op l r refl)
-      by _ n m = refl
-
--- ---- operands in scope
-and_true : (b : Bool) → (b && true) ≡ b
-and_true true = refl
-and_true false = refl
-
-module _ (f : Function) (s : Handles) where
-  pub load_usable : (pointer : ℕ) → usable f s pointer ≡ usable_all f s (operands_of (Some (expression_shape (expression.Load pointer))))
-  load_usable pointer = sym (and_true (usable f s pointer))
-
-  pub binary_usable : (op : BinaryOperator) (left right : ℕ) → (usable f s left && usable f s right) ≡ usable_all f s (operands_of (Some (expression_shape (expression.Binary op left right))))
-  binary_usable op left right = sym (ap (usable_all f s) (operator_operands op left right) ∙ ap (λ b. usable f s left && b) (and_true (usable f s right)))
+  -- and nothing else is
+  pub others_bind : (o : Option ir.Expression) → slice_get f.expressions h ≡ o →
+      is_emittable (option_map expression_shape o) ≡ false → false ≡ binds shape h
+  others_bind o at none =
+      sym (ap (binds_as shape h) (shape_of o at) ∙ never_bound shape h (option_map expression_shape o) none)
 
 -- what an expression that was found evaluates
 pub shape_found : {X : Type 0} (view : X → ir.Expression) (o : Option X) (found : Option ir.Expression) → option_map view o ≡ found → option_map (λ x. expression_shape (view x)) o ≡ option_map expression_shape found
