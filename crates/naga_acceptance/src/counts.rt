@@ -167,8 +167,8 @@ fn add_statement_uses(infos: &mut [ExpressionInfo], statement: &Statement)
         Statement::RayQuery { query } => add_use(infos, *query),
         Statement::SubgroupBallot { predicate, .. } => add_optional_use(infos, *predicate),
         Statement::SubgroupGather { mode, argument, .. } => {
-            add_gather_uses(infos, *mode);
-            add_use(infos, *argument)
+            add_use(infos, *argument);
+            add_gather_uses(infos, *mode)
         }
         Statement::SubgroupCollectiveOperation { argument, .. } => add_use(infos, *argument),
         Statement::CooperativeStore { target, data_ } => {

@@ -13,18 +13,18 @@ joined a b c d e =
     ∙ sym (append_assoc (a ++ b) (c ++ d) e)
 
 pub sampled : (level : List ℕ) (image sampler coordinate : ℕ)
-    (array_index offset first second depth_ref : Option ℕ) →
+    (array_index depth_ref first second offset : Option ℕ) →
     option_to_list first ++ option_to_list second ≡ level →
     flat_map option_to_list
-    (Some image ∷ Some sampler ∷ Some coordinate ∷ array_index ∷ offset ∷ first ∷ second ∷
-    depth_ref ∷ []) ≡
-    image ∷ sampler ∷ coordinate ∷ option_to_list array_index ++ option_to_list offset ++ level ++
-    option_to_list depth_ref
-sampled level image sampler coordinate array_index offset first second depth_ref held =
+    (Some image ∷ Some sampler ∷ Some coordinate ∷ array_index ∷ depth_ref ∷ first ∷ second ∷
+    offset ∷ []) ≡
+    image ∷ sampler ∷ coordinate ∷ option_to_list array_index ++ option_to_list depth_ref ++ level ++
+    option_to_list offset
+sampled level image sampler coordinate array_index depth_ref first second offset held =
     ap (λ xs. image ∷ sampler ∷ coordinate ∷ xs)
-    (joined (option_to_list array_index) (option_to_list offset) (option_to_list first)
-    (option_to_list second) (option_to_list depth_ref))
+    (joined (option_to_list array_index) (option_to_list depth_ref) (option_to_list first)
+    (option_to_list second) (option_to_list offset))
     ∙ ap
-    (λ xs. image ∷ sampler ∷ coordinate ∷ option_to_list array_index ++ option_to_list offset ++
-    xs ++ option_to_list depth_ref)
+    (λ xs. image ∷ sampler ∷ coordinate ∷ option_to_list array_index ++ option_to_list depth_ref ++
+    xs ++ option_to_list offset)
     held

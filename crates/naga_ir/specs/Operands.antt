@@ -1,5 +1,6 @@
 -- The operand places of expressions and statements, each with the handle that it holds, in the
--- order of the fields. The result of a statement is no operand place, nor is an `Emit`'s range.
+-- order in which WGSL writes the operands. The result of a statement is no operand place, nor is an
+-- `Emit`'s range.
 use Rattle.std.specs.Prelude.{ℕ, List, [], ◌∷◌, ◌++◌}
 use Rattle.std.specs.Option.{option_to_list}
 use Rattle.naga_ir.specs.StatementTree.{SimpleStatement, emit, break, continue, return, kill}
@@ -78,14 +79,14 @@ expression_operands (LocalVariable handle) = []
 expression_operands (Load pointer) = pointer ∷ []
 expression_operands
     (ImageSample image sampler gather coordinate array_index offset level depth_ref clamp) =
-    image ∷ sampler ∷ coordinate ∷ option_to_list array_index ++ option_to_list offset ++
-    level_operands level ++ option_to_list depth_ref
+    image ∷ sampler ∷ coordinate ∷ option_to_list array_index ++ option_to_list depth_ref ++
+    level_operands level ++ option_to_list offset
 expression_operands (ImageLoad image coordinate array_index sample level) =
     image ∷ coordinate ∷ option_to_list array_index ++ option_to_list sample ++ option_to_list level
 expression_operands (ImageQuery image query) = image ∷ query_operands query
 expression_operands (Unary op expr) = expr ∷ []
 expression_operands (Binary op left right) = left ∷ right ∷ []
-expression_operands (Select condition accept reject) = condition ∷ accept ∷ reject ∷ []
+expression_operands (Select condition accept reject) = reject ∷ accept ∷ condition ∷ []
 expression_operands (Derivative axis ctrl expr) = expr ∷ []
 expression_operands (Relational fun argument) = argument ∷ []
 expression_operands (Math fun arg arg1 arg2 arg3) =
@@ -138,7 +139,7 @@ simple_operands (work_group_uniform_load pointer outcome) = pointer ∷ []
 simple_operands (call function arguments outcome) = arguments
 simple_operands (ray_query query) = query ∷ []
 simple_operands (subgroup_ballot outcome predicate) = option_to_list predicate
-simple_operands (subgroup_gather mode argument outcome) = gather_operands mode ++ argument ∷ []
+simple_operands (subgroup_gather mode argument outcome) = argument ∷ gather_operands mode
 simple_operands (subgroup_collective_operation op collective_op argument outcome) = argument ∷ []
 simple_operands (cooperative_store target place) = target ∷ cooperative_operands place
 simple_operands (ray_pipeline_function fun) = ray_operands fun

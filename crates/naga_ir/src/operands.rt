@@ -104,10 +104,10 @@ impl Expression {
                         Some(*sampler),
                         Some(*coordinate),
                         *array_index,
-                        *offset,
+                        *depth_ref,
                         level,
                         beside_level,
-                        *depth_ref,
+                        *offset,
                     ],
                     number,
                 )
@@ -139,7 +139,7 @@ impl Expression {
                 condition,
                 accept,
                 reject,
-            } => nth(&[*condition, *accept, *reject], number),
+            } => nth(&[*reject, *accept, *condition], number),
             Expression::Relational { argument, .. } => nth(&[*argument], number),
             Expression::Math {
                 arg,
@@ -158,7 +158,8 @@ impl Expression {
         }
     }
 
-    /// The handles of the expression's operands, in the order of its fields. It takes no memory.
+    /// The handles of the expression's operands, in the order in which WGSL writes them. It takes no
+    /// memory.
     #[inline]
     pub fn operands(&self) -> Operands<'_>
         ensures { result ≡ expression_operands self.now }
@@ -170,7 +171,7 @@ impl Expression {
     }
 }
 
-/// The operands of an expression that are still to come, in the order of its fields.
+/// The operands of an expression that are still to come, in the order in which WGSL writes them.
 #[derive(Drop)]
 pub struct Operands<'a> {
     expression: &'a Expression,

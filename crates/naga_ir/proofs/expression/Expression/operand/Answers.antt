@@ -9,6 +9,6 @@ returns-in-ImageSample-clause-item c =
     ∙ ap (λ places. slice_get places c.args.number)
     (sampled (level_operands c.in-ImageSample.level) c.in-ImageSample.image
     c.in-ImageSample.sampler c.in-ImageSample.coordinate c.in-ImageSample.array_index
-    c.in-ImageSample.offset c.level_handles-level.result.0 c.level_handles-level.result.1
-    c.in-ImageSample.depth_ref c.level_handles-level.ensures)
+    c.in-ImageSample.depth_ref c.level_handles-level.result.0 c.level_handles-level.result.1
+    c.in-ImageSample.offset c.level_handles-level.ensures)
     ∙ ap (λ e. slice_get (expression_operands e) c.args.number) (sym c.in-ImageSample.is)
