@@ -23,7 +23,6 @@ use Rattle.naga_info.specs.declared.info.TypeResolution.{TypeResolution}
 use Rattle.naga_info.specs.Resolution.{inner_of}
 use Rattle.module_meaning.specs.Applications.{Application, application_of, accepted_word}
 use Rattle.module_meaning.specs.Operations.{operators_agree, spelling_then, spellings_at}
-use Rattle.module_meaning.specs.Shapes.{application_shape, expression_shape, operator_shape}
 use Rattle.module_meaning.specs.Spelled.{word_of_type, word_at, local_pointer, pointee_word, pointee_of, pointee_at, spelling, spelling_at, spelling_of, is_alike}
 use Rattle.shader_runs.specs.Premises.{AllBelow}
 use Rattle.module_meaning.specs.Accepted.{declares_functions, is_scalar_type, special_types_fit, signature_fits, names_fit, operand_fits, application_fits, application_type, expected_type, is_within, expression_fits, expressions_fit_from, expressions_fit, value_fits, local_fits, statement_fits, block_fits, function_fits, functions_fit, is_accepted}
@@ -96,14 +95,6 @@ pub scalar_types_word_at : (types : List Type_) (ty : ℕ) → list_all is_scala
 scalar_types_word_at [] ty scalar h = absurd (omega (arith, h))
 scalar_types_word_at (t ∷ ts) zero scalar h = scalar_type_word t (and_parts (is_scalar_type t) (list_all is_scalar_type ts) scalar).0
 scalar_types_word_at (t ∷ ts) (suc ty) scalar h = scalar_types_word_at ts ty (and_parts (is_scalar_type t) (list_all is_scalar_type ts) scalar).1 (omega (arith, h))
-
--- the shape of an expression that applies something is that of what it applies
-pub applied_shape : (e : Expression) (a : Application) → application_of e ≡ Some a → expression_shape e ≡ operator_shape a.operator a.operands
-applied_shape (Literal value) a is = absurd cc
-applied_shape (FunctionArgument number) a is = absurd cc
-applied_shape (LocalVariable handle) a is = absurd cc
-applied_shape (Load pointer) a is = absurd cc
-applied_shape _ a is = ap application_shape is
 
 module _ (types : List Type_) where
   -- ---- functions side by side with what is known of them

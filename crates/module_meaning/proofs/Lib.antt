@@ -2,3 +2,4 @@ pub mod Accepting
 pub mod Fitting
 pub mod Operating
 pub mod Part
+pub mod Shapes

@@ -94,32 +94,33 @@ module _ (types : List Type_) where
   all_have (f1 ∷ fs) (es1 ∷ ess) (suc g) f es o here known there =
       stands_right (function_operations types f1.expressions es1) (all_operations types fs ess) o (all_have fs ess g f es o here known there)
 
--- an expression of the module that applies an accepted operator over operands
-pub record IsApplied (m : Module) (info : ModuleInfo) : Type 0 where
+-- an expression of these functions that applies an accepted operator over operands
+pub record IsApplied (types : List Type_) (fs : List Function) (ess : List (List ExpressionInfo)) : Type 0 where
   pub number : ℕ
   pub function : Function
   pub known : List ExpressionInfo
   pub handle : ℕ
   pub expression : Expression
   pub applied : Application
-  pub function_there : slice_get m.functions number ≡ Some function
-  pub known_there : slice_get info.functions.items number ≡ Some known
+  pub function_there : slice_get fs number ≡ Some function
+  pub known_there : slice_get ess number ≡ Some known
   pub expression_there : slice_get function.expressions handle ≡ Some expression
   pub application : application_of expression ≡ Some applied
-  pub operation : IsOperation m.types known handle applied
+  pub operation : IsOperation types known handle applied
+
+-- its operation stands among all
+stands_applied : (types : List Type_) (fs : List Function) (ess : List (List ExpressionInfo)) (x : IsApplied types fs ess) → StandsIn (all_operations types fs ess) (operation_at types x.known x.handle x.applied x.operation)
+stands_applied types fs ess x =
+    let from_start : x.handle ≡ 0 + x.handle = omega arith
+    in all_have types fs ess x.number x.function x.known (operation_at types x.known x.handle x.applied x.operation) x.function_there x.known_there
+    (subst (λ h. (is : IsOperation types x.known h x.applied) → StandsIn (function_operations types x.function.expressions x.known) (operation_at types x.known h x.applied is)) (sym from_start) (λ is. function_has types x.known 0 x.function.expressions x.handle x.expression x.applied x.application is x.expression_there) x.operation)
 
 -- two operators of an accepted module that are spelled alike, over operands of types alike, in one function or two, have types
 -- alike
-pub accepted_operations_agree : (m : Module) (info : ModuleInfo) → is_accepted m info ≡ true → (a b : IsApplied m info)
+pub accepted_operations_agree : (m : Module) (info : ModuleInfo) → is_accepted m info ≡ true → (a b : IsApplied m.types m.functions info.functions.items)
     → a.operation.word ≡ b.operation.word → a.operation.operand_words ≡ b.operation.operand_words → a.operation.answer_word ≡ b.operation.answer_word
 accepted_operations_agree m info accepted a b word operands =
     let all = all_operations m.types m.functions info.functions.items
-    in let one = stands a
-    in let two = stands b
+    in let one = stands_applied m.types m.functions info.functions.items a
+    in let two = stands_applied m.types m.functions info.functions.items b
     in all_agree_at all (accepted_operators_agree m info accepted) one.0 two.0 (operation_at m.types a.known a.handle a.applied a.operation) (operation_at m.types b.known b.handle b.applied b.operation) one.1 two.1 word operands
-  where
-    stands : (x : IsApplied m info) → StandsIn (all_operations m.types m.functions info.functions.items) (operation_at m.types x.known x.handle x.applied x.operation)
-    stands x =
-        let from_start : x.handle ≡ 0 + x.handle = omega arith
-        in all_have m.types m.functions info.functions.items x.number x.function x.known (operation_at m.types x.known x.handle x.applied x.operation) x.function_there x.known_there
-        (subst (λ h. (is : IsOperation m.types x.known h x.applied) → StandsIn (function_operations m.types x.function.expressions x.known) (operation_at m.types x.known h x.applied is)) (sym from_start) (λ is. function_has m.types x.known 0 x.function.expressions x.handle x.expression x.applied x.application is x.expression_there) x.operation)

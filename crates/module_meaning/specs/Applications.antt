@@ -1,7 +1,8 @@
 -- Which operator an expression applies to which operands: the one place that is asked by shapes,
 -- acceptance, the part that is written so far and the form. An expression of a new kind is a line of
--- `application_of`, and an operator that is to be accepted one of `accepted_word`.
-use Rattle.std.specs.Prelude.{ℕ, List, [], ◌∷◌, Option, Some, None}
+-- `application_of`, and an operator that is accepted from then on one of `operator_is_accepted`.
+use Rattle.std.specs.Prelude.{ℕ, Bool, true, false, if◌then◌else◌}
+use Rattle.std.specs.Prelude.{List, [], ◌∷◌, Option, Some, None}
 use Rattle.naga_ir.specs.declared.expression.Expression.{Expression}
 use Rattle.naga_ir.specs.declared.expression.Expression.TheVariants.{Binary}
 use Rattle.naga_ir.specs.declared.operators.BinaryOperator.TheVariants.{Add, Subtract, Multiply}
@@ -18,9 +19,13 @@ application_of (Binary op left right) =
     Some (record { operator = BinarySign op; operands = left ∷ right ∷ [] })
 application_of _ = None
 
--- the word of an operator, of those that are accepted and written so far
+-- the operators that are accepted and written so far
+abbrev pub operator_is_accepted : Operator → Bool
+operator_is_accepted (BinarySign Add) = true
+operator_is_accepted (BinarySign Subtract) = true
+operator_is_accepted (BinarySign Multiply) = true
+operator_is_accepted _ = false
+
+-- the word of such an operator
 abbrev pub accepted_word : Operator → Option (List ℕ)
-accepted_word (BinarySign Add) = operator_word (BinarySign Add)
-accepted_word (BinarySign Subtract) = operator_word (BinarySign Subtract)
-accepted_word (BinarySign Multiply) = operator_word (BinarySign Multiply)
-accepted_word _ = None
+accepted_word op = if operator_is_accepted op then operator_word op else None
