@@ -189,8 +189,8 @@ operation_signature word operands answer =
 
 -- an accepted operator over operands, by its signature
 record IsOperator (types : List Type_) (fs : List ir_function.Function) (ess : List (List ExpressionInfo)) (x : Signature) : Type 0 where
-  use : IsApplied types fs ess
-  same : x ≡ operation_signature use.operation.word use.operation.operand_words use.operation.answer_word
+  applies : IsApplied types fs ess
+  same : x ≡ operation_signature applies.operation.word applies.operation.operand_words applies.operation.answer_word
 
 -- types of one value type each have one spelling each
 one_spelling_each : (vs ws : List (List ℕ)) → types_spelled vs ≡ types_spelled ws → vs ≡ ws
@@ -212,11 +212,11 @@ module _ (types : List Type_) (fs : List ir_function.Function) (ess : List (List
   operand_types : (hs : List ℕ) (ws : List (List ℕ)) → spellings_at types es hs ≡ Some ws → handle_types own hs ≡ types_spelled ws
   operand_types [] [] is = refl
   operand_types [] (w ∷ ws) is = absurd (cc)
-  operand_types (h ∷ hs) ws is = by (spelling_at types es h) (spellings_at types es hs) refl refl ws is
+  operand_types (h ∷ hs) ws is = by (spelling_at types es h) (spellings_at types es hs) refl (λ vs others. operand_types hs vs others) ws is
     where
-      by : (a : Option (List ℕ)) (b : Option (List (List ℕ))) → spelling_at types es h ≡ a → spellings_at types es hs ≡ b → (ws : List (List ℕ)) → spelling_then a b ≡ Some ws → handle_types own (h ∷ hs) ≡ types_spelled ws
+      by : (a : Option (List ℕ)) (b : Option (List (List ℕ))) → spelling_at types es h ≡ a → ((vs : List (List ℕ)) → b ≡ Some vs → handle_types own hs ≡ types_spelled vs) → (ws : List (List ℕ)) → spelling_then a b ≡ Some ws → handle_types own (h ∷ hs) ≡ types_spelled ws
       by (Some v) (Some vs) one others ws e =
-          (λ i. typed_as types f es h v one i ∷ operand_types hs vs others i) ∙ ap types_spelled (same_Some (v ∷ vs) ws e)
+          (λ i. typed_as types f es h v one i ∷ others vs refl i) ∙ ap types_spelled (same_Some (v ∷ vs) ws e)
       by (Some v) None one others ws e = absurd (cc)
       by None b one others ws e = absurd (cc)
 
@@ -225,7 +225,7 @@ module _ (types : List Type_) (fs : List ir_function.Function) (ess : List (List
       let operands = operand_types a.operands o.operand_words o.operands_spelled in
       let answer = typed_as types f es h o.answer_word o.answer_spelled in
       record {
-        use = record {
+        applies = record {
           number = g;
           function = f;
           known = es;
@@ -338,10 +338,10 @@ module _ (m : Module) (info : ModuleInfo) (accepted : IsTrue (is_accepted m info
       -- both are operators of the module, which agree
       agree : (x y : Signature) → IsOperator m.types m.functions ess x → IsOperator m.types m.functions ess y → x.word ≡ y.word → x.operands ≡ y.operands → x.result ≡ y.result
       agree x y a b word operands =
-          let words : a.use.operation.word ≡ b.use.operation.word = one_word (sym (ap (λ x. x.word) a.same) ∙ (word ∙ ap (λ x. x.word) b.same)) in
+          let words : a.applies.operation.word ≡ b.applies.operation.word = one_word (sym (ap (λ x. x.word) a.same) ∙ (word ∙ ap (λ x. x.word) b.same)) in
           let types = sym (ap (λ x. x.operands) a.same) ∙ (operands ∙ ap (λ x. x.operands) b.same) in
-          let spellings = one_spelling_each a.use.operation.operand_words b.use.operation.operand_words types in
-          let answers = accepted_operations_agree m info accepted a.use b.use words spellings in
+          let spellings = one_spelling_each a.applies.operation.operand_words b.applies.operation.operand_words types in
+          let answers = accepted_operations_agree m info accepted a.applies b.applies words spellings in
           ap (λ x. x.result) a.same ∙ (ap type_spelled answers ∙ sym (ap (λ x. x.result) b.same))
         where
           one_word : {a b : List ℕ} → Spelled a ≡ Spelled b → a ≡ b

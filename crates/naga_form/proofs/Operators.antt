@@ -1,6 +1,7 @@
 -- The tree of an operator over operands: it is called by the operator's word, and is of the grammar.
-use Rattle.std.proofs.Common.{◌≡◌, ℕ, List, [], ◌∷◌, Option, Some, None, map, codes, refl, sym, ap, ◌∙◌}
+use Rattle.std.proofs.Common.{◌≡◌, ℕ, false, List, [], ◌∷◌, ◌++◌, Option, Some, None, map, codes, refl, sym, ap, ◌∙◌}
 use Rattle.naga_ir.specs.declared.expression.Expression as ir
+use Rattle.naga_ir.specs.declared.expression.Expression.TheVariants as expression
 use Rattle.naga_ir.specs.declared.operators.BinaryOperator.{BinaryOperator}
 use Rattle.naga_ir.specs.declared.operators.BinaryOperator.TheVariants as operator
 use Rattle.naga_ir.specs.declared.operators.UnaryOperator.{UnaryOperator}
@@ -101,6 +102,7 @@ IsNotated None = Unit {0}
 
 -- each expression that applies an operator has its operands
 pub notated : (e : ir.Expression) → IsNotated (application_of e)
+notated (expression.Binary op left right) = tt
 notated _ = tt
 
 module _ (operand : ℕ → PlainForm) (all : (h : ℕ) → IsExpression (as_value (operand h))) where
