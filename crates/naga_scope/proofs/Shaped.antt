@@ -8,44 +8,14 @@ use Rattle.naga_ir.specs.declared.expression.Expression as ir
 use Rattle.naga_ir.specs.declared.expression.Expression.TheVariants as expression
 use Rattle.naga_ir.specs.declared.module.Function as ir_function
 use Rattle.naga_ir.specs.declared.operators.BinaryOperator.{BinaryOperator}
-use Rattle.naga_ir.specs.declared.operators.BinaryOperator.TheVariants.{LogicalAnd, LogicalOr}
 use Rattle.naga_ir.specs.declared.types.Type_.{Type_}
 use Rattle.naga_info.specs.declared.info.ExpressionInfo.{ExpressionInfo}
 use Rattle.shader_runs.specs.Program.{Function, operands_of, expression_of, is_counted, binds_as, binds}
 use Rattle.shader_runs.specs.Scope.{Standing, Handles, is_present, usable_as, usable, usable_all, is_pure, is_constant_leaf, is_emittable}
-use Rattle.module_meaning.specs.Shapes.{binary_shape, expression_shape, function_shape}
+use Rattle.module_meaning.specs.OperatorTable.{BinarySign}
+use Rattle.module_meaning.specs.Shapes.{expression_shape, function_shape}
+use Rattle.module_meaning.proofs.Shapes.{operator_operands, operator_bound}
 use Rattle.naga_form.proofs.Fits.{none_is_given}
-
--- ---- operators
-pub pure_operator : (op : BinaryOperator) (l r : ℕ) → is_pure (Some (binary_shape op l r)) ≡ true
-pure_operator LogicalAnd l r = refl
-pure_operator LogicalOr l r = refl
-pure_operator _ l r = refl
-
-pub emittable_operator : (op : BinaryOperator) (l r : ℕ) → is_emittable (Some (binary_shape op l r)) ≡ true
-emittable_operator LogicalAnd l r = refl
-emittable_operator LogicalOr l r = refl
-emittable_operator _ l r = refl
-
-pub no_leaf_operator : (op : BinaryOperator) (l r : ℕ) → is_constant_leaf (Some (binary_shape op l r)) ≡ false
-no_leaf_operator LogicalAnd l r = refl
-no_leaf_operator LogicalOr l r = refl
-no_leaf_operator _ l r = refl
-
-pub operator_operands : (op : BinaryOperator) (l r : ℕ) → operands_of (Some (binary_shape op l r)) ≡ l ∷ r ∷ []
-operator_operands LogicalAnd l r = refl
-operator_operands LogicalOr l r = refl
-operator_operands _ l r = refl
-
-pub operator_bound : (f : Function) (h : ℕ) (op : BinaryOperator) (l r : ℕ) → binds_as f h (Some (binary_shape op l r)) ≡ is_counted f 2 h
-operator_bound f h LogicalAnd l r = refl
-operator_bound f h LogicalOr l r = refl
-operator_bound f h _ l r = refl
-
-pub operator_usable : (f : Function) (op : BinaryOperator) (l r : ℕ) (s : Standing) → usable_as f (Some (binary_shape op l r)) s ≡ is_present s
-operator_usable f LogicalAnd l r s = refl
-operator_usable f LogicalOr l r s = refl
-operator_usable f _ l r s = refl
 
 -- ---- what a `let` binds
 module _ (types : List Type_) (f : ir_function.Function) (es : List ExpressionInfo) (h : ℕ) (unnamed : IsTrue (names_nothing f)) where
@@ -66,7 +36,7 @@ module _ (types : List Type_) (f : ir_function.Function) (es : List ExpressionIn
   load_binds pointer at = sym (ap (binds_as shape h) (shape_of (Some (expression.Load pointer)) at) ∙ counted_from 1)
 
   pub binary_binds : (op : BinaryOperator) (left right : ℕ) → slice_get f.expressions h ≡ Some (expression.Binary op left right) → nat_le 2 count ≡ binds shape h
-  binary_binds op left right at = sym (ap (binds_as shape h) (shape_of (Some (expression.Binary op left right)) at) ∙ operator_bound shape h op left right ∙ counted_from 2)
+  binary_binds op left right at = sym (ap (binds_as shape h) (shape_of (Some (expression.Binary op left right)) at) ∙ operator_bound shape h (BinarySign op) (left ∷ right ∷ []) ∙ counted_from 2)
 
   pub none_binds : slice_get f.expressions h ≡ None → false ≡ binds shape h
   none_binds at = sym (ap (binds_as shape h) (shape_of None at))
@@ -89,7 +59,7 @@ module _ (f : Function) (s : Handles) where
   load_usable pointer = sym (and_true (usable f s pointer))
 
   pub binary_usable : (op : BinaryOperator) (left right : ℕ) → (usable f s left && usable f s right) ≡ usable_all f s (operands_of (Some (expression_shape (expression.Binary op left right))))
-  binary_usable op left right = sym (ap (usable_all f s) (operator_operands op left right) ∙ ap (λ b. usable f s left && b) (and_true (usable f s right)))
+  binary_usable op left right = sym (ap (usable_all f s) (operator_operands (BinarySign op) (left ∷ right ∷ [])) ∙ ap (λ b. usable f s left && b) (and_true (usable f s right)))
 
 -- what an expression that was found evaluates
 pub shape_found : {X : Type 0} (view : X → ir.Expression) (o : Option X) (found : Option ir.Expression) → option_map view o ≡ found → option_map (λ x. expression_shape (view x)) o ≡ option_map expression_shape found
