@@ -3,3 +3,4 @@ pub mod Fitting
 pub mod Operating
 pub mod Part
 pub mod ShapeKinds
+pub mod Shapes

@@ -6,7 +6,9 @@ ghost use Rattle.std.specs.Option.{is_none, is_some};
 ghost use Rattle.naga_ir.specs.StatementViews.{tree_of};
 ghost use Rattle.module_meaning.specs.Accepted.{declares_functions, is_scalar_type};
 ghost use Rattle.module_meaning.specs.Part.{block_is_written, expression_is_written, function_is_written, is_literal, is_unbound, is_written_so_far, local_is_written, names_nothing, statement_is_written};
-ghost use Rattle.module_meaning.specs.Spelled.{literal_word, operator_word};
+ghost use Rattle.module_meaning.specs.Applications.{accepted_word};
+ghost use Rattle.module_meaning.specs.OperatorTable.{BinarySign};
+ghost use Rattle.module_meaning.specs.Spelled.{literal_word};
 
 use crate::spelling::has_word;
 use naga_ir::{
@@ -135,7 +137,7 @@ fn literal_is_written(literal: Literal) -> bool
 }
 
 fn operator_is_written(op: BinaryOperator) -> bool
-    ensures { result ≡ is_some (operator_word op) }
+    ensures { result ≡ is_some (accepted_word (BinarySign op)) }
 {
     match op {
         BinaryOperator::Add | BinaryOperator::Subtract | BinaryOperator::Multiply => true,

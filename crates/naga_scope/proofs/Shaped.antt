@@ -7,35 +7,17 @@ use Rattle.module_meaning.specs.Part.{names_nothing}
 use Rattle.naga_ir.specs.declared.expression.Expression as ir
 use Rattle.naga_ir.specs.declared.expression.Expression.TheVariants as expression
 use Rattle.naga_ir.specs.declared.module.Function as ir_function
-use Rattle.naga_ir.specs.declared.operators.BinaryOperator.{BinaryOperator}
-use Rattle.naga_ir.specs.declared.operators.BinaryOperator.TheVariants.{LogicalAnd, LogicalOr}
 use Rattle.naga_ir.specs.declared.types.Type_.{Type_}
 use Rattle.naga_info.specs.declared.info.ExpressionInfo.{ExpressionInfo}
 use Rattle.naga_back.specs.Baking.{count_to_bind}
 use Rattle.shader_runs.specs.Program.{Expression, Load, Operator, Access, AccessIndex, Logical}
 use Rattle.shader_runs.specs.Program.{Swizzle, Request}
-use Rattle.shader_runs.specs.Program.{Function, operands_of, expression_of}
-use Rattle.shader_runs.specs.Program.{is_counted, binds_as, binds}
-use Rattle.shader_runs.specs.Scope.{Standing, is_present, usable_as}
+use Rattle.shader_runs.specs.Program.{Function, expression_of, is_counted, binds_as, binds}
 use Rattle.shader_runs.specs.Scope.{is_emittable}
-use Rattle.module_meaning.specs.Shapes.{binary_shape, expression_shape, function_shape}
+use Rattle.module_meaning.specs.OperatorTable.{BinarySign}
+use Rattle.module_meaning.specs.Shapes.{expression_shape, function_shape}
+use Rattle.module_meaning.proofs.Shapes.{operator_bound}
 use Rattle.naga_form.proofs.Fits.{none_is_given}
-
--- ---- operators
-pub operator_operands : (op : BinaryOperator) (l r : ℕ) → operands_of (Some (binary_shape op l r)) ≡ l ∷ r ∷ []
-operator_operands LogicalAnd l r = refl
-operator_operands LogicalOr l r = refl
-operator_operands _ l r = refl
-
-pub operator_bound : (f : Function) (h : ℕ) (op : BinaryOperator) (l r : ℕ) → binds_as f h (Some (binary_shape op l r)) ≡ is_counted f 2 h
-operator_bound f h LogicalAnd l r = refl
-operator_bound f h LogicalOr l r = refl
-operator_bound f h _ l r = refl
-
-pub operator_usable : (f : Function) (op : BinaryOperator) (l r : ℕ) (s : Standing) → usable_as f (Some (binary_shape op l r)) s ≡ is_present s
-operator_usable f LogicalAnd l r s = refl
-operator_usable f LogicalOr l r s = refl
-operator_usable f _ l r s = refl
 
 -- ---- what a `let` binds
 never_bound : (f : Function) (h : ℕ) (o : Option Expression) → is_emittable o ≡ false →
@@ -72,7 +54,7 @@ module _ (types : List Type_) (f : ir_function.Function) (es : List ExpressionIn
       sym (ap (binds_as shape h) (shape_of (Some (expression.Load pointer)) at) ∙ counted_from 1)
   emitted_binds (expression.Binary op left right) at may =
       sym (ap (binds_as shape h) (shape_of (Some (expression.Binary op left right)) at)
-      ∙ operator_bound shape h op left right ∙ counted_from 2)
+      ∙ operator_bound shape h (BinarySign op) (left ∷ right ∷ []) ∙ counted_from 2)
   emitted_binds _ at may = absurd cc
 
   -- and nothing else is
