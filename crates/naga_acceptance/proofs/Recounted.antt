@@ -123,9 +123,3 @@ same_acceptance m old new functions entries types = λ i.
     (nat_eq (entries i) 0 && (nat_eq (length (types i).items) 0 &&
     ((ap (functions_fit m.types m.functions) functions ∙ same_functions m.types m.functions old.functions.items) i &&
     (ap (operators_agree m.types m.functions) functions ∙ ap all_agree (same_all_operations m.types m.functions old.functions.items)) i)))))
-
-pub entries_kept : (fs : List Function) (ess : List (List ExpressionInfo)) → length (all_counted fs ess) ≡ length ess
-entries_kept [] [] = refl
-entries_kept [] (es ∷ ess) = refl
-entries_kept (f ∷ fs) [] = refl
-entries_kept (f ∷ fs) (es ∷ ess) = ap suc (entries_kept fs ess)

@@ -1,6 +1,7 @@
--- What is tested apart: all of a function but its expressions, what some of these are expected to be
--- spelled, and operators.
-use Rattle.std.specs.Prelude.{ℕ, Bool, ◌&&◌, List, [], ◌∷◌, length, Option, None, nat_lt, slice_get, if◌then◌else◌}
+-- What is tested apart: all of a function but its expressions, what some of these are expected to
+-- be spelled, and operators.
+use Rattle.std.specs.Prelude.{ℕ, Bool, ◌&&◌, List, [], ◌∷◌, length, Option, None}
+use Rattle.std.specs.Prelude.{nat_lt, slice_get, if◌then◌else◌}
 use Rattle.std.specs.List.{list_all}
 use Rattle.std.specs.Option.{option_map, is_some, option_and_then}
 use Rattle.naga_ir.specs.declared.module.Function.{Function}

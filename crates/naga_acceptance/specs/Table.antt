@@ -1,7 +1,8 @@
 -- The code's table of the types that operators have given so far. Words are numbered, and a table
 -- has a place for each operator and the types of its operands: the number of the type that it gave,
 -- if it stood anywhere.
-use Rattle.std.specs.Prelude.{◌≡◌, ℕ, Bool, suc, ◌+◌, ◌*◌, ◌==◌, if◌then◌else◌, List, [], ◌∷◌, Option, Some, None, codes, slice_index_or, slice_set}
+use Rattle.std.specs.Prelude.{◌≡◌, ℕ, Bool, suc, ◌+◌, ◌*◌, ◌==◌, if◌then◌else◌, List, [], ◌∷◌}
+use Rattle.std.specs.Prelude.{Option, Some, None, codes, slice_index_or, slice_set}
 use Rattle.std.specs.Option.{option_and_then}
 use Rattle.std.specs.Str.{bytes_eq}
 use Rattle.module_meaning.specs.Spelled.{local_pointer}

@@ -254,8 +254,10 @@ fn count_entry_points(infos: &mut [FunctionInfo], entry_points: &[EntryPoint])
 /// Where the module has no function or entry point at some place of the info, what stands there
 /// stays as it was, and a handle outside the info counts for nothing.
 pub fn count(info: &mut ModuleInfo, module: &Module)
-    ensures functions { info.new.functions.items ≡ all_counted «module».now.functions info.old.functions.items }
-    ensures entry_points { info.new.entry_points.items ≡ all_counted (functions_of «module».now.entry_points.items) info.old.entry_points.items }
+    ensures functions { info.new.functions.items ≡
+        all_counted «module».now.functions info.old.functions.items }
+    ensures entry_points { info.new.entry_points.items ≡
+        all_counted (functions_of «module».now.entry_points.items) info.old.entry_points.items }
     ensures types { info.new.const_expression_types ≡ info.old.const_expression_types }
     ensures accepted { is_accepted «module».now info.new ≡ is_accepted «module».now info.old }
 {

@@ -10,7 +10,8 @@ ghost use Rattle.module_meaning.specs.Operations.{expression_operations};
 ghost use Rattle.module_meaning.specs.OperatorTable.{BinarySign};
 ghost use Rattle.naga_acceptance.specs.Spelled.{spelled};
 ghost use Rattle.naga_acceptance.specs.Fitting.{operation_fits};
-ghost use Rattle.naga_acceptance.specs.Table.{IsEntered, entered, operator_number, type_number, written};
+ghost use Rattle.naga_acceptance.specs.Table.{IsEntered, entered, operator_number, type_number};
+ghost use Rattle.naga_acceptance.specs.Table.{written};
 ghost use Rattle.naga_ir.specs.declared.expression.Expression.TheVariants.{Binary};
 ghost use Rattle.module_meaning.specs.Spelled.{scalar_word, spelling_at};
 
