@@ -16,7 +16,7 @@ use Rattle.std.specs.Option.{option_map, option_map_or, is_some, option_and_then
 use Rattle.indexmap.specs.IndexMap.{keys, values}
 use Rattle.naga_ir.specs.StatementTree.{SimpleStatement, emit, store, return, StatementTree, simple, BlockTree, no_statements, statement}
 use Rattle.naga_ir.specs.declared.expression.Expression.{Expression}
-use Rattle.naga_ir.specs.declared.expression.Expression.TheVariants.{Literal, FunctionArgument, LocalVariable, Load, Binary}
+use Rattle.naga_ir.specs.declared.expression.Expression.TheVariants.{Literal, FunctionArgument, LocalVariable, Load}
 use Rattle.naga_ir.specs.declared.module.Function.{Function}
 use Rattle.naga_ir.specs.declared.module.FunctionResult.{FunctionResult}
 use Rattle.naga_ir.specs.declared.module.LocalVariable.{LocalVariable as Local}
@@ -25,8 +25,11 @@ use Rattle.naga_ir.specs.declared.module.SpecialTypes.{SpecialTypes}
 use Rattle.naga_ir.specs.declared.types.Type_.{Type_}
 use Rattle.naga_info.specs.declared.info.ExpressionInfo.{ExpressionInfo}
 use Rattle.naga_info.specs.declared.info.ModuleInfo.{ModuleInfo}
+use Rattle.module_meaning.specs.Applications.{Application, application_of, accepted_word}
 use Rattle.module_meaning.specs.Operations.{operators_agree}
-use Rattle.module_meaning.specs.Spelled.{word_of_type, word_at, local_pointer, spelling_at, spelling_of, pointee_at, operator_word, is_alike, literal_word, literal_is_within}
+use Rattle.module_meaning.specs.Spelled.{word_of_type, word_at, local_pointer}
+use Rattle.module_meaning.specs.Spelled.{spelling_at, spelling_of, pointee_at, is_alike}
+use Rattle.module_meaning.specs.Spelled.{literal_word, literal_is_within}
 
 -- nothing is declared but types and functions
 abbrev pub declares_functions : Module → Bool
@@ -63,9 +66,21 @@ names_fit f = list_all (λ h. nat_lt h (length f.expressions)) (keys f.named_exp
 abbrev pub operand_fits : List Type_ → List ExpressionInfo → (here : ℕ) → (operand : ℕ) → Bool
 operand_fits types es here operand = nat_lt operand here && is_some (spelling_at types es operand)
 
+-- the operator is accepted so far, and its operands fit
+abbrev pub application_fits : List Type_ → List ExpressionInfo → (here : ℕ) → Application → Bool
+application_fits types es here applied =
+    is_some (accepted_word applied.operator) &&
+    list_all (operand_fits types es here) applied.operands
+
+-- the spelling of the type of what is applied, which is its own, whichever it is
+abbrev pub application_type :
+    List Type_ → List ExpressionInfo → (here : ℕ) → Option Application → Option (List ℕ)
+application_type types es here (Some applied) =
+    if application_fits types es here applied then spelling_at types es here else None
+application_type types es here None = None
+
 -- the spelling of the type that the expression with the handle `here` has by what it stands for,
--- its operands standing before it. That of an operator between two operands is its own, whichever
--- it is, where those of the operands are spelled.
+-- its operands standing before it
 abbrev pub expected_type :
     List Type_ → Function → List ExpressionInfo → (here : ℕ) → Expression → Option (List ℕ)
 expected_type types f es here (Literal value) = literal_word value
@@ -76,11 +91,7 @@ expected_type types f es here (LocalVariable handle) =
     (slice_get f.local_variables handle)
 expected_type types f es here (Load pointer) =
     if nat_lt pointer here then pointee_at types es pointer else None
-expected_type types f es here (Binary op left right) =
-    if is_some (operator_word op) &&
-    (operand_fits types es here left && operand_fits types es here right)
-    then spelling_at types es here else None
-expected_type types f es here _ = None
+expected_type types f es here e = application_type types es here (application_of e)
 
 -- the value of a literal is one of its type
 abbrev pub is_within : Expression → Bool

@@ -1,4 +1,5 @@
 pub mod Accepted
+pub mod Applications
 pub mod Bindings
 pub mod Faithful
 pub mod Interface
@@ -6,6 +7,7 @@ pub mod Literals
 pub mod Meanings
 pub mod Names
 pub mod Operations
+pub mod OperatorTable
 pub mod Part
 pub mod Premises
 pub mod Resolution
@@ -13,3 +15,4 @@ pub mod Shapes
 pub mod Spelled
 pub mod TypeIdentity
 pub mod Types
+pub mod ShapeKinds

@@ -1,29 +1,30 @@
 -- What is written so far of the modules. Others are refused as not yet written.
 --
--- Throughout, m is a module, f a function, es are its expressions, h is a handle, l a local, a an
--- argument, r a result, s a statement, and b the rest of a block.
+-- Throughout, m is a module, f a function, es are its expressions, e is one, h is a handle, l a
+-- local, a an argument, r a result, s a statement, and b the rest of a block.
 use Rattle.std.specs.Prelude.{Bool, true, false, ◌&&◌, List, length, ◌==◌, Option, Some, slice_get}
 use Rattle.std.specs.List.{list_all}
 use Rattle.std.specs.Option.{option_map_or, is_some, is_none}
 use Rattle.indexmap.specs.IndexMap.{keys}
 use Rattle.naga_ir.specs.StatementTree.{emit, store, return, StatementTree, simple, BlockTree, no_statements, statement}
 use Rattle.naga_ir.specs.declared.expression.Expression.{Expression}
-use Rattle.naga_ir.specs.declared.expression.Expression.TheVariants.{Literal, FunctionArgument, LocalVariable, Load, Binary}
+use Rattle.naga_ir.specs.declared.expression.Expression.TheVariants.{Literal, FunctionArgument, LocalVariable, Load}
 use Rattle.naga_ir.specs.declared.module.Function.{Function}
 use Rattle.naga_ir.specs.declared.module.LocalVariable.{LocalVariable as Local}
 use Rattle.naga_ir.specs.declared.module.Module.{Module}
-use Rattle.module_meaning.specs.Spelled.{literal_word, operator_word}
+use Rattle.module_meaning.specs.Applications.{application_of, accepted_word}
+use Rattle.module_meaning.specs.Spelled.{literal_word}
 use Rattle.module_meaning.specs.Accepted.{declares_functions, is_scalar_type}
 
 -- a literal of one of the scalar types, an argument, a
--- local, a load, or a sum, a difference or a product
+-- local, a load, or an operator that is accepted so far
 abbrev pub expression_is_written : Expression → Bool
 expression_is_written (Literal value) = is_some (literal_word value)
 expression_is_written (FunctionArgument number) = true
 expression_is_written (LocalVariable handle) = true
 expression_is_written (Load pointer) = true
-expression_is_written (Binary op left right) = is_some (operator_word op)
-expression_is_written _ = false
+expression_is_written e =
+    option_map_or (λ applied. is_some (accepted_word applied.operator)) (application_of e) false
 
 -- a literal, where there is an expression
 abbrev pub is_literal : Option Expression → Bool

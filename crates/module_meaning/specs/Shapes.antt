@@ -1,5 +1,6 @@
 -- The program of shapes of a module, with its names, of those modules that are written so far.
-use Rattle.std.specs.Prelude.{◌≡◌, ℕ, pos, ◌-◌, ◌+◌, Bool, List, [], ◌∷◌, Some, map, reverse, slice_get}
+use Rattle.std.specs.Prelude.{◌≡◌, ℕ, pos, ◌-◌, ◌+◌, Bool, List, [], ◌∷◌, map, reverse, slice_get}
+use Rattle.std.specs.Prelude.{Option, Some, None}
 use Rattle.std.specs.List.{list_any}
 use Rattle.std.specs.Bool.{nat_eq}
 use Rattle.std.specs.Option.{option_map}
@@ -12,37 +13,41 @@ use Rattle.naga_ir.specs.declared.expression.Expression.TheVariants as expressio
 use Rattle.naga_ir.specs.declared.module.Function as ir_function
 use Rattle.naga_ir.specs.declared.module.Module as ir_module
 use Rattle.naga_ir.specs.declared.types.Type_.{Type_}
-use Rattle.naga_ir.specs.declared.operators.BinaryOperator.{BinaryOperator}
 use Rattle.naga_ir.specs.declared.operators.BinaryOperator.TheVariants.{LogicalAnd, LogicalOr}
 use Rattle.naga_info.specs.declared.info.ExpressionInfo.{ExpressionInfo}
 use Rattle.naga_info.specs.declared.info.ModuleInfo.{ModuleInfo}
+use Rattle.module_meaning.specs.Applications.{Application, application_of}
+use Rattle.module_meaning.specs.OperatorTable.{Operator as TableOperator, BinarySign, run_word}
 use Rattle.module_meaning.specs.Spelled.{word_at}
 use Rattle.naga_names.specs.Keys.{NameMap}
 use Rattle.shader_runs.specs.Value.{PartTypes, ShortCircuitAnd, ShortCircuitOr}
 use Rattle.shader_runs.specs.Program.{Fixed, Expression, Constant, Argument, Local, Load, Operator, Logical, Result, Label, Numbered, Default, Statement, Emit, Store, Block, If, Switch, Loop, Break, Continue, Return, Kill, Statements, end, then, Cases, no_case, case, Function, Module, operands_of}
 use Rattle.shader_runs.specs.Premises.{AllBelow}
 use Rattle.shader_runs.specs.Scope.{ModuleNames, Names, Naming}
-use Rattle.wgsl_words.specs.Words.{operator_text}
 use Rattle.module_meaning.specs.Names.{function_name, argument_name, local_name, numbered_name}
 use Rattle.module_meaning.specs.Types.{value_type, pointer_to_local, declared_type}
 use Rattle.module_meaning.specs.Literals.{literal_value}
 use Rattle.wgsl_text.specs.Requests.{is_request}
 
--- `&&` and `||` evaluate their right side only where it decides; any other operator is its sign
-abbrev pub binary_shape : BinaryOperator → ℕ → ℕ → Expression
-binary_shape LogicalAnd left right = Logical ShortCircuitAnd left right
-binary_shape LogicalOr left right = Logical ShortCircuitOr left right
-binary_shape op left right = Operator (operator_text op) (left ∷ right ∷ [])
+-- `&&` and `||` evaluate their right side only where it decides; any other operator is its word
+abbrev pub operator_shape : TableOperator → List ℕ → Expression
+operator_shape (BinarySign LogicalAnd) (left ∷ right ∷ []) = Logical ShortCircuitAnd left right
+operator_shape (BinarySign LogicalOr) (left ∷ right ∷ []) = Logical ShortCircuitOr left right
+operator_shape operator operands = Operator (run_word operator) operands
 
--- what an expression evaluates. What is not written so far, and stands in no accepted module, is a
--- result that no statement gives
+-- What applies no operator so far, and stands in no accepted module, is a result that no statement
+-- gives.
+abbrev pub application_shape : Option Application → Expression
+application_shape (Some applied) = operator_shape applied.operator applied.operands
+application_shape None = Result
+
+-- what an expression evaluates
 abbrev pub expression_shape : ir.Expression → Expression
 expression_shape (expression.Literal value) = Constant (Fixed (literal_value value))
 expression_shape (expression.FunctionArgument number) = Argument number
 expression_shape (expression.LocalVariable handle) = Local handle
 expression_shape (expression.Load pointer) = Load pointer
-expression_shape (expression.Binary op left right) = binary_shape op left right
-expression_shape _ = Result
+expression_shape e = application_shape (application_of e)
 
 -- the label of a case
 abbrev pub label_shape : SwitchValue → Label

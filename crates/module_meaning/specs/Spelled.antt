@@ -8,8 +8,6 @@ use Rattle.std.specs.Option.{option_map, option_and_then}
 use Rattle.std.specs.Str.{bytes_eq}
 use Rattle.naga_ir.specs.declared.expression.Literal.{Literal}
 use Rattle.naga_ir.specs.declared.expression.Literal.TheVariants.{U32, I32, U64, I64, Bool as BoolLiteral}
-use Rattle.naga_ir.specs.declared.operators.BinaryOperator.{BinaryOperator}
-use Rattle.naga_ir.specs.declared.operators.BinaryOperator.TheVariants.{Add, Subtract, Multiply}
 use Rattle.naga_ir.specs.declared.types.AddressSpace.{AddressSpace}
 use Rattle.naga_ir.specs.declared.types.AddressSpace.TheVariants.{Function}
 use Rattle.naga_ir.specs.declared.types.Scalar.{Scalar}
@@ -21,7 +19,6 @@ use Rattle.naga_ir.specs.declared.types.TypeInner.TheVariants.{Scalar as ScalarT
 use Rattle.naga_info.specs.declared.info.ExpressionInfo.{ExpressionInfo}
 use Rattle.naga_info.specs.declared.info.TypeResolution.{TypeResolution}
 use Rattle.naga_info.specs.Resolution.{inner_of}
-use Rattle.wgsl_words.specs.Words.{operator_text}
 
 -- WGSL's word for a scalar type of this kind and width in bytes, of those that are written so far:
 -- `bool`, `i32`, `u32`, `i64` and `u64`
@@ -90,13 +87,6 @@ pointee_at types es handle = option_and_then (λ e. pointee_of types e.ty) (slic
 abbrev pub is_alike : Option (List ℕ) → Option (List ℕ) → Bool
 is_alike (Some a) (Some b) = bytes_eq a b
 is_alike _ _ = false
-
--- how an operator is written, of those that are written so far
-abbrev pub operator_word : BinaryOperator → Option (List ℕ)
-operator_word Add = Some (operator_text Add)
-operator_word Subtract = Some (operator_text Subtract)
-operator_word Multiply = Some (operator_text Multiply)
-operator_word _ = None
 
 -- the word of a literal's type
 abbrev pub literal_word : Literal → Option (List ℕ)

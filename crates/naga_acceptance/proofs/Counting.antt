@@ -12,7 +12,7 @@ use Rattle.naga_ir.specs.StatementTree.{block_size, cases_size}
 use Rattle.naga_ir.specs.StatementViews.{tree_of, block_of, cases_of}
 use Rattle.naga_info.specs.declared.info.ExpressionInfo.{ExpressionInfo}
 use Rattle.module_meaning.proofs.Fitting.{drop_first}
-use Rattle.naga_acceptance.specs.Operands.{expression_operands, statement_operands, block_operands, cases_operands}
+use Rattle.naga_ir.specs.Operands.{expression_operands, statement_operands, block_operands, cases_operands}
 use Rattle.naga_acceptance.specs.Counts.{with_use, with_uses, used_again, counted_from, use_count, greatest_count, without_uses, operand_places, counted, all_counted, functions_of}
 
 pub with_use_set : (es : List ExpressionInfo) (handle : ℕ) (d : ExpressionInfo) → handle < length es → slice_set es handle (used_again (slice_index_or es handle d)) ≡ with_use es handle

@@ -12,9 +12,10 @@ use Rattle.naga_ir.specs.declared.module.Module.{Module}
 use Rattle.naga_ir.specs.declared.types.Type_.{Type_}
 use Rattle.naga_info.specs.declared.info.ExpressionInfo.{ExpressionInfo}
 use Rattle.naga_info.specs.declared.info.ModuleInfo.{ModuleInfo}
-use Rattle.module_meaning.specs.Spelled.{word_at, spelling_at, spelling_of, pointee_at, operator_word, is_alike}
-use Rattle.module_meaning.specs.Accepted.{declares_functions, is_scalar_type, special_types_fit, signature_fits, names_fit, expected_type, is_within, expressions_fit_from, value_fits, local_fits, return_fits, simple_fits, statement_fits, block_fits, function_fits, functions_fit, is_accepted}
-use Rattle.module_meaning.specs.Operations.{operation_of, expression_operations, all_operations, all_agree, operators_agree}
+use Rattle.module_meaning.specs.Spelled.{word_at, spelling_at, spelling_of, pointee_at, is_alike}
+use Rattle.module_meaning.specs.Applications.{Application, application_of, accepted_word}
+use Rattle.module_meaning.specs.Accepted.{declares_functions, is_scalar_type, special_types_fit, signature_fits, names_fit, operand_fits, application_type, expected_type, is_within, expressions_fit_from, value_fits, local_fits, return_fits, simple_fits, statement_fits, block_fits, function_fits, functions_fit, is_accepted}
+use Rattle.module_meaning.specs.Operations.{spelling_then, spellings_at, operation_of, application_operations, expression_operations, all_operations, all_agree, operators_agree}
 use Rattle.naga_acceptance.specs.Counts.{counted_from, all_counted, use_count, operand_places}
 
 -- the counts don't change the types, nor how many there are
@@ -36,11 +37,20 @@ module _ (types : List Type_) (f : Function) (c : ℕ → ℕ) (es : List Expres
   abbrev now : List ExpressionInfo
   now = counted_from c 0 es
 
+  same_operands : (here : ℕ) (hs : List ℕ) → list_all (operand_fits types now here) hs ≡ list_all (operand_fits types es here) hs
+  same_operands here [] = refl
+  same_operands here (h ∷ hs) = λ i. (nat_lt h here && is_some (same_spelling types c 0 es h i)) && same_operands here hs i
+
+  same_application : (here : ℕ) (o : Option Application) → application_type types now here o ≡ application_type types es here o
+  same_application here None = refl
+  same_application here (Some applied) = λ i. cond (is_some (accepted_word applied.operator) && same_operands here applied.operands i) (same_spelling types c 0 es here i) None
+
   same_expected : (here : ℕ) (e : Expression) → expected_type types f now here e ≡ expected_type types f es here e
   same_expected here (expression.Load pointer) = λ i. cond (nat_lt pointer here) (same_pointee types c 0 es pointer i) None
-  same_expected here (expression.Binary op left right) = λ i.
-      cond (is_some (operator_word op) && ((nat_lt left here && is_some (same_spelling types c 0 es left i)) && (nat_lt right here && is_some (same_spelling types c 0 es right i)))) (same_spelling types c 0 es here i) None
-  same_expected here _ = refl
+  same_expected here (expression.Literal value) = refl
+  same_expected here (expression.FunctionArgument number) = refl
+  same_expected here (expression.LocalVariable handle) = refl
+  same_expected here e = same_application here (application_of e)
 
   same_expressions : (here n : ℕ) (xs : List Expression) (ks : List ExpressionInfo) → expressions_fit_from types f now here xs (counted_from c n ks) ≡ expressions_fit_from types f es here xs ks
   same_expressions here n [] [] = refl
@@ -79,9 +89,16 @@ module _ (types : List Type_) (f : Function) (c : ℕ → ℕ) (es : List Expres
   same_function : function_fits types f now ≡ function_fits types f es
   same_function = λ i. signature_fits (length types) f && (names_fit f && (same_expressions 0 0 f.expressions es i && (same_locals f.local_variables i && same_block f.result f.body i)))
 
+same_spellings : (types : List Type_) (c : ℕ → ℕ) (es : List ExpressionInfo) (hs : List ℕ) → spellings_at types (counted_from c 0 es) hs ≡ spellings_at types es hs
+same_spellings types c es [] = refl
+same_spellings types c es (h ∷ hs) = λ i. spelling_then (same_spelling types c 0 es h i) (same_spellings types c es hs i)
+
+same_applied : (types : List Type_) (c : ℕ → ℕ) (es : List ExpressionInfo) (here : ℕ) (o : Option Application) → application_operations types (counted_from c 0 es) here o ≡ application_operations types es here o
+same_applied types c es here None = refl
+same_applied types c es here (Some applied) = λ i. operation_of (accepted_word applied.operator) (same_spellings types c es applied.operands i) (same_spelling types c 0 es here i)
+
 same_operations : (types : List Type_) (c : ℕ → ℕ) (es : List ExpressionInfo) (here : ℕ) (e : Expression) → expression_operations types (counted_from c 0 es) here e ≡ expression_operations types es here e
-same_operations types c es here (expression.Binary op left right) = λ i. operation_of (operator_word op) (same_spelling types c 0 es left i) (same_spelling types c 0 es right i) (same_spelling types c 0 es here i)
-same_operations types c es here _ = refl
+same_operations types c es here e = same_applied types c es here (application_of e)
 
 same_operations_from : (types : List Type_) (c : ℕ → ℕ) (es : List ExpressionInfo) (ps : List (ℕ × Expression)) → flat_map (λ p. expression_operations types (counted_from c 0 es) p.0 p.1) ps ≡ flat_map (λ p. expression_operations types es p.0 p.1) ps
 same_operations_from types c es [] = refl
@@ -106,9 +123,3 @@ same_acceptance m old new functions entries types = λ i.
     (nat_eq (entries i) 0 && (nat_eq (length (types i).items) 0 &&
     ((ap (functions_fit m.types m.functions) functions ∙ same_functions m.types m.functions old.functions.items) i &&
     (ap (operators_agree m.types m.functions) functions ∙ ap all_agree (same_all_operations m.types m.functions old.functions.items)) i)))))
-
-pub entries_kept : (fs : List Function) (ess : List (List ExpressionInfo)) → length (all_counted fs ess) ≡ length ess
-entries_kept [] [] = refl
-entries_kept [] (es ∷ ess) = refl
-entries_kept (f ∷ fs) [] = refl
-entries_kept (f ∷ fs) (es ∷ ess) = ap suc (entries_kept fs ess)

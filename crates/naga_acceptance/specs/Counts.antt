@@ -5,7 +5,7 @@ use Prim.Native.Nat.{zero, suc}
 use Rattle.naga_ir.specs.declared.module.Function.{Function}
 use Rattle.naga_ir.specs.declared.module.EntryPoint.{EntryPoint}
 use Rattle.naga_info.specs.declared.info.ExpressionInfo.{ExpressionInfo}
-use Rattle.naga_acceptance.specs.Operands.{expression_operands, block_operands}
+use Rattle.naga_ir.specs.Operands.{expression_operands, block_operands}
 
 -- the operand places of a function's expressions and statements
 abbrev pub operand_places : Function → List ℕ
@@ -22,7 +22,8 @@ greatest_count = 2 ^ 64 - 1
 -- what is known of expressions, the first of which has the handle `handle`, with these counts
 abbrev pub counted_from : (ℕ → ℕ) → (handle : ℕ) → List ExpressionInfo → List ExpressionInfo
 counted_from count handle [] = []
-counted_from count handle (e ∷ es) = record e { ref_count = min (count handle) greatest_count } ∷ counted_from count (handle + 1) es
+counted_from count handle (e ∷ es) =
+    record e { ref_count = min (count handle) greatest_count } ∷ counted_from count (handle + 1) es
 
 -- what is known of a function's expressions, each with the number of operand places that hold it
 abbrev pub counted : Function → List ExpressionInfo → List ExpressionInfo

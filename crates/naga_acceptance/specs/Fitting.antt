@@ -1,14 +1,18 @@
--- What is tested apart: all of a function but its expressions, what some of these are expected to be
--- spelled, and operators.
-use Rattle.std.specs.Prelude.{ℕ, Bool, ◌&&◌, List, length, Option, None, nat_lt, slice_get, if◌then◌else◌}
+-- What is tested apart: all of a function but its expressions, what some of these are expected to
+-- be spelled, and operators.
+use Rattle.std.specs.Prelude.{ℕ, Bool, ◌&&◌, List, [], ◌∷◌, length, Option, None}
+use Rattle.std.specs.Prelude.{nat_lt, slice_get, if◌then◌else◌}
 use Rattle.std.specs.List.{list_all}
 use Rattle.std.specs.Option.{option_map, is_some, option_and_then}
 use Rattle.naga_ir.specs.declared.module.Function.{Function}
 use Rattle.naga_ir.specs.declared.operators.BinaryOperator.{BinaryOperator}
 use Rattle.naga_ir.specs.declared.types.Type_.{Type_}
 use Rattle.naga_info.specs.declared.info.ExpressionInfo.{ExpressionInfo}
-use Rattle.module_meaning.specs.Accepted.{signature_fits, names_fit, operand_fits, local_fits, block_fits}
-use Rattle.module_meaning.specs.Spelled.{word_at, local_pointer, spelling_at, pointee_at, operator_word}
+use Rattle.module_meaning.specs.Accepted.{signature_fits, names_fit, application_fits}
+use Rattle.module_meaning.specs.Accepted.{local_fits, block_fits}
+use Rattle.module_meaning.specs.Applications.{Application}
+use Rattle.module_meaning.specs.OperatorTable.{BinarySign}
+use Rattle.module_meaning.specs.Spelled.{word_at, local_pointer, spelling_at, pointee_at}
 
 -- the signature, the named expressions, the locals and the body
 abbrev pub surroundings_fit : List Type_ → Function → List ExpressionInfo → Bool
@@ -35,6 +39,6 @@ load_word types es here pointer = if nat_lt pointer here then pointee_at types e
 abbrev pub operation_fits :
     List Type_ → List ExpressionInfo → (here : ℕ) → BinaryOperator → (left right : ℕ) → Bool
 operation_fits types es here op left right =
-    (is_some (operator_word op) &&
-    (operand_fits types es here left && operand_fits types es here right))
-    && is_some (spelling_at types es here)
+    let applied : Application =
+    record { operator = BinarySign op; operands = left ∷ right ∷ [] } in
+    application_fits types es here applied && is_some (spelling_at types es here)

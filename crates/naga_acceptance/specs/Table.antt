@@ -1,7 +1,8 @@
 -- The code's table of the types that operators have given so far. Words are numbered, and a table
 -- has a place for each operator and the types of its operands: the number of the type that it gave,
 -- if it stood anywhere.
-use Rattle.std.specs.Prelude.{◌≡◌, ℕ, Bool, suc, ◌+◌, ◌*◌, ◌==◌, if◌then◌else◌, List, [], ◌∷◌, Option, Some, None, codes, slice_index_or, slice_set}
+use Rattle.std.specs.Prelude.{◌≡◌, ℕ, Bool, suc, ◌+◌, ◌*◌, ◌==◌, if◌then◌else◌, List, [], ◌∷◌}
+use Rattle.std.specs.Prelude.{Option, Some, None, codes, slice_index_or, slice_set}
 use Rattle.std.specs.Option.{option_and_then}
 use Rattle.std.specs.Str.{bytes_eq}
 use Rattle.module_meaning.specs.Spelled.{local_pointer}
@@ -29,13 +30,17 @@ type_number word = position type_words word
 abbrev pub operator_number : List ℕ → ℕ
 operator_number word = position operator_words word
 
--- the place of an operator over operands of these types
+-- the place of an operator between operands of these types
 abbrev pub place_of : (operator left right : ℕ) → ℕ
 place_of operator left right = (operator * 10 + left) * 10 + right
 
+-- the place behind a place, by the types of further operands
+abbrev pub place_from : (place : ℕ) → (operands : List (List ℕ)) → ℕ
+place_from place [] = place
+place_from place (word ∷ words) = place_from (place * 10 + type_number word) words
+
 abbrev pub operation_place : Operation → ℕ
-operation_place o =
-    place_of (operator_number o.operator) (type_number o.left) (type_number o.right)
+operation_place o = place_from (operator_number o.operator) o.operands
 
 -- the table with this answer at a place that holds what it held, if the two are one
 abbrev pub entered_over : Option ℕ → List (Option ℕ) → (place answer : ℕ) → Option (List (Option ℕ))

@@ -4,11 +4,17 @@ ghost use Rattle.std.specs.Prelude.{◌≡◌, ◌&&◌, length, nat_lt, slice_g
 ghost use Rattle.std.specs.List.{list_all};
 ghost use Rattle.indexmap.specs.IndexMap.{values};
 ghost use Rattle.naga_ir.specs.StatementViews.{tree_of};
-ghost use Rattle.module_meaning.specs.Accepted.{block_fits, declares_functions, expression_fits, expressions_fit, function_fits, functions_fit, is_accepted, is_below, is_scalar_type, local_fits, names_fit, return_fits, signature_fits, special_types_fit, statement_fits, value_fits};
+ghost use Rattle.module_meaning.specs.Accepted.{block_fits, declares_functions, expression_fits};
+ghost use Rattle.module_meaning.specs.Accepted.{expressions_fit, function_fits, functions_fit};
+ghost use Rattle.module_meaning.specs.Accepted.{is_accepted, is_below, is_scalar_type, local_fits};
+ghost use Rattle.module_meaning.specs.Accepted.{names_fit, return_fits, signature_fits};
+ghost use Rattle.module_meaning.specs.Accepted.{special_types_fit, statement_fits, value_fits};
 ghost use Rattle.naga_acceptance.specs.Spelled.{spelled};
-ghost use Rattle.module_meaning.specs.Operations.{all_operations, expression_operations, function_operations, operators_agree};
+ghost use Rattle.module_meaning.specs.Operations.{all_operations, expression_operations};
+ghost use Rattle.module_meaning.specs.Operations.{function_operations, operators_agree};
 ghost use Rattle.module_meaning.specs.Spelled.{literal_is_within};
-ghost use Rattle.naga_acceptance.specs.Fitting.{argument_word, load_word, local_pointer_word, surroundings_fit};
+ghost use Rattle.naga_acceptance.specs.Fitting.{argument_word, load_word, local_pointer_word};
+ghost use Rattle.naga_acceptance.specs.Fitting.{surroundings_fit};
 ghost use Rattle.naga_acceptance.specs.Table.{IsEntered};
 
 use crate::operations::operation_fits;
@@ -55,7 +61,7 @@ pub fn accepts(module: &Module, info: &ModuleInfo) -> bool
         && functions_agree(&module.types, &module.functions, info.functions.as_slice())
 }
 
-fn declares_functions(module: &Module) -> bool
+pub(crate) fn declares_functions(module: &Module) -> bool
     ensures { result ≡ declares_functions «module».now }
 {
     module.constants.is_empty()
@@ -65,7 +71,7 @@ fn declares_functions(module: &Module) -> bool
         && module.entry_points.is_empty()
 }
 
-fn types_are_scalar(types: &UniqueArena<Type_>) -> bool
+pub(crate) fn types_are_scalar(types: &UniqueArena<Type_>) -> bool
     ensures { result ≡ list_all is_scalar_type types.now }
 {
     for (_, ty) in types.iter() {
@@ -103,7 +109,8 @@ fn special_types_fit(type_count: usize, special_types: &SpecialTypes) -> bool
 }
 
 fn predeclared_types_fit(type_count: usize, special_types: &SpecialTypes) -> bool
-    ensures { result ≡ list_all (λ h. nat_lt h type_count) (values special_types.now.predeclared_types) }
+    ensures { result ≡ list_all (λ h. nat_lt h type_count)
+        (values special_types.now.predeclared_types) }
 {
     special_types
         .predeclared_types
@@ -389,7 +396,8 @@ fn statement_fits(
     function: &Function,
     statement: &Statement,
 ) -> bool
-    ensures { result ≡ statement_fits types.now infos.now function.now.result (tree_of statement.now) }
+    ensures { result ≡ statement_fits types.now infos.now function.now.result
+        (tree_of statement.now) }
 {
     match statement {
         Statement::Emit(range) => range.first <= range.end && range.end <= infos.len(),

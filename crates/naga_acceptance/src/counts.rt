@@ -4,14 +4,17 @@ ghost use Rattle.std.specs.Prelude.{◌≡◌};
 ghost use Rattle.std.specs.Option.{option_to_list};
 ghost use Rattle.std.specs.List.{flat_map};
 ghost use Rattle.naga_ir.specs.StatementViews.{tree_of, cases_of};
-ghost use Rattle.naga_acceptance.specs.Operands.{level_operands, query_operands, cooperative_operands, expression_operands, atomic_operands, gather_operands, ray_operands, statement_operands, block_operands, cases_operands};
+ghost use Rattle.naga_ir.specs.Operands.{atomic_operands, block_operands, cases_operands};
+ghost use Rattle.naga_ir.specs.Operands.{cooperative_operands, expression_operands};
+ghost use Rattle.naga_ir.specs.Operands.{gather_operands, ray_operands, statement_operands};
 ghost use Rattle.module_meaning.specs.Accepted.{is_accepted};
-ghost use Rattle.naga_acceptance.specs.Counts.{counted, all_counted, functions_of, with_use, with_uses, without_uses};
+ghost use Rattle.naga_acceptance.specs.Counts.{counted, all_counted, functions_of};
+ghost use Rattle.naga_acceptance.specs.Counts.{with_use, with_uses, without_uses};
 
 use naga_info::{ExpressionInfo, FunctionInfo, ModuleInfo};
 use naga_ir::{
     Arena, AtomicFunction, Block, CooperativeData, EntryPoint, Expression, Function, GatherMode,
-    Handle, ImageQuery, Module, Place, RayPipelineFunction, SampleLevel, Statement, SwitchCase,
+    Handle, Module, Place, RayPipelineFunction, Statement, SwitchCase,
 };
 
 #[tactic(auto, using(crate::proofs::Counting::with_use_set, crate::proofs::Counting::with_use_past))]
@@ -41,114 +44,17 @@ fn add_optional_use(infos: &mut [ExpressionInfo], handle: Option<Handle<Expressi
     }
 }
 
-fn add_level_uses(infos: &mut [ExpressionInfo], level: SampleLevel)
-    ensures { infos.new ≡ with_uses infos.old (level_operands level) }
-{
-    match level {
-        SampleLevel::Auto | SampleLevel::Zero => {}
-        SampleLevel::Exact(handle) | SampleLevel::Bias(handle) => add_use(infos, handle),
-        SampleLevel::Gradient { x, y } => add_uses(infos, &[x, y]),
-    }
-}
-
-fn add_query_uses(infos: &mut [ExpressionInfo], query: ImageQuery)
-    ensures { infos.new ≡ with_uses infos.old (query_operands query) }
-{
-    match query {
-        ImageQuery::Size { level } => add_optional_use(infos, level),
-        ImageQuery::NumLevels | ImageQuery::NumLayers | ImageQuery::NumSamples => {}
-    }
-}
-
 fn add_cooperative_uses(infos: &mut [ExpressionInfo], place: CooperativeData)
     ensures { infos.new ≡ with_uses infos.old (cooperative_operands place) }
 {
     add_uses(infos, &[place.pointer, place.stride])
 }
 
-#[tactic(auto, using(crate::proofs::Counting::with_uses_append))]
 fn add_expression_uses(infos: &mut [ExpressionInfo], expression: &Expression)
     ensures { infos.new ≡ with_uses infos.old (expression_operands expression.now) }
 {
-    match expression {
-        Expression::Literal(_)
-        | Expression::Constant(_)
-        | Expression::Override(_)
-        | Expression::ZeroValue(_)
-        | Expression::FunctionArgument(_)
-        | Expression::GlobalVariable(_)
-        | Expression::LocalVariable(_)
-        | Expression::CallResult(_)
-        | Expression::AtomicResult { .. }
-        | Expression::WorkGroupUniformLoadResult { .. }
-        | Expression::RayQueryProceedResult
-        | Expression::SubgroupBallotResult
-        | Expression::SubgroupOperationResult { .. } => {}
-        Expression::Compose { components, .. } => add_uses(infos, components),
-        Expression::Access { base, index } => add_uses(infos, &[*base, *index]),
-        Expression::AccessIndex { base, .. } => add_use(infos, *base),
-        Expression::Splat { value, .. } => add_use(infos, *value),
-        Expression::Swizzle { vector, .. } => add_use(infos, *vector),
-        Expression::Load { pointer } => add_use(infos, *pointer),
-        Expression::ImageSample {
-            image,
-            sampler,
-            coordinate,
-            array_index,
-            offset,
-            level,
-            depth_ref,
-            ..
-        } => {
-            add_uses(infos, &[*image, *sampler, *coordinate]);
-            add_optional_use(infos, *array_index);
-            add_optional_use(infos, *offset);
-            add_level_uses(infos, *level);
-            add_optional_use(infos, *depth_ref)
-        }
-        Expression::ImageLoad {
-            image,
-            coordinate,
-            array_index,
-            sample,
-            level,
-        } => {
-            add_uses(infos, &[*image, *coordinate]);
-            add_optional_use(infos, *array_index);
-            add_optional_use(infos, *sample);
-            add_optional_use(infos, *level)
-        }
-        Expression::ImageQuery { image, query } => {
-            add_use(infos, *image);
-            add_query_uses(infos, *query)
-        }
-        Expression::Unary { expr, .. }
-        | Expression::Derivative { expr, .. }
-        | Expression::As { expr, .. } => add_use(infos, *expr),
-        Expression::Binary { left, right, .. } => add_uses(infos, &[*left, *right]),
-        Expression::Select {
-            condition,
-            accept,
-            reject,
-        } => add_uses(infos, &[*condition, *accept, *reject]),
-        Expression::Relational { argument, .. } => add_use(infos, *argument),
-        Expression::Math {
-            arg,
-            arg1,
-            arg2,
-            arg3,
-            ..
-        } => {
-            add_use(infos, *arg);
-            add_optional_use(infos, *arg1);
-            add_optional_use(infos, *arg2);
-            add_optional_use(infos, *arg3)
-        }
-        Expression::ArrayLength(array) => add_use(infos, *array),
-        Expression::RayQueryGetIntersection { query, .. }
-        | Expression::RayQueryVertexPositions { query, .. } => add_use(infos, *query),
-        Expression::CooperativeLoad { data_, .. } => add_cooperative_uses(infos, *data_),
-        Expression::CooperativeMultiplyAdd { a, b, c } => add_uses(infos, &[*a, *b, *c]),
+    for operand in expression.operands() {
+        add_use(infos, operand);
     }
 }
 
@@ -261,8 +167,8 @@ fn add_statement_uses(infos: &mut [ExpressionInfo], statement: &Statement)
         Statement::RayQuery { query } => add_use(infos, *query),
         Statement::SubgroupBallot { predicate, .. } => add_optional_use(infos, *predicate),
         Statement::SubgroupGather { mode, argument, .. } => {
-            add_gather_uses(infos, *mode);
-            add_use(infos, *argument)
+            add_use(infos, *argument);
+            add_gather_uses(infos, *mode)
         }
         Statement::SubgroupCollectiveOperation { argument, .. } => add_use(infos, *argument),
         Statement::CooperativeStore { target, data_ } => {
@@ -348,8 +254,10 @@ fn count_entry_points(infos: &mut [FunctionInfo], entry_points: &[EntryPoint])
 /// Where the module has no function or entry point at some place of the info, what stands there
 /// stays as it was, and a handle outside the info counts for nothing.
 pub fn count(info: &mut ModuleInfo, module: &Module)
-    ensures functions { info.new.functions.items ≡ all_counted «module».now.functions info.old.functions.items }
-    ensures entry_points { info.new.entry_points.items ≡ all_counted (functions_of «module».now.entry_points.items) info.old.entry_points.items }
+    ensures functions { info.new.functions.items ≡
+        all_counted «module».now.functions info.old.functions.items }
+    ensures entry_points { info.new.entry_points.items ≡
+        all_counted (functions_of «module».now.entry_points.items) info.old.entry_points.items }
     ensures types { info.new.const_expression_types ≡ info.old.const_expression_types }
     ensures accepted { is_accepted «module».now info.new ≡ is_accepted «module».now info.old }
 {

@@ -5,12 +5,15 @@
 
 ghost use Rattle.std.specs.Prelude.{◌≡◌, ◌<◌, if◌then◌else◌, length, nat_lt, IfSome, None, Some};
 ghost use Rattle.std.specs.Option.{option_map};
+ghost use Rattle.module_meaning.specs.Applications.{accepted_word};
 ghost use Rattle.module_meaning.specs.Operations.{expression_operations};
+ghost use Rattle.module_meaning.specs.OperatorTable.{BinarySign};
 ghost use Rattle.naga_acceptance.specs.Spelled.{spelled};
 ghost use Rattle.naga_acceptance.specs.Fitting.{operation_fits};
-ghost use Rattle.naga_acceptance.specs.Table.{IsEntered, entered, operator_number, type_number, written};
+ghost use Rattle.naga_acceptance.specs.Table.{IsEntered, entered, operator_number, type_number};
+ghost use Rattle.naga_acceptance.specs.Table.{written};
 ghost use Rattle.naga_ir.specs.declared.expression.Expression.TheVariants.{Binary};
-ghost use Rattle.module_meaning.specs.Spelled.{operator_word, scalar_word, spelling_at};
+ghost use Rattle.module_meaning.specs.Spelled.{scalar_word, spelling_at};
 
 use crate::spelling::{Spelled, spelled_expression};
 use naga_info::ExpressionInfo;
@@ -73,7 +76,7 @@ fn operand_number(
 }
 
 fn operator_number(op: BinaryOperator) -> Option<usize>
-    ensures number { result ≡ option_map operator_number (operator_word op) }
+    ensures number { result ≡ option_map operator_number (accepted_word (BinarySign op)) }
     ensures below { IfSome result (λ number. number < 3) }
 {
     match op {

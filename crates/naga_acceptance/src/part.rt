@@ -4,14 +4,18 @@ ghost use Rattle.std.specs.Prelude.{◌≡◌, slice_get};
 ghost use Rattle.std.specs.List.{list_all};
 ghost use Rattle.std.specs.Option.{is_none, is_some};
 ghost use Rattle.naga_ir.specs.StatementViews.{tree_of};
-ghost use Rattle.module_meaning.specs.Accepted.{declares_functions, is_scalar_type};
-ghost use Rattle.module_meaning.specs.Part.{block_is_written, expression_is_written, function_is_written, is_literal, is_unbound, is_written_so_far, local_is_written, names_nothing, statement_is_written};
-ghost use Rattle.module_meaning.specs.Spelled.{literal_word, operator_word};
+ghost use Rattle.module_meaning.specs.Part.{block_is_written, expression_is_written};
+ghost use Rattle.module_meaning.specs.Part.{function_is_written, is_literal, is_unbound};
+ghost use Rattle.module_meaning.specs.Part.{is_written_so_far, local_is_written};
+ghost use Rattle.module_meaning.specs.Part.{names_nothing, statement_is_written};
+ghost use Rattle.module_meaning.specs.Applications.{accepted_word};
+ghost use Rattle.module_meaning.specs.OperatorTable.{BinarySign};
+ghost use Rattle.module_meaning.specs.Spelled.{literal_word};
 
-use crate::spelling::has_word;
+use crate::acceptance::{declares_functions, types_are_scalar};
 use naga_ir::{
     Arena, BinaryOperator, Block, Expression, Function, FunctionArgument, Handle, Literal,
-    LocalVariable, Module, Statement, Type_, TypeInner, UniqueArena,
+    LocalVariable, Module, Statement,
 };
 
 /// Whether the module holds nothing but what is written so far: the types `bool`, `i32`, `u32`,
@@ -26,36 +30,6 @@ pub fn is_written_so_far(module: &Module) -> bool
     declares_functions(module)
         && types_are_scalar(&module.types)
         && functions_are_written(&module.functions)
-}
-
-fn declares_functions(module: &Module) -> bool
-    ensures { result ≡ declares_functions «module».now }
-{
-    module.constants.is_empty()
-        && module.overrides.is_empty()
-        && module.global_variables.is_empty()
-        && module.global_expressions.is_empty()
-        && module.entry_points.is_empty()
-}
-
-fn types_are_scalar(types: &UniqueArena<Type_>) -> bool
-    ensures { result ≡ list_all is_scalar_type types.now }
-{
-    for (_, ty) in types.iter() {
-        if !is_scalar_type(ty) {
-            return false;
-        }
-    }
-    true
-}
-
-fn is_scalar_type(ty: &Type_) -> bool
-    ensures { result ≡ is_scalar_type ty.now }
-{
-    match &ty.inner {
-        TypeInner::Scalar(scalar) => has_word(*scalar),
-        _ => false,
-    }
 }
 
 fn functions_are_written(functions: &Arena<Function>) -> bool
@@ -135,7 +109,7 @@ fn literal_is_written(literal: Literal) -> bool
 }
 
 fn operator_is_written(op: BinaryOperator) -> bool
-    ensures { result ≡ is_some (operator_word op) }
+    ensures { result ≡ is_some (accepted_word (BinarySign op)) }
 {
     match op {
         BinaryOperator::Add | BinaryOperator::Subtract | BinaryOperator::Multiply => true,

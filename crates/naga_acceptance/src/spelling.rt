@@ -4,7 +4,9 @@
 ghost use Rattle.std.specs.Prelude.{◌≡◌};
 ghost use Rattle.std.specs.Option.{is_some, option_and_then, option_map};
 ghost use Rattle.naga_acceptance.specs.Spelled.{spelled};
-ghost use Rattle.module_meaning.specs.Spelled.{is_alike, literal_word, local_pointer, pointee_at, pointee_of, pointee_word, scalar_word, spelling, spelling_at, spelling_of, word_at, word_of_type};
+ghost use Rattle.module_meaning.specs.Spelled.{is_alike, literal_word, local_pointer, pointee_at};
+ghost use Rattle.module_meaning.specs.Spelled.{pointee_of, pointee_word, scalar_word, spelling};
+ghost use Rattle.module_meaning.specs.Spelled.{spelling_at, spelling_of, word_at, word_of_type};
 
 use naga_info::{ExpressionInfo, TypeResolution};
 use naga_ir::{

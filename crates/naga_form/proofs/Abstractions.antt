@@ -28,7 +28,7 @@ use Rattle.shader_runs.specs.Program.{handle_type, expression_of, binds, from}
 use Rattle.shader_runs.specs.Scope.{Naming, at_start, Standing, Named, Handles, bound_name, given_after, given_by, given_by_all, after_one, after, after_all}
 use Rattle.shader_runs.specs.Text.{LiteralOf, before, ReturnLine, Apply, LogicalOf, more, no_more, Let, Assign, Braces, IfElse, SwitchOn, LoopOf, group}
 use Rattle.shader_runs.specs.Form.{written_below, names_from, variables_from, form_function, Plain, AsValue, AsPlace, let_if}
-use Rattle.naga_form.specs.Form.{parameters_form, function_form, PlainForm, ValueForm, ReferenceForm, as_value, as_reference, own_plain, own_if, standing_plain, plain_below, plain_form, value_form, let_form, then_if, lets_form, return_line, simple_form, loop_form, label_form, labels_form, line_form, lines_form, cases_form, locals_form}
+use Rattle.naga_form.specs.Form.{parameters_form, function_form, PlainForm, ValueForm, ReferenceForm, as_value, as_reference, application_plain, own_plain, own_if, standing_plain, plain_below, plain_form, value_form, let_form, then_if, lets_form, return_line, simple_form, loop_form, label_form, labels_form, line_form, lines_form, cases_form, locals_form}
 use Rattle.naga_words.specs.Contexts.{names_of}
 use Rattle.module_meaning.specs.Names.{function_name, argument_name}
 use Rattle.naga_form.specs.Types.{type_form, told_type}
@@ -36,16 +36,15 @@ use Rattle.module_meaning.specs.Types.{pointer_to_local, declared_type, LocalsAr
 use Rattle.naga_form.specs.Literals.{literal_form, literal_is_written, LiteralsAreWritten}
 use Rattle.module_meaning.specs.Literals.{literal_value}
 use Rattle.text_meaning.specs.Literals.{value_read}
-use Rattle.module_meaning.specs.Shapes.{expression_shape, label_shape, simple_shape, statements_shape, cases_shape, function_shape, function_naming, statement_shape}
+use Rattle.module_meaning.specs.Shapes.{application_shape, expression_shape, label_shape, simple_shape, statements_shape, cases_shape, function_shape, function_naming, statement_shape}
 use Rattle.text_meaning.specs.Abstraction.{expression_read, label_read, labels_read, statements_read, cases_read, function_read, statement_read, local_pointer_read, variable_read}
 use Rattle.naga_ir.specs.declared.expression.Expression.TheVariants as expression
-use Rattle.naga_ir.specs.declared.operators.BinaryOperator.{BinaryOperator}
-use Rattle.naga_ir.specs.declared.operators.BinaryOperator.TheVariants as operator
 use Rattle.wgsl_text.specs.Tree as tree
 use Rattle.wgsl_text.specs.Pieces.{type_pieces, mark}
 use Rattle.wgsl_text.specs.Text.{text}
 use Rattle.shader_runs.specs.Form as runs
-use Rattle.naga_form.proofs.Operators.{operator_row}
+use Rattle.module_meaning.specs.Applications.{Application, application_of}
+use Rattle.naga_form.proofs.Operators.{operator_read}
 use Rattle.naga_form.proofs.Fits.{mapped_at, mapped_length}
 use Rattle.naga_form.proofs.WrittenTypes.{tree_of_word}
 
@@ -109,22 +108,17 @@ loop_reads body continuing (Some e) = refl
 
 -- ---- expressions
 module _ (n : Naming) where
+  application_reads : (operand : ℕ → PlainForm) (like : ℕ → Plain) → ((x : ℕ) → plain_read (operand x) ≡ like x) → (k : ValueType) (o : Option Application) → plain_read (application_plain operand o) ≡ runs.own_form n like k (Some (application_shape o))
+  application_reads operand like same k None = refl
+  application_reads operand like same k (Some applied) =
+      operator_read operand like (λ h. value_is (operand h) ∙ ap runs.value_form (same h)) n k applied.operator applied.operands
+
   own_reads : (operand : ℕ → PlainForm) (like : ℕ → Plain) → ((x : ℕ) → plain_read (operand x) ≡ like x) → (k : ValueType) (e : ir.Expression) → literal_is_written e ≡ true → plain_read (own_plain n operand e) ≡ runs.own_form n like k (Some (expression_shape e))
   own_reads operand like same k (expression.Literal value) w = ap (λ v. AsValue (LiteralOf v)) (literal_read value w)
   own_reads operand like same k (expression.Load pointer) w = ap AsValue (place_is (operand pointer) ∙ ap runs.place_form (same pointer))
-  own_reads operand like same k (expression.Binary op left right) w = binary_reads op
-    where
-      left_is : expression_read (as_value (operand left)) ≡ runs.value_form (like left)
-      left_is = value_is (operand left) ∙ ap runs.value_form (same left)
-
-      right_is : expression_read (as_value (operand right)) ≡ runs.value_form (like right)
-      right_is = value_is (operand right) ∙ ap runs.value_form (same right)
-
-      binary_reads : (op : BinaryOperator) → plain_read (own_plain n operand (expression.Binary op left right)) ≡ runs.own_form n like k (Some (expression_shape (expression.Binary op left right)))
-      binary_reads operator.LogicalAnd = λ i. AsValue (LogicalOf ShortCircuitAnd (left_is i) (right_is i))
-      binary_reads operator.LogicalOr = λ i. AsValue (LogicalOf ShortCircuitOr (left_is i) (right_is i))
-      binary_reads op = λ i. AsValue (Apply (sym (operator_row op) i) (more (left_is i) (more (right_is i) no_more)))
-  own_reads operand like same k _ w = refl
+  own_reads operand like same k (expression.FunctionArgument number) w = refl
+  own_reads operand like same k (expression.LocalVariable handle) w = refl
+  own_reads operand like same k e w = application_reads operand like same k (application_of e)
 
   own_if_reads : (operand : ℕ → PlainForm) (like : ℕ → Plain) → ((x : ℕ) → plain_read (operand x) ≡ like x) → (k : ValueType) (e : Option ir.Expression) → option_map_or literal_is_written e true ≡ true → plain_read (own_if n operand e) ≡ runs.own_form n like k (option_map expression_shape e)
   own_if_reads operand like same k (Some e) w = own_reads operand like same k e w

@@ -11,7 +11,10 @@ use Rattle.naga_ir.specs.declared.module.Function as ir_function
 use Rattle.naga_ir.specs.declared.module.LocalVariable.{LocalVariable}
 use Rattle.naga_ir.specs.declared.types.Type_.{Type_}
 use Rattle.naga_info.specs.declared.info.ExpressionInfo.{ExpressionInfo}
-use Rattle.module_meaning.specs.Spelled.{word_at, spelling_of, local_pointer, literal_word, spelling_at, operator_word}
+use Rattle.module_meaning.specs.Applications.{application_of, accepted_word}
+use Rattle.module_meaning.specs.OperatorTable.{Operator, BinarySign, run_word}
+use Rattle.module_meaning.specs.Spelled.{word_at, spelling_of, local_pointer, literal_word, spelling_at}
+use Rattle.module_meaning.proofs.Shapes.{application_any, operator_any, operator_operands}
 use Rattle.module_meaning.specs.Accepted.{statement_fits, return_fits, block_fits, function_fits}
 use Rattle.module_meaning.specs.Part.{names_nothing}
 use Rattle.naga_names.specs.Reset.{Labelled, labelled_items, labels_of}
@@ -29,16 +32,15 @@ use Rattle.naga_info.specs.declared.info.TypeResolution.TheVariants.{Handle}
 use Rattle.module_meaning.specs.TypeIdentity.{Nothing, identity}
 use Rattle.naga_form.proofs.TypeIdentities.{declared_spelling}
 use Rattle.module_meaning.specs.Literals.{literal_value}
-use Rattle.module_meaning.specs.Shapes.{no_parts, expression_shape, statements_shape, cases_shape, function_shape, outer_names, function_naming, binary_shape, statement_shape, given_from}
+use Rattle.module_meaning.specs.Shapes.{no_parts, expression_shape, statements_shape, cases_shape, function_shape, outer_names, function_naming, statement_shape, given_from}
 use Rattle.naga_form.proofs.Named.{numbered_distinct, name_is, item_not_numbered, items_tell, function_item, argument_item, function_there, argument_there}
 use Rattle.naga_form.proofs.Facts.{returned_at}
 use Rattle.std.proofs.lemmas.Option.{slice_get-map}
 use Rattle.indexmap.specs.IndexMap.{keys}
 use Rattle.naga_ir.specs.declared.expression.Expression.TheVariants as expression
-use Rattle.naga_ir.specs.declared.operators.BinaryOperator.{BinaryOperator}
 use Rattle.naga_ir.specs.declared.operators.BinaryOperator.TheVariants as operator
 use Rattle.naga_ir.specs.declared.module.Module.{Module}
-use Rattle.module_meaning.proofs.Accepting.{function_fits_word_at, function_fits_expressions, function_fits_block, local_word_at, load_word_at, binary_at}
+use Rattle.module_meaning.proofs.Accepting.{function_fits_word_at, function_fits_expressions, function_fits_block, local_word_at, load_word_at, applied_at}
 use Rattle.naga_keywords.specs.Plain.{is_word}
 use Rattle.naga_names.specs.Naming.{label_or}
 use Rattle.naga_names.specs.declared.key.NameKey.TheVariants as key
@@ -137,12 +139,9 @@ at_any types f es h P none some = subst P (sym (slice_get-map expression_shape f
 -- operands stand before their expressions
 pub ordered_at : (types : List Type_) (f : ir_function.Function) (es : List ExpressionInfo) → function_fits types f es ≡ true → (h : ℕ) (e : ir.Expression) → slice_get f.expressions h ≡ Some e → AllBelow h (operands_of (Some (expression_shape e)))
 ordered_at types f es fits h (expression.Load q) at = let l = load_word_at types f es h q fits at in (l.1, tt)
-ordered_at types f es fits h (expression.Binary op left right) at = let o = binary_at types f es h op left right fits at in both op o.left_before o.right_before
-  where
-    both : (op : BinaryOperator) → left < h → right < h → AllBelow h (operands_of (Some (binary_shape op left right)))
-    both operator.LogicalAnd a b = (a, (b, tt))
-    both _ a b = (a, (b, tt))
-ordered_at types f es fits h _ at = tt
+ordered_at types f es fits h e at =
+    application_any (λ s. AllBelow h (operands_of (Some s))) tt (application_of e)
+    (λ a is. subst (AllBelow h) (sym (operator_operands a.operator a.operands)) (applied_at types f es h e a fits at is).before)
 
 pub ordered : (types : List Type_) (f : ir_function.Function) (es : List ExpressionInfo) → function_fits types f es ≡ true → (h : ℕ) → AllBelow h (operands_of (expression_of (function_shape types f es) h))
 ordered types f es fits h = at_any types f es h (λ o. AllBelow h (operands_of o)) tt (ordered_at types f es fits h)
@@ -224,12 +223,10 @@ module _ (m : Module) (g : ℕ) (f : ir_function.Function) (found : slice_get m.
   leaf_at h (expression.LocalVariable v) at =
       let l = local_word_at m.types f es h v fits at in
       typed_as m.types f es h _ l.4 ∙ ap PointerType (sym (pointer_of v l.0 l.1 l.2 l.3))
-  leaf_at h (expression.Binary op left right) at = nothing op
-    where
-      nothing : (op : BinaryOperator) → LeafFits p shape (handle_type shape h) (Some (binary_shape op left right))
-      nothing operator.LogicalAnd = tt
-      nothing _ = tt
-  leaf_at h _ at = tt
+  leaf_at h (expression.Load pointer) at = tt
+  leaf_at h e at =
+      application_any (λ s. LeafFits p shape (handle_type shape h) (Some s)) tt (application_of e)
+      (λ a is. operator_any (λ s. LeafFits p shape (handle_type shape h) (Some s)) a.operator a.operands (λ j l r. tt) tt)
 
   -- ---- words
   word_of : (item : Labelled) → Stands (labelled_items wgsl_names m) item → is_word (name_in (module_names m) item.0) ≡ true
@@ -262,15 +259,22 @@ module _ (m : Module) (g : ℕ) (f : ir_function.Function) (found : slice_get m.
   sign_operates : length p.functions ≡ length m.functions → (c : ℕ) (rest : List ℕ) → is_request (c ∷ rest) ≡ false → nat_eq c 95 ≡ false → nat_eq c 32 ≡ false → is_word (c ∷ rest) ≡ false → OperatesBy p own (c ∷ rest)
   sign_operates counted c rest asks one two other = (asks, stands_free counted c rest one two other)
 
+  -- each operator that is accepted so far is no name
+  operates : length p.functions ≡ length m.functions → (op : Operator) (w : List ℕ) → accepted_word op ≡ Some w → OperatesBy p own (run_word op)
+  operates counted (BinarySign operator.Add) w e = sign_operates counted 43 [] no_request_plus refl refl refl
+  operates counted (BinarySign operator.Subtract) w e = sign_operates counted 45 [] no_request_minus refl refl refl
+  operates counted (BinarySign operator.Multiply) w e = sign_operates counted 42 [] no_request_star refl refl refl
+  operates counted _ w e = absurd (cc)
+
   words_at : length p.functions ≡ length m.functions → (h : ℕ) (e : ir.Expression) → slice_get f.expressions h ≡ Some e → WordFits p own (Some (expression_shape e))
-  words_at counted h (expression.Binary op left right) at = let o = binary_at m.types f es h op left right fits at in by op o.word o.spelled
-    where
-      by : (op : BinaryOperator) (w : List ℕ) → operator_word op ≡ Some w → WordFits p own (Some (binary_shape op left right))
-      by operator.Add w e = sign_operates counted 43 [] no_request_plus refl refl refl
-      by operator.Subtract w e = sign_operates counted 45 [] no_request_minus refl refl refl
-      by operator.Multiply w e = sign_operates counted 42 [] no_request_star refl refl refl
-      by _ w e = absurd (cc)
-  words_at counted h _ at = tt
+  words_at counted h (expression.FunctionArgument number) at = tt
+  words_at counted h (expression.LocalVariable handle) at = tt
+  words_at counted h (expression.Load pointer) at = tt
+  words_at counted h (expression.Literal value) at = tt
+  words_at counted h e at =
+      application_any (λ s. WordFits p own (Some s)) tt (application_of e)
+      (λ a is. let o = applied_at m.types f es h e a fits at is in
+      operator_any (λ s. WordFits p own (Some s)) a.operator a.operands (λ j l r. tt) (operates counted a.operator o.word o.spelled))
 
   -- ---- statements
   return_at : (v : Option ℕ) → return_fits m.types es f.result v ≡ true → ReturnFits shape v

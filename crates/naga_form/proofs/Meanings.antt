@@ -1,5 +1,5 @@
 -- An accepted module has a typed meaning and a world that keeps the types, and no run of it is stuck.
-use Rattle.std.proofs.Common.{[], ◌≡◌, ℕ, suc, zero, Bool, true, false, List, ◌∷◌, length, Option, Some, None, refl, sym, ap, subst, ◌∙◌, ◌⊎◌, inl, inr, codes}
+use Rattle.std.proofs.Common.{[], ◌≡◌, ℕ, suc, zero, Bool, true, false, List, ◌∷◌, length, map, Option, Some, None, refl, sym, ap, subst, ◌∙◌, ◌⊎◌, inl, inr, codes}
 use Rattle.std.specs.Prelude.{IsTrue, slice_get, reverse, cond, if◌then◌else◌}
 use mathlib.Core.List.{reverse_aux}
 use Rattle.std.specs.List.{starts_with}
@@ -13,15 +13,17 @@ use Rattle.naga_ir.specs.declared.module.Function as ir_function
 use Rattle.naga_ir.specs.declared.module.FunctionResult.{FunctionResult}
 use Rattle.naga_ir.specs.declared.module.Module.{Module}
 use Rattle.naga_ir.specs.declared.types.Type_.{Type_}
-use Rattle.naga_ir.specs.declared.operators.BinaryOperator.{BinaryOperator}
-use Rattle.naga_ir.specs.declared.operators.BinaryOperator.TheVariants as operator
 use Rattle.naga_info.specs.declared.info.ExpressionInfo.{ExpressionInfo}
 use Rattle.naga_info.specs.declared.info.ModuleInfo.{ModuleInfo}
 use Rattle.std.proofs.lemmas.Option.{same_Some}
 use Rattle.module_meaning.specs.Spelled.{spelling_at, local_pointer}
 use Rattle.module_meaning.specs.Accepted.{is_accepted, function_fits, functions_fit, statement_fits, block_fits}
-use Rattle.module_meaning.proofs.Accepting.{accepted_parts, function_fits_block, load_word_at, store_fits_word, binary_at, IsOperation}
-use Rattle.module_meaning.proofs.Operating.{accepted_operations_agree}
+use Rattle.module_meaning.proofs.Accepting.{accepted_parts, function_fits_block, load_word_at, store_fits_word, applied_at, IsOperation}
+use Rattle.module_meaning.proofs.Operating.{IsApplied, accepted_operations_agree}
+use Rattle.module_meaning.proofs.Shapes.{accepted_is, accepted_shape, application_any, operator_any}
+use Rattle.module_meaning.specs.Applications.{Application, application_of}
+use Rattle.module_meaning.specs.OperatorTable.{run_word}
+use Rattle.module_meaning.specs.Operations.{spelling_then, spellings_at}
 use Rattle.shader_runs.specs.Value.{ValueType, BooleanType, IntegerType, PointerType, OtherType, Spelled, Value}
 use Rattle.shader_runs.specs.World.{World, Meaning, Event, entries, Environment}
 use Rattle.shader_runs.specs.Outcome.{Reached, and_then, answer}
@@ -33,6 +35,7 @@ use Rattle.shader_runs.specs.Text.{TextModule}
 use Rattle.shader_runs.specs.Correct.{KeepsTypes}
 use Rattle.shader_runs.specs.Progress.{IsNotStuck, IsPointer, LoadFits, AreWellFormed, IsWellFormed, FunctionIsWellFormed, AllWellFormed}
 use Rattle.shader_runs.specs.Typing.{Signature, signatures_of, IsOneOf, first_of, later_of, IsSpelled, in_function, in_initialiser, PartsFit}
+use Rattle.shader_runs.specs.Premises.{handle_types}
 use Rattle.shader_runs.proofs.Update.{and_left, and_right}
 use Rattle.shader_runs.proofs.Typing.{has_typed_meaning, no_signature}
 use Rattle.shader_runs.proofs.Starts.{steady_world}
@@ -41,7 +44,7 @@ use Rattle.wgsl_text.specs.Words.{stands_in}
 use Rattle.module_meaning.specs.Premises.{nothing_named, ScopesHold}
 use Rattle.module_meaning.specs.Names.{NamesAreCounted, module_names, function_name}
 use Rattle.module_meaning.specs.Types.{type_spelled, integer_words}
-use Rattle.module_meaning.specs.Shapes.{binary_shape, expression_shape, statement_shape, statements_shape, function_shape, function_shapes, program_shape, namings, outer_names}
+use Rattle.module_meaning.specs.Shapes.{operator_shape, expression_shape, statement_shape, statements_shape, function_shape, function_shapes, program_shape, namings, outer_names}
 use Rattle.wgsl_text.specs.Requests.{is_request}
 use Rattle.naga_form.specs.Form.{written_program}
 use Rattle.module_meaning.specs.Meanings.{OperatorsAreConsistent, HasTypedMeaning, HasTypedWorld, IsNeverStuck}
@@ -167,36 +170,34 @@ fitting_at types (f ∷ fs) (es ∷ ess) all (suc k) shape there =
     let found = fitting_at types fs ess (and_right (function_fits types f es) (functions_fit types fs ess) all) k shape there in
     record { number = suc found.number; function = found.function; known = found.known; function_there = found.function_there; known_there = found.known_there; fit = found.fit; same = found.same }
 
--- the signature of an operator between two operands
-abbrev operation_signature : (word left right answer : List ℕ) → Signature
-operation_signature word left right answer =
-    record { word = Spelled word; operands = type_spelled left ∷ type_spelled right ∷ []; result = type_spelled answer }
-
--- an accepted operator between two operands
-record IsOperator (types : List Type_) (fs : List ir_function.Function) (ess : List (List ExpressionInfo)) (x : Signature) : Type 0 where
-  number : ℕ
-  function : ir_function.Function
-  known : List ExpressionInfo
-  function_there : slice_get fs number ≡ Some function
-  known_there : slice_get ess number ≡ Some known
-  handle : ℕ
-  operator_ : BinaryOperator
-  left : ℕ
-  right : ℕ
-  there : slice_get function.expressions handle ≡ Some (expression.Binary operator_ left right)
-  operation : IsOperation types known handle operator_ left right
-  same : x ≡ operation_signature operation.word operation.left_word operation.right_word operation.answer_word
-
-unspelled : {w : List ℕ} → None ≡ Some w → ⊥
-unspelled e = cc
-
 abbrev first_or : List ValueType → ValueType
 first_or [] = BooleanType
 first_or (k ∷ ks) = k
 
-abbrev second_or : List ValueType → ValueType
-second_or [] = BooleanType
-second_or (k ∷ ks) = first_or ks
+abbrev rest_of : List ValueType → List ValueType
+rest_of [] = []
+rest_of (k ∷ ks) = ks
+
+-- the types of these spellings
+abbrev types_spelled : List (List ℕ) → List ValueType
+types_spelled ws = map type_spelled ws
+
+-- the signature of an operator over operands
+abbrev operation_signature : (word : List ℕ) (operands : List (List ℕ)) (answer : List ℕ) → Signature
+operation_signature word operands answer =
+    record { word = Spelled word; operands = types_spelled operands; result = type_spelled answer }
+
+-- an accepted operator over operands, by its signature
+record IsOperator (types : List Type_) (fs : List ir_function.Function) (ess : List (List ExpressionInfo)) (x : Signature) : Type 0 where
+  applies : IsApplied types fs ess
+  same : x ≡ operation_signature applies.operation.word applies.operation.operand_words applies.operation.answer_word
+
+-- types of one value type each have one spelling each
+one_spelling_each : (vs ws : List (List ℕ)) → types_spelled vs ≡ types_spelled ws → vs ≡ ws
+one_spelling_each [] [] e = refl
+one_spelling_each [] (w ∷ ws) e = absurd (cc)
+one_spelling_each (v ∷ vs) [] e = absurd (cc)
+one_spelling_each (v ∷ vs) (w ∷ ws) e = λ i. one_spelling v w (ap first_or e) i ∷ one_spelling_each vs ws (ap rest_of e) i
 
 only_one : (x y : Signature) → IsOneOf x (y ∷ []) → x ≡ y
 only_one x y first_of = refl
@@ -207,48 +208,67 @@ module _ (types : List Type_) (fs : List ir_function.Function) (ess : List (List
   abbrev own : shapes.Function
   own = function_shape types f es
 
-  operator_is : (x : Signature) (h : ℕ) (op : BinaryOperator) (left right : ℕ) → slice_get f.expressions h ≡ Some (expression.Binary op left right) → (o : IsOperation types es h op left right) → (word : List ℕ) → word ≡ o.word → IsOneOf x (record { word = Spelled word; operands = handle_type own left ∷ handle_type own right ∷ []; result = handle_type own h } ∷ []) → IsOperator types fs ess x
-  operator_is x h op left right at o word same among =
-      let a = typed_as types f es left o.left_word o.left_spelled in
-      let b = typed_as types f es right o.right_word o.right_spelled in
-      let c = typed_as types f es h o.answer_word o.answer_spelled in
+  -- operands that are spelled have the types of their spellings
+  operand_types : (hs : List ℕ) (ws : List (List ℕ)) → spellings_at types es hs ≡ Some ws → handle_types own hs ≡ types_spelled ws
+  operand_types [] [] is = refl
+  operand_types [] (w ∷ ws) is = absurd (cc)
+  operand_types (h ∷ hs) ws is = by (spelling_at types es h) (spellings_at types es hs) refl (λ vs others. operand_types hs vs others) ws is
+    where
+      by : (a : Option (List ℕ)) (b : Option (List (List ℕ))) → spelling_at types es h ≡ a → ((vs : List (List ℕ)) → b ≡ Some vs → handle_types own hs ≡ types_spelled vs) → (ws : List (List ℕ)) → spelling_then a b ≡ Some ws → handle_types own (h ∷ hs) ≡ types_spelled ws
+      by (Some v) (Some vs) one others ws e =
+          (λ i. typed_as types f es h v one i ∷ others vs refl i) ∙ ap types_spelled (same_Some (v ∷ vs) ws e)
+      by (Some v) None one others ws e = absurd (cc)
+      by None b one others ws e = absurd (cc)
+
+  operator_is : (x : Signature) (h : ℕ) (e : ir.Expression) (a : Application) → slice_get f.expressions h ≡ Some e → application_of e ≡ Some a → (o : IsOperation types es h a) → IsOneOf x (record { word = Spelled (run_word a.operator); operands = handle_types own a.operands; result = handle_type own h } ∷ []) → IsOperator types fs ess x
+  operator_is x h e a at applied o among =
+      let operands = operand_types a.operands o.operand_words o.operands_spelled in
+      let answer = typed_as types f es h o.answer_word o.answer_spelled in
       record {
-        number = g;
-        function = f;
-        known = es;
-        function_there = f_at;
-        known_there = es_at;
-        handle = h;
-        operator_ = op;
-        left = left;
-        right = right;
-        there = at;
-        operation = o;
-        same = only_one x _ among ∙ (λ i. record { word = Spelled (same i); operands = a i ∷ b i ∷ []; result = c i });
+        applies = record {
+          number = g;
+          function = f;
+          known = es;
+          handle = h;
+          expression = e;
+          applied = a;
+          function_there = f_at;
+          known_there = es_at;
+          expression_there = at;
+          application = applied;
+          operation = o;
+        };
+        same = only_one x _ among ∙ (λ i. record { word = Spelled (accepted_is a.operator o.word o.spelled i); operands = operands i; result = answer i });
       }
 
-  operator_among : (x : Signature) (h : ℕ) (op : BinaryOperator) (left right : ℕ) → slice_get f.expressions h ≡ Some (expression.Binary op left right) → (o : IsOperation types es h op left right) → IsOneOf x (signatures_of p own (handle_type own h) (Some (binary_shape op left right))) → IsOperator types fs ess x
-  operator_among x h operator.Add left right at o among = operator_is x h operator.Add left right at o (codes "+") (same_Some (codes "+") o.word o.spelled) among
-  operator_among x h operator.Subtract left right at o among = operator_is x h operator.Subtract left right at o (codes "-") (same_Some (codes "-") o.word o.spelled) among
-  operator_among x h operator.Multiply left right at o among = operator_is x h operator.Multiply left right at o (codes "*") (same_Some (codes "*") o.word o.spelled) among
-  operator_among x h _ left right at o among = absurd (unspelled o.spelled)
+  -- an accepted operator is no short circuit
+  operator_among : (x : Signature) (h : ℕ) (e : ir.Expression) (a : Application) → slice_get f.expressions h ≡ Some e → application_of e ≡ Some a → (o : IsOperation types es h a) → IsOneOf x (signatures_of p own (handle_type own h) (Some (operator_shape a.operator a.operands))) → IsOperator types fs ess x
+  operator_among x h e a at applied o among =
+      operator_is x h e a at applied o
+      (subst (λ s. IsOneOf x (signatures_of p own (handle_type own h) (Some s))) (accepted_shape a.operator a.operands o.word o.spelled) among)
 
   spelled_among : (x : Signature) (h : ℕ) (e : ir.Expression) → slice_get f.expressions h ≡ Some e → IsOneOf x (signatures_of p own (handle_type own h) (Some (expression_shape e))) → IsOperator types fs ess x
-  spelled_among x h (expression.Binary op left right) at among = operator_among x h op left right at (binary_at types f es h op left right fit at) among
-  spelled_among x h _ at among = absurd (no_signature x among)
+  spelled_among x h (expression.Literal value) at among = absurd (no_signature x among)
+  spelled_among x h (expression.FunctionArgument number) at among = absurd (no_signature x among)
+  spelled_among x h (expression.LocalVariable handle) at among = absurd (no_signature x among)
+  spelled_among x h (expression.Load pointer) at among = absurd (no_signature x among)
+  spelled_among x h e at among =
+      application_any (λ s. IsOneOf x (signatures_of p own (handle_type own h) (Some s)) → IsOperator types fs ess x) (λ among. absurd (no_signature x among)) (application_of e)
+      (λ a is among. operator_among x h e a at is (applied_at types f es h e a fit at is) among) among
 
   spelled_at : (x : Signature) (h : ℕ) → IsOneOf x (signatures_of p own (handle_type own h) (expression_of own h)) → IsOperator types fs ess x
   spelled_at x h = at_any types f es h (λ o. IsOneOf x (signatures_of p own (handle_type own h) o) → IsOperator types fs ess x) (λ among. absurd (no_signature x among)) (spelled_among x h)
 
   -- no expression so far is over parts or truth values
   parts_among : (h : ℕ) (e : ir.Expression) → slice_get f.expressions h ≡ Some e → PartsFit p.parts own (handle_type own h) (Some (expression_shape e))
-  parts_among h (expression.Binary op left right) at = by op (binary_at types f es h op left right fit at)
-    where
-      by : (op : BinaryOperator) → IsOperation types es h op left right → PartsFit p.parts own (handle_type own h) (Some (binary_shape op left right))
-      by operator.LogicalAnd o = absurd (unspelled o.spelled)
-      by operator.LogicalOr o = absurd (unspelled o.spelled)
-      by _ o = tt
-  parts_among h _ at = tt
+  parts_among h (expression.Literal value) at = tt
+  parts_among h (expression.FunctionArgument number) at = tt
+  parts_among h (expression.LocalVariable handle) at = tt
+  parts_among h (expression.Load pointer) at = tt
+  parts_among h e at =
+      application_any (λ s. PartsFit p.parts own (handle_type own h) (Some s)) tt (application_of e)
+      (λ a is. let o = applied_at types f es h e a fit at is in
+      subst (λ s. PartsFit p.parts own (handle_type own h) (Some s)) (sym (accepted_shape a.operator a.operands o.word o.spelled)) tt)
 
   parts_at : (h : ℕ) → PartsFit p.parts own (handle_type own h) (expression_of own h)
   parts_at h = at_any types f es h (λ o. PartsFit p.parts own (handle_type own h) o) tt (parts_among h)
@@ -259,12 +279,12 @@ module _ (types : List Type_) (fs : List ir_function.Function) (ess : List (List
 
   load_among : (h : ℕ) (e : ir.Expression) → slice_get f.expressions h ≡ Some e → LoadFits own (Some (expression_shape e))
   load_among h (expression.Load q) at = let l = load_word_at types f es h q fit at in points_at q l.0 l.3
-  load_among h (expression.Binary op left right) at = by op
-    where
-      by : (op : BinaryOperator) → LoadFits own (Some (binary_shape op left right))
-      by operator.LogicalAnd = tt
-      by _ = tt
-  load_among h _ at = tt
+  load_among h (expression.Literal value) at = tt
+  load_among h (expression.FunctionArgument number) at = tt
+  load_among h (expression.LocalVariable handle) at = tt
+  load_among h e at =
+      application_any (λ s. LoadFits own (Some s)) tt (application_of e)
+      (λ a is. operator_any (λ s. LoadFits own (Some s)) a.operator a.operands (λ j l r. tt) tt)
 
   line_well_formed : (st : StatementTree) → statement_fits types es f.result st ≡ true → IsWellFormed own false false (statement_shape st)
   line_well_formed (simple (emit first last)) fit = tt
@@ -318,11 +338,10 @@ module _ (m : Module) (info : ModuleInfo) (accepted : IsTrue (is_accepted m info
       -- both are operators of the module, which agree
       agree : (x y : Signature) → IsOperator m.types m.functions ess x → IsOperator m.types m.functions ess y → x.word ≡ y.word → x.operands ≡ y.operands → x.result ≡ y.result
       agree x y a b word operands =
-          let words : a.operation.word ≡ b.operation.word = one_word (sym (ap (λ x. x.word) a.same) ∙ (word ∙ ap (λ x. x.word) b.same)) in
+          let words : a.applies.operation.word ≡ b.applies.operation.word = one_word (sym (ap (λ x. x.word) a.same) ∙ (word ∙ ap (λ x. x.word) b.same)) in
           let types = sym (ap (λ x. x.operands) a.same) ∙ (operands ∙ ap (λ x. x.operands) b.same) in
-          let left = one_spelling a.operation.left_word b.operation.left_word (ap (λ l. first_or l) types) in
-          let right = one_spelling a.operation.right_word b.operation.right_word (ap (λ l. second_or l) types) in
-          let answers = accepted_operations_agree m info accepted a.number a.function a.known a.handle a.operator_ a.left a.right a.function_there a.known_there a.there a.operation b.number b.function b.known b.handle b.operator_ b.left b.right b.function_there b.known_there b.there b.operation words left right in
+          let spellings = one_spelling_each a.applies.operation.operand_words b.applies.operation.operand_words types in
+          let answers = accepted_operations_agree m info accepted a.applies b.applies words spellings in
           ap (λ x. x.result) a.same ∙ (ap type_spelled answers ∙ sym (ap (λ x. x.result) b.same))
         where
           one_word : {a b : List ℕ} → Spelled a ≡ Spelled b → a ≡ b

@@ -13,7 +13,7 @@ use Rattle.wgsl_text.specs.Reading.{type_layout}
 use Rattle.wgsl_text.specs.Tree.{TypeSpecifier, Named}
 use Rattle.wgsl_text.proofs.WordLemmas.{all_words, passes}
 use Rattle.wgsl_text.specs.Requests.{request_words, is_request}
-use Rattle.naga_form.specs.OperatorTable.{Operator, UnarySign, Sample, Gather, Texel, OnlyTexel, Automatic, Zero, CooperativeLoad, CooperativeStore, Construct, Convert, Reinterpret, with_type, operator_word, own_word, run_word, one_word, asks, is_untyped, TypeIsSound}
+use Rattle.module_meaning.specs.OperatorTable.{Operator, UnarySign, Sample, Gather, Texel, OnlyTexel, Automatic, Zero, CooperativeLoad, CooperativeStore, Construct, Convert, Reinterpret, with_type, operator_word, own_word, run_word, one_word, asks, is_untyped, TypeIsSound}
 use Rattle.naga_form.proofs.OperatorWords.{others, mathematical, first_with, operator_of, told}
 use Rattle.naga_form.proofs.TypedWords.{head_of, head_is, no_type_begins}
 

@@ -8,8 +8,6 @@ use Rattle.naga_ir.specs.declared.expression.Expression.TheVariants as expressio
 use Rattle.naga_ir.specs.declared.module.Function as ir_function
 use Rattle.naga_ir.specs.declared.module.Module.{Module}
 use Rattle.naga_ir.specs.declared.types.Type_.{Type_}
-use Rattle.naga_ir.specs.declared.operators.BinaryOperator.{BinaryOperator}
-use Rattle.naga_ir.specs.declared.operators.BinaryOperator.TheVariants as operator
 use Rattle.naga_info.specs.declared.info.ExpressionInfo.{ExpressionInfo}
 use Rattle.naga_info.specs.declared.info.ModuleInfo.{ModuleInfo}
 use Rattle.naga_info.proofs.Options.{then_some}
@@ -25,7 +23,9 @@ use Rattle.shader_runs.proofs.Resolution.{resolves_as_meant}
 use Rattle.shader_runs.proofs.Update.{and_left, and_right}
 use Rattle.module_meaning.specs.Names.{NamesAreCounted, module_names}
 use Rattle.module_meaning.specs.Types.{declared_type}
-use Rattle.module_meaning.specs.Shapes.{binary_shape, expression_shape, function_shape, function_shapes, program_shape, namings_from, namings, outer_names, function_naming}
+use Rattle.module_meaning.specs.Shapes.{expression_shape, function_shape, function_shapes, program_shape, namings_from, namings, outer_names, function_naming}
+use Rattle.module_meaning.specs.Applications.{application_of}
+use Rattle.module_meaning.proofs.Shapes.{application_any, operator_any}
 use Rattle.naga_form.specs.Form.{written_program}
 use Rattle.module_meaning.specs.Premises.{nothing_named, ScopesHold}
 use Rattle.module_meaning.specs.Resolution.{ResolvesAs}
@@ -43,12 +43,11 @@ module _ (types : List Type_) (f : ir_function.Function) (es : List ExpressionIn
   leaf_stands h (expression.LocalVariable v) at =
       let l = local_word_at types f es h v fits at in
       subst (λ count. v < count) (sym (mapped_length (λ l. l.init) f.local_variables)) (slice_get_within f.local_variables v l.0 l.2)
-  leaf_stands h (expression.Binary op left right) at = by op
-    where
-      by : (op : BinaryOperator) → LeafStands (function_shape types f es) (Some (binary_shape op left right))
-      by operator.LogicalAnd = tt
-      by _ = tt
-  leaf_stands h _ at = tt
+  leaf_stands h (expression.Literal value) at = tt
+  leaf_stands h (expression.Load pointer) at = tt
+  leaf_stands h e at =
+      application_any (λ s. LeafStands (function_shape types f es) (Some s)) tt (application_of e)
+      (λ a is. operator_any (λ s. LeafStands (function_shape types f es) (Some s)) a.operator a.operands (λ j l r. tt) tt)
 
   leaves_are_own : (h : ℕ) → LeafStands (function_shape types f es) (expression_of (function_shape types f es) h)
   leaves_are_own h = at_any types f es h (λ o. LeafStands (function_shape types f es) o) tt (leaf_stands h)

@@ -1,7 +1,7 @@
 -- The syntax tree that is written for a module under its names, of those modules that are written
 -- so far, with a `let` for each emitted handle that is bound. Which handles are bound, and where
 -- their names are in scope, is what the runs say of a function's shape.
-use Rattle.std.specs.Prelude.{[], ℕ, pos, negsuc, ◌++◌, ◌+◌, false, List, ◌∷◌, Option, Some, None, slice_get, zero, suc, ◌-◌, Bool, true, length}
+use Rattle.std.specs.Prelude.{[], ℕ, pos, negsuc, ◌++◌, ◌+◌, false, List, ◌∷◌, Option, Some, None, slice_get, zero, suc, ◌-◌, Bool, true, length, map}
 use Rattle.std.specs.Option.{option_map_or, option_map}
 use Rattle.naga_ir.specs.declared.statement.SwitchValue.{SwitchValue}
 use Rattle.naga_ir.specs.declared.statement.SwitchValue.TheVariants as label
@@ -14,7 +14,7 @@ use Rattle.naga_ir.specs.declared.module.FunctionResult.{FunctionResult}
 use Rattle.naga_ir.specs.declared.module.Module.{Module}
 use Rattle.naga_ir.specs.declared.types.Type_.{Type_}
 use Rattle.naga_names.specs.Keys.{NameMap}
-use Rattle.wgsl_text.specs.Tree.{Truth, Expression, Constant, Name, Statement, Return, ReturnValue, Statements, NoStatements, Then, Parameter, Result, NoResult, ResultOf, Function, Program, no_declarations, TypeSpecifier, Binary, AddressOf, Dereference, Let, TypedLet, Assign, Break, Continue, Discard, If, Loop, LoopBreakIf, Switch, Block, Cases, NoCases, Case, Label, DefaultLabel, SignedLabel, UnsignedLabel, Labels, LastLabel, MoreLabels, Local}
+use Rattle.wgsl_text.specs.Tree.{Truth, Expression, Constant, Name, Statement, Return, ReturnValue, Statements, NoStatements, Then, Parameter, Result, NoResult, ResultOf, Function, Program, no_declarations, TypeSpecifier, AddressOf, Dereference, Let, TypedLet, Assign, Break, Continue, Discard, If, Loop, LoopBreakIf, Switch, Block, Cases, NoCases, Case, Label, DefaultLabel, SignedLabel, UnsignedLabel, Labels, LastLabel, MoreLabels, Local}
 use Rattle.module_meaning.specs.Names.{function_name, argument_name, module_names}
 use Rattle.naga_words.specs.Contexts.{names_of, Names as TypeNames}
 use Rattle.naga_form.specs.Types.{type_form, told_type}
@@ -24,7 +24,8 @@ use Rattle.naga_info.specs.declared.info.ExpressionInfo.{ExpressionInfo}
 use Rattle.naga_info.specs.declared.info.ModuleInfo.{ModuleInfo}
 use Rattle.shader_runs.specs.Program.{binds, from}
 use Rattle.shader_runs.specs.Scope.{Standing, Named, Handles, Naming, bound_name, at_start, given_after, given_by, given_by_all, after_one, after, after_all}
-use Rattle.naga_form.specs.Operators.{operator_form}
+use Rattle.module_meaning.specs.Applications.{Application, application_of}
+use Rattle.naga_form.specs.Operators.{notation, applied_form}
 use Rattle.module_meaning.specs.Shapes.{statement_shape, statements_shape, function_naming}
 
 -- a plain form: a value or a reference
@@ -42,17 +43,25 @@ abbrev pub as_reference : PlainForm → Expression
 as_reference (ValueForm e) = Dereference e
 as_reference (ReferenceForm e) = e
 
--- an expression that isn't named, over its operands' forms. What is not written so far, and stands
--- in no accepted module, is `false` here, as a handle without an expression is
+-- the forms of operands as values
+abbrev pub value_forms : (ℕ → PlainForm) → List ℕ → List Expression
+value_forms operand hs = map (λ h. as_value (operand h)) hs
+
+-- An operator in its notation. What applies none so far, and stands in no accepted module, is
+-- `false` here, as a handle without an expression is.
+abbrev pub application_plain : (ℕ → PlainForm) → Option Application → PlainForm
+application_plain operand (Some applied) =
+    ValueForm (applied_form (notation applied.operator) (value_forms operand applied.operands))
+application_plain operand None = ValueForm (Constant (Truth false))
+
+-- an expression that isn't named, over its operands' forms
 abbrev pub own_plain : Naming → (ℕ → PlainForm) → ir.Expression → PlainForm
 own_plain n operand (expression.Literal value) = ValueForm (Constant (literal_form value))
 own_plain n operand (expression.FunctionArgument number) =
     ValueForm (Name (n.names.argument number))
 own_plain n operand (expression.LocalVariable handle) = ReferenceForm (Name (n.names.local_ handle))
 own_plain n operand (expression.Load pointer) = ValueForm (as_reference (operand pointer))
-own_plain n operand (expression.Binary op left right) =
-    ValueForm (Binary (as_value (operand left)) (operator_form op) (as_value (operand right)))
-own_plain n operand _ = ValueForm (Constant (Truth false))
+own_plain n operand e = application_plain operand (application_of e)
 
 -- the same, if there is such an expression
 abbrev pub own_if : Naming → (ℕ → PlainForm) → Option ir.Expression → PlainForm

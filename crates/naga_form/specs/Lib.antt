@@ -1,6 +1,5 @@
 pub mod Form
 pub mod Literals
-pub mod OperatorTable
 pub mod Operators
 pub mod Readable
 pub mod TypeTrees

@@ -1,7 +1,20 @@
--- Operators between two operands, as they are written.
+-- Operators over their operands, as they are written.
+use Rattle.std.specs.Prelude.{List, [], ◌∷◌, codes}
 use Rattle.naga_ir.specs.declared.operators.BinaryOperator as ir
 use Rattle.naga_ir.specs.declared.operators.BinaryOperator.TheVariants as operator
-use Rattle.wgsl_text.specs.Tree.{BinaryOperator, Add, Subtract, Multiply, Divide, Modulo, Equal, NotEqual, Less, LessEqual, Greater, GreaterEqual, And, ExclusiveOr, InclusiveOr, LogicalAnd, LogicalOr, ShiftLeft, ShiftRight}
+use Rattle.naga_ir.specs.declared.operators.UnaryOperator as ir_unary
+use Rattle.naga_ir.specs.declared.operators.UnaryOperator.TheVariants as unary
+use Rattle.module_meaning.specs.OperatorTable.{Operator, BinarySign, UnarySign, Construct}
+use Rattle.module_meaning.specs.OperatorTable.{Convert, Reinterpret, run_word}
+use Rattle.wgsl_text.specs.Pieces.{binary_pieces, unary_mark}
+use Rattle.wgsl_text.specs.Text.{text, mark_text}
+use Rattle.wgsl_text.specs.Tree.{BinaryOperator, Add, Subtract, Multiply, Divide, Modulo}
+use Rattle.wgsl_text.specs.Tree.{Equal, NotEqual, Less, LessEqual, Greater, GreaterEqual}
+use Rattle.wgsl_text.specs.Tree.{And, ExclusiveOr, InclusiveOr, LogicalAnd, LogicalOr}
+use Rattle.wgsl_text.specs.Tree.{ShiftLeft, ShiftRight}
+use Rattle.wgsl_text.specs.Tree.{UnaryOperator, Negate, LogicalNot, BitwiseNot}
+use Rattle.wgsl_text.specs.Tree.{TypeSpecifier, Named, Template, TypePart, NoParts}
+use Rattle.wgsl_text.specs.Tree.{Expression, Binary, Unary, Call, operands}
 
 abbrev pub operator_form : ir.BinaryOperator → BinaryOperator
 operator_form operator.Add = Add
@@ -22,3 +35,36 @@ operator_form operator.LogicalAnd = LogicalAnd
 operator_form operator.LogicalOr = LogicalOr
 operator_form operator.ShiftLeft = ShiftLeft
 operator_form operator.ShiftRight = ShiftRight
+
+abbrev pub unary_form : ir_unary.UnaryOperator → UnaryOperator
+unary_form unary.Negate = Negate
+unary_form unary.LogicalNot = LogicalNot
+unary_form unary.BitwiseNot = BitwiseNot
+
+-- how an operator is written: between two operands, before one, or called by a word or a type with
+-- all of them
+pub data Notation : Type 0 where
+  Infix : BinaryOperator → Notation
+  Prefix : UnaryOperator → Notation
+  Called : TypeSpecifier → Notation
+
+-- The notation of an operator whose operands are all expressions, as those are that ask for no event.
+abbrev pub notation : Operator → Notation
+notation (BinarySign op) = Infix (operator_form op)
+notation (UnarySign op) = Prefix (unary_form op)
+notation (Construct t components) = Called t
+notation (Convert t) = Called t
+notation (Reinterpret t) = Called (Template (codes "bitcast") (TypePart t NoParts))
+notation op = Called (Named (run_word op))
+
+-- what is called, where a sign is not between two operands or before one, as it is in no module
+abbrev pub callee : Notation → TypeSpecifier
+callee (Infix op) = Named (text (binary_pieces op))
+callee (Prefix op) = Named (mark_text (unary_mark op))
+callee (Called t) = t
+
+-- the tree of an operator over operands
+abbrev pub applied_form : Notation → List Expression → Expression
+applied_form (Infix op) (left ∷ right ∷ []) = Binary left op right
+applied_form (Prefix op) (operand ∷ []) = Unary op operand
+applied_form n es = Call (callee n) (operands es)

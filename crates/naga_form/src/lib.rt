@@ -20,7 +20,7 @@ ghost use Rattle.module_meaning.specs.Types.{value_type, LocalsAreSpelled};
 ghost use Rattle.module_meaning.specs.TypeIdentity.{identity};
 ghost use Rattle.module_meaning.specs.Spelled.{spelling_of};
 ghost use Rattle.naga_info.specs.declared.info.TypeResolution.{TypeResolution};
-ghost use Rattle.naga_form.specs.OperatorTable.{Operator, TypeIsSound, asks, is_told, one_word, operand_count, operator_word, run_word};
+ghost use Rattle.module_meaning.specs.OperatorTable.{Operator, TypeIsSound, asks, is_told, one_word, operand_count, operator_word, run_word};
 ghost use Rattle.module_meaning.specs.Bindings.{BindsAs};
 ghost use Rattle.naga_form.specs.Form.{function_form, written_program};
 ghost use Rattle.module_meaning.specs.Premises.{nothing_named, scope_holds, ScopesHold, handles_are_counted};

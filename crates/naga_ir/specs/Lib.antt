@@ -3,3 +3,5 @@ pub mod StatementCode
 pub mod StatementViews
 pub mod StatementSizes
 pub mod Empty
+pub mod Operands
+pub mod Kinds

@@ -9,7 +9,8 @@ use Rattle.naga_ir.specs.StatementTree.{statement_size, block_size, cases_size}
 use Rattle.naga_ir.specs.StatementViews.{tree_of, block_of, cases_of}
 use denote.Param.Weighed.{most}
 
-pub depth_le-cases_size : (cs : List SwitchCase) → most deep-SwitchCase cs ≤ cases_size (cases_of cs)
+pub depth_le-cases_size :
+    (cs : List SwitchCase) → most deep-SwitchCase cs ≤ cases_size (cases_of cs)
 depth_le-cases_size [] = omega arith
 depth_le-cases_size (c ∷ cs) = omega (arith, depth_le-cases_size cs)
 

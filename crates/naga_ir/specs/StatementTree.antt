@@ -21,13 +21,15 @@ pub data SimpleStatement : Type 0 where
   store : (pointer value : ℕ) → SimpleStatement
   image_store : (image coordinate : ℕ) (array_index : Option ℕ) (value : ℕ) → SimpleStatement
   atomic : (pointer : ℕ) → AtomicFunction → (value : ℕ) (outcome : Option ℕ) → SimpleStatement
-  image_atomic : (image coordinate : ℕ) (array_index : Option ℕ) → AtomicFunction → (value : ℕ) → SimpleStatement
+  image_atomic : (image coordinate : ℕ) (array_index : Option ℕ) → AtomicFunction → (value : ℕ) →
+      SimpleStatement
   work_group_uniform_load : (pointer outcome : ℕ) → SimpleStatement
   call : (function : ℕ) (arguments : List ℕ) (outcome : Option ℕ) → SimpleStatement
   ray_query : (query : ℕ) → SimpleStatement
   subgroup_ballot : (outcome : ℕ) (predicate : Option ℕ) → SimpleStatement
   subgroup_gather : GatherMode → (argument outcome : ℕ) → SimpleStatement
-  subgroup_collective_operation : SubgroupOperation → CollectiveOperation → (argument outcome : ℕ) → SimpleStatement
+  subgroup_collective_operation :
+      SubgroupOperation → CollectiveOperation → (argument outcome : ℕ) → SimpleStatement
   cooperative_store : (target : ℕ) → CooperativeData → SimpleStatement
   ray_pipeline_function : RayPipelineFunction → SimpleStatement
 

@@ -1,9 +1,25 @@
 -- What the code's statements are seen as. A block inside a statement is seen as its tree already.
 use Rattle.std.specs.Prelude.{List, [], ◌∷◌}
-use Rattle.naga_ir.specs.StatementTree.{StatementTree, simple, block, branch, switch, loop, BlockTree, no_statements, statement, CaseTrees, no_cases, case, emit, break, continue, return, kill, control_barrier, memory_barrier, store, image_store, atomic, image_atomic, work_group_uniform_load, call, ray_query, subgroup_ballot, subgroup_gather, subgroup_collective_operation, cooperative_store, ray_pipeline_function}
+use Rattle.naga_ir.specs.StatementTree.{StatementTree, simple, block, branch, switch, loop}
+use Rattle.naga_ir.specs.StatementTree.{BlockTree, no_statements, statement, CaseTrees, no_cases}
+use Rattle.naga_ir.specs.StatementTree.{case, emit, break, continue, return, kill, control_barrier}
+use Rattle.naga_ir.specs.StatementTree.{memory_barrier, store, image_store, atomic, image_atomic}
+use Rattle.naga_ir.specs.StatementTree.{work_group_uniform_load, call, ray_query, subgroup_ballot}
+use Rattle.naga_ir.specs.StatementTree.{subgroup_gather, subgroup_collective_operation}
+use Rattle.naga_ir.specs.StatementTree.{cooperative_store, ray_pipeline_function}
 use Rattle.naga_ir.specs.declared.statement.SwitchCase.{SwitchCase}
 use Rattle.naga_ir.specs.declared.statement.Statement.{Statement}
-use Rattle.naga_ir.specs.declared.statement.Statement.TheVariants.{Emit, Block, If, Switch, Loop, Break, Continue, Return, Kill, ControlBarrier, MemoryBarrier, Store, ImageStore, Atomic, ImageAtomic, WorkGroupUniformLoad, Call, RayQuery, SubgroupBallot, SubgroupGather, SubgroupCollectiveOperation, CooperativeStore, RayPipelineFunction}
+use Rattle.naga_ir.specs.declared.statement.Statement.TheVariants.{Emit, Block, If, Switch, Loop}
+use Rattle.naga_ir.specs.declared.statement.Statement.TheVariants.{Break, Continue, Return, Kill}
+use Rattle.naga_ir.specs.declared.statement.Statement.TheVariants.{ControlBarrier, MemoryBarrier}
+use Rattle.naga_ir.specs.declared.statement.Statement.TheVariants.{Store, ImageStore, Atomic}
+use Rattle.naga_ir.specs.declared.statement.Statement.TheVariants.{ImageAtomic}
+use Rattle.naga_ir.specs.declared.statement.Statement.TheVariants.{WorkGroupUniformLoad, Call}
+use Rattle.naga_ir.specs.declared.statement.Statement.TheVariants.{RayQuery, SubgroupBallot}
+use Rattle.naga_ir.specs.declared.statement.Statement.TheVariants.{SubgroupGather}
+use Rattle.naga_ir.specs.declared.statement.Statement.TheVariants.{SubgroupCollectiveOperation}
+use Rattle.naga_ir.specs.declared.statement.Statement.TheVariants.{CooperativeStore}
+use Rattle.naga_ir.specs.declared.statement.Statement.TheVariants.{RayPipelineFunction}
 
 abbrev pub cases_of : List SwitchCase → CaseTrees
 cases_of [] = no_cases

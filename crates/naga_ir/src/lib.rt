@@ -16,7 +16,9 @@ pub mod diagnostics;
 pub mod expression;
 pub mod flags;
 pub mod image;
+pub mod kind;
 pub mod module;
+pub mod operands;
 pub mod operators;
 pub mod statement;
 pub mod types;
@@ -30,10 +32,12 @@ pub use expression::{
 };
 pub use flags::{Barrier, MemoryDecorations, StorageAccess};
 pub use image::{ImageClass, ImageDimension, StorageFormat};
+pub use kind::ExpressionKind;
 pub use module::{
     Constant, EntryPoint, Function, FunctionArgument, FunctionResult, GlobalVariable,
     LocalVariable, MeshStageInfo, Module, Override, ShaderStage, SpecialTypes,
 };
+pub use operands::Operands;
 pub use operators::{
     AtomicFunction, BinaryOperator, CollectiveOperation, DerivativeAxis, DerivativeControl,
     Direction, GatherMode, MathFunction, RelationalFunction, SubgroupOperation, UnaryOperator,

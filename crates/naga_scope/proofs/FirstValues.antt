@@ -13,12 +13,12 @@ use Rattle.naga_ir.specs.declared.module.Function as ir_function
 use Rattle.naga_ir.specs.declared.module.LocalVariable.{LocalVariable}
 use Rattle.naga_ir.specs.declared.types.Type_.{Type_}
 use Rattle.naga_info.specs.declared.info.ExpressionInfo.{ExpressionInfo}
-use Rattle.naga_ir.specs.declared.operators.BinaryOperator.{BinaryOperator}
-use Rattle.naga_ir.specs.declared.operators.BinaryOperator.TheVariants as operator
 use Rattle.shader_runs.specs.Program.{Function, local_count}
 use Rattle.shader_runs.specs.Scope.{Standing, Handles, usable_as, usable_if, at_start, before_local, first_values_fit}
 use Rattle.shader_runs.proofs.Update.{and_left, and_right, and_both}
-use Rattle.module_meaning.specs.Shapes.{expression_shape, binary_shape, function_shape}
+use Rattle.module_meaning.specs.Applications.{Application, application_of}
+use Rattle.module_meaning.specs.Shapes.{application_shape, expression_shape, function_shape}
+use Rattle.module_meaning.proofs.Shapes.{application_any, operator_any}
 use Rattle.naga_scope.specs.Standings.{names_earlier, is_earlier}
 
 -- each local with its index: its first value is in scope where it stands
@@ -52,16 +52,19 @@ module _ (types : List Type_) (f : ir_function.Function) (es : List ExpressionIn
   fewer : local_count (before_local shape i) ≡ min i (local_count shape)
   fewer = length-take i shape.first_values
 
+  -- an operator is in scope where it stands, whatever locals there are
+  usable_applied : (o : Option Application) (s : Standing) → usable_as shape (Some (application_shape o)) s ≡ usable_as (before_local shape i) (Some (application_shape o)) s
+  usable_applied o s =
+      application_any (λ e. usable_as shape (Some e) s ≡ usable_as (before_local shape i) (Some e) s) refl o
+      (λ a is. operator_any (λ e. usable_as shape (Some e) s ≡ usable_as (before_local shape i) (Some e) s) a.operator a.operands (λ j l r. refl) refl)
+
   usable_shape : (e : Option ir.Expression) (s : Standing) → (usable_as shape (option_map expression_shape e) s && names_earlier i e) ≡ usable_as (before_local shape i) (option_map expression_shape e) s
   usable_shape None s = refl
   usable_shape (Some (expression.LocalVariable other)) s = below_both other i (local_count shape) ∙ ap (nat_lt other) (sym fewer)
-  usable_shape (Some (expression.Binary op left right)) s = by op
-    where
-      by : (op : BinaryOperator) → (usable_as shape (Some (binary_shape op left right)) s && true) ≡ usable_as (before_local shape i) (Some (binary_shape op left right)) s
-      by operator.LogicalAnd = and_true _
-      by operator.LogicalOr = and_true _
-      by _ = and_true _
-  usable_shape (Some _) s = and_true _
+  usable_shape (Some (expression.Literal value)) s = refl
+  usable_shape (Some (expression.FunctionArgument number)) s = and_true _
+  usable_shape (Some (expression.Load pointer)) s = and_true _
+  usable_shape (Some e) s = and_true (usable_as shape (Some (application_shape (application_of e))) s) ∙ usable_applied (application_of e) s
 
   -- what is in scope in front of a local is in scope at the start, and no later local
   pub usable_before : (s : Handles) (o : Option ℕ) → (usable_if shape s o && is_earlier f.expressions i o) ≡ usable_if (before_local shape i) s o

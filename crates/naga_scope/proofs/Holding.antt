@@ -8,7 +8,6 @@ use Rattle.std.proofs.lemmas.List.{drop_all}
 use Rattle.module_meaning.specs.Part.{names_nothing}
 use Rattle.naga_ir.specs.StatementTree.{StatementTree, simple, BlockTree, no_statements, statement}
 use Rattle.naga_ir.specs.StatementViews.{tree_of, block_of}
-use Rattle.naga_ir.specs.declared.expression.Expression.TheVariants as expression
 use Rattle.naga_ir.specs.declared.module.Function as ir_function
 use Rattle.naga_ir.specs.declared.module.FunctionResult.{FunctionResult}
 use Rattle.naga_ir.specs.declared.module.LocalVariable.{LocalVariable}
@@ -17,31 +16,16 @@ use Rattle.naga_ir.specs.declared.statement.Statement.{Statement}
 use Rattle.naga_ir.specs.declared.statement.Statement.TheVariants as statement_variant
 use Rattle.naga_ir.specs.declared.types.Type_.{Type_}
 use Rattle.module_meaning.specs.Accepted.{statement_fits, block_fits, function_fits}
-use Rattle.naga_ir.specs.declared.operators.BinaryOperator.{BinaryOperator}
 use Rattle.naga_info.specs.declared.info.ExpressionInfo.{ExpressionInfo}
-use Rattle.module_meaning.proofs.Accepting.{load_word_at, binary_at}
 use Rattle.module_meaning.proofs.Fitting.{drop_first, item_at}
 use Rattle.naga_names.specs.Keys.{NameMap}
 use Rattle.shader_runs.specs.Program.{Function, operands_of}
 use Rattle.shader_runs.specs.Premises.{AllBelow}
 use Rattle.shader_runs.specs.Scope.{Naming, Handles, after, fits, fits_all, fits_function}
-use Rattle.module_meaning.specs.Shapes.{binary_shape, statement_shape, statements_shape, function_shape, function_shapes, function_naming, namings_from, OperandsStandBefore}
+use Rattle.module_meaning.specs.Shapes.{statement_shape, statements_shape, function_shape, function_shapes, function_naming, namings_from, OperandsStandBefore}
 use Rattle.naga_form.proofs.Fits.{none_given_by}
 use Rattle.naga_scope.specs.Flat.{holds_no_block, is_flat}
-use Rattle.naga_scope.proofs.Shaped.{operator_operands}
 use Rattle.naga_scope.proofs.Emitting.{no_and}
-
--- ---- operands stand before what they are of
--- as in each accepted function
-pub ordered_function : (types : List Type_) (f : ir_function.Function) (es : List ExpressionInfo) → function_fits types f es ≡ true → OperandsStandBefore f.expressions
-ordered_function types f es fits h (expression.Load q) at = let l = load_word_at types f es h q fits at in (l.1, tt)
-ordered_function types f es fits h (expression.Binary op left right) at =
-    let o = binary_at types f es h op left right fits at in
-    both op o.left_before o.right_before
-  where
-    both : (op : BinaryOperator) → left < h → right < h → AllBelow h (operands_of (Some (binary_shape op left right)))
-    both op a b = subst (AllBelow h) (sym (operator_operands op left right)) (a, (b, tt))
-ordered_function types f es fits h _ at = tt
 
 -- ---- first values
 pub first_values_listed : (n : ℕ) (ls : List LocalVariable) → map (λ p. p.1.init) (enumerate_from n ls) ≡ map (λ l. l.init) ls

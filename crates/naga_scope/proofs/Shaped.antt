@@ -1,53 +1,52 @@
 -- The shapes of a function's expressions, and what is not named in it.
 use Rattle.std.proofs.Common.{◌≡◌, ◌≢◌, ℕ, ◌&&◌, ◌||◌, Bool, true, false, List, [], ◌∷◌, map, get_or, nat_le, Option, Some, None, refl, sym, ap, ◌∙◌}
 use Rattle.std.specs.Prelude.{IsTrue, slice_get}
-use Rattle.std.specs.Option.{option_map}
+use Rattle.std.specs.Option.{is_some, option_map, option_map_or}
 use Rattle.std.proofs.lemmas.Option.{slice_get-map}
 use Rattle.module_meaning.specs.Part.{names_nothing}
 use Rattle.naga_ir.specs.declared.expression.Expression as ir
 use Rattle.naga_ir.specs.declared.expression.Expression.TheVariants as expression
 use Rattle.naga_ir.specs.declared.module.Function as ir_function
-use Rattle.naga_ir.specs.declared.operators.BinaryOperator.{BinaryOperator}
-use Rattle.naga_ir.specs.declared.operators.BinaryOperator.TheVariants.{LogicalAnd, LogicalOr}
 use Rattle.naga_ir.specs.declared.types.Type_.{Type_}
 use Rattle.naga_info.specs.declared.info.ExpressionInfo.{ExpressionInfo}
-use Rattle.shader_runs.specs.Program.{Function, operands_of, expression_of, is_counted, binds_as, binds}
-use Rattle.shader_runs.specs.Scope.{Standing, Handles, is_present, usable_as, usable, usable_all, is_pure, is_constant_leaf, is_emittable}
-use Rattle.module_meaning.specs.Shapes.{binary_shape, expression_shape, function_shape}
+use Rattle.naga_back.specs.Baking.{count_to_bind}
+use Rattle.shader_runs.specs.Program.{Expression, Load, Operator, Access, AccessIndex, Logical}
+use Rattle.shader_runs.specs.Program.{Swizzle, Request}
+use Rattle.shader_runs.specs.Program.{Function, expression_of, is_counted, binds_as, binds}
+use Rattle.shader_runs.specs.Scope.{is_emittable}
+use Rattle.naga_ir.specs.Operands.{expression_operands}
+use Rattle.module_meaning.specs.Applications.{operator_of}
+use Rattle.module_meaning.specs.OperatorTable.{Operator as TableOperator}
+use Rattle.module_meaning.specs.Shapes.{application_shape, expression_shape, function_shape}
+use Rattle.module_meaning.proofs.ShapeKinds.{applied}
+use Rattle.module_meaning.proofs.Shapes.{operator_bound}
 use Rattle.naga_form.proofs.Fits.{none_is_given}
 
--- ---- operators
-pub pure_operator : (op : BinaryOperator) (l r : ℕ) → is_pure (Some (binary_shape op l r)) ≡ true
-pure_operator LogicalAnd l r = refl
-pure_operator LogicalOr l r = refl
-pure_operator _ l r = refl
-
-pub emittable_operator : (op : BinaryOperator) (l r : ℕ) → is_emittable (Some (binary_shape op l r)) ≡ true
-emittable_operator LogicalAnd l r = refl
-emittable_operator LogicalOr l r = refl
-emittable_operator _ l r = refl
-
-pub no_leaf_operator : (op : BinaryOperator) (l r : ℕ) → is_constant_leaf (Some (binary_shape op l r)) ≡ false
-no_leaf_operator LogicalAnd l r = refl
-no_leaf_operator LogicalOr l r = refl
-no_leaf_operator _ l r = refl
-
-pub operator_operands : (op : BinaryOperator) (l r : ℕ) → operands_of (Some (binary_shape op l r)) ≡ l ∷ r ∷ []
-operator_operands LogicalAnd l r = refl
-operator_operands LogicalOr l r = refl
-operator_operands _ l r = refl
-
-pub operator_bound : (f : Function) (h : ℕ) (op : BinaryOperator) (l r : ℕ) → binds_as f h (Some (binary_shape op l r)) ≡ is_counted f 2 h
-operator_bound f h LogicalAnd l r = refl
-operator_bound f h LogicalOr l r = refl
-operator_bound f h _ l r = refl
-
-pub operator_usable : (f : Function) (op : BinaryOperator) (l r : ℕ) (s : Standing) → usable_as f (Some (binary_shape op l r)) s ≡ is_present s
-operator_usable f LogicalAnd l r s = refl
-operator_usable f LogicalOr l r s = refl
-operator_usable f _ l r s = refl
-
 -- ---- what a `let` binds
+never_bound : (f : Function) (h : ℕ) (o : Option Expression) → is_emittable o ≡ false →
+    binds_as f h o ≡ false
+never_bound f h (Some (Load p)) none = absurd cc
+never_bound f h (Some (Request a w xs es)) none = absurd cc
+never_bound f h (Some (Operator w xs)) none = absurd cc
+never_bound f h (Some (Logical j l r)) none = absurd cc
+never_bound f h (Some (Swizzle w v)) none = absurd cc
+never_bound f h (Some (Access b i)) none = absurd cc
+never_bound f h (Some (AccessIndex x b)) none = absurd cc
+never_bound f h (Some _) none = refl
+never_bound f h None none = refl
+
+-- what applies an operator is bound from two uses on
+applied_count : (e : ir.Expression) → is_some (operator_of e) ≡ true → count_to_bind e ≡ 2
+applied_count e is = by e (operator_of e) refl is
+  where
+    each : (e : ir.Expression) → option_map_or (λ op. count_to_bind e) (operator_of e) 2 ≡ 2
+    each (expression.Binary op left right) = refl
+    each _ = refl
+
+    by : (e : ir.Expression) (o : Option TableOperator) → operator_of e ≡ o → is_some o ≡ true → count_to_bind e ≡ 2
+    by e (Some op) at is = sym (ap (λ o. option_map_or (λ op. count_to_bind e) o 2) at) ∙ each e
+    by e None at is = absurd cc
+
 module _ (types : List Type_) (f : ir_function.Function) (es : List ExpressionInfo) (h : ℕ) (unnamed : IsTrue (names_nothing f)) where
   abbrev shape : Function
   shape = function_shape types f es
@@ -62,34 +61,30 @@ module _ (types : List Type_) (f : ir_function.Function) (es : List ExpressionIn
   shape_of : (o : Option ir.Expression) → slice_get f.expressions h ≡ o → expression_of shape h ≡ option_map expression_shape o
   shape_of o at = slice_get-map expression_shape f.expressions h ∙ ap (option_map expression_shape) at
 
-  pub load_binds : (pointer : ℕ) → slice_get f.expressions h ≡ Some (expression.Load pointer) → nat_le 1 count ≡ binds shape h
-  load_binds pointer at = sym (ap (binds_as shape h) (shape_of (Some (expression.Load pointer)) at) ∙ counted_from 1)
+  applied_binds : (e : ir.Expression) (o : Option TableOperator) → operator_of e ≡ o →
+      is_emittable (Some (application_shape (option_map (applied (expression_operands e)) o))) ≡ true →
+      nat_le (count_to_bind e) count ≡ binds_as shape h (Some (application_shape (option_map (applied (expression_operands e)) o)))
+  applied_binds e (Some op) is may =
+      ap (λ n. nat_le n count) (applied_count e (ap is_some is)) ∙ sym (operator_bound shape h op (expression_operands e) ∙ counted_from 2)
+  applied_binds e None is may = absurd cc
 
-  pub binary_binds : (op : BinaryOperator) (left right : ℕ) → slice_get f.expressions h ≡ Some (expression.Binary op left right) → nat_le 2 count ≡ binds shape h
-  binary_binds op left right at = sym (ap (binds_as shape h) (shape_of (Some (expression.Binary op left right)) at) ∙ operator_bound shape h op left right ∙ counted_from 2)
+  -- what an Emit may give is bound from its number of uses on
+  pub emitted_binds : (e : ir.Expression) → slice_get f.expressions h ≡ Some e →
+      is_emittable (Some (expression_shape e)) ≡ true →
+      nat_le (count_to_bind e) count ≡ binds shape h
+  emitted_binds (expression.Literal value) at may = absurd cc
+  emitted_binds (expression.FunctionArgument number) at may = absurd cc
+  emitted_binds (expression.LocalVariable handle) at may = absurd cc
+  emitted_binds (expression.Load pointer) at may =
+      sym (ap (binds_as shape h) (shape_of (Some (expression.Load pointer)) at) ∙ counted_from 1)
+  emitted_binds e at may =
+      applied_binds e (operator_of e) refl may ∙ sym (ap (binds_as shape h) (shape_of (Some e) at))
 
-  pub none_binds : slice_get f.expressions h ≡ None → false ≡ binds shape h
-  none_binds at = sym (ap (binds_as shape h) (shape_of None at))
-
-  pub other_binds : (e : ir.Expression) → slice_get f.expressions h ≡ Some e → ((p : ℕ) → e ≢ expression.Load p) → ((op : BinaryOperator) (l r : ℕ) → e ≢ expression.Binary op l r) → false ≡ binds shape h
-  other_binds e at no_load no_binary = sym (ap (binds_as shape h) (shape_of (Some e) at) ∙ by e no_load no_binary)
-    where
-      by : (e : ir.Expression) → ((p : ℕ) → e ≢ expression.Load p) → ((op : BinaryOperator) (l r : ℕ) → e ≢ expression.Binary op l r) → binds_as shape h (Some (expression_shape e)) ≡ false
-      by (expression.Load p) n m = absurd (n p refl)
-      by (expression.Binary op l r) n m = absurd (m op l r refl)
-      by _ n m = refl
-
--- ---- operands in scope
-and_true : (b : Bool) → (b && true) ≡ b
-and_true true = refl
-and_true false = refl
-
-module _ (f : Function) (s : Handles) where
-  pub load_usable : (pointer : ℕ) → usable f s pointer ≡ usable_all f s (operands_of (Some (expression_shape (expression.Load pointer))))
-  load_usable pointer = sym (and_true (usable f s pointer))
-
-  pub binary_usable : (op : BinaryOperator) (left right : ℕ) → (usable f s left && usable f s right) ≡ usable_all f s (operands_of (Some (expression_shape (expression.Binary op left right))))
-  binary_usable op left right = sym (ap (usable_all f s) (operator_operands op left right) ∙ ap (λ b. usable f s left && b) (and_true (usable f s right)))
+  -- and nothing else is
+  pub others_bind : (o : Option ir.Expression) → slice_get f.expressions h ≡ o →
+      is_emittable (option_map expression_shape o) ≡ false → false ≡ binds shape h
+  others_bind o at none =
+      sym (ap (binds_as shape h) (shape_of o at) ∙ never_bound shape h (option_map expression_shape o) none)
 
 -- what an expression that was found evaluates
 pub shape_found : {X : Type 0} (view : X → ir.Expression) (o : Option X) (found : Option ir.Expression) → option_map view o ≡ found → option_map (λ x. expression_shape (view x)) o ≡ option_map expression_shape found

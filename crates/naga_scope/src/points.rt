@@ -3,17 +3,22 @@
 ghost use Rattle.std.specs.Prelude.{◌≡◌, ◌&&◌, ◌^◌, ℕ, List, length, nat_le, get_or, IsTrue, IfOk, Some};
 ghost use Rattle.std.specs.Option.{option_map};
 ghost use Rattle.module_meaning.specs.Part.{names_nothing};
-ghost use Rattle.module_meaning.specs.Shapes.{expression_shape, function_shape, function_naming, OperandsStandBefore};
+ghost use Rattle.module_meaning.specs.Shapes.{expression_shape, function_shape};
+ghost use Rattle.module_meaning.specs.Shapes.{function_naming, OperandsStandBefore};
 ghost use Rattle.naga_info.specs.declared.info.ExpressionInfo.{ExpressionInfo};
+ghost use Rattle.naga_ir.specs.Operands.{expression_operands};
 ghost use Rattle.naga_ir.specs.declared.types.Type_.{Type_};
 ghost use Rattle.naga_names.specs.Keys.{NameMap};
 ghost use Rattle.shader_runs.specs.Program.{operands_of};
-ghost use Rattle.shader_runs.specs.Scope.{all_constant, at_start, after_one, is_constant_leaf, is_emittable, is_new, is_present, is_pure, may_emit, usable, usable_all};
-ghost use Rattle.naga_scope.specs.Standings.{emitted_standing, first_standing, handles_of, is_constant_by, standing_of, unbound_standing};
+ghost use Rattle.shader_runs.specs.Scope.{all_constant, at_start, after_one, is_constant_leaf};
+ghost use Rattle.shader_runs.specs.Scope.{is_new, is_present, is_pure, may_emit};
+ghost use Rattle.shader_runs.specs.Scope.{usable, usable_all};
+ghost use Rattle.naga_scope.specs.Standings.{emitted_standing, first_standing, handles_of};
+ghost use Rattle.naga_scope.specs.Standings.{is_constant_by, standing_of, unbound_standing};
 
-use crate::binding::{binds, expression_at};
+use crate::binding::{binds, expression_at, is_emittable, shape_kind};
 use naga_info::FunctionInfo;
-use naga_ir::{Expression, Function, Handle, Place};
+use naga_ir::{Expression, ExpressionKind, Function, Handle, Place};
 use std::alloc::{AllocError, Global};
 use std::marker::Model;
 
@@ -99,30 +104,14 @@ impl Model for Scope {
 fn is_literal(expression: Option<&Expression>) -> bool
     ensures { result ≡ is_constant_leaf (option_map (λ e. expression_shape e.now) expression.entry) }
 {
-    match expression {
-        Some(Expression::Literal(_)) => true,
-        _ => false,
-    }
+    shape_kind(expression) == ExpressionKind::Constant
 }
 
 /// Whether the expression is an operator.
 fn is_operator(expression: Option<&Expression>) -> bool
     ensures { result ≡ is_pure (option_map (λ e. expression_shape e.now) expression.entry) }
 {
-    match expression {
-        Some(Expression::Binary { .. }) => true,
-        _ => false,
-    }
-}
-
-/// Whether an `Emit` may give the expression at all.
-fn is_emittable(expression: Option<&Expression>) -> bool
-    ensures { result ≡ is_emittable (option_map (λ e. expression_shape e.now) expression.entry) }
-{
-    match expression {
-        Some(Expression::Load { .. } | Expression::Binary { .. }) => true,
-        _ => false,
-    }
+    shape_kind(expression) == ExpressionKind::Pure
 }
 
 /// The cell of this handle, by a table of all handles up to some.
@@ -144,19 +133,34 @@ fn is_constant(standings: &[Standing], function: &Function, handle: Handle<Expre
         || standing_at(standings, handle) == Standing::Everywhere
 }
 
+/// Whether each operand of the expression is a literal, or one that the table has in scope everywhere.
+fn has_constant_operands(
+    standings: &[Standing],
+    function: &Function,
+    expression: &Expression,
+) -> bool
+    ensures { result ≡ all_constant (is_constant_by standings.now function.now.expressions)
+        (expression_operands expression.now) }
+{
+    for operand in expression.operands() {
+        if !is_constant(standings, function, operand) {
+            return false;
+        }
+    }
+    true
+}
+
 /// The cell of an expression at the start of the function, by those of its operands.
 fn first_standing(standings: &[Standing], function: &Function, expression: &Expression) -> Standing
-    ensures { let shape = expression_shape expression.now in result ≡ first_standing (is_pure (Some shape) && all_constant (is_constant_by standings.now function.now.expressions) (operands_of (Some shape))) }
+    ensures { let shape = expression_shape expression.now in result ≡ first_standing
+        (is_pure (Some shape)
+        && all_constant (is_constant_by standings.now function.now.expressions)
+            (operands_of (Some shape))) }
 {
-    match expression {
-        Expression::Binary { left, right, .. } => {
-            if is_constant(standings, function, *left) && is_constant(standings, function, *right) {
-                Standing::Everywhere
-            } else {
-                Standing::Absent
-            }
-        }
-        _ => Standing::Absent,
+    if is_operator(Some(expression)) && has_constant_operands(standings, function, expression) {
+        Standing::Everywhere
+    } else {
+        Standing::Absent
     }
 }
 
@@ -204,16 +208,29 @@ impl Scope {
     }
 
     /// Whether each operand of the expression is in scope here.
+    fn are_usable(&self, function: &Function, expression: &Expression) -> bool
+        ensures { (types : List Type_) (es : List ExpressionInfo) →
+            result ≡ usable_all (function_shape types function.now es) (handles_of self.now)
+            (expression_operands expression.now) }
+    {
+        for operand in expression.operands() {
+            if !self.is_usable(function, operand) {
+                return false;
+            }
+        }
+        true
+    }
+
+    /// Whether each operand of what the expression evaluates is in scope here.
     fn has_operands(&self, function: &Function, expression: Option<&Expression>) -> bool
-        ensures { (types : List Type_) (es : List ExpressionInfo) → result ≡ usable_all (function_shape types function.now es) (handles_of self.now) (operands_of (option_map (λ e. expression_shape e.now) expression.entry)) }
+        ensures { (types : List Type_) (es : List ExpressionInfo) →
+            result ≡ usable_all (function_shape types function.now es) (handles_of self.now)
+            (operands_of (option_map (λ e. expression_shape e.now) expression.entry)) }
     {
         match expression {
-            Some(expression) => match expression {
-                Expression::Load { pointer } => self.is_usable(function, *pointer),
-                Expression::Binary { left, right, .. } => {
-                    self.is_usable(function, *left) && self.is_usable(function, *right)
-                }
-                _ => true,
+            Some(known) => match shape_kind(expression) {
+                ExpressionKind::Result => true,
+                _ => self.are_usable(function, known),
             },
             None => true,
         }

@@ -1,44 +1,52 @@
 -- The text of an expression by its kind and by where it stands, and from what is written of it in turn.
-use Rattle.std.proofs.Common.{◌≡◌, ℕ, zero, suc, ◌<◌, false, List, length, Option, Some, None, codes, refl, sym, ap, ◌∙◌, subst, arith, get_or}
+use Rattle.std.proofs.Common.{◌≡◌, ℕ, zero, suc, ◌<◌, false, List, [], ◌∷◌, length, Option, Some, None, codes, refl, sym, ap, ◌∙◌, subst, arith, get_or}
 use Rattle.std.specs.Prelude.{slice_get}
 use Rattle.naga_ir.specs.declared.expression.Expression as ir
 use Rattle.naga_ir.specs.declared.expression.Expression.TheVariants as expression
 use Rattle.naga_ir.specs.declared.operators.BinaryOperator as ir_operator
-use Rattle.naga_ir.specs.declared.operators.BinaryOperator.TheVariants as operator
 use Rattle.shader_runs.specs.Program.{operands_of}
 use Rattle.shader_runs.specs.Premises.{AllBelow}
 use Rattle.shader_runs.specs.Scope.{Handles, Naming}
 use Rattle.wgsl_words.specs.Words.{operator_text}
 use Rattle.naga_form.proofs.Operators.{operator_row}
 use Rattle.module_meaning.specs.Names.{numbered_name}
-use Rattle.naga_form.specs.Operators.{operator_form}
-use Rattle.module_meaning.specs.Shapes.{expression_shape, OperandsStandBefore}
-use Rattle.naga_form.specs.Form.{PlainForm, ValueForm, as_value, as_reference, own_plain, own_if, standing_plain, plain_below, plain_form, value_form}
+use Rattle.module_meaning.specs.Applications.{Application, application_of}
+use Rattle.naga_form.specs.Operators.{Infix, applied_form, notation, operator_form}
+use Rattle.module_meaning.specs.Shapes.{application_shape, expression_shape, OperandsStandBefore}
+use Rattle.naga_form.specs.Form.{PlainForm, ValueForm, as_value, as_reference, value_forms, application_plain, own_plain, own_if, standing_plain, plain_below, plain_form, value_form}
 use Rattle.naga_scope.specs.Standings.{handles_of, standing_of}
 use Rattle.naga_scope.specs.declared.points.Standing.{Standing}
 use Rattle.naga_scope.specs.declared.points.Standing.TheVariants.{Absent, Barred, Everywhere, Inline, Named}
-use Rattle.naga_scope.proofs.Shaped.{operator_operands}
+use Rattle.module_meaning.proofs.Shapes.{operator_operands}
 use Rattle.naga_words.specs.Output.{joined}
 use Rattle.naga_wgsl_fns.specs.Literals.{literal_text}
-use Rattle.wgsl_text.specs.Tree.{Binary, Constant, Dereference, Name, Truth}
-use Rattle.wgsl_text.specs.Pieces.{binary_pieces}
+use Rattle.wgsl_text.specs.Tree.{Constant, Dereference, Name, Truth}
 use Rattle.wgsl_text.specs.Reading.{expression_layout}
-use Rattle.wgsl_text.specs.Text.{text}
 use Rattle.wgsl_text.proofs.RowText.{address_text as address_row_text, binary_text as binary_row_text, dereference_text, name_text}
 use Rattle.naga_wgsl_fns.specs.declared.functions.FunctionText.{FunctionText}
 use Rattle.naga_wgsl_fns.specs.FunctionText.{CanWrite, expressions, naming}
 use Rattle.naga_wgsl_fns.specs.Names.{name_of_argument, name_of_local}
-use Rattle.naga_wgsl_fns.specs.Expressions.{address_text, binary_text, own_form, own_text, pointed_text, reference_text, value_text}
+use Rattle.naga_wgsl_fns.specs.Expressions.{address_text, applied_text, own_form, own_text, pointed_text, reference_text, value_text}
 use Rattle.naga_wgsl_fns.proofs.Wanted.{ordered}
 
 -- ---- a handle's form by its operands' forms, where operands stand before it
 module _ (n : Naming) (es : List ir.Expression) (before : OperandsStandBefore es) (s : Handles) where
+  operands_same : (a b : ℕ → PlainForm) (h : ℕ) (hs : List ℕ) → AllBelow h hs → ((x : ℕ) → x < h → a x ≡ b x) → value_forms a hs ≡ value_forms b hs
+  operands_same a b h [] below same = refl
+  operands_same a b h (x ∷ xs) below same = λ i. as_value (same x below.0 i) ∷ operands_same a b h xs below.1 same i
+
+  application_same : (a b : ℕ → PlainForm) (h : ℕ) (o : Option Application) → AllBelow h (operands_of (Some (application_shape o))) → ((x : ℕ) → x < h → a x ≡ b x) → application_plain a o ≡ application_plain b o
+  application_same a b h None below same = refl
+  application_same a b h (Some applied) below same =
+      let each = subst (AllBelow h) (operator_operands applied.operator applied.operands) below in
+      ap (λ es. ValueForm (applied_form (notation applied.operator) es)) (operands_same a b h applied.operands each same)
+
   own_same : (a b : ℕ → PlainForm) (h : ℕ) (e : ir.Expression) → AllBelow h (operands_of (Some (expression_shape e))) → ((x : ℕ) → x < h → a x ≡ b x) → own_plain n a e ≡ own_plain n b e
   own_same a b h (expression.Load p) below same = ap (λ q. ValueForm (as_reference q)) (same p below.0)
-  own_same a b h (expression.Binary op l r) below same =
-      let two = subst (AllBelow h) (operator_operands op l r) below in
-      λ i. ValueForm (Binary (as_value (same l two.0 i)) (operator_form op) (as_value (same r two.1.0 i)))
-  own_same a b h _ below same = refl
+  own_same a b h (expression.Literal value) below same = refl
+  own_same a b h (expression.FunctionArgument number) below same = refl
+  own_same a b h (expression.LocalVariable handle) below same = refl
+  own_same a b h e below same = application_same a b h (application_of e) below same
 
   own_if_same : (a b : ℕ → PlainForm) (h : ℕ) (o : Option ir.Expression) → slice_get es h ≡ o → ((x : ℕ) → x < h → a x ≡ b x) → own_if n a o ≡ own_if n b o
   own_if_same a b h None at same = refl
@@ -82,17 +90,22 @@ value_row f table handle can lt = ap (λ form. expression_layout (as_value form)
     by Everywhere = refl
     by Inline = refl
 
+-- what is applied, in its notation
+abbrev pub application_at : FunctionText → (table : List Standing) → Option Application → List ℕ
+application_at f table (Some applied) = applied_text f table (notation applied.operator) applied.operands
+application_at f table None = expression_layout (Constant (Truth false))
+
 -- what an expression is made of, by its kind
 abbrev pub own_at : FunctionText → (table : List Standing) → Option ir.Expression → List ℕ
 own_at f table (Some (expression.Literal value)) = literal_text value
 own_at f table (Some (expression.FunctionArgument number)) = name_of_argument f number
 own_at f table (Some (expression.LocalVariable local)) = address_text f local
 own_at f table (Some (expression.Load pointer)) = reference_text f table pointer
-own_at f table (Some (expression.Binary op left right)) = binary_text f table op left right
-own_at f table _ = expression_layout (Constant (Truth false))
+own_at f table (Some e) = application_at f table (application_of e)
+own_at f table None = expression_layout (Constant (Truth false))
 
 pub own_row : (f : FunctionText) (table : List Standing) (handle : ℕ) → own_text f table handle ≡ own_at f table (slice_get (expressions f) handle)
-unfolding own_text literal_text name_of_argument address_text reference_text binary_text
+unfolding own_text literal_text name_of_argument address_text reference_text applied_text
 own_row f table handle = by (slice_get (expressions f) handle)
   where
     by : (e : Option ir.Expression) → expression_layout (as_value (own_if (naming f) (plain_form (naming f) (expressions f) (handles_of table)) e)) ≡ own_at f table e
@@ -140,10 +153,10 @@ reference_row f table handle can lt =
     by Everywhere = kind e
     by Inline = kind e
 
-pub binary_row : (f : FunctionText) (table : List Standing) (op : ir_operator.BinaryOperator) (left right : ℕ)
-    → binary_text f table op left right ≡ joined (codes "(") (joined (value_text f table left) (joined (codes " ") (joined (operator_text op) (joined (codes " ") (joined (value_text f table right) (codes ")"))))))
-unfolding binary_text value_text joined
-binary_row f table op left right =
+pub infix_row : (f : FunctionText) (table : List Standing) (op : ir_operator.BinaryOperator) (left right : ℕ)
+    → applied_text f table (Infix (operator_form op)) (left ∷ right ∷ []) ≡ joined (codes "(") (joined (value_text f table left) (joined (codes " ") (joined (operator_text op) (joined (codes " ") (joined (value_text f table right) (codes ")"))))))
+unfolding applied_text value_text joined
+infix_row f table op left right =
     let form = value_form (naming f) (expressions f) (handles_of table) in
     binary_row_text (form left) (operator_form op) (form right)
     ∙ ap (λ w. joined (codes "(") (joined (expression_layout (form left)) (joined (codes " ") (joined w (joined (codes " ") (joined (expression_layout (form right)) (codes ")"))))))) (sym (operator_row op))

@@ -29,11 +29,13 @@ use Rattle.naga_form.specs.TypeTrees.{resolution_tree}
 use Rattle.wgsl_text.specs.Reading.{type_layout}
 use Rattle.wgsl_text.specs.Tree.{Named}
 use Rattle.module_meaning.proofs.Part.{written_parts}
+use Rattle.module_meaning.specs.Applications.{Application, application_of}
+use Rattle.shader_runs.specs.Premises.{AllBelow}
 use Rattle.module_meaning.specs.Spelled.{literal_word, word_at, spelling_of, local_pointer}
 use Rattle.module_meaning.specs.Accepted.{is_below, expected_type, local_fits, statement_fits, return_fits, block_fits}
 use Rattle.module_meaning.specs.Part.{names_nothing}
 use Rattle.naga_info.proofs.Options.{then_some}
-use Rattle.module_meaning.proofs.Accepting.{list_all_at, scalar_types_word_at, function_fits_signature, function_fits_locals, function_fits_block, function_fits_length, function_fits_word_at, local_fits_parts, value_fits_word, local_word_at, load_word_at, binary_at, store_fits_word, local_first_word}
+use Rattle.module_meaning.proofs.Accepting.{list_all_at, scalar_types_word_at, function_fits_signature, function_fits_locals, function_fits_block, function_fits_length, function_fits_word_at, local_fits_parts, value_fits_word, local_word_at, load_word_at, applied_at, store_fits_word, local_first_word}
 use Rattle.naga_names.proofs.Counts.{element}
 use Rattle.naga_wgsl_fns.specs.declared.functions.FunctionText.{FunctionText}
 use Rattle.naga_wgsl_fns.specs.FunctionText.{CanWrite, naming, tells_types}
@@ -119,8 +121,8 @@ module _ (t : FunctionText) (can : CanWrite t) where
   pub pointer_before : (h : ℕ) (e : Expression) (p : ℕ) → slice_get f.expressions h ≡ Some e → e ≡ expression.Load p → p < h
   pointer_before h e p here is = (load_word_at m.types f es h p can.fits (here ∙ ap Some is)).1
 
-  pub operands_before : (h : ℕ) (e : Expression) (op : BinaryOperator) (l r : ℕ) → slice_get f.expressions h ≡ Some e → e ≡ expression.Binary op l r → (l < h) × (r < h)
-  operands_before h e op l r here is = let o = binary_at m.types f es h op l r can.fits (here ∙ ap Some is) in (o.left_before, o.right_before)
+  pub operands_before : (h : ℕ) (e : Expression) (a : Application) → slice_get f.expressions h ≡ Some e → application_of e ≡ Some a → AllBelow h a.operands
+  operands_before h e a here is = (applied_at m.types f es h e a can.fits here is).before
 
   -- no other expression has a type
   pub no_other_expression : (h : ℕ) (e : Expression) → slice_get f.expressions h ≡ Some e → ((value : ir_literal.Literal) → e ≡ expression.Literal value → ⊥) → ((n : ℕ) → e ≡ expression.FunctionArgument n → ⊥) → ((v : ℕ) → e ≡ expression.LocalVariable v → ⊥) → ((p : ℕ) → e ≡ expression.Load p → ⊥) → ((op : BinaryOperator) (l r : ℕ) → e ≡ expression.Binary op l r → ⊥) → ⊥

@@ -1,11 +1,10 @@
 -- The texts of expressions, by the table of what is in scope where they are written.
 use Rattle.std.specs.Prelude.{ℕ, List, slice_get}
-use Rattle.naga_ir.specs.declared.operators.BinaryOperator.{BinaryOperator}
-use Rattle.naga_form.specs.Form.{PlainForm, as_reference, as_value, own_if, plain_form}
-use Rattle.naga_form.specs.Operators.{operator_form}
+use Rattle.naga_form.specs.Form.{PlainForm, as_reference, as_value, own_if, plain_form, value_forms}
+use Rattle.naga_form.specs.Operators.{Notation, applied_form}
 use Rattle.naga_scope.specs.declared.points.Standing.{Standing}
 use Rattle.naga_scope.specs.Standings.{handles_of}
-use Rattle.wgsl_text.specs.Tree.{AddressOf, Binary, Dereference, Expression, Name}
+use Rattle.wgsl_text.specs.Tree.{AddressOf, Dereference, Name}
 use Rattle.wgsl_text.specs.Reading.{expression_layout}
 use Rattle.naga_wgsl_fns.specs.declared.functions.FunctionText.{FunctionText}
 use Rattle.naga_wgsl_fns.specs.FunctionText.{expressions, naming}
@@ -38,9 +37,8 @@ pointed_text f table handle = expression_layout (Dereference (as_value (form_at 
 unfoldable pub address_text : FunctionText → (local : ℕ) → List ℕ
 address_text f local = expression_layout (AddressOf (Name ((naming f).names.local_ local)))
 
--- an operator between two operands
-unfoldable pub binary_text : FunctionText → (table : List Standing) → BinaryOperator
-    → (left right : ℕ) → List ℕ
-binary_text f table op left right =
-    let operand : ℕ → Expression = λ handle. as_value (form_at f table handle) in
-    expression_layout (Binary (operand left) (operator_form op) (operand right))
+-- an operator in its notation
+unfoldable pub applied_text : FunctionText → (table : List Standing) → Notation
+    → (operands : List ℕ) → List ℕ
+applied_text f table notation operands =
+    expression_layout (applied_form notation (value_forms (form_at f table) operands))

@@ -1,9 +1,11 @@
 //! Expressions.
 
-ghost use Rattle.std.specs.Prelude.{◌<◌, length};
+ghost use Rattle.std.specs.Prelude.{[], ◌∷◌, ◌<◌, length};
+ghost use Rattle.naga_form.specs.Operators.{Infix, operator_form};
 ghost use Rattle.naga_words.specs.Output.{Writes};
 ghost use Rattle.naga_wgsl_fns.specs.FunctionText.{CanWrite};
-ghost use Rattle.naga_wgsl_fns.specs.Expressions.{address_text, binary_text, own_text, pointed_text, reference_text, value_text};
+ghost use Rattle.naga_wgsl_fns.specs.Expressions.{address_text, applied_text, own_text};
+ghost use Rattle.naga_wgsl_fns.specs.Expressions.{pointed_text, reference_text, value_text};
 
 use crate::functions::FunctionText;
 use crate::literal::write_literal;
@@ -53,7 +55,7 @@ impl FunctionText<'_> {
             Expression::LocalVariable(local) => self.write_address(*local, out),
             Expression::Load { pointer } => self.write_reference(scope, *pointer, out),
             Expression::Binary { op, left, right } => {
-                self.write_binary(scope, *op, *left, *right, out)
+                self.write_infix(scope, *op, *left, *right, out)
             }
             _ => unreachable!(),
         }
@@ -103,8 +105,8 @@ impl FunctionText<'_> {
 
     /// An operator between its operands.
     #[cycle(expression)]
-    #[tactic(auto, using(naga_words::proofs::Writing::writes_then, crate::proofs::ExpressionRows::binary_row))]
-    fn write_binary<W: TextSink>(
+    #[tactic(auto, using(naga_words::proofs::Writing::writes_then, crate::proofs::ExpressionRows::infix_row))]
+    fn write_infix<W: TextSink>(
         &self,
         scope: &Scope,
         op: BinaryOperator,
@@ -116,7 +118,7 @@ impl FunctionText<'_> {
         requires left { left < length self.now.function.now.expressions }
         requires right { right < length self.now.function.now.expressions }
         ensures { Writes W.text W.failures out.old out.new
-            (binary_text self.now scope.now op left right) }
+            (applied_text self.now scope.now (Infix (operator_form op)) (left ∷ right ∷ [])) }
     {
         out.put("(");
         self.write_value(scope, left, out);

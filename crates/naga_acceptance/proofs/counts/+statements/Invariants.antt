@@ -2,7 +2,7 @@ use Rattle.std.proofs.Common.{◌≡◌, ◌+◌, ◌*◌, ◌≤◌, drop}
 use Rattle.naga_ir.specs.StatementTree.{statement_size, block_size, cases_size}
 use Rattle.naga_ir.specs.StatementViews.{tree_of, block_of, cases_of}
 use Rattle.naga_acceptance.specs.Counts.{with_uses}
-use Rattle.naga_acceptance.specs.Operands.{block_operands, cases_operands}
+use Rattle.naga_ir.specs.Operands.{block_operands, cases_operands}
 use Rattle.naga_acceptance.proofs.counts.+statements.Given as goal
 
 abbrev pub decreases-add_statement_uses : goal.decreases-add_statement_uses

@@ -1,6 +1,6 @@
 use Rattle.std.proofs.Common.{ap, ◌∙◌, sym}
 use Rattle.std.specs.List.{flat_map}
-use Rattle.naga_acceptance.specs.Operands.{expression_operands}
+use Rattle.naga_ir.specs.Operands.{expression_operands}
 use Rattle.naga_acceptance.specs.Counts.{with_uses}
 use Rattle.naga_acceptance.proofs.Counting.{operands_of_pairs, with_uses_append}
 use Rattle.naga_acceptance.proofs.counts.add_function_uses.Goals as goal

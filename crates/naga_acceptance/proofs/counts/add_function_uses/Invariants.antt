@@ -1,6 +1,6 @@
 use Rattle.std.proofs.Common.{◌≡◌}
 use Rattle.std.specs.List.{flat_map}
-use Rattle.naga_acceptance.specs.Operands.{expression_operands}
+use Rattle.naga_ir.specs.Operands.{expression_operands}
 use Rattle.naga_acceptance.specs.Counts.{with_uses}
 use Rattle.naga_acceptance.proofs.counts.add_function_uses.Given as goal
 

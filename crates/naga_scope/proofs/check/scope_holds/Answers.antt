@@ -6,7 +6,8 @@ use Rattle.shader_runs.specs.Scope.{fits_function}
 use Rattle.module_meaning.proofs.Accepting.{accepted_functions_fit, functions_fit_length, functions_fit_at, function_fits_block, list_all_at}
 use Rattle.module_meaning.specs.Names.{module_names}
 use Rattle.module_meaning.specs.Shapes.{function_shapes, namings_from}
-use Rattle.naga_scope.proofs.Holding.{ordered_function, accepted_flat, functions_hold, functions_refused, functions_end, all_reversed, counted_more}
+use Rattle.naga_form.proofs.Fits.{ordered_at}
+use Rattle.naga_scope.proofs.Holding.{accepted_flat, functions_hold, functions_refused, functions_end, all_reversed, counted_more}
 use Rattle.naga_scope.proofs.check.scope_holds.Goals as goal
 use Rattle.naga_scope.proofs.check.scope_holds.Goals.{then-not-branch, else-not-branch}
 
@@ -23,7 +24,7 @@ function_holds-requires-clause-ordered c =
     let f = c.index-function.result.now in
     let found : slice_get m.functions c.loop-index.index ≡ Some f = rw (← c.from_index.ensures) c.index-function.ensures in
     let known = functions_fit_at m.types m.functions c.args.info.now.functions.items c.loop-index.index f (accepted_functions_fit m c.args.info.now c.requires.accepted) found in
-    ordered_function m.types f known.0 known.2
+    ordered_at m.types f known.0 known.2
 
 pub function_holds-requires-clause-flat : goal.function_holds-requires-clause-flat
 function_holds-requires-clause-flat c =

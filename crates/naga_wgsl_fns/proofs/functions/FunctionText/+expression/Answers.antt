@@ -1,4 +1,5 @@
-use Rattle.std.proofs.Common.{arith, ◌<◌, length}
+use Rattle.std.proofs.Common.{ap, arith, ◌<◌, length}
+use Rattle.module_meaning.specs.Applications.{application_of}
 use Rattle.naga_wgsl_fns.proofs.Wanted.{argument_within, literal_has_word, local_within, no_other_expression, operands_before, pointer_before}
 use Rattle.naga_wgsl_fns.proofs.functions.FunctionText.+expression.Goals as goal
 
@@ -20,11 +21,11 @@ write_own-write_reference-requires g t c κs within =
     let bound : c.args.handle < length c.args.self.now.function.now.expressions = c.requires.handle in
     (omega (arith, before, c.decreases), (within, (c.requires.can, omega (arith, before, bound))))
 
-pub write_own-write_binary-requires : goal.write_own-write_binary-requires
-write_own-write_binary-requires g t c κs within =
-    let before = operands_before c.args.self.now c.requires.can c.args.handle c.index.result.now c.in-Binary.op c.in-Binary.left c.in-Binary.right c.index.ensures c.in-Binary.is in
+pub write_own-write_infix-requires : goal.write_own-write_infix-requires
+write_own-write_infix-requires g t c κs within =
+    let before = operands_before c.args.self.now c.requires.can c.args.handle c.index.result.now _ c.index.ensures (ap application_of c.in-Binary.is) in
     let bound : c.args.handle < length c.args.self.now.function.now.expressions = c.requires.handle in
-    (omega (arith, before.0, before.1, c.decreases), (within, (c.requires.can, (omega (arith, before.0, bound), omega (arith, before.1, bound)))))
+    (omega (arith, before.0, before.1.0, c.decreases), (within, (c.requires.can, (omega (arith, before.0, bound), omega (arith, before.1.0, bound)))))
 
 pub write_own-unreachable-requires : goal.write_own-unreachable-requires
 write_own-unreachable-requires g t c =

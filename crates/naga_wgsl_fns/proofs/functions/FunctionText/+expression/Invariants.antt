@@ -14,5 +14,5 @@ decreases-write_dereference g l = 4 * l.handle + 2
 abbrev pub decreases-write_reference : goal.decreases-write_reference
 decreases-write_reference g l = 4 * l.handle + 3
 
-abbrev pub decreases-write_binary : goal.decreases-write_binary
-decreases-write_binary g l = 4 * max l.left l.right + 2
+abbrev pub decreases-write_infix : goal.decreases-write_infix
+decreases-write_infix g l = 4 * max l.left l.right + 2

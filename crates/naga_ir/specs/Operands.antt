@@ -1,19 +1,49 @@
--- The operand places of expressions and statements, each with the handle that it holds, in the order
--- of the fields. The result of a statement is no operand place, nor is the range of an `Emit`.
+-- The operand places of expressions and statements, each with the handle that it holds, in the
+-- order in which WGSL writes the operands. The result of a statement is no operand place, nor is an
+-- `Emit`'s range.
 use Rattle.std.specs.Prelude.{ℕ, List, [], ◌∷◌, ◌++◌}
 use Rattle.std.specs.Option.{option_to_list}
-use Rattle.naga_ir.specs.StatementTree.{SimpleStatement, emit, break, continue, return, kill, control_barrier, memory_barrier, store, image_store, atomic, image_atomic, work_group_uniform_load, call, ray_query, subgroup_ballot, subgroup_gather, subgroup_collective_operation, cooperative_store, ray_pipeline_function, StatementTree, simple, block, branch, switch, loop, BlockTree, no_statements, statement, CaseTrees, no_cases, case}
+use Rattle.naga_ir.specs.StatementTree.{SimpleStatement, emit, break, continue, return, kill}
+use Rattle.naga_ir.specs.StatementTree.{control_barrier, memory_barrier, store, image_store, atomic}
+use Rattle.naga_ir.specs.StatementTree.{image_atomic, work_group_uniform_load, call, ray_query}
+use Rattle.naga_ir.specs.StatementTree.{subgroup_ballot, subgroup_gather}
+use Rattle.naga_ir.specs.StatementTree.{subgroup_collective_operation, cooperative_store}
+use Rattle.naga_ir.specs.StatementTree.{ray_pipeline_function, StatementTree, simple, block, branch}
+use Rattle.naga_ir.specs.StatementTree.{switch, loop, BlockTree, no_statements, statement}
+use Rattle.naga_ir.specs.StatementTree.{CaseTrees, no_cases, case}
 use Rattle.naga_ir.specs.declared.expression.CooperativeData.{CooperativeData}
 use Rattle.naga_ir.specs.declared.expression.Expression.{Expression}
-use Rattle.naga_ir.specs.declared.expression.Expression.TheVariants.{Compose, Access, AccessIndex, Splat, Swizzle, Load, ImageSample, ImageLoad, ImageQuery, Unary, Binary, Select, Derivative, Relational, Math, As, ArrayLength, RayQueryGetIntersection, RayQueryVertexPositions, CooperativeLoad, CooperativeMultiplyAdd, Literal, Constant, Override, ZeroValue, FunctionArgument, GlobalVariable, LocalVariable, CallResult, AtomicResult, WorkGroupUniformLoadResult, RayQueryProceedResult, SubgroupBallotResult, SubgroupOperationResult}
+use Rattle.naga_ir.specs.declared.expression.Expression.TheVariants.{Compose, Access, AccessIndex}
+use Rattle.naga_ir.specs.declared.expression.Expression.TheVariants.{Splat, Swizzle, Load}
+use Rattle.naga_ir.specs.declared.expression.Expression.TheVariants.{ImageSample, ImageLoad}
+use Rattle.naga_ir.specs.declared.expression.Expression.TheVariants.{ImageQuery, Unary, Binary}
+use Rattle.naga_ir.specs.declared.expression.Expression.TheVariants.{Select, Derivative, Relational}
+use Rattle.naga_ir.specs.declared.expression.Expression.TheVariants.{Math, As, ArrayLength}
+use Rattle.naga_ir.specs.declared.expression.Expression.TheVariants.{RayQueryGetIntersection}
+use Rattle.naga_ir.specs.declared.expression.Expression.TheVariants.{RayQueryVertexPositions}
+use Rattle.naga_ir.specs.declared.expression.Expression.TheVariants.{CooperativeLoad}
+use Rattle.naga_ir.specs.declared.expression.Expression.TheVariants.{CooperativeMultiplyAdd}
+use Rattle.naga_ir.specs.declared.expression.Expression.TheVariants.{Literal, Constant, Override}
+use Rattle.naga_ir.specs.declared.expression.Expression.TheVariants.{ZeroValue, FunctionArgument}
+use Rattle.naga_ir.specs.declared.expression.Expression.TheVariants.{GlobalVariable, LocalVariable}
+use Rattle.naga_ir.specs.declared.expression.Expression.TheVariants.{CallResult, AtomicResult}
+use Rattle.naga_ir.specs.declared.expression.Expression.TheVariants.{WorkGroupUniformLoadResult}
+use Rattle.naga_ir.specs.declared.expression.Expression.TheVariants.{RayQueryProceedResult}
+use Rattle.naga_ir.specs.declared.expression.Expression.TheVariants.{SubgroupBallotResult}
+use Rattle.naga_ir.specs.declared.expression.Expression.TheVariants.{SubgroupOperationResult}
 use Rattle.naga_ir.specs.declared.expression.ImageQuery.{ImageQuery as Query}
-use Rattle.naga_ir.specs.declared.expression.ImageQuery.TheVariants.{Size, NumLevels, NumLayers, NumSamples}
+use Rattle.naga_ir.specs.declared.expression.ImageQuery.TheVariants.{Size, NumLevels, NumLayers}
+use Rattle.naga_ir.specs.declared.expression.ImageQuery.TheVariants.{NumSamples}
 use Rattle.naga_ir.specs.declared.expression.SampleLevel.{SampleLevel}
-use Rattle.naga_ir.specs.declared.expression.SampleLevel.TheVariants.{Auto, Zero, Exact, Bias, Gradient}
+use Rattle.naga_ir.specs.declared.expression.SampleLevel.TheVariants.{Auto, Zero, Exact, Bias}
+use Rattle.naga_ir.specs.declared.expression.SampleLevel.TheVariants.{Gradient}
 use Rattle.naga_ir.specs.declared.operators.AtomicFunction.{AtomicFunction}
 use Rattle.naga_ir.specs.declared.operators.AtomicFunction.TheVariants.{Exchange}
 use Rattle.naga_ir.specs.declared.operators.GatherMode.{GatherMode}
-use Rattle.naga_ir.specs.declared.operators.GatherMode.TheVariants.{BroadcastFirst, Broadcast, Shuffle, ShuffleDown, ShuffleUp, ShuffleXor, QuadBroadcast, QuadSwap}
+use Rattle.naga_ir.specs.declared.operators.GatherMode.TheVariants.{BroadcastFirst, Broadcast}
+use Rattle.naga_ir.specs.declared.operators.GatherMode.TheVariants.{Shuffle, ShuffleDown, ShuffleUp}
+use Rattle.naga_ir.specs.declared.operators.GatherMode.TheVariants.{ShuffleXor, QuadBroadcast}
+use Rattle.naga_ir.specs.declared.operators.GatherMode.TheVariants.{QuadSwap}
 use Rattle.naga_ir.specs.declared.statement.RayPipelineFunction.{RayPipelineFunction}
 use Rattle.naga_ir.specs.declared.statement.RayPipelineFunction.TheVariants.{TraceRay}
 
@@ -47,17 +77,20 @@ expression_operands (FunctionArgument number) = []
 expression_operands (GlobalVariable handle) = []
 expression_operands (LocalVariable handle) = []
 expression_operands (Load pointer) = pointer ∷ []
-expression_operands (ImageSample image sampler gather coordinate array_index offset level depth_ref clamp) =
-    image ∷ sampler ∷ coordinate ∷ option_to_list array_index ++ option_to_list offset ++ level_operands level ++ option_to_list depth_ref
+expression_operands
+    (ImageSample image sampler gather coordinate array_index offset level depth_ref clamp) =
+    image ∷ sampler ∷ coordinate ∷ option_to_list array_index ++ option_to_list depth_ref ++
+    level_operands level ++ option_to_list offset
 expression_operands (ImageLoad image coordinate array_index sample level) =
     image ∷ coordinate ∷ option_to_list array_index ++ option_to_list sample ++ option_to_list level
 expression_operands (ImageQuery image query) = image ∷ query_operands query
 expression_operands (Unary op expr) = expr ∷ []
 expression_operands (Binary op left right) = left ∷ right ∷ []
-expression_operands (Select condition accept reject) = condition ∷ accept ∷ reject ∷ []
+expression_operands (Select condition accept reject) = reject ∷ accept ∷ condition ∷ []
 expression_operands (Derivative axis ctrl expr) = expr ∷ []
 expression_operands (Relational fun argument) = argument ∷ []
-expression_operands (Math fun arg arg1 arg2 arg3) = arg ∷ option_to_list arg1 ++ option_to_list arg2 ++ option_to_list arg3
+expression_operands (Math fun arg arg1 arg2 arg3) =
+    arg ∷ option_to_list arg1 ++ option_to_list arg2 ++ option_to_list arg3
 expression_operands (As expr kind convert) = expr ∷ []
 expression_operands (CallResult function) = []
 expression_operands (AtomicResult ty comparison) = []
@@ -97,7 +130,8 @@ simple_operands kill = []
 simple_operands (control_barrier flags) = []
 simple_operands (memory_barrier flags) = []
 simple_operands (store pointer value) = pointer ∷ value ∷ []
-simple_operands (image_store image coordinate array_index value) = image ∷ coordinate ∷ option_to_list array_index ++ value ∷ []
+simple_operands (image_store image coordinate array_index value) =
+    image ∷ coordinate ∷ option_to_list array_index ++ value ∷ []
 simple_operands (atomic pointer fun value outcome) = pointer ∷ atomic_operands fun ++ value ∷ []
 simple_operands (image_atomic image coordinate array_index fun value) =
     image ∷ coordinate ∷ option_to_list array_index ++ atomic_operands fun ++ value ∷ []
@@ -105,7 +139,7 @@ simple_operands (work_group_uniform_load pointer outcome) = pointer ∷ []
 simple_operands (call function arguments outcome) = arguments
 simple_operands (ray_query query) = query ∷ []
 simple_operands (subgroup_ballot outcome predicate) = option_to_list predicate
-simple_operands (subgroup_gather mode argument outcome) = gather_operands mode ++ argument ∷ []
+simple_operands (subgroup_gather mode argument outcome) = argument ∷ gather_operands mode
 simple_operands (subgroup_collective_operation op collective_op argument outcome) = argument ∷ []
 simple_operands (cooperative_store target place) = target ∷ cooperative_operands place
 simple_operands (ray_pipeline_function fun) = ray_operands fun
@@ -114,9 +148,11 @@ abbrev mutual
   pub statement_operands : StatementTree → List ℕ
   statement_operands (simple s) = simple_operands s
   statement_operands (block b) = block_operands b
-  statement_operands (branch condition accept reject) = condition ∷ block_operands accept ++ block_operands reject
+  statement_operands (branch condition accept reject) =
+      condition ∷ block_operands accept ++ block_operands reject
   statement_operands (switch selector cases) = selector ∷ cases_operands cases
-  statement_operands (loop body continuing break_if) = block_operands body ++ block_operands continuing ++ option_to_list break_if
+  statement_operands (loop body continuing break_if) =
+      block_operands body ++ block_operands continuing ++ option_to_list break_if
 
   pub block_operands : BlockTree → List ℕ
   block_operands no_statements = []

@@ -1,0 +1,203 @@
+//! The operands of expressions.
+
+ghost use Rattle.std.specs.Prelude.{◌≡◌, ◌<◌, ◌++◌, slice_get, IfSome};
+ghost use Rattle.std.specs.Iterator.{YieldsFirst, item_count};
+ghost use Rattle.std.specs.List.{flat_map};
+ghost use Rattle.std.specs.Option.{option_to_list};
+ghost use Rattle.naga_ir.specs.Operands.{expression_operands, level_operands, query_operands};
+
+use crate::arena::Handle;
+use crate::expression::{Expression, ImageQuery, SampleLevel};
+use std::marker::Model;
+
+/// The handle of this number, counted from zero.
+#[inline]
+fn nth(handles: &[Handle<Expression>], number: usize) -> Option<Handle<Expression>>
+    ensures item { result ≡ slice_get handles.now number }
+    ensures below { IfSome result (λ _. number < usize.MAX) }
+{
+    match handles.get(number) {
+        Some(handle) => Some(*handle),
+        None => None,
+    }
+}
+
+/// The handle of this number among those that there are, counted from zero.
+fn nth_present(handles: &[Option<Handle<Expression>>], number: usize) -> Option<Handle<Expression>>
+    ensures item { result ≡ slice_get (flat_map option_to_list handles.now) number }
+    ensures below { IfSome result (λ _. number < usize.MAX) }
+{
+    let mut left = number;
+    for handle in handles {
+        if let Some(handle) = handle {
+            if left == 0 {
+                return Some(*handle);
+            }
+            left -= 1;
+        }
+    }
+    None
+}
+
+/// The handles that a level of detail holds.
+fn level_handles(level: SampleLevel) -> (Option<Handle<Expression>>, Option<Handle<Expression>>)
+    ensures { option_to_list result.0 ++ option_to_list result.1 ≡ level_operands level }
+{
+    match level {
+        SampleLevel::Auto | SampleLevel::Zero => (None, None),
+        SampleLevel::Exact(handle) | SampleLevel::Bias(handle) => (Some(handle), None),
+        SampleLevel::Gradient { x, y } => (Some(x), Some(y)),
+    }
+}
+
+/// The handle that a query of an image holds, if it holds one.
+fn query_handle(query: ImageQuery) -> Option<Handle<Expression>>
+    ensures { option_to_list result ≡ query_operands query }
+{
+    match query {
+        ImageQuery::Size { level } => level,
+        ImageQuery::NumLevels | ImageQuery::NumLayers | ImageQuery::NumSamples => None,
+    }
+}
+
+impl Expression {
+    /// The operand of this number, counted from zero.
+    #[inline]
+    fn operand(&self, number: usize) -> Option<Handle<Expression>>
+        ensures item { result ≡ slice_get (expression_operands self.now) number }
+        ensures below { IfSome result (λ _. number < usize.MAX) }
+    {
+        match self {
+            Expression::Literal(_)
+            | Expression::Constant(_)
+            | Expression::Override(_)
+            | Expression::ZeroValue(_)
+            | Expression::FunctionArgument(_)
+            | Expression::GlobalVariable(_)
+            | Expression::LocalVariable(_)
+            | Expression::CallResult(_)
+            | Expression::AtomicResult { .. }
+            | Expression::WorkGroupUniformLoadResult { .. }
+            | Expression::RayQueryProceedResult
+            | Expression::SubgroupBallotResult
+            | Expression::SubgroupOperationResult { .. } => None,
+            Expression::Compose { components, .. } => nth(components, number),
+            Expression::Access { base, index } => nth(&[*base, *index], number),
+            Expression::AccessIndex { base, .. } => nth(&[*base], number),
+            Expression::Splat { value, .. } => nth(&[*value], number),
+            Expression::Swizzle { vector, .. } => nth(&[*vector], number),
+            Expression::Load { pointer } => nth(&[*pointer], number),
+            Expression::ImageSample {
+                image,
+                sampler,
+                coordinate,
+                array_index,
+                offset,
+                level,
+                depth_ref,
+                ..
+            } => {
+                let (level, beside_level) = level_handles(*level);
+                nth_present(
+                    &[
+                        Some(*image),
+                        Some(*sampler),
+                        Some(*coordinate),
+                        *array_index,
+                        *depth_ref,
+                        level,
+                        beside_level,
+                        *offset,
+                    ],
+                    number,
+                )
+            }
+            Expression::ImageLoad {
+                image,
+                coordinate,
+                array_index,
+                sample,
+                level,
+            } => nth_present(
+                &[
+                    Some(*image),
+                    Some(*coordinate),
+                    *array_index,
+                    *sample,
+                    *level,
+                ],
+                number,
+            ),
+            Expression::ImageQuery { image, query } => {
+                nth_present(&[Some(*image), query_handle(*query)], number)
+            }
+            Expression::Unary { expr, .. }
+            | Expression::Derivative { expr, .. }
+            | Expression::As { expr, .. } => nth(&[*expr], number),
+            Expression::Binary { left, right, .. } => nth(&[*left, *right], number),
+            Expression::Select {
+                condition,
+                accept,
+                reject,
+            } => nth(&[*reject, *accept, *condition], number),
+            Expression::Relational { argument, .. } => nth(&[*argument], number),
+            Expression::Math {
+                arg,
+                arg1,
+                arg2,
+                arg3,
+                ..
+            } => nth_present(&[Some(*arg), *arg1, *arg2, *arg3], number),
+            Expression::ArrayLength(array) => nth(&[*array], number),
+            Expression::RayQueryGetIntersection { query, .. }
+            | Expression::RayQueryVertexPositions { query, .. } => nth(&[*query], number),
+            Expression::CooperativeLoad { data_, .. } => {
+                nth(&[data_.pointer, data_.stride], number)
+            }
+            Expression::CooperativeMultiplyAdd { a, b, c } => nth(&[*a, *b, *c], number),
+        }
+    }
+
+    /// The handles of the expression's operands, in the order in which WGSL writes them. It takes no
+    /// memory.
+    #[inline]
+    pub fn operands(&self) -> Operands<'_>
+        ensures { result ≡ expression_operands self.now }
+    {
+        Operands {
+            expression: self,
+            number: 0,
+        }
+    }
+}
+
+/// The operands of an expression that are still to come, in the order in which WGSL writes them.
+#[derive(Drop)]
+pub struct Operands<'a> {
+    expression: &'a Expression,
+    number: usize,
+}
+
+impl<'a> Model for Operands<'a> {
+    ghost use Rattle.std.specs.Prelude.{drop, List, ℕ};
+    ghost use Rattle.naga_ir.specs.Operands.{expression_operands};
+
+    ghost Value = { List ℕ };
+
+    ghost view = { λ s. drop s.number (expression_operands s.expression.now) };
+}
+
+impl<'a> Iterator for Operands<'a> {
+    type Item = Handle<Expression>;
+
+    ghost next_gives = { YieldsFirst (λ s. s) };
+
+    ghost remaining = { item_count (λ s. s) };
+
+    #[inline]
+    fn next(&mut self) -> Option<Handle<Expression>> {
+        let operand = self.expression.operand(self.number)?;
+        self.number += 1;
+        Some(operand)
+    }
+}
