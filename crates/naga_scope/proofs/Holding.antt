@@ -1,14 +1,12 @@
 -- The check over the locals, the statements and the functions in turn.
-use Rattle.std.proofs.Common.{◌≡◌, ℕ, suc, ◌+◌, ◌<◌, ◌≤◌, ◌^◌, ◌&&◌, Bool, true, false, zero, Option, arith, List, [], ◌∷◌, map, drop, length, nat_le, Some, refl, sym, ap, ap₂, subst, ◌∙◌, slice_index_or}
-use Rattle.std.specs.Prelude.{IsTrue, slice_get, reverse}
-use Rattle.std.specs.List.{list_all, enumerate_from}
-use mathlib.Core.List.{reverse_aux}
+use Rattle.std.proofs.Common.{◌≡◌, ℕ, suc, ◌+◌, ◌<◌, ◌≤◌, ◌&&◌, true, false, zero, Option, arith, List, [], ◌∷◌, map, drop, length, refl, sym, ap, ap₂, ◌∙◌, slice_index_or}
+use Rattle.std.specs.Prelude.{IsTrue}
+use Rattle.std.specs.List.{enumerate_from}
 use Rattle.std.proofs.lemmas.Bool.{and_parts, and_from}
 use Rattle.std.proofs.lemmas.List.{drop_all}
 use Rattle.module_meaning.specs.Part.{names_nothing}
 use Rattle.naga_ir.specs.StatementTree.{StatementTree, simple, BlockTree, no_statements, statement}
 use Rattle.naga_ir.specs.StatementViews.{tree_of, block_of}
-use Rattle.naga_ir.specs.declared.expression.Expression.TheVariants as expression
 use Rattle.naga_ir.specs.declared.module.Function as ir_function
 use Rattle.naga_ir.specs.declared.module.FunctionResult.{FunctionResult}
 use Rattle.naga_ir.specs.declared.module.LocalVariable.{LocalVariable}
@@ -16,32 +14,15 @@ use Rattle.naga_ir.specs.declared.statement.Range.{Range}
 use Rattle.naga_ir.specs.declared.statement.Statement.{Statement}
 use Rattle.naga_ir.specs.declared.statement.Statement.TheVariants as statement_variant
 use Rattle.naga_ir.specs.declared.types.Type_.{Type_}
-use Rattle.module_meaning.specs.Accepted.{statement_fits, block_fits, function_fits}
-use Rattle.naga_ir.specs.declared.operators.BinaryOperator.{BinaryOperator}
+use Rattle.module_meaning.specs.Accepted.{statement_fits, block_fits}
 use Rattle.naga_info.specs.declared.info.ExpressionInfo.{ExpressionInfo}
-use Rattle.module_meaning.proofs.Accepting.{load_word_at, binary_at}
-use Rattle.module_meaning.proofs.Fitting.{drop_first, item_at}
+use Rattle.module_meaning.proofs.Fitting.{drop_first}
 use Rattle.naga_names.specs.Keys.{NameMap}
-use Rattle.shader_runs.specs.Program.{Function, operands_of}
-use Rattle.shader_runs.specs.Premises.{AllBelow}
-use Rattle.shader_runs.specs.Scope.{Naming, Handles, after, fits, fits_all, fits_function}
-use Rattle.module_meaning.specs.Shapes.{binary_shape, statement_shape, statements_shape, function_shape, function_shapes, function_naming, namings_from, OperandsStandBefore}
+use Rattle.shader_runs.specs.Program.{Function}
+use Rattle.shader_runs.specs.Scope.{Naming, Handles, after, fits, fits_all}
+use Rattle.module_meaning.specs.Shapes.{statement_shape, statements_shape, function_shape, function_naming}
 use Rattle.naga_form.proofs.Fits.{none_given_by}
 use Rattle.naga_scope.specs.Flat.{holds_no_block, is_flat}
-use Rattle.naga_scope.proofs.Shaped.{operator_operands}
-use Rattle.naga_scope.proofs.Emitting.{no_and}
-
--- ---- operands stand before what they are of
--- as in each accepted function
-pub ordered_function : (types : List Type_) (f : ir_function.Function) (es : List ExpressionInfo) → function_fits types f es ≡ true → OperandsStandBefore f.expressions
-ordered_function types f es fits h (expression.Load q) at = let l = load_word_at types f es h q fits at in (l.1, tt)
-ordered_function types f es fits h (expression.Binary op left right) at =
-    let o = binary_at types f es h op left right fits at in
-    both op o.left_before o.right_before
-  where
-    both : (op : BinaryOperator) → left < h → right < h → AllBelow h (operands_of (Some (binary_shape op left right)))
-    both op a b = subst (AllBelow h) (sym (operator_operands op left right)) (a, (b, tt))
-ordered_function types f es fits h _ at = tt
 
 -- ---- first values
 pub first_values_listed : (n : ℕ) (ls : List LocalVariable) → map (λ p. p.1.init) (enumerate_from n ls) ≡ map (λ l. l.init) ls
@@ -103,58 +84,3 @@ module _ (names : NameMap) (types : List Type_) (g : ℕ) (f : ir_function.Funct
 
   pub lines_end : (items : List Statement) (i : ℕ) (s : Handles) → length items ≤ i → true ≡ fits_all own 0 (statements_shape (block_of (drop i items))) s
   lines_end items i s le = ap (λ xs. fits_all own 0 (statements_shape (block_of xs)) s) (sym (drop_all i items le))
-
--- ---- functions
-and_assoc : (a b c : Bool) → ((a && b) && c) ≡ (a && (b && c))
-and_assoc true b c = refl
-and_assoc false b c = refl
-
-and_swap : (a b : Bool) → (a && b) ≡ (b && a)
-and_swap true true = refl
-and_swap true false = refl
-and_swap false true = refl
-and_swap false false = refl
-
-all_turned : {X : Type 0} (test : X → Bool) (xs behind : List X) → list_all test (reverse_aux xs behind) ≡ (list_all test xs && list_all test behind)
-all_turned test [] behind = refl
-all_turned test (x ∷ xs) behind =
-    all_turned test xs (x ∷ behind)
-    ∙ sym (and_assoc (list_all test xs) (test x) (list_all test behind))
-    ∙ ap (λ b. b && list_all test behind) (and_swap (list_all test xs) (test x))
-
--- a list that is turned round passes a test where it does
-pub all_reversed : {X : Type 0} (test : X → Bool) (xs : List X) → list_all test xs ≡ list_all test (reverse xs)
-all_reversed test xs = sym (all_turned test xs [] ∙ and_swap (list_all test xs) true)
-
-module _ (names : NameMap) (types : List Type_) where
-  -- the functions from the one with this handle on
-  abbrev functions_on : ℕ → List ir_function.Function → List (List ExpressionInfo) → List Naming
-  functions_on i fs ess = namings_from names i (function_shapes types (drop i fs) (drop i ess))
-
-  functions_more : (i : ℕ) (fs : List ir_function.Function) (ess : List (List ExpressionInfo)) (f : ir_function.Function) (es : List ExpressionInfo) → i < length fs → i < length ess → slice_get fs i ≡ Some f → es ≡ slice_index_or ess i es → functions_on i fs ess ≡ function_naming names types i f es ∷ functions_on (i + 1) fs ess
-  functions_more i fs ess f es lf le at is =
-      ap₂ (λ gs hs. namings_from names i (function_shapes types gs hs))
-      (drop_first i fs f lf ∙ ap (λ y. y ∷ drop (i + 1) fs) (item_at fs i f lf at))
-      (drop_first i ess es le ∙ ap (λ y. y ∷ drop (i + 1) ess) (sym is))
-
-  -- what is left of the check, and what was found so far
-  pub functions_hold : (so_far : Bool) (i : ℕ) (fs : List ir_function.Function) (ess : List (List ExpressionInfo)) (f : ir_function.Function) (es : List ExpressionInfo) → i < length fs → i < length ess → slice_get fs i ≡ Some f → es ≡ slice_index_or ess i es → fits_function (function_naming names types i f es) ≡ true → (so_far && list_all fits_function (functions_on (i + 1) fs ess)) ≡ (so_far && list_all fits_function (functions_on i fs ess))
-  functions_hold so_far i fs ess f es lf le at is fit =
-      sym (ap (λ ns. so_far && list_all fits_function ns) (functions_more i fs ess f es lf le at is)
-      ∙ ap (λ b. so_far && (b && list_all fits_function (functions_on (i + 1) fs ess))) fit)
-
-  pub functions_refused : (so_far : Bool) (i : ℕ) (fs : List ir_function.Function) (ess : List (List ExpressionInfo)) (f : ir_function.Function) (es : List ExpressionInfo) → i < length fs → i < length ess → slice_get fs i ≡ Some f → es ≡ slice_index_or ess i es → fits_function (function_naming names types i f es) ≡ false → false ≡ (so_far && list_all fits_function (functions_on i fs ess))
-  functions_refused so_far i fs ess f es lf le at is fit =
-      no_and so_far (list_all fits_function (functions_on (i + 1) fs ess))
-      ∙ sym (ap (λ ns. so_far && list_all fits_function ns) (functions_more i fs ess f es lf le at is)
-      ∙ ap (λ b. so_far && (b && list_all fits_function (functions_on (i + 1) fs ess))) fit)
-
-  pub functions_end : (so_far : Bool) (i : ℕ) (fs : List ir_function.Function) (ess : List (List ExpressionInfo)) → length fs ≤ i → so_far ≡ (so_far && list_all fits_function (functions_on i fs ess))
-  functions_end so_far i fs ess le =
-      and_swap true so_far ∙ ap (λ gs. so_far && list_all fits_function (namings_from names i (function_shapes types gs (drop i ess)))) (sym (drop_all i fs le))
-
--- ---- how many expressions there are
-pub counted_more : (i : ℕ) (fs : List ir_function.Function) (f : ir_function.Function) → i < length fs → slice_get fs i ≡ Some f → IsTrue (nat_le (length f.expressions) (2 ^ 64)) → list_all (λ f. nat_le (length f.expressions) (2 ^ 64)) (drop (i + 1) fs) ≡ list_all (λ f. nat_le (length f.expressions) (2 ^ 64)) (drop i fs)
-counted_more i fs f lt at counted =
-    sym (ap (list_all (λ f. nat_le (length f.expressions) (2 ^ 64))) (drop_first i fs f lt ∙ ap (λ y. y ∷ drop (i + 1) fs) (item_at fs i f lt at))
-    ∙ ap (λ b. b && list_all (λ f. nat_le (length f.expressions) (2 ^ 64)) (drop (i + 1) fs)) counted)
