@@ -2,7 +2,8 @@
 --
 -- Throughout, m is the module, info is what is known of its expressions, and f is the shape of a
 -- function.
-use Rattle.std.specs.Prelude.{ℕ, ◌^◌, ◌≡◌, List, Option, IfSome, IsSomeAnd, IsTrue, length, nat_le, slice_get}
+use Rattle.std.specs.Prelude.{◌≡◌, ◌^◌, ℕ, List, Option, IfSome, IsSomeAnd, IsTrue}
+use Rattle.std.specs.Prelude.{length, nat_le, slice_get}
 use Rattle.naga_ir.specs.declared.module.Module.{Module}
 use Rattle.naga_info.specs.declared.info.ModuleInfo.{ModuleInfo}
 use Rattle.shader_runs.specs.Program.{Function}

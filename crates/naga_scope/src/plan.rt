@@ -20,8 +20,8 @@ use std::marker::Model;
 /// Why there is no plan of a function.
 #[derive(Debug, Drop, PartialEq, Eq)]
 pub enum PlanError {
-    /// The rules of scope don't hold in the function: an expression is used where it is out of scope,
-    /// or an `Emit` is not allowed where it stands.
+    /// The rules of scope don't hold in the function: an expression is used where it is out of
+    /// scope, or an `Emit` is not allowed where it stands.
     OutOfScope,
     /// Memory has run out.
     Memory(AllocError),
@@ -35,11 +35,11 @@ impl From<AllocError> for PlanError {
     }
 }
 
-/// What is decided of a function before its text: that each of its expressions is in scope where it is
-/// used and each `Emit` is allowed, and where the expressions stand at its start.
+/// What is decided of a function before its text: that each of its expressions is in scope where it
+/// is used and each `Emit` is allowed, and where the expressions stand at its start.
 ///
-/// Which expressions a `let` binds is not kept: [`binds`](crate::binds) tells it of each as fast as a
-/// table would.
+/// Which expressions a `let` binds is not kept: [`binds`](crate::binds) tells it of each as fast as
+/// a table would.
 #[derive(Debug, Drop)]
 pub struct Plan {
     scope: Scope,
@@ -56,11 +56,12 @@ impl Model for Plan {
 }
 
 impl Plan {
-    /// The plan of the function with this handle, for a module that is accepted with what is known of
-    /// it, and in which no front end named an expression.
+    /// The plan of the function with this handle, for a module that is accepted with what is known
+    /// of it, and in which no front end named an expression. Where the rules of scope don't hold in
+    /// the function, or there is no memory, there is no plan.
     ///
-    /// It takes memory once: one table serves the check, is then set back to the function's start, and
-    /// serves the text.
+    /// It takes memory once: one table serves the check, is then set back to the function's start,
+    /// and serves the text.
     pub fn of(
         alloc: Global,
         module: &Module,

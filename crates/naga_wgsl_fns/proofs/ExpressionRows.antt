@@ -4,7 +4,6 @@ use Rattle.std.specs.Prelude.{slice_get}
 use Rattle.naga_ir.specs.declared.expression.Expression as ir
 use Rattle.naga_ir.specs.declared.expression.Expression.TheVariants as expression
 use Rattle.naga_ir.specs.declared.operators.BinaryOperator as ir_operator
-use Rattle.naga_ir.specs.declared.operators.BinaryOperator.TheVariants as operator
 use Rattle.shader_runs.specs.Program.{operands_of}
 use Rattle.shader_runs.specs.Premises.{AllBelow}
 use Rattle.shader_runs.specs.Scope.{Handles, Naming}
@@ -21,9 +20,7 @@ use Rattle.naga_scope.proofs.Shaped.{operator_operands}
 use Rattle.naga_words.specs.Output.{joined}
 use Rattle.naga_wgsl_fns.specs.Literals.{literal_text}
 use Rattle.wgsl_text.specs.Tree.{Binary, Constant, Dereference, Name, Truth}
-use Rattle.wgsl_text.specs.Pieces.{binary_pieces}
 use Rattle.wgsl_text.specs.Reading.{expression_layout}
-use Rattle.wgsl_text.specs.Text.{text}
 use Rattle.wgsl_text.proofs.RowText.{address_text as address_row_text, binary_text as binary_row_text, dereference_text, name_text}
 use Rattle.naga_wgsl_fns.specs.declared.functions.FunctionText.{FunctionText}
 use Rattle.naga_wgsl_fns.specs.FunctionText.{CanWrite, expressions, naming}

@@ -1,7 +1,7 @@
 -- What was written is faithful to the module.
 use Rattle.std.proofs.Common.{◌≡◌, ◌<◌, ◌∙◌, ◌++◌, ℕ, Bool, false, List, [], ◌∷◌, Ok, Err}
-use Rattle.std.proofs.Common.{ap, arith, codes, drop, get_or, inl, inr, length, subst, sym}
-use Rattle.std.specs.Prelude.{IfErr, IsTrue, OnErr, OnOk, Result, string_bytes}
+use Rattle.std.proofs.Common.{ap, drop, inl, inr, length, subst, sym}
+use Rattle.std.specs.Prelude.{IfErr, IsTrue, OnErr, OnOk, Result}
 use Rattle.naga_ir.specs.declared.module.Module.{Module}
 use Rattle.module_meaning.specs.Accepted.{is_accepted}
 use Rattle.module_meaning.specs.Part.{is_written_so_far}
@@ -37,7 +37,7 @@ use Rattle.naga_wgsl_out.specs.Writing.{written_text}
 use Rattle.naga_wgsl_out.proofs.Functions.{lines_behind, lines_split, written_lines}
 use Rattle.naga_wgsl_out.proofs.Scopes.{all_planned_counted, all_planned_hold, scope_holds_in}
 use Rattle.naga_wgsl_out.specs.Refusals.{ComesBeforeText, HasAllNames, IsNamesRefusal, IsRefusal}
-use Rattle.naga_wgsl_out.specs.Refusals.{IsToldOf, TellsOfModule, TellsOfScope}
+use Rattle.naga_wgsl_out.specs.Refusals.{TellsOfModule, TellsOfScope}
 use Rattle.naga_wgsl_out.specs.Headline.{EachReading, FaithfulWriting}
 
 -- what stands behind the same text is the same
@@ -86,27 +86,10 @@ pub scope_tells_of_module : (error : Error) → TellsOfScope error → TellsOfMo
 scope_tells_of_module (Custom message) told = tt
 scope_tells_of_module _ told = absurd told
 
--- what is not written so far, and names that can't be told, are told otherwise than scope
-pub part_is_no_scope : (error : Error) → IsNotYetWritten error → TellsOfScope error → ⊥
-part_is_no_scope (Custom message) is told = is
-part_is_no_scope _ is told = told
-
-begins_otherwise : (message : List ℕ) → get_or message 0 0 ≡ 110 →
-    message ≡ codes "operand out of scope" → ⊥
-begins_otherwise message n same =
-    let o : get_or message 0 0 ≡ 111 = ap (λ t. get_or t 0 0) same in omega (arith, n, o)
-
-pub names_are_no_scope : (m : Module) (error : Error) → IsNamesRefusal m error →
-    TellsOfScope error → ⊥
-names_are_no_scope m (Custom message) is told = by is
-  where
-    by : IsToldOf m (string_bytes message) → ⊥
-    by (inl full) = begins_otherwise (string_bytes message) (ap (λ t. get_or t 0 0) full.0) told
-    by (inr key) = begins_otherwise (string_bytes message) (ap (λ t. get_or t 0 0) key.0) told
-names_are_no_scope m _ is told = told
-
 -- a text that was appended
-module _ (m : Module) (info : ModuleInfo) (flags : WriterFlags) (accepted : IsTrue (is_accepted m info)) (written : IsTrue (is_written_so_far m)) (names : NameMap) (has : HasAllNames m names) where
+module _ (m : Module) (info : ModuleInfo) (flags : WriterFlags)
+    (accepted : IsTrue (is_accepted m info)) (written : IsTrue (is_written_so_far m))
+    (names : NameMap) (has : HasAllNames m names) where
   -- a plan of each function
   abbrev AllPlanned : Type 0
   AllPlanned = (i : ℕ) → i < length m.functions → HasPlan m info i
@@ -145,7 +128,8 @@ module _ (m : Module) (info : ModuleInfo) (flags : WriterFlags) (accepted : IsTr
   same_text = written_lines m info flags accepted
 
   module _ (held now : List ℕ) (before after : ℕ) where
-    wrote : WroteFunctions m info flags held before now after → Concludes (Ok tt) held now before after
+    wrote : WroteFunctions m info flags held before now after →
+        Concludes (Ok tt) held now before after
     wrote w =
         let appended = w.wrote.appended ∙ ap (λ t. held ++ t) same_text in
         let rules = all_planned_hold m info w.planned in
@@ -185,7 +169,8 @@ module _ (m : Module) (info : ModuleInfo) (flags : WriterFlags) (accepted : IsTr
     stopped : (e : Error) → Stopped held before (module_lines m info flags) now after e →
         Concludes (Err e) held now before after
     stopped e s = record {
-      is_faithful = refused m info e held now before after (for_want m info e before after s.reason);
+      is_faithful = refused m info e held now before after
+          (for_want m info e before after s.reason);
       resolved = tt;
       binds = tt;
       text_ok = tt;

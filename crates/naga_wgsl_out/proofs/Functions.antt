@@ -1,8 +1,8 @@
 -- The text of a module from those of its functions.
 use Rattle.std.proofs.Common.{◌≡◌, ◌+◌, ◌<◌, ◌∙◌, ◌++◌, ℕ, zero, suc, true, List, [], ◌∷◌, Some}
 use Rattle.std.proofs.Common.{append-nil, append_assoc, add-one, ap, arith, below_more, codes, drop}
-use Rattle.std.proofs.Common.{drop-cons, get_or, inl, inr, length, pred, refl, slice_get, subst, sym}
-use Rattle.std.proofs.Common.{Err, Ok, Result, take, unwrap_or}
+use Rattle.std.proofs.Common.{drop-cons, get_or, inl, inr, length, pred, refl, slice_get, subst}
+use Rattle.std.proofs.Common.{Err, Ok, Result, sym, take, unwrap_or}
 use Rattle.std.specs.Prelude.{◌⊎◌, IsErrAnd}
 use Rattle.std.specs.List.{enumerate_from}
 use Rattle.std.specs.Option.{option_map_or}
@@ -105,8 +105,8 @@ pub record IsUpTo (m : Module) (info : ModuleInfo) (flags : WriterFlags) (n : �
   pub wrote : Wrote held failed (lines_before m info flags n) now failures
   pub planned : (i : ℕ) → i < n → HasPlan m info i
 
-pub up_to_none : (m : Module) (info : ModuleInfo) (flags : WriterFlags) (held : List ℕ) (failed : ℕ) →
-    IsUpTo m info flags 0 held failed held failed
+pub up_to_none : (m : Module) (info : ModuleInfo) (flags : WriterFlags) (held : List ℕ)
+    (failed : ℕ) → IsUpTo m info flags 0 held failed held failed
 up_to_none m info flags held failed =
     record { wrote = wrote_nothing held failed; planned = λ i lt. absurd (omega (arith, lt)) }
 

@@ -16,7 +16,7 @@ use Rattle.module_meaning.specs.Accepted.{is_accepted}
 use Rattle.module_meaning.specs.Premises.{EachScopeHolds, ScopesHold, handles_are_counted}
 use Rattle.module_meaning.specs.Shapes.{expression_shape, function_shapes}
 use Rattle.module_meaning.proofs.Accepting.{accepted_functions_fit, functions_fit_at}
-use Rattle.naga_scope.specs.Plans.{IsPlan, ScopeHoldsIn}
+use Rattle.naga_scope.specs.Plans.{IsPlan, ScopeHoldsIn, function_shape_at}
 use Rattle.naga_scope.proofs.Planned.{plan_found}
 use Rattle.naga_wgsl_out.specs.Writing.{HasPlan}
 
@@ -50,8 +50,9 @@ scope_holds_in m info rules i =
     each_at shapes (turned_back shapes [] rules).0 i
 
 -- ---- functions with a plan
-pub planned_holds : (m : Module) (info : ModuleInfo) (i : ℕ) → HasPlan m info i → ScopeHoldsIn m info i
-planned_holds m info i has = by (slice_get (function_shapes m.types m.functions info.functions.items) i) has.plan
+pub planned_holds : (m : Module) (info : ModuleInfo) (i : ℕ) → HasPlan m info i →
+    ScopeHoldsIn m info i
+planned_holds m info i has = by (function_shape_at m info i) has.plan
   where
     by : (o : Option Function) → IsSomeAnd o (λ f. IsPlan f has.table) → IfSome o ScopeHolds
     by None plan = tt
@@ -67,7 +68,8 @@ shapes_below m info i lt = by m.functions info.functions.items i lt
     by [] ess i lt = lt
     by (f ∷ fs) [] i lt = absurd (omega (arith, lt))
     by (f ∷ fs) (es ∷ ess) zero lt = omega arith
-    by (f ∷ fs) (es ∷ ess) (suc i) lt = let rest = by fs ess i (omega (arith, lt)) in omega (arith, rest)
+    by (f ∷ fs) (es ∷ ess) (suc i) lt =
+        let rest = by fs ess i (omega (arith, lt)) in omega (arith, rest)
 
 -- where each function has a plan, the rules of scope hold in the module
 pub all_planned_hold : (m : Module) (info : ModuleInfo) →
@@ -82,7 +84,8 @@ all_pass : {X : Type 0} (test : X → Bool) (xs : List X) →
     ((i : ℕ) (x : X) → slice_get xs i ≡ Some x → test x ≡ true) → list_all test xs ≡ true
 all_pass test [] at = refl
 all_pass test (x ∷ xs) at =
-    and_from (test x) (list_all test xs) (at 0 x refl) (all_pass test xs (λ i y is. at (suc i) y is))
+    and_from (test x) (list_all test xs) (at 0 x refl)
+    (all_pass test xs (λ i y is. at (suc i) y is))
 
 -- and its handles are counted
 pub all_planned_counted : (m : Module) (info : ModuleInfo) → IsTrue (is_accepted m info) →

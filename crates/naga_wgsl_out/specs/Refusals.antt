@@ -76,8 +76,8 @@ TellsOfScope _ = ⊥
 abbrev pub ComesBeforeText : Error → Type 0
 ComesBeforeText error = TellsOfModule error × (TellsOfScope error → ⊥)
 
--- why the function with this handle has no plan: the rules of scope don't hold in it, or there is no
--- memory
+-- why the function with this handle has no plan: the rules of scope don't hold in it, or memory
+-- ran out
 abbrev pub IsPlanRefusal : Module → ModuleInfo → (handle : ℕ) → Error → Type 0
 IsPlanRefusal m info handle (Custom message) =
     TellsOfScope (Custom message) × (ScopeHoldsIn m info handle → ⊥)

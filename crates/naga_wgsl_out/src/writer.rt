@@ -78,15 +78,14 @@ impl<W: TextSink> Writer<W> {
     /// or refused before. Where the call gives up for want of memory or because the sink failed, a
     /// beginning of its text stands behind what the sink held. The next call starts afresh.
     ///
-    /// An expression that is used where it is out of scope, and an `Emit` that is not allowed where it
-    /// stands, are refused as `Custom`, `operand out of scope`. Each function is looked at before its
-    /// text: the functions in front of the first such one then stand behind what the sink held, whole, with
-    /// an empty line behind each. Any other refusal leaves the sink as it was. Neither counts as a failure of
-    /// the sink.
+    /// An expression that is used where it is out of scope, and an `Emit` that is not allowed where
+    /// it stands, are refused as `Custom`, `operand out of scope`. Each function is looked at before
+    /// its text, so the functions in front of the first such one then stand behind what the sink
+    /// held, whole, an empty line behind each. Any other refusal leaves the sink's text as it was.
+    /// None of them is a failure of the sink.
     ///
-    /// So far a module is refused as
-    /// `Unimplemented`, `not yet written`, unless it declares nothing but scalar types and functions
-    /// whose locals have a literal as first value or none, whose expressions are arguments, locals,
+    /// So far a module is refused as `Unimplemented`, `not yet written`, unless it declares nothing
+    /// but scalar types and functions whose locals have a literal as first value or none, whose expressions are arguments, locals,
     /// literals, loads, sums, differences and products, without names of their own, and whose
     /// statements are `Emit`s, `Store`s and `Return`s.
     ///
@@ -120,8 +119,8 @@ impl<W: TextSink> Writer<W> {
     }
 }
 
-/// Writes the functions of the module, an empty line behind each, up to the first in which an operand
-/// is out of scope.
+/// Writes the functions of the module, an empty line behind each, up to the first in which an
+/// operand is out of scope.
 fn write_functions<W: TextSink>(
     alloc: Global,
     module: &Module,

@@ -57,5 +57,5 @@ returns-clause-err c =
     let m = c.args.module.now in
     let found = shape_found m.types m.functions c.args.info.now.functions.items c.args.handle
     c.index.result.now c.index-2.result.now c.index.ensures c.index-2.ensures in
-    subst (λ o. IfErr c.of_function.result (λ e. IsSomeAnd o (λ f. IsRefusalToPlan f e))) (sym found)
-    (c.of_function.ensures.err m.types)
+    subst (λ o. IfErr c.of_function.result (λ e. IsSomeAnd o (λ f. IsRefusalToPlan f e)))
+    (sym found) (c.of_function.ensures.err m.types)
