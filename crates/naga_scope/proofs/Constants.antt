@@ -1,9 +1,11 @@
 -- Which expressions are in scope from the start, by one pass over a function's expressions in their order.
-use Rattle.std.proofs.Common.{◌≡◌, ℕ, zero, suc, ◌+◌, ◌<◌, ◌≤◌, ◌&&◌, ◌||◌, Bool, true, false, List, [], ◌∷◌, ◌++◌, length, get_or, Option, Some, None, refl, sym, ap, ap₂, ◌∙◌, arith, nat_lt, below_more}
+use Rattle.std.proofs.Common.{◌≡◌, ◌+◌, ◌<◌, ◌≤◌, ◌&&◌, ◌||◌, ◌∙◌, ℕ, zero, suc, Bool, true, false}
+use Rattle.std.proofs.Common.{List, [], ◌∷◌, Option, Some, None, ap, ap₂, arith, below_more, get_or}
+use Rattle.std.proofs.Common.{length, nat_lt, refl, slice_set, subst, sym}
 use Rattle.std.specs.Prelude.{slice_get}
 use Rattle.std.specs.Option.{option_map}
-use Rattle.std.proofs.lemmas.List.{get_or_append_left, get_or_past, length-append, length-map}
-use Rattle.std.proofs.Math.Seq.{get_or-append_seam}
+use Rattle.std.proofs.lemmas.List.{get_or_past, get_or-set_other, length-map, length-set}
+use Rattle.std.proofs.lemmas.Grind.{get_or-set_at}
 use Rattle.std.proofs.lemmas.Option.{slice_get-map, slice_get_past}
 use Rattle.std.proofs.lemmas.Bool.{ltb-true, ltb-false}
 use Rattle.naga_ir.specs.declared.expression.Expression as ir
@@ -51,13 +53,16 @@ first_at_start name false = refl
 abbrev pub first_cell : List Type_ → ir_function.Function → List ExpressionInfo → ℕ → Standing
 first_cell types f es h = first_standing (is_pure (shape_at f.expressions h) && is_constant_below (function_shape types f es) (length f.expressions) h)
 
--- a table of the cells of the handles below i
-pub record IsStart (types : List Type_) (f : ir_function.Function) (es : List ExpressionInfo) (table : List Standing) (i : ℕ) : Type 0 where
-  pub size : length table ≡ i
+-- a table of one cell for each expression, in which those below i are as at the start
+pub record IsStart (types : List Type_) (f : ir_function.Function) (es : List ExpressionInfo)
+    (table : List Standing) (i : ℕ) : Type 0 where
+  pub size : length table ≡ length f.expressions
   pub cells : (h : ℕ) → h < i → get_or table h Absent ≡ first_cell types f es h
 
-pub is_start_none : (types : List Type_) (f : ir_function.Function) (es : List ExpressionInfo) → IsStart types f es [] 0
-is_start_none types f es = record { size = refl; cells = λ h lt. absurd (omega (arith, lt)) }
+pub is_start_none : (types : List Type_) (f : ir_function.Function) (es : List ExpressionInfo)
+    (table : List Standing) → length table ≡ length f.expressions → IsStart types f es table 0
+is_start_none types f es table size =
+    record { size = size; cells = λ h lt. absurd (omega (arith, lt)) }
 
 module _ (types : List Type_) (f : ir_function.Function) (es : List ExpressionInfo) (ordered : OperandsStandBefore f.expressions) where
   abbrev all : ℕ
@@ -109,13 +114,23 @@ module _ (types : List Type_) (f : ir_function.Function) (es : List ExpressionIn
       pure_constant (is_constant_by table f.expressions) (constant_to all) i (λ x l. constant_by_cell table i x le s l) (shape_at f.expressions i) (below i)
       ∙ ap (λ t. is_pure (shape_at f.expressions i) && t) (sym (unfolded all i lt))
 
-  pub is_start_more : (table : List Standing) (i : ℕ) (cell : Standing) → i < all → IsStart types f es table i → cell ≡ first_standing (is_pure (shape_at f.expressions i) && all_constant (is_constant_by table f.expressions) (operands_of (shape_at f.expressions i))) → IsStart types f es (table ++ cell ∷ []) (i + 1)
-  is_start_more table i cell lt s is = record {
-    size = omega (arith, length-append table (cell ∷ []), s.size);
-    cells = below_more (λ h. get_or (table ++ cell ∷ []) h Absent ≡ first_cell types f es h) i
-        (λ h l. let within : h < length table = omega (arith, l, s.size) in get_or_append_left table (cell ∷ []) Absent h within ∙ s.cells h l)
-        (ap (λ k. get_or (table ++ cell ∷ []) k Absent) (sym s.size) ∙ get_or-append_seam table cell [] Absent ∙ is ∙ ap first_standing (next_cell table i lt s));
-  }
+  pub is_start_more : (table : List Standing) (i : ℕ) (cell : Standing) → i < all →
+      IsStart types f es table i →
+      cell ≡ first_standing (is_pure (shape_at f.expressions i) && all_constant
+      (is_constant_by table f.expressions) (operands_of (shape_at f.expressions i))) →
+      IsStart types f es (slice_set table i cell) (i + 1)
+  is_start_more table i cell lt s is =
+      let within : i < length table = subst (λ n. i < n) (sym s.size) lt in
+      let now = slice_set table i cell in
+      record {
+        size = length-set table i cell ∙ s.size;
+        cells = below_more (λ h. get_or now h Absent ≡ first_cell types f es h) i
+            (λ h l.
+            get_or-set_other table i h cell Absent (λ same. absurd (omega (arith, l, same)))
+            ∙ s.cells h l)
+            (get_or-set_at table i i cell Absent refl within
+            ∙ is ∙ ap first_standing (next_cell table i lt s));
+      }
 
   pub start_handles : (table : List Standing) → IsStart types f es table all → handles_of table ≡ at_start (function_shape types f es)
   start_handles table s = λ i h. each h i

@@ -1,8 +1,7 @@
 -- The check over the locals, the statements and the functions in turn.
-use Rattle.std.proofs.Common.{◌≡◌, ℕ, suc, ◌+◌, ◌<◌, ◌≤◌, ◌^◌, ◌&&◌, Bool, true, false, zero, Option, arith, List, [], ◌∷◌, map, drop, length, nat_le, Some, refl, sym, ap, ap₂, subst, ◌∙◌, slice_index_or}
-use Rattle.std.specs.Prelude.{IsTrue, slice_get, reverse}
-use Rattle.std.specs.List.{list_all, enumerate_from}
-use mathlib.Core.List.{reverse_aux}
+use Rattle.std.proofs.Common.{◌≡◌, ℕ, suc, ◌+◌, ◌<◌, ◌≤◌, ◌&&◌, true, false, zero, Option, arith, List, [], ◌∷◌, map, drop, length, refl, sym, ap, ap₂, ◌∙◌, slice_index_or}
+use Rattle.std.specs.Prelude.{IsTrue}
+use Rattle.std.specs.List.{enumerate_from}
 use Rattle.std.proofs.lemmas.Bool.{and_parts, and_from}
 use Rattle.std.proofs.lemmas.List.{drop_all}
 use Rattle.module_meaning.specs.Part.{names_nothing}
@@ -87,58 +86,3 @@ module _ (names : NameMap) (types : List Type_) (g : ℕ) (f : ir_function.Funct
 
   pub lines_end : (items : List Statement) (i : ℕ) (s : Handles) → length items ≤ i → true ≡ fits_all own 0 (statements_shape (block_of (drop i items))) s
   lines_end items i s le = ap (λ xs. fits_all own 0 (statements_shape (block_of xs)) s) (sym (drop_all i items le))
-
--- ---- functions
-and_assoc : (a b c : Bool) → ((a && b) && c) ≡ (a && (b && c))
-and_assoc true b c = refl
-and_assoc false b c = refl
-
-and_swap : (a b : Bool) → (a && b) ≡ (b && a)
-and_swap true true = refl
-and_swap true false = refl
-and_swap false true = refl
-and_swap false false = refl
-
-all_turned : {X : Type 0} (test : X → Bool) (xs behind : List X) → list_all test (reverse_aux xs behind) ≡ (list_all test xs && list_all test behind)
-all_turned test [] behind = refl
-all_turned test (x ∷ xs) behind =
-    all_turned test xs (x ∷ behind)
-    ∙ sym (and_assoc (list_all test xs) (test x) (list_all test behind))
-    ∙ ap (λ b. b && list_all test behind) (and_swap (list_all test xs) (test x))
-
--- a list that is turned round passes a test where it does
-pub all_reversed : {X : Type 0} (test : X → Bool) (xs : List X) → list_all test xs ≡ list_all test (reverse xs)
-all_reversed test xs = sym (all_turned test xs [] ∙ and_swap (list_all test xs) true)
-
-module _ (names : NameMap) (types : List Type_) where
-  -- the functions from the one with this handle on
-  abbrev functions_on : ℕ → List ir_function.Function → List (List ExpressionInfo) → List Naming
-  functions_on i fs ess = namings_from names i (function_shapes types (drop i fs) (drop i ess))
-
-  functions_more : (i : ℕ) (fs : List ir_function.Function) (ess : List (List ExpressionInfo)) (f : ir_function.Function) (es : List ExpressionInfo) → i < length fs → i < length ess → slice_get fs i ≡ Some f → es ≡ slice_index_or ess i es → functions_on i fs ess ≡ function_naming names types i f es ∷ functions_on (i + 1) fs ess
-  functions_more i fs ess f es lf le at is =
-      ap₂ (λ gs hs. namings_from names i (function_shapes types gs hs))
-      (drop_first i fs f lf ∙ ap (λ y. y ∷ drop (i + 1) fs) (item_at fs i f lf at))
-      (drop_first i ess es le ∙ ap (λ y. y ∷ drop (i + 1) ess) (sym is))
-
-  -- what is left of the check, and what was found so far
-  pub functions_hold : (so_far : Bool) (i : ℕ) (fs : List ir_function.Function) (ess : List (List ExpressionInfo)) (f : ir_function.Function) (es : List ExpressionInfo) → i < length fs → i < length ess → slice_get fs i ≡ Some f → es ≡ slice_index_or ess i es → fits_function (function_naming names types i f es) ≡ true → (so_far && list_all fits_function (functions_on (i + 1) fs ess)) ≡ (so_far && list_all fits_function (functions_on i fs ess))
-  functions_hold so_far i fs ess f es lf le at is fit =
-      sym (ap (λ ns. so_far && list_all fits_function ns) (functions_more i fs ess f es lf le at is)
-      ∙ ap (λ b. so_far && (b && list_all fits_function (functions_on (i + 1) fs ess))) fit)
-
-  pub functions_refused : (so_far : Bool) (i : ℕ) (fs : List ir_function.Function) (ess : List (List ExpressionInfo)) (f : ir_function.Function) (es : List ExpressionInfo) → i < length fs → i < length ess → slice_get fs i ≡ Some f → es ≡ slice_index_or ess i es → fits_function (function_naming names types i f es) ≡ false → false ≡ (so_far && list_all fits_function (functions_on i fs ess))
-  functions_refused so_far i fs ess f es lf le at is fit =
-      no_and so_far (list_all fits_function (functions_on (i + 1) fs ess))
-      ∙ sym (ap (λ ns. so_far && list_all fits_function ns) (functions_more i fs ess f es lf le at is)
-      ∙ ap (λ b. so_far && (b && list_all fits_function (functions_on (i + 1) fs ess))) fit)
-
-  pub functions_end : (so_far : Bool) (i : ℕ) (fs : List ir_function.Function) (ess : List (List ExpressionInfo)) → length fs ≤ i → so_far ≡ (so_far && list_all fits_function (functions_on i fs ess))
-  functions_end so_far i fs ess le =
-      and_swap true so_far ∙ ap (λ gs. so_far && list_all fits_function (namings_from names i (function_shapes types gs (drop i ess)))) (sym (drop_all i fs le))
-
--- ---- how many expressions there are
-pub counted_more : (i : ℕ) (fs : List ir_function.Function) (f : ir_function.Function) → i < length fs → slice_get fs i ≡ Some f → IsTrue (nat_le (length f.expressions) (2 ^ 64)) → list_all (λ f. nat_le (length f.expressions) (2 ^ 64)) (drop (i + 1) fs) ≡ list_all (λ f. nat_le (length f.expressions) (2 ^ 64)) (drop i fs)
-counted_more i fs f lt at counted =
-    sym (ap (list_all (λ f. nat_le (length f.expressions) (2 ^ 64))) (drop_first i fs f lt ∙ ap (λ y. y ∷ drop (i + 1) fs) (item_at fs i f lt at))
-    ∙ ap (λ b. b && list_all (λ f. nat_le (length f.expressions) (2 ^ 64)) (drop (i + 1) fs)) counted)

@@ -3,3 +3,4 @@ pub mod Constants
 pub mod Emitting
 pub mod Holding
 pub mod FirstValues
+pub mod Planned

@@ -116,27 +116,26 @@ fn statement_holds(
 }
 
 /// Whether each expression of the function is in scope where it is used, and each `Emit` is allowed.
-pub fn function_holds(
-    alloc: Global,
-    function: &Function,
-    info: &FunctionInfo,
-) -> Result<bool, AllocError>
-    requires ordered { OperandsStandBefore function.now.expressions }
+/// The scope is that of the function's start, and then that of some point inside.
+pub(crate) fn function_holds(scope: &mut Scope, function: &Function, info: &FunctionInfo) -> bool
     requires flat { IsTrue (is_flat function.now.body) }
     requires unnamed { IsTrue (names_nothing function.now) }
-    ensures counted { IfOk result (λ _. IsTrue (nat_le (length function.now.expressions) (2 ^ 64))) }
-    ensures scope { (names : NameMap) (types : List Type_) (g : ℕ) → IfOk result (λ b. b ≡ fits_function (function_naming names types g function.now info.now)) }
+    requires start { (types : List Type_) →
+        handles_of scope.old ≡ at_start (function_shape types function.now info.now) }
+    requires size { length scope.old ≡ length function.now.expressions }
+    ensures scope { (names : NameMap) (types : List Type_) (g : ℕ) →
+        result ≡ fits_function (function_naming names types g function.now info.now) }
+    ensures size { length scope.new ≡ length scope.old }
 {
-    let mut scope = Scope::start(alloc, function)?;
-    if !first_values_hold(&scope, function) {
-        return Ok(false);
+    if !first_values_hold(scope, function) {
+        return false;
     }
     for statement in function.body.as_slice() {
-        if !statement_holds(&mut scope, function, info, statement) {
-            return Ok(false);
+        if !statement_holds(scope, function, info, statement) {
+            return false;
         }
     }
-    Ok(true)
+    true
 }
 
 /// Whether no front end named an expression of a function.
@@ -149,21 +148,4 @@ pub fn nothing_named(module: &Module) -> bool
         }
     }
     true
-}
-
-/// Whether each expression of each function is in scope where it is used, and each `Emit` is allowed.
-pub fn scope_holds(alloc: Global, module: &Module, info: &ModuleInfo) -> Result<bool, AllocError>
-    requires accepted { IsTrue (is_accepted «module».now info.now) }
-    requires unnamed { IsTrue (nothing_named «module».now) }
-    ensures scope { IfOk result (λ b. b ≡ scope_holds «module».now info.now) }
-    ensures counted { IfOk result (λ _. IsTrue (handles_are_counted «module».now)) }
-{
-    let mut holds = true;
-    for (index, known) in info.functions.iter().enumerate() {
-        let function = &module.functions[Place::from_index(index)];
-        if !function_holds(alloc, function, known)? {
-            holds = false;
-        }
-    }
-    Ok(holds)
 }

@@ -1,11 +1,13 @@
-//! Where the expressions of a function are in scope, which of them a `let` binds, and the check that
-//! refuses an operand out of scope.
+//! Where the expressions of a function are in scope, which of them a `let` binds, and the plan of a
+//! function, which refuses an operand out of scope before the function's text.
 #![tactic(auto)]
 
 pub mod binding;
 pub mod check;
+pub mod plan;
 pub mod points;
 
 pub use binding::binds;
-pub use check::{function_holds, nothing_named, scope_holds};
+pub use check::nothing_named;
+pub use plan::{Plan, PlanError};
 pub use points::{Scope, Standing};

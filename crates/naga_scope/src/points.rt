@@ -173,13 +173,25 @@ impl Scope {
         ensures size { IfOk result (λ s. length s ≡ length function.now.expressions) }
         ensures counted { IfOk result (λ _. IsTrue (nat_le (length function.now.expressions) (2 ^ 64))) }
     {
-        let mut standings = Vec::new(alloc);
+        let standings = vec![in alloc; Standing::Absent; function.expressions.len()]?;
+        let mut scope = Scope { standings };
+        scope.restart(function);
+        Ok(scope)
+    }
+
+    /// Goes to the start of the function, from wherever it is, in the memory that it has.
+    pub fn restart(&mut self, function: &Function)
+        requires ordered { OperandsStandBefore function.now.expressions }
+        requires size { length self.old ≡ length function.now.expressions }
+        ensures start { (types : List Type_) (es : List ExpressionInfo) →
+            handles_of self.new ≡ at_start (function_shape types function.now es) }
+        ensures size { length self.new ≡ length self.old }
+    {
         for index in 0..function.expressions.len() {
             let expression = &function.expressions[Place::from_index(index)];
-            let standing = first_standing(&standings, function, expression);
-            standings.push(standing)?;
+            let standing = first_standing(&self.standings, function, expression);
+            self.standings[index] = standing;
         }
-        Ok(Scope { standings })
     }
 
     /// Where the expression with this handle stands. One past the function's expressions is absent.

@@ -1,11 +1,9 @@
 -- How calls that write texts one behind another write the texts together.
 use Rattle.std.proofs.Common.{◌≡◌, ℕ, List, [], ◌++◌, append_assoc, Result, Ok, Err, refl, sym, ap, ◌∙◌, subst}
 use Rattle.std.proofs.lemmas.List.{append-nil}
-use Rattle.std.specs.Result.{IsErrAnd, IfErr, OnOk, OnErr}
-use Rattle.std.specs.declared.alloc.AllocError.{AllocError}
+use Rattle.std.specs.Result.{IsErrAnd}
 use Rattle.naga_words.proofs.Writing.{behind_first, behind_then}
 use Rattle.naga_wgsl_fns.specs.declared.error.Error.{Error}
-use Rattle.naga_wgsl_fns.specs.declared.error.Error.TheVariants.{Memory as Want}
 use Rattle.naga_wgsl_fns.specs.Errors.{IsWant}
 use Rattle.naga_wgsl_fns.specs.Appends.{Wrote, Stopped, Appends}
 
@@ -32,29 +30,3 @@ appends_then (Err e) more now failures w s = stopped_then w s
 pub appends_stopped : (r : Result Unit Error) {held text now : List ℕ} {failed failures : ℕ} {error : Error} → IsErrAnd r (λ e. e ≡ error) → Stopped held failed text now failures error → Appends r held failed text now failures
 appends_stopped (Ok x) is s = absurd is
 appends_stopped (Err e) {held} {text} {now} {failed} {failures} is s = subst (λ e. Stopped held failed text now failures e) (sym is) s
-
--- the same text said in another way
-pub appends_as : (r : Result Unit Error) (held : List ℕ) (failed : ℕ) (text same now : List ℕ) (failures : ℕ) → text ≡ same → Appends r held failed text now failures → Appends r held failed same now failures
-appends_as r held failed text same now failures e a = subst (λ t. Appends r held failed t now failures) e a
-
--- so far along a text: some of it was written, and this is left
-pub record IsAlong (whole held : List ℕ) (failed : ℕ) (now : List ℕ) (failures : ℕ) (left : List ℕ) : Type 0 where
-  pub done : List ℕ
-  pub all : done ++ left ≡ whole
-  pub wrote : Wrote held failed done now failures
-
-pub along_start : (whole held : List ℕ) (failed : ℕ) → IsAlong whole held failed held failed whole
-along_start whole held failed = record { done = []; all = refl; wrote = wrote_nothing held failed }
-
-pub along_more : {whole held middle left text now : List ℕ} {failed among failures : ℕ} (more : List ℕ) → IsAlong whole held failed middle among left → left ≡ text ++ more
-    → Wrote middle among text now failures → IsAlong whole held failed now failures more
-along_more {text = text} more a is w = record { done = a.done ++ text; all = append_assoc a.done text more ∙ ap (λ t. a.done ++ t) (sym is) ∙ a.all; wrote = wrote_then a.wrote w }
-
-pub along_stopped : {whole held middle left text now : List ℕ} {failed among failures : ℕ} {error : Error} (more : List ℕ) → IsAlong whole held failed middle among left → left ≡ text ++ more
-    → Stopped middle among text now failures error → Stopped held failed whole now failures error
-along_stopped {held = held} {now = now} {failed = failed} {failures = failures} {error = error} more a is s =
-    subst (λ t. Stopped held failed t now failures error) (ap (λ t. a.done ++ t) (sym is) ∙ a.all) (stopped_then a.wrote (stopped_first more s))
-
--- nothing is left
-pub along_done : {whole held now left : List ℕ} {failed failures : ℕ} → IsAlong whole held failed now failures left → left ≡ [] → Wrote held failed whole now failures
-along_done {whole} {held} {now} {left} {failed} {failures} a none = subst (λ t. Wrote held failed t now failures) (sym (append-nil a.done) ∙ ap (λ t. a.done ++ t) (sym none) ∙ a.all) a.wrote

@@ -1,5 +1,5 @@
 -- What the parts of a function want, from what the function wants.
-use Rattle.std.proofs.Common.{◌≡◌, ℕ, suc, ◌<◌, ◌≤◌, ◌^◌, true, false, List, [], ◌++◌, codes, length, Option, None, Some, refl, sym, ap, subst, ◌∙◌, arith, IsTrue}
+use Rattle.std.proofs.Common.{◌≡◌, ℕ, suc, ◌<◌, ◌≤◌, true, false, List, [], ◌++◌, codes, length, Option, None, Some, refl, sym, ap, subst, ◌∙◌, IsTrue}
 use Rattle.std.specs.Prelude.{slice_get, cond, nat_lt, nat_le, unwrap_or}
 use Rattle.std.specs.List.{list_all}
 use Rattle.std.specs.Option.{is_some, option_map, option_and_then}
@@ -17,9 +17,8 @@ use Rattle.naga_ir.specs.declared.module.Module.{Module}
 use Rattle.naga_ir.specs.declared.operators.BinaryOperator.{BinaryOperator}
 use Rattle.naga_info.specs.declared.info.ExpressionInfo.{ExpressionInfo}
 use Rattle.naga_names.specs.Keys.{NameMap, names_in}
-use Rattle.naga_names.specs.declared.key.NameKey.TheVariants as key
 use Rattle.shader_runs.specs.Scope.{bound_name, given_after, given_by}
-use Rattle.module_meaning.specs.Names.{module_names, name_in, numbered_name}
+use Rattle.module_meaning.specs.Names.{module_names, numbered_name}
 use Rattle.module_meaning.specs.Shapes.{statement_shape, OperandsStandBefore}
 use Rattle.naga_form.proofs.Fits.{nothing_outside, not_given, given_line, ordered_at}
 use Rattle.naga_form.specs.Types.{told_type}
@@ -32,7 +31,7 @@ use Rattle.module_meaning.proofs.Part.{written_parts}
 use Rattle.module_meaning.specs.Applications.{Application, application_of}
 use Rattle.shader_runs.specs.Premises.{AllBelow}
 use Rattle.module_meaning.specs.Spelled.{literal_word, word_at, spelling_of, local_pointer}
-use Rattle.module_meaning.specs.Accepted.{is_below, expected_type, local_fits, statement_fits, return_fits, block_fits}
+use Rattle.module_meaning.specs.Accepted.{is_below, expected_type, local_fits, statement_fits, return_fits}
 use Rattle.module_meaning.specs.Part.{names_nothing}
 use Rattle.naga_info.proofs.Options.{then_some}
 use Rattle.module_meaning.proofs.Accepting.{list_all_at, scalar_types_word_at, function_fits_signature, function_fits_locals, function_fits_block, function_fits_length, function_fits_word_at, local_fits_parts, value_fits_word, local_word_at, load_word_at, applied_at, store_fits_word, local_first_word}

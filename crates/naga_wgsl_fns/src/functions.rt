@@ -5,6 +5,7 @@ ghost use Rattle.module_meaning.specs.Accepted.{is_accepted, is_below};
 ghost use Rattle.module_meaning.specs.Part.{is_written_so_far};
 ghost use Rattle.module_meaning.specs.Names.{HasNamesOf};
 ghost use Rattle.naga_names.specs.Keys.{names_in};
+ghost use Rattle.naga_scope.specs.Plans.{IsPlanOf};
 ghost use Rattle.naga_words.specs.Output.{Writes};
 ghost use Rattle.naga_words.specs.Sink.{IsBehind};
 ghost use Rattle.naga_wgsl_fns.specs.Errors.{IsWant};
@@ -20,7 +21,7 @@ use naga_ir::{
     Expression, Function, FunctionArgument, Handle, LocalVariable, Module, Place, Type_,
 };
 use naga_names::NameKey;
-use naga_scope::Scope;
+use naga_scope::{Plan, Scope};
 use naga_words::{Output, TextSink};
 use std::alloc::Global;
 use std::collections::HashMap;
@@ -29,8 +30,11 @@ use std::collections::HashMap;
 /// arguments and its locals under their names in `names`, which has them all.
 ///
 /// The module is accepted with what is known of it, and is one of those that are written so far.
-/// Where the call gives up, for want of memory or because the sink failed, a beginning of the text
-/// stands behind what the sink held. What is used out of scope is not looked for here.
+/// The plan is that of the function.
+///
+/// Where the call gives up, because the sink failed or for want of memory, a beginning of the text
+/// stands behind what the sink held. Memory is taken where the sink takes it, and where a type is
+/// spelled.
 #[tactic(auto, using(naga_words::proofs::Writing::fresh_output))]
 pub fn write_function<W: TextSink>(
     alloc: Global,
@@ -39,12 +43,14 @@ pub fn write_function<W: TextSink>(
     names: &HashMap<NameKey, String>,
     flags: WriterFlags,
     handle: Handle<Function>,
+    plan: Plan,
     out: &mut W,
 ) -> Result<(), Error>
     requires accepted { IsTrue (is_accepted «module».now info.now) }
     requires written { IsTrue (is_written_so_far «module».now) }
     requires handle { handle < length «module».now.functions }
     requires names { HasNamesOf «module».now (names_in names.now) }
+    requires planned { IsPlanOf «module».now info.now handle plan }
     ensures text_ok { OnOk result (W.text out.new
         ≡ W.text out.old ++ text_of_function «module».now info.now flags handle) }
     ensures text_err { OnErr result (IsBehind (W.text out.old)
@@ -61,7 +67,7 @@ pub fn write_function<W: TextSink>(
         info: &info[handle],
     };
     let mut written = Output::new(out);
-    text.write_declaration(alloc, &mut written);
+    text.write_declaration(alloc, plan, &mut written);
     match written.outcome() {
         Ok(()) => Ok(()),
         Err(want) => Err(error_of_want(want)),
@@ -80,16 +86,17 @@ pub(crate) struct FunctionText<'a> {
 }
 
 impl FunctionText<'_> {
+    /// The whole function. The plan has what is in scope at its start.
     #[tactic(auto, using(naga_words::proofs::Writing::writes_then, crate::proofs::FunctionRows::function_row))]
-    fn write_declaration<W: TextSink>(&self, alloc: Global, out: &mut Output<'_, W>)
-        requires { CanWrite self.now }
+    fn write_declaration<W: TextSink>(&self, alloc: Global, plan: Plan, out: &mut Output<'_, W>)
+        requires can { CanWrite self.now }
+        requires start { StartsAt self.now plan }
+        requires size { length plan ≡ length self.now.function.now.expressions }
         ensures { Writes W.text W.failures out.old out.new (function_text self.now) }
     {
         self.write_head(alloc, out);
-        match Scope::start(alloc, self.function) {
-            Ok(mut scope) => self.write_body(alloc, &mut scope, out),
-            Err(error) => out.remember(error),
-        }
+        let mut scope = plan.into_scope();
+        self.write_body(alloc, &mut scope, out);
     }
 
     /// What stands before the locals.

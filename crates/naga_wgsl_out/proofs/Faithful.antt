@@ -1,12 +1,10 @@
 -- What was written is faithful to the module.
-use Rattle.std.proofs.Common.{◌≡◌, ℕ, false, List, [], ◌∷◌, ◌++◌, drop, refl, sym, ap, subst, ◌∙◌, true≢false, Ok, Err, inl, inr}
-use Rattle.std.specs.Prelude.{IsTrue, Result, OnOk, OnErr, codes}
-use Rattle.std.specs.List.{enumerate_from, list_all}
-use Rattle.std.proofs.lemmas.Bool.{and_parts}
-use Rattle.naga_ir.specs.declared.module.Function.{Function}
+use Rattle.std.proofs.Common.{◌≡◌, ◌<◌, ◌∙◌, ◌++◌, ℕ, Bool, false, List, [], ◌∷◌, Ok, Err}
+use Rattle.std.proofs.Common.{ap, drop, inl, inr, length, subst, sym}
+use Rattle.std.specs.Prelude.{IfErr, IsTrue, OnErr, OnOk, Result}
 use Rattle.naga_ir.specs.declared.module.Module.{Module}
 use Rattle.module_meaning.specs.Accepted.{is_accepted}
-use Rattle.module_meaning.specs.Part.{is_written_so_far, function_is_written, names_nothing}
+use Rattle.module_meaning.specs.Part.{is_written_so_far}
 use Rattle.module_meaning.proofs.Accepting.{accepted_functions_fit, functions_fit_length}
 use Rattle.naga_info.specs.declared.info.ModuleInfo.{ModuleInfo}
 use Rattle.naga_names.specs.Keys.{NameMap}
@@ -16,7 +14,6 @@ use Rattle.wgsl_text.specs.Tree.{Program}
 use Rattle.wgsl_text.proofs.Reading.{program_has_one_reading}
 use Rattle.module_meaning.specs.Faithful.{HasInterfaceOf, RunsAs}
 use Rattle.naga_form.specs.Form.{written_program}
-use Rattle.module_meaning.specs.Premises.{nothing_named, scope_holds, handles_are_counted}
 use Rattle.module_meaning.specs.Bindings.{BindsAs}
 use Rattle.naga_form.proofs.Bindings.{binds_as}
 use Rattle.naga_form.proofs.Interfaces.{has_interface}
@@ -25,18 +22,22 @@ use Rattle.module_meaning.specs.Resolution.{ResolvesAs}
 use Rattle.naga_form.proofs.Resolutions.{resolves}
 use Rattle.module_meaning.proofs.Part.{functions_name_nothing}
 use Rattle.naga_form.proofs.Runs.{runs_as}
-use Rattle.naga_form.proofs.ScopeRules.{scopes_are_checked}
+use Rattle.naga_scope.specs.Plans.{ScopeHoldsIn}
 use Rattle.naga_words.specs.Sink.{IsBehind}
-use Rattle.naga_wgsl_fns.specs.Appends.{Appends}
-use Rattle.naga_wgsl_fns.proofs.Appending.{appends_as}
-use Rattle.naga_wgsl_fns.specs.Errors.{IsWant, IsNotYetWritten, IsCustom}
+use Rattle.naga_wgsl_fns.specs.Appends.{Stopped}
+use Rattle.naga_wgsl_fns.specs.Errors.{IsWant, IsNotYetWritten}
 use Rattle.naga_wgsl_fns.specs.declared.error.Error.{Error}
-use Rattle.naga_wgsl_fns.specs.declared.error.Error.TheVariants.{FmtError, Custom, Unimplemented, Memory}
+use Rattle.naga_wgsl_fns.specs.declared.error.Error.TheVariants.{FmtError, Custom, Unimplemented}
+use Rattle.naga_wgsl_fns.specs.declared.error.Error.TheVariants.{Memory}
 use Rattle.naga_back.specs.declared.flags.WriterFlags.{WriterFlags}
 use Rattle.naga_wgsl_fns.specs.FunctionText.{tells_types}
-use Rattle.naga_wgsl_out.specs.Writing.{lines_of, written_text}
-use Rattle.naga_wgsl_out.proofs.Functions.{written_lines}
-use Rattle.naga_wgsl_out.specs.Refusals.{IsNamesRefusal, IsRefusal, HasAllNames}
+use Rattle.naga_wgsl_out.specs.Writing.{HasPlan, MetNoPlan, WritesFunctions, WroteFunctions}
+use Rattle.naga_wgsl_out.specs.Writing.{WroteFunctionsBefore, lines_before, module_lines}
+use Rattle.naga_wgsl_out.specs.Writing.{written_text}
+use Rattle.naga_wgsl_out.proofs.Functions.{lines_behind, lines_split, written_lines}
+use Rattle.naga_wgsl_out.proofs.Scopes.{all_planned_counted, all_planned_hold, scope_holds_in}
+use Rattle.naga_wgsl_out.specs.Refusals.{ComesBeforeText, HasAllNames, IsNamesRefusal, IsRefusal}
+use Rattle.naga_wgsl_out.specs.Refusals.{TellsOfModule, TellsOfScope}
 use Rattle.naga_wgsl_out.specs.Headline.{EachReading, FaithfulWriting}
 
 -- what stands behind the same text is the same
@@ -54,11 +55,12 @@ for_names m info (Custom message) before after is = inl is
 for_names m info (Memory e) before after is = tt
 for_names m info _ before after is = absurd is
 
--- and so is an operand out of scope
-pub for_scope : (m : Module) (info : ModuleInfo) → IsTrue (is_accepted m info) → (error : Error) (before after : ℕ) → IsCustom (codes "operand out of scope") error → scope_holds m info ≡ false → IsRefusal m info before after error
-for_scope m info accepted (Custom message) before after is out = inr (is, λ rules. true≢false (sym ((scopes_are_checked m info accepted).1 rules) ∙ out))
-for_scope m info accepted (Memory e) before after is out = tt
-for_scope m info accepted _ before after is out = absurd is
+-- and so is a function in which the rules of scope don't hold
+pub for_scope : (m : Module) (info : ModuleInfo) (error : Error) (before after : ℕ) →
+    TellsOfScope error → (i : ℕ) → (ScopeHoldsIn m info i → ⊥) → IsRefusal m info before after error
+for_scope m info (Custom message) before after told i fails =
+    inr (told, λ rules. fails (scope_holds_in m info rules i))
+for_scope m info _ before after told i fails = absurd told
 
 -- so are a sink that failed and want of memory
 pub for_want : (m : Module) (info : ModuleInfo) (error : Error) (before after : ℕ) → IsWant before after error → IsRefusal m info before after error
@@ -72,35 +74,136 @@ for_part m info (Unimplemented message) before after is part = (is, part)
 for_part m info (Memory e) before after is part = tt
 for_part m info _ before after is part = absurd is
 
+-- ---- what errors tell
+-- what comes from the sink or from memory tells of no module
+pub want_tells_nothing : (error : Error) (before after : ℕ) → IsWant before after error →
+    TellsOfModule error → ⊥
+want_tells_nothing (FmtError e) before after is tells = tells
+want_tells_nothing (Memory e) before after is tells = tells
+want_tells_nothing _ before after is tells = is
+
+pub scope_tells_of_module : (error : Error) → TellsOfScope error → TellsOfModule error
+scope_tells_of_module (Custom message) told = tt
+scope_tells_of_module _ told = absurd told
+
 -- a text that was appended
-module _ (m : Module) (info : ModuleInfo) (flags : WriterFlags) (accepted : IsTrue (is_accepted m info)) (written : IsTrue (is_written_so_far m)) (scope : IsTrue (scope_holds m info)) (counted : IsTrue (handles_are_counted m)) (names : NameMap) (has : HasAllNames m names) where
-  one : HasOneReading Reads (written_text m info flags) (written_program m info (tells_types flags))
-  one = program_has_one_reading (written_program m info (tells_types flags)) (is_program m info (tells_types flags) accepted (functions_name_nothing m written) counted)
+module _ (m : Module) (info : ModuleInfo) (flags : WriterFlags)
+    (accepted : IsTrue (is_accepted m info)) (written : IsTrue (is_written_so_far m))
+    (names : NameMap) (has : HasAllNames m names) where
+  -- a plan of each function
+  abbrev AllPlanned : Type 0
+  AllPlanned = (i : ℕ) → i < length m.functions → HasPlan m info i
 
-  each : (held now : List ℕ) → now ≡ held ++ written_text m info flags → (Q : Program → Type 0) → Q (written_program m info (tells_types flags)) → EachReading held now Q
-  each held now appended Q holds text is program reads =
+  abbrev explicit : Bool
+  explicit = tells_types flags
+
+  abbrev program : Program
+  program = written_program m info explicit
+
+  one : AllPlanned → HasOneReading Reads (written_text m info flags) program
+  one planned =
+      program_has_one_reading program (is_program m info explicit accepted
+      (functions_name_nothing m written) (all_planned_counted m info accepted planned))
+
+  each : AllPlanned → (held now : List ℕ) → now ≡ held ++ written_text m info flags →
+      (Q : Program → Type 0) → Q program → EachReading held now Q
+  each planned held now appended Q holds text is other reads =
       let same = same_behind held text (written_text m info flags) (sym is ∙ appended) in
-      subst Q (sym (one.only program (subst (λ t. Reads (tokens t) program) same reads))) holds
+      subst Q (sym ((one planned).only other
+      (subst (λ t. Reads (tokens t) other) same reads))) holds
 
-  pub faithful : (held now : List ℕ) (before after : ℕ) → now ≡ held ++ written_text m info flags → FaithfulWriting m info (Ok tt) held now before after
-  faithful held now before after appended = record {
-    refusals = record { written = written; in_scope = (scopes_are_checked m info accepted).0 scope; told = has.told; keys = has.keys };
-    reading = record { text = written_text m info flags; appended = appended; program = written_program m info (tells_types flags); reading = one };
-    interface = each held now appended (HasInterfaceOf m) (has_interface m info (tells_types flags) (functions_fit_length m.types m.functions info.functions.items (accepted_functions_fit m info accepted)));
-    runs = each held now appended (RunsAs m info) (runs_as m info (tells_types flags) accepted (functions_name_nothing m written) ((scopes_are_checked m info accepted).0 scope) has.counted);
-  }
-
-  -- the answer of the call that wrote the lines
+  -- the answer of the call that wrote the functions
   pub record Concludes (r : Result Unit Error) (held now : List ℕ) (before after : ℕ) : Type 0 where
     pub is_faithful : FaithfulWriting m info r held now before after
     pub resolved : OnOk r (EachReading held now (ResolvesAs m info))
-    pub binds : OnOk r (EachReading held now (BindsAs m info (tells_types flags)))
+    pub binds : OnOk r (EachReading held now (BindsAs m info explicit))
     pub text_ok : OnOk r (now ≡ held ++ written_text m info flags)
     pub text_err : OnErr r (IsBehind held (written_text m info flags) now)
+    pub untouched : IfErr r (λ e. ComesBeforeText e → now ≡ held)
+    pub written_before : IfErr r (λ e. TellsOfScope e → WroteFunctionsBefore m info flags held now)
+    pub unfailed : IfErr r (λ e. TellsOfModule e → after ≡ before)
+    pub failures_ok : OnOk r (after ≡ before)
 
-  pub concludes : (r : Result Unit Error) (held now : List ℕ) (before after : ℕ) → Appends r held before (lines_of m info flags (enumerate_from 0 m.functions)) now after → Concludes r held now before after
-  concludes r held now before after a = by r (appends_as r held before (lines_of m info flags (enumerate_from 0 m.functions)) (written_text m info flags) now after (written_lines m info flags accepted) a)
-    where
-      by : (r : Result Unit Error) → Appends r held before (written_text m info flags) now after → Concludes r held now before after
-      by (Ok _) w = record { is_faithful = faithful held now before after w.appended; resolved = each held now w.appended (ResolvesAs m info) (resolves m info (tells_types flags) accepted (functions_name_nothing m written) ((scopes_are_checked m info accepted).0 scope) has.counted); binds = each held now w.appended (BindsAs m info (tells_types flags)) (binds_as m info (tells_types flags) accepted); text_ok = w.appended; text_err = tt }
-      by (Err e) s = record { is_faithful = refused m info e held now before after (for_want m info e before after s.reason); resolved = tt; binds = tt; text_ok = tt; text_err = s.behind }
+  same_text : module_lines m info flags ≡ written_text m info flags
+  same_text = written_lines m info flags accepted
+
+  module _ (held now : List ℕ) (before after : ℕ) where
+    wrote : WroteFunctions m info flags held before now after →
+        Concludes (Ok tt) held now before after
+    wrote w =
+        let appended = w.wrote.appended ∙ ap (λ t. held ++ t) same_text in
+        let rules = all_planned_hold m info w.planned in
+        let unnamed = functions_name_nothing m written in
+        let fit = functions_fit_length m.types m.functions info.functions.items
+        (accepted_functions_fit m info accepted) in
+        let reading = each w.planned held now appended in
+        record {
+          is_faithful = record {
+            refusals = record {
+              written = written;
+              in_scope = rules;
+              told = has.told;
+              keys = has.keys;
+            };
+            reading = record {
+              text = written_text m info flags;
+              appended = appended;
+              program = program;
+              reading = one w.planned;
+            };
+            interface = reading (HasInterfaceOf m) (has_interface m info explicit fit);
+            runs = reading (RunsAs m info)
+                (runs_as m info explicit accepted unnamed rules has.counted);
+          };
+          resolved = reading (ResolvesAs m info)
+              (resolves m info explicit accepted unnamed rules has.counted);
+          binds = reading (BindsAs m info explicit) (binds_as m info explicit accepted);
+          text_ok = appended;
+          text_err = tt;
+          untouched = tt;
+          written_before = tt;
+          unfailed = tt;
+          failures_ok = w.wrote.kept;
+        }
+
+    stopped : (e : Error) → Stopped held before (module_lines m info flags) now after e →
+        Concludes (Err e) held now before after
+    stopped e s = record {
+      is_faithful = refused m info e held now before after
+          (for_want m info e before after s.reason);
+      resolved = tt;
+      binds = tt;
+      text_ok = tt;
+      text_err = subst (λ t. IsBehind held t now) same_text s.behind;
+      untouched = λ first. absurd (want_tells_nothing e before after s.reason first.0);
+      written_before = λ told.
+          absurd (want_tells_nothing e before after s.reason (scope_tells_of_module e told));
+      unfailed = λ tells. absurd (want_tells_nothing e before after s.reason tells);
+      failures_ok = tt;
+    }
+
+    met_no_plan : (e : Error) → MetNoPlan m info flags held before now after e →
+        Concludes (Err e) held now before after
+    met_no_plan e s = record {
+      is_faithful = refused m info e held now before after
+          (for_scope m info e before after s.told s.before.handle s.before.fails);
+      resolved = tt;
+      binds = tt;
+      text_ok = tt;
+      text_err = subst (λ t. IsBehind held t now) same_text (
+        lines_before m info flags s.before.handle,
+        lines_behind m info flags s.before.handle,
+        sym (lines_split m info flags s.before.handle),
+        s.before.written,
+      );
+      untouched = λ first. absurd (first.1 s.told);
+      written_before = λ told. s.before;
+      unfailed = λ tells. s.kept;
+      failures_ok = tt;
+    }
+
+    pub concludes : (r : Result Unit Error) → WritesFunctions m info flags r held before now after →
+        Concludes r held now before after
+    concludes (Ok _) w = wrote w
+    concludes (Err e) (inl s) = stopped e s
+    concludes (Err e) (inr s) = met_no_plan e s

@@ -1,7 +1,14 @@
 -- The text of a module from those of its functions.
-use Rattle.std.proofs.Common.{◌≡◌, ℕ, zero, suc, true, pred, unwrap_or, Some, arith, subst, slice_get, ◌+◌, ◌<◌, List, [], ◌∷◌, ◌++◌, length, drop, get_or, codes, append_assoc, append-nil, add-one, drop-cons, refl, sym, ap, ◌∙◌}
+use Rattle.std.proofs.Common.{◌≡◌, ◌+◌, ◌<◌, ◌∙◌, ◌++◌, ℕ, zero, suc, true, List, [], ◌∷◌, Some}
+use Rattle.std.proofs.Common.{append-nil, append_assoc, add-one, ap, arith, below_more, codes, drop}
+use Rattle.std.proofs.Common.{drop-cons, get_or, inl, inr, length, pred, refl, slice_get, subst}
+use Rattle.std.proofs.Common.{Err, Ok, Result, sym, take, unwrap_or}
+use Rattle.std.specs.Prelude.{◌⊎◌, IsErrAnd}
 use Rattle.std.specs.List.{enumerate_from}
 use Rattle.std.specs.Option.{option_map_or}
+use Rattle.std.proofs.lemmas.Grind.{flat_map-append}
+use Rattle.std.proofs.lemmas.List.{get_or_default, take-append-drop, take_all, take_more}
+use Rattle.std.proofs.lemmas.List.FromFn.{length-enumerate_from}
 use Rattle.naga_ir.specs.declared.module.Function.{Function}
 use Rattle.naga_ir.specs.declared.module.Module.{Module}
 use Rattle.naga_info.specs.declared.info.ExpressionInfo.{ExpressionInfo}
@@ -13,11 +20,21 @@ use Rattle.wgsl_text.specs.Text.{text}
 use Rattle.wgsl_text.specs.Token.{LineEnd}
 use Rattle.wgsl_text.proofs.RowText.{text-append}
 use Rattle.naga_form.specs.Form.{function_form, functions_form}
+use Rattle.naga_names.proofs.Counts.{element}
+use Rattle.naga_scope.specs.Plans.{IsPlanOf, ScopeHoldsIn}
+use Rattle.naga_scope.specs.declared.points.Standing.{Standing}
 use Rattle.module_meaning.specs.Names.{module_names}
+use Rattle.naga_wgsl_fns.specs.Appends.{Stopped, Wrote}
 use Rattle.naga_wgsl_fns.specs.FunctionText.{tells_types}
 use Rattle.naga_wgsl_fns.specs.Functions.{known_of, text_of_function}
+use Rattle.naga_wgsl_fns.specs.declared.error.Error.{Error}
+use Rattle.naga_wgsl_fns.specs.declared.error.Error.TheVariants.{Custom, Memory}
+use Rattle.naga_wgsl_fns.proofs.Appending.{stopped_first, stopped_then, wrote_nothing, wrote_then}
 use Rattle.naga_back.specs.declared.flags.WriterFlags.{WriterFlags}
-use Rattle.naga_wgsl_out.specs.Writing.{lines_of, written_text}
+use Rattle.naga_wgsl_out.specs.Refusals.{IsPlanRefusal}
+use Rattle.naga_wgsl_out.specs.Writing.{HasPlan, MetNoPlan, WritesFunctions, WroteFunctions}
+use Rattle.naga_wgsl_out.specs.Writing.{line_of, lines_before, lines_of, module_lines, written_text}
+use Rattle.naga_wgsl_out.proofs.Scopes.{planned_holds}
 
 functions_text : (m : Module) (info : ModuleInfo) (flags : WriterFlags) (g : ℕ) (fs : List Function) (ess : List (List ExpressionInfo)) → length fs ≡ length ess → ((i : ℕ) (es : List ExpressionInfo) → slice_get ess i ≡ Some es → known_of info (g + i) ≡ es) → text (functions_pieces (functions_form (tells_types flags) (module_names m) m.types g fs ess)) ≡ lines_of m info flags (enumerate_from g fs)
 functions_text m info flags g [] [] size known = refl
@@ -59,10 +76,6 @@ at_enumerated n (x ∷ fs) (suc i) f lt is =
     let moved : (n + 1) + i ≡ n + suc i = omega arith in
     (rest.0 ∙ moved, omega (arith, rest.1), rest.2)
 
--- the handle is one of the module's
-pub within : (fs : List Function) (n : ℕ) (f : ℕ × Function) → n < length (enumerate_from 0 fs) → f ≡ get_or (enumerate_from 0 fs) n f → f.0 < length fs
-within fs n f lt is = let at = at_enumerated 0 fs n f lt is in let same : 0 + n ≡ n = omega arith in subst (λ h. h < length fs) (sym (at.0 ∙ same)) at.1
-
 text_is : (m : Module) (info : ModuleInfo) (flags : WriterFlags) (n : ℕ) (f : ℕ × Function) → n < length (enumerate_from 0 m.functions) → f ≡ get_or (enumerate_from 0 m.functions) n f → text (function_pieces (function_form (tells_types flags) (module_names m) m.types f.0 f.1 (known_of info f.0))) ≡ text_of_function m info flags f.0
 text_is m info flags n f lt is =
     let at = at_enumerated 0 m.functions n f lt is in
@@ -76,13 +89,131 @@ here_line m info flags n f lt is =
     next_line m info flags (enumerate_from 0 m.functions) n f lt is
     ∙ ap (λ t. (t ++ codes "\n") ++ lines_of m info flags (drop (n + 1) (enumerate_from 0 m.functions))) (text_is m info flags n f lt is)
 
-pub one_more : {A : Type 0} (xs : List A) (x : A) → length xs + 1 ≡ length (xs ++ x ∷ [])
-one_more [] x = refl
-one_more (y ∷ xs) x = let out : suc (length xs) + 1 ≡ suc (length xs + 1) = omega arith in out ∙ ap suc (one_more xs x)
+-- ---- up to a function, each in front of it written by a plan
+-- the answer of a call that ends with an error
+writes_err : {m : Module} {info : ModuleInfo} {flags : WriterFlags} {held now : List ℕ}
+    {failed failures : ℕ} (r : Result Unit Error) {error : Error} → IsErrAnd r (λ e. e ≡ error) →
+    (Stopped held failed (module_lines m info flags) now failures error
+    ⊎ MetNoPlan m info flags held failed now failures error) →
+    WritesFunctions m info flags r held failed now failures
+writes_err (Ok x) is w = absurd is
+writes_err {m} {info} {flags} {held} {now} {failed} {failures} (Err e) is w =
+    subst (λ e. WritesFunctions m info flags (Err e) held failed now failures) (sym is) w
 
-pub all_written : (m : Module) (info : ModuleInfo) (flags : WriterFlags) (all : List (ℕ × Function)) (n : ℕ) → n ≡ length all → lines_of m info flags (drop n all) ≡ []
-all_written m info flags all n is = ap (lines_of m info flags) (ap (λ k. drop k all) is ∙ nothing_left all)
-  where
-    nothing_left : {A : Type 0} (xs : List A) → drop (length xs) xs ≡ []
-    nothing_left [] = refl
-    nothing_left (x ∷ xs) = nothing_left xs
+pub record IsUpTo (m : Module) (info : ModuleInfo) (flags : WriterFlags) (n : ℕ) (held : List ℕ)
+    (failed : ℕ) (now : List ℕ) (failures : ℕ) : Type 0 where
+  pub wrote : Wrote held failed (lines_before m info flags n) now failures
+  pub planned : (i : ℕ) → i < n → HasPlan m info i
+
+pub up_to_none : (m : Module) (info : ModuleInfo) (flags : WriterFlags) (held : List ℕ)
+    (failed : ℕ) → IsUpTo m info flags 0 held failed held failed
+up_to_none m info flags held failed =
+    record { wrote = wrote_nothing held failed; planned = λ i lt. absurd (omega (arith, lt)) }
+
+-- the functions from this one on
+abbrev pub lines_behind : Module → ModuleInfo → WriterFlags → (n : ℕ) → List ℕ
+lines_behind m info flags n = lines_of m info flags (drop n (enumerate_from 0 m.functions))
+
+-- all functions are those in front of one and the others
+pub lines_split : (m : Module) (info : ModuleInfo) (flags : WriterFlags) (n : ℕ) →
+    lines_before m info flags n ++ lines_behind m info flags n ≡ module_lines m info flags
+lines_split m info flags n =
+    let all = enumerate_from 0 m.functions in
+    sym (flat_map-append (line_of m info flags) (take n all) (drop n all))
+    ∙ ap (lines_of m info flags) (take-append-drop n all)
+
+module _ (m : Module) (info : ModuleInfo) (flags : WriterFlags) {n : ℕ} {held middle : List ℕ}
+    {failed among : ℕ} (so_far : IsUpTo m info flags n held failed middle among) where
+  abbrev all : List (ℕ × Function)
+  all = enumerate_from 0 m.functions
+
+  -- where all were gone through
+  pub up_to_all : n ≡ length m.functions → WroteFunctions m info flags held failed middle among
+  up_to_all is = record {
+    wrote = subst (λ fs. Wrote held failed (lines_of m info flags fs) middle among)
+        (take_all n all (omega (arith, is, length-enumerate_from 0 m.functions))) so_far.wrote;
+    planned = λ i lt. so_far.planned i (omega (arith, is, lt));
+  }
+
+  -- at the function with this handle
+  module _ (handle : ℕ) (is : handle ≡ n) (lt : n < length m.functions) where
+    below : n < length all
+    below = subst (λ k. n < k) (sym (length-enumerate_from 0 m.functions)) lt
+
+    abbrev here : ℕ × Function
+    here = get_or all n (n, (element m.functions n lt).0)
+
+    stands : here ≡ get_or all n here
+    stands = get_or_default all n _ here below
+
+    handle_is : here.0 ≡ handle
+    handle_is =
+        let same : 0 + n ≡ n = omega arith in
+        (at_enumerated 0 m.functions n here below stands).0 ∙ (same ∙ sym is)
+
+    -- its line
+    abbrev line : List ℕ
+    line = text_of_function m info flags handle ++ codes "\n"
+
+    line_is : text_of_function m info flags here.0 ++ codes "\n" ≡ line
+    line_is = ap (λ h. text_of_function m info flags h ++ codes "\n") handle_is
+
+    one_more_line : lines_before m info flags n ++ line ≡ lines_before m info flags (n + 1)
+    one_more_line =
+        ap (λ t. lines_before m info flags n ++ t)
+        (sym (ap (λ t. t ++ codes "\n") (text_is m info flags n here below stands) ∙ line_is)
+        ∙ sym (append-nil (line_of m info flags here)))
+        ∙ (sym (flat_map-append (line_of m info flags) (take n all) (here ∷ []))
+        ∙ ap (λ fs. lines_of m info flags fs)
+        (ap (λ q. take n all ++ q ∷ []) stands ∙ sym (take_more all n here below)))
+
+    -- one more
+    pub up_to_more : (table : List Standing) {now : List ℕ} {failures : ℕ} →
+        IsPlanOf m info handle table → Wrote middle among line now failures →
+        IsUpTo m info flags (n + 1) held failed now failures
+    up_to_more table {now} {failures} plan wrote = record {
+      wrote = subst (λ t. Wrote held failed t now failures) one_more_line
+          (wrote_then so_far.wrote wrote);
+      planned = below_more (HasPlan m info) n so_far.planned
+          (subst (HasPlan m info) is (record { table = table; plan = plan }));
+    }
+
+    -- memory or the sink stopped it
+    pub up_to_stopped : (r : Result Unit Error) (error : Error) {now : List ℕ} {failures : ℕ} →
+        IsErrAnd r (λ e. e ≡ error) → Stopped middle among line now failures error →
+        WritesFunctions m info flags r held failed now failures
+    up_to_stopped r error {now} {failures} told stopped =
+        let whole = ap (λ t. lines_before m info flags n ++ t)
+        (ap (λ t. t ++ lines_behind m info flags (n + 1)) (sym line_is)
+        ∙ sym (here_line m info flags n here below stands)) ∙ lines_split m info flags n in
+        writes_err r told (inl (subst (λ t. Stopped held failed t now failures error) whole
+        (stopped_then so_far.wrote (stopped_first (lines_behind m info flags (n + 1)) stopped))))
+
+    -- it has no plan
+    pub up_to_unplanned : (r : Result Unit Error) (error : Error) → IsErrAnd r (λ e. e ≡ error) →
+        IsPlanRefusal m info handle error → WritesFunctions m info flags r held failed middle among
+    up_to_unplanned r error told refusal = writes_err r told (by error refusal)
+      where
+        by : (error : Error) → IsPlanRefusal m info handle error →
+            Stopped held failed (module_lines m info flags) middle among error
+            ⊎ MetNoPlan m info flags held failed middle among error
+        by (Memory e) refusal = inl (record {
+          behind = (
+            lines_before m info flags n,
+            lines_behind m info flags n,
+            sym (lines_split m info flags n),
+            so_far.wrote.appended,
+          );
+          reason = tt;
+        })
+        by (Custom message) refusal = inr (record {
+          told = refusal.0;
+          before = record {
+            handle = n;
+            fails = λ holds. refusal.1 (subst (ScopeHoldsIn m info) (sym is) holds);
+            hold = λ i below. planned_holds m info i (so_far.planned i below);
+            written = so_far.wrote.appended;
+          };
+          kept = so_far.wrote.kept;
+        })
+        by _ refusal = absurd refusal

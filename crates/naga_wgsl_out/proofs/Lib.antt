@@ -1,3 +1,4 @@
+pub mod Scopes
 pub mod Functions
 pub mod Names
 pub mod Faithful

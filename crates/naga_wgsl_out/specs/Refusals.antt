@@ -12,6 +12,7 @@ use Rattle.naga_names.specs.Keys.{NameMap}
 use Rattle.naga_names.specs.Reset.{labelled_items}
 use Rattle.module_meaning.specs.Names.{wgsl_names, HasNamesOf, NamesAreCounted}
 use Rattle.module_meaning.specs.Premises.{ScopesHold}
+use Rattle.naga_scope.specs.Plans.{ScopeHoldsIn}
 use Rattle.naga_wgsl_fns.specs.Errors.{IsCustom, IsSinkWant}
 use Rattle.naga_wgsl_fns.specs.declared.error.Error.{Error}
 use Rattle.naga_wgsl_fns.specs.declared.error.Error.TheVariants.{FmtError, Custom, Unimplemented, Memory}
@@ -64,6 +65,24 @@ abbrev pub TellsOfModule : Error → Type 0
 TellsOfModule (FmtError e) = ⊥
 TellsOfModule (Memory e) = ⊥
 TellsOfModule _ = ⊤
+
+-- the error tells that an operand is out of scope
+abbrev pub TellsOfScope : Error → Type 0
+TellsOfScope (Custom message) = string_bytes message ≡ codes "operand out of scope"
+TellsOfScope _ = ⊥
+
+-- the error comes before any text: it tells of the module, and not of scope, which is looked at
+-- function by function, each before its text
+abbrev pub ComesBeforeText : Error → Type 0
+ComesBeforeText error = TellsOfModule error × (TellsOfScope error → ⊥)
+
+-- why the function with this handle has no plan: the rules of scope don't hold in it, or memory
+-- ran out
+abbrev pub IsPlanRefusal : Module → ModuleInfo → (handle : ℕ) → Error → Type 0
+IsPlanRefusal m info handle (Custom message) =
+    TellsOfScope (Custom message) × (ScopeHoldsIn m info handle → ⊥)
+IsPlanRefusal m info handle (Memory e) = ⊤
+IsPlanRefusal m info handle _ = ⊥
 
 -- no reason stands in the module
 pub record IsWritable (m : Module) (info : ModuleInfo) : Type 0 where

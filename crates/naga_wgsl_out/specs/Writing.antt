@@ -1,18 +1,23 @@
 -- What contracts see of a writer, and the text that it writes.
 --
 -- Throughout, m is the module, and p a handle with its function.
-use Rattle.std.specs.Prelude.{ℕ, List, ◌++◌, codes}
-use Rattle.std.specs.List.{flat_map}
+use Rattle.std.specs.Prelude.{◌≡◌, ◌<◌, ◌++◌, ◌⊎◌, ℕ, List, Result, Ok, Err, codes, length, take}
+use Rattle.std.specs.List.{enumerate_from, flat_map}
 use Rattle.naga_ir.specs.declared.module.Function.{Function}
 use Rattle.naga_ir.specs.declared.module.Module.{Module}
 use Rattle.naga_info.specs.declared.info.ModuleInfo.{ModuleInfo}
+use Rattle.naga_scope.specs.Plans.{IsPlanOf, ScopeHoldsIn}
+use Rattle.naga_scope.specs.declared.points.Standing.{Standing}
 use Rattle.naga_form.specs.Form.{function_form, written_program}
 use Rattle.module_meaning.specs.Names.{module_names}
 use Rattle.wgsl_text.specs.Declarations.{function_pieces}
 use Rattle.wgsl_text.specs.Text.{text}
 use Rattle.wgsl_text.specs.Reading.{layout}
+use Rattle.naga_wgsl_fns.specs.Appends.{Stopped, Wrote}
 use Rattle.naga_wgsl_fns.specs.FunctionText.{tells_types}
 use Rattle.naga_wgsl_fns.specs.Functions.{known_of}
+use Rattle.naga_wgsl_fns.specs.declared.error.Error.{Error}
+use Rattle.naga_wgsl_out.specs.Refusals.{TellsOfScope}
 use Rattle.naga_back.specs.declared.flags.WriterFlags.{WriterFlags}
 
 pub record Writing (W : Type 0) : Type 0 where
@@ -23,10 +28,58 @@ pub record Writing (W : Type 0) : Type 0 where
 abbrev pub written_text : Module → ModuleInfo → WriterFlags → List ℕ
 written_text m info flags = layout (written_program m info (tells_types flags))
 
--- the functions' texts, an empty line behind each
-abbrev pub lines_of : Module → ModuleInfo → WriterFlags → List (ℕ × Function) → List ℕ
-lines_of m info flags functions =
-    flat_map (λ p.
+-- the text of a function, and an empty line behind it
+abbrev pub line_of : Module → ModuleInfo → WriterFlags → ℕ × Function → List ℕ
+line_of m info flags p =
     let known = known_of info p.0 in
     let form = function_form (tells_types flags) (module_names m) m.types p.0 p.1 known in
-    text (function_pieces form) ++ codes "\n") functions
+    text (function_pieces form) ++ codes "\n"
+
+-- those of these functions, of the module, and of it in front of this function
+abbrev pub lines_of : Module → ModuleInfo → WriterFlags → List (ℕ × Function) → List ℕ
+lines_of m info flags functions = flat_map (line_of m info flags) functions
+
+abbrev pub module_lines : Module → ModuleInfo → WriterFlags → List ℕ
+module_lines m info flags = lines_of m info flags (enumerate_from 0 m.functions)
+
+abbrev pub lines_before : Module → ModuleInfo → WriterFlags → (handle : ℕ) → List ℕ
+lines_before m info flags handle =
+    lines_of m info flags (take handle (enumerate_from 0 m.functions))
+
+-- Behind what the sink held stand the functions in front of the first one in which the rules of
+-- scope don't hold, an empty line behind each, and nothing else.
+pub record WroteFunctionsBefore (m : Module) (info : ModuleInfo) (flags : WriterFlags)
+    (held now : List ℕ) : Type 0 where
+  -- that function
+  pub handle : ℕ
+  pub fails : ScopeHoldsIn m info handle → ⊥
+  -- and those in front of it
+  pub hold : (i : ℕ) → i < handle → ScopeHoldsIn m info i
+  pub written : now ≡ held ++ lines_before m info flags handle
+
+-- there is a plan of the function with this handle
+pub record HasPlan (m : Module) (info : ModuleInfo) (handle : ℕ) : Type 0 where
+  pub table : List Standing
+  pub plan : IsPlanOf m info handle table
+
+-- all functions stand behind what the sink held, each written by a plan of it
+pub record WroteFunctions (m : Module) (info : ModuleInfo) (flags : WriterFlags) (held : List ℕ)
+    (failed : ℕ) (now : List ℕ) (failures : ℕ) : Type 0 where
+  pub wrote : Wrote held failed (module_lines m info flags) now failures
+  pub planned : (i : ℕ) → i < length m.functions → HasPlan m info i
+
+-- the first one without a plan was met, and told
+pub record MetNoPlan (m : Module) (info : ModuleInfo) (flags : WriterFlags) (held : List ℕ)
+    (failed : ℕ) (now : List ℕ) (failures : ℕ) (error : Error) : Type 0 where
+  pub told : TellsOfScope error
+  pub before : WroteFunctionsBefore m info flags held now
+  pub kept : failures ≡ failed
+
+-- what a call that writes the functions did, by its answer
+abbrev pub WritesFunctions : Module → ModuleInfo → WriterFlags → Result Unit Error →
+    (held : List ℕ) (failed : ℕ) (now : List ℕ) (failures : ℕ) → Type 0
+WritesFunctions m info flags (Ok _) held failed now failures =
+    WroteFunctions m info flags held failed now failures
+WritesFunctions m info flags (Err error) held failed now failures =
+    Stopped held failed (module_lines m info flags) now failures error
+    ⊎ MetNoPlan m info flags held failed now failures error

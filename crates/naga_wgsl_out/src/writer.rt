@@ -1,7 +1,7 @@
 //! The writer of modules.
 
-ghost use Rattle.std.specs.Prelude.{◌≡◌, ◌<◌, ◌++◌, [], IfErr, IfOk, IsTrue, OnErr, OnOk, codes, length, string_bytes};
-ghost use Rattle.std.specs.List.{enumerate_from};
+ghost use Rattle.std.specs.Prelude.{◌≡◌, ◌<◌, ◌++◌, [], IfErr, IfOk, IsTrue, OnErr, OnOk};
+ghost use Rattle.std.specs.Prelude.{codes, length, string_bytes};
 ghost use Rattle.module_meaning.specs.Accepted.{is_accepted};
 ghost use Rattle.module_meaning.specs.Part.{is_written_so_far};
 ghost use Rattle.naga_names.specs.Keys.{names_in};
@@ -10,21 +10,25 @@ ghost use Rattle.naga_names.specs.Refusal.{IsResetRefusal};
 ghost use Rattle.module_meaning.specs.Names.{HasNamesOf, wgsl_names};
 ghost use Rattle.module_meaning.specs.Resolution.{ResolvesAs};
 ghost use Rattle.module_meaning.specs.Bindings.{BindsAs};
+ghost use Rattle.naga_scope.specs.Plans.{IsPlanOf};
 ghost use Rattle.naga_wgsl_fns.specs.Appends.{Appends};
 ghost use Rattle.naga_wgsl_fns.specs.FunctionText.{tells_types};
 ghost use Rattle.naga_wgsl_fns.specs.Functions.{text_of_function};
 ghost use Rattle.naga_wgsl_out.specs.Headline.{EachReading, FaithfulWriting, answer_of, text_of};
-ghost use Rattle.naga_wgsl_out.specs.Refusals.{HasAllNames, IsErrorOfNames, IsNamesRefusal, TellsOfModule};
-ghost use Rattle.naga_wgsl_out.specs.Writing.{Writing, lines_of, written_text};
+ghost use Rattle.naga_wgsl_out.specs.Refusals.{ComesBeforeText, HasAllNames, IsErrorOfNames};
+ghost use Rattle.naga_wgsl_out.specs.Refusals.{IsNamesRefusal, IsPlanRefusal};
+ghost use Rattle.naga_wgsl_out.specs.Refusals.{TellsOfModule, TellsOfScope};
+ghost use Rattle.naga_wgsl_out.specs.Writing.{WritesFunctions, Writing, WroteFunctionsBefore};
+ghost use Rattle.naga_wgsl_out.specs.Writing.{written_text};
 
 use naga_acceptance::is_written_so_far;
 use naga_back::WriterFlags;
 use naga_info::ModuleInfo;
-use naga_ir::{Function, Handle, Module};
+use naga_ir::{Function, Handle, Module, Place};
 use naga_names::by_bytes::{builtin_words, reserved_words};
 use naga_names::keyword_set::CaseInsensitiveKeywordSet;
 use naga_names::namer::{NameKey, Namer, NamerError};
-use naga_scope::scope_holds;
+use naga_scope::{Plan, PlanError};
 use naga_wgsl_fns::error::{custom, not_yet_written};
 use naga_wgsl_fns::{Error, put, write_function};
 use naga_words::TextSink;
@@ -72,13 +76,16 @@ impl<W: TextSink> Writer<W> {
     ///
     /// The text depends on the module, on what is known of it and on the flags alone, whatever was written
     /// or refused before. Where the call gives up for want of memory or because the sink failed, a
-    /// beginning of its text stands behind what the sink held; any other refusal leaves the sink as it
-    /// was, with its text and its count of failures. The next call starts afresh.
+    /// beginning of its text stands behind what the sink held. The next call starts afresh.
     ///
-    /// An expression that is used where it is out of scope, and an `Emit` that is not allowed where it
-    /// stands, are refused as `Custom`, `operand out of scope`. So far a module is refused as
-    /// `Unimplemented`, `not yet written`, unless it declares nothing but scalar types and functions
-    /// whose locals have a literal as first value or none, whose expressions are arguments, locals,
+    /// An expression that is used where it is out of scope, and an `Emit` that is not allowed where
+    /// it stands, are refused as `Custom`, `operand out of scope`. Each function is looked at before
+    /// its text, so the functions in front of the first such one then stand behind what the sink
+    /// held, whole, an empty line behind each. Any other refusal leaves the sink's text as it was.
+    /// None of them is a failure of the sink.
+    ///
+    /// So far a module is refused as `Unimplemented`, `not yet written`, unless it declares nothing
+    /// but scalar types and functions whose locals have a literal as first value or none, whose expressions are arguments, locals,
     /// literals, loads, sums, differences and products, without names of their own, and whose
     /// statements are `Emit`s, `Store`s and `Return`s.
     ///
@@ -95,22 +102,25 @@ impl<W: TextSink> Writer<W> {
         ensures text_ok { OnOk result (W.text self.new.sink ≡ W.text self.old.sink ++ written_text «module».now info.now self.old.flags) }
         ensures text_err { OnErr result (IsBehind (W.text self.old.sink) (written_text «module».now info.now self.old.flags) (W.text self.new.sink)) }
         ensures failures_ok { OnOk result (W.failures self.new.sink ≡ W.failures self.old.sink) }
-        ensures untouched { IfErr result (λ e. TellsOfModule e → W.text self.new.sink ≡ W.text self.old.sink) }
+        ensures untouched { IfErr result (λ e. ComesBeforeText e →
+            W.text self.new.sink ≡ W.text self.old.sink) }
+        // What stands in front of the function whose scope is refused.
+        ensures written_before { IfErr result (λ e. TellsOfScope e →
+            WroteFunctionsBefore «module».now info.now self.old.flags
+            (W.text self.old.sink) (W.text self.new.sink)) }
         ensures unfailed { IfErr result (λ e. TellsOfModule e → W.failures self.new.sink ≡ W.failures self.old.sink) }
         ensures flags { self.new.flags ≡ self.old.flags }
     {
         if !is_written_so_far(module) {
             return Err(not_yet_written(self.alloc));
         }
-        if !scope_holds(self.alloc, module, info)? {
-            return Err(custom(self.alloc, "operand out of scope"));
-        }
         let names = names_of(self.alloc, module)?;
         write_functions(self.alloc, module, info, &names, self.flags, &mut self.out)
     }
 }
 
-/// Writes the functions of the module, an empty line behind each.
+/// Writes the functions of the module, an empty line behind each, up to the first in which an
+/// operand is out of scope.
 fn write_functions<W: TextSink>(
     alloc: Global,
     module: &Module,
@@ -122,12 +132,35 @@ fn write_functions<W: TextSink>(
     requires accepted { IsTrue (is_accepted «module».now info.now) }
     requires written { IsTrue (is_written_so_far «module».now) }
     requires names { HasNamesOf «module».now (names_in names.now) }
-    ensures { Appends result (W.text out.old) (W.failures out.old) (lines_of «module».now info.now flags (enumerate_from 0 «module».now.functions)) (W.text out.new) (W.failures out.new) }
+    ensures { WritesFunctions «module».now info.now flags result (W.text out.old)
+        (W.failures out.old) (W.text out.new) (W.failures out.new) }
 {
-    for (handle, _) in module.functions.iter() {
-        write_function_line(alloc, module, info, names, flags, handle, out)?;
+    for index in 0..module.functions.len() {
+        let handle = Place::from_index(index);
+        let plan = plan_of(alloc, module, info, handle)?;
+        write_function_line(alloc, module, info, names, flags, handle, plan, out)?;
     }
     Ok(())
+}
+
+/// The plan of a function.
+fn plan_of(
+    alloc: Global,
+    module: &Module,
+    info: &ModuleInfo,
+    handle: Handle<Function>,
+) -> Result<Plan, Error>
+    requires accepted { IsTrue (is_accepted «module».now info.now) }
+    requires written { IsTrue (is_written_so_far «module».now) }
+    requires handle { handle < length «module».now.functions }
+    ensures ok { IfOk result (IsPlanOf «module».now info.now handle) }
+    ensures err { IfErr result (IsPlanRefusal «module».now info.now handle) }
+{
+    match Plan::of(alloc, module, info, handle) {
+        Ok(plan) => Ok(plan),
+        Err(PlanError::OutOfScope) => Err(custom(alloc, "operand out of scope")),
+        Err(PlanError::Memory(error)) => Err(Error::Memory(error)),
+    }
 }
 
 fn write_function_line<W: TextSink>(
@@ -137,15 +170,17 @@ fn write_function_line<W: TextSink>(
     names: &HashMap<NameKey, String>,
     flags: WriterFlags,
     handle: Handle<Function>,
+    plan: Plan,
     out: &mut W,
 ) -> Result<(), Error>
     requires accepted { IsTrue (is_accepted «module».now info.now) }
     requires written { IsTrue (is_written_so_far «module».now) }
     requires handle { handle < length «module».now.functions }
     requires names { HasNamesOf «module».now (names_in names.now) }
+    requires planned { IsPlanOf «module».now info.now handle plan }
     ensures { Appends result (W.text out.old) (W.failures out.old) (text_of_function «module».now info.now flags handle ++ codes "\n") (W.text out.new) (W.failures out.new) }
 {
-    write_function(alloc, module, info, names, flags, handle, out)?;
+    write_function(alloc, module, info, names, flags, handle, plan, out)?;
     put("\n", out)
 }
 

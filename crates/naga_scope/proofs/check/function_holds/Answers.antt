@@ -10,7 +10,7 @@ pub returns-then-not-first_values_hold-clause-scope : goal.returns-then-not-firs
 returns-then-not-first_values_hold-clause-scope c names types g =
     let f = c.args.function.now in
     let es = c.args.info.now in
-    let first = sym (c.first_values_hold.ensures types es (c.in_ok-scope.ensures.start types es)) ∙ c.if-not-first_values_hold.true in
+    let first = sym (c.first_values_hold.ensures types es (c.requires.start types)) ∙ c.if-not-first_values_hold.true in
     sym (ap (λ b. b && fits_all (function_naming names types g f es) 0 (statements_shape f.body) (at_start (function_shape types f es))) first)
 
 pub statement_holds-requires-clause-flat : goal.statement_holds-requires-clause-flat
@@ -20,15 +20,15 @@ statement_holds-requires-clause-flat c =
 
 pub loop-statement-init : goal.loop-statement-init
 loop-statement-init c = record {
-  size = c.in_ok-scope.ensures.size;
-  holds = λ names types g. λ i. fits_all (function_naming names types g c.args.function.now c.args.info.now) 0 (statements_shape (c.as_slice-statement-items.ensures i)) (c.in_ok-scope.ensures.start types c.args.info.now i);
+  size = c.requires.size;
+  holds = λ names types g. λ i. fits_all (function_naming names types g c.args.function.now c.args.info.now) 0 (statements_shape (c.as_slice-statement-items.ensures i)) (c.requires.start types i);
 }
 
 pub returns-then-not-statement_holds-clause-scope : goal.returns-then-not-statement_holds-clause-scope
 returns-then-not-statement_holds-clause-scope c names types g =
     let f = c.args.function.now in
     let es = c.args.info.now in
-    let first = sym (c.first_values_hold.ensures types es (c.in_ok-scope.ensures.start types es)) ∙ c.if-not-first_values_hold.false in
+    let first = sym (c.first_values_hold.ensures types es (c.requires.start types)) ∙ c.if-not-first_values_hold.false in
     lines_refused names types g f es c.requires.unnamed c.loop-statement.statement-index c.as_slice-statement-items.result.now c.statement-item.result (handles_of c.loop-statement.scope) c.loop-statement-test.true c.statement-item.is
     (sym (c.statement_holds.ensures.fits names types g 0) ∙ c.if-not-statement_holds.true)
     ∙ c.loop-statement.invariant.holds names types g
@@ -48,7 +48,7 @@ pub returns-clause-scope : goal.returns-clause-scope
 returns-clause-scope c names types g =
     let f = c.args.function.now in
     let es = c.args.info.now in
-    let first = sym (c.first_values_hold.ensures types es (c.in_ok-scope.ensures.start types es)) ∙ c.if-not-first_values_hold.false in
+    let first = sym (c.first_values_hold.ensures types es (c.requires.start types)) ∙ c.if-not-first_values_hold.false in
     lines_end names types g f es c.requires.unnamed c.as_slice-statement-items.result.now c.loop-statement.statement-index (handles_of c.loop-statement.scope) c.loop-statement-test.false
     ∙ c.loop-statement.invariant.holds names types g
     ∙ ap (λ b. b && fits_all (function_naming names types g f es) 0 (statements_shape f.body) (at_start (function_shape types f es))) (sym first)

@@ -2,12 +2,29 @@ use Rattle.std.proofs.Common.{◌≡◌, ◌<◌, ◌∙◌, Some, arith, ap, le
 use Rattle.module_meaning.proofs.Accepting.{accepted_functions_fit, functions_fit_length}
 use Rattle.naga_words.proofs.Writing.{held_part_as, held_whole_as, never_formless, reason_given}
 use Rattle.naga_words.proofs.Writing.{same_sink, writes_as}
+use Rattle.std.proofs.lemmas.List.{length-map}
+use Rattle.module_meaning.specs.Shapes.{expression_shape}
+use Rattle.naga_scope.proofs.Planned.{plan_found}
 use Rattle.naga_wgsl_fns.specs.Errors.{IsWant}
 use Rattle.naga_wgsl_fns.proofs.FunctionRows.{can_write, reason_told, text_of_function_at}
 use Rattle.naga_wgsl_fns.proofs.functions.write_function.Goals as goal
 
-pub write_declaration-requires : goal.write_declaration-requires
-write_declaration-requires g c = can_write _ c.args.info.now c.requires.accepted c.requires.written c.requires.names c.index.ensures c.index-2.ensures
+pub write_declaration-requires-clause-can : goal.write_declaration-requires-clause-can
+write_declaration-requires-clause-can g c =
+    can_write _ c.args.info.now c.requires.accepted c.requires.written c.requires.names
+    c.index.ensures c.index-2.ensures
+
+pub write_declaration-requires-clause-start : goal.write_declaration-requires-clause-start
+write_declaration-requires-clause-start g c =
+    (plan_found c.args.module.now c.args.info.now c.args.handle c.index.result.now
+    c.index-2.result.now c.args.plan c.index.ensures c.index-2.ensures c.requires.planned).starts
+
+pub write_declaration-requires-clause-size : goal.write_declaration-requires-clause-size
+write_declaration-requires-clause-size g c =
+    let f = c.index.result.now in
+    let plan = plan_found c.args.module.now c.args.info.now c.args.handle f c.index-2.result.now
+    c.args.plan c.index.ensures c.index-2.ensures c.requires.planned in
+    plan.size ∙ length-map f.expressions expression_shape
 
 pub index-requires-2 : goal.index-requires-2
 index-requires-2 g c =

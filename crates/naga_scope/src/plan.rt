@@ -1,0 +1,108 @@
+//! What is decided of a function before its text.
+
+ghost use Rattle.std.specs.Prelude.{◌≡◌, ◌<◌, List, IfErr, IfOk, IsTrue, length};
+ghost use Rattle.module_meaning.specs.Accepted.{is_accepted};
+ghost use Rattle.module_meaning.specs.Part.{names_nothing};
+ghost use Rattle.module_meaning.specs.Premises.{nothing_named};
+ghost use Rattle.module_meaning.specs.Shapes.{function_shape, OperandsStandBefore};
+ghost use Rattle.naga_ir.specs.declared.types.Type_.{Type_};
+ghost use Rattle.naga_scope.specs.Flat.{is_flat};
+ghost use Rattle.naga_scope.specs.Plans.{IsPlan, IsPlanOf, IsRefusalToPlan, IsRefusalToPlanOf};
+ghost use Rattle.naga_scope.specs.declared.plan.PlanError.TheVariants.{Memory};
+
+use crate::check::function_holds;
+use crate::points::Scope;
+use naga_info::{FunctionInfo, ModuleInfo};
+use naga_ir::{Function, Handle, Module};
+use std::alloc::{AllocError, Global};
+use std::marker::Model;
+
+/// Why there is no plan of a function.
+#[derive(Debug, Drop, PartialEq, Eq)]
+pub enum PlanError {
+    /// The rules of scope don't hold in the function: an expression is used where it is out of
+    /// scope, or an `Emit` is not allowed where it stands.
+    OutOfScope,
+    /// Memory has run out.
+    Memory(AllocError),
+}
+
+impl From<AllocError> for PlanError {
+    ghost from_gives = { λ refusal error. error ≡ Memory refusal };
+
+    fn from(refusal: AllocError) -> PlanError {
+        PlanError::Memory(refusal)
+    }
+}
+
+/// What is decided of a function before its text: that each of its expressions is in scope where it
+/// is used and each `Emit` is allowed, and where the expressions stand at its start.
+///
+/// Which expressions a `let` binds is not kept: [`binds`](crate::binds) tells it of each as fast as
+/// a table would.
+#[derive(Debug, Drop)]
+pub struct Plan {
+    scope: Scope,
+}
+
+/// Contracts see a plan as the table of where the expressions stand at the function's start.
+impl Model for Plan {
+    ghost use Rattle.std.specs.Prelude.{List};
+    ghost use Rattle.naga_scope.specs.declared.points.Standing.{Standing};
+
+    ghost Value = { List Standing };
+
+    ghost view = { λ p. p.scope };
+}
+
+impl Plan {
+    /// The plan of the function with this handle, for a module that is accepted with what is known
+    /// of it, and in which no front end named an expression. Where the rules of scope don't hold in
+    /// the function, or there is no memory, there is no plan.
+    ///
+    /// It takes memory once: one table serves the check, is then set back to the function's start,
+    /// and serves the text.
+    pub fn of(
+        alloc: Global,
+        module: &Module,
+        info: &ModuleInfo,
+        handle: Handle<Function>,
+    ) -> Result<Plan, PlanError>
+        requires accepted { IsTrue (is_accepted «module».now info.now) }
+        requires unnamed { IsTrue (nothing_named «module».now) }
+        requires handle { handle < length «module».now.functions }
+        ensures ok { IfOk result (IsPlanOf «module».now info.now handle) }
+        ensures err { IfErr result (IsRefusalToPlanOf «module».now info.now handle) }
+    {
+        Plan::of_function(alloc, &module.functions[handle], &info[handle])
+    }
+
+    fn of_function(
+        alloc: Global,
+        function: &Function,
+        info: &FunctionInfo,
+    ) -> Result<Plan, PlanError>
+        requires ordered { OperandsStandBefore function.now.expressions }
+        requires flat { IsTrue (is_flat function.now.body) }
+        requires unnamed { IsTrue (names_nothing function.now) }
+        ensures ok { (types : List Type_) →
+            IfOk result (IsPlan (function_shape types function.now info.now)) }
+        ensures err { (types : List Type_) →
+            IfErr result (IsRefusalToPlan (function_shape types function.now info.now)) }
+    {
+        let mut scope = Scope::start(alloc, function)?;
+        if !function_holds(&mut scope, function, info) {
+            return Err(PlanError::OutOfScope);
+        }
+        scope.restart(function);
+        Ok(Plan { scope })
+    }
+
+    /// Where the expressions stand at the function's start.
+    pub fn into_scope(self) -> Scope
+        ensures { result ≡ self }
+    {
+        let Plan { scope } = self;
+        scope
+    }
+}
