@@ -16,10 +16,11 @@ integer_form (negsuc n) = if n == 2147483647 then LeastInteger else Suffixed tru
 
 abbrev pub long_form : ℤ → Literal
 long_form (pos n) = Suffixed false n SuffixLi
-long_form (negsuc n) = if n == 9223372036854775807 then LeastLong else Suffixed true (suc n) SuffixLi
+long_form (negsuc n) =
+    if n == 9223372036854775807 then LeastLong else Suffixed true (suc n) SuffixLi
 
--- how a literal is written. Those of other types than `bool`, `i32`, `u32`, `i64` and `u64` are not written so far, and
--- stand as `false`
+-- how a literal is written. Those of other types than `bool`, `i32`, `u32`, `i64` and `u64` are not
+-- written so far, and stand as `false`
 abbrev pub literal_form : ir.Literal → Literal
 literal_form (literal.Bool b) = Truth b
 literal_form (literal.I32 z) = integer_form z
