@@ -1,5 +1,5 @@
 -- Types as they are written.
-use Rattle.std.specs.Prelude.{◌≡◌, ℕ, Bool, true, false, slice_get, List, [], ◌∷◌, Option, None, if◌then◌else◌, unwrap_or}
+use Rattle.std.specs.Prelude.{ℕ, Bool, true, false, slice_get, List, [], Option, None, unwrap_or}
 use Rattle.std.specs.Option.{option_and_then}
 use Rattle.naga_info.specs.declared.info.ExpressionInfo.{ExpressionInfo}
 use Rattle.naga_words.specs.Contexts.{Names as TypeNames}

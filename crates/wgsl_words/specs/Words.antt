@@ -298,7 +298,7 @@ abbrev pub image_access_word : StorageAccess → List ℕ
 image_access_word access =
     if has atomic_bit access then codes "atomic" else (
     if has load_bit access then (
-        if has store_bit access then codes "read_write" else codes "read")
+    if has store_bit access then codes "read_write" else codes "read")
     else codes "write")
 
 -- the text of an operator between its operands
