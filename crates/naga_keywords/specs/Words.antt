@@ -33,16 +33,23 @@ abbrev pub same_words : Words → Words → Bool
 same_words s t = set.is_subset s t && set.is_subset t s
 
 -- new has the words of old and those that the iterator gives, each put in by way of `kept`
-abbrev pub AddsAll : {S : Type 0} → (S → Option (Bor (List ℕ)) → S → Type 0) → (List ℕ → List ℕ) → S → Words → Words → Type 0
-AddsAll steps kept words old new = (given : List (Bor (List ℕ))) × Drains steps words given × (new ≡ set.union old (set.from_list (map (λ w. kept w.now) given)))
+abbrev pub AddsAll : {S : Type 0} → (S → Option (Bor (List ℕ)) → S → Type 0) →
+    (List ℕ → List ℕ) → S → Words → Words → Type 0
+AddsAll steps kept words old new =
+    (given : List (Bor (List ℕ))) × Drains steps words given
+    × (new ≡ set.union old (set.from_list (map (λ w. kept w.now) given)))
 
 -- new has the words of old and those of some beginning of what the iterator gives
-abbrev pub AddsSome : {S : Type 0} → (S → Option (Bor (List ℕ)) → S → Type 0) → (List ℕ → List ℕ) → S → Words → Words → Type 0
-AddsSome {S} steps kept words old new = (given : List (Bor (List ℕ))) × (left : S) × Yields steps words given left × (new ≡ set.union old (set.from_list (map (λ w. kept w.now) given)))
+abbrev pub AddsSome : {S : Type 0} → (S → Option (Bor (List ℕ)) → S → Type 0) →
+    (List ℕ → List ℕ) → S → Words → Words → Type 0
+AddsSome {S} steps kept words old new =
+    (given : List (Bor (List ℕ))) × (left : S) × Yields steps words given left
+    × (new ≡ set.union old (set.from_list (map (λ w. kept w.now) given)))
 
 -- sets that answer alike are equal
 pub alike_words : (s t : Words) → ((q : List ℕ) → set.contains s q ≡ set.contains t q) → s ≡ t
-alike_words = set.same_set nat_list_cmp_total (set.slice_cmp-IsAntisymmetric set.nat_cmp-IsAntisymmetric)
+alike_words =
+    set.same_set nat_list_cmp_total (set.slice_cmp-IsAntisymmetric set.nat_cmp-IsAntisymmetric)
 
 both_true : (a b : Bool) → (a && b) ≡ true → (a ≡ true) × (b ≡ true)
 both_true true b e = (refl, e)
@@ -57,11 +64,15 @@ and_comm false false = refl
 pub equal_from_same_words : (s t : Words) → same_words s t ≡ true → s ≡ t
 equal_from_same_words s t same =
     let parts = both_true (set.is_subset s t) (set.is_subset t s) same in
-    alike_words s t (λ q. both_ways (set.contains s q) (set.contains t q) (set.is_subset-contains nat_list_cmp_total s t parts.0 q) (set.is_subset-contains nat_list_cmp_total t s parts.1 q))
+    alike_words s t (λ q.
+    both_ways (set.contains s q) (set.contains t q)
+    (set.is_subset-contains nat_list_cmp_total s t parts.0 q)
+    (set.is_subset-contains nat_list_cmp_total t s parts.1 q))
 
 pub same_words_itself : (s : Words) → same_words s s ≡ true
 same_words_itself s =
-    let sub = set.contains-is_subset nat_list_cmp_total s s (λ q h. h) in ap (λ b. b && set.is_subset s s) sub ∙ sub
+    let sub = set.contains-is_subset nat_list_cmp_total s s (λ q h. h) in
+    ap (λ b. b && set.is_subset s s) sub ∙ sub
 
 pub same_words_equiv : IsEquivalence same_words
 same_words_equiv = record {

@@ -253,7 +253,8 @@ impl<S: AsStr> fmt::Debug for AsciiUniCase<S> {
 impl<S: AsStr> PartialEq for AsciiUniCase<S> {
     ghost eq = { λ a b. same_caseless (S.text a.word) (S.text b.word) };
 
-    ghost laws = { on_per (λ a. lowered (S.text a.word)) (partial_equiv_from_equiv nat_list_eq_equiv) };
+    ghost laws = { on_per (λ a. lowered (S.text a.word))
+        (partial_equiv_from_equiv nat_list_eq_equiv) };
 
     fn eq(&self, other: &Self) -> bool {
         self.word.as_str().eq_ignore_ascii_case(other.word.as_str())

@@ -1,6 +1,7 @@
 -- The words that WGSL has for values of the IR: one table for each kind of value. `None` stands
 -- where WGSL has no word.
-use Rattle.std.specs.Prelude.{ℕ, true, false, List, Option, Some, None, codes, if◌then◌else◌, ◌==◌, Bool}
+use Rattle.std.specs.Prelude.{ℕ, true, false, List, Option, Some, None, codes, if◌then◌else◌, ◌==◌}
+use Rattle.std.specs.Prelude.{Bool}
 use Rattle.naga_ir.specs.declared.binding.Interpolation.{Interpolation}
 use Rattle.naga_ir.specs.declared.binding.Interpolation.TheVariants as interpolation
 use Rattle.naga_ir.specs.declared.binding.Sampling.{Sampling}
