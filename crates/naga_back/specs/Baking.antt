@@ -15,7 +15,10 @@ never = 2 ^ 64 - 1
 abbrev pub count_to_bind : Expression → ℕ
 count_to_bind (Access base index) = never
 count_to_bind (AccessIndex base index) = never
-count_to_bind (ImageSample image sampler gather coordinate array_index offset level depth_ref clamp_to_edge) = 1
+count_to_bind
+    (ImageSample
+    image sampler gather coordinate array_index offset level depth_ref clamp_to_edge) =
+    1
 count_to_bind (ImageLoad image coordinate array_index sample level) = 1
 count_to_bind (Derivative axis ctrl expr) = 1
 count_to_bind (Load pointer) = 1
