@@ -1,4 +1,5 @@
--- What it is for a program to be faithful to a module: it has the module's interface, and it does what the module does.
+-- What it is for a program to be faithful to a module: it has the module's interface, and it does
+-- what the module does.
 use Rattle.std.specs.Prelude.{◌≡◌, ℕ, List, Option, Some, IsTrue}
 use Rattle.naga_ir.specs.declared.module.Module.{Module}
 use Rattle.naga_info.specs.declared.info.ModuleInfo.{ModuleInfo}
@@ -22,8 +23,8 @@ abbrev pub HasInterfaceOf : Module → Program → Type 0
 HasInterfaceOf m program = interface_read program ≡ module_interface (module_names m) m
 
 -- What holds of each run of the module and the run of the program beside it: of each function and
--- entry point, under all values of overrides and arguments of their types and every typed meaning of
--- operators, in every world, with every bound on loop turns and behind any history. Each side
+-- entry point, under all values of overrides and arguments of their types and every typed meaning
+-- of operators, in every world, with every bound on loop turns and behind any history. Each side
 -- computes its named constants by itself.
 abbrev pub OfEachRun : Module → ModuleInfo → Program →
     ((module_run text_run : Reached (Option Value)) → Type 0) → Type 0

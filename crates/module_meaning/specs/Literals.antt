@@ -18,7 +18,8 @@ abbrev pub integer_payload : ℤ → ℕ
 integer_payload (pos n) = 2 * n
 integer_payload (negsuc n) = 2 * n + 1
 
--- The value of the module's literal. Those of floating-point and abstract types have their bits as payload.
+-- The value of the module's literal. Those of floating-point and abstract types have their bits as
+-- payload.
 abbrev pub literal_value : ir.Literal → Value
 literal_value (literal.Bool b) = TruthValue b
 literal_value (literal.I32 z) = Whole (codes "i32") z

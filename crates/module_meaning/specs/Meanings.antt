@@ -1,4 +1,5 @@
--- What the run of a module asks of operators and of the world can be met, and no run of an accepted module is stuck.
+-- What the run of a module asks of operators and of the world can be met, and no run of an accepted
+-- module is stuck.
 use Rattle.naga_ir.specs.declared.module.Module.{Module}
 use Rattle.naga_info.specs.declared.info.ModuleInfo.{ModuleInfo}
 use Rattle.wgsl_text.specs.Tree.{Program}
@@ -10,7 +11,8 @@ use Rattle.shader_runs.specs.Typing.{IsConsistent}
 use Rattle.module_meaning.specs.Faithful.{OfEachRun}
 use Rattle.module_meaning.specs.Shapes.{program_shape}
 
--- What is spelled alike over operands of types alike has results of types alike, in all functions of the module.
+-- What is spelled alike over operands of types alike has results of types alike, in all functions
+-- of the module.
 abbrev pub OperatorsAreConsistent : Module → ModuleInfo → Type 0
 OperatorsAreConsistent m info = IsConsistent (program_shape m info)
 

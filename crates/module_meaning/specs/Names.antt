@@ -17,11 +17,15 @@ reserved_prefixes = codes "__" ∷ codes "_naga" ∷ []
 
 -- no label was named yet, and names keep off both tables of words and these prefixes
 unfoldable pub wgsl_names : Names
-wgsl_names = new_names (set.from_list reserved_words) (set.from_list builtin_words) set.empty reserved_prefixes
+wgsl_names =
+    let keywords = set.from_list reserved_words in
+    let builtin_identifiers = set.from_list builtin_words in
+    new_names keywords builtin_identifiers set.empty reserved_prefixes
 
 -- the name of each item, by its key: items are named in their order, each after those before it
 unfoldable pub module_names : Module → NameMap
-module_names m key = update_all same_key (λ _. None) (named_items wgsl_names (labelled_items wgsl_names m)) key
+module_names m key =
+    update_all same_key (λ _. None) (named_items wgsl_names (labelled_items wgsl_names m)) key
 
 -- an item's name; each item of the module has one
 abbrev pub name_in : NameMap → NameKey → List ℕ
@@ -37,7 +41,8 @@ argument_name names g n = name_in names (key.FunctionArgument g n)
 abbrev pub local_name : NameMap → (function local : ℕ) → List ℕ
 local_name names g l = name_in names (key.FunctionLocal g l)
 
--- the name of a handle, or of a greater number, which has blanks for a name, so that no two numbers have one
+-- the name of a handle, or of a greater number, which has blanks for a name, so that no two numbers
+-- have one
 abbrev pub numbered_text : (is_handle : Bool) → ℕ → List ℕ
 numbered_text true h = codes "_e" ++ decimal h
 numbered_text false h = replicate h 32

@@ -1,4 +1,5 @@
--- What tells types apart that no text spells so far: a struct is told by its handle, any other type by what it is.
+-- What tells types apart that no text spells so far: a struct is told by its handle, any other type
+-- by what it is.
 use Rattle.std.specs.Prelude.{ℕ, Bool, true, false, List, [], ◌∷◌, Option, Some, None, if◌then◌else◌, slice_get}
 use Rattle.std.specs.Option.{option_map}
 use Rattle.std.specs.Int.NonZero.{non_zero_u32_get}
@@ -26,8 +27,8 @@ use Rattle.naga_ir.specs.declared.types.TypeInner.TheVariants as inner
 use Rattle.naga_words.specs.Spelling.{is_struct}
 use Rattle.wgsl_words.specs.Words.{format_word}
 
--- What a type is told by. A handle out of range and a struct without a handle, which stand in no module, are told by
--- nothing.
+-- What a type is told by. A handle out of range and a struct without a handle, which stand in no
+-- module, are told by nothing.
 pub data Identity : Type 0 where
   Nothing : Identity
   StructAt : (handle : ℕ) → Identity
@@ -107,8 +108,8 @@ class_code (class.Depth multi) = 1 ∷ 0 ∷ truth_number multi ∷ []
 class_code (class.Storage format access) = 2 ∷ access.0 ∷ 0 ∷ format_word format
 class_code class.External = 3 ∷ 0 ∷ 0 ∷ []
 
--- A list of numbers for each type by itself, from which it can be told: its kind, then what it is made of. A struct
--- has a handle.
+-- A list of numbers for each type by itself, from which it can be told: its kind, then what it is
+-- made of. A struct has a handle.
 abbrev pub inner_code : TypeInner → List ℕ
 inner_code (inner.Scalar s) = 0 ∷ kind_number s.kind ∷ s.width ∷ []
 inner_code (inner.Vector n s) = 1 ∷ kind_number s.kind ∷ s.width ∷ vector_number n ∷ []
@@ -120,10 +121,12 @@ inner_code (inner.CooperativeMatrix columns rows s role) =
 inner_code (inner.Atomic s) = 4 ∷ kind_number s.kind ∷ s.width ∷ []
 inner_code (inner.Pointer base space) = 5 ∷ base ∷ space_number space ∷ space_bits space ∷ []
 inner_code (inner.ValuePointer n s space) =
-    6 ∷ kind_number s.kind ∷ s.width ∷ components_number n ∷ space_number space ∷ space_bits space ∷ []
+    6 ∷ kind_number s.kind ∷ s.width
+    ∷ components_number n ∷ space_number space ∷ space_bits space ∷ []
 inner_code (inner.Array base n stride) = 7 ∷ base ∷ stride ∷ length_code n
 inner_code (inner.BindingArray base n) = 8 ∷ base ∷ length_code n
-inner_code (inner.Image dim arrayed class) = 9 ∷ dimension_number dim ∷ truth_number arrayed ∷ class_code class
+inner_code (inner.Image dim arrayed class) =
+    9 ∷ dimension_number dim ∷ truth_number arrayed ∷ class_code class
 inner_code (inner.Sampler comparison) = 10 ∷ truth_number comparison ∷ []
 inner_code (inner.AccelerationStructure vertex_return) = 11 ∷ truth_number vertex_return ∷ []
 inner_code (inner.RayQuery vertex_return) = 12 ∷ truth_number vertex_return ∷ []
@@ -134,6 +137,7 @@ identity_code Nothing = 0 ∷ []
 identity_code (StructAt h) = 1 ∷ h ∷ []
 identity_code (Itself it) = 2 ∷ inner_code it
 
--- the word of a type that no text spells so far: it begins with a blank, which no word of a text does
+-- the word of a type that no text spells so far: it begins with a blank, which no word of a text
+-- does
 abbrev pub unspelled : Identity → List ℕ
 unspelled i = 32 ∷ identity_code i

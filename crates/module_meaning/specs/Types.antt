@@ -1,5 +1,5 @@
--- Types as they are written, and as values have them. A value's type is the type's spelling, and where it has
--- none so far, what the type is told by.
+-- Types as they are written, and as values have them. A value's type is the type's spelling, and
+-- where it has none so far, what the type is told by.
 use Rattle.std.specs.Prelude.{◌≡◌, ℕ, Bool, true, false, slice_get, List, [], ◌∷◌, Option, Some, None, if◌then◌else◌, codes, unwrap_or}
 use Rattle.std.specs.List.{starts_with}
 use Rattle.std.specs.Bool.{nat_eq}
@@ -42,7 +42,8 @@ told_spelling true t es h = option_and_then (λ e. spelled_resolution t e.ty) (s
 told_spelling false t es h = None
 
 abbrev pub integer_words : List (List ℕ)
-integer_words = codes "i16" ∷ codes "u16" ∷ codes "i32" ∷ codes "u32" ∷ codes "i64" ∷ codes "u64" ∷ []
+integer_words =
+    codes "i16" ∷ codes "u16" ∷ codes "i32" ∷ codes "u32" ∷ codes "i64" ∷ codes "u64" ∷ []
 
 -- the type of values whose type is spelled so
 abbrev pub type_spelled : List ℕ → ValueType
@@ -59,7 +60,8 @@ pointer_to_local None = []
 -- the type of each local is spelled
 abbrev pub LocalsAreSpelled : List Type_ → List LocalVariable → Type 0
 LocalsAreSpelled types ls =
-    (l : ℕ) (v : LocalVariable) → slice_get ls l ≡ Some v → (w : List ℕ) × (word_at types v.ty ≡ Some w)
+    (l : ℕ) (v : LocalVariable) → slice_get ls l ≡ Some v →
+    (w : List ℕ) × (word_at types v.ty ≡ Some w)
 
 -- what has no spelling is told by a word that no text has
 abbrev pub type_told : Option (List ℕ) → Identity → ValueType

@@ -1,5 +1,7 @@
--- What is known of the function that is being written: the keys of its names, and the types of its expressions.
-use Rattle.std.specs.Prelude.{ℕ, Bool, true, false, ◌<◌, List, Option, Some, None, slice_get, vec_len}
+-- What is known of the function that is being written: the keys of its names, and the types of its
+-- expressions.
+use Rattle.std.specs.Prelude.{ℕ, Bool, true, false, ◌<◌, List, Option, Some, None, slice_get}
+use Rattle.std.specs.Prelude.{vec_len}
 use Rattle.std.specs.Option.{option_and_then, option_map_or}
 use Rattle.naga_ir.specs.declared.module.Module.{Module}
 use Rattle.naga_ir.specs.declared.module.ShaderStage.{ShaderStage}
@@ -34,7 +36,8 @@ has_workgroups _ = false
 -- an entry point of such a stage
 abbrev pub is_compute_like : FunctionType → Module → Bool
 is_compute_like (Function handle) m = false
-is_compute_like (EntryPoint index) m = option_map_or (λ e. has_workgroups e.stage) (slice_get m.entry_points.items index) false
+is_compute_like (EntryPoint index) m =
+    option_map_or (λ e. has_workgroups e.stage) (slice_get m.entry_points.items index) false
 
 -- the key of the name of a local variable
 abbrev pub local_key : FunctionType → (local : ℕ) → NameKey
@@ -46,9 +49,12 @@ abbrev pub argument_key : FunctionType → (argument : ℕ) → NameKey
 argument_key (Function handle) argument = key.FunctionArgument handle argument
 argument_key (EntryPoint index) argument = key.EntryPointArgument index argument
 
--- the key of the name of a part of an argument that is an external texture; entry points have no such arguments
-abbrev pub external_texture_key : FunctionType → (argument : ℕ) → ExternalTextureNameKey → Option NameKey
-external_texture_key (Function handle) argument part = Some (key.ExternalTextureFunctionArgument handle argument part)
+-- the key of the name of a part of an argument that is an external texture; entry points have no
+-- such arguments
+abbrev pub external_texture_key :
+    FunctionType → (argument : ℕ) → ExternalTextureNameKey → Option NameKey
+external_texture_key (Function handle) argument part =
+    Some (key.ExternalTextureFunctionArgument handle argument part)
 external_texture_key (EntryPoint index) argument part = None
 
 -- the type of the expression with this handle, by the module's types

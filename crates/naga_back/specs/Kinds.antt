@@ -1,7 +1,8 @@
 -- What kind of type or statement something is.
 use Rattle.std.specs.Prelude.{Bool, true, false}
 use Rattle.naga_ir.specs.declared.types.TypeInner.{TypeInner}
-use Rattle.naga_ir.specs.declared.types.TypeInner.TheVariants.{Image, Sampler, AccelerationStructure}
+use Rattle.naga_ir.specs.declared.types.TypeInner.TheVariants.{Image, Sampler}
+use Rattle.naga_ir.specs.declared.types.TypeInner.TheVariants.{AccelerationStructure}
 use Rattle.naga_ir.specs.declared.statement.Statement.{Statement}
 use Rattle.naga_ir.specs.declared.statement.Statement.TheVariants.{Break, Continue, Return, Kill}
 

@@ -40,8 +40,8 @@ impl BakeRefCount for Expression {
     }
 }
 
-/// The name of an expression that a `let` binds and that the source gave no name. It is shown as `_e`
-/// and the index of the expression's handle.
+/// The name of an expression that a `let` binds and that the source gave no name. It is shown as
+/// `_e` and the index of the expression's handle.
 ///
 /// `Baked(Handle::from_index(7))` is shown as `_e7`.
 #[derive(Clone, Copy, Debug)]

@@ -23,8 +23,8 @@ pub enum FunctionType {
 }
 
 impl FunctionType {
-    /// Whether it is an entry point whose invocations form workgroups: one of a compute, a task or a
-    /// mesh stage.
+    /// Whether it is an entry point whose invocations form workgroups: one of a compute, a task or
+    /// a mesh stage.
     pub fn is_compute_like_entry_point(&self, module: &Module) -> bool
         requires { IsInRange self.now «module».now }
         ensures { result ≡ is_compute_like self.now «module».now }
@@ -60,7 +60,8 @@ impl<'a> FunctionCtx<'a> {
         types: &'a UniqueArena<Type_>,
     ) -> &'a TypeInner
         requires info { handle < length self.now.info.now }
-        requires types { ForSome (slice_get self.now.info.now handle) (λ e. InRange e.ty types.now) }
+        requires types { ForSome (slice_get self.now.info.now handle)
+            (λ e. InRange e.ty types.now) }
         ensures { type_at self.now.info.now types.now handle ≡ Some result.now }
     {
         self.info[handle].ty.inner_with(types)

@@ -16,8 +16,8 @@ impl<'a> FunctionCtx<'a> {
     /// The value of the hardware that the expression with this handle is, or is a part of.
     ///
     /// There is one only in an entry point, for an argument or a chain of struct members of an
-    /// argument: the argument's, if it has one, else that of the member nearest to the argument that
-    /// has one.
+    /// argument: the argument's, if it has one, else that of the member nearest to the argument
+    /// that has one.
     #[tactic(auto, unfolding(crate::specs::FixedInput::fixed_input))]
     pub fn is_fixed_function_input(
         &self,
@@ -25,7 +25,8 @@ impl<'a> FunctionCtx<'a> {
         module: &Module,
     ) -> Option<BuiltIn>
         requires { IsInRange self.now.ty «module».now }
-        ensures { result ≡ fixed_input self.now.ty «module».now self.now.info.now self.now.expressions.now expression }
+        ensures { result ≡ fixed_input self.now.ty «module».now self.now.info.now
+            self.now.expressions.now expression }
     {
         match self.ty {
             FunctionType::Function(_) => None,
@@ -47,7 +48,9 @@ fn nearest_builtin(
     expressions: &Arena<Expression>,
     mut handle: Handle<Expression>,
 ) -> Option<BuiltIn>
-    ensures { result ≡ option_and_then first_builtin (way_of arguments.now (member_binding info.now types.now) expressions.now (length expressions.now) handle) }
+    ensures { result ≡ option_and_then first_builtin
+        (way_of arguments.now (member_binding info.now types.now) expressions.now
+        (length expressions.now) handle) }
 {
     let mut nearest = None;
     for _step in 0..expressions.len() {

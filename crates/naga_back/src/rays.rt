@@ -38,7 +38,11 @@ impl Flags for RayFlag {
 
     ghost exact = { ⊤ };
 
-    ghost table = { (codes "OPAQUE", 1) ∷ (codes "NO_OPAQUE", 2) ∷ (codes "TERMINATE_ON_FIRST_HIT", 4) ∷ (codes "SKIP_CLOSEST_HIT_SHADER", 8) ∷ (codes "CULL_BACK_FACING", 16) ∷ (codes "CULL_FRONT_FACING", 32) ∷ (codes "CULL_OPAQUE", 64) ∷ (codes "CULL_NO_OPAQUE", 128) ∷ (codes "SKIP_TRIANGLES", 256) ∷ (codes "SKIP_AABBS", 512) ∷ [] };
+    ghost table = { (codes "OPAQUE", 1) ∷ (codes "NO_OPAQUE", 2) ∷
+        (codes "TERMINATE_ON_FIRST_HIT", 4) ∷ (codes "SKIP_CLOSEST_HIT_SHADER", 8) ∷
+        (codes "CULL_BACK_FACING", 16) ∷ (codes "CULL_FRONT_FACING", 32) ∷
+        (codes "CULL_OPAQUE", 64) ∷ (codes "CULL_NO_OPAQUE", 128) ∷ (codes "SKIP_TRIANGLES", 256) ∷
+        (codes "SKIP_AABBS", 512) ∷ [] };
 
     ghost set_of = { λ f. f.0 };
 

@@ -1,4 +1,5 @@
 pub mod Form
+pub mod Laws
 pub mod Literals
 pub mod Operators
 pub mod Readable

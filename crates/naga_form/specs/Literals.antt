@@ -1,5 +1,5 @@
 -- Literals: how they are written, and the values that they have in the module and in its text.
-use Rattle.std.specs.Prelude.{ℕ, suc, ℤ, pos, negsuc, Bool, true, false, List, [], ◌==◌, ◌+◌, ◌*◌, IsTrue, slice_get, if◌then◌else◌}
+use Rattle.std.specs.Prelude.{ℕ, suc, ℤ, pos, negsuc, Bool, true, false, List, ◌==◌, IsTrue, slice_get, if◌then◌else◌}
 use Rattle.naga_ir.specs.declared.expression.Literal as ir
 use Rattle.naga_ir.specs.declared.expression.Literal.TheVariants as literal
 use Rattle.naga_ir.specs.declared.expression.Expression.{Expression}
@@ -16,10 +16,11 @@ integer_form (negsuc n) = if n == 2147483647 then LeastInteger else Suffixed tru
 
 abbrev pub long_form : ℤ → Literal
 long_form (pos n) = Suffixed false n SuffixLi
-long_form (negsuc n) = if n == 9223372036854775807 then LeastLong else Suffixed true (suc n) SuffixLi
+long_form (negsuc n) =
+    if n == 9223372036854775807 then LeastLong else Suffixed true (suc n) SuffixLi
 
--- how a literal is written. Those of other types than `bool`, `i32`, `u32`, `i64` and `u64` are not written so far, and
--- stand as `false`
+-- how a literal is written. Those of other types than `bool`, `i32`, `u32`, `i64` and `u64` are not
+-- written so far, and stand as `false`
 abbrev pub literal_form : ir.Literal → Literal
 literal_form (literal.Bool b) = Truth b
 literal_form (literal.I32 z) = integer_form z

@@ -3,7 +3,7 @@
 --
 -- Throughout, n are the names of structs and overrides, f gives the tree of the type at a handle, t
 -- is the type there, and s the tree of a scalar.
-use Rattle.std.specs.Prelude.{ℕ, zero, suc, Bool, true, false, if◌then◌else◌, List, [], ◌∷◌, Option, Some, None, codes, slice_get}
+use Rattle.std.specs.Prelude.{ℕ, zero, suc, Bool, true, false, if◌then◌else◌, List, Option, Some, None, codes, slice_get}
 use Rattle.std.specs.Option.{option_map}
 use Rattle.std.specs.Int.NonZero.{non_zero_u32_get}
 use Rattle.wgsl_text.specs.Tree.{TypeSpecifier, Named, Template, NoParts, TypePart, SizePart}

@@ -1,6 +1,5 @@
--- Types as they are written, and as values have them. A value's type is the type's spelling, and where it has
--- none so far, what the type is told by.
-use Rattle.std.specs.Prelude.{◌≡◌, ℕ, Bool, true, false, slice_get, List, [], ◌∷◌, Option, None, if◌then◌else◌, unwrap_or}
+-- Types as they are written.
+use Rattle.std.specs.Prelude.{ℕ, Bool, true, false, slice_get, List, [], Option, None, unwrap_or}
 use Rattle.std.specs.Option.{option_and_then}
 use Rattle.naga_info.specs.declared.info.ExpressionInfo.{ExpressionInfo}
 use Rattle.naga_words.specs.Contexts.{Names as TypeNames}
@@ -12,6 +11,7 @@ abbrev pub type_form : TypeNames → ℕ → TypeSpecifier
 type_form t ty = unwrap_or (type_tree t ty) (Named [])
 
 -- the type that the `let` of a handle tells, if it is to tell one
-abbrev pub told_type : (explicit : Bool) → TypeNames → List ExpressionInfo → ℕ → Option TypeSpecifier
+abbrev pub told_type :
+    (explicit : Bool) → TypeNames → List ExpressionInfo → ℕ → Option TypeSpecifier
 told_type true t es h = option_and_then (λ e. resolution_tree t e.ty) (slice_get es h)
 told_type false t es h = None

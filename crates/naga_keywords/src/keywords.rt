@@ -184,7 +184,8 @@ pub const RESERVED: &[&str] = &[
     "yield",
 ];
 
-/// Words with a meaning in WGSL that a declaration would hide: types, enumerants, built-in functions.
+/// Words with a meaning in WGSL that a declaration would hide: types, enumerants, built-in
+/// functions.
 ///
 /// The members of a struct may have these names.
 pub const BUILTIN_IDENTIFIERS: &[&str] = &[

@@ -4,8 +4,8 @@ use naga_ir::{Constant, Function, GlobalVariable, Handle, LocalVariable, Overrid
 /// The place of an entry point in its module's list.
 pub type EntryPointIndex = u16;
 
-/// A part of an external texture, where a writer declares the texture as plain textures, one for each
-/// plane, and a struct of parameters.
+/// A part of an external texture, where a writer declares the texture as plain textures, one for
+/// each plane, and a struct of parameters.
 #[derive(Clone, Copy, Debug, PartialEq, Eq, Hash)]
 pub enum ExternalTextureNameKey {
     /// One of the planes, counted from zero.
@@ -14,8 +14,8 @@ pub enum ExternalTextureNameKey {
     Params,
 }
 
-/// The item that a name is for. A member, an argument or an entry point goes by its place in its list,
-/// counted from zero.
+/// The item that a name is for. A member, an argument or an entry point goes by its place in its
+/// list, counted from zero.
 #[derive(Clone, Copy, Debug, PartialEq, Eq, Hash)]
 pub enum NameKey {
     /// A constant.
@@ -43,8 +43,8 @@ pub enum NameKey {
     EntryPointLocal(EntryPointIndex, Handle<LocalVariable>),
     /// An argument of an entry point.
     EntryPointArgument(EntryPointIndex, u32),
-    /// A variable of an entry point that stands in for a value of this type where an access is out of
-    /// bounds.
+    /// A variable of an entry point that stands in for a value of this type where an access is out
+    /// of bounds.
     EntryPointOobLocal(EntryPointIndex, Handle<Type_>),
     /// A part of a global variable that is an external texture.
     ExternalTextureGlobalVariable(Handle<GlobalVariable>, ExternalTextureNameKey),

@@ -10,8 +10,8 @@ ghost use Rattle.naga_keywords.specs.Words.{same_caseless, caseless_writes};
 
 use naga_keywords::keywords::{BUILTIN_IDENTIFIERS, RESERVED};
 
-/// Every name has ASCII letters, digits and `_` alone, begins with no digit and not with `__`, and is
-/// not `_`.
+/// Every name has ASCII letters, digits and `_` alone, begins with no digit and not with `__`, and
+/// is not `_`.
 pub fn names_are_identifiers()
     ensures { NamesAreIdentifiers }
 {}
@@ -44,15 +44,16 @@ pub fn names_differ()
     ensures { NamesDiffer }
 {}
 
-/// The identifiers given since a `Namer` began or was last reset, but to members of structs, follow from
-/// the uses: a base with n uses gave its first form and the numbers below n. The next call gives a new one.
+/// The identifiers given since a `Namer` began or was last reset, but to members of structs, follow
+/// from the uses: a base with n uses gave its first form and the numbers below n. The next call
+/// gives a new one.
 pub fn names_follow_from_uses()
     ensures given { GivenNamesFollow }
     ensures new { GivenNamesAreNew }
 {}
 
-/// After a `reset` each item of the module has its name in the map, and no two items outside structs
-/// have one.
+/// After a `reset` each item of the module has its name in the map, and no two items outside
+/// structs have one.
 pub fn items_have_their_names()
     ensures named { ItemsAreNamed }
     ensures told { ItemsAreTold }
@@ -72,7 +73,8 @@ pub fn keys_are_compared()
     ensures hash { Alike same_key key_writes }
 {}
 
-/// Texts are compared as an equivalence does where ASCII case is ignored, and equal ones hash equally.
+/// Texts are compared as an equivalence does where ASCII case is ignored, and equal ones hash
+/// equally.
 pub fn caseless_texts_are_compared()
     ensures equality { IsEquivalence same_caseless }
     ensures hash { Alike same_caseless caseless_writes }

@@ -1,6 +1,6 @@
-//! Identifiers for the items of a module: the keys by which items have their names, the rules by which
-//! labels get identifiers, and the [`Namer`](namer::Namer), which makes of any label an identifier that
-//! it has not given yet.
+//! Identifiers for the items of a module: the keys by which items have their names, the rules by
+//! which labels get identifiers, and the [`Namer`](namer::Namer), which makes of any label an
+//! identifier that it has not given yet.
 //!
 //! `keyword_set` has sets of words that no identifier may be, `keywords` the two tables of words of
 //! WGSL, and `by_bytes` these in the order of their bytes, with the sets of them.

@@ -1,5 +1,5 @@
-//! Sample modules under their names, each with what is known of it, and a builder of others: what the
-//! programs and tests of this repository write and ask about.
+//! Sample modules under their names, each with what is known of it, and a builder of others: what
+//! the programs and tests of this repository write and ask about.
 #![tactic(auto)]
 
 pub mod rows;

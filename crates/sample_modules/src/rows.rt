@@ -64,7 +64,8 @@ impl Row {
     }
 }
 
-/// A function of this label that has arguments of these labels and returns its argument of this number.
+/// A function of this label that has arguments of these labels and returns its argument of this
+/// number.
 pub fn build_argument(
     sample: &mut Sample,
     label: &str,

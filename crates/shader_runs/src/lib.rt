@@ -17,8 +17,9 @@ pub fn runs_alike()
     ensures { RunsAlike }
 {}
 
-/// At each point that a run passes, inside branches, cases, blocks and each turn of a loop too, names in scope
-/// have the values that the module uses, and what is written without a name still gives them.
+/// At each point that a run passes, inside branches, cases, blocks and each turn of a loop too,
+/// names in scope have the values that the module uses, and what is written without a name still
+/// gives them.
 pub fn points_agree()
     ensures { PointsAgree }
 {}
@@ -40,7 +41,8 @@ pub fn scope_check_is_the_rules()
     ensures { ScopeCheckIsTheRules }
 {}
 
-/// Each identifier of a text stands for what the module means by it, where the check of scope holds.
+/// Each identifier of a text stands for what the module means by it, where the check of scope
+/// holds.
 pub fn resolves_as_meant()
     ensures { ResolvesAsMeant }
 {}
@@ -50,8 +52,8 @@ pub fn binds_as_meant()
     ensures { BindsAsMeant }
 {}
 
-/// No end is missed by these points: a list that is done passes its end, and a return, discard, break or continue
-/// has its point in front of it.
+/// No end is missed by these points: a list that is done passes its end, and a return, discard,
+/// break or continue has its point in front of it.
 pub fn ends_are_passed()
     ensures { EndsArePassed }
 {}

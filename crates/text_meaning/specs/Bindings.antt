@@ -3,7 +3,8 @@ use Rattle.std.specs.Prelude.{◌≡◌, ℕ, List, [], ◌∷◌, ◌++◌, Opt
 use Rattle.wgsl_text.specs.Reading.{type_layout}
 use Rattle.wgsl_text.specs.Tree.{Statement, Let, TypedLet, If, Loop, LoopBreakIf, Switch, Block, Statements, NoStatements, Then, Cases, NoCases, Case}
 
--- the types that `let`s tell, by their spellings, in the order of the text: one for each, if it tells one
+-- the types that `let`s tell, by their spellings, in the order of the text: one for each, if it
+-- tells one
 abbrev mutual
   pub statement_annotations : Statement → List (Option (List ℕ))
   statement_annotations (Let w e) = None ∷ []

@@ -9,15 +9,17 @@ pub record Passed : Type 0 where
   pub attributes : List Attribute
   pub type : List ℕ
 
--- A function by its name, the types of its arguments and that of its result. The types of its locals, in their order,
--- are told too, since no run looks at the type that a local is declared with.
+-- A function by its name, the types of its arguments and that of its result. The types of its
+-- locals, in their order, are told too, since no run looks at the type that a local is declared
+-- with.
 pub record FunctionInterface : Type 0 where
   pub name : List ℕ
   pub arguments : List Passed
   pub result : Option Passed
   pub locals : List (List ℕ)
 
--- So far a module has nothing but functions in its interface, and what else a text declares is told as it stands.
+-- So far a module has nothing but functions in its interface, and what else a text declares is told
+-- as it stands.
 pub record Interface : Type 0 where
   pub enables : List (List ℕ)
   pub structs : List Struct
@@ -32,7 +34,8 @@ parameter_read p = record { attributes = p.attributes; type = type_layout p.type
 
 abbrev pub result_read : Result → Option Passed
 result_read NoResult = None
-result_read (ResultOf attributes type) = Some (record { attributes = attributes; type = type_layout type })
+result_read (ResultOf attributes type) =
+    Some (record { attributes = attributes; type = type_layout type })
 
 -- the interface of a function of a text
 abbrev pub function_interface_read : Function → FunctionInterface

@@ -1,5 +1,6 @@
 -- The names that types and overrides get by their indices.
-use Rattle.std.specs.Prelude.{◌≡◌, ℕ, List, ◌++◌, Some, None, codes, decimal, length, slice_get, string_bytes}
+use Rattle.std.specs.Prelude.{◌≡◌, ℕ, List, ◌++◌, Some, None, codes, decimal, length, slice_get}
+use Rattle.std.specs.Prelude.{string_bytes}
 use Rattle.std.specs.declared.string.String.{String}
 use Rattle.naga_ir.specs.declared.types.Type_.{Type_}
 use Rattle.naga_names.specs.declared.key.NameKey.TheVariants as key
@@ -27,7 +28,9 @@ numbered_context types = names_context types numbers
 
 -- Each name is the number of its place.
 abbrev pub HaveNumbers : {Y : Type 0} → List (String Y) → Type 0
-HaveNumbers {Y} names = (index : ℕ) (name : String Y) → slice_get names index ≡ Some name → string_bytes name ≡ type_number index
+HaveNumbers {Y} names =
+    (index : ℕ) (name : String Y) → slice_get names index ≡ Some name →
+    string_bytes name ≡ type_number index
 
 -- Each type has its number as its name.
 pub record AreNumbered {Y : Type 0} (types : List Type_) (names : List (String Y)) : Type 0 where

@@ -6,4 +6,6 @@ use Rattle.naga_words.specs.Spelling.{Context}
 
 -- What the rule names is known to each context that has so many types.
 abbrev pub FitsAmong : ℕ → Rule → Type 0
-FitsAmong types rule = (c : Context) → types ≤ length c.types → AllFit c rule.arguments.items × FitsConclusion c rule.conclusion
+FitsAmong types rule =
+    (c : Context) → types ≤ length c.types →
+    AllFit c rule.arguments.items × FitsConclusion c rule.conclusion

@@ -58,3 +58,7 @@ pub record HasOneReading {A : Type 0} (reads : List Token → A → Type 0) (byt
     (tree : A) : Type 0 where
   pub read : reads (tokens bytes) tree
   pub only : (other : A) → reads (tokens bytes) other → other ≡ tree
+
+-- no tokens are read as two trees
+abbrev pub AreReadOnce : {A : Type 0} → (List Token → A → Type 0) → Type 0
+AreReadOnce {A} reads = (ts : List Token) (a b : A) → reads ts a → reads ts b → a ≡ b

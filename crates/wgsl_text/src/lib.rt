@@ -1,4 +1,5 @@
-//! What WGSL text is: its tokens, its trees, and the layout of a tree. The public functions are laws.
+//! What WGSL text is: its tokens, its trees, and the layout of a tree. The public functions are
+//! laws.
 #![tactic(auto)]
 
 ghost use Rattle.std.specs.Prelude.{◌≡◌, ℕ, List, [], ◌∷◌, ◌++◌};
@@ -7,7 +8,7 @@ ghost use Rattle.wgsl_text.specs.Examples.{WorkedPrograms};
 ghost use Rattle.wgsl_text.specs.Grammar.{IsType, IsCallee, IsExpression};
 ghost use Rattle.wgsl_text.specs.GrammarOfLines.{IsStatement, IsFunction, IsProgram};
 ghost use Rattle.wgsl_text.specs.LargeExamples.{LargePrograms};
-ghost use Rattle.wgsl_text.specs.Reading.{ReadsType, ReadsExpression, ReadsStatement, ReadsFunction, Reads, HasOneReading, type_layout, expression_layout, statement_layout, function_layout, layout};
+ghost use Rattle.wgsl_text.specs.Reading.{AreReadOnce, ReadsType, ReadsExpression, ReadsStatement, ReadsFunction, Reads, HasOneReading, type_layout, expression_layout, statement_layout, function_layout, layout};
 ghost use Rattle.wgsl_text.specs.Refused.{Refused};
 ghost use Rattle.wgsl_text.specs.Rows.{TypeRows, OperatorRows, AccessRows, LineRows};
 ghost use Rattle.wgsl_text.specs.Spelled.{Spelled};
@@ -17,8 +18,8 @@ ghost use Rattle.wgsl_text.specs.Token.{Piece, Token};
 ghost use Rattle.wgsl_text.specs.Tree.{TypeSpecifier, Expression, Statement, Function, Program};
 ghost use Rattle.wgsl_text.specs.ValueWords.{ValueWords};
 
-/// The tokens of a text are those of its front, and then those of what stands behind it. The front is a blank, or
-/// the longest that spells a token, or a byte that begins none.
+/// The tokens of a text are those of its front, and then those of what stands behind it. The front
+/// is a blank, or the longest that spells a token, or a byte that begins none.
 pub fn longest_token()
     ensures nothing { tokens [] ≡ [] }
     ensures front { (b : ℕ) (bytes : List ℕ) → Begins b bytes }
@@ -28,33 +29,39 @@ pub fn longest_token()
 /// The text of a type is read as that type and no other, and no tokens are read as two types.
 pub fn one_reading_of_a_type()
     ensures layout { (t : TypeSpecifier) → IsType t → HasOneReading ReadsType (type_layout t) t }
-    ensures unique { (ts : List Token) (a b : TypeSpecifier) → ReadsType ts a → ReadsType ts b → a ≡ b }
+    ensures unique { AreReadOnce ReadsType }
 {}
 
-/// The text of an expression is read as that expression and no other, and no tokens are read as two expressions.
+/// The text of an expression is read as that expression and no other, and no tokens are read as two
+/// expressions.
 pub fn one_reading_of_an_expression()
-    ensures layout { (e : Expression) → IsExpression e → HasOneReading ReadsExpression (expression_layout e) e }
-    ensures unique { (ts : List Token) (a b : Expression) → ReadsExpression ts a → ReadsExpression ts b → a ≡ b }
+    ensures layout { (e : Expression) → IsExpression e →
+        HasOneReading ReadsExpression (expression_layout e) e }
+    ensures unique { AreReadOnce ReadsExpression }
 {}
 
-/// The text of a statement, at any level, is read as that statement and no other, and no tokens are read as two
-/// statements.
+/// The text of a statement, at any level, is read as that statement and no other, and no tokens are
+/// read as two statements.
 pub fn one_reading_of_a_statement()
     ensures layout { (s : Statement) → IsStatement s → (level : ℕ) →
         HasOneReading ReadsStatement (statement_layout s level) s }
-    ensures unique { (ts : List Token) (a b : Statement) → ReadsStatement ts a → ReadsStatement ts b → a ≡ b }
+    ensures unique { AreReadOnce ReadsStatement }
 {}
 
-/// The text of a function is read as that function and no other, and no tokens are read as two functions.
+/// The text of a function is read as that function and no other, and no tokens are read as two
+/// functions.
 pub fn one_reading_of_a_function()
-    ensures layout { (f : Function) → IsFunction f → HasOneReading ReadsFunction (function_layout f) f }
-    ensures unique { (ts : List Token) (a b : Function) → ReadsFunction ts a → ReadsFunction ts b → a ≡ b }
+    ensures layout { (f : Function) → IsFunction f →
+        HasOneReading ReadsFunction (function_layout f) f }
+    ensures unique { AreReadOnce ReadsFunction }
 {}
 
-/// The text of a program is read as that program and no other, and no tokens are read as two programs.
+/// The text of a program is read as that program and no other, and no tokens are read as two
+/// programs.
 pub fn one_reading_of_a_program()
-    ensures layout { (program : Program) → IsProgram program → HasOneReading Reads (layout program) program }
-    ensures unique { (ts : List Token) (a b : Program) → Reads ts a → Reads ts b → a ≡ b }
+    ensures layout { (program : Program) → IsProgram program →
+        HasOneReading Reads (layout program) program }
+    ensures unique { AreReadOnce Reads }
 {}
 
 /// What is a type may be called: a type's value is made by a call of it.
@@ -67,8 +74,8 @@ pub fn words_are_types()
     ensures { WordsAreTypes }
 {}
 
-/// A call of what may be called, a word that is not reserved or a type, is an expression where its operands are, and a
-/// statement; each built-in word may be called.
+/// A call of what may be called, a word that is not reserved or a type, is an expression where its
+/// operands are, and a statement; each built-in word may be called.
 pub fn called_words_are_expressions()
     ensures { CalledWordsAreExpressions }
 {}
@@ -78,8 +85,8 @@ pub fn text_of_appended()
     ensures { (first second : List Piece) → text (first ++ second) ≡ text first ++ text second }
 {}
 
-/// The tables that the grammar shares with values of the IR have the words that `wgsl_words` gives these values, and
-/// no others.
+/// The tables that the grammar shares with values of the IR have the words that `wgsl_words` gives
+/// these values, and no others.
 pub fn words_of_values()
     ensures { ValueWords }
 {}

@@ -7,7 +7,8 @@ use Rattle.wgsl_words.specs.Words.{scalar_word}
 
 -- the text in braces for a value without a word, by its kind and its debug text
 abbrev pub braced_text : List ℕ → List ℕ → List ℕ
-braced_text description debug = codes "{non-WGSL " ++ (description ++ (codes " " ++ (debug ++ codes "}")))
+braced_text description debug =
+    codes "{non-WGSL " ++ (description ++ (codes " " ++ (debug ++ codes "}")))
 
 -- some debug text, with its kind, in braces
 abbrev pub IsBraced : List ℕ → List ℕ → Type 0

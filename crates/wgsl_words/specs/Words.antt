@@ -1,5 +1,7 @@
--- The words that WGSL has for values of the IR: one table for each kind of value. `None` stands where WGSL has no word.
-use Rattle.std.specs.Prelude.{ℕ, true, false, List, Option, Some, None, codes, if◌then◌else◌, ◌==◌, Bool}
+-- The words that WGSL has for values of the IR: one table for each kind of value. `None` stands
+-- where WGSL has no word.
+use Rattle.std.specs.Prelude.{ℕ, true, false, List, Option, Some, None, codes, if◌then◌else◌, ◌==◌}
+use Rattle.std.specs.Prelude.{Bool}
 use Rattle.naga_ir.specs.declared.binding.Interpolation.{Interpolation}
 use Rattle.naga_ir.specs.declared.binding.Interpolation.TheVariants as interpolation
 use Rattle.naga_ir.specs.declared.binding.Sampling.{Sampling}
@@ -30,11 +32,17 @@ use Rattle.naga_ir.specs.declared.operators.UnaryOperator.TheVariants as unary
 abbrev pub scalar_word_of : ScalarKind → ℕ → Option (List ℕ)
 scalar_word_of kind.Bool width = if width == 1 then Some (codes "bool") else None
 scalar_word_of kind.Sint width =
-    if width == 2 then Some (codes "i16") else (if width == 4 then Some (codes "i32") else (if width == 8 then Some (codes "i64") else None))
+    if width == 2 then Some (codes "i16") else (
+    if width == 4 then Some (codes "i32") else (
+    if width == 8 then Some (codes "i64") else None))
 scalar_word_of kind.Uint width =
-    if width == 2 then Some (codes "u16") else (if width == 4 then Some (codes "u32") else (if width == 8 then Some (codes "u64") else None))
+    if width == 2 then Some (codes "u16") else (
+    if width == 4 then Some (codes "u32") else (
+    if width == 8 then Some (codes "u64") else None))
 scalar_word_of kind.Float width =
-    if width == 2 then Some (codes "f16") else (if width == 4 then Some (codes "f32") else (if width == 8 then Some (codes "f64") else None))
+    if width == 2 then Some (codes "f16") else (
+    if width == 4 then Some (codes "f32") else (
+    if width == 8 then Some (codes "f64") else None))
 scalar_word_of kind.AbstractInt width = None
 scalar_word_of kind.AbstractFloat width = None
 
@@ -277,7 +285,9 @@ space_word space.IncomingRayPayload = Some (codes "incoming_ray_payload")
 
 -- what may be done with a variable of a storage buffer; reading alone has no word
 abbrev pub buffer_access_word : StorageAccess → Option (List ℕ)
-buffer_access_word access = if has atomic_bit access then Some (codes "atomic") else (if has store_bit access then Some (codes "read_write") else None)
+buffer_access_word access =
+    if has atomic_bit access then Some (codes "atomic") else (
+    if has store_bit access then Some (codes "read_write") else None)
 
 -- what may be done with what lives there, where that needs a word
 abbrev pub space_access_word : AddressSpace → Option (List ℕ)
@@ -288,7 +298,9 @@ space_access_word _ = None
 abbrev pub image_access_word : StorageAccess → List ℕ
 image_access_word access =
     if has atomic_bit access then codes "atomic" else (
-    if has load_bit access then (if has store_bit access then codes "read_write" else codes "read") else codes "write")
+    if has load_bit access then (
+    if has store_bit access then codes "read_write" else codes "read")
+    else codes "write")
 
 -- the text of an operator between its operands
 abbrev pub operator_text : BinaryOperator → List ℕ

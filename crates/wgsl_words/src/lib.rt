@@ -1,5 +1,6 @@
 //! WGSL's words for values of the intermediate representation: interpolations, samplings, storage
-//! formats, roles, dimensions, functions of mathematics, builtin values, scalars and address spaces.
+//! formats, roles, dimensions, functions of mathematics, builtin values, scalars and address
+//! spaces.
 #![tactic(auto)]
 
 pub mod to_wgsl;

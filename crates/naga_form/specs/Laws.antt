@@ -1,0 +1,230 @@
+-- What is promised of the form of a module: a word for each law.
+--
+-- Throughout, m is a module, t a type's tree, r a type of an expression, and n are the names that
+-- types are spelled with.
+use Rattle.std.specs.Prelude.{◌≡◌, ◌↔◌, ℕ, List, Some, None, IsTrue, true, Bool, length}
+use Rattle.std.specs.Option.{option_map}
+use Rattle.naga_ir.specs.declared.expression.Literal.{Literal}
+use Rattle.naga_ir.specs.declared.module.Function.{Function}
+use Rattle.naga_ir.specs.declared.module.Module.{Module}
+use Rattle.naga_ir.specs.declared.types.ArraySize.{ArraySize}
+use Rattle.naga_ir.specs.declared.types.TypeInner.{TypeInner}
+use Rattle.naga_ir.specs.declared.types.TypeInner.TheVariants as inners
+use Rattle.naga_ir.specs.declared.types.Type_.{Type_}
+use Rattle.naga_info.specs.declared.info.ExpressionInfo.{ExpressionInfo}
+use Rattle.naga_info.specs.declared.info.ModuleInfo.{ModuleInfo}
+use Rattle.naga_info.specs.declared.info.TypeResolution.{TypeResolution}
+use Rattle.naga_info.specs.declared.info.TypeResolution.TheVariants as resolutions
+use Rattle.naga_names.specs.Keys.{NameMap}
+use Rattle.naga_words.specs.Contexts.{Names, writer_context}
+use Rattle.naga_words.specs.Parts.{Part, IsText, known_text, lacks}
+use Rattle.naga_words.specs.Spelling.{inner_parts, type_parts}
+use Rattle.wgsl_text.specs.Grammar.{IsType}
+use Rattle.wgsl_text.specs.GrammarOfLines.{IsProgram}
+use Rattle.wgsl_text.specs.Reading.{HasOneReading, ReadsType, type_layout}
+use Rattle.wgsl_text.specs.Requests.{is_request}
+use Rattle.wgsl_text.specs.Tree.{Program, TypeSpecifier}
+use Rattle.shader_runs.specs.Form.{form_function, form_module}
+use Rattle.text_meaning.specs.Abstraction.{function_read, program_read}
+use Rattle.module_meaning.specs.Accepted.{is_accepted}
+use Rattle.module_meaning.specs.Bindings.{BindsAs}
+use Rattle.module_meaning.specs.Faithful.{HasInterfaceOf, RunsAs}
+use Rattle.module_meaning.specs.Literals.{literal_value}
+use Rattle.module_meaning.specs.Meanings.{OperatorsAreConsistent, HasTypedMeaning, HasTypedWorld}
+use Rattle.module_meaning.specs.Meanings.{IsNeverStuck}
+use Rattle.module_meaning.specs.Names.{NamesAreCounted, module_names}
+use Rattle.module_meaning.specs.Premises.{nothing_named, scope_holds, ScopesHold}
+use Rattle.module_meaning.specs.Premises.{handles_are_counted}
+use Rattle.module_meaning.specs.Resolution.{ResolvesAs}
+use Rattle.module_meaning.specs.Shapes.{function_naming, program_shape, outer_names, namings}
+use Rattle.module_meaning.specs.Spelled.{spelling_of}
+use Rattle.module_meaning.specs.TypeIdentity.{identity}
+use Rattle.module_meaning.specs.Types.{value_type, LocalsAreSpelled}
+use Rattle.naga_form.specs.Form.{function_form, written_program}
+use Rattle.naga_form.specs.Literals.{LiteralsAreWritten}
+use Rattle.module_meaning.specs.OperatorTable.{Operator, TypeIsSound, asks, is_told, one_word}
+use Rattle.module_meaning.specs.OperatorTable.{operand_count, operator_word, run_word}
+use Rattle.naga_form.specs.Readable.{AreAlike, AreNamed, ResolutionIsWithin, handle_names, has_form}
+use Rattle.naga_form.specs.TypeTrees.{inner_tree, resolution_tree, type_tree}
+
+-- of an accepted module, and of what is written for it with the types of its `let`s told or not
+abbrev pub OfAccepted : (Module → ModuleInfo → Program → Type 0) → Type 0
+OfAccepted Holds =
+    (m : Module) (info : ModuleInfo) (explicit : Bool) → IsTrue (is_accepted m info) →
+    Holds m info (written_program m info explicit)
+
+-- the same where front ends name nothing, the rules of scope hold, and names are counted
+abbrev pub OfAcceptedInScope : (Module → ModuleInfo → Program → Type 0) → Type 0
+OfAcceptedInScope Holds =
+    (m : Module) (info : ModuleInfo) (explicit : Bool) → IsTrue (is_accepted m info) →
+    IsTrue (nothing_named m) → ScopesHold m info → NamesAreCounted m →
+    Holds m info (written_program m info explicit)
+
+-- the program is one of the grammar, so that its text has one reading
+abbrev pub IsAProgram : Type 0
+IsAProgram =
+    (m : Module) (info : ModuleInfo) (explicit : Bool) → IsTrue (is_accepted m info) →
+    IsTrue (nothing_named m) → IsTrue (handles_are_counted m) →
+    IsProgram (written_program m info explicit)
+
+-- it declares what the module declares, where something is known of each function
+abbrev pub HasTheInterface : Type 0
+HasTheInterface =
+    (m : Module) (info : ModuleInfo) (explicit : Bool) →
+    length m.functions ≡ length info.functions.items →
+    HasInterfaceOf m (written_program m info explicit)
+
+-- each of its identifiers stands for what it was written for
+abbrev pub ResolvesAsMeant : Type 0
+ResolvesAsMeant = OfAcceptedInScope ResolvesAs
+
+-- its `let`s are those of the emitted handles that are bound, each under its handle's name, and
+-- each tells its handle's type where types are to be told
+abbrev pub BindsAsCounted : Type 0
+BindsAsCounted =
+    (m : Module) (info : ModuleInfo) (explicit : Bool) → IsTrue (is_accepted m info) →
+    BindsAs m info explicit (written_program m info explicit)
+
+-- what is written of a function whose literals are all written so far, and the types of whose
+-- locals are all spelled, is read as its shape is written, whatever is known of it
+abbrev pub FunctionsAreRead : Type 0
+FunctionsAreRead =
+    (explicit : Bool) (names : NameMap) (types : List Type_) (g : ℕ) (f : Function)
+    (es : List ExpressionInfo) →
+    LiteralsAreWritten f.expressions → LocalsAreSpelled types f.local_variables →
+    function_read (function_form explicit names types g f es)
+    ≡ form_function (function_naming names types g f es)
+
+-- what the program does is what the program of shapes says that is written for the module
+abbrev pub IsReadAsItsShapes : Type 0
+IsReadAsItsShapes = OfAccepted (λ m info program.
+    program_read program
+    ≡ form_module (program_shape m info) (outer_names (module_names m))
+    (namings (module_names m) m info))
+
+-- it does what the module does
+abbrev pub RunsAsTheModule : Type 0
+RunsAsTheModule = OfAcceptedInScope RunsAs
+
+-- the check of scope decides the rules
+abbrev pub ScopesAreChecked : Type 0
+ScopesAreChecked =
+    (m : Module) (info : ModuleInfo) → IsTrue (is_accepted m info) →
+    (IsTrue (scope_holds m info) ↔ ScopesHold m info)
+
+-- the operators are typed consistently, so that some meaning gives each a value of its type
+abbrev pub IsConsistent : Type 0
+IsConsistent =
+    (m : Module) (info : ModuleInfo) → IsTrue (is_accepted m info) → OperatorsAreConsistent m info
+
+abbrev pub HasAMeaning : Type 0
+HasAMeaning =
+    (m : Module) (info : ModuleInfo) → IsTrue (is_accepted m info) → HasTypedMeaning m info
+
+-- one world answers by the right types in every run of the module
+abbrev pub HasAWorld : Type 0
+HasAWorld = (m : Module) (info : ModuleInfo) → IsTrue (is_accepted m info) → HasTypedWorld m info
+
+-- neither the module's runs nor those of its program are stuck
+abbrev pub IsNotStuck : Type 0
+IsNotStuck = OfAcceptedInScope IsNeverStuck
+
+-- two types without a spelling have values of one type only where they are told by the same
+abbrev pub UnspelledAreTold : Type 0
+UnspelledAreTold =
+    (types : List Type_) (a b : TypeResolution) →
+    spelling_of types a ≡ None → spelling_of types b ≡ None →
+    value_type types a ≡ value_type types b → identity types a ≡ identity types b
+
+-- and none has values of a type that is spelled
+abbrev pub SpelledAreTold : Type 0
+SpelledAreTold =
+    (types : List Type_) (a b : TypeResolution) (word : List ℕ) →
+    spelling_of types a ≡ Some word → spelling_of types b ≡ None →
+    value_type types a ≡ value_type types b → ⊥
+
+abbrev pub LiteralsAreTold : Type 0
+LiteralsAreTold = (a b : Literal) → literal_value a ≡ literal_value b → a ≡ b
+
+-- what the runs call two operators is one word only where `one_word` sends them to one
+abbrev pub WordsAreTold : Type 0
+WordsAreTold =
+    (a b : Operator) → TypeIsSound a → TypeIsSound b → run_word a ≡ run_word b →
+    one_word a ≡ one_word b
+
+-- and these do share it
+abbrev pub WordsAreKept : Type 0
+WordsAreKept = (a : Operator) → run_word (one_word a) ≡ run_word a
+
+-- the number of operands tells apart those that share a word, but for a few
+abbrev pub OperandsAreTold : Type 0
+OperandsAreTold =
+    (a b : Operator) → IsTrue (is_told a) → IsTrue (is_told b) → one_word a ≡ one_word b →
+    operand_count a ≡ operand_count b → a ≡ b
+
+-- the words that the run of a text takes for requests are those of the operators that ask
+abbrev pub RequestsAreTold : Type 0
+RequestsAreTold =
+    (a : Operator) (word : List ℕ) → TypeIsSound a → operator_word a ≡ Some word →
+    is_request word ≡ asks a
+
+-- ---- types
+
+-- the text of a type that has a form is the layout of its tree, at a handle and by itself
+abbrev pub TextOfAHandle : Type 0
+TextOfAHandle =
+    (n : Names) (knows : ℕ → Bool) (handle : ℕ) →
+    known_text (type_parts (writer_context n knows) handle)
+    ≡ option_map type_layout (type_tree n handle)
+
+abbrev pub TextOfAnInner : Type 0
+TextOfAnInner =
+    (n : Names) (knows : ℕ → Bool) (it : TypeInner) →
+    known_text (inner_parts (writer_context n knows) it) ≡ option_map type_layout (inner_tree n it)
+
+-- what has parts of a known text has that text alone
+abbrev pub TextIsKnown : Type 0
+TextIsKnown =
+    (parts : List Part) (bytes text : List ℕ) → IsText parts bytes → known_text parts ≡ Some text →
+    bytes ≡ text
+
+-- what is refused has none
+abbrev pub RefusedIsUnknown : Type 0
+RefusedIsUnknown = (parts : List Part) → lacks parts ≡ true → known_text parts ≡ None
+
+-- of the tree of each type that has one, where structs and overrides have identifiers for names
+abbrev pub OfTrees : (TypeSpecifier → Type 0) → Type 0
+OfTrees Holds =
+    (n : Names) (overrides : ℕ) → AreNamed n overrides →
+    (r : TypeResolution) → ResolutionIsWithin overrides r →
+    (t : TypeSpecifier) → resolution_tree n r ≡ Some t → Holds t
+
+-- it is a type of the grammar
+abbrev pub FormsAreTypes : Type 0
+FormsAreTypes = OfTrees IsType
+
+-- and its text is read as it, and as no other
+abbrev pub FormsAreRead : Type 0
+FormsAreRead = OfTrees (λ t. HasOneReading ReadsType (type_layout t) t)
+
+-- being alike is an equivalence
+abbrev pub AlikeItself : Type 0
+AlikeItself = (types : List Type_) (a : TypeResolution) → AreAlike types a a
+
+abbrev pub AlikeBack : Type 0
+AlikeBack = (types : List Type_) (a b : TypeResolution) → AreAlike types a b → AreAlike types b a
+
+abbrev pub AlikeThrough : Type 0
+AlikeThrough =
+    (types : List Type_) (a b c : TypeResolution) → AreAlike types a b → AreAlike types b c →
+    AreAlike types a c
+
+abbrev pub array_type : ℕ → ArraySize → ℕ → TypeResolution
+array_type base size stride = resolutions.Value (inners.Array base size stride)
+
+-- arrays that differ in stride alone are alike
+abbrev pub AlikeButStride : Type 0
+AlikeButStride =
+    (types : List Type_) (base : ℕ) (size : ArraySize) (one other : ℕ) →
+    IsTrue (has_form (handle_names types) (array_type base size one)) →
+    AreAlike types (array_type base size one) (array_type base size other)
