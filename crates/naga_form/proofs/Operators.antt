@@ -1,5 +1,5 @@
 -- The tree of an operator over operands: it is called by the operator's word, and is of the grammar.
-use Rattle.std.proofs.Common.{◌≡◌, ℕ, false, List, [], ◌∷◌, ◌++◌, Option, Some, None, map, codes, refl, sym, ap, ◌∙◌}
+use Rattle.std.proofs.Common.{◌≡◌, ℕ, Bool, true, false, List, [], ◌∷◌, ◌++◌, Option, Some, None, map, codes, refl, sym, ap, ◌∙◌}
 use Rattle.naga_ir.specs.declared.expression.Expression as ir
 use Rattle.naga_ir.specs.declared.expression.Expression.TheVariants as expression
 use Rattle.naga_ir.specs.declared.operators.BinaryOperator.{BinaryOperator}
@@ -18,13 +18,15 @@ use Rattle.shader_runs.specs.Value.{ValueType, ShortCircuitAnd, ShortCircuitOr}
 use Rattle.text_meaning.specs.Abstraction.{expression_read, arguments_read, called_word}
 use Rattle.wgsl_text.proofs.Calls.{called_words}
 use Rattle.wgsl_text.proofs.RowText.{named_text, template_text, type_part_text}
-use Rattle.wgsl_text.specs.Grammar.{IsCallee, IsExpression}
+use Rattle.wgsl_text.specs.Grammar.{IsExpression}
 use Rattle.wgsl_text.specs.GrammarOfLines.{Each}
 use Rattle.wgsl_text.specs.Pieces.{binary_pieces, unary_mark}
 use Rattle.wgsl_text.specs.Reading.{type_layout}
 use Rattle.wgsl_text.specs.Text.{text, mark_text}
 use Rattle.wgsl_text.specs.Tree as tree
-use Rattle.wgsl_text.specs.Tree.{TypeSpecifier, Call, operands}
+use Rattle.wgsl_text.specs.Keywords.{builtin_words}
+use Rattle.wgsl_text.specs.Tree.{TypeSpecifier, Named, Call, operands}
+use Rattle.wgsl_text.specs.Words.{is_builtin}
 use Rattle.wgsl_words.specs.Words.{operator_text, unary_text}
 
 -- ---- words
@@ -89,29 +91,31 @@ module _ (operand : ℕ → PlainForm) (like : ℕ → runs.Plain) (same : (h : 
   operator_read n k op hs = ap runs.AsValue (called_read op hs)
 
 -- ---- what is of the grammar
--- the notation takes so many operands, and what is called may be called
-abbrev NotationFits : Notation → List ℕ → Type 0
-NotationFits (Infix op) (l ∷ r ∷ []) = Unit {0}
-NotationFits (Prefix op) (h ∷ []) = Unit {0}
-NotationFits (Called t) hs = IsCallee t
-NotationFits n hs = ⊥
+-- the notation takes so many operands, and what is called is a built-in word
+abbrev notation_fits : Notation → List ℕ → Bool
+notation_fits (Infix op) (l ∷ r ∷ []) = true
+notation_fits (Prefix op) (h ∷ []) = true
+notation_fits (Called (Named w)) hs = is_builtin w
+notation_fits n hs = false
 
-abbrev pub IsNotated : Option Application → Type 0
-IsNotated (Some applied) = NotationFits (notation applied.operator) applied.operands
-IsNotated None = Unit {0}
+abbrev pub is_notated : Option Application → Bool
+is_notated (Some applied) = notation_fits (notation applied.operator) applied.operands
+is_notated None = true
 
 -- each expression that applies an operator has its operands
-pub notated : (e : ir.Expression) → IsNotated (application_of e)
-notated (expression.Binary op left right) = tt
-notated _ = tt
+pub notated : (e : ir.Expression) → is_notated (application_of e) ≡ true
+unfolding is_builtin builtin_words
+notated (expression.Binary op left right) = refl
+notated _ = refl
 
 module _ (operand : ℕ → PlainForm) (all : (h : ℕ) → IsExpression (as_value (operand h))) where
   operands_are : (hs : List ℕ) → Each IsExpression (value_forms operand hs)
   operands_are [] = tt
   operands_are (h ∷ hs) = (all h, operands_are hs)
 
-  pub applied_is : (n : Notation) (hs : List ℕ) → NotationFits n hs → IsExpression (applied_form n (value_forms operand hs))
+  pub applied_is : (n : Notation) (hs : List ℕ) → notation_fits n hs ≡ true → IsExpression (applied_form n (value_forms operand hs))
   applied_is (Infix op) (l ∷ r ∷ []) fit = (all l, all r)
   applied_is (Prefix op) (h ∷ []) fit = all h
-  applied_is (Called t) hs fit = called_words.expression t (value_forms operand hs) fit (operands_are hs)
-  applied_is n hs fit = absurd fit
+  applied_is (Called (Named w)) hs fit =
+      called_words.expression (Named w) (value_forms operand hs) (called_words.builtin w fit) (operands_are hs)
+  applied_is n hs fit = absurd (cc)

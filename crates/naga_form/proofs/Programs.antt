@@ -39,7 +39,7 @@ use Rattle.naga_form.proofs.WrittenTypes.{is_type_at, told_is, known_spelled}
 use Rattle.naga_form.specs.Literals.{literal_form}
 use Rattle.module_meaning.specs.Applications.{Application, application_of}
 use Rattle.naga_form.specs.Operators.{notation}
-use Rattle.naga_form.proofs.Operators.{IsNotated, notated, applied_is}
+use Rattle.naga_form.proofs.Operators.{is_notated, notated, applied_is}
 use Rattle.naga_form.proofs.Facts.{further, from_start}
 use Rattle.naga_form.proofs.Named.{item_is_identifier, function_item, argument_item, function_there, argument_there}
 use Rattle.std.specs.Char.{is_ascii_digit}
@@ -199,7 +199,7 @@ module _ (m : Module) (g : ℕ) (f : ir_function.Function) (found : slice_get m.
   abbrev own : Naming
   own = function_naming (module_names m) m.types g f es
 
-  application_is : (operand : ℕ → PlainForm) → ((x : ℕ) → IsPlainForm (operand x)) → (o : Option Application) → IsNotated o → IsPlainForm (application_plain operand o)
+  application_is : (operand : ℕ → PlainForm) → ((x : ℕ) → IsPlainForm (operand x)) → (o : Option Application) → is_notated o ≡ true → IsPlainForm (application_plain operand o)
   application_is operand all None is = tt
   application_is operand all (Some applied) is = applied_is operand (λ h. value_is_one (operand h) (all h)) (notation applied.operator) applied.operands is
 
