@@ -1,8 +1,12 @@
--- Which operator an expression applies to which operands: the one place that is asked by shapes,
+-- Which operator an expression applies to its operands: the one place that is asked by shapes,
 -- acceptance, the part that is written so far and the form. An expression of a new kind is a line of
--- `application_of`, and an operator that is accepted from then on one of `operator_is_accepted`.
+-- `operator_of`, and an operator that is accepted from then on one of `operator_is_accepted`.
+--
+-- Throughout, e is an expression and op an operator.
 use Rattle.std.specs.Prelude.{ℕ, Bool, true, false, if◌then◌else◌}
-use Rattle.std.specs.Prelude.{List, [], ◌∷◌, Option, Some, None}
+use Rattle.std.specs.Prelude.{List, Option, Some, None}
+use Rattle.std.specs.Option.{option_map}
+use Rattle.naga_ir.specs.Operands.{expression_operands}
 use Rattle.naga_ir.specs.declared.expression.Expression.{Expression}
 use Rattle.naga_ir.specs.declared.expression.Expression.TheVariants.{Binary}
 use Rattle.naga_ir.specs.declared.operators.BinaryOperator.TheVariants.{Add, Subtract, Multiply}
@@ -13,11 +17,15 @@ pub record Application : Type 0 where
   pub operator : Operator
   pub operands : List ℕ
 
--- What an expression applies. Others are leaves, loads, or stand in no accepted module so far.
+-- The operator that an expression applies. Others are leaves, loads, or stand in no accepted module
+-- so far.
+abbrev pub operator_of : Expression → Option Operator
+operator_of (Binary op left right) = Some (BinarySign op)
+operator_of _ = None
+
 abbrev pub application_of : Expression → Option Application
-application_of (Binary op left right) =
-    Some (record { operator = BinarySign op; operands = left ∷ right ∷ [] })
-application_of _ = None
+application_of e =
+    option_map (λ op. record { operator = op; operands = expression_operands e }) (operator_of e)
 
 -- the operators that are accepted and written so far
 abbrev pub operator_is_accepted : Operator → Bool

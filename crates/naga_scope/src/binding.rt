@@ -71,8 +71,7 @@ pub fn binds(function: &Function, info: &FunctionInfo, handle: Handle<Expression
 {
     match expression_at(function, handle) {
         Some(expression) => {
-            is_emittable(Some(expression))
-                && count_of(info, handle) >= expression.bake_ref_count()
+            is_emittable(Some(expression)) && count_of(info, handle) >= expression.bake_ref_count()
         }
         None => false,
     }

@@ -155,7 +155,7 @@ fn first_standing(standings: &[Standing], function: &Function, expression: &Expr
     ensures { let shape = expression_shape expression.now in result ≡ first_standing
         (is_pure (Some shape)
         && all_constant (is_constant_by standings.now function.now.expressions)
-            (operands_of (Some shape))) }
+        (operands_of (Some shape))) }
 {
     if is_operator(Some(expression)) && has_constant_operands(standings, function, expression) {
         Standing::Everywhere
