@@ -8,7 +8,8 @@ use Rattle.std.proofs.lemmas.Slice.Eq.{bytes_eq-Decides}
 use Rattle.naga_info.proofs.Options.{then_some, map_some}
 use Rattle.naga_ir.specs.StatementTree.{store, StatementTree, simple, BlockTree, statement}
 use Rattle.naga_ir.specs.declared.expression.Expression.{Expression}
-use Rattle.naga_ir.specs.declared.expression.Expression.TheVariants.{Literal, FunctionArgument, LocalVariable, Load}
+use Rattle.naga_ir.specs.declared.expression.Expression.TheVariants.{Literal, FunctionArgument}
+use Rattle.naga_ir.specs.declared.expression.Expression.TheVariants.{LocalVariable, Load}
 use Rattle.naga_ir.specs.declared.module.Function.{Function}
 use Rattle.naga_ir.specs.declared.module.FunctionResult.{FunctionResult}
 use Rattle.naga_ir.specs.declared.module.LocalVariable.{LocalVariable as Local}
@@ -23,9 +24,16 @@ use Rattle.naga_info.specs.declared.info.TypeResolution.{TypeResolution}
 use Rattle.naga_info.specs.Resolution.{inner_of}
 use Rattle.module_meaning.specs.Applications.{Application, application_of, accepted_word}
 use Rattle.module_meaning.specs.Operations.{operators_agree, spelling_then, spellings_at}
-use Rattle.module_meaning.specs.Spelled.{word_of_type, word_at, local_pointer, pointee_word, pointee_of, pointee_at, spelling, spelling_at, spelling_of, is_alike}
+use Rattle.module_meaning.specs.Spelled.{word_of_type, word_at, local_pointer, pointee_word}
+use Rattle.module_meaning.specs.Spelled.{pointee_of, pointee_at, spelling, spelling_at, spelling_of}
+use Rattle.module_meaning.specs.Spelled.{is_alike}
 use Rattle.shader_runs.specs.Premises.{AllBelow}
-use Rattle.module_meaning.specs.Accepted.{declares_functions, is_scalar_type, special_types_fit, signature_fits, names_fit, operand_fits, application_fits, application_type, expected_type, is_within, expression_fits, expressions_fit_from, expressions_fit, value_fits, local_fits, statement_fits, block_fits, function_fits, functions_fit, is_accepted}
+use Rattle.module_meaning.specs.Accepted.{declares_functions, is_scalar_type, special_types_fit}
+use Rattle.module_meaning.specs.Accepted.{signature_fits, names_fit, operand_fits, application_fits}
+use Rattle.module_meaning.specs.Accepted.{application_type, expected_type, is_within}
+use Rattle.module_meaning.specs.Accepted.{expression_fits, expressions_fit_from, expressions_fit}
+use Rattle.module_meaning.specs.Accepted.{value_fits, local_fits, statement_fits, block_fits}
+use Rattle.module_meaning.specs.Accepted.{function_fits, functions_fit, is_accepted}
 
 -- ---- an accepted module
 
@@ -247,14 +255,17 @@ module _ (types : List Type_) where
   -- ---- operators over operands
 
   -- the type of an expression that applies something is that of what it applies
-  applied_type : (f : Function) (es : List ExpressionInfo) (h : ℕ) (e : Expression) (a : Application) → application_of e ≡ Some a → expected_type types f es h e ≡ application_type types es h (Some a)
+  applied_type : (f : Function) (es : List ExpressionInfo) (h : ℕ) (e : Expression)
+      (a : Application) → application_of e ≡ Some a →
+      expected_type types f es h e ≡ application_type types es h (Some a)
   applied_type f es h (Literal value) a is = absurd cc
   applied_type f es h (FunctionArgument number) a is = absurd cc
   applied_type f es h (LocalVariable handle) a is = absurd cc
   applied_type f es h (Load pointer) a is = absurd cc
   applied_type f es h _ a is = ap (application_type types es h) is
 
-  -- what an accepted operator over operands is: it has a word, its operands stand before it, and all are spelled
+  -- what an accepted operator over operands is: it has a word, its operands stand before it, and
+  -- all are spelled
   pub record IsOperation (es : List ExpressionInfo) (h : ℕ) (a : Application) : Type 0 where
     pub word : List ℕ
     pub operand_words : List (List ℕ)
@@ -270,20 +281,30 @@ module _ (types : List Type_) where
       in let w = some_word (spelling_at types es operand) parts.1
       in (w.0, ltb-true operand h parts.0, w.1)
 
-  operands_fit_parts : (es : List ExpressionInfo) (h : ℕ) (operands : List ℕ) → list_all (operand_fits types es h) operands ≡ true → (ws : List (List ℕ)) × AllBelow h operands × (spellings_at types es operands ≡ Some ws)
+  operands_fit_parts : (es : List ExpressionInfo) (h : ℕ) (operands : List ℕ) →
+      list_all (operand_fits types es h) operands ≡ true →
+      (ws : List (List ℕ)) × AllBelow h operands × (spellings_at types es operands ≡ Some ws)
   operands_fit_parts es h [] fit = ([], tt, refl)
   operands_fit_parts es h (operand ∷ operands) fit =
-      let parts = and_parts (operand_fits types es h operand) (list_all (operand_fits types es h) operands) fit
+      let parts =
+      and_parts (operand_fits types es h operand)
+      (list_all (operand_fits types es h) operands) fit
       in let one = operand_fits_parts es h operand parts.0
       in let others = operands_fit_parts es h operands parts.1
       in (one.0 ∷ others.0, (one.1, others.1), λ i. spelling_then (one.2 i) (others.2 i))
 
-  pub applied_at : (f : Function) (es : List ExpressionInfo) (h : ℕ) (e : Expression) (a : Application) → function_fits types f es ≡ true → slice_get f.expressions h ≡ Some e → application_of e ≡ Some a
+  pub applied_at : (f : Function) (es : List ExpressionInfo) (h : ℕ) (e : Expression)
+      (a : Application) → function_fits types f es ≡ true → slice_get f.expressions h ≡ Some e →
+      application_of e ≡ Some a
       → IsOperation es h a
   applied_at f es h e a fits here is =
       let one = function_fits_word_at f es h e fits here
-      in let fit = (if_some (application_fits types es h a) (spelling_at types es h) one.0 (sym (applied_type f es h e a is) ∙ one.2)).0
-      in let parts = and_parts (is_some (accepted_word a.operator)) (list_all (operand_fits types es h) a.operands) fit
+      in let fit =
+      (if_some (application_fits types es h a) (spelling_at types es h) one.0
+      (sym (applied_type f es h e a is) ∙ one.2)).0
+      in let parts =
+      and_parts (is_some (accepted_word a.operator))
+      (list_all (operand_fits types es h) a.operands) fit
       in let word = some_word (accepted_word a.operator) parts.0
       in let operands = operands_fit_parts es h a.operands parts.1
       in record {

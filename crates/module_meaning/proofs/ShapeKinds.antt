@@ -3,7 +3,8 @@
 --
 -- Throughout, e is an expression of the module, o a shape, if there is one, f a function of shapes,
 -- s a standing, and h a handle.
-use Rattle.std.proofs.Common.{◌≡◌, ◌≢◌, ℕ, Bool, true, false, List, [], Option, Some, None, refl, sym, ap, ◌∙◌}
+use Rattle.std.proofs.Common.{◌≡◌, ◌≢◌, ℕ, Bool, true, false, List, [], Option, Some, None, refl}
+use Rattle.std.proofs.Common.{sym, ap, ◌∙◌}
 use Rattle.std.specs.Prelude.{IsTrue}
 use Rattle.std.specs.Option.{is_some, option_map, option_map_or}
 use Rattle.naga_ir.specs.Kinds.{kind_of}
@@ -32,15 +33,18 @@ applied xs op = record { operator = op; operands = xs }
 applied_kind : (e : ir.Expression) → is_some (operator_of e) ≡ true → kind_of e ≡ kind.Pure
 applied_kind e is = by e (operator_of e) refl is
   where
-    each : (e : ir.Expression) → option_map_or (λ op. kind_of e) (operator_of e) kind.Pure ≡ kind.Pure
+    each : (e : ir.Expression) →
+        option_map_or (λ op. kind_of e) (operator_of e) kind.Pure ≡ kind.Pure
     each (expression.Binary op left right) = refl
     each _ = refl
 
-    by : (e : ir.Expression) (o : Option TableOperator) → operator_of e ≡ o → is_some o ≡ true → kind_of e ≡ kind.Pure
+    by : (e : ir.Expression) (o : Option TableOperator) → operator_of e ≡ o → is_some o ≡ true →
+        kind_of e ≡ kind.Pure
     by e (Some op) at is = sym (ap (λ o. option_map_or (λ op. kind_of e) o kind.Pure) at) ∙ each e
     by e None at is = absurd cc
 
-operator_kind : (op : TableOperator) (xs : List ℕ) → shape_kind (Some (operator_shape op xs)) ≡ kind.Pure
+operator_kind : (op : TableOperator) (xs : List ℕ) →
+    shape_kind (Some (operator_shape op xs)) ≡ kind.Pure
 operator_kind op xs = operator_any (λ s. shape_kind (Some s) ≡ kind.Pure) op xs (λ j l r. refl) refl
 
 -- the kind of what is written is that of what it evaluates
@@ -52,8 +56,14 @@ written_kind (expression.LocalVariable handle) written = refl
 written_kind (expression.Load pointer) written = refl
 written_kind e written = by (operator_of e) refl written
   where
-    by : (o : Option TableOperator) → operator_of e ≡ o → IsTrue (option_map_or (λ a. is_some (accepted_word a.operator)) (option_map (applied (expression_operands e)) o) false) → shape_kind (Some (application_shape (option_map (applied (expression_operands e)) o))) ≡ kind_of e
-    by (Some op) at written = operator_kind op (expression_operands e) ∙ sym (applied_kind e (ap is_some at))
+    by : (o : Option TableOperator) → operator_of e ≡ o →
+        IsTrue
+        (option_map_or (λ a. is_some (accepted_word a.operator))
+        (option_map (applied (expression_operands e)) o) false) →
+        shape_kind (Some (application_shape (option_map (applied (expression_operands e)) o))) ≡
+        kind_of e
+    by (Some op) at written =
+        operator_kind op (expression_operands e) ∙ sym (applied_kind e (ap is_some at))
     by None at written = absurd cc
 
 -- what evaluates as more than a result is over the operands of the expression
@@ -65,7 +75,9 @@ shape_operands (expression.LocalVariable handle) shaped = refl
 shape_operands (expression.Load pointer) shaped = refl
 shape_operands e shaped = by (expression_operands e) (operator_of e) shaped
   where
-    by : (xs : List ℕ) (o : Option TableOperator) → shape_kind (Some (application_shape (option_map (applied xs) o))) ≢ kind.Result → operands_of (Some (application_shape (option_map (applied xs) o))) ≡ xs
+    by : (xs : List ℕ) (o : Option TableOperator) →
+        shape_kind (Some (application_shape (option_map (applied xs) o))) ≢ kind.Result →
+        operands_of (Some (application_shape (option_map (applied xs) o))) ≡ xs
     by xs (Some op) shaped = operator_operands op xs
     by xs None shaped = absurd (shaped refl)
 

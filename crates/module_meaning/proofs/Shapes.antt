@@ -4,41 +4,59 @@ use Rattle.naga_ir.specs.declared.operators.BinaryOperator.TheVariants.{LogicalA
 use Rattle.std.specs.Prelude.{Bool, if◌then◌else◌, unwrap_or}
 use Rattle.std.proofs.lemmas.Option.{same_Some}
 use Rattle.module_meaning.specs.Applications.{Application, operator_is_accepted, accepted_word}
-use Rattle.module_meaning.specs.OperatorTable.{Operator as TableOperator, BinarySign, operator_word, own_word, run_word}
+use Rattle.module_meaning.specs.OperatorTable.{Operator as TableOperator, BinarySign, operator_word}
+use Rattle.module_meaning.specs.OperatorTable.{own_word, run_word}
 use Rattle.module_meaning.specs.Shapes.{operator_shape, application_shape}
 use Rattle.shader_runs.specs.Value.{ShortCircuit}
-use Rattle.shader_runs.specs.Program.{Expression, Operator, Logical, Result, Function, operands_of, is_counted, binds_as}
-use Rattle.shader_runs.specs.Scope.{Standing, is_present, usable_as, is_pure, is_constant_leaf, is_emittable}
+use Rattle.shader_runs.specs.Program.{Expression, Operator, Logical, Result, Function, operands_of}
+use Rattle.shader_runs.specs.Program.{is_counted, binds_as}
+use Rattle.shader_runs.specs.Scope.{Standing, is_present, usable_as, is_pure, is_constant_leaf}
+use Rattle.shader_runs.specs.Scope.{is_emittable}
 use Rattle.shader_runs.specs.Value.{ShortCircuitAnd, ShortCircuitOr}
 
--- what holds of short circuits, and of the operator's word over the operands, holds of the operator over them
-pub operator_any : (P : Expression → Type 0) (op : TableOperator) (xs : List ℕ) → ((j : ShortCircuit) (l r : ℕ) → P (Logical j l r)) → P (Operator (run_word op) xs) → P (operator_shape op xs)
+-- what holds of short circuits, and of the operator's word over the operands, holds of the operator
+-- over them
+pub operator_any : (P : Expression → Type 0) (op : TableOperator) (xs : List ℕ) →
+    ((j : ShortCircuit) (l r : ℕ) → P (Logical j l r)) → P (Operator (run_word op) xs) →
+    P (operator_shape op xs)
 operator_any P (BinarySign LogicalAnd) (l ∷ r ∷ []) circuit word = circuit ShortCircuitAnd l r
 operator_any P (BinarySign LogicalOr) (l ∷ r ∷ []) circuit word = circuit ShortCircuitOr l r
 operator_any P op xs circuit word = word
 
-pub operator_operands : (op : TableOperator) (xs : List ℕ) → operands_of (Some (operator_shape op xs)) ≡ xs
+pub operator_operands : (op : TableOperator) (xs : List ℕ) →
+    operands_of (Some (operator_shape op xs)) ≡ xs
 operator_operands (BinarySign LogicalAnd) (l ∷ r ∷ []) = refl
 operator_operands (BinarySign LogicalOr) (l ∷ r ∷ []) = refl
 operator_operands op xs = refl
 
-pub pure_operator : (op : TableOperator) (xs : List ℕ) → is_pure (Some (operator_shape op xs)) ≡ true
+pub pure_operator : (op : TableOperator) (xs : List ℕ) →
+    is_pure (Some (operator_shape op xs)) ≡ true
 pure_operator op xs = operator_any (λ e. is_pure (Some e) ≡ true) op xs (λ j l r. refl) refl
 
-pub emittable_operator : (op : TableOperator) (xs : List ℕ) → is_emittable (Some (operator_shape op xs)) ≡ true
-emittable_operator op xs = operator_any (λ e. is_emittable (Some e) ≡ true) op xs (λ j l r. refl) refl
+pub emittable_operator : (op : TableOperator) (xs : List ℕ) →
+    is_emittable (Some (operator_shape op xs)) ≡ true
+emittable_operator op xs =
+    operator_any (λ e. is_emittable (Some e) ≡ true) op xs (λ j l r. refl) refl
 
-pub no_leaf_operator : (op : TableOperator) (xs : List ℕ) → is_constant_leaf (Some (operator_shape op xs)) ≡ false
-no_leaf_operator op xs = operator_any (λ e. is_constant_leaf (Some e) ≡ false) op xs (λ j l r. refl) refl
+pub no_leaf_operator : (op : TableOperator) (xs : List ℕ) →
+    is_constant_leaf (Some (operator_shape op xs)) ≡ false
+no_leaf_operator op xs =
+    operator_any (λ e. is_constant_leaf (Some e) ≡ false) op xs (λ j l r. refl) refl
 
-pub operator_bound : (f : Function) (h : ℕ) (op : TableOperator) (xs : List ℕ) → binds_as f h (Some (operator_shape op xs)) ≡ is_counted f 2 h
-operator_bound f h op xs = operator_any (λ e. binds_as f h (Some e) ≡ is_counted f 2 h) op xs (λ j l r. refl) refl
+pub operator_bound : (f : Function) (h : ℕ) (op : TableOperator) (xs : List ℕ) →
+    binds_as f h (Some (operator_shape op xs)) ≡ is_counted f 2 h
+operator_bound f h op xs =
+    operator_any (λ e. binds_as f h (Some e) ≡ is_counted f 2 h) op xs (λ j l r. refl) refl
 
-pub operator_usable : (f : Function) (op : TableOperator) (xs : List ℕ) (s : Standing) → usable_as f (Some (operator_shape op xs)) s ≡ is_present s
-operator_usable f op xs s = operator_any (λ e. usable_as f (Some e) s ≡ is_present s) op xs (λ j l r. refl) refl
+pub operator_usable : (f : Function) (op : TableOperator) (xs : List ℕ) (s : Standing) →
+    usable_as f (Some (operator_shape op xs)) s ≡ is_present s
+operator_usable f op xs s =
+    operator_any (λ e. usable_as f (Some e) s ≡ is_present s) op xs (λ j l r. refl) refl
 
 -- what holds of a result and of each operator that is applied holds of what an expression applies
-pub application_any : (P : Expression → Type 0) → P Result → (o : Option Application) → ((a : Application) → o ≡ Some a → P (operator_shape a.operator a.operands)) → P (application_shape o)
+pub application_any : (P : Expression → Type 0) → P Result → (o : Option Application) →
+    ((a : Application) → o ≡ Some a → P (operator_shape a.operator a.operands)) →
+    P (application_shape o)
 application_any P none None some = none
 application_any P none (Some a) some = some a refl
 
@@ -47,13 +65,15 @@ application_any P none (Some a) some = some a refl
 pub accepted_is : (op : TableOperator) (w : List ℕ) → accepted_word op ≡ Some w → run_word op ≡ w
 accepted_is op w is = by (operator_is_accepted op) (operator_word op) is
   where
-    by : (accepted : Bool) (o : Option (List ℕ)) → (if accepted then o else None) ≡ Some w → unwrap_or o (own_word op) ≡ w
+    by : (accepted : Bool) (o : Option (List ℕ)) → (if accepted then o else None) ≡ Some w →
+        unwrap_or o (own_word op) ≡ w
     by true (Some v) e = same_Some v w e
     by true None e = absurd (cc)
     by false o e = absurd (cc)
 
 -- none of them is a short circuit
-pub accepted_shape : (op : TableOperator) (xs : List ℕ) (w : List ℕ) → accepted_word op ≡ Some w → operator_shape op xs ≡ Operator (run_word op) xs
+pub accepted_shape : (op : TableOperator) (xs : List ℕ) (w : List ℕ) → accepted_word op ≡ Some w →
+    operator_shape op xs ≡ Operator (run_word op) xs
 accepted_shape (BinarySign LogicalAnd) xs w is = absurd (cc)
 accepted_shape (BinarySign LogicalOr) xs w is = absurd (cc)
 accepted_shape op xs w is = refl

@@ -7,8 +7,11 @@ use Rattle.std.specs.Str.{bytes_eq}
 use Rattle.std.proofs.lemmas.Bool.{and_parts, eqb-true, eqb-false}
 use Rattle.std.proofs.lemmas.List.{length-set, get_or-set_same, get_or-set_other, get_or-replicate, length-replicate}
 use Rattle.std.proofs.lemmas.Slice.Eq.{bytes_eq-Decides}
-use Rattle.module_meaning.specs.Operations.{Operation, are_alike, agrees, all_agree, spelling_then, operation_of}
-use Rattle.naga_acceptance.specs.Table.{position, type_words, operator_words, type_number, operator_number, place_from, operation_place, entered_over, entered, all_entered, entered_numbers, entered_where}
+use Rattle.module_meaning.specs.Operations.{Operation, are_alike, agrees, all_agree, spelling_then}
+use Rattle.module_meaning.specs.Operations.{operation_of}
+use Rattle.naga_acceptance.specs.Table.{position, type_words, operator_words, type_number}
+use Rattle.naga_acceptance.specs.Table.{operator_number, place_from, operation_place, entered_over}
+use Rattle.naga_acceptance.specs.Table.{entered, all_entered, entered_numbers, entered_where}
 
 -- ---- tests
 
@@ -72,30 +75,46 @@ abbrev pub AreNumbered : List Operation → Type 0
 AreNumbered [] = Unit {0}
 AreNumbered (o ∷ os) = IsNumbered o × AreNumbered os
 
-place_is : (o : Operation) (n : IsNumbered o) → operation_place o ≡ (operator_number o.operator * 10 + type_number n.left_word) * 10 + type_number n.right_word
+place_is : (o : Operation) (n : IsNumbered o) →
+    operation_place o ≡
+    (operator_number o.operator * 10 + type_number n.left_word) * 10 + type_number n.right_word
 place_is o n = ap (place_from (operator_number o.operator)) n.two
 
 pub place_within : (o : Operation) → IsNumbered o → operation_place o < 300
 place_within o n = omega (arith, place_is o n, n.operator, n.left, n.right)
 
-same_place : (a b : Operation) → IsNumbered a → IsNumbered b → (bytes_eq a.operator b.operator && are_alike a.operands b.operands) ≡ (operation_place a == operation_place b)
+same_place : (a b : Operation) → IsNumbered a → IsNumbered b →
+    (bytes_eq a.operator b.operator && are_alike a.operands b.operands) ≡
+    (operation_place a == operation_place b)
 same_place a b n m =
     (λ i. bytes_eq a.operator b.operator && are_alike (n.two i) (m.two i))
     ∙ iff_same _ _
     (λ e.
-    let one = and_parts (bytes_eq a.operator b.operator) (bytes_eq n.left_word m.left_word && (bytes_eq n.right_word m.right_word && true)) e
-    in let two = and_parts (bytes_eq n.left_word m.left_word) (bytes_eq n.right_word m.right_word && true) one.1
+    let one =
+    and_parts (bytes_eq a.operator b.operator)
+    (bytes_eq n.left_word m.left_word && (bytes_eq n.right_word m.right_word && true)) e
+    in let two =
+    and_parts (bytes_eq n.left_word m.left_word)
+    (bytes_eq n.right_word m.right_word && true) one.1
     in let three = and_parts (bytes_eq n.right_word m.right_word) true two.1
     in let o = (bytes_eq-Decides a.operator b.operator).0 one.0
     in let l = (bytes_eq-Decides n.left_word m.left_word).0 two.0
     in let r = (bytes_eq-Decides n.right_word m.right_word).0 three.0
-    in eq-eqb (operation_place a) (operation_place b) (place_is a n ∙ (λ i. (operator_number (o i) * 10 + type_number (l i)) * 10 + type_number (r i)) ∙ sym (place_is b m)))
+    in eq-eqb (operation_place a) (operation_place b)
+    (place_is a n
+    ∙ (λ i. (operator_number (o i) * 10 + type_number (l i)) * 10 + type_number (r i))
+    ∙ sym (place_is b m)))
     (λ e.
-    let same = sym (place_is a n) ∙ eqb-true (operation_place a) (operation_place b) e ∙ place_is b m
+    let same =
+    sym (place_is a n) ∙ eqb-true (operation_place a) (operation_place b) e ∙ place_is b m
     in let o : operator_number a.operator ≡ operator_number b.operator = omega (arith, same, n.operator, n.left, n.right, m.operator, m.left, m.right)
-    in let l : type_number n.left_word ≡ type_number m.left_word = omega (arith, same, n.operator, n.left, n.right, m.operator, m.left, m.right)
-    in let r : type_number n.right_word ≡ type_number m.right_word = omega (arith, same, n.operator, n.left, n.right, m.operator, m.left, m.right)
-    in λ i. (same_words operator_words a.operator b.operator n.operator ∙ eq-eqb _ _ o) i && ((same_words type_words n.left_word m.left_word n.left ∙ eq-eqb _ _ l) i && ((same_words type_words n.right_word m.right_word n.right ∙ eq-eqb _ _ r) i && true)))
+    in let l : type_number n.left_word ≡ type_number m.left_word =
+    omega (arith, same, n.operator, n.left, n.right, m.operator, m.left, m.right)
+    in let r : type_number n.right_word ≡ type_number m.right_word =
+    omega (arith, same, n.operator, n.left, n.right, m.operator, m.left, m.right)
+    in λ i. (same_words operator_words a.operator b.operator n.operator ∙ eq-eqb _ _ o) i &&
+    ((same_words type_words n.left_word m.left_word n.left ∙ eq-eqb _ _ l) i &&
+    ((same_words type_words n.right_word m.right_word n.right ∙ eq-eqb _ _ r) i && true)))
 
 -- agreement by numbers
 agrees_numbers : (a b : Operation) → IsNumbered a → IsNumbered b → agrees a b ≡ (if operation_place a == operation_place b then type_number a.answer == type_number b.answer else true)
@@ -206,7 +225,12 @@ all_entered_append t (o ∷ os) ps = all_entered_append (option_and_then (λ t. 
 
 -- an operation whose operands stand before it, or not, is entered by its numbers
 pub operation_where : (t : List (Option ℕ)) (operator left right answer : Option (List ℕ)) (left_before right_before : Bool)
-    → entered_where ((is_some operator && ((left_before && is_some left) && ((right_before && is_some right) && true))) && is_some answer) (all_entered (Some t) (operation_of operator (spelling_then left (spelling_then right (Some []))) answer))
+    → entered_where
+    ((is_some operator &&
+    ((left_before && is_some left) && ((right_before && is_some right) && true))) && is_some
+    answer)
+    (all_entered (Some t)
+    (operation_of operator (spelling_then left (spelling_then right (Some []))) answer))
     ≡ entered_numbers t (option_map operator_number operator) (if left_before then option_map type_number left else None) (if right_before then option_map type_number right else None) (option_map type_number answer)
 operation_where t None left right answer p q = refl
 operation_where t (Some operator) left right answer false q = refl

@@ -1,5 +1,7 @@
 -- A pass that tests items one behind another, and enters the operations of each in the table of types that operators have given.
-use Rattle.std.proofs.Common.{◌≡◌, ℕ, ◌+◌, ◌<◌, Bool, true, false, ◌&&◌, List, [], ◌∷◌, ◌++◌, Option, Some, None, length, drop, replicate, refl, ap, sym, ◌∙◌, slice_get, slice_index_or}
+use Rattle.std.proofs.Common.{◌≡◌, ℕ, ◌+◌, ◌<◌, Bool, true, false, ◌&&◌, List, [], ◌∷◌, ◌++◌}
+use Rattle.std.proofs.Common.{Option, Some, None, length, drop, replicate, refl, ap, sym, ◌∙◌}
+use Rattle.std.proofs.Common.{slice_get, slice_index_or}
 use Rattle.std.specs.List.{flat_map, enumerate_from, list_all}
 use Rattle.std.specs.Prelude.{if◌then◌else◌}
 use Rattle.std.specs.Option.{is_some, option_and_then}
@@ -10,7 +12,9 @@ use Rattle.naga_ir.specs.declared.module.Function.{Function}
 use Rattle.naga_ir.specs.declared.operators.BinaryOperator.{BinaryOperator}
 use Rattle.naga_ir.specs.declared.types.Type_.{Type_}
 use Rattle.naga_info.specs.declared.info.ExpressionInfo.{ExpressionInfo}
-use Rattle.module_meaning.specs.Accepted.{signature_fits, names_fit, application_fits, expression_fits, expressions_fit_from, expressions_fit, local_fits, block_fits, function_fits, functions_fit}
+use Rattle.module_meaning.specs.Accepted.{signature_fits, names_fit, application_fits}
+use Rattle.module_meaning.specs.Accepted.{expression_fits, expressions_fit_from, expressions_fit}
+use Rattle.module_meaning.specs.Accepted.{local_fits, block_fits, function_fits, functions_fit}
 use Rattle.module_meaning.specs.Operations.{Operation, expression_operations, function_operations, all_operations, operators_agree}
 use Rattle.module_meaning.proofs.Fitting.{drop_first, item_at, expressions_fit-step, functions_fit-step}
 use Rattle.module_meaning.specs.Spelled.{is_alike, spelling_of, spelling_at}
@@ -67,7 +71,9 @@ module _ (types : List Type_) where
   pub operation_test : (f : Function) (es : List ExpressionInfo) (here : ℕ) (op : BinaryOperator) (left right : ℕ) (known : ExpressionInfo) → slice_get es here ≡ Some known
       → operation_fits types es here op left right ≡ expression_fits types f es here (Binary op left right) known
   operation_test f es here op left right known is =
-      let fits = application_fits types es here (record { operator = BinarySign op; operands = left ∷ right ∷ [] })
+      let fits =
+      application_fits types es here
+      (record { operator = BinarySign op; operands = left ∷ right ∷ [] })
       in sym (alike_if fits (spelling_at types es here))
       ∙ ap (λ k. is_alike (option_and_then (λ k. spelling_of types k.ty) k) (if fits then spelling_at types es here else None) && true) is
 

@@ -17,10 +17,13 @@ use Rattle.naga_ir.specs.declared.types.TypeInner.{TypeInner}
 use Rattle.naga_ir.specs.declared.types.TypeInner.TheVariants.{Scalar as ScalarType, Pointer}
 use Rattle.naga_info.specs.declared.info.ExpressionInfo.{ExpressionInfo}
 use Rattle.naga_info.specs.Resolution.{inner_of}
-use Rattle.module_meaning.specs.Spelled.{word_of_width, scalar_word, word_of_type, word_at, local_pointer, spelling, spelling_of, spelling_at}
+use Rattle.module_meaning.specs.Spelled.{word_of_width, scalar_word, word_of_type, word_at}
+use Rattle.module_meaning.specs.Spelled.{local_pointer, spelling, spelling_of, spelling_at}
 use Rattle.module_meaning.specs.Applications.{accepted_word}
 use Rattle.module_meaning.specs.OperatorTable.{BinarySign}
-use Rattle.module_meaning.specs.Operations.{Operation, spelling_then, operation_of, expression_operations, function_operations, all_operations, operators_agree}
+use Rattle.module_meaning.specs.Operations.{Operation, spelling_then, operation_of}
+use Rattle.module_meaning.specs.Operations.{expression_operations, function_operations}
+use Rattle.module_meaning.specs.Operations.{all_operations, operators_agree}
 use Rattle.naga_acceptance.specs.Table.{type_number, operator_number, all_entered}
 use Rattle.std.proofs.lemmas.Option.{same_Some}
 use Rattle.naga_info.proofs.Options.{then_some, map_some}
@@ -96,7 +99,8 @@ spelling_at_numbered types es h w e =
     in let t = then_some (spelling types) (inner_of k.0.ty types) w k.2
     in spelling_numbered types t.0 w t.2
 
-pub operator_numbered : (op : BinaryOperator) (w : List ℕ) → accepted_word (BinarySign op) ≡ Some w → operator_number w < 3
+pub operator_numbered : (op : BinaryOperator) (w : List ℕ) →
+    accepted_word (BinarySign op) ≡ Some w → operator_number w < 3
 operator_numbered Add w e = let small : 0 < 3 = omega arith in subst (λ w. operator_number w < 3) (same_Some (codes "+") w e) small
 operator_numbered Subtract w e = let small : 1 < 3 = omega arith in subst (λ w. operator_number w < 3) (same_Some (codes "-") w e) small
 operator_numbered Multiply w e = let small : 2 < 3 = omega arith in subst (λ w. operator_number w < 3) (same_Some (codes "*") w e) small
@@ -105,9 +109,24 @@ operator_numbered _ w e = absurd cc
 -- ---- the operations of a module
 
 operation_numbered : (op left right answer : Option (List ℕ)) → ((w : List ℕ) → op ≡ Some w → operator_number w < 3) → ((w : List ℕ) → left ≡ Some w → type_number w < 10)
-    → ((w : List ℕ) → right ≡ Some w → type_number w < 10) → ((w : List ℕ) → answer ≡ Some w → type_number w < 10) → AreNumbered (operation_of op (spelling_then left (spelling_then right (Some []))) answer)
-operation_numbered (Some op) (Some left) (Some right) (Some answer) o l r a =
-    (record { operator = o op refl; left_word = left; right_word = right; two = refl; left = l left refl; right = r right refl; answer = a answer refl }, tt)
+    → ((w : List ℕ) → right ≡ Some w → type_number w < 10) →
+    ((w : List ℕ) → answer ≡ Some w → type_number w < 10) →
+    AreNumbered (operation_of op (spelling_then left (spelling_then right (Some []))) answer)
+operation_numbered (Some op) (Some left) (Some right) (Some answer) o l r a = (
+  record {
+    operator =
+        o op refl;
+    left_word =
+        left;
+    right_word =
+        right;
+    two = refl;
+    left = l left refl;
+    right = r right refl;
+    answer = a answer refl;
+  },
+  tt,
+)
 operation_numbered None left right answer o l r a = tt
 operation_numbered (Some op) None right answer o l r a = tt
 operation_numbered (Some op) (Some left) None answer o l r a = tt
@@ -120,7 +139,8 @@ numbered_append (o ∷ os) ps n m = (n.0, numbered_append os ps n.1 m)
 module _ (types : List Type_) where
   expression_numbered : (es : List ExpressionInfo) (here : ℕ) (e : Expression) → AreNumbered (expression_operations types es here e)
   expression_numbered es here (Binary op left right) =
-      operation_numbered (accepted_word (BinarySign op)) (spelling_at types es left) (spelling_at types es right) (spelling_at types es here)
+      operation_numbered (accepted_word (BinarySign op)) (spelling_at types es left)
+      (spelling_at types es right) (spelling_at types es here)
       (operator_numbered op) (spelling_at_numbered types es left) (spelling_at_numbered types es right) (spelling_at_numbered types es here)
   expression_numbered es here _ = tt
 

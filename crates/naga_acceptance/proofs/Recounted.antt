@@ -14,8 +14,15 @@ use Rattle.naga_info.specs.declared.info.ExpressionInfo.{ExpressionInfo}
 use Rattle.naga_info.specs.declared.info.ModuleInfo.{ModuleInfo}
 use Rattle.module_meaning.specs.Spelled.{word_at, spelling_at, spelling_of, pointee_at, is_alike}
 use Rattle.module_meaning.specs.Applications.{Application, application_of, accepted_word}
-use Rattle.module_meaning.specs.Accepted.{declares_functions, is_scalar_type, special_types_fit, signature_fits, names_fit, operand_fits, application_type, expected_type, is_within, expressions_fit_from, value_fits, local_fits, return_fits, simple_fits, statement_fits, block_fits, function_fits, functions_fit, is_accepted}
-use Rattle.module_meaning.specs.Operations.{spelling_then, spellings_at, operation_of, application_operations, expression_operations, all_operations, all_agree, operators_agree}
+use Rattle.module_meaning.specs.Accepted.{declares_functions, is_scalar_type, special_types_fit}
+use Rattle.module_meaning.specs.Accepted.{signature_fits, names_fit, operand_fits, application_type}
+use Rattle.module_meaning.specs.Accepted.{expected_type, is_within, expressions_fit_from}
+use Rattle.module_meaning.specs.Accepted.{value_fits, local_fits, return_fits, simple_fits}
+use Rattle.module_meaning.specs.Accepted.{statement_fits, block_fits, function_fits, functions_fit}
+use Rattle.module_meaning.specs.Accepted.{is_accepted}
+use Rattle.module_meaning.specs.Operations.{spelling_then, spellings_at, operation_of}
+use Rattle.module_meaning.specs.Operations.{application_operations, expression_operations}
+use Rattle.module_meaning.specs.Operations.{all_operations, all_agree, operators_agree}
 use Rattle.naga_acceptance.specs.Counts.{counted_from, all_counted, use_count, operand_places}
 
 -- the counts don't change the types, nor how many there are
@@ -37,13 +44,19 @@ module _ (types : List Type_) (f : Function) (c : ℕ → ℕ) (es : List Expres
   abbrev now : List ExpressionInfo
   now = counted_from c 0 es
 
-  same_operands : (here : ℕ) (hs : List ℕ) → list_all (operand_fits types now here) hs ≡ list_all (operand_fits types es here) hs
+  same_operands : (here : ℕ) (hs : List ℕ) →
+      list_all (operand_fits types now here) hs ≡ list_all (operand_fits types es here) hs
   same_operands here [] = refl
-  same_operands here (h ∷ hs) = λ i. (nat_lt h here && is_some (same_spelling types c 0 es h i)) && same_operands here hs i
+  same_operands here (h ∷ hs) =
+      λ i. (nat_lt h here && is_some (same_spelling types c 0 es h i)) && same_operands here hs i
 
-  same_application : (here : ℕ) (o : Option Application) → application_type types now here o ≡ application_type types es here o
+  same_application : (here : ℕ) (o : Option Application) →
+      application_type types now here o ≡ application_type types es here o
   same_application here None = refl
-  same_application here (Some applied) = λ i. cond (is_some (accepted_word applied.operator) && same_operands here applied.operands i) (same_spelling types c 0 es here i) None
+  same_application here (Some applied) =
+      λ i. cond
+      (is_some (accepted_word applied.operator) && same_operands here applied.operands i)
+      (same_spelling types c 0 es here i) None
 
   same_expected : (here : ℕ) (e : Expression) → expected_type types f now here e ≡ expected_type types f es here e
   same_expected here (expression.Load pointer) = λ i. cond (nat_lt pointer here) (same_pointee types c 0 es pointer i) None
@@ -89,13 +102,20 @@ module _ (types : List Type_) (f : Function) (c : ℕ → ℕ) (es : List Expres
   same_function : function_fits types f now ≡ function_fits types f es
   same_function = λ i. signature_fits (length types) f && (names_fit f && (same_expressions 0 0 f.expressions es i && (same_locals f.local_variables i && same_block f.result f.body i)))
 
-same_spellings : (types : List Type_) (c : ℕ → ℕ) (es : List ExpressionInfo) (hs : List ℕ) → spellings_at types (counted_from c 0 es) hs ≡ spellings_at types es hs
+same_spellings : (types : List Type_) (c : ℕ → ℕ) (es : List ExpressionInfo) (hs : List ℕ) →
+    spellings_at types (counted_from c 0 es) hs ≡ spellings_at types es hs
 same_spellings types c es [] = refl
-same_spellings types c es (h ∷ hs) = λ i. spelling_then (same_spelling types c 0 es h i) (same_spellings types c es hs i)
+same_spellings types c es (h ∷ hs) =
+    λ i. spelling_then (same_spelling types c 0 es h i) (same_spellings types c es hs i)
 
-same_applied : (types : List Type_) (c : ℕ → ℕ) (es : List ExpressionInfo) (here : ℕ) (o : Option Application) → application_operations types (counted_from c 0 es) here o ≡ application_operations types es here o
+same_applied : (types : List Type_) (c : ℕ → ℕ) (es : List ExpressionInfo) (here : ℕ)
+    (o : Option Application) →
+    application_operations types (counted_from c 0 es) here o ≡
+    application_operations types es here o
 same_applied types c es here None = refl
-same_applied types c es here (Some applied) = λ i. operation_of (accepted_word applied.operator) (same_spellings types c es applied.operands i) (same_spelling types c 0 es here i)
+same_applied types c es here (Some applied) =
+    λ i. operation_of (accepted_word applied.operator)
+    (same_spellings types c es applied.operands i) (same_spelling types c 0 es here i)
 
 same_operations : (types : List Type_) (c : ℕ → ℕ) (es : List ExpressionInfo) (here : ℕ) (e : Expression) → expression_operations types (counted_from c 0 es) here e ≡ expression_operations types es here e
 same_operations types c es here e = same_applied types c es here (application_of e)

@@ -28,7 +28,12 @@ use Rattle.shader_runs.specs.Program.{handle_type, expression_of, binds, from}
 use Rattle.shader_runs.specs.Scope.{Naming, at_start, Standing, Named, Handles, bound_name, given_after, given_by, given_by_all, after_one, after, after_all}
 use Rattle.shader_runs.specs.Text.{LiteralOf, before, ReturnLine, Apply, LogicalOf, more, no_more, Let, Assign, Braces, IfElse, SwitchOn, LoopOf, group}
 use Rattle.shader_runs.specs.Form.{written_below, names_from, variables_from, form_function, Plain, AsValue, AsPlace, let_if}
-use Rattle.naga_form.specs.Form.{parameters_form, function_form, PlainForm, ValueForm, ReferenceForm, as_value, as_reference, application_plain, own_plain, own_if, standing_plain, plain_below, plain_form, value_form, let_form, then_if, lets_form, return_line, simple_form, loop_form, label_form, labels_form, line_form, lines_form, cases_form, locals_form}
+use Rattle.naga_form.specs.Form.{parameters_form, function_form, PlainForm, ValueForm}
+use Rattle.naga_form.specs.Form.{ReferenceForm, as_value, as_reference, application_plain}
+use Rattle.naga_form.specs.Form.{own_plain, own_if, standing_plain, plain_below, plain_form}
+use Rattle.naga_form.specs.Form.{value_form, let_form, then_if, lets_form, return_line, simple_form}
+use Rattle.naga_form.specs.Form.{loop_form, label_form, labels_form, line_form, lines_form}
+use Rattle.naga_form.specs.Form.{cases_form, locals_form}
 use Rattle.naga_words.specs.Contexts.{names_of}
 use Rattle.module_meaning.specs.Names.{function_name, argument_name}
 use Rattle.naga_form.specs.Types.{type_form, told_type}
@@ -36,7 +41,9 @@ use Rattle.module_meaning.specs.Types.{pointer_to_local, declared_type, LocalsAr
 use Rattle.naga_form.specs.Literals.{literal_form, literal_is_written, LiteralsAreWritten}
 use Rattle.module_meaning.specs.Literals.{literal_value}
 use Rattle.text_meaning.specs.Literals.{value_read}
-use Rattle.module_meaning.specs.Shapes.{application_shape, expression_shape, label_shape, simple_shape, statements_shape, cases_shape, function_shape, function_naming, statement_shape}
+use Rattle.module_meaning.specs.Shapes.{application_shape, expression_shape, label_shape}
+use Rattle.module_meaning.specs.Shapes.{simple_shape, statements_shape, cases_shape, function_shape}
+use Rattle.module_meaning.specs.Shapes.{function_naming, statement_shape}
 use Rattle.text_meaning.specs.Abstraction.{expression_read, label_read, labels_read, statements_read, cases_read, function_read, statement_read, local_pointer_read, variable_read}
 use Rattle.naga_ir.specs.declared.expression.Expression.TheVariants as expression
 use Rattle.wgsl_text.specs.Tree as tree
@@ -108,10 +115,14 @@ loop_reads body continuing (Some e) = refl
 
 -- ---- expressions
 module _ (n : Naming) where
-  application_reads : (operand : ℕ → PlainForm) (like : ℕ → Plain) → ((x : ℕ) → plain_read (operand x) ≡ like x) → (k : ValueType) (o : Option Application) → plain_read (application_plain operand o) ≡ runs.own_form n like k (Some (application_shape o))
+  application_reads : (operand : ℕ → PlainForm) (like : ℕ → Plain) →
+      ((x : ℕ) → plain_read (operand x) ≡ like x) → (k : ValueType) (o : Option Application) →
+      plain_read (application_plain operand o) ≡ runs.own_form n like k (Some (application_shape o))
   application_reads operand like same k None = refl
   application_reads operand like same k (Some applied) =
-      operator_read operand like (λ h. value_is (operand h) ∙ ap runs.value_form (same h)) n k applied.operator applied.operands
+      operator_read operand like
+      (λ h. value_is (operand h)
+      ∙ ap runs.value_form (same h)) n k applied.operator applied.operands
 
   own_reads : (operand : ℕ → PlainForm) (like : ℕ → Plain) → ((x : ℕ) → plain_read (operand x) ≡ like x) → (k : ValueType) (e : ir.Expression) → literal_is_written e ≡ true → plain_read (own_plain n operand e) ≡ runs.own_form n like k (Some (expression_shape e))
   own_reads operand like same k (expression.Literal value) w = ap (λ v. AsValue (LiteralOf v)) (literal_read value w)

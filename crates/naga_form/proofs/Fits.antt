@@ -1,8 +1,9 @@
 -- An accepted function meets what the law of runs asks of its shape, where its handles are in scope.
 use Rattle.std.proofs.Common.{[], ◌≡◌, ◌≢◌, ℕ, suc, zero, Bool, true, false, ◌<◌, List, ◌∷◌, map, length, Option, Some, None, refl, sym, ap, subst, ◌∙◌, arith, ◌+◌, ◌-◌, take, codes, nat_eq, true≢false}
-use Rattle.std.specs.Prelude.{IsTrue, slice_get, unwrap_or, ◌==◌, get_or, cond}
+use Rattle.std.specs.Prelude.{IsTrue, slice_get, unwrap_or, ◌==◌, get_or, cond, if◌then◌else◌, not}
+use Rattle.std.specs.Prelude.{◌&&◌, ◌||◌}
 use Rattle.std.specs.Option.{option_map}
-use Rattle.std.proofs.lemmas.Bool.{eqb-true}
+use Rattle.std.proofs.lemmas.Bool.{and_parts, eqb-true}
 use Rattle.naga_ir.specs.StatementTree.{emit, store, return, StatementTree, simple, block, branch, switch, loop, BlockTree, no_statements, statement, CaseTrees, no_cases, case}
 use Rattle.naga_ir.specs.declared.expression.Expression as ir
 use Rattle.naga_ir.specs.declared.expression.Literal as ir_literal
@@ -11,9 +12,10 @@ use Rattle.naga_ir.specs.declared.module.Function as ir_function
 use Rattle.naga_ir.specs.declared.module.LocalVariable.{LocalVariable}
 use Rattle.naga_ir.specs.declared.types.Type_.{Type_}
 use Rattle.naga_info.specs.declared.info.ExpressionInfo.{ExpressionInfo}
-use Rattle.module_meaning.specs.Applications.{application_of, accepted_word}
-use Rattle.module_meaning.specs.OperatorTable.{Operator, BinarySign, run_word}
-use Rattle.module_meaning.specs.Spelled.{word_at, spelling_of, local_pointer, literal_word, spelling_at}
+use Rattle.module_meaning.specs.Applications.{application_of, operator_is_accepted, accepted_word}
+use Rattle.module_meaning.specs.OperatorTable.{Operator, BinarySign, operator_word, run_word}
+use Rattle.module_meaning.specs.Spelled.{word_at, spelling_of, local_pointer, literal_word}
+use Rattle.module_meaning.specs.Spelled.{spelling_at}
 use Rattle.module_meaning.proofs.Shapes.{application_any, operator_any, operator_operands}
 use Rattle.module_meaning.specs.Accepted.{statement_fits, return_fits, block_fits, function_fits}
 use Rattle.module_meaning.specs.Part.{names_nothing}
@@ -32,21 +34,29 @@ use Rattle.naga_info.specs.declared.info.TypeResolution.TheVariants.{Handle}
 use Rattle.module_meaning.specs.TypeIdentity.{Nothing, identity}
 use Rattle.naga_form.proofs.TypeIdentities.{declared_spelling}
 use Rattle.module_meaning.specs.Literals.{literal_value}
-use Rattle.module_meaning.specs.Shapes.{no_parts, expression_shape, statements_shape, cases_shape, function_shape, outer_names, function_naming, statement_shape, given_from}
-use Rattle.naga_form.proofs.Named.{numbered_distinct, name_is, item_not_numbered, items_tell, function_item, argument_item, function_there, argument_there}
+use Rattle.module_meaning.specs.Shapes.{no_parts, expression_shape, statements_shape, cases_shape}
+use Rattle.module_meaning.specs.Shapes.{function_shape, outer_names, function_naming}
+use Rattle.module_meaning.specs.Shapes.{statement_shape, given_from}
+use Rattle.naga_form.proofs.Named.{numbered_distinct, name_is, item_not_numbered, items_tell}
+use Rattle.naga_form.proofs.Named.{item_is_identifier, function_item, argument_item, function_there}
+use Rattle.naga_form.proofs.Named.{argument_there}
 use Rattle.naga_form.proofs.Facts.{returned_at}
 use Rattle.std.proofs.lemmas.Option.{slice_get-map}
 use Rattle.indexmap.specs.IndexMap.{keys}
 use Rattle.naga_ir.specs.declared.expression.Expression.TheVariants as expression
 use Rattle.naga_ir.specs.declared.operators.BinaryOperator.TheVariants as operator
 use Rattle.naga_ir.specs.declared.module.Module.{Module}
-use Rattle.module_meaning.proofs.Accepting.{function_fits_word_at, function_fits_expressions, function_fits_block, local_word_at, load_word_at, applied_at}
+use Rattle.module_meaning.proofs.Accepting.{function_fits_word_at, function_fits_expressions}
+use Rattle.module_meaning.proofs.Accepting.{function_fits_block, local_word_at, load_word_at}
+use Rattle.module_meaning.proofs.Accepting.{applied_at}
 use Rattle.naga_keywords.specs.Plain.{is_word}
 use Rattle.naga_names.specs.Naming.{label_or}
 use Rattle.naga_names.specs.declared.key.NameKey.TheVariants as key
 use Rattle.naga_names.proofs.NameShapes.{name_after_is_word}
 use Rattle.naga_names.proofs.NamedItems.{Stands, local_stands}
+use Rattle.wgsl_text.specs.Keywords.{builtin_words}
 use Rattle.wgsl_text.specs.Requests.{is_request}
+use Rattle.wgsl_text.specs.Words.{is_builtin}
 
 -- what stands at an index of a list made from other things
 pub mapped_at : {X Y : Type 0} (t : X → Y) (d : Y) (xs : List X) (i : ℕ) (x : X) → slice_get xs i ≡ Some x → get_or (map t xs) i d ≡ t x
@@ -103,17 +113,24 @@ sign_not_numbered : (h c : ℕ) (rest : List ℕ) → nat_eq c 95 ≡ false → 
 unfolding numbered_name
 sign_not_numbered h c rest one two e = not_numbered _ h c rest one two e
 
-no_request_plus : is_request (codes "+") ≡ false
-unfolding is_request
-no_request_plus = refl
+-- it asks for nothing and is no name: a sign, or a built-in word, that begins like no numbered name
+abbrev operates_freely : List ℕ → Bool
+operates_freely [] = false
+operates_freely (c ∷ rest) =
+    not (is_request (c ∷ rest)) &&
+    (not (nat_eq c 95) &&
+    (not (nat_eq c 32) && (not (is_word (c ∷ rest)) || is_builtin (c ∷ rest))))
 
-no_request_minus : is_request (codes "-") ≡ false
-unfolding is_request
-no_request_minus = refl
+-- as is the word of each operator that is accepted so far
+accepted_freely : (op : Operator) →
+    (if operator_is_accepted op then operates_freely (run_word op) else true) ≡ true
+unfolding is_request is_builtin builtin_words
+accepted_freely (BinarySign operator.Add) = refl
+accepted_freely _ = refl
 
-no_request_star : is_request (codes "*") ≡ false
-unfolding is_request
-no_request_star = refl
+not_true : (b : Bool) → not b ≡ true → b ≡ false
+not_true false is = refl
+not_true true is = absurd (cc)
 
 none_listed : (i : ℕ) (ts : List ValueType) → ts ≡ [] → i < length ts → ⊥
 none_listed i ts e lt = let none : i < 0 = subst (λ ts. i < length ts) e lt in omega (arith, none)
@@ -141,7 +158,8 @@ pub ordered_at : (types : List Type_) (f : ir_function.Function) (es : List Expr
 ordered_at types f es fits h (expression.Load q) at = let l = load_word_at types f es h q fits at in (l.1, tt)
 ordered_at types f es fits h e at =
     application_any (λ s. AllBelow h (operands_of (Some s))) tt (application_of e)
-    (λ a is. subst (AllBelow h) (sym (operator_operands a.operator a.operands)) (applied_at types f es h e a fits at is).before)
+    (λ a is. subst (AllBelow h) (sym (operator_operands a.operator a.operands))
+    (applied_at types f es h e a fits at is).before)
 
 pub ordered : (types : List Type_) (f : ir_function.Function) (es : List ExpressionInfo) → function_fits types f es ≡ true → (h : ℕ) → AllBelow h (operands_of (expression_of (function_shape types f es) h))
 ordered types f es fits h = at_any types f es h (λ o. AllBelow h (operands_of o)) tt (ordered_at types f es fits h)
@@ -226,17 +244,29 @@ module _ (m : Module) (g : ℕ) (f : ir_function.Function) (found : slice_get m.
   leaf_at h (expression.Load pointer) at = tt
   leaf_at h e at =
       application_any (λ s. LeafFits p shape (handle_type shape h) (Some s)) tt (application_of e)
-      (λ a is. operator_any (λ s. LeafFits p shape (handle_type shape h) (Some s)) a.operator a.operands (λ j l r. tt) tt)
+      (λ a is. operator_any
+      (λ s. LeafFits p shape (handle_type shape h) (Some s)) a.operator a.operands
+      (λ j l r. tt) tt)
 
   -- ---- words
   word_of : (item : Labelled) → Stands (labelled_items wgsl_names m) item → is_word (name_in (module_names m) item.0) ≡ true
   word_of item s = ap is_word (name_is m item s) ∙ name_after_is_word wgsl_names (labels_of (take s.place (labelled_items wgsl_names m))) item.1
 
-  no_word : (item : Labelled) (w : List ℕ) → Stands (labelled_items wgsl_names m) item → is_word w ≡ false → name_in (module_names m) item.0 ≢ w
-  no_word item w s other e = true≢false (sym (word_of item s) ∙ (ap is_word e ∙ other))
+  no_word : (item : Labelled) (w : List ℕ) → Stands (labelled_items wgsl_names m) item →
+      (not (is_word w) || is_builtin w) ≡ true → name_in (module_names m) item.0 ≢ w
+  no_word item w s other e =
+      by (is_word w) (is_builtin w) (sym (ap is_word e) ∙ word_of item s)
+      (sym (ap is_builtin e) ∙ (item_is_identifier m item s).own) other
+    where
+      by : (a b : Bool) → a ≡ true → b ≡ false → (not a || b) ≡ true → ⊥
+      by true false one two other = absurd (cc)
+      by true true one two other = absurd (cc)
+      by false b one two other = absurd (cc)
 
-  -- a sign is no name
-  stands_free : length p.functions ≡ length m.functions → (c : ℕ) (rest : List ℕ) → nat_eq c 95 ≡ false → nat_eq c 32 ≡ false → is_word (c ∷ rest) ≡ false → StandsFree p own (c ∷ rest)
+  -- a word that operates freely is no name
+  stands_free : length p.functions ≡ length m.functions → (c : ℕ) (rest : List ℕ) →
+      nat_eq c 95 ≡ false → nat_eq c 32 ≡ false →
+      (not (is_word (c ∷ rest)) || is_builtin (c ∷ rest)) ≡ true → StandsFree p own (c ∷ rest)
   stands_free counted c rest one two other = (functions, no_name)
     where
       functions : (k : ℕ) → k < length p.functions → function_name (module_names m) k ≢ c ∷ rest
@@ -256,15 +286,34 @@ module _ (m : Module) (g : ℕ) (f : ir_function.Function) (found : slice_get m.
       no_name (NumberedKey h) is e = sign_not_numbered h c rest one two e
       no_name (GivenKey k) is e = none_given k is
 
-  sign_operates : length p.functions ≡ length m.functions → (c : ℕ) (rest : List ℕ) → is_request (c ∷ rest) ≡ false → nat_eq c 95 ≡ false → nat_eq c 32 ≡ false → is_word (c ∷ rest) ≡ false → OperatesBy p own (c ∷ rest)
-  sign_operates counted c rest asks one two other = (asks, stands_free counted c rest one two other)
+  operates : length p.functions ≡ length m.functions → (op : Operator) (w : List ℕ) →
+      accepted_word op ≡ Some w → OperatesBy p own (run_word op)
+  operates counted op w e =
+      by (run_word op)
+      (freely (operator_is_accepted op) (operates_freely (run_word op)) e (accepted_freely op))
+    where
+      freely : (accepted free : Bool) → (if accepted then operator_word op else None) ≡ Some w →
+          (if accepted then free else true) ≡ true → free ≡ true
+      freely true free e is = is
+      freely false free e is = absurd (cc)
 
-  -- each operator that is accepted so far is no name
-  operates : length p.functions ≡ length m.functions → (op : Operator) (w : List ℕ) → accepted_word op ≡ Some w → OperatesBy p own (run_word op)
-  operates counted (BinarySign operator.Add) w e = sign_operates counted 43 [] no_request_plus refl refl refl
-  operates counted (BinarySign operator.Subtract) w e = sign_operates counted 45 [] no_request_minus refl refl refl
-  operates counted (BinarySign operator.Multiply) w e = sign_operates counted 42 [] no_request_star refl refl refl
-  operates counted _ w e = absurd (cc)
+      by : (x : List ℕ) → operates_freely x ≡ true → OperatesBy p own x
+      by [] free = absurd (cc)
+      by (c ∷ rest) free =
+          let one =
+          and_parts (not (is_request (c ∷ rest)))
+          (not (nat_eq c 95) &&
+          (not (nat_eq c 32) && (not (is_word (c ∷ rest)) || is_builtin (c ∷ rest)))) free in
+          let two =
+          and_parts (not (nat_eq c 95))
+          (not (nat_eq c 32) && (not (is_word (c ∷ rest)) || is_builtin (c ∷ rest))) one.1 in
+          let three =
+          and_parts (not (nat_eq c 32))
+          (not (is_word (c ∷ rest)) || is_builtin (c ∷ rest)) two.1 in (
+            not_true (is_request (c ∷ rest)) one.0,
+            stands_free counted c rest
+                (not_true (nat_eq c 95) two.0) (not_true (nat_eq c 32) three.0) three.1,
+          )
 
   words_at : length p.functions ≡ length m.functions → (h : ℕ) (e : ir.Expression) → slice_get f.expressions h ≡ Some e → WordFits p own (Some (expression_shape e))
   words_at counted h (expression.FunctionArgument number) at = tt
@@ -274,7 +323,8 @@ module _ (m : Module) (g : ℕ) (f : ir_function.Function) (found : slice_get m.
   words_at counted h e at =
       application_any (λ s. WordFits p own (Some s)) tt (application_of e)
       (λ a is. let o = applied_at m.types f es h e a fits at is in
-      operator_any (λ s. WordFits p own (Some s)) a.operator a.operands (λ j l r. tt) (operates counted a.operator o.word o.spelled))
+      operator_any (λ s. WordFits p own (Some s)) a.operator a.operands (λ j l r. tt)
+      (operates counted a.operator o.word o.spelled))
 
   -- ---- statements
   return_at : (v : Option ℕ) → return_fits m.types es f.result v ≡ true → ReturnFits shape v

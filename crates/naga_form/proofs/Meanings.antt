@@ -1,5 +1,6 @@
 -- An accepted module has a typed meaning and a world that keeps the types, and no run of it is stuck.
-use Rattle.std.proofs.Common.{[], ◌≡◌, ℕ, suc, zero, Bool, true, false, List, ◌∷◌, length, map, Option, Some, None, refl, sym, ap, subst, ◌∙◌, ◌⊎◌, inl, inr, codes}
+use Rattle.std.proofs.Common.{[], ◌≡◌, ℕ, suc, zero, Bool, true, false, List, ◌∷◌, length, map}
+use Rattle.std.proofs.Common.{Option, Some, None, refl, sym, ap, subst, ◌∙◌, ◌⊎◌, inl, inr, codes}
 use Rattle.std.specs.Prelude.{IsTrue, slice_get, reverse, cond, if◌then◌else◌}
 use mathlib.Core.List.{reverse_aux}
 use Rattle.std.specs.List.{starts_with}
@@ -18,7 +19,8 @@ use Rattle.naga_info.specs.declared.info.ModuleInfo.{ModuleInfo}
 use Rattle.std.proofs.lemmas.Option.{same_Some}
 use Rattle.module_meaning.specs.Spelled.{spelling_at, local_pointer}
 use Rattle.module_meaning.specs.Accepted.{is_accepted, function_fits, functions_fit, statement_fits, block_fits}
-use Rattle.module_meaning.proofs.Accepting.{accepted_parts, function_fits_block, load_word_at, store_fits_word, applied_at, IsOperation}
+use Rattle.module_meaning.proofs.Accepting.{accepted_parts, function_fits_block, load_word_at}
+use Rattle.module_meaning.proofs.Accepting.{store_fits_word, applied_at, IsOperation}
 use Rattle.module_meaning.proofs.Operating.{IsApplied, accepted_operations_agree}
 use Rattle.module_meaning.proofs.Shapes.{accepted_is, accepted_shape, application_any, operator_any}
 use Rattle.module_meaning.specs.Applications.{Application, application_of}
@@ -44,7 +46,9 @@ use Rattle.wgsl_text.specs.Words.{stands_in}
 use Rattle.module_meaning.specs.Premises.{nothing_named, ScopesHold}
 use Rattle.module_meaning.specs.Names.{NamesAreCounted, module_names, function_name}
 use Rattle.module_meaning.specs.Types.{type_spelled, integer_words}
-use Rattle.module_meaning.specs.Shapes.{operator_shape, expression_shape, statement_shape, statements_shape, function_shape, function_shapes, program_shape, namings, outer_names}
+use Rattle.module_meaning.specs.Shapes.{operator_shape, expression_shape, statement_shape}
+use Rattle.module_meaning.specs.Shapes.{statements_shape, function_shape, function_shapes}
+use Rattle.module_meaning.specs.Shapes.{program_shape, namings, outer_names}
 use Rattle.wgsl_text.specs.Requests.{is_request}
 use Rattle.naga_form.specs.Form.{written_program}
 use Rattle.module_meaning.specs.Meanings.{OperatorsAreConsistent, HasTypedMeaning, HasTypedWorld, IsNeverStuck}
@@ -183,21 +187,26 @@ abbrev types_spelled : List (List ℕ) → List ValueType
 types_spelled ws = map type_spelled ws
 
 -- the signature of an operator over operands
-abbrev operation_signature : (word : List ℕ) (operands : List (List ℕ)) (answer : List ℕ) → Signature
+abbrev operation_signature : (word : List ℕ) (operands : List (List ℕ)) (answer : List ℕ) →
+    Signature
 operation_signature word operands answer =
     record { word = Spelled word; operands = types_spelled operands; result = type_spelled answer }
 
 -- an accepted operator over operands, by its signature
-record IsOperator (types : List Type_) (fs : List ir_function.Function) (ess : List (List ExpressionInfo)) (x : Signature) : Type 0 where
+record IsOperator (types : List Type_) (fs : List ir_function.Function)
+    (ess : List (List ExpressionInfo)) (x : Signature) : Type 0 where
   applies : IsApplied types fs ess
-  same : x ≡ operation_signature applies.operation.word applies.operation.operand_words applies.operation.answer_word
+  same : x ≡
+      operation_signature applies.operation.word applies.operation.operand_words
+      applies.operation.answer_word
 
 -- types of one value type each have one spelling each
 one_spelling_each : (vs ws : List (List ℕ)) → types_spelled vs ≡ types_spelled ws → vs ≡ ws
 one_spelling_each [] [] e = refl
 one_spelling_each [] (w ∷ ws) e = absurd (cc)
 one_spelling_each (v ∷ vs) [] e = absurd (cc)
-one_spelling_each (v ∷ vs) (w ∷ ws) e = λ i. one_spelling v w (ap first_or e) i ∷ one_spelling_each vs ws (ap rest_of e) i
+one_spelling_each (v ∷ vs) (w ∷ ws) e =
+    λ i. one_spelling v w (ap first_or e) i ∷ one_spelling_each vs ws (ap rest_of e) i
 
 only_one : (x y : Signature) → IsOneOf x (y ∷ []) → x ≡ y
 only_one x y first_of = refl
@@ -209,18 +218,35 @@ module _ (types : List Type_) (fs : List ir_function.Function) (ess : List (List
   own = function_shape types f es
 
   -- operands that are spelled have the types of their spellings
-  operand_types : (hs : List ℕ) (ws : List (List ℕ)) → spellings_at types es hs ≡ Some ws → handle_types own hs ≡ types_spelled ws
+  operand_types : (hs : List ℕ) (ws : List (List ℕ)) → spellings_at types es hs ≡ Some ws →
+      handle_types own hs ≡ types_spelled ws
   operand_types [] [] is = refl
   operand_types [] (w ∷ ws) is = absurd (cc)
-  operand_types (h ∷ hs) ws is = by (spelling_at types es h) (spellings_at types es hs) refl (λ vs others. operand_types hs vs others) ws is
+  operand_types (h ∷ hs) ws is =
+      by (spelling_at types es h) (spellings_at types es hs) refl
+      (λ vs others. operand_types hs vs others) ws is
     where
-      by : (a : Option (List ℕ)) (b : Option (List (List ℕ))) → spelling_at types es h ≡ a → ((vs : List (List ℕ)) → b ≡ Some vs → handle_types own hs ≡ types_spelled vs) → (ws : List (List ℕ)) → spelling_then a b ≡ Some ws → handle_types own (h ∷ hs) ≡ types_spelled ws
+      by : (a : Option (List ℕ)) (b : Option (List (List ℕ))) → spelling_at types es h ≡ a →
+          ((vs : List (List ℕ)) → b ≡ Some vs → handle_types own hs ≡ types_spelled vs) →
+          (ws : List (List ℕ)) → spelling_then a b ≡ Some ws →
+          handle_types own (h ∷ hs) ≡ types_spelled ws
       by (Some v) (Some vs) one others ws e =
-          (λ i. typed_as types f es h v one i ∷ others vs refl i) ∙ ap types_spelled (same_Some (v ∷ vs) ws e)
+          (λ i. typed_as types f es h v one i ∷ others vs refl i)
+          ∙ ap types_spelled (same_Some (v ∷ vs) ws e)
       by (Some v) None one others ws e = absurd (cc)
       by None b one others ws e = absurd (cc)
 
-  operator_is : (x : Signature) (h : ℕ) (e : ir.Expression) (a : Application) → slice_get f.expressions h ≡ Some e → application_of e ≡ Some a → (o : IsOperation types es h a) → IsOneOf x (record { word = Spelled (run_word a.operator); operands = handle_types own a.operands; result = handle_type own h } ∷ []) → IsOperator types fs ess x
+  operator_is : (x : Signature) (h : ℕ) (e : ir.Expression) (a : Application) →
+      slice_get f.expressions h ≡ Some e → application_of e ≡ Some a →
+      (o : IsOperation types es h a) →
+      IsOneOf x
+      (record {
+        word =
+            Spelled (run_word a.operator);
+        operands =
+            handle_types own a.operands;
+        result = handle_type own h;
+      } ∷ []) → IsOperator types fs ess x
   operator_is x h e a at applied o among =
       let operands = operand_types a.operands o.operand_words o.operands_spelled in
       let answer = typed_as types f es h o.answer_word o.answer_spelled in
@@ -238,14 +264,28 @@ module _ (types : List Type_) (fs : List ir_function.Function) (ess : List (List
           application = applied;
           operation = o;
         };
-        same = only_one x _ among ∙ (λ i. record { word = Spelled (accepted_is a.operator o.word o.spelled i); operands = operands i; result = answer i });
+        same = only_one x _ among
+            ∙
+            (λ i. record {
+              word =
+                  Spelled (accepted_is a.operator o.word o.spelled i);
+              operands =
+                  operands i;
+              result = answer i;
+            });
       }
 
   -- an accepted operator is no short circuit
-  operator_among : (x : Signature) (h : ℕ) (e : ir.Expression) (a : Application) → slice_get f.expressions h ≡ Some e → application_of e ≡ Some a → (o : IsOperation types es h a) → IsOneOf x (signatures_of p own (handle_type own h) (Some (operator_shape a.operator a.operands))) → IsOperator types fs ess x
+  operator_among : (x : Signature) (h : ℕ) (e : ir.Expression) (a : Application) →
+      slice_get f.expressions h ≡ Some e → application_of e ≡ Some a →
+      (o : IsOperation types es h a) →
+      IsOneOf x
+      (signatures_of p own (handle_type own h) (Some (operator_shape a.operator a.operands))) →
+      IsOperator types fs ess x
   operator_among x h e a at applied o among =
       operator_is x h e a at applied o
-      (subst (λ s. IsOneOf x (signatures_of p own (handle_type own h) (Some s))) (accepted_shape a.operator a.operands o.word o.spelled) among)
+      (subst (λ s. IsOneOf x (signatures_of p own (handle_type own h) (Some s)))
+      (accepted_shape a.operator a.operands o.word o.spelled) among)
 
   spelled_among : (x : Signature) (h : ℕ) (e : ir.Expression) → slice_get f.expressions h ≡ Some e → IsOneOf x (signatures_of p own (handle_type own h) (Some (expression_shape e))) → IsOperator types fs ess x
   spelled_among x h (expression.Literal value) at among = absurd (no_signature x among)
@@ -253,8 +293,11 @@ module _ (types : List Type_) (fs : List ir_function.Function) (ess : List (List
   spelled_among x h (expression.LocalVariable handle) at among = absurd (no_signature x among)
   spelled_among x h (expression.Load pointer) at among = absurd (no_signature x among)
   spelled_among x h e at among =
-      application_any (λ s. IsOneOf x (signatures_of p own (handle_type own h) (Some s)) → IsOperator types fs ess x) (λ among. absurd (no_signature x among)) (application_of e)
-      (λ a is among. operator_among x h e a at is (applied_at types f es h e a fit at is) among) among
+      application_any
+      (λ s. IsOneOf x (signatures_of p own (handle_type own h) (Some s)) →
+      IsOperator types fs ess x) (λ among. absurd (no_signature x among)) (application_of e)
+      (λ a is among. operator_among x h e a at is (applied_at types f es h e a fit at is) among)
+      among
 
   spelled_at : (x : Signature) (h : ℕ) → IsOneOf x (signatures_of p own (handle_type own h) (expression_of own h)) → IsOperator types fs ess x
   spelled_at x h = at_any types f es h (λ o. IsOneOf x (signatures_of p own (handle_type own h) o) → IsOperator types fs ess x) (λ among. absurd (no_signature x among)) (spelled_among x h)
@@ -268,7 +311,8 @@ module _ (types : List Type_) (fs : List ir_function.Function) (ess : List (List
   parts_among h e at =
       application_any (λ s. PartsFit p.parts own (handle_type own h) (Some s)) tt (application_of e)
       (λ a is. let o = applied_at types f es h e a fit at is in
-      subst (λ s. PartsFit p.parts own (handle_type own h) (Some s)) (sym (accepted_shape a.operator a.operands o.word o.spelled)) tt)
+      subst (λ s. PartsFit p.parts own (handle_type own h) (Some s))
+      (sym (accepted_shape a.operator a.operands o.word o.spelled)) tt)
 
   parts_at : (h : ℕ) → PartsFit p.parts own (handle_type own h) (expression_of own h)
   parts_at h = at_any types f es h (λ o. PartsFit p.parts own (handle_type own h) o) tt (parts_among h)
@@ -338,10 +382,14 @@ module _ (m : Module) (info : ModuleInfo) (accepted : IsTrue (is_accepted m info
       -- both are operators of the module, which agree
       agree : (x y : Signature) → IsOperator m.types m.functions ess x → IsOperator m.types m.functions ess y → x.word ≡ y.word → x.operands ≡ y.operands → x.result ≡ y.result
       agree x y a b word operands =
-          let words : a.applies.operation.word ≡ b.applies.operation.word = one_word (sym (ap (λ x. x.word) a.same) ∙ (word ∙ ap (λ x. x.word) b.same)) in
+          let words : a.applies.operation.word ≡ b.applies.operation.word =
+          one_word (sym (ap (λ x. x.word) a.same) ∙ (word ∙ ap (λ x. x.word) b.same)) in
           let types = sym (ap (λ x. x.operands) a.same) ∙ (operands ∙ ap (λ x. x.operands) b.same) in
-          let spellings = one_spelling_each a.applies.operation.operand_words b.applies.operation.operand_words types in
-          let answers = accepted_operations_agree m info accepted a.applies b.applies words spellings in
+          let spellings =
+          one_spelling_each a.applies.operation.operand_words
+          b.applies.operation.operand_words types in
+          let answers =
+          accepted_operations_agree m info accepted a.applies b.applies words spellings in
           ap (λ x. x.result) a.same ∙ (ap type_spelled answers ∙ sym (ap (λ x. x.result) b.same))
         where
           one_word : {a b : List ℕ} → Spelled a ≡ Spelled b → a ≡ b

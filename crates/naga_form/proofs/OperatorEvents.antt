@@ -13,7 +13,11 @@ use Rattle.wgsl_text.specs.Reading.{type_layout}
 use Rattle.wgsl_text.specs.Tree.{TypeSpecifier, Named}
 use Rattle.wgsl_text.proofs.WordLemmas.{all_words, passes}
 use Rattle.wgsl_text.specs.Requests.{request_words, is_request}
-use Rattle.module_meaning.specs.OperatorTable.{Operator, UnarySign, Sample, Gather, Texel, OnlyTexel, Automatic, Zero, CooperativeLoad, CooperativeStore, Construct, Convert, Reinterpret, with_type, operator_word, own_word, run_word, one_word, asks, is_untyped, TypeIsSound}
+use Rattle.module_meaning.specs.OperatorTable.{Operator, UnarySign, Sample, Gather, Texel}
+use Rattle.module_meaning.specs.OperatorTable.{OnlyTexel, Automatic, Zero, CooperativeLoad}
+use Rattle.module_meaning.specs.OperatorTable.{CooperativeStore, Construct, Convert, Reinterpret}
+use Rattle.module_meaning.specs.OperatorTable.{with_type, operator_word, own_word, run_word}
+use Rattle.module_meaning.specs.OperatorTable.{one_word, asks, is_untyped, TypeIsSound}
 use Rattle.naga_form.proofs.OperatorWords.{others, mathematical, first_with, operator_of, told}
 use Rattle.naga_form.proofs.TypedWords.{head_of, head_is, no_type_begins}
 

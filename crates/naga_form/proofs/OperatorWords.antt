@@ -26,7 +26,24 @@ use Rattle.naga_ir.specs.declared.operators.SubgroupOperation.TheVariants as sub
 use Rattle.naga_ir.specs.declared.operators.CollectiveOperation.{CollectiveOperation}
 use Rattle.naga_ir.specs.declared.operators.CollectiveOperation.TheVariants as collective
 use Rattle.naga_ir.specs.declared.operators.Direction.TheVariants as direction
-use Rattle.module_meaning.specs.OperatorTable.{Operator, BinarySign, UnarySign, Choice, Mathematical, Relation, Derivative, ArrayLength, Sample, Gather, Texel, TexelStore, TexelChange, ImageSize, CountOf, AtomicLoad, AtomicStore, AtomicChange, UniformLoad, Ballot, Collective, FromSubgroup, Barrier, CooperativeLoad, CooperativeStore, CooperativeMultiplyAdd, TraceRay, RayStep, RayIntersection, RayCorners, Construct, Splat, Convert, Reinterpret, Level, Automatic, Zero, Exact, Biased, Graded, OnlyTexel, BothTexel, ImageCount, Levels, Layers, Samples, Change, AddTo, SubtractFrom, AndWith, OrWith, XorWith, MinimumOf, MaximumOf, Exchange, CompareExchange, Source, First, Indexed, Shuffled, ShuffledDown, ShuffledUp, ShuffledXor, QuadIndexed, QuadSwapped, Kept, StorageKept, WorkgroupKept, SubgroupKept, TextureKept, run_word, operand_count, one_word, is_told, is_untyped}
+use Rattle.module_meaning.specs.OperatorTable.{Operator, BinarySign, UnarySign, Choice}
+use Rattle.module_meaning.specs.OperatorTable.{Mathematical, Relation, Derivative, ArrayLength}
+use Rattle.module_meaning.specs.OperatorTable.{Sample, Gather, Texel, TexelStore, TexelChange}
+use Rattle.module_meaning.specs.OperatorTable.{ImageSize, CountOf, AtomicLoad, AtomicStore}
+use Rattle.module_meaning.specs.OperatorTable.{AtomicChange, UniformLoad, Ballot, Collective}
+use Rattle.module_meaning.specs.OperatorTable.{FromSubgroup, Barrier, CooperativeLoad}
+use Rattle.module_meaning.specs.OperatorTable.{CooperativeStore, CooperativeMultiplyAdd, TraceRay}
+use Rattle.module_meaning.specs.OperatorTable.{RayStep, RayIntersection, RayCorners, Construct}
+use Rattle.module_meaning.specs.OperatorTable.{Splat, Convert, Reinterpret, Level, Automatic, Zero}
+use Rattle.module_meaning.specs.OperatorTable.{Exact, Biased, Graded, OnlyTexel, BothTexel}
+use Rattle.module_meaning.specs.OperatorTable.{ImageCount, Levels, Layers, Samples, Change, AddTo}
+use Rattle.module_meaning.specs.OperatorTable.{SubtractFrom, AndWith, OrWith, XorWith, MinimumOf}
+use Rattle.module_meaning.specs.OperatorTable.{MaximumOf, Exchange, CompareExchange, Source, First}
+use Rattle.module_meaning.specs.OperatorTable.{Indexed, Shuffled, ShuffledDown, ShuffledUp}
+use Rattle.module_meaning.specs.OperatorTable.{ShuffledXor, QuadIndexed, QuadSwapped, Kept}
+use Rattle.module_meaning.specs.OperatorTable.{StorageKept, WorkgroupKept, SubgroupKept}
+use Rattle.module_meaning.specs.OperatorTable.{TextureKept, run_word, operand_count, one_word}
+use Rattle.module_meaning.specs.OperatorTable.{is_told, is_untyped}
 
 -- the operators of different words that take no type
 abbrev pub mathematical : List Operator

@@ -1,5 +1,7 @@
--- The tree of an operator over operands: it is called by the operator's word, and is of the grammar.
-use Rattle.std.proofs.Common.{◌≡◌, ℕ, false, List, [], ◌∷◌, ◌++◌, Option, Some, None, map, codes, refl, sym, ap, ◌∙◌}
+-- The tree of an operator over operands: it is called by the operator's word, and is of the
+-- grammar.
+use Rattle.std.proofs.Common.{◌≡◌, ℕ, Bool, true, false, List, [], ◌∷◌, ◌++◌, Option, Some, None}
+use Rattle.std.proofs.Common.{map, codes, refl, sym, ap, ◌∙◌}
 use Rattle.naga_ir.specs.declared.expression.Expression as ir
 use Rattle.naga_ir.specs.declared.expression.Expression.TheVariants as expression
 use Rattle.naga_ir.specs.declared.operators.BinaryOperator.{BinaryOperator}
@@ -7,10 +9,12 @@ use Rattle.naga_ir.specs.declared.operators.BinaryOperator.TheVariants as operat
 use Rattle.naga_ir.specs.declared.operators.UnaryOperator.{UnaryOperator}
 use Rattle.naga_ir.specs.declared.operators.UnaryOperator.TheVariants as unary
 use Rattle.module_meaning.specs.Applications.{Application, application_of}
-use Rattle.module_meaning.specs.OperatorTable.{Operator, BinarySign, UnarySign, Construct, Convert, Reinterpret, run_word}
+use Rattle.module_meaning.specs.OperatorTable.{Operator, BinarySign, UnarySign, Construct, Convert}
+use Rattle.module_meaning.specs.OperatorTable.{Reinterpret, run_word}
 use Rattle.module_meaning.specs.Shapes.{operator_shape, application_shape}
 use Rattle.naga_form.specs.Form.{PlainForm, ValueForm, as_value, value_forms, application_plain}
-use Rattle.naga_form.specs.Operators.{operator_form, unary_form, Notation, Infix, Prefix, Called, notation, callee, applied_form}
+use Rattle.naga_form.specs.Operators.{operator_form, unary_form, Notation, Infix, Prefix, Called}
+use Rattle.naga_form.specs.Operators.{notation, callee, applied_form}
 use Rattle.shader_runs.specs.Form as runs
 use Rattle.shader_runs.specs.Text.{Tree, Trees, more, no_more, Apply, LogicalOf}
 use Rattle.shader_runs.specs.Scope.{Naming}
@@ -18,13 +22,15 @@ use Rattle.shader_runs.specs.Value.{ValueType, ShortCircuitAnd, ShortCircuitOr}
 use Rattle.text_meaning.specs.Abstraction.{expression_read, arguments_read, called_word}
 use Rattle.wgsl_text.proofs.Calls.{called_words}
 use Rattle.wgsl_text.proofs.RowText.{named_text, template_text, type_part_text}
-use Rattle.wgsl_text.specs.Grammar.{IsCallee, IsExpression}
+use Rattle.wgsl_text.specs.Grammar.{IsExpression}
 use Rattle.wgsl_text.specs.GrammarOfLines.{Each}
 use Rattle.wgsl_text.specs.Pieces.{binary_pieces, unary_mark}
 use Rattle.wgsl_text.specs.Reading.{type_layout}
 use Rattle.wgsl_text.specs.Text.{text, mark_text}
 use Rattle.wgsl_text.specs.Tree as tree
-use Rattle.wgsl_text.specs.Tree.{TypeSpecifier, Call, operands}
+use Rattle.wgsl_text.specs.Keywords.{builtin_words}
+use Rattle.wgsl_text.specs.Tree.{TypeSpecifier, Named, Call, operands}
+use Rattle.wgsl_text.specs.Words.{is_builtin}
 use Rattle.wgsl_words.specs.Words.{operator_text, unary_text}
 
 -- ---- words
@@ -58,60 +64,82 @@ unary_row unary.BitwiseNot = refl
 
 -- what is called is spelled by the operator's word
 pub callee_word : (op : Operator) → type_layout (callee (notation op)) ≡ run_word op
-callee_word (BinarySign op) = named_text (text (binary_pieces (operator_form op))) ∙ sym (operator_row op)
-callee_word (UnarySign op) = named_text (mark_text (unary_mark (unary_form op))) ∙ sym (unary_row op)
+callee_word (BinarySign op) =
+    named_text (text (binary_pieces (operator_form op))) ∙ sym (operator_row op)
+callee_word (UnarySign op) =
+    named_text (mark_text (unary_mark (unary_form op))) ∙ sym (unary_row op)
 callee_word (Construct t components) = refl
 callee_word (Convert t) = refl
 callee_word (Reinterpret t) =
-    template_text (codes "bitcast") (tree.TypePart t tree.NoParts) ∙ ap (λ w. codes "bitcast<" ++ w) (type_part_text t tree.NoParts false)
+    template_text (codes "bitcast") (tree.TypePart t tree.NoParts)
+    ∙ ap (λ w. codes "bitcast<" ++ w) (type_part_text t tree.NoParts false)
 callee_word op = named_text (run_word op)
 
 -- ---- what is read
 -- a call whose operands are all expressions is its word over them
-module _ (operand : ℕ → PlainForm) (like : ℕ → runs.Plain) (same : (h : ℕ) → expression_read (as_value (operand h)) ≡ runs.value_form (like h)) where
-  operands_read : (hs : List ℕ) → arguments_read (operands (value_forms operand hs)) ≡ runs.value_forms like hs
+module _ (operand : ℕ → PlainForm) (like : ℕ → runs.Plain)
+    (same : (h : ℕ) → expression_read (as_value (operand h)) ≡ runs.value_form (like h)) where
+  operands_read : (hs : List ℕ) →
+      arguments_read (operands (value_forms operand hs)) ≡ runs.value_forms like hs
   operands_read [] = refl
   operands_read (h ∷ hs) = λ i. more (same h i) (operands_read hs i)
 
-  call_read : (t : TypeSpecifier) (hs : List ℕ) → expression_read (Call t (operands (value_forms operand hs))) ≡ Apply (type_layout t) (runs.value_forms like hs)
+  call_read : (t : TypeSpecifier) (hs : List ℕ) →
+      expression_read (Call t (operands (value_forms operand hs))) ≡
+      Apply (type_layout t) (runs.value_forms like hs)
   call_read t [] = refl
   call_read t (h ∷ hs) = ap (Apply (type_layout t)) (operands_read (h ∷ hs))
 
   -- an operator in its notation is read as the operator over its operands
-  called_read : (op : Operator) (hs : List ℕ) → expression_read (Call (callee (notation op)) (operands (value_forms operand hs))) ≡ Apply (run_word op) (runs.value_forms like hs)
-  called_read op hs = call_read (callee (notation op)) hs ∙ ap (λ w. Apply w (runs.value_forms like hs)) (callee_word op)
+  called_read : (op : Operator) (hs : List ℕ) →
+      expression_read (Call (callee (notation op)) (operands (value_forms operand hs))) ≡
+      Apply (run_word op) (runs.value_forms like hs)
+  called_read op hs =
+      call_read (callee (notation op)) hs
+      ∙ ap (λ w. Apply w (runs.value_forms like hs)) (callee_word op)
 
-  pub operator_read : (n : Naming) (k : ValueType) (op : Operator) (hs : List ℕ) → runs.AsValue (expression_read (applied_form (notation op) (value_forms operand hs))) ≡ runs.own_form n like k (Some (operator_shape op hs))
-  operator_read n k (BinarySign operator.LogicalAnd) (l ∷ r ∷ []) = λ i. runs.AsValue (LogicalOf ShortCircuitAnd (same l i) (same r i))
-  operator_read n k (BinarySign operator.LogicalOr) (l ∷ r ∷ []) = λ i. runs.AsValue (LogicalOf ShortCircuitOr (same l i) (same r i))
-  operator_read n k (BinarySign op) (l ∷ r ∷ []) = λ i. runs.AsValue (Apply (sym (operator_row op) i) (more (same l i) (more (same r i) no_more)))
-  operator_read n k (UnarySign op) (h ∷ []) = λ i. runs.AsValue (Apply (sym (unary_row op) i) (more (same h i) no_more))
+  pub operator_read : (n : Naming) (k : ValueType) (op : Operator) (hs : List ℕ) →
+      runs.AsValue (expression_read (applied_form (notation op) (value_forms operand hs))) ≡
+      runs.own_form n like k (Some (operator_shape op hs))
+  operator_read n k (BinarySign operator.LogicalAnd) (l ∷ r ∷ []) =
+      λ i. runs.AsValue (LogicalOf ShortCircuitAnd (same l i) (same r i))
+  operator_read n k (BinarySign operator.LogicalOr) (l ∷ r ∷ []) =
+      λ i. runs.AsValue (LogicalOf ShortCircuitOr (same l i) (same r i))
+  operator_read n k (BinarySign op) (l ∷ r ∷ []) =
+      λ i. runs.AsValue
+      (Apply (sym (operator_row op) i) (more (same l i) (more (same r i) no_more)))
+  operator_read n k (UnarySign op) (h ∷ []) =
+      λ i. runs.AsValue (Apply (sym (unary_row op) i) (more (same h i) no_more))
   operator_read n k op hs = ap runs.AsValue (called_read op hs)
 
 -- ---- what is of the grammar
--- the notation takes so many operands, and what is called may be called
-abbrev NotationFits : Notation → List ℕ → Type 0
-NotationFits (Infix op) (l ∷ r ∷ []) = Unit {0}
-NotationFits (Prefix op) (h ∷ []) = Unit {0}
-NotationFits (Called t) hs = IsCallee t
-NotationFits n hs = ⊥
+-- the notation takes so many operands, and what is called is a built-in word
+abbrev notation_fits : Notation → List ℕ → Bool
+notation_fits (Infix op) (l ∷ r ∷ []) = true
+notation_fits (Prefix op) (h ∷ []) = true
+notation_fits (Called (Named w)) hs = is_builtin w
+notation_fits n hs = false
 
-abbrev pub IsNotated : Option Application → Type 0
-IsNotated (Some applied) = NotationFits (notation applied.operator) applied.operands
-IsNotated None = Unit {0}
+abbrev pub is_notated : Option Application → Bool
+is_notated (Some applied) = notation_fits (notation applied.operator) applied.operands
+is_notated None = true
 
 -- each expression that applies an operator has its operands
-pub notated : (e : ir.Expression) → IsNotated (application_of e)
-notated (expression.Binary op left right) = tt
-notated _ = tt
+pub notated : (e : ir.Expression) → is_notated (application_of e) ≡ true
+unfolding is_builtin builtin_words
+notated (expression.Binary op left right) = refl
+notated _ = refl
 
 module _ (operand : ℕ → PlainForm) (all : (h : ℕ) → IsExpression (as_value (operand h))) where
   operands_are : (hs : List ℕ) → Each IsExpression (value_forms operand hs)
   operands_are [] = tt
   operands_are (h ∷ hs) = (all h, operands_are hs)
 
-  pub applied_is : (n : Notation) (hs : List ℕ) → NotationFits n hs → IsExpression (applied_form n (value_forms operand hs))
+  pub applied_is : (n : Notation) (hs : List ℕ) → notation_fits n hs ≡ true →
+      IsExpression (applied_form n (value_forms operand hs))
   applied_is (Infix op) (l ∷ r ∷ []) fit = (all l, all r)
   applied_is (Prefix op) (h ∷ []) fit = all h
-  applied_is (Called t) hs fit = called_words.expression t (value_forms operand hs) fit (operands_are hs)
-  applied_is n hs fit = absurd fit
+  applied_is (Called (Named w)) hs fit =
+      called_words.expression (Named w) (value_forms operand hs) (called_words.builtin w fit)
+      (operands_are hs)
+  applied_is n hs fit = absurd (cc)

@@ -30,7 +30,12 @@ use Rattle.naga_info.proofs.Options.{then_some}
 use Rattle.shader_runs.proofs.Update.{and_left, and_right}
 use Rattle.shader_runs.proofs.Sources.{forgotten_named}
 use Rattle.naga_names.proofs.Counts.{element}
-use Rattle.naga_form.specs.Form.{parameters_form, result_form, function_form, functions_form, PlainForm, ValueForm, ReferenceForm, as_value, as_reference, application_plain, own_plain, own_if, standing_plain, plain_below, plain_form, value_form, let_form, then_if, lets_form, return_line, simple_form, loop_form, label_form, labels_form, line_form, lines_form, cases_form, locals_form, written_program}
+use Rattle.naga_form.specs.Form.{parameters_form, result_form, function_form, functions_form}
+use Rattle.naga_form.specs.Form.{PlainForm, ValueForm, ReferenceForm, as_value, as_reference}
+use Rattle.naga_form.specs.Form.{application_plain, own_plain, own_if, standing_plain, plain_below}
+use Rattle.naga_form.specs.Form.{plain_form, value_form, let_form, then_if, lets_form, return_line}
+use Rattle.naga_form.specs.Form.{simple_form, loop_form, label_form, labels_form, line_form}
+use Rattle.naga_form.specs.Form.{lines_form, cases_form, locals_form, written_program}
 use Rattle.module_meaning.specs.Premises.{nothing_named, handles_are_counted}
 use Rattle.module_meaning.specs.Names.{module_names, wgsl_names, numbered_text, numbered_name}
 use Rattle.module_meaning.specs.Types.{type_names}
@@ -39,7 +44,7 @@ use Rattle.naga_form.proofs.WrittenTypes.{is_type_at, told_is, known_spelled}
 use Rattle.naga_form.specs.Literals.{literal_form}
 use Rattle.module_meaning.specs.Applications.{Application, application_of}
 use Rattle.naga_form.specs.Operators.{notation}
-use Rattle.naga_form.proofs.Operators.{IsNotated, notated, applied_is}
+use Rattle.naga_form.proofs.Operators.{is_notated, notated, applied_is}
 use Rattle.naga_form.proofs.Facts.{further, from_start}
 use Rattle.naga_form.proofs.Named.{item_is_identifier, function_item, argument_item, function_there, argument_there}
 use Rattle.std.specs.Char.{is_ascii_digit}
@@ -199,9 +204,12 @@ module _ (m : Module) (g : ℕ) (f : ir_function.Function) (found : slice_get m.
   abbrev own : Naming
   own = function_naming (module_names m) m.types g f es
 
-  application_is : (operand : ℕ → PlainForm) → ((x : ℕ) → IsPlainForm (operand x)) → (o : Option Application) → IsNotated o → IsPlainForm (application_plain operand o)
+  application_is : (operand : ℕ → PlainForm) → ((x : ℕ) → IsPlainForm (operand x)) →
+      (o : Option Application) → is_notated o ≡ true → IsPlainForm (application_plain operand o)
   application_is operand all None is = tt
-  application_is operand all (Some applied) is = applied_is operand (λ h. value_is_one (operand h) (all h)) (notation applied.operator) applied.operands is
+  application_is operand all (Some applied) is =
+      applied_is operand (λ h. value_is_one (operand h) (all h))
+      (notation applied.operator) applied.operands is
 
   own_is : (operand : ℕ → PlainForm) → ((x : ℕ) → IsPlainForm (operand x)) → (h : ℕ) (e : ir.Expression) → slice_get f.expressions h ≡ Some e → IsPlainForm (own_plain own operand e)
   own_is operand all h (expression.Literal v) at =

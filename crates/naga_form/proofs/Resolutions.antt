@@ -23,7 +23,9 @@ use Rattle.shader_runs.proofs.Resolution.{resolves_as_meant}
 use Rattle.shader_runs.proofs.Update.{and_left, and_right}
 use Rattle.module_meaning.specs.Names.{NamesAreCounted, module_names}
 use Rattle.module_meaning.specs.Types.{declared_type}
-use Rattle.module_meaning.specs.Shapes.{expression_shape, function_shape, function_shapes, program_shape, namings_from, namings, outer_names, function_naming}
+use Rattle.module_meaning.specs.Shapes.{expression_shape, function_shape, function_shapes}
+use Rattle.module_meaning.specs.Shapes.{program_shape, namings_from, namings, outer_names}
+use Rattle.module_meaning.specs.Shapes.{function_naming}
 use Rattle.module_meaning.specs.Applications.{application_of}
 use Rattle.module_meaning.proofs.Shapes.{application_any, operator_any}
 use Rattle.naga_form.specs.Form.{written_program}
@@ -47,7 +49,9 @@ module _ (types : List Type_) (f : ir_function.Function) (es : List ExpressionIn
   leaf_stands h (expression.Load pointer) at = tt
   leaf_stands h e at =
       application_any (λ s. LeafStands (function_shape types f es) (Some s)) tt (application_of e)
-      (λ a is. operator_any (λ s. LeafStands (function_shape types f es) (Some s)) a.operator a.operands (λ j l r. tt) tt)
+      (λ a is. operator_any
+      (λ s. LeafStands (function_shape types f es) (Some s)) a.operator a.operands
+      (λ j l r. tt) tt)
 
   leaves_are_own : (h : ℕ) → LeafStands (function_shape types f es) (expression_of (function_shape types f es) h)
   leaves_are_own h = at_any types f es h (λ o. LeafStands (function_shape types f es) o) tt (leaf_stands h)

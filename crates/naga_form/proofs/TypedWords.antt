@@ -19,7 +19,9 @@ use Rattle.wgsl_text.proofs.RowText.{named_text}
 use Rattle.wgsl_text.proofs.WordLemmas.{fits_none, type_template}
 use Rattle.wgsl_text.proofs.Reading.{type_has_one_reading}
 use Rattle.wgsl_text.specs.Requests.{head_word}
-use Rattle.module_meaning.specs.OperatorTable.{Operator, CooperativeLoad, Construct, Convert, Reinterpret, with_type, run_word, one_word, is_untyped, TypeIsSound}
+use Rattle.module_meaning.specs.OperatorTable.{Operator, CooperativeLoad, Construct, Convert}
+use Rattle.module_meaning.specs.OperatorTable.{Reinterpret, with_type, run_word, one_word}
+use Rattle.module_meaning.specs.OperatorTable.{is_untyped, TypeIsSound}
 use Rattle.naga_form.proofs.OperatorWords.{others, mathematical, first_with, operator_of, told, untyped_share}
 
 -- ---- the head of a word

@@ -1,7 +1,8 @@
 -- The syntax tree that is written for a module under its names, of those modules that are written
 -- so far, with a `let` for each emitted handle that is bound. Which handles are bound, and where
 -- their names are in scope, is what the runs say of a function's shape.
-use Rattle.std.specs.Prelude.{[], ℕ, pos, negsuc, ◌++◌, ◌+◌, false, List, ◌∷◌, Option, Some, None, slice_get, zero, suc, ◌-◌, Bool, true, length, map}
+use Rattle.std.specs.Prelude.{[], ℕ, pos, negsuc, ◌++◌, ◌+◌, false, List, ◌∷◌, Option, Some, None}
+use Rattle.std.specs.Prelude.{slice_get, zero, suc, ◌-◌, Bool, true, length, map}
 use Rattle.std.specs.Option.{option_map_or, option_map}
 use Rattle.naga_ir.specs.declared.statement.SwitchValue.{SwitchValue}
 use Rattle.naga_ir.specs.declared.statement.SwitchValue.TheVariants as label
@@ -14,7 +15,13 @@ use Rattle.naga_ir.specs.declared.module.FunctionResult.{FunctionResult}
 use Rattle.naga_ir.specs.declared.module.Module.{Module}
 use Rattle.naga_ir.specs.declared.types.Type_.{Type_}
 use Rattle.naga_names.specs.Keys.{NameMap}
-use Rattle.wgsl_text.specs.Tree.{Truth, Expression, Constant, Name, Statement, Return, ReturnValue, Statements, NoStatements, Then, Parameter, Result, NoResult, ResultOf, Function, Program, no_declarations, TypeSpecifier, AddressOf, Dereference, Let, TypedLet, Assign, Break, Continue, Discard, If, Loop, LoopBreakIf, Switch, Block, Cases, NoCases, Case, Label, DefaultLabel, SignedLabel, UnsignedLabel, Labels, LastLabel, MoreLabels, Local}
+use Rattle.wgsl_text.specs.Tree.{Truth, Expression, Constant, Name, Statement, Return, ReturnValue}
+use Rattle.wgsl_text.specs.Tree.{Statements, NoStatements, Then, Parameter, Result, NoResult}
+use Rattle.wgsl_text.specs.Tree.{ResultOf, Function, Program, no_declarations, TypeSpecifier}
+use Rattle.wgsl_text.specs.Tree.{AddressOf, Dereference, Let, TypedLet, Assign, Break, Continue}
+use Rattle.wgsl_text.specs.Tree.{Discard, If, Loop, LoopBreakIf, Switch, Block, Cases, NoCases}
+use Rattle.wgsl_text.specs.Tree.{Case, Label, DefaultLabel, SignedLabel, UnsignedLabel, Labels}
+use Rattle.wgsl_text.specs.Tree.{LastLabel, MoreLabels, Local}
 use Rattle.module_meaning.specs.Names.{function_name, argument_name, module_names}
 use Rattle.naga_words.specs.Contexts.{names_of, Names as TypeNames}
 use Rattle.naga_form.specs.Types.{type_form, told_type}

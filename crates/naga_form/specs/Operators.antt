@@ -48,7 +48,8 @@ pub data Notation : Type 0 where
   Prefix : UnaryOperator → Notation
   Called : TypeSpecifier → Notation
 
--- The notation of an operator whose operands are all expressions, as those are that ask for no event.
+-- The notation of an operator whose operands are all expressions, as those are that ask for no
+-- event.
 abbrev pub notation : Operator → Notation
 notation (BinarySign op) = Infix (operator_form op)
 notation (UnarySign op) = Prefix (unary_form op)

@@ -1,2 +1,3 @@
 pub mod Blocks
 mod Sampled
+mod Remaining

@@ -18,8 +18,8 @@ pub sampled : (level : List ℕ) (image sampler coordinate : ℕ)
     flat_map option_to_list
     (Some image ∷ Some sampler ∷ Some coordinate ∷ array_index ∷ depth_ref ∷ first ∷ second ∷
     offset ∷ []) ≡
-    image ∷ sampler ∷ coordinate ∷ option_to_list array_index ++ option_to_list depth_ref ++ level ++
-    option_to_list offset
+    image ∷ sampler ∷ coordinate ∷ option_to_list array_index ++ option_to_list depth_ref ++
+    level ++ option_to_list offset
 sampled level image sampler coordinate array_index depth_ref first second offset held =
     ap (λ xs. image ∷ sampler ∷ coordinate ∷ xs)
     (joined (option_to_list array_index) (option_to_list depth_ref) (option_to_list first)

@@ -1,7 +1,7 @@
 -- The operand places of expressions and statements, each with the handle that it holds, in the
 -- order in which WGSL writes the operands. The result of a statement is no operand place, nor is an
 -- `Emit`'s range.
-use Rattle.std.specs.Prelude.{ℕ, List, [], ◌∷◌, ◌++◌}
+use Rattle.std.specs.Prelude.{ℕ, List, [], ◌∷◌, ◌++◌, Option, Some, None, drop}
 use Rattle.std.specs.Option.{option_to_list}
 use Rattle.naga_ir.specs.StatementTree.{SimpleStatement, emit, break, continue, return, kill}
 use Rattle.naga_ir.specs.StatementTree.{control_barrier, memory_barrier, store, image_store, atomic}
@@ -103,6 +103,11 @@ expression_operands SubgroupBallotResult = []
 expression_operands (SubgroupOperationResult ty) = []
 expression_operands (CooperativeLoad columns rows role place) = cooperative_operands place
 expression_operands (CooperativeMultiplyAdd a b c) = a ∷ b ∷ c ∷ []
+
+-- those of an expression, if there is one, from this number on
+abbrev pub operands_from : (number : ℕ) → Option Expression → List ℕ
+operands_from number None = []
+operands_from number (Some e) = drop number (expression_operands e)
 
 abbrev pub atomic_operands : AtomicFunction → List ℕ
 atomic_operands (Exchange compare) = option_to_list compare

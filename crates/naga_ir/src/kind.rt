@@ -8,8 +8,8 @@ use crate::expression::Expression;
 /// When an expression has its value, and what evaluating it does.
 #[derive(Debug, Clone, Copy, PartialEq, Eq)]
 pub enum ExpressionKind {
-    /// A value of the module, which every point of a function has: a literal, a constant, an override
-    /// or a zero value.
+    /// A value of the module, which every point of a function has: a literal, a constant, an
+    /// override or a zero value.
     Constant,
     /// An argument of the function or a variable, which is there without an `Emit`.
     Leaf,

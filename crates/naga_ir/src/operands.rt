@@ -158,33 +158,63 @@ impl Expression {
         }
     }
 
-    /// The handles of the expression's operands, in the order in which WGSL writes them. It takes no
-    /// memory.
+    /// The handles of the expression's operands, in the order in which WGSL writes them. It takes
+    /// no memory.
+    ///
+    /// What functions are mostly made of is looked at once, and any other expression for each
+    /// operand.
     #[inline]
     pub fn operands(&self) -> Operands<'_>
         ensures { result ≡ expression_operands self.now }
     {
-        Operands {
-            expression: self,
-            number: 0,
+        match self {
+            Expression::Literal(_) => Operands::of_two(None, None),
+            Expression::Load { pointer } => Operands::of_two(Some(*pointer), None),
+            Expression::Binary { left, right, .. } => Operands::of_two(Some(*left), Some(*right)),
+            _ => Operands {
+                first: None,
+                second: None,
+                expression: Some(self),
+                number: 0,
+            },
         }
     }
 }
 
-/// The operands of an expression that are still to come, in the order in which WGSL writes them.
+/// The operands of an expression that are still to come, in the order in which WGSL writes them:
+/// two, if they are there, and those of the expression from this number on.
 #[derive(Drop)]
 pub struct Operands<'a> {
-    expression: &'a Expression,
+    first: Option<Handle<Expression>>,
+    second: Option<Handle<Expression>>,
+    expression: Option<&'a Expression>,
     number: usize,
 }
 
 impl<'a> Model for Operands<'a> {
-    ghost use Rattle.std.specs.Prelude.{drop, List, ℕ};
-    ghost use Rattle.naga_ir.specs.Operands.{expression_operands};
+    ghost use Rattle.std.specs.Prelude.{List, ℕ, ◌++◌};
+    ghost use Rattle.std.specs.Option.{option_map, option_to_list};
+    ghost use Rattle.naga_ir.specs.Operands.{operands_from};
 
     ghost Value = { List ℕ };
 
-    ghost view = { λ s. drop s.number (expression_operands s.expression.now) };
+    ghost view = { λ s. option_to_list s.first ++ (option_to_list s.second ++
+        operands_from s.number (option_map (λ e. e.now) s.expression)) };
+}
+
+impl<'a> Operands<'a> {
+    /// These two, as far as they are there.
+    #[inline]
+    fn of_two(first: Option<Handle<Expression>>, second: Option<Handle<Expression>>) -> Self
+        ensures { result ≡ option_to_list first ++ option_to_list second }
+    {
+        Operands {
+            first,
+            second,
+            expression: None,
+            number: 0,
+        }
+    }
 }
 
 impl<'a> Iterator for Operands<'a> {
@@ -195,8 +225,18 @@ impl<'a> Iterator for Operands<'a> {
     ghost remaining = { item_count (λ s. s) };
 
     #[inline]
+    #[tactic(auto, using(crate::proofs::Remaining::one_of_them))]
     fn next(&mut self) -> Option<Handle<Expression>> {
-        let operand = self.expression.operand(self.number)?;
+        if let Some(operand) = self.first {
+            self.first = self.second;
+            self.second = None;
+            return Some(operand);
+        }
+        if let Some(operand) = self.second {
+            self.second = None;
+            return Some(operand);
+        }
+        let operand = self.expression?.operand(self.number)?;
         self.number += 1;
         Some(operand)
     }

@@ -53,10 +53,15 @@ module _ (types : List Type_) (f : ir_function.Function) (es : List ExpressionIn
   fewer = length-take i shape.first_values
 
   -- an operator is in scope where it stands, whatever locals there are
-  usable_applied : (o : Option Application) (s : Standing) → usable_as shape (Some (application_shape o)) s ≡ usable_as (before_local shape i) (Some (application_shape o)) s
+  usable_applied : (o : Option Application) (s : Standing) →
+      usable_as shape (Some (application_shape o)) s ≡
+      usable_as (before_local shape i) (Some (application_shape o)) s
   usable_applied o s =
-      application_any (λ e. usable_as shape (Some e) s ≡ usable_as (before_local shape i) (Some e) s) refl o
-      (λ a is. operator_any (λ e. usable_as shape (Some e) s ≡ usable_as (before_local shape i) (Some e) s) a.operator a.operands (λ j l r. refl) refl)
+      application_any
+      (λ e. usable_as shape (Some e) s ≡ usable_as (before_local shape i) (Some e) s) refl o
+      (λ a is. operator_any
+      (λ e. usable_as shape (Some e) s ≡ usable_as (before_local shape i) (Some e) s)
+      a.operator a.operands (λ j l r. refl) refl)
 
   usable_shape : (e : Option ir.Expression) (s : Standing) → (usable_as shape (option_map expression_shape e) s && names_earlier i e) ≡ usable_as (before_local shape i) (option_map expression_shape e) s
   usable_shape None s = refl
@@ -64,7 +69,9 @@ module _ (types : List Type_) (f : ir_function.Function) (es : List ExpressionIn
   usable_shape (Some (expression.Literal value)) s = refl
   usable_shape (Some (expression.FunctionArgument number)) s = and_true _
   usable_shape (Some (expression.Load pointer)) s = and_true _
-  usable_shape (Some e) s = and_true (usable_as shape (Some (application_shape (application_of e))) s) ∙ usable_applied (application_of e) s
+  usable_shape (Some e) s =
+      and_true (usable_as shape (Some (application_shape (application_of e))) s)
+      ∙ usable_applied (application_of e) s
 
   -- what is in scope in front of a local is in scope at the start, and no later local
   pub usable_before : (s : Handles) (o : Option ℕ) → (usable_if shape s o && is_earlier f.expressions i o) ≡ usable_if (before_local shape i) s o

@@ -21,7 +21,9 @@ use Rattle.naga_names.specs.Keys.{NameMap}
 use Rattle.shader_runs.specs.Program.{Function, operands_of}
 use Rattle.shader_runs.specs.Premises.{AllBelow}
 use Rattle.shader_runs.specs.Scope.{Naming, Handles, after, fits, fits_all, fits_function}
-use Rattle.module_meaning.specs.Shapes.{statement_shape, statements_shape, function_shape, function_shapes, function_naming, namings_from, OperandsStandBefore}
+use Rattle.module_meaning.specs.Shapes.{statement_shape, statements_shape, function_shape}
+use Rattle.module_meaning.specs.Shapes.{function_shapes, function_naming, namings_from}
+use Rattle.module_meaning.specs.Shapes.{OperandsStandBefore}
 use Rattle.naga_form.proofs.Fits.{none_given_by}
 use Rattle.naga_scope.specs.Flat.{holds_no_block, is_flat}
 use Rattle.naga_scope.proofs.Emitting.{no_and}

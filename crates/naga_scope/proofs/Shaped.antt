@@ -43,7 +43,8 @@ applied_count e is = by e (operator_of e) refl is
     each (expression.Binary op left right) = refl
     each _ = refl
 
-    by : (e : ir.Expression) (o : Option TableOperator) → operator_of e ≡ o → is_some o ≡ true → count_to_bind e ≡ 2
+    by : (e : ir.Expression) (o : Option TableOperator) → operator_of e ≡ o → is_some o ≡ true →
+        count_to_bind e ≡ 2
     by e (Some op) at is = sym (ap (λ o. option_map_or (λ op. count_to_bind e) o 2) at) ∙ each e
     by e None at is = absurd cc
 
@@ -62,10 +63,14 @@ module _ (types : List Type_) (f : ir_function.Function) (es : List ExpressionIn
   shape_of o at = slice_get-map expression_shape f.expressions h ∙ ap (option_map expression_shape) at
 
   applied_binds : (e : ir.Expression) (o : Option TableOperator) → operator_of e ≡ o →
-      is_emittable (Some (application_shape (option_map (applied (expression_operands e)) o))) ≡ true →
-      nat_le (count_to_bind e) count ≡ binds_as shape h (Some (application_shape (option_map (applied (expression_operands e)) o)))
+      is_emittable (Some (application_shape (option_map (applied (expression_operands e)) o))) ≡
+      true →
+      nat_le (count_to_bind e) count ≡
+      binds_as shape h
+      (Some (application_shape (option_map (applied (expression_operands e)) o)))
   applied_binds e (Some op) is may =
-      ap (λ n. nat_le n count) (applied_count e (ap is_some is)) ∙ sym (operator_bound shape h op (expression_operands e) ∙ counted_from 2)
+      ap (λ n. nat_le n count) (applied_count e (ap is_some is))
+      ∙ sym (operator_bound shape h op (expression_operands e) ∙ counted_from 2)
   applied_binds e None is may = absurd cc
 
   -- what an Emit may give is bound from its number of uses on
@@ -84,7 +89,8 @@ module _ (types : List Type_) (f : ir_function.Function) (es : List ExpressionIn
   pub others_bind : (o : Option ir.Expression) → slice_get f.expressions h ≡ o →
       is_emittable (option_map expression_shape o) ≡ false → false ≡ binds shape h
   others_bind o at none =
-      sym (ap (binds_as shape h) (shape_of o at) ∙ never_bound shape h (option_map expression_shape o) none)
+      sym (ap (binds_as shape h) (shape_of o at)
+      ∙ never_bound shape h (option_map expression_shape o) none)
 
 -- what an expression that was found evaluates
 pub shape_found : {X : Type 0} (view : X → ir.Expression) (o : Option X) (found : Option ir.Expression) → option_map view o ≡ found → option_map (λ x. expression_shape (view x)) o ≡ option_map expression_shape found

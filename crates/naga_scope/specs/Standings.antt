@@ -2,7 +2,8 @@
 --
 -- Throughout, h is a handle, es are a function's expressions, o tells whether one is an operator,
 -- and u whether its operands are usable.
-use Rattle.std.specs.Prelude.{ℕ, Bool, true, false, List, Option, Some, None, nat_lt, slice_get, get_or, ◌||◌}
+use Rattle.std.specs.Prelude.{ℕ, Bool, true, false, List, Option, Some, None, nat_lt}
+use Rattle.std.specs.Prelude.{slice_get, get_or, ◌||◌}
 use Rattle.std.specs.Option.{option_map}
 use Rattle.naga_ir.specs.declared.expression.Expression as ir
 use Rattle.naga_ir.specs.declared.expression.Expression.TheVariants.{LocalVariable}
@@ -11,7 +12,8 @@ use Rattle.shader_runs.specs.Scope as runs
 use Rattle.module_meaning.specs.Names.{numbered_name}
 use Rattle.module_meaning.specs.Shapes.{expression_shape}
 use Rattle.naga_scope.specs.declared.points.Standing.{Standing}
-use Rattle.naga_scope.specs.declared.points.Standing.TheVariants.{Absent, Barred, Everywhere, Inline, Named}
+use Rattle.naga_scope.specs.declared.points.Standing.TheVariants.{Absent, Barred, Everywhere}
+use Rattle.naga_scope.specs.declared.points.Standing.TheVariants.{Inline, Named}
 
 -- what a cell says of a handle that has this name where it is bound
 abbrev pub standing_of : List ℕ → Standing → runs.Standing

@@ -1,5 +1,5 @@
-//! What kind of thing an expression is to the rules of scope, and which expressions a `let` binds where
-//! they are emitted.
+//! What kind of thing an expression is to the rules of scope, and which expressions a `let` binds
+//! where they are emitted.
 
 ghost use Rattle.std.specs.Prelude.{◌≡◌, List, get_or, map, slice_get, IsTrue};
 ghost use Rattle.std.specs.Option.{option_map};
@@ -35,8 +35,8 @@ fn count_of(info: &FunctionInfo, handle: Handle<Expression>) -> usize
     }
 }
 
-/// The kind of what the expression evaluates: its own, where it is written so far, and that of a result
-/// where it is not or there is none.
+/// The kind of what the expression evaluates: its own, where it is written so far, and that of a
+/// result where it is not or there is none.
 pub(crate) fn shape_kind(expression: Option<&Expression>) -> ExpressionKind
     ensures { result ≡ shape_kind (option_map (λ e. expression_shape e.now) expression.entry) }
 {
@@ -67,12 +67,12 @@ pub(crate) fn is_emittable(expression: Option<&Expression>) -> bool
 /// an operator with two. It is for functions in which no front end named an expression.
 pub fn binds(function: &Function, info: &FunctionInfo, handle: Handle<Expression>) -> bool
     requires unnamed { IsTrue (names_nothing function.now) }
-    ensures { (types : List Type_) → result ≡ binds (function_shape types function.now info.now) handle }
+    ensures { (types : List Type_) →
+        result ≡ binds (function_shape types function.now info.now) handle }
 {
     match expression_at(function, handle) {
         Some(expression) => {
-            is_emittable(Some(expression))
-                && count_of(info, handle) >= expression.bake_ref_count()
+            is_emittable(Some(expression)) && count_of(info, handle) >= expression.bake_ref_count()
         }
         None => false,
     }

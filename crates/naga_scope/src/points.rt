@@ -1,6 +1,7 @@
 //! Where the expressions of a function stand at a point of its text.
 
-ghost use Rattle.std.specs.Prelude.{◌≡◌, ◌&&◌, ◌^◌, ℕ, List, length, nat_le, get_or, IsTrue, IfOk, Some};
+ghost use Rattle.std.specs.Prelude.{◌≡◌, ◌&&◌, ◌^◌, ℕ, List, length, nat_le, get_or};
+ghost use Rattle.std.specs.Prelude.{IsTrue, IfOk, Some};
 ghost use Rattle.std.specs.Option.{option_map};
 ghost use Rattle.module_meaning.specs.Part.{names_nothing};
 ghost use Rattle.module_meaning.specs.Shapes.{expression_shape, function_shape};
@@ -102,7 +103,8 @@ impl Model for Scope {
 
 /// Whether the expression is a literal.
 fn is_literal(expression: Option<&Expression>) -> bool
-    ensures { result ≡ is_constant_leaf (option_map (λ e. expression_shape e.now) expression.entry) }
+    ensures { result ≡ is_constant_leaf
+        (option_map (λ e. expression_shape e.now) expression.entry) }
 {
     shape_kind(expression) == ExpressionKind::Constant
 }
@@ -133,7 +135,8 @@ fn is_constant(standings: &[Standing], function: &Function, handle: Handle<Expre
         || standing_at(standings, handle) == Standing::Everywhere
 }
 
-/// Whether each operand of the expression is a literal, or one that the table has in scope everywhere.
+/// Whether each operand of the expression is a literal, or one that the table has in scope
+/// everywhere.
 fn has_constant_operands(
     standings: &[Standing],
     function: &Function,
@@ -155,7 +158,7 @@ fn first_standing(standings: &[Standing], function: &Function, expression: &Expr
     ensures { let shape = expression_shape expression.now in result ≡ first_standing
         (is_pure (Some shape)
         && all_constant (is_constant_by standings.now function.now.expressions)
-            (operands_of (Some shape))) }
+        (operands_of (Some shape))) }
 {
     if is_operator(Some(expression)) && has_constant_operands(standings, function, expression) {
         Standing::Everywhere
@@ -169,9 +172,11 @@ impl Scope {
     /// scope everywhere, and all others are absent.
     pub fn start(alloc: Global, function: &Function) -> Result<Scope, AllocError>
         requires ordered { OperandsStandBefore function.now.expressions }
-        ensures start { (types : List Type_) (es : List ExpressionInfo) → IfOk result (λ s. handles_of s ≡ at_start (function_shape types function.now es)) }
+        ensures start { (types : List Type_) (es : List ExpressionInfo) →
+            IfOk result (λ s. handles_of s ≡ at_start (function_shape types function.now es)) }
         ensures size { IfOk result (λ s. length s ≡ length function.now.expressions) }
-        ensures counted { IfOk result (λ _. IsTrue (nat_le (length function.now.expressions) (2 ^ 64))) }
+        ensures counted { IfOk result
+            (λ _. IsTrue (nat_le (length function.now.expressions) (2 ^ 64))) }
     {
         let standings = vec![in alloc; Standing::Absent; function.expressions.len()]?;
         let mut scope = Scope { standings };
@@ -204,7 +209,8 @@ impl Scope {
     /// Whether the expression with this handle is in scope here. A literal, and an argument or a local
     /// that there is, is so everywhere.
     pub fn is_usable(&self, function: &Function, handle: Handle<Expression>) -> bool
-        ensures { (types : List Type_) (es : List ExpressionInfo) → result ≡ usable (function_shape types function.now es) (handles_of self.now) handle }
+        ensures { (types : List Type_) (es : List ExpressionInfo) →
+            result ≡ usable (function_shape types function.now es) (handles_of self.now) handle }
     {
         match expression_at(function, handle) {
             Some(expression) => match expression {
@@ -257,7 +263,9 @@ impl Scope {
         handle: Handle<Expression>,
     ) -> bool
         requires unnamed { IsTrue (names_nothing function.now) }
-        ensures { (types : List Type_) → result ≡ may_emit (function_shape types function.now info.now) handle (handles_of self.now) }
+        ensures { (types : List Type_) →
+            result ≡ may_emit (function_shape types function.now info.now) handle
+            (handles_of self.now) }
     {
         let expression = expression_at(function, handle);
         self.standing(handle).is_new()
@@ -271,7 +279,10 @@ impl Scope {
     pub fn emit(&mut self, function: &Function, info: &FunctionInfo, handle: Handle<Expression>)
         requires unnamed { IsTrue (names_nothing function.now) }
         requires size { length self.old ≡ length function.now.expressions }
-        ensures handles { (names : NameMap) (types : List Type_) (g k : ℕ) → handles_of self.new ≡ after_one (function_naming names types g function.now info.now) k handle (handles_of self.old) }
+        ensures handles { (names : NameMap) (types : List Type_) (g k : ℕ) →
+            handles_of self.new ≡
+            after_one (function_naming names types g function.now info.now) k handle
+            (handles_of self.old) }
         ensures size { length self.new ≡ length self.old }
     {
         let index = handle.index();

@@ -1,5 +1,6 @@
 -- The text of an expression by its kind and by where it stands, and from what is written of it in turn.
-use Rattle.std.proofs.Common.{◌≡◌, ℕ, zero, suc, ◌<◌, false, List, [], ◌∷◌, length, Option, Some, None, codes, refl, sym, ap, ◌∙◌, subst, arith, get_or}
+use Rattle.std.proofs.Common.{◌≡◌, ℕ, zero, suc, ◌<◌, false, List, [], ◌∷◌, length, Option, Some}
+use Rattle.std.proofs.Common.{None, codes, refl, sym, ap, ◌∙◌, subst, arith, get_or}
 use Rattle.std.specs.Prelude.{slice_get}
 use Rattle.naga_ir.specs.declared.expression.Expression as ir
 use Rattle.naga_ir.specs.declared.expression.Expression.TheVariants as expression
@@ -13,7 +14,9 @@ use Rattle.module_meaning.specs.Names.{numbered_name}
 use Rattle.module_meaning.specs.Applications.{Application, application_of}
 use Rattle.naga_form.specs.Operators.{Infix, applied_form, notation, operator_form}
 use Rattle.module_meaning.specs.Shapes.{application_shape, expression_shape, OperandsStandBefore}
-use Rattle.naga_form.specs.Form.{PlainForm, ValueForm, as_value, as_reference, value_forms, application_plain, own_plain, own_if, standing_plain, plain_below, plain_form, value_form}
+use Rattle.naga_form.specs.Form.{PlainForm, ValueForm, as_value, as_reference, value_forms}
+use Rattle.naga_form.specs.Form.{application_plain, own_plain, own_if, standing_plain, plain_below}
+use Rattle.naga_form.specs.Form.{plain_form, value_form}
 use Rattle.naga_scope.specs.Standings.{handles_of, standing_of}
 use Rattle.naga_scope.specs.declared.points.Standing.{Standing}
 use Rattle.naga_scope.specs.declared.points.Standing.TheVariants.{Absent, Barred, Everywhere, Inline, Named}
@@ -26,20 +29,26 @@ use Rattle.wgsl_text.proofs.RowText.{address_text as address_row_text, binary_te
 use Rattle.naga_wgsl_fns.specs.declared.functions.FunctionText.{FunctionText}
 use Rattle.naga_wgsl_fns.specs.FunctionText.{CanWrite, expressions, naming}
 use Rattle.naga_wgsl_fns.specs.Names.{name_of_argument, name_of_local}
-use Rattle.naga_wgsl_fns.specs.Expressions.{address_text, applied_text, own_form, own_text, pointed_text, reference_text, value_text}
+use Rattle.naga_wgsl_fns.specs.Expressions.{address_text, applied_text, own_form, own_text}
+use Rattle.naga_wgsl_fns.specs.Expressions.{pointed_text, reference_text, value_text}
 use Rattle.naga_wgsl_fns.proofs.Wanted.{ordered}
 
 -- ---- a handle's form by its operands' forms, where operands stand before it
 module _ (n : Naming) (es : List ir.Expression) (before : OperandsStandBefore es) (s : Handles) where
-  operands_same : (a b : ℕ → PlainForm) (h : ℕ) (hs : List ℕ) → AllBelow h hs → ((x : ℕ) → x < h → a x ≡ b x) → value_forms a hs ≡ value_forms b hs
+  operands_same : (a b : ℕ → PlainForm) (h : ℕ) (hs : List ℕ) → AllBelow h hs →
+      ((x : ℕ) → x < h → a x ≡ b x) → value_forms a hs ≡ value_forms b hs
   operands_same a b h [] below same = refl
-  operands_same a b h (x ∷ xs) below same = λ i. as_value (same x below.0 i) ∷ operands_same a b h xs below.1 same i
+  operands_same a b h (x ∷ xs) below same =
+      λ i. as_value (same x below.0 i) ∷ operands_same a b h xs below.1 same i
 
-  application_same : (a b : ℕ → PlainForm) (h : ℕ) (o : Option Application) → AllBelow h (operands_of (Some (application_shape o))) → ((x : ℕ) → x < h → a x ≡ b x) → application_plain a o ≡ application_plain b o
+  application_same : (a b : ℕ → PlainForm) (h : ℕ) (o : Option Application) →
+      AllBelow h (operands_of (Some (application_shape o))) → ((x : ℕ) → x < h → a x ≡ b x) →
+      application_plain a o ≡ application_plain b o
   application_same a b h None below same = refl
   application_same a b h (Some applied) below same =
       let each = subst (AllBelow h) (operator_operands applied.operator applied.operands) below in
-      ap (λ es. ValueForm (applied_form (notation applied.operator) es)) (operands_same a b h applied.operands each same)
+      ap (λ es. ValueForm (applied_form (notation applied.operator) es))
+      (operands_same a b h applied.operands each same)
 
   own_same : (a b : ℕ → PlainForm) (h : ℕ) (e : ir.Expression) → AllBelow h (operands_of (Some (expression_shape e))) → ((x : ℕ) → x < h → a x ≡ b x) → own_plain n a e ≡ own_plain n b e
   own_same a b h (expression.Load p) below same = ap (λ q. ValueForm (as_reference q)) (same p below.0)
@@ -92,7 +101,8 @@ value_row f table handle can lt = ap (λ form. expression_layout (as_value form)
 
 -- what is applied, in its notation
 abbrev pub application_at : FunctionText → (table : List Standing) → Option Application → List ℕ
-application_at f table (Some applied) = applied_text f table (notation applied.operator) applied.operands
+application_at f table (Some applied) =
+    applied_text f table (notation applied.operator) applied.operands
 application_at f table None = expression_layout (Constant (Truth false))
 
 -- what an expression is made of, by its kind
@@ -153,8 +163,15 @@ reference_row f table handle can lt =
     by Everywhere = kind e
     by Inline = kind e
 
-pub infix_row : (f : FunctionText) (table : List Standing) (op : ir_operator.BinaryOperator) (left right : ℕ)
-    → applied_text f table (Infix (operator_form op)) (left ∷ right ∷ []) ≡ joined (codes "(") (joined (value_text f table left) (joined (codes " ") (joined (operator_text op) (joined (codes " ") (joined (value_text f table right) (codes ")"))))))
+pub infix_row : (f : FunctionText) (table : List Standing) (op : ir_operator.BinaryOperator)
+    (left right : ℕ)
+    → applied_text f table (Infix (operator_form op)) (left ∷ right ∷ []) ≡
+    joined
+    (codes "(")
+    (joined (value_text f table left)
+    (joined (codes " ")
+    (joined (operator_text op)
+    (joined (codes " ") (joined (value_text f table right) (codes ")"))))))
 unfolding applied_text value_text joined
 infix_row f table op left right =
     let form = value_form (naming f) (expressions f) (handles_of table) in

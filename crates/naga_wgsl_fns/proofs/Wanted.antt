@@ -34,7 +34,12 @@ use Rattle.module_meaning.specs.Spelled.{literal_word, word_at, spelling_of, loc
 use Rattle.module_meaning.specs.Accepted.{is_below, expected_type, local_fits, statement_fits, return_fits}
 use Rattle.module_meaning.specs.Part.{names_nothing}
 use Rattle.naga_info.proofs.Options.{then_some}
-use Rattle.module_meaning.proofs.Accepting.{list_all_at, scalar_types_word_at, function_fits_signature, function_fits_locals, function_fits_block, function_fits_length, function_fits_word_at, local_fits_parts, value_fits_word, local_word_at, load_word_at, applied_at, store_fits_word, local_first_word}
+use Rattle.module_meaning.proofs.Accepting.{list_all_at, scalar_types_word_at}
+use Rattle.module_meaning.proofs.Accepting.{function_fits_signature, function_fits_locals}
+use Rattle.module_meaning.proofs.Accepting.{function_fits_block, function_fits_length}
+use Rattle.module_meaning.proofs.Accepting.{function_fits_word_at, local_fits_parts}
+use Rattle.module_meaning.proofs.Accepting.{value_fits_word, local_word_at, load_word_at}
+use Rattle.module_meaning.proofs.Accepting.{applied_at, store_fits_word, local_first_word}
 use Rattle.naga_names.proofs.Counts.{element}
 use Rattle.naga_wgsl_fns.specs.declared.functions.FunctionText.{FunctionText}
 use Rattle.naga_wgsl_fns.specs.FunctionText.{CanWrite, naming, tells_types}
@@ -120,7 +125,8 @@ module _ (t : FunctionText) (can : CanWrite t) where
   pub pointer_before : (h : ℕ) (e : Expression) (p : ℕ) → slice_get f.expressions h ≡ Some e → e ≡ expression.Load p → p < h
   pointer_before h e p here is = (load_word_at m.types f es h p can.fits (here ∙ ap Some is)).1
 
-  pub operands_before : (h : ℕ) (e : Expression) (a : Application) → slice_get f.expressions h ≡ Some e → application_of e ≡ Some a → AllBelow h a.operands
+  pub operands_before : (h : ℕ) (e : Expression) (a : Application) →
+      slice_get f.expressions h ≡ Some e → application_of e ≡ Some a → AllBelow h a.operands
   operands_before h e a here is = (applied_at m.types f es h e a can.fits here is).before
 
   -- no other expression has a type

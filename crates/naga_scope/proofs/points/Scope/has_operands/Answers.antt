@@ -16,7 +16,7 @@ returns-in_default c types es =
     let e = c.in-Some.known.now in
     let found = ap (option_map (λ e. expression_shape e.now)) c.in-Some.is in
     let no_result : shape_kind (Some (expression_shape e)) ≢ Result = λ is.
-        c.in_default.not-Result (c.shape_kind.ensures ∙ ap shape_kind found ∙ is) in
+    c.in_default.not-Result (c.shape_kind.ensures ∙ ap shape_kind found ∙ is) in
     c.are_usable.ensures types es
     ∙ ap (usable_all shape s) (sym (shape_operands e no_result))
     ∙ ap (λ o. usable_all shape s (operands_of o)) (sym found)

@@ -23,9 +23,16 @@ write_own-write_reference-requires g t c κs within =
 
 pub write_own-write_infix-requires : goal.write_own-write_infix-requires
 write_own-write_infix-requires g t c κs within =
-    let before = operands_before c.args.self.now c.requires.can c.args.handle c.index.result.now _ c.index.ensures (ap application_of c.in-Binary.is) in
-    let bound : c.args.handle < length c.args.self.now.function.now.expressions = c.requires.handle in
-    (omega (arith, before.0, before.1.0, c.decreases), (within, (c.requires.can, (omega (arith, before.0, bound), omega (arith, before.1.0, bound)))))
+    let before =
+    operands_before c.args.self.now c.requires.can c.args.handle c.index.result.now _
+    c.index.ensures (ap application_of c.in-Binary.is) in
+    let bound : c.args.handle < length c.args.self.now.function.now.expressions = c.requires.handle in (
+      omega (arith, before.0, before.1.0, c.decreases),
+      (
+        within,
+        (c.requires.can, (omega (arith, before.0, bound), omega (arith, before.1.0, bound))),
+      ),
+    )
 
 pub write_own-unreachable-requires : goal.write_own-unreachable-requires
 write_own-unreachable-requires g t c =
