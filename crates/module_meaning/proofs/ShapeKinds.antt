@@ -3,7 +3,7 @@
 --
 -- Throughout, e is an expression of the module, o a shape, if there is one, f a function of shapes,
 -- s a standing, and h a handle.
-use Rattle.std.proofs.Common.{◌≡◌, ◌≢◌, ℕ, Bool, true, false, List, [], Option, Some, None, refl}
+use Rattle.std.proofs.Common.{◌≡◌, ◌≢◌, ℕ, true, false, List, [], Option, Some, None, refl}
 use Rattle.std.proofs.Common.{sym, ap, ◌∙◌}
 use Rattle.std.specs.Prelude.{IsTrue}
 use Rattle.std.specs.Option.{is_some, option_map, option_map_or}
@@ -11,10 +11,9 @@ use Rattle.naga_ir.specs.Kinds.{kind_of}
 use Rattle.naga_ir.specs.Operands.{expression_operands}
 use Rattle.naga_ir.specs.declared.expression.Expression as ir
 use Rattle.naga_ir.specs.declared.expression.Expression.TheVariants as expression
-use Rattle.naga_ir.specs.declared.kind.ExpressionKind.{ExpressionKind}
 use Rattle.naga_ir.specs.declared.kind.ExpressionKind.TheVariants as kind
-use Rattle.shader_runs.specs.Program.{Expression, Constant, Argument, Local, Global, Load, Operator}
-use Rattle.shader_runs.specs.Program.{Access, AccessIndex, Swizzle, Logical, Request, Result}
+use Rattle.shader_runs.specs.Program.{Expression, Constant, Operator}
+use Rattle.shader_runs.specs.Program.{Access, AccessIndex, Swizzle, Logical, Result}
 use Rattle.shader_runs.specs.Program.{operands_of}
 use Rattle.shader_runs.specs.Scope.{is_pure, is_constant_leaf}
 use Rattle.module_meaning.specs.ShapeKinds.{shape_kind}
