@@ -1,24 +1,24 @@
 //! The check that each expression is in scope where it is used.
 
-ghost use Rattle.std.specs.Prelude.{◌≡◌, ◌-◌, ◌^◌, ℕ, List, length, nat_le, IsTrue, IfOk};
+ghost use Rattle.std.specs.Prelude.{◌≡◌, ◌-◌, ℕ, List, length, IsTrue};
 ghost use Rattle.module_meaning.specs.Part.{names_nothing};
-ghost use Rattle.module_meaning.specs.Premises.{handles_are_counted, nothing_named, scope_holds};
-ghost use Rattle.module_meaning.specs.Shapes.{function_shape, function_naming, statement_shape, OperandsStandBefore};
-ghost use Rattle.module_meaning.specs.Accepted.{is_accepted};
+ghost use Rattle.module_meaning.specs.Premises.{nothing_named};
+ghost use Rattle.module_meaning.specs.Shapes.{function_shape, function_naming, statement_shape};
 ghost use Rattle.naga_info.specs.declared.info.ExpressionInfo.{ExpressionInfo};
 ghost use Rattle.naga_ir.specs.StatementViews.{tree_of};
 ghost use Rattle.naga_ir.specs.declared.types.Type_.{Type_};
 ghost use Rattle.naga_names.specs.Keys.{NameMap};
 ghost use Rattle.shader_runs.specs.Program.{from};
-ghost use Rattle.shader_runs.specs.Scope.{after, after_emit, at_start, before_local, first_values_fit, fits, fits_function, may_emit_all, usable_if};
+ghost use Rattle.shader_runs.specs.Scope.{after, after_emit, at_start, before_local};
+ghost use Rattle.shader_runs.specs.Scope.{first_values_fit, fits, fits_function, may_emit_all};
+ghost use Rattle.shader_runs.specs.Scope.{usable_if};
 ghost use Rattle.naga_scope.specs.Flat.{holds_no_block, is_flat};
 ghost use Rattle.naga_scope.specs.Standings.{handles_of, is_earlier};
 
 use crate::binding::expression_at;
 use crate::points::Scope;
-use naga_info::{FunctionInfo, ModuleInfo};
+use naga_info::FunctionInfo;
 use naga_ir::{Expression, Function, Handle, LocalVariable, Module, Place, Range, Statement};
-use std::alloc::{AllocError, Global};
 
 /// Whether the expression, if there is one, may be written at this point.
 fn is_usable_if(scope: &Scope, function: &Function, handle: Option<Handle<Expression>>) -> bool

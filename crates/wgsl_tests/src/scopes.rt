@@ -1,6 +1,7 @@
 use naga_acceptance::accepts;
-use naga_ir::{BinaryOperator, Expression, Handle, Literal, Scalar, Type_};
-use naga_scope::{nothing_named, scope_holds};
+use naga_info::ModuleInfo;
+use naga_ir::{BinaryOperator, Expression, Handle, Literal, Module, Place, Scalar, Type_};
+use naga_scope::{Plan, PlanError, nothing_named};
 use sample_modules::Sample;
 use std::alloc::{AllocError, Global};
 use std::process::Abort;
@@ -127,13 +128,28 @@ fn built_holds(alloc: Global, sample: &mut Sample, row: Row) -> Result<Option<bo
     sample_holds(alloc, sample)
 }
 
-/// Whether the sample's expressions are in scope where they are used, if it is one that is asked about.
+/// Whether there is a plan of the sample's one function, if it is one that is asked about.
 fn sample_holds(alloc: Global, sample: &Sample) -> Result<Option<bool>, AllocError> {
-    if !accepts(&sample.module, &sample.info) || !nothing_named(&sample.module) {
+    match first_holds(alloc, &sample.module, &sample.info) {
+        Ok(holds) => Ok(holds),
+        Err(_) => first_holds(alloc, &sample.module, &sample.info),
+    }
+}
+
+/// The same of the module. Where memory refuses a plan, another one may be asked for.
+fn first_holds(
+    alloc: Global,
+    module: &Module,
+    info: &ModuleInfo,
+) -> Result<Option<bool>, AllocError> {
+    if !accepts(module, info) || !nothing_named(module) || module.functions.len() != 1 {
         return Ok(None);
     }
-    let holds = scope_holds(alloc, &sample.module, &sample.info)?;
-    Ok(Some(holds))
+    match Plan::of(alloc, module, info, Place::from_index(0)) {
+        Ok(_) => Ok(Some(true)),
+        Err(PlanError::OutOfScope) => Ok(Some(false)),
+        Err(PlanError::Memory(error)) => Err(error),
+    }
 }
 
 /// Builds the row on a sample of its own, and asks whether it holds. The sample is dropped by a call, which

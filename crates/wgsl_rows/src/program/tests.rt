@@ -1,7 +1,8 @@
 use super::{answer, run};
 use bitflags::Flags;
+use naga_wgsl_out::info::accepts;
 use naga_wgsl_out::ir::{Expression, Literal, Scalar};
-use naga_wgsl_out::wgsl::WriterFlags;
+use naga_wgsl_out::wgsl::{Error, Writer, WriterFlags};
 use sample_modules::{Row, Sample, build_argument};
 use std::alloc::{AllocError, Global};
 use std::io;
@@ -284,5 +285,58 @@ fn refusals_are_told(rt: HostRuntime) -> Result<(), Fail> {
     for (case, text, told) in CASES {
         assert!(rt; case_gives(rt.alloc(), *case, *text, *told)?, "{case:?}");
     }
+    Ok(())
+}
+
+/// Modules of two functions, one of which is out of scope, with the texts that are written.
+const SECOND_OUT_OF_SCOPE: [Case; 2] = [Case::Argument(0), Case::LoadWithoutEmit];
+const FIRST_OUT_OF_SCOPE: [Case; 2] = [Case::LoadWithoutEmit, Case::Argument(0)];
+
+fn is_out_of_scope(answer: &Result<(), Error>) -> bool {
+    match answer {
+        Err(Error::Custom(told)) => told.as_str() == "operand out of scope",
+        _ => false,
+    }
+}
+
+/// Whether the sample, written behind a text, is refused as out of scope and leaves this text behind
+/// it.
+fn leaves(alloc: Global, sample: &Sample, text: &str) -> Result<bool, AllocError> {
+    let mut want = String::from_str(alloc, "held\n")?;
+    want.push_str(text)?;
+    let held = String::from_str(alloc, "held\n")?;
+    if !accepts(&sample.module, &sample.info) {
+        return Ok(false);
+    }
+    let mut writer = Writer::new(alloc, held, WriterFlags::empty());
+    let answer = writer.write(&sample.module, &sample.info);
+    let left = writer.finish();
+    Ok(is_out_of_scope(&answer) && left.as_str() == want.as_str())
+}
+
+fn built_leaves(
+    alloc: Global,
+    sample: &mut Sample,
+    cases: [Case; 2],
+    text: &str,
+) -> Result<bool, AllocError> {
+    for case in cases.iter() {
+        case.build(sample)?;
+    }
+    leaves(alloc, sample, text)
+}
+
+fn cases_leave(alloc: Global, cases: [Case; 2], text: &str) -> Result<bool, AllocError> {
+    let mut sample = Sample::new(alloc);
+    let given = built_leaves(alloc, &mut sample, cases, text);
+    drop(sample);
+    given
+}
+
+/// The functions in front of one that is out of scope are written, and nothing of that one.
+#[test]
+fn functions_before_a_refused_one_are_written(rt: HostRuntime) -> Result<(), Fail> {
+    assert!(rt; cases_leave(rt.alloc(), SECOND_OUT_OF_SCOPE, IDENTITY)?);
+    assert!(rt; cases_leave(rt.alloc(), FIRST_OUT_OF_SCOPE, "")?);
     Ok(())
 }

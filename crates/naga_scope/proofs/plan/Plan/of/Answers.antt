@@ -18,44 +18,30 @@ index-requires-2 c =
     let counted : length info.functions.items ≡ info.functions.len = sym info.functions.ok.0 in
     subst (λ n. c.args.handle < n) (same ∙ counted) c.requires.handle
 
-pub of_function-requires-clause-ordered : goal.of_function-requires-clause-ordered
-of_function-requires-clause-ordered c =
+pub of_function-requires : goal.of_function-requires
+of_function-requires c =
     let m = c.args.module.now in
-    let info = c.args.info.now in
     let f = c.index.result.now in
-    let fit = accepted_functions_fit m info c.requires.accepted in
-    let known = functions_fit_at m.types m.functions info.functions.items c.args.handle f fit
+    let g = c.args.handle in
+    let fit = accepted_functions_fit m c.args.info.now c.requires.accepted in
+    let known = functions_fit_at m.types m.functions c.args.info.now.functions.items g f fit
     c.index.ensures in
-    ordered_at m.types f known.0 known.2
+    record {
+      ordered = ordered_at m.types f known.0 known.2;
+      flat = accepted_flat m.types known.0 f.result f.body
+          (function_fits_block m.types f known.0 known.2);
+      unnamed = list_all_at names_nothing m.functions g f c.requires.unnamed c.index.ensures;
+    }
 
-pub of_function-requires-clause-flat : goal.of_function-requires-clause-flat
-of_function-requires-clause-flat c =
+pub returns : goal.returns
+returns c =
     let m = c.args.module.now in
-    let info = c.args.info.now in
-    let f = c.index.result.now in
-    let fit = accepted_functions_fit m info c.requires.accepted in
-    let known = functions_fit_at m.types m.functions info.functions.items c.args.handle f fit
-    c.index.ensures in
-    accepted_flat m.types known.0 f.result f.body (function_fits_block m.types f known.0 known.2)
-
-pub of_function-requires-clause-unnamed : goal.of_function-requires-clause-unnamed
-of_function-requires-clause-unnamed c =
-    let m = c.args.module.now in
-    list_all_at names_nothing m.functions c.args.handle c.index.result.now
-    c.requires.unnamed c.index.ensures
-
-pub returns-clause-ok : goal.returns-clause-ok
-returns-clause-ok c =
-    let m = c.args.module.now in
+    let r = c.of_function.result in
     let found = shape_found m.types m.functions c.args.info.now.functions.items c.args.handle
     c.index.result.now c.index-2.result.now c.index.ensures c.index-2.ensures in
-    subst (λ o. IfOk c.of_function.result (λ table. IsSomeAnd o (λ f. IsPlan f table))) (sym found)
-    (c.of_function.ensures.ok m.types)
-
-pub returns-clause-err : goal.returns-clause-err
-returns-clause-err c =
-    let m = c.args.module.now in
-    let found = shape_found m.types m.functions c.args.info.now.functions.items c.args.handle
-    c.index.result.now c.index-2.result.now c.index.ensures c.index-2.ensures in
-    subst (λ o. IfErr c.of_function.result (λ e. IsSomeAnd o (λ f. IsRefusalToPlan f e)))
-    (sym found) (c.of_function.ensures.err m.types)
+    record {
+      ok = subst (λ o. IfOk r (λ table. IsSomeAnd o (λ f. IsPlan f table))) (sym found)
+          (c.of_function.ensures.ok m.types);
+      err = subst (λ o. IfErr r (λ e. IsSomeAnd o (λ f. IsRefusalToPlan f e))) (sym found)
+          (c.of_function.ensures.err m.types);
+    }
