@@ -31,8 +31,8 @@ use Rattle.wgsl_text.specs.Tree.{TypeSpecifier, Named}
 use Rattle.wgsl_text.proofs.RowText.{text-append}
 use Rattle.module_meaning.specs.Names.{module_names}
 use Rattle.naga_form.proofs.WrittenTypes.{HasForm, word_has_form, resolution_has_form}
-use Rattle.naga_words.specs.Output.{Follow, Follows, Go, Goes, Lies, Seen, Spelled, Stand, Wrote}
-use Rattle.naga_words.specs.Output.{joined}
+use Rattle.naga_words.specs.Output.{Follows, Goes, Lies, PartsFollow, PartsGo, PartsLie, Seen}
+use Rattle.naga_words.specs.Output.{Spelled, Wrote, joined}
 use Rattle.naga_wgsl_fns.specs.declared.functions.FunctionText.{FunctionText}
 use Rattle.naga_wgsl_fns.specs.Types.{annotation_text, has_word, resolution_text, type_text}
 
@@ -57,25 +57,26 @@ module _ (ps : List Part) (t : List ℕ) (known : known_text ps ≡ Some t) wher
   lacks_nothing lack = let none : Some t ≡ None = sym known ∙ lacks_unknown ps lack in cc
 
   module _ (refuses : Bool) (before after : Seen) where
-    known_lies : (want : Option TypeTextError) → Stand refuses ps before after want
+    known_lies : (want : Option TypeTextError) → PartsLie refuses ps before after want
         → Lies before.held before.failures t after.held after.failures want
-    known_lies None stand =
-        (stand.0.behind ∙ ap (λ u. before.held ++ u) (only_text ps stand.0.text t stand.0.is_text known), stand.1)
-    known_lies (Some want) stand = (
-      subst (λ u. IsBehind before.held u after.held)
-      (only_text ps stand.0.whole t (subst (λ qs. IsText qs stand.0.whole) (known_whole ps t known) stand.0.is_text) known)
-      stand.0.behind,
-      reason_as (λ refused. lacks_nothing refused.1) before.failures after.failures want stand.1,
-    )
+    known_lies None lies =
+        let only = only_text ps lies.0.text t lies.0.is_text known in
+        (lies.0.behind ∙ ap (λ u. before.held ++ u) only, lies.1)
+    known_lies (Some want) lies =
+        let whole = subst (λ qs. IsText qs lies.0.whole) (known_whole ps t known) lies.0.is_text in
+        let only = only_text ps lies.0.whole t whole known in (
+          subst (λ u. IsBehind before.held u after.held) only lies.0.behind,
+          reason_as (λ refused. lacks_nothing refused.1) before.failures after.failures want lies.1,
+        )
 
-    known_follows : (want : Option TypeTextError) → Follow want refuses ps before after
+    known_follows : (want : Option TypeTextError) → PartsFollow want refuses ps before after
         → Follows want before t after
     known_follows None follow = known_lies after.want follow
     known_follows (Some want) follow = follow
 
   pub known_wrote : {refuses : Bool} {before after : Seen} → Spelled refuses before after ps
       → Wrote before after t
-  unfolding Go Goes
+  unfolding PartsGo Goes
   known_wrote {refuses} {before} {after} w =
       record { goes = (known_follows refuses before after before.want w.goes.0, w.goes.1) }
 

@@ -4,7 +4,8 @@ use Rattle.std.proofs.Common.{Option, Some, None, append_assoc, refl, sym, ap, s
 use Rattle.std.specs.Option.{is_some}
 use Rattle.std.proofs.lemmas.List.{append-nil}
 use Rattle.naga_words.specs.Sink.{IsBehind}
-use Rattle.naga_words.specs.Output.{Follow, Follows, Go, Goes, IsReason, Lies, Seen, Spelled, Stand}
+use Rattle.naga_words.specs.Output.{Follows, Goes, IsReason, Lies, PartsFollow, PartsGo, PartsLie}
+use Rattle.naga_words.specs.Output.{Seen, Spelled}
 use Rattle.naga_words.specs.Output.{Wrote}
 use Rattle.naga_words.proofs.Writing.{behind_first, behind_then}
 use Rattle.naga_words.specs.Parts.{Part, Word, Shown, Missing, IsRefused, lacks, before_missing}
@@ -14,7 +15,7 @@ use Rattle.naga_words.specs.declared.error.TypeTextError.TheVariants.{Sink, Memo
 use Rattle.naga_words.specs.declared.sink.SinkError.TheVariants.{Failed, Memory as SinkMemory}
 
 -- ---- texts of parts
-pub text_append : {ps qs : List Part} {s t : List ℕ} → IsText ps s → IsText qs t
+text_append : {ps qs : List Part} {s t : List ℕ} → IsText ps s → IsText qs t
     → IsText (ps ++ qs) (s ++ t)
 text_append NoParts q = q
 text_append {t = t} (WordThen w {bytes = b} p) q =
@@ -113,8 +114,8 @@ module _ (refuses : Bool) (before after : Seen) where
   module _ (middle : Seen) (ps qs : List Part) where
     -- the second parts, where the first stand whole
     after_whole : (want : Option TypeTextError) → HasWritten ps before.held middle.held
-        → middle.failures ≡ before.failures → Stand refuses qs middle after want
-        → Stand refuses (ps ++ qs) before after want
+        → middle.failures ≡ before.failures → PartsLie refuses qs middle after want
+        → PartsLie refuses (ps ++ qs) before after want
     after_whole None w kept stand =
         (parts_then ps qs before.held middle.held after.held w stand.0, stand.1 ∙ kept)
     after_whole (Some want) w kept stand = (
@@ -124,28 +125,30 @@ module _ (refuses : Bool) (before after : Seen) where
     )
 
     -- and where a beginning of the first does
-    after_part : (want : TypeTextError) → Stand refuses ps before middle (Some want)
-        → Stand refuses (ps ++ qs) before middle (Some want)
+    after_part : (want : TypeTextError) → PartsLie refuses ps before middle (Some want)
+        → PartsLie refuses (ps ++ qs) before middle (Some want)
     after_part want stand = (
       parts_fail ps qs before.held middle.held stand.0,
       reason_as (λ r. (r.0, lacks_before ps qs r.1)) before.failures middle.failures want stand.1,
     )
 
     after_middle : (want : Option TypeTextError) → want ≡ middle.want
-        → Stand refuses ps before middle want → Follow want refuses qs middle after
-        → Stand refuses (ps ++ qs) before after after.want
+        → PartsLie refuses ps before middle want → PartsFollow want refuses qs middle after
+        → PartsLie refuses (ps ++ qs) before after after.want
     after_middle None is stand follow = after_whole after.want stand.0 stand.1 follow
     after_middle (Some want) is stand follow =
-        subst (λ (s : Seen). Stand refuses (ps ++ qs) before s s.want) (sym follow)
-        (subst (λ o. Stand refuses (ps ++ qs) before middle o) is (after_part want stand))
+        subst (λ (s : Seen). PartsLie refuses (ps ++ qs) before s s.want) (sym follow)
+        (subst (λ o. PartsLie refuses (ps ++ qs) before middle o) is (after_part want stand))
 
     follow_then : (want : Option TypeTextError) → want ≡ before.want
-        → Follow want refuses ps before middle → Follow middle.want refuses qs middle after
-        → Follow want refuses (ps ++ qs) before after
+        → PartsFollow want refuses ps before middle
+        → PartsFollow middle.want refuses qs middle after
+        → PartsFollow want refuses (ps ++ qs) before after
     follow_then None is first more = after_middle middle.want refl first more
     follow_then (Some want) is first more =
-        let stays : Follow (Some want) refuses qs middle after =
-        subst (λ o. Follow o refuses qs middle after) (ap (λ (s : Seen). s.want) first ∙ sym is)
+        let stays : PartsFollow (Some want) refuses qs middle after =
+        subst (λ o. PartsFollow o refuses qs middle after)
+        (ap (λ (s : Seen). s.want) first ∙ sym is)
         more in
         stays ∙ first
 
@@ -154,7 +157,7 @@ module _ (refuses : Bool) (before after : Seen) where
       (known : before_missing (part ∷ []) ≡ part ∷ []) where
     stands : (want : Option TypeTextError)
         → Lies before.held before.failures text after.held after.failures want
-        → Stand refuses (part ∷ []) before after want
+        → PartsLie refuses (part ∷ []) before after want
     stands None lies = (
       record {
         text = text ++ [];
@@ -173,14 +176,14 @@ module _ (refuses : Bool) (before after : Seen) where
     )
 
     follow_one : (want : Option TypeTextError) → Follows want before text after
-        → Follow want refuses (part ∷ []) before after
+        → PartsFollow want refuses (part ∷ []) before after
     follow_one None follows = stands after.want follows
     follow_one (Some want) follows = follows
 
 pub spells_then : {refuses : Bool} {before middle after : Seen} {ps qs : List Part}
     → Spelled refuses before middle ps → Spelled refuses middle after qs
     → Spelled refuses before after (ps ++ qs)
-unfolding Go
+unfolding PartsGo
 spells_then {refuses} {before} {middle} {after} {ps} {qs} w v = record {
   goes = (
     follow_then refuses before after middle ps qs before.want refl w.goes.0 v.goes.0,
@@ -191,12 +194,12 @@ spells_then {refuses} {before} {middle} {after} {ps} {qs} w v = record {
 -- what is never refused
 pub spells_any : {refuses : Bool} {before after : Seen} {parts : List Part}
     → Spelled false before after parts → Spelled refuses before after parts
-unfolding Go
+unfolding PartsGo
 spells_any {refuses} {before} {after} {parts} w =
     record { goes = (by before.want w.goes.0, w.goes.1) }
   where
-    on : (want : Option TypeTextError) → Stand false parts before after want
-        → Stand refuses parts before after want
+    on : (want : Option TypeTextError) → PartsLie false parts before after want
+        → PartsLie refuses parts before after want
     on None stand = stand
     on (Some want) stand = (
       stand.0,
@@ -206,15 +209,15 @@ spells_any {refuses} {before} {after} {parts} w =
         none : false ≡ true → ⊥
         none e = cc
 
-    by : (want : Option TypeTextError) → Follow want false parts before after
-        → Follow want refuses parts before after
+    by : (want : Option TypeTextError) → PartsFollow want false parts before after
+        → PartsFollow want refuses parts before after
     by None follow = on after.want follow
     by (Some want) follow = follow
 
 -- a word, or a debug text
 pub spells_word : {refuses : Bool} {before after : Seen} {word : List ℕ} → Wrote before after word
     → Spelled refuses before after (Word word ∷ [])
-unfolding Go Goes
+unfolding PartsGo Goes
 spells_word {refuses} {before} {after} {word} w = record {
   goes = (
     follow_one refuses before after (Word word) word (WordThen word NoParts) refl before.want
@@ -225,7 +228,7 @@ spells_word {refuses} {before} {after} {word} w = record {
 
 pub spells_shown : {refuses : Bool} {before after : Seen} {debug : List ℕ}
     → Wrote before after debug → Spelled refuses before after (Shown ∷ [])
-unfolding Go Goes
+unfolding PartsGo Goes
 spells_shown {refuses} {before} {after} {debug} w = record {
   goes = (
     follow_one refuses before after Shown debug (ShownThen debug NoParts) refl before.want
@@ -251,35 +254,36 @@ spells_shown_then {refuses} {before} {middle} {after} w v =
 
 -- nothing is written
 pub spells_nothing : {refuses : Bool} (before : Seen) → Spelled refuses before before []
-unfolding Go
+unfolding PartsGo
 spells_nothing {refuses} before = record { goes = (by before.want refl, refl) }
   where
-    by : (want : Option TypeTextError) → want ≡ before.want → Follow want refuses [] before before
-    by None is = subst (λ o. Stand refuses [] before before o) is
+    by : (want : Option TypeTextError) → want ≡ before.want
+        → PartsFollow want refuses [] before before
+    by None is = subst (λ o. PartsLie refuses [] before before o) is
         (record { text = []; is_text = NoParts; behind = sym (append-nil before.held) }, refl)
     by (Some want) is = refl
 
 -- behind a want all parts are written
 pub spells_no_more : {refuses : Bool} (before : Seen) (parts : List Part)
     → is_some before.want ≡ true → Spelled refuses before before parts
-unfolding Go
+unfolding PartsGo
 spells_no_more {refuses} before parts some = record { goes = (by before.want some, refl) }
   where
     by : (want : Option TypeTextError) → is_some want ≡ true
-        → Follow want refuses parts before before
+        → PartsFollow want refuses parts before before
     by None some = absurd (cc)
     by (Some want) some = refl
 
 -- ---- a call that writes to the sink of an output without a want
 stands_so : (refuses : Bool) (before after : Seen) (parts : List Part)
     → is_some before.want ≡ false → after.sink ≡ before.sink
-    → Stand refuses parts before after after.want → Spelled refuses before after parts
-unfolding Go
+    → PartsLie refuses parts before after after.want → Spelled refuses before after parts
+unfolding PartsGo
 stands_so refuses before after parts fresh same stand =
     record { goes = (by before.want fresh, same) }
   where
     by : (want : Option TypeTextError) → is_some want ≡ false
-        → Follow want refuses parts before after
+        → PartsFollow want refuses parts before after
     by None none = stand
     by (Some want) none = absurd (cc)
 
@@ -289,7 +293,7 @@ pub spells_answered : {refuses : Bool} {before after : Seen} {parts : List Part}
     → after.want ≡ before.want → Spelled refuses before after parts
 spells_answered {refuses} {before} {after} {parts} fresh same w kept want =
     stands_so refuses before after parts fresh same
-    (subst (λ o. Stand refuses parts before after o) (sym (want ∙ none before.want fresh))
+    (subst (λ o. PartsLie refuses parts before after o) (sym (want ∙ none before.want fresh))
     (w, kept))
   where
     none : (o : Option TypeTextError) → is_some o ≡ false → o ≡ None
@@ -303,7 +307,7 @@ pub spells_wanting : {refuses : Bool} {before after : Seen} {parts : List Part} 
     → (e ≡ Sink Failed → before.failures < after.failures) → Spelled refuses before after parts
 spells_wanting {refuses} {before} {after} {parts} e fresh same is begun form failure =
     stands_so refuses before after parts fresh same
-    (subst (λ o. Stand refuses parts before after o) (sym is) (begun, by e form failure))
+    (subst (λ o. PartsLie refuses parts before after o) (sym is) (begun, by e form failure))
   where
     by : (e : TypeTextError) → (e ≡ NoForm → IsRefused refuses parts)
         → (e ≡ Sink Failed → before.failures < after.failures)
@@ -317,12 +321,12 @@ spells_wanting {refuses} {before} {after} {parts} e fresh same is begun form fai
 from_fresh : (refuses : Bool) (start now : Seen) (parts : List Part)
     → Spelled refuses start now parts → start.want ≡ None → (want : Option TypeTextError)
     → now.want ≡ want
-    → Stand refuses parts start now want
-unfolding Go
+    → PartsLie refuses parts start now want
+unfolding PartsGo
 from_fresh refuses start now parts w fresh want is =
-    let follow : Follow None refuses parts start now =
-    subst (λ o. Follow o refuses parts start now) fresh w.goes.0 in
-    subst (λ o. Stand refuses parts start now o) is follow
+    let follow : PartsFollow None refuses parts start now =
+    subst (λ o. PartsFollow o refuses parts start now) fresh w.goes.0 in
+    subst (λ o. PartsLie refuses parts start now o) is follow
 
 module _ {refuses : Bool} {start now : Seen} {parts : List Part} where
   pub spelled_whole : Spelled refuses start now parts → start.want ≡ None → now.want ≡ None
@@ -333,7 +337,7 @@ module _ {refuses : Bool} {start now : Seen} {parts : List Part} where
       → HasBegun parts start.held now.held
   spelled_part w fresh = by now.want (from_fresh refuses start now parts w fresh now.want refl)
     where
-      by : (want : Option TypeTextError) → Stand refuses parts start now want
+      by : (want : Option TypeTextError) → PartsLie refuses parts start now want
           → HasBegun parts start.held now.held
       by None stand = begun_all parts start.held now.held stand.0
       by (Some want) stand = stand.0
@@ -352,7 +356,7 @@ module _ {refuses : Bool} {start now : Seen} {parts : List Part} where
       (from_fresh refuses start now parts w fresh (Some (Sink Failed)) some).1
 
   pub spelled_sink : Spelled refuses start now parts → now.sink ≡ start.sink
-  unfolding Go
+  unfolding PartsGo
   spelled_sink w = w.goes.1
 
 pub ruleset rows =

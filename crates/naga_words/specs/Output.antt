@@ -67,25 +67,28 @@ unfoldable pub joined : (first more : List ℕ) → List ℕ
 joined first more = first ++ more
 
 -- ---- the same of a text in parts, of which a context that refuses may refuse one
-abbrev pub Stand : (refuses : Bool) (parts : List Part) (before after : Seen)
+-- with no want a text of the parts stands behind what was held; with one, a beginning of one
+abbrev pub PartsLie : (refuses : Bool) (parts : List Part) (before after : Seen)
     → Option TypeTextError → Type 0
-Stand refuses parts before after None =
+PartsLie refuses parts before after None =
     HasWritten parts before.held after.held × (after.failures ≡ before.failures)
-Stand refuses parts before after (Some want) =
+PartsLie refuses parts before after (Some want) =
     HasBegun parts before.held after.held ×
     IsReason (IsRefused refuses parts) before.failures after.failures want
 
-abbrev pub Follow : Option TypeTextError → (refuses : Bool) (parts : List Part)
+-- behind a want nothing is done
+abbrev pub PartsFollow : Option TypeTextError → (refuses : Bool) (parts : List Part)
     → (before after : Seen) → Type 0
-Follow None refuses parts before after = Stand refuses parts before after after.want
-Follow (Some want) refuses parts before after = after ≡ before
+PartsFollow None refuses parts before after = PartsLie refuses parts before after after.want
+PartsFollow (Some want) refuses parts before after = after ≡ before
 
-unfoldable pub Go : (refuses : Bool) (parts : List Part) (before after : Seen) → Type 0
-Go refuses parts before after =
-    Follow before.want refuses parts before after × (after.sink ≡ before.sink)
+-- and the sink is the same
+unfoldable pub PartsGo : (refuses : Bool) (parts : List Part) (before after : Seen) → Type 0
+PartsGo refuses parts before after =
+    PartsFollow before.want refuses parts before after × (after.sink ≡ before.sink)
 
 pub record Spelled (refuses : Bool) (before after : Seen) (parts : List Part) : Type 0 where
-  pub goes : Go refuses parts before after
+  pub goes : PartsGo refuses parts before after
 
 -- The parts are written to an output, or a beginning of them, up to a want, which is a refusal only
 -- where the context refuses and a part is missing.

@@ -1,8 +1,10 @@
 //! A context that names types and overrides by their indices.
 
-ghost use Rattle.std.specs.Prelude.{◌≡◌, ◌++◌, codes, decimal, IfOk, IsTrue, string_bytes};
+ghost use Rattle.std.specs.Prelude.{◌≡◌, [], ◌∷◌, false, IfOk, IsTrue};
+ghost use Rattle.naga_words.specs.Output.{Spells};
+ghost use Rattle.naga_words.specs.Parts.{Word};
 ghost use Rattle.naga_words.specs.Spelling.{IsInOrder};
-ghost use Rattle.wgsl_tests.specs.Numbered.{numbered_context, AreNumbered};
+ghost use Rattle.wgsl_tests.specs.Numbered.{AreNumbered, numbered_context, override_number};
 
 use naga_ir::{Handle, Override, Type_, TypeInner, UniqueArena};
 use naga_words::types::types_in_order;
@@ -61,12 +63,8 @@ impl TypeContext for NumberedTypes<'_> {
         handle: Handle<Override>,
         out: &mut W,
     ) -> Result<(), TypeTextError> {
-        let index = handle.index();
         let mut output = Output::new(out);
-        match format!(in alloc; "O{index}") {
-            Ok(name) => write_word(name.as_str(), &mut output),
-            Err(error) => output.remember(error),
-        }
+        write_number(alloc, handle.index(), &mut output);
         output.outcome()
     }
 
@@ -81,5 +79,16 @@ impl TypeContext for NumberedTypes<'_> {
 
     fn refuses(&self) -> bool {
         true
+    }
+}
+
+/// Writes the name of an override by its index.
+fn write_number<W: TextSink>(alloc: Global, index: usize, out: &mut Output<'_, W>)
+    ensures { Spells W.text W.failures false out.old out.new
+        (Word (override_number index) ∷ []) }
+{
+    match format!(in alloc; "O{index}") {
+        Ok(name) => write_word(name.as_str(), out),
+        Err(error) => out.remember(error),
     }
 }
