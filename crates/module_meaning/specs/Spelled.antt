@@ -7,7 +7,10 @@ use Rattle.std.specs.Prelude.{ℕ, ℤ, pos, negsuc, ◌^◌, nat_lt, Bool, true
 use Rattle.std.specs.Option.{option_map, option_and_then}
 use Rattle.std.specs.Str.{bytes_eq}
 use Rattle.naga_ir.specs.declared.expression.Literal.{Literal}
-use Rattle.naga_ir.specs.declared.expression.Literal.TheVariants.{U32, I32, U64, I64, Bool as BoolLiteral}
+use Rattle.naga_ir.specs.declared.expression.Literal.TheVariants.{U32, I32, U64, I64}
+use Rattle.naga_ir.specs.declared.expression.Literal.TheVariants.{Bool as BoolLiteral, I16, U16}
+use Rattle.naga_ir.specs.declared.expression.Literal.TheVariants.{F16, F32, F64}
+use Rattle.naga_ir.specs.declared.expression.Literal.TheVariants.{AbstractInt, AbstractFloat}
 use Rattle.naga_ir.specs.declared.types.AddressSpace.{AddressSpace}
 use Rattle.naga_ir.specs.declared.types.AddressSpace.TheVariants.{Function}
 use Rattle.naga_ir.specs.declared.types.Scalar.{Scalar}
@@ -102,10 +105,17 @@ abbrev pub is_signed_within : ℕ → ℤ → Bool
 is_signed_within limit (pos n) = nat_lt n limit
 is_signed_within limit (negsuc n) = nat_lt n limit
 
--- a literal's integer is one of its type
+-- a literal's integer is one of its type, and its bits are as many as its type has
 abbrev pub literal_is_within : Literal → Bool
+literal_is_within (BoolLiteral value) = true
+literal_is_within (I16 value) = is_signed_within (2 ^ 15) value
+literal_is_within (U16 value) = nat_lt value (2 ^ 16)
 literal_is_within (I32 value) = is_signed_within (2 ^ 31) value
 literal_is_within (U32 value) = nat_lt value (2 ^ 32)
 literal_is_within (I64 value) = is_signed_within (2 ^ 63) value
 literal_is_within (U64 value) = nat_lt value (2 ^ 64)
-literal_is_within _ = true
+literal_is_within (AbstractInt value) = is_signed_within (2 ^ 63) value
+literal_is_within (F16 bits) = nat_lt bits (2 ^ 16)
+literal_is_within (F32 bits) = nat_lt bits (2 ^ 32)
+literal_is_within (F64 bits) = nat_lt bits (2 ^ 64)
+literal_is_within (AbstractFloat bits) = nat_lt bits (2 ^ 64)

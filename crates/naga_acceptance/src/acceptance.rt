@@ -293,8 +293,18 @@ fn literal_is_within(literal: Literal) -> bool
     ensures { result ≡ literal_is_within literal }
 {
     match literal {
-        Literal::I32(_) | Literal::U32(_) | Literal::I64(_) | Literal::U64(_) => true,
-        _ => true,
+        Literal::I16(_)
+        | Literal::U16(_)
+        | Literal::I32(_)
+        | Literal::U32(_)
+        | Literal::I64(_)
+        | Literal::U64(_)
+        | Literal::AbstractInt(_)
+        | Literal::F16(_)
+        | Literal::F32(_)
+        | Literal::F64(_)
+        | Literal::AbstractFloat(_) => true,
+        Literal::Bool(_) => true,
     }
 }
 
