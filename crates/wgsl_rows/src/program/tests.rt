@@ -290,6 +290,7 @@ fn refusals_are_told(rt: HostRuntime) -> Result<(), Fail> {
 
 /// Modules of two functions, one of which is out of scope, with the texts that are written.
 const SECOND_OUT_OF_SCOPE: [Case; 2] = [Case::Argument(0), Case::LoadWithoutEmit];
+
 const FIRST_OUT_OF_SCOPE: [Case; 2] = [Case::LoadWithoutEmit, Case::Argument(0)];
 
 fn is_out_of_scope(answer: &Result<(), Error>) -> bool {
