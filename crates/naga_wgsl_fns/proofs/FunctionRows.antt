@@ -2,7 +2,7 @@
 -- written of them in turn.
 use Rattle.std.proofs.Common.{◌≡◌, ℕ, ◌+◌, ◌<◌, ◌≤◌, ◌==◌, zero, suc, add-one, arith, ne_eqb}
 use Rattle.std.proofs.Common.{true, false, Option, None, Some, refl, sym, ap, subst, ◌∙◌, codes}
-use Rattle.std.proofs.Common.{List, [], ◌∷◌, ◌++◌, append_assoc, drop, drop-cons, length}
+use Rattle.std.proofs.Common.{List, [], ◌∷◌, ◌++◌, append_assoc, drop, length}
 use Rattle.std.proofs.Common.{slice_get, slice_index_or}
 use Rattle.std.specs.Prelude.{if◌then◌else◌, unwrap_or}
 use Rattle.std.specs.Option.{option_map_or}

@@ -1,5 +1,5 @@
 -- What is said of a type's spelling, for types that have a form.
-use Rattle.std.proofs.Common.{◌≡◌, ℕ, ◌<◌, true, false, codes, List, [], ◌∷◌, ◌++◌, Option, Some, None, refl, sym, ap, subst, ◌∙◌, ◌≤◌, arith, slice_get, length}
+use Rattle.std.proofs.Common.{◌≡◌, ℕ, ◌<◌, true, codes, List, [], ◌∷◌, ◌++◌, Option, Some, None, refl, sym, ap, subst, ◌∙◌, ◌≤◌, arith, slice_get, length}
 use Rattle.std.specs.Prelude.{Bool, IsTrue, unwrap_or}
 use Rattle.std.specs.Option.{is_some, option_map}
 use Rattle.std.specs.List.{list_all}

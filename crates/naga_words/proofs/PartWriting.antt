@@ -3,7 +3,6 @@ use Rattle.std.proofs.Common.{◌≡◌, ℕ, ◌<◌, true, false, Bool, List, 
 use Rattle.std.proofs.Common.{Option, Some, None, append_assoc, refl, sym, ap, subst, ◌∙◌}
 use Rattle.std.specs.Option.{is_some}
 use Rattle.std.proofs.lemmas.List.{append-nil}
-use Rattle.naga_words.specs.Sink.{IsBehind}
 use Rattle.naga_words.specs.Output.{Follows, Goes, IsReason, Lies, PartsFollow, PartsGo, PartsLie}
 use Rattle.naga_words.specs.Output.{Seen, Spelled}
 use Rattle.naga_words.specs.Output.{Wrote}

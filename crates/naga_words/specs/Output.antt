@@ -5,7 +5,6 @@ use Rattle.naga_words.specs.Sink.{IsBehind}
 use Rattle.naga_words.specs.declared.error.TypeTextError.{TypeTextError}
 use Rattle.naga_words.specs.declared.error.TypeTextError.TheVariants.{Sink, Memory, NoForm}
 use Rattle.naga_words.specs.declared.output.Output.{Output}
-use Rattle.naga_words.specs.declared.sink.SinkError.{SinkError}
 use Rattle.naga_words.specs.declared.sink.SinkError.TheVariants.{Failed, Memory as SinkMemory}
 
 -- what a contract sees of an output: which sink it lends, what that holds, how often that has
