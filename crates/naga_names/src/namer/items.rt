@@ -435,8 +435,8 @@ impl Naming {
     }
 }
 
-/// Makes room for the names of the module, so that the map need not grow while it gets them. Where there
-/// is no memory for all of them at once, the map grows as they come.
+/// Makes room for the names of the module, so that the map need not grow while it gets them. Where
+/// there is no memory for all of them at once, the map grows as they come.
 fn make_room(module: &Module, output: &mut HashMap<NameKey, String>)
     ensures { names_in output.new ≡ names_in output.old }
 {

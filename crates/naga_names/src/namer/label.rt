@@ -1,9 +1,14 @@
 //! The base of a label: the part of an identifier that comes from the label alone.
-ghost use Rattle.std.specs.Prelude.{◌≡◌, ℕ, ◌<◌, length, false, true, slice_index, codes, ◌⊎◌, IfSome, IsTrue, List, ◌∷◌, [], ◌++◌, ◌||◌, ◌==◌, map, IfOk, OnOk, string_bytes};
+ghost use Rattle.std.specs.Prelude.{◌≡◌, ℕ, ◌<◌, length, false, true, slice_index, codes, ◌⊎◌};
+ghost use Rattle.std.specs.Prelude.{IfSome, IsTrue, List, ◌∷◌, [], ◌++◌, ◌||◌, ◌==◌, map, IfOk};
+ghost use Rattle.std.specs.Prelude.{OnOk, string_bytes};
 ghost use Rattle.std.specs.List.{list_any, starts_with};
 ghost use Rattle.std.specs.Bool.{nat_eq};
 ghost use Rattle.std.specs.Str.{chars};
-ghost use Rattle.naga_names.specs.Label.{is_numeric, is_mark, is_foreign, by_number, after_numerics, spelling, with_separator, without_last_separators, or_unnamed, base_of, ends_separated, IsPlain, IsSpelledAlike};
+ghost use Rattle.naga_names.specs.Label.{is_numeric, is_mark, is_foreign, by_number};
+ghost use Rattle.naga_names.specs.Label.{after_numerics, spelling, with_separator};
+ghost use Rattle.naga_names.specs.Label.{without_last_separators, or_unnamed, base_of};
+ghost use Rattle.naga_names.specs.Label.{ends_separated, IsPlain, IsSpelledAlike};
 ghost use Rattle.naga_names.specs.Naming.{ends_in_digit};
 
 use std::alloc::{AllocError, Global};
@@ -22,8 +27,8 @@ pub fn base(alloc: Global, prefixes: &[&'static str], label: &str) -> Result<Str
     Ok(base)
 }
 
-/// The base of the label, where identifiers keep off the prefixes, if it is seen to stand in the label
-/// itself: then it needs no text of its own.
+/// The base of the label, where identifiers keep off the prefixes, if it is seen to stand in the
+/// label itself: then it needs no text of its own.
 pub fn own_base<'a>(prefixes: &[&'static str], label: &'a str) -> Option<&'a str>
     ensures { IfSome result (λ base.
         base.now ≡ base_of (map (λ p. p.now) prefixes.now) (chars label.now)) }
