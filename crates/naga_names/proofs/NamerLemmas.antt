@@ -98,4 +98,4 @@ module _ (names : Names) (label b : List ℕ) (base_is : b ≡ label_base names 
   push-by_base earlier new has used room =
       subst (λ n. HasNamed n (earlier ++ label ∷ [])) (sym (used ∙ with_use-by_base))
       (has_named-push names earlier label
-          (subst (λ d. uses_of names.uses d < 2 ^ 32) base_is room) has)
+      (subst (λ d. uses_of names.uses d < 2 ^ 32) base_is room) has)

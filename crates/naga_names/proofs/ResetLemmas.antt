@@ -240,7 +240,7 @@ output_label-push t [] entry_point =
 output_label-push t (first ∷ entry_points) entry_point =
     ap (λ o. option_or o (cond (returns t first) (output_word first.stage) None)) (output_label-push t entry_points entry_point)
     ∙ option_or-assoc (cond (returns t entry_point) (output_word entry_point.stage) None)
-        (output_label t entry_points) (cond (returns t first) (output_word first.stage) None)
+    (output_label t entry_points) (cond (returns t first) (output_word first.stage) None)
 
 pub output_label-more : (t : ℕ) (entry_points : List EntryPoint) (i : ℕ) (entry_point : EntryPoint) → i < length entry_points → entry_point ≡ get_or entry_points i entry_point → output_label t (take (i + 1) entry_points) ≡ option_or (cond (returns t entry_point) (output_word entry_point.stage) None) (output_label t (take i entry_points))
 output_label-more t entry_points i entry_point lt is =

@@ -41,7 +41,7 @@ module _ {Y : Type 0} where
       get-uses_in new.entries q
       ∙ ap (option_map one_more) (hash_map_updates_text base old new (Some later) updates q)
       ∙ ap (λ b. option_map one_more (cond b (Some later) (get_by_text old q)))
-          (nat_list_eq_equiv.symm base q)
+      (nat_list_eq_equiv.symm base q)
       ∙ either q (bytes_eq q base)
       ∙ sym (finite.get-insert nat_list_cmp_total (uses_in old.entries) base (later + 1) q
       ∙ (λ i. cond (is_eq-slice_cmp q base i) (Some (later + 1)) (get-uses_in old.entries q i))))
@@ -56,10 +56,10 @@ module _ {Y : Type 0} where
         → uses_of uses base ≡ 0
     uses_of-absent none =
         ap (λ u. uses_of u base) (sym is) ∙ ap (λ o. unwrap_or o 0)
-            (get-uses_in es base ∙ ap (option_map one_more) (sym none))
+        (get-uses_in es base ∙ ap (option_map one_more) (sym none))
 
     pub uses_of-present : (later : ℕ) → Some later ≡ lookup (λ k. bytes_eq base (string_bytes k)) es
         → uses_of uses base ≡ later + 1
     uses_of-present later some =
         ap (λ u. uses_of u base) (sym is) ∙ ap (λ o. unwrap_or o 0)
-            (get-uses_in es base ∙ ap (option_map one_more) (sym some))
+        (get-uses_in es base ∙ ap (option_map one_more) (sym some))

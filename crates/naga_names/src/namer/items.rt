@@ -451,7 +451,9 @@ fn name_count(module: &Module) -> usize {
         .saturating_add(module.constants.len())
         .saturating_add(module.overrides.len());
     for (_, ty) in module.types.iter() {
-        count = count.saturating_add(members_of(&ty.inner).len()).saturating_add(1);
+        count = count
+            .saturating_add(members_of(&ty.inner).len())
+            .saturating_add(1);
     }
     for entry_point in &module.entry_points {
         count = count.saturating_add(own_name_count(&entry_point.function));

@@ -42,11 +42,7 @@ impl Uses {
 
     /// The next name of a base that was used before, and one more use of it. A base that was never
     /// used has none. A refused call changes nothing.
-    pub fn later_name(
-        &mut self,
-        alloc: Global,
-        base: &str,
-    ) -> Result<Option<String>, NamerError>
+    pub fn later_name(&mut self, alloc: Global, base: &str) -> Result<Option<String>, NamerError>
         ensures ok { IfOk result (λ name.
             GivesLaterName self.old base.now (option_map string_bytes name) self.new) }
         ensures err { OnErr result (self.new ≡ self.old) }

@@ -18,23 +18,23 @@ base_in_label c =
 pub returns-in-Some-clause-name : goal.returns-in-Some-clause-name
 returns-in-Some-clause-name c =
     subst (λ n. IfOk c.name_of_base.result (λ name. string_bytes name ≡ n))
-        (name_of-by_base _ _ _ (base_in_label c)) c.name_of_base.ensures.name
+    (name_of-by_base _ _ _ (base_in_label c)) c.name_of_base.ensures.name
 
 pub returns-in-Some-clause-used : goal.returns-in-Some-clause-used
 returns-in-Some-clause-used c =
     subst (λ n. OnOk c.name_of_base.result (c.name_of_base.new.self ≡ n))
-        (with_use-by_base _ _ _ (base_in_label c)) c.name_of_base.ensures.used
+    (with_use-by_base _ _ _ (base_in_label c)) c.name_of_base.ensures.used
 
 pub returns-in-Some-clause-history : goal.returns-in-Some-clause-history
 returns-in-Some-clause-history c = λ earlier has.
     subst (λ n. IfOk c.name_of_base.result (λ name. string_bytes name ≡ n))
-        (name_of-after c.args.self.now earlier c.args.label.now has) (returns-in-Some-clause-name c)
+    (name_of-after c.args.self.now earlier c.args.label.now has) (returns-in-Some-clause-name c)
 
 pub returns-in-Some-clause-more_history : goal.returns-in-Some-clause-more_history
 returns-in-Some-clause-more_history c = λ earlier has.
     on_ok_both c.name_of_base.result c.name_of_base.ensures.used c.name_of_base.ensures.room
-        (push-by_base c.args.self.now c.args.label.now _ (base_in_label c) earlier
-        c.name_of_base.new.self has)
+    (push-by_base c.args.self.now c.args.label.now _ (base_in_label c) earlier
+    c.name_of_base.new.self has)
 
 -- the base that has a text of its own
 base_is : (c : goal.After-drop-base)
@@ -47,20 +47,20 @@ base_is c =
 pub returns-clause-name : goal.returns-clause-name
 returns-clause-name c =
     subst (λ n. IfOk c.name_of_base-2.result (λ name. string_bytes name ≡ n))
-        (name_of-by_base _ _ _ (base_is c)) c.name_of_base-2.ensures.name
+    (name_of-by_base _ _ _ (base_is c)) c.name_of_base-2.ensures.name
 
 pub returns-clause-used : goal.returns-clause-used
 returns-clause-used c =
     subst (λ n. OnOk c.name_of_base-2.result (c.name_of_base-2.new.self ≡ n))
-        (with_use-by_base _ _ _ (base_is c)) c.name_of_base-2.ensures.used
+    (with_use-by_base _ _ _ (base_is c)) c.name_of_base-2.ensures.used
 
 pub returns-clause-history : goal.returns-clause-history
 returns-clause-history c = λ earlier has.
     subst (λ n. IfOk c.name_of_base-2.result (λ name. string_bytes name ≡ n))
-        (name_of-after c.args.self.now earlier c.args.label.now has) (returns-clause-name c)
+    (name_of-after c.args.self.now earlier c.args.label.now has) (returns-clause-name c)
 
 pub returns-clause-more_history : goal.returns-clause-more_history
 returns-clause-more_history c = λ earlier has.
     on_ok_both c.name_of_base-2.result c.name_of_base-2.ensures.used c.name_of_base-2.ensures.room
-        (push-by_base c.args.self.now c.args.label.now _ (base_is c) earlier
-        c.name_of_base-2.new.self has)
+    (push-by_base c.args.self.now c.args.label.now _ (base_is c) earlier
+    c.name_of_base-2.new.self has)
