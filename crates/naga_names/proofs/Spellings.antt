@@ -15,7 +15,7 @@ use Rattle.std.specs.List.{flat_map, list_all, list_any, prefix_len, starts_with
 use Rattle.std.specs.Fmt.{digits, digits_onto, digit_glyph, padded_integral, format_spec, char_count, digits_output, styled_digits_output, AppendsText, ◌++?◌}
 use Rattle.std.specs.Option.{option_map}
 use Rattle.std.specs.declared.option.Option.TheVariants.{Some}
-use Rattle.std.specs.Char.{is_ascii_alphanumeric}
+use Rattle.std.specs.Char.{is_ascii_alphanumeric, is_ascii_lowercase}
 use Rattle.std.proofs.lemmas.Grind.{flat_map-append}
 use Rattle.std.proofs.lemmas.List.Folds.{list_all-append}
 use Rattle.std.proofs.lemmas.Bool.Decides.{nat_tests}
@@ -279,6 +279,10 @@ ends_separated-push (d ∷ e ∷ cs) c = ends_separated-push (e ∷ cs) c
 pub alphanumeric_is_ascii : (c : ℕ) → is_ascii_alphanumeric c ≡ true → c < 128
 alphanumeric_is_ascii c e = grind (arith, nat_tests)
 
+pub lowercase_is_alphanumeric : (c : ℕ) → is_ascii_lowercase c ≡ true
+    → is_ascii_alphanumeric c ≡ true
+lowercase_is_alphanumeric c e = grind (arith, nat_tests)
+
 pub alike-nothing : IsSpelledAlike []
 alike-nothing = record { ascii = IsAscii-nil; alike = spelling-nil }
 
@@ -286,8 +290,7 @@ pub alike-letter : (cs : List ℕ) (c : ℕ) → IsSpelledAlike cs → is_ascii_
     → IsSpelledAlike (cs ++ c ∷ []) × (ends_separated (cs ++ c ∷ []) ≡ false)
 alike-letter cs c so_far letter =
     let other : (c == 95) ≡ false = grind (arith, nat_tests) in
-    let test : (is_mark c || c == 95) ≡ false = grind (arith, nat_tests) in
-    (
+    let test : (is_mark c || c == 95) ≡ false = grind (arith, nat_tests) in (
       record {
         ascii = IsAscii-push cs c so_far.ascii (alphanumeric_is_ascii c letter);
         alike = spelling-alphanumeric cs c test letter ∙ ap (λ text. text ++ c ∷ []) so_far.alike;
@@ -297,16 +300,15 @@ alike-letter cs c so_far letter =
 
 pub alike-separator : (cs : List ℕ) (c : ℕ) → c ≡ 95 → IsSpelledAlike cs → ends_separated cs ≡ false
     → IsSpelledAlike (cs ++ c ∷ []) × (ends_separated (cs ++ c ∷ []) ≡ true)
-alike-separator cs c is so_far lone =
-    (
-      record {
-        ascii = IsAscii-push cs c so_far.ascii (omega (arith, is));
-        alike = ap (λ d. spelling (cs ++ d ∷ [])) is ∙ spelling-underscore cs
-            ∙ ap with_separator so_far.alike ∙ with_separator-not cs lone
-            ∙ ap (λ d. cs ++ d ∷ []) (sym is);
-      },
-      ends_separated-push cs c ∙ ap (λ d. d == 95) is,
-    )
+alike-separator cs c is so_far lone = (
+  record {
+    ascii = IsAscii-push cs c so_far.ascii (omega (arith, is));
+    alike = ap (λ d. spelling (cs ++ d ∷ [])) is ∙ spelling-underscore cs
+        ∙ ap with_separator so_far.alike ∙ with_separator-not cs lone
+        ∙ ap (λ d. cs ++ d ∷ []) (sym is);
+  },
+  ends_separated-push cs c ∙ ap (λ d. d == 95) is,
+)
 
 base_of-front : (prefixes : List (List ℕ)) (c : ℕ) (cs rest : List ℕ) → is_numeric c ≡ false
     → list_any (starts_with nat_eq (c ∷ cs)) prefixes ≡ false → IsSpelledAlike (c ∷ rest)
@@ -314,14 +316,14 @@ base_of-front : (prefixes : List (List ℕ)) (c : ℕ) (cs rest : List ℕ) → 
 unfolding base_of
 base_of-front prefixes c cs rest first free alike done =
     ap (λ text.
-        kept_off prefixes (or_unnamed (without_last_separators (spelling (after_numerics text)))))
-        (chars-IsAscii (c ∷ rest) alike.ascii)
+    kept_off prefixes (or_unnamed (without_last_separators (spelling (after_numerics text)))))
+    (chars-IsAscii (c ∷ rest) alike.ascii)
     ∙ ap (λ b.
-        kept_off prefixes
-        (or_unnamed (without_last_separators (spelling (cond b (after_numerics rest) (c ∷ rest))))))
-        first
+    kept_off prefixes
+    (or_unnamed (without_last_separators (spelling (cond b (after_numerics rest) (c ∷ rest))))))
+    first
     ∙ ap (λ text. kept_off prefixes (or_unnamed text))
-        (ap without_last_separators alike.alike ∙ done)
+    (ap without_last_separators alike.alike ∙ done)
     ∙ ap (λ b. cond b (codes "gen_" ++ c ∷ cs) (c ∷ cs)) free
 
 -- a plain text is the base of itself, also where a `_` follows it
@@ -333,12 +335,12 @@ base_of-plain prefixes [] label plain either free =
 base_of-plain prefixes (c ∷ cs) label plain (inl same) free =
     ap (λ text. base_of prefixes (chars text)) same
     ∙ base_of-front prefixes c cs cs plain.first free plain.alike
-        (without_last-done (c ∷ cs) plain.last)
+    (without_last-done (c ∷ cs) plain.last)
 base_of-plain prefixes (c ∷ cs) label plain (inr more) free =
     ap (λ text. base_of prefixes (chars text)) more
     ∙ base_of-front prefixes c cs (cs ++ 95 ∷ []) plain.first free
-        (alike-separator (c ∷ cs) 95 refl plain.alike plain.last).0
-        (without_last-push (c ∷ cs) ∙ without_last-done (c ∷ cs) plain.last)
+    (alike-separator (c ∷ cs) 95 refl plain.alike plain.last).0
+    (without_last-push (c ∷ cs) ∙ without_last-done (c ∷ cs) plain.last)
 
 -- ---- what holds on `Ok`
 pub on_err : {T E P : Type 0} (r : Result T E) → P → OnErr r P

@@ -4,6 +4,7 @@ ghost use Rattle.std.specs.Prelude.{IfSome, IsTrue, List, ◌∷◌, [], ◌++�
 ghost use Rattle.std.specs.Prelude.{OnOk, string_bytes};
 ghost use Rattle.std.specs.List.{list_any, starts_with};
 ghost use Rattle.std.specs.Bool.{nat_eq};
+ghost use Rattle.std.specs.Char.{is_ascii_alphanumeric};
 ghost use Rattle.std.specs.Str.{chars};
 ghost use Rattle.naga_names.specs.Label.{is_numeric, is_mark, is_foreign, by_number};
 ghost use Rattle.naga_names.specs.Label.{after_numerics, spelling, with_separator};
@@ -75,7 +76,7 @@ fn is_spelled_alike(text: &str) -> bool
     let bytes = text.as_bytes();
     let mut is_separated = false;
     for byte in bytes {
-        if byte.is_ascii_alphanumeric() {
+        if is_letter_or_digit(*byte) {
             is_separated = false;
         } else if *byte == b'_' && !is_separated {
             is_separated = true;
@@ -84,6 +85,16 @@ fn is_spelled_alike(text: &str) -> bool
         }
     }
     !is_separated
+}
+
+/// Whether the byte is a letter or a digit of ASCII. Most bytes of labels are small letters.
+fn is_letter_or_digit(byte: u8) -> bool
+    ensures { result ≡ is_ascii_alphanumeric byte }
+{
+    if byte.is_ascii_lowercase() {
+        return true;
+    }
+    byte.is_ascii_alphanumeric()
 }
 
 /// The text without the `_` at its end, or `unnamed` where nothing is left of it.
