@@ -1,5 +1,7 @@
 -- The names of a whole module: its values are labelled by the names of its types.
-use Rattle.std.proofs.Common.{◌≡◌, ℕ, ◌+◌, ◌≤◌, zero, suc, List, [], ◌∷◌, ◌++◌, map, length, Option, Some, None, false, cond, refl, ap, sym, ◌∙◌, arith, unwrap_or, slice_get}
+use Rattle.std.proofs.Common.{◌≡◌, ℕ, ◌+◌, ◌≤◌, zero, suc, List, [], ◌∷◌, ◌++◌, map, length, Option}
+use Rattle.std.proofs.Common.{Some, None, false, cond, refl, ap, sym, ◌∙◌, arith, unwrap_or}
+use Rattle.std.proofs.Common.{slice_get}
 use borrow.Author.Tests.{lt-ltb}
 use Rattle.std.specs.List.{AllByRecursion, flat_map, enumerate_from}
 use Rattle.std.proofs.lemmas.List.{take-append-le}
@@ -11,7 +13,10 @@ use Rattle.naga_ir.specs.declared.types.Type_.{Type_}
 use Rattle.naga_names.specs.declared.key.NameKey.TheVariants as key
 use Rattle.naga_names.specs.Naming.{Names}
 use Rattle.naga_names.specs.Keys.{NameMap, same_key}
-use Rattle.naga_names.specs.Reset.{Labelled, item_name, members_of, member_label, labelled_type, type_label, labelled_types, labelled_entry_points, labelled_functions, labelled_globals, labelled_declarations, type_name, type_names_in, HasNamedItems}
+use Rattle.naga_names.specs.Reset.{Labelled, item_name, members_of, member_label, labelled_type}
+use Rattle.naga_names.specs.Reset.{type_label, labelled_types, labelled_entry_points}
+use Rattle.naga_names.specs.Reset.{labelled_functions, labelled_globals, labelled_declarations}
+use Rattle.naga_names.specs.Reset.{type_name, type_names_in, HasNamedItems}
 use Rattle.naga_names.proofs.NameKeys.{all_append, unlike_types, types_apart, declarations_apart}
 use Rattle.naga_names.proofs.NamedItems.{place_left, type_among_types, item_put, name_found, name_absent}
 use Rattle.naga_names.proofs.ResetLemmas.{not_below}

@@ -186,8 +186,12 @@ module _ (names : Names) (b c : List ℕ) (m n : ℕ) (b_ends : ends_separated b
 
   both_first : FirstCases b → FirstCases c → first_name names b ≡ first_name names c → b ≡ c
   both_first (inl x) (inl y) e = (split_last b [] c [] refl refl (sym x ∙ e ∙ y)).0
-  both_first (inl x) (inr y) e = absurd (true≢false (sym (ends_separated-push b 95) ∙ ap ends_separated (sym x ∙ e ∙ y.0) ∙ c_ends))
-  both_first (inr x) (inl y) e = absurd (true≢false (sym (ends_separated-push c 95) ∙ ap ends_separated (sym y ∙ sym e ∙ x.0) ∙ b_ends))
+  both_first (inl x) (inr y) e =
+      absurd (true≢false (sym (ends_separated-push b 95) ∙ ap ends_separated (sym x ∙ e ∙ y.0)
+      ∙ c_ends))
+  both_first (inr x) (inl y) e =
+      absurd (true≢false (sym (ends_separated-push c 95) ∙ ap ends_separated (sym y ∙ sym e ∙ x.0)
+      ∙ b_ends))
   both_first (inr x) (inr y) e = sym x.0 ∙ e ∙ y.0
 
   both : NameCases b m → NameCases c n → name_of_base names b m ≡ name_of_base names c n → (b ≡ c) × (m ≡ n)

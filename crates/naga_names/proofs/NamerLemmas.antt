@@ -1,5 +1,7 @@
 -- Names by the uses so far, and by the labels so far.
-use Rattle.std.proofs.Common.{◌≡◌, ℕ, ◌+◌, ◌^◌, ◌<◌, ◌≤◌, Bool, true, false, cond, List, [], ◌∷◌, ◌++◌, Option, Some, None, unwrap_or, refl, sym, ap, subst, ◌∙◌, arith, add-zero, ◌==◌}
+use Rattle.std.proofs.Common.{◌≡◌, ℕ, ◌+◌, ◌^◌, ◌<◌, ◌≤◌, Bool, true, false, cond, List, [], ◌∷◌}
+use Rattle.std.proofs.Common.{◌++◌, Option, Some, None, unwrap_or, refl, sym, ap, subst, ◌∙◌, arith}
+use Rattle.std.proofs.Common.{add-zero, ◌==◌}
 use Rattle.std.proofs.lemmas.Bool.Decides.{nat_tests}
 use Rattle.std.specs.Cmp.Lexicographic.{slice_cmp, nat_list_cmp_total, nat_list_eq_equiv, bytes_decides}
 use Rattle.std.specs.FinMap as map
@@ -8,7 +10,9 @@ use Rattle.std.specs.Str.{bytes_eq}
 use Rattle.std.specs.Option.{option_map}
 use Rattle.std.proofs.lemmas.List.Sums.{sum_by_push}
 use Rattle.std.proofs.lemmas.Map.Text.{is_eq-slice_cmp}
-use Rattle.naga_names.specs.Naming.{Uses, Names, uses_of, label_base, first_name, later_name, name_of_base, name_of, with_use, with_use_of_base, labels_with_base, name_after, HasNamed}
+use Rattle.naga_names.specs.Naming.{Uses, Names, uses_of, label_base, first_name, later_name}
+use Rattle.naga_names.specs.Naming.{name_of_base, name_of, with_use, with_use_of_base}
+use Rattle.naga_names.specs.Naming.{labels_with_base, name_after, HasNamed}
 
 pub uses_of-empty : (base : List ℕ) → uses_of map.empty base ≡ 0
 uses_of-empty base = ap (λ u. unwrap_or u 0) (map.get-empty (slice_cmp nat_cmp) base)
@@ -88,7 +92,10 @@ module _ (names : Names) (label b : List ℕ) (base_is : b ≡ label_base names 
   unfolding with_use
   with_use-by_base = ap (with_use_of_base names) base_is
 
-  pub push-by_base : (earlier : List (List ℕ)) (new : Names) → HasNamed names earlier → new ≡ with_use_of_base names b → uses_of names.uses b < 2 ^ 32 → HasNamed new (earlier ++ label ∷ [])
+  pub push-by_base : (earlier : List (List ℕ)) (new : Names) → HasNamed names earlier
+      → new ≡ with_use_of_base names b → uses_of names.uses b < 2 ^ 32
+      → HasNamed new (earlier ++ label ∷ [])
   push-by_base earlier new has used room =
       subst (λ n. HasNamed n (earlier ++ label ∷ [])) (sym (used ∙ with_use-by_base))
-      (has_named-push names earlier label (subst (λ d. uses_of names.uses d < 2 ^ 32) base_is room) has)
+      (has_named-push names earlier label
+      (subst (λ d. uses_of names.uses d < 2 ^ 32) base_is room) has)

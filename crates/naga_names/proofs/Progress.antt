@@ -32,8 +32,12 @@ gives_then {a} {b} {c} {xs} {ys} one two = record {
 }
 
 -- the same from names that a map has in another order
-pub gives_alike : {names : Names} {refusal : Option NamerError} {before now : NameMap} {b : Progress} {xs : List Labelled} → now ≡ before → Gives (record { names = names; map = now; refusal = refusal }) xs b → Gives (record { names = names; map = before; refusal = refusal }) xs b
-gives_alike {names} {refusal} {before} {now} {b} {xs} same = subst (λ map. Gives (record { names = names; map = map; refusal = refusal }) xs b) same
+pub gives_alike : {names : Names} {refusal : Option NamerError} {before now : NameMap}
+    {b : Progress} {xs : List Labelled} → now ≡ before
+    → Gives (record { names = names; map = now; refusal = refusal }) xs b
+    → Gives (record { names = names; map = before; refusal = refusal }) xs b
+gives_alike {names} {refusal} {before} {now} {b} {xs} same =
+    subst (λ map. Gives (record { names = names; map = map; refusal = refusal }) xs b) same
 
 -- the same items, said in another way
 pub gives_same : {a b : Progress} {xs ys : List Labelled} → xs ≡ ys → Gives a xs b → Gives a ys b

@@ -1,5 +1,8 @@
 -- Names given to one item after another.
-use Rattle.std.proofs.Common.{◌≡◌, ℕ, ◌^◌, ◌≤◌, Bool, true, false, ◌&&◌, nat_lt, unwrap_or, cond, List, [], ◌∷◌, ◌++◌, map, length, get_or, take, drop, ◌+◌, ◌<◌, arith, add-zero, IfErr, IsErrAnd, Bor, Option, Some, None, String, HashMap, string_bytes, refl, sym, ap, subst, ◌∙◌, append_assoc, append-nil}
+use Rattle.std.proofs.Common.{◌≡◌, ℕ, ◌^◌, ◌≤◌, Bool, true, false, ◌&&◌, nat_lt, unwrap_or, cond}
+use Rattle.std.proofs.Common.{List, [], ◌∷◌, ◌++◌, map, length, get_or, take, drop, ◌+◌, ◌<◌, arith}
+use Rattle.std.proofs.Common.{add-zero, IfErr, IsErrAnd, Bor, Option, Some, None, String, HashMap}
+use Rattle.std.proofs.Common.{string_bytes, refl, sym, ap, subst, ◌∙◌, append_assoc, append-nil}
 use borrow.Author.Tests.{ltb-true}
 use Rattle.std.specs.List.{scan, fold, enumerate_from}
 use Rattle.std.specs.declared.result.Result.{Result}
@@ -16,7 +19,9 @@ use Rattle.naga_names.specs.declared.key.NameKey.{NameKey}
 use Rattle.naga_names.specs.declared.key.NameKey.TheVariants as key
 use Rattle.naga_names.specs.Naming.{Names, Uses, with_use, label_base, labels_with_base, name_after, HasNamed, new_names}
 use Rattle.naga_names.specs.Keys.{NameMap, same_key, names_in}
-use Rattle.naga_names.specs.Reset.{Labelled, output_label, output_word, returns, labels_of, is_member, item_name, key_fits, keys_fit, named_items, HasNamedItems, type_names_in, PutsBeginning, NamesItems}
+use Rattle.naga_names.specs.Reset.{Labelled, output_label, output_word, returns, labels_of}
+use Rattle.naga_names.specs.Reset.{is_member, item_name, key_fits, keys_fit, named_items}
+use Rattle.naga_names.specs.Reset.{HasNamedItems, type_names_in, PutsBeginning, NamesItems}
 use Rattle.naga_names.specs.Members.{PutsName, PutsNoName}
 use Rattle.naga_names.specs.Refusal.{IsRefusalOf, SomeNameIsFull, IsRefusalOfItems, RefusesItems}
 use Rattle.naga_names.specs.declared.error.NamerError.{NamerError}
@@ -220,7 +225,8 @@ module _ {X : Type 0} (entry : ℕ → X → Labelled) where
   entries_grown n xs ys = ap (map (λ p. entry p.0 p.1)) (enumerate_from-append n xs ys) ∙ map-append (λ p. entry p.0 p.1) (enumerate_from n xs) (enumerate_from (n + length xs) ys)
 
 -- ---- optional values, and the word of the last entry point
-pub option_or-assoc : {X : Type 0} (a b c : Option X) → option_or (option_or a b) c ≡ option_or a (option_or b c)
+pub option_or-assoc : {X : Type 0} (a b c : Option X)
+    → option_or (option_or a b) c ≡ option_or a (option_or b c)
 option_or-assoc (Some x) b c = refl
 option_or-assoc None b c = refl
 
@@ -229,10 +235,12 @@ option_or-none (Some x) = refl
 option_or-none None = refl
 
 pub output_label-push : (t : ℕ) (entry_points : List EntryPoint) (entry_point : EntryPoint) → output_label t (entry_points ++ entry_point ∷ []) ≡ option_or (cond (returns t entry_point) (output_word entry_point.stage) None) (output_label t entry_points)
-output_label-push t [] entry_point = sym (option_or-none (cond (returns t entry_point) (output_word entry_point.stage) None))
+output_label-push t [] entry_point =
+    sym (option_or-none (cond (returns t entry_point) (output_word entry_point.stage) None))
 output_label-push t (first ∷ entry_points) entry_point =
     ap (λ o. option_or o (cond (returns t first) (output_word first.stage) None)) (output_label-push t entry_points entry_point)
-    ∙ option_or-assoc (cond (returns t entry_point) (output_word entry_point.stage) None) (output_label t entry_points) (cond (returns t first) (output_word first.stage) None)
+    ∙ option_or-assoc (cond (returns t entry_point) (output_word entry_point.stage) None)
+    (output_label t entry_points) (cond (returns t first) (output_word first.stage) None)
 
 pub output_label-more : (t : ℕ) (entry_points : List EntryPoint) (i : ℕ) (entry_point : EntryPoint) → i < length entry_points → entry_point ≡ get_or entry_points i entry_point → output_label t (take (i + 1) entry_points) ≡ option_or (cond (returns t entry_point) (output_word entry_point.stage) None) (output_label t (take i entry_points))
 output_label-more t entry_points i entry_point lt is =

@@ -1,5 +1,9 @@
 -- How a spelling grows at its end, one character after another.
-use Rattle.std.proofs.Common.{◌≡◌, ◌⊎◌, inl, inr, ℕ, ◌+◌, ◌-◌, ◌<◌, Bool, true, false, not, ◌&&◌, ◌||◌, ◌==◌, cond, List, [], ◌∷◌, ◌++◌, length, get_or, drop, take, codes, refl, sym, ap, subst, ◌∙◌, arith, length-append, one-add, add-one, drop-cons, map, Bor, zero, suc, replicate, ◌/◌, ◌%◌, ◌^◌, append_assoc, append-nil}
+use Rattle.std.proofs.Common.{◌≡◌, ◌⊎◌, inl, inr, ℕ, ◌+◌, ◌-◌, ◌<◌, Bool, true, false, not, ◌&&◌}
+use Rattle.std.proofs.Common.{◌||◌, ◌==◌, cond, List, [], ◌∷◌, ◌++◌, length, get_or, drop, take}
+use Rattle.std.proofs.Common.{codes, refl, sym, ap, subst, ◌∙◌, arith, length-append, one-add}
+use Rattle.std.proofs.Common.{add-one, drop-cons, map, Bor, zero, suc, replicate, ◌/◌, ◌%◌, ◌^◌}
+use Rattle.std.proofs.Common.{append_assoc, append-nil}
 use Rattle.std.specs.Result.{is_ok, OnOk, OnErr}
 use Rattle.std.specs.Bool.{nat_eq}
 use Rattle.std.specs.Str.{chars}
@@ -11,7 +15,7 @@ use Rattle.std.specs.List.{flat_map, list_all, list_any, prefix_len, starts_with
 use Rattle.std.specs.Fmt.{digits, digits_onto, digit_glyph, padded_integral, format_spec, char_count, digits_output, styled_digits_output, AppendsText, ◌++?◌}
 use Rattle.std.specs.Option.{option_map}
 use Rattle.std.specs.declared.option.Option.TheVariants.{Some}
-use Rattle.std.specs.Char.{is_ascii_alphanumeric}
+use Rattle.std.specs.Char.{is_ascii_alphanumeric, is_ascii_lowercase}
 use Rattle.std.proofs.lemmas.Grind.{flat_map-append}
 use Rattle.std.proofs.lemmas.List.Folds.{list_all-append}
 use Rattle.std.proofs.lemmas.Bool.Decides.{nat_tests}
@@ -19,7 +23,11 @@ use Rattle.std.proofs.lemmas.Bool.{and_parts, not-true, or_parts}
 use Rattle.std.proofs.Math.Bool.{and-false}
 use borrow.Author.Tests.{eqb-true}
 use Rattle.naga_keywords.specs.Plain.{is_identifier_char}
-use Rattle.naga_names.specs.Label.{is_numeric, after_numerics, is_mark, is_foreign, hexadecimal, by_number, spelled, begins_separated, squeezed, begins_foreign, spelling, ends_separated, with_separator, kept_before, without_last_separators, or_unnamed, kept_off, base_of, IsPlain, IsSpelledAlike}
+use Rattle.naga_names.specs.Label.{is_numeric, after_numerics, is_mark, is_foreign, hexadecimal}
+use Rattle.naga_names.specs.Label.{by_number, spelled, begins_separated, squeezed, begins_foreign}
+use Rattle.naga_names.specs.Label.{spelling, ends_separated, with_separator, kept_before}
+use Rattle.naga_names.specs.Label.{without_last_separators, or_unnamed, kept_off, base_of, IsPlain}
+use Rattle.naga_names.specs.Label.{IsSpelledAlike}
 
 -- ---- numeric characters at the front
 pub after_numerics-drop : (cs : List ℕ) → after_numerics cs ≡ drop (prefix_len is_numeric cs) cs
@@ -271,14 +279,18 @@ ends_separated-push (d ∷ e ∷ cs) c = ends_separated-push (e ∷ cs) c
 pub alphanumeric_is_ascii : (c : ℕ) → is_ascii_alphanumeric c ≡ true → c < 128
 alphanumeric_is_ascii c e = grind (arith, nat_tests)
 
+pub lowercase_is_alphanumeric : (c : ℕ) → is_ascii_lowercase c ≡ true
+    → is_ascii_alphanumeric c ≡ true
+lowercase_is_alphanumeric c e = grind (arith, nat_tests)
+
 pub alike-nothing : IsSpelledAlike []
 alike-nothing = record { ascii = IsAscii-nil; alike = spelling-nil }
 
-pub alike-letter : (cs : List ℕ) (c : ℕ) → IsSpelledAlike cs → is_ascii_alphanumeric c ≡ true → IsSpelledAlike (cs ++ c ∷ []) × (ends_separated (cs ++ c ∷ []) ≡ false)
+pub alike-letter : (cs : List ℕ) (c : ℕ) → IsSpelledAlike cs → is_ascii_alphanumeric c ≡ true
+    → IsSpelledAlike (cs ++ c ∷ []) × (ends_separated (cs ++ c ∷ []) ≡ false)
 alike-letter cs c so_far letter =
     let other : (c == 95) ≡ false = grind (arith, nat_tests) in
-    let test : (is_mark c || c == 95) ≡ false = grind (arith, nat_tests) in
-    (
+    let test : (is_mark c || c == 95) ≡ false = grind (arith, nat_tests) in (
       record {
         ascii = IsAscii-push cs c so_far.ascii (alphanumeric_is_ascii c letter);
         alike = spelling-alphanumeric cs c test letter ∙ ap (λ text. text ++ c ∷ []) so_far.alike;
@@ -286,39 +298,57 @@ alike-letter cs c so_far letter =
       ends_separated-push cs c ∙ other,
     )
 
-pub alike-separator : (cs : List ℕ) (c : ℕ) → c ≡ 95 → IsSpelledAlike cs → ends_separated cs ≡ false → IsSpelledAlike (cs ++ c ∷ []) × (ends_separated (cs ++ c ∷ []) ≡ true)
-alike-separator cs c is so_far lone =
-    (
-      record {
-        ascii = IsAscii-push cs c so_far.ascii (omega (arith, is));
-        alike = ap (λ d. spelling (cs ++ d ∷ [])) is ∙ spelling-underscore cs ∙ ap with_separator so_far.alike ∙ with_separator-not cs lone ∙ ap (λ d. cs ++ d ∷ []) (sym is);
-      },
-      ends_separated-push cs c ∙ ap (λ d. d == 95) is,
-    )
+pub alike-separator : (cs : List ℕ) (c : ℕ) → c ≡ 95 → IsSpelledAlike cs → ends_separated cs ≡ false
+    → IsSpelledAlike (cs ++ c ∷ []) × (ends_separated (cs ++ c ∷ []) ≡ true)
+alike-separator cs c is so_far lone = (
+  record {
+    ascii = IsAscii-push cs c so_far.ascii (omega (arith, is));
+    alike = ap (λ d. spelling (cs ++ d ∷ [])) is ∙ spelling-underscore cs
+        ∙ ap with_separator so_far.alike ∙ with_separator-not cs lone
+        ∙ ap (λ d. cs ++ d ∷ []) (sym is);
+  },
+  ends_separated-push cs c ∙ ap (λ d. d == 95) is,
+)
 
-base_of-front : (prefixes : List (List ℕ)) (c : ℕ) (cs rest : List ℕ) → is_numeric c ≡ false → list_any (starts_with nat_eq (c ∷ cs)) prefixes ≡ false → IsSpelledAlike (c ∷ rest) → without_last_separators (c ∷ rest) ≡ c ∷ cs → base_of prefixes (chars (c ∷ rest)) ≡ c ∷ cs
+base_of-front : (prefixes : List (List ℕ)) (c : ℕ) (cs rest : List ℕ) → is_numeric c ≡ false
+    → list_any (starts_with nat_eq (c ∷ cs)) prefixes ≡ false → IsSpelledAlike (c ∷ rest)
+    → without_last_separators (c ∷ rest) ≡ c ∷ cs → base_of prefixes (chars (c ∷ rest)) ≡ c ∷ cs
 unfolding base_of
 base_of-front prefixes c cs rest first free alike done =
-    ap (λ text. kept_off prefixes (or_unnamed (without_last_separators (spelling (after_numerics text))))) (chars-IsAscii (c ∷ rest) alike.ascii)
-    ∙ ap (λ b. kept_off prefixes (or_unnamed (without_last_separators (spelling (cond b (after_numerics rest) (c ∷ rest)))))) first
-    ∙ ap (λ text. kept_off prefixes (or_unnamed text)) (ap without_last_separators alike.alike ∙ done)
+    ap (λ text.
+    kept_off prefixes (or_unnamed (without_last_separators (spelling (after_numerics text)))))
+    (chars-IsAscii (c ∷ rest) alike.ascii)
+    ∙ ap (λ b.
+    kept_off prefixes
+    (or_unnamed (without_last_separators (spelling (cond b (after_numerics rest) (c ∷ rest))))))
+    first
+    ∙ ap (λ text. kept_off prefixes (or_unnamed text))
+    (ap without_last_separators alike.alike ∙ done)
     ∙ ap (λ b. cond b (codes "gen_" ++ c ∷ cs) (c ∷ cs)) free
 
 -- a plain text is the base of itself, also where a `_` follows it
-pub base_of-plain : (prefixes : List (List ℕ)) (text label : List ℕ) → IsPlain text → (label ≡ text) ⊎ (label ≡ text ++ 95 ∷ []) → list_any (starts_with nat_eq text) prefixes ≡ false → base_of prefixes (chars label) ≡ text
-base_of-plain prefixes [] label plain either free = let some = plain.some in absurd (omega (arith, some))
+pub base_of-plain : (prefixes : List (List ℕ)) (text label : List ℕ) → IsPlain text
+    → (label ≡ text) ⊎ (label ≡ text ++ 95 ∷ [])
+    → list_any (starts_with nat_eq text) prefixes ≡ false → base_of prefixes (chars label) ≡ text
+base_of-plain prefixes [] label plain either free =
+    let some = plain.some in absurd (omega (arith, some))
 base_of-plain prefixes (c ∷ cs) label plain (inl same) free =
-    ap (λ text. base_of prefixes (chars text)) same ∙ base_of-front prefixes c cs cs plain.first free plain.alike (without_last-done (c ∷ cs) plain.last)
+    ap (λ text. base_of prefixes (chars text)) same
+    ∙ base_of-front prefixes c cs cs plain.first free plain.alike
+    (without_last-done (c ∷ cs) plain.last)
 base_of-plain prefixes (c ∷ cs) label plain (inr more) free =
     ap (λ text. base_of prefixes (chars text)) more
-    ∙ base_of-front prefixes c cs (cs ++ 95 ∷ []) plain.first free (alike-separator (c ∷ cs) 95 refl plain.alike plain.last).0 (without_last-push (c ∷ cs) ∙ without_last-done (c ∷ cs) plain.last)
+    ∙ base_of-front prefixes c cs (cs ++ 95 ∷ []) plain.first free
+    (alike-separator (c ∷ cs) 95 refl plain.alike plain.last).0
+    (without_last-push (c ∷ cs) ∙ without_last-done (c ∷ cs) plain.last)
 
 -- ---- what holds on `Ok`
 pub on_err : {T E P : Type 0} (r : Result T E) → P → OnErr r P
 on_err (Ok x) p = tt
 on_err (Err e) p = p
 
-pub on_ok_both : {T E P Q R : Type 0} (r : Result T E) → OnOk r P → OnOk r Q → (P → Q → R) → OnOk r R
+pub on_ok_both : {T E P Q R : Type 0} (r : Result T E) → OnOk r P → OnOk r Q → (P → Q → R)
+    → OnOk r R
 on_ok_both (Ok x) p q f = f p q
 on_ok_both (Err e) p q f = tt
 

@@ -1,5 +1,6 @@
 -- A map of counters, seen as the uses of each base.
-use Rattle.std.proofs.Common.{◌≡◌, ℕ, ◌+◌, Bool, true, false, cond, List, [], ◌∷◌, map, None, Some, unwrap_or, String, HashMap, string_bytes, refl, sym, ap, ◌∙◌}
+use Rattle.std.proofs.Common.{◌≡◌, ℕ, ◌+◌, Bool, true, false, cond, List, [], ◌∷◌, map, None, Some}
+use Rattle.std.proofs.Common.{unwrap_or, String, HashMap, string_bytes, refl, sym, ap, ◌∙◌}
 use Rattle.std.specs.FinMap as finite
 use Rattle.std.specs.HashMap.{get_by_text, UpdatesBy}
 use Rattle.std.specs.Map.{lookup}
@@ -32,12 +33,15 @@ module _ {Y : Type 0} where
   get-uses_in es q = finite.get-from_entries nat_list_cmp_total _ q ∙ found q es
 
   -- what `insert` leaves
-  pub uses_in-insert : {S : Type 0} (base : List ℕ) (later : ℕ) (old new : HashMap (String Y) ℕ S) → UpdatesBy string_eq (λ k. bytes_eq base (string_bytes k)) old new (Some later) → uses_in new.entries ≡ finite.insert (uses_in old.entries) base (later + 1)
+  pub uses_in-insert : {S : Type 0} (base : List ℕ) (later : ℕ) (old new : HashMap (String Y) ℕ S)
+      → UpdatesBy string_eq (λ k. bytes_eq base (string_bytes k)) old new (Some later)
+      → uses_in new.entries ≡ finite.insert (uses_in old.entries) base (later + 1)
   uses_in-insert base later old new updates =
       finite.same_map nat_list_cmp_total (finite.slice_cmp-IsAntisymmetric finite.nat_cmp-IsAntisymmetric) _ _ (λ q.
       get-uses_in new.entries q
       ∙ ap (option_map one_more) (hash_map_updates_text base old new (Some later) updates q)
-      ∙ ap (λ b. option_map one_more (cond b (Some later) (get_by_text old q))) (nat_list_eq_equiv.symm base q)
+      ∙ ap (λ b. option_map one_more (cond b (Some later) (get_by_text old q)))
+      (nat_list_eq_equiv.symm base q)
       ∙ either q (bytes_eq q base)
       ∙ sym (finite.get-insert nat_list_cmp_total (uses_in old.entries) base (later + 1) q
       ∙ (λ i. cond (is_eq-slice_cmp q base i) (Some (later + 1)) (get-uses_in old.entries q i))))
@@ -48,10 +52,14 @@ module _ {Y : Type 0} where
 
   -- how often a base was used, by what a look-up finds
   module _ (es : List (String Y × ℕ)) (uses : Uses) (is : uses_in es ≡ uses) (base : List ℕ) where
-    pub uses_of-absent : None ≡ lookup (λ k. bytes_eq base (string_bytes k)) es → uses_of uses base ≡ 0
+    pub uses_of-absent : None ≡ lookup (λ k. bytes_eq base (string_bytes k)) es
+        → uses_of uses base ≡ 0
     uses_of-absent none =
-        ap (λ u. uses_of u base) (sym is) ∙ ap (λ o. unwrap_or o 0) (get-uses_in es base ∙ ap (option_map one_more) (sym none))
+        ap (λ u. uses_of u base) (sym is) ∙ ap (λ o. unwrap_or o 0)
+        (get-uses_in es base ∙ ap (option_map one_more) (sym none))
 
-    pub uses_of-present : (later : ℕ) → Some later ≡ lookup (λ k. bytes_eq base (string_bytes k)) es → uses_of uses base ≡ later + 1
+    pub uses_of-present : (later : ℕ) → Some later ≡ lookup (λ k. bytes_eq base (string_bytes k)) es
+        → uses_of uses base ≡ later + 1
     uses_of-present later some =
-        ap (λ u. uses_of u base) (sym is) ∙ ap (λ o. unwrap_or o 0) (get-uses_in es base ∙ ap (option_map one_more) (sym some))
+        ap (λ u. uses_of u base) (sym is) ∙ ap (λ o. unwrap_or o 0)
+        (get-uses_in es base ∙ ap (option_map one_more) (sym some))

@@ -1,7 +1,8 @@
 -- The base of a label: the part of an identifier that comes from the label alone.
 --
 -- Throughout, c is a character (cs are several), d the next one, and n a number.
-use Rattle.std.specs.Prelude.{◌≡◌, ℕ, ◌-◌, Bool, false, not, ◌||◌, ◌&&◌, ◌==◌, if◌then◌else◌, List, [], ◌∷◌, ◌++◌, ◌<◌, length, slice_index, drop, replicate, codes}
+use Rattle.std.specs.Prelude.{◌≡◌, ℕ, ◌-◌, Bool, false, not, ◌||◌, ◌&&◌, ◌==◌, if◌then◌else◌, List}
+use Rattle.std.specs.Prelude.{[], ◌∷◌, ◌++◌, ◌<◌, length, slice_index, drop, replicate, codes}
 use Rattle.std.specs.Fmt.{digits}
 use Rattle.std.specs.List.{flat_map, list_any, starts_with}
 use Rattle.std.specs.Bool.{nat_eq}
@@ -98,7 +99,8 @@ pub record IsSpelledAlike (text : List ℕ) : Type 0 where
   pub ascii : IsAscii text
   pub alike : spelling text ≡ text
 
--- an ASCII text that a label keeps: spelled as it stands, with no number first and no `_` at its end
+-- an ASCII text that a label keeps: spelled as it stands,
+-- with no number first and no `_` at its end
 pub record IsPlain (text : List ℕ) : Type 0 where
   pub some : 0 < length text
   pub first : is_numeric (slice_index text 0) ≡ false

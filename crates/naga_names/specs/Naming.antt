@@ -1,7 +1,9 @@
 -- The names that a `Namer` gives.
 --
 -- Throughout, n are names, and p their parts as a pair.
-use Rattle.std.specs.Prelude.{◌≡◌, ℕ, ◌+◌, ◌-◌, ◌^◌, ◌<◌, ◌≤◌, Some, None, Bool, ◌||◌, ◌==◌, if◌then◌else◌, List, ◌++◌, length, slice_index, [], codes, count_by, unwrap_or, decimal, refl, string_bytes}
+use Rattle.std.specs.Prelude.{◌≡◌, ℕ, ◌+◌, ◌-◌, ◌^◌, ◌<◌, ◌≤◌, Some, None, Bool, ◌||◌, ◌==◌}
+use Rattle.std.specs.Prelude.{if◌then◌else◌, List, ◌++◌, length, slice_index, [], codes, count_by}
+use Rattle.std.specs.Prelude.{unwrap_or, decimal, refl, string_bytes}
 use Rattle.std.specs.Option.{option_map_or}
 use Rattle.std.specs.declared.option.Option.{Option}
 use Rattle.std.specs.declared.string.String.{String}

@@ -1,5 +1,6 @@
 -- Why a label gets no name, and why a module gets none.
-use Rattle.std.specs.Prelude.{◌≡◌, ⊤, ◌⊎◌, List, length, slice_get, Some, ℕ, ◌<◌, ◌^◌, ◌∷◌, ◌++◌, false}
+use Rattle.std.specs.Prelude.{◌≡◌, ⊤, ◌⊎◌, List, length, slice_get, Some, ℕ, ◌<◌, ◌^◌, ◌∷◌, ◌++◌}
+use Rattle.std.specs.Prelude.{false}
 use Rattle.naga_ir.specs.declared.module.EntryPoint.{EntryPoint}
 use Rattle.naga_ir.specs.declared.module.Function.{Function}
 use Rattle.naga_ir.specs.declared.module.Module.{Module}

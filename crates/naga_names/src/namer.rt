@@ -1,9 +1,13 @@
 //! Identifiers from labels.
-ghost use Rattle.std.specs.Prelude.{◌≡◌, ◌<◌, ◌^◌, true, ◌∷◌, [], ◌++◌, List, ℕ, map, length, false, codes, IfOk, IfErr, OnOk, OnErr, IsErr, string_bytes};
+ghost use Rattle.std.specs.Prelude.{◌≡◌, ◌<◌, ◌^◌, true, ◌∷◌, [], ◌++◌, List, ℕ, map, length};
+ghost use Rattle.std.specs.Prelude.{false, codes, IfOk, IfErr, OnOk, OnErr, IsErr, string_bytes};
 ghost use Rattle.naga_names.specs.Starts.{start_of};
-ghost use Rattle.naga_names.specs.Naming.{Names, names_code, no_names, label_or, first_name, is_taken, name_of, name_of_base, uses_of, with_use, with_use_of_base, IsFull, HasNamed, name_after};
+ghost use Rattle.naga_names.specs.Naming.{Names, names_code, no_names, label_or, first_name};
+ghost use Rattle.naga_names.specs.Naming.{is_taken, name_of, name_of_base, uses_of, with_use};
+ghost use Rattle.naga_names.specs.Naming.{with_use_of_base, IsFull, HasNamed, name_after};
 ghost use Rattle.naga_names.specs.Members.{PutsName, PutsNoName, HasNamedMembers, RefusesMembers};
-ghost use Rattle.naga_names.specs.Refusal.{IsRefusalOf, IsRefusalOfBase, IsResetRefusal, RefusesItems, SomeNameIsFull, SomeKeyIsFull, KeysRunOut};
+ghost use Rattle.naga_names.specs.Refusal.{IsRefusalOf, IsRefusalOfBase, IsResetRefusal};
+ghost use Rattle.naga_names.specs.Refusal.{RefusesItems, SomeNameIsFull, SomeKeyIsFull, KeysRunOut};
 ghost use Rattle.naga_names.specs.declared.error.NamerError.TheVariants.{KeyFull};
 ghost use Rattle.naga_names.specs.Keys.{names_in};
 ghost use Rattle.naga_names.specs.Reset.{labelled_members, labelled_items, HasNamedItems, PutsBeginning, NamesItems};

@@ -49,6 +49,8 @@ impl FunctionText<'_> {
         self.write_name(&NameKey::FunctionLocal(self.handle, local), out);
     }
 
+    // In each caller the kind of the key is known, so that hashing it takes no choice there.
+    #[inline(always)]
     fn write_name<W: TextSink>(&self, key: &NameKey, out: &mut Output<'_, W>)
         requires { names_in self.now.names.now key.now
             ≡ Some (name_in (module_names self.now.shader.now) key.now) }

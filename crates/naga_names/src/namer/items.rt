@@ -435,8 +435,8 @@ impl Naming {
     }
 }
 
-/// Makes room for the names of the module, so that the map need not grow while it gets them. Where there
-/// is no memory for all of them at once, the map grows as they come.
+/// Makes room for the names of the module, so that the map need not grow while it gets them. Where
+/// there is no memory for all of them at once, the map grows as they come.
 fn make_room(module: &Module, output: &mut HashMap<NameKey, String>)
     ensures { names_in output.new ≡ names_in output.old }
 {
@@ -451,7 +451,9 @@ fn name_count(module: &Module) -> usize {
         .saturating_add(module.constants.len())
         .saturating_add(module.overrides.len());
     for (_, ty) in module.types.iter() {
-        count = count.saturating_add(members_of(&ty.inner).len()).saturating_add(1);
+        count = count
+            .saturating_add(members_of(&ty.inner).len())
+            .saturating_add(1);
     }
     for entry_point in &module.entry_points {
         count = count.saturating_add(own_name_count(&entry_point.function));

@@ -1,9 +1,15 @@
 //! The base of a label: the part of an identifier that comes from the label alone.
-ghost use Rattle.std.specs.Prelude.{◌≡◌, ℕ, ◌<◌, length, false, true, slice_index, codes, ◌⊎◌, IfSome, IsTrue, List, ◌∷◌, [], ◌++◌, ◌||◌, ◌==◌, map, IfOk, OnOk, string_bytes};
+ghost use Rattle.std.specs.Prelude.{◌≡◌, ℕ, ◌<◌, length, false, true, slice_index, codes, ◌⊎◌};
+ghost use Rattle.std.specs.Prelude.{IfSome, IsTrue, List, ◌∷◌, [], ◌++◌, ◌||◌, ◌==◌, map, IfOk};
+ghost use Rattle.std.specs.Prelude.{OnOk, string_bytes};
 ghost use Rattle.std.specs.List.{list_any, starts_with};
 ghost use Rattle.std.specs.Bool.{nat_eq};
+ghost use Rattle.std.specs.Char.{is_ascii_alphanumeric};
 ghost use Rattle.std.specs.Str.{chars};
-ghost use Rattle.naga_names.specs.Label.{is_numeric, is_mark, is_foreign, by_number, after_numerics, spelling, with_separator, without_last_separators, or_unnamed, base_of, ends_separated, IsPlain, IsSpelledAlike};
+ghost use Rattle.naga_names.specs.Label.{is_numeric, is_mark, is_foreign, by_number};
+ghost use Rattle.naga_names.specs.Label.{after_numerics, spelling, with_separator};
+ghost use Rattle.naga_names.specs.Label.{without_last_separators, or_unnamed, base_of};
+ghost use Rattle.naga_names.specs.Label.{ends_separated, IsPlain, IsSpelledAlike};
 ghost use Rattle.naga_names.specs.Naming.{ends_in_digit};
 
 use std::alloc::{AllocError, Global};
@@ -22,8 +28,8 @@ pub fn base(alloc: Global, prefixes: &[&'static str], label: &str) -> Result<Str
     Ok(base)
 }
 
-/// The base of the label, where identifiers keep off the prefixes, if it is seen to stand in the label
-/// itself: then it needs no text of its own.
+/// The base of the label, where identifiers keep off the prefixes, if it is seen to stand in the
+/// label itself: then it needs no text of its own.
 pub fn own_base<'a>(prefixes: &[&'static str], label: &'a str) -> Option<&'a str>
     ensures { IfSome result (λ base.
         base.now ≡ base_of (map (λ p. p.now) prefixes.now) (chars label.now)) }
@@ -70,7 +76,7 @@ fn is_spelled_alike(text: &str) -> bool
     let bytes = text.as_bytes();
     let mut is_separated = false;
     for byte in bytes {
-        if byte.is_ascii_alphanumeric() {
+        if is_letter_or_digit(*byte) {
             is_separated = false;
         } else if *byte == b'_' && !is_separated {
             is_separated = true;
@@ -79,6 +85,16 @@ fn is_spelled_alike(text: &str) -> bool
         }
     }
     !is_separated
+}
+
+/// Whether the byte is a letter or a digit of ASCII. Most bytes of labels are small letters.
+fn is_letter_or_digit(byte: u8) -> bool
+    ensures { result ≡ is_ascii_alphanumeric byte }
+{
+    if byte.is_ascii_lowercase() {
+        return true;
+    }
+    byte.is_ascii_alphanumeric()
 }
 
 /// The text without the `_` at its end, or `unnamed` where nothing is left of it.

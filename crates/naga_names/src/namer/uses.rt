@@ -1,5 +1,6 @@
 //! How often each base was used.
-ghost use Rattle.std.specs.Prelude.{◌≡◌, ℕ, ◌+◌, ◌^◌, ◌<◌, map, IfSome, IfOk, IfErr, IsErr, OnOk, OnErr, string_bytes};
+ghost use Rattle.std.specs.Prelude.{◌≡◌, ℕ, ◌+◌, ◌^◌, ◌<◌, map, IfSome, IfOk, IfErr, IsErr, OnOk};
+ghost use Rattle.std.specs.Prelude.{OnErr, string_bytes};
 ghost use Rattle.std.specs.Option.{IfNone, option_map};
 ghost use Rattle.std.specs.Cmp.Lexicographic.{slice_cmp};
 ghost use Rattle.std.specs.Coded.{coded_ℕ, coded_list};
@@ -39,13 +40,9 @@ impl Uses {
         }
     }
 
-    /// The next name of a base that was used before, and one more use of it. A base that was never used
-    /// has none. A refused call changes nothing.
-    pub fn later_name(
-        &mut self,
-        alloc: Global,
-        base: &str,
-    ) -> Result<Option<String>, NamerError>
+    /// The next name of a base that was used before, and one more use of it. A base that was never
+    /// used has none. A refused call changes nothing.
+    pub fn later_name(&mut self, alloc: Global, base: &str) -> Result<Option<String>, NamerError>
         ensures ok { IfOk result (λ name.
             GivesLaterName self.old base.now (option_map string_bytes name) self.new) }
         ensures err { OnErr result (self.new ≡ self.old) }

@@ -3,7 +3,8 @@ use Rattle.std.proofs.lemmas.Bool.{not-true}
 use Rattle.std.proofs.lemmas.List.{take_more}
 use Rattle.naga_names.specs.Label.{ends_separated, IsSpelledAlike}
 use Rattle.naga_names.proofs.Spellings.{alike-nothing, alike-letter, alike-separator}
-use Rattle.naga_names.proofs.namer.label.is_spelled_alike.Goals.{then-is_ascii_alphanumeric, else-is_ascii_alphanumeric+then-byte-eq95+then-not-is_separated}
+use Rattle.naga_names.proofs.namer.label.is_spelled_alike.Goals.{then-is_letter_or_digit}
+use Rattle.naga_names.proofs.namer.label.is_spelled_alike.Goals.{else-is_letter_or_digit+then-byte-eq95+then-not-is_separated}
 use Rattle.naga_names.proofs.namer.label.is_spelled_alike.Goals as goal
 
 pub loop-byte-init : goal.loop-byte-init
@@ -11,18 +12,30 @@ loop-byte-init c = record { alike = alike-nothing; separated = refl }
 
 pub loop-byte-preserved : goal.loop-byte-preserved
 loop-byte-preserved c =
-    let more = take_more c.as_bytes-bytes.result.now c.loop-byte.byte-index 0 c.loop-byte-test.true in
-    elim c.if-is_ascii_alphanumeric.branch [
-      then-is_ascii_alphanumeric w ↦
-      let step = alike-letter _ _ c.loop-byte.invariant.alike (sym c.is_ascii_alphanumeric.ensures.value ∙ w.if-is_ascii_alphanumeric.true) in
-      record { alike = subst IsSpelledAlike (sym more) step.0; separated = ap ends_separated more ∙ step.1 ∙ sym w.is_separated-is }
-    | else-is_ascii_alphanumeric+then-byte-eq95+then-not-is_separated w ↦
-      let step = alike-separator _ _ w.if-byte-eq95.true c.loop-byte.invariant.alike (c.loop-byte.invariant.separated ∙ w.if-not-is_separated.true) in
-      record { alike = subst IsSpelledAlike (sym more) step.0; separated = ap ends_separated more ∙ step.1 ∙ sym w.is_separated-is }
+    let more =
+    take_more c.as_bytes-bytes.result.now c.loop-byte.byte-index 0 c.loop-byte-test.true in
+    elim c.if-is_letter_or_digit.branch [
+      | then-is_letter_or_digit w ↦
+          let step = alike-letter _ _ c.loop-byte.invariant.alike
+          (sym c.is_letter_or_digit.ensures ∙ w.if-is_letter_or_digit.true) in
+          record {
+            alike = subst IsSpelledAlike (sym more) step.0;
+            separated = ap ends_separated more
+                ∙ step.1 ∙ sym w.is_separated-is;
+          }
+      | else-is_letter_or_digit+then-byte-eq95+then-not-is_separated w ↦
+          let step = alike-separator _ _ w.if-byte-eq95.true c.loop-byte.invariant.alike
+          (c.loop-byte.invariant.separated ∙ w.if-not-is_separated.true) in
+          record {
+            alike = subst IsSpelledAlike (sym more) step.0;
+            separated = ap ends_separated more
+                ∙ step.1 ∙ sym w.is_separated-is;
+          }
     ]
 
 pub returns : goal.returns
 returns c = λ lone.
     let P : List ℕ → Type 0 = λ text. IsSpelledAlike text × (ends_separated text ≡ false) in
-    subst P (take_all c.loop-byte.byte-index c.as_bytes-bytes.result.now c.loop-byte-test.false ∙ c.as_bytes-bytes.ensures.value)
+    subst P (take_all c.loop-byte.byte-index c.as_bytes-bytes.result.now c.loop-byte-test.false
+    ∙ c.as_bytes-bytes.ensures.value)
     (c.loop-byte.invariant.alike, c.loop-byte.invariant.separated ∙ not-true _ lone)
