@@ -1,6 +1,6 @@
-pub mod Accepting
+pub mod Accepted
 pub mod Fitting
-pub mod Operating
+pub mod Operations
 pub mod Part
 pub mod ShapeKinds
 pub mod Shapes

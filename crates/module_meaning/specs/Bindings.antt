@@ -6,7 +6,8 @@ use Rattle.naga_info.specs.declared.info.ModuleInfo.{ModuleInfo}
 use Rattle.naga_words.specs.Contexts.{Names as TypeNames}
 use Rattle.shader_runs.specs.Scope.{Naming}
 use Rattle.shader_runs.specs.Bindings.{text_lets, function_bindings, bound_names}
-use Rattle.wgsl_text.specs.Tree.{Function, Program}
+use Rattle.wgsl_text.specs.Functions.{Function}
+use Rattle.wgsl_text.specs.Declarations.{Program}
 use Rattle.module_meaning.specs.Names.{module_names}
 use Rattle.module_meaning.specs.Types.{told_spelling, type_names}
 use Rattle.module_meaning.specs.Shapes.{function_shapes, namings_from, namings}

@@ -5,7 +5,7 @@ use Rattle.naga_ir.specs.declared.module.FunctionResult.{FunctionResult}
 use Rattle.naga_ir.specs.declared.module.Module as ir_module
 use Rattle.naga_ir.specs.declared.types.Type_.{Type_}
 use Rattle.naga_names.specs.Keys.{NameMap}
-use Rattle.wgsl_text.specs.Tree.{Function}
+use Rattle.wgsl_text.specs.Functions.{Function}
 use Rattle.module_meaning.specs.Names.{function_name}
 use Rattle.naga_words.specs.Contexts.{names_of, Names as TypeNames}
 use Rattle.module_meaning.specs.Types.{spelled_type}

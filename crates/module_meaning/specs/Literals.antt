@@ -6,7 +6,7 @@ use Rattle.naga_ir.specs.declared.types.ScalarKind.{ScalarKind}
 use Rattle.naga_ir.specs.declared.types.ScalarKind.TheVariants as kind
 use Rattle.naga_ir.specs.declared.types.TypeInner.TheVariants as inner
 use Rattle.module_meaning.specs.TypeIdentity.{Itself, unspelled}
-use Rattle.wgsl_text.specs.Tree.{Literal}
+use Rattle.wgsl_text.specs.Literals.{Literal}
 use Rattle.shader_runs.specs.Value.{Value, Truth as TruthValue, Whole, Opaque}
 
 -- the word of an abstract type, which no text spells; its values have eight bytes

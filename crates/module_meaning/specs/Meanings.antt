@@ -2,7 +2,7 @@
 -- module is stuck.
 use Rattle.naga_ir.specs.declared.module.Module.{Module}
 use Rattle.naga_info.specs.declared.info.ModuleInfo.{ModuleInfo}
-use Rattle.wgsl_text.specs.Tree.{Program}
+use Rattle.wgsl_text.specs.Declarations.{Program}
 use Rattle.shader_runs.specs.World.{World, Meaning, Settings}
 use Rattle.shader_runs.specs.Premises.{IsTyped, SettingsFit}
 use Rattle.shader_runs.specs.Correct.{AlwaysKeepsTypes, KeepsTypes}

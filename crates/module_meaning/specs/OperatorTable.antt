@@ -26,9 +26,8 @@ use Rattle.naga_ir.specs.declared.operators.Direction.{Direction}
 use Rattle.naga_ir.specs.declared.operators.Direction.TheVariants as direction
 use Rattle.wgsl_words.specs.Words.{math_word, operator_text, unary_text}
 use Rattle.naga_words.specs.Words.{vector_word}
-use Rattle.wgsl_text.specs.Grammar.{IsType}
+use Rattle.wgsl_text.specs.Types.{TypeSpecifier, IsType}
 use Rattle.wgsl_text.specs.Reading.{type_layout}
-use Rattle.wgsl_text.specs.Tree.{TypeSpecifier}
 
 -- at which level an image is sampled: that of the derivatives; zero; a given one; that of the
 -- derivatives and a bias; that of given derivatives

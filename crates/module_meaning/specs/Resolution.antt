@@ -4,7 +4,7 @@ use Rattle.std.specs.Prelude.{◌≡◌, map, Some}
 use Rattle.naga_ir.specs.declared.module.Module.{Module}
 use Rattle.naga_info.specs.declared.info.ModuleInfo.{ModuleInfo}
 use Rattle.shader_runs.specs.Resolution.{text_targets, module_targets}
-use Rattle.wgsl_text.specs.Tree.{Program}
+use Rattle.wgsl_text.specs.Declarations.{Program}
 use Rattle.module_meaning.specs.Names.{module_names}
 use Rattle.module_meaning.specs.Shapes.{program_shape, namings}
 use Rattle.text_meaning.specs.Abstraction.{program_read}

@@ -49,7 +49,7 @@ use naga_ir::{
 ///   where the function has no result.
 ///
 /// The counts are not looked at. Each other module is answered `false`.
-#[tactic(auto, using(module_meaning::proofs::Accepting::functions_fit_length), unfolding(module_meaning::specs::Accepted::is_accepted))]
+#[tactic(auto, using(module_meaning::proofs::Accepted::functions_fit_length), unfolding(module_meaning::specs::Accepted::is_accepted))]
 pub fn accepts(module: &Module, info: &ModuleInfo) -> bool
     ensures { result ≡ is_accepted «module».now info.now }
 {

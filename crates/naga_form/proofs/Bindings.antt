@@ -16,20 +16,26 @@ use Rattle.shader_runs.specs.Program.{binds, from}
 use Rattle.shader_runs.specs.Scope.{Handles, Naming, at_start, bound_name, given_after, given_by, given_by_all, after_one, after, after_all}
 use Rattle.shader_runs.specs.Bindings.{text_lets, Binding, function_bindings, emit_bindings, statement_bindings, statements_bindings, cases_bindings}
 use Rattle.shader_runs.proofs.Bindings.{binds_as_meant}
-use Rattle.wgsl_text.specs.Tree.{TypeSpecifier}
+use Rattle.wgsl_text.specs.Types.{TypeSpecifier}
+use Rattle.naga_form.specs.Expressions.{as_value, own_if, plain_form}
+use Rattle.naga_form.specs.Statements.{let_form, then_if, lets_form, return_line, simple_form}
+use Rattle.naga_form.specs.Statements.{loop_form, label_form, line_form, lines_form, cases_form}
+use Rattle.naga_form.specs.Functions.{functions_form}
+use Rattle.naga_form.specs.Declarations.{written_program}
+use Rattle.wgsl_text.proofs.Text.{text-append}
+use Rattle.naga_form.proofs.TypeTrees.{type_row, inner_tree_row}
+use Rattle.wgsl_text.specs.Expressions as tree_expressions
+use Rattle.wgsl_text.specs.Functions as tree_functions
+use Rattle.wgsl_text.specs.Statements as tree
 use Rattle.wgsl_text.specs.Reading.{type_layout}
-use Rattle.wgsl_text.proofs.RowText.{text-append}
 use Rattle.std.specs.Option.{option_map, option_and_then}
 use Rattle.naga_info.specs.declared.info.TypeResolution.{TypeResolution}
 use Rattle.naga_info.specs.declared.info.TypeResolution.TheVariants as resolution
 use Rattle.naga_form.specs.TypeTrees.{resolution_tree}
-use Rattle.naga_form.proofs.TypeTexts.{type_row, inner_tree_row}
-use Rattle.wgsl_text.specs.Tree as tree
 use Rattle.naga_form.specs.Types.{told_type}
 use Rattle.module_meaning.specs.Types.{told_spelling, spelled_resolution}
 use Rattle.module_meaning.specs.Names.{module_names}
 use Rattle.module_meaning.specs.Shapes.{simple_shape, statement_shape, statements_shape, cases_shape, function_shapes, program_shape, namings_from, namings, outer_names, function_naming}
-use Rattle.naga_form.specs.Form.{as_value, own_if, plain_form, let_form, then_if, lets_form, return_line, simple_form, loop_form, label_form, line_form, lines_form, cases_form, functions_form, written_program}
 use Rattle.text_meaning.specs.Bindings.{statement_annotations, statements_annotations, cases_annotations}
 use Rattle.module_meaning.specs.Bindings.{module_annotations, BindsAs}
 use Rattle.naga_form.proofs.Runs.{program_reads}
@@ -42,7 +48,7 @@ module _ (n : Naming) (told : ℕ → Option TypeSpecifier) (es : List ir.Expres
   told_both : {us vs : List (Option (List ℕ))} (first second : List Binding) → us ≡ told_of first → vs ≡ told_of second → us ++ vs ≡ told_of (first ++ second)
   told_both first second a b = (λ i. a i ++ b i) ∙ sym (map-append (λ b. option_map type_layout (told b.handle)) first second)
 
-  let_tells : (t : Option TypeSpecifier) (x : List ℕ) (e : tree.Expression) → statement_annotations (let_form t x e) ≡ option_map type_layout t ∷ []
+  let_tells : (t : Option TypeSpecifier) (x : List ℕ) (e : tree_expressions.Expression) → statement_annotations (let_form t x e) ≡ option_map type_layout t ∷ []
   let_tells None x e = refl
   let_tells (Some t) x e = refl
 
@@ -50,7 +56,7 @@ module _ (n : Naming) (told : ℕ → Option TypeSpecifier) (es : List ir.Expres
   return_tells s None = refl
   return_tells s (Some h) = refl
 
-  loop_tells : (body continuing : tree.Statements) (e : Option tree.Expression) → statement_annotations (loop_form body continuing e) ≡ statements_annotations body ++ statements_annotations continuing
+  loop_tells : (body continuing : tree.Statements) (e : Option tree_expressions.Expression) → statement_annotations (loop_form body continuing e) ≡ statements_annotations body ++ statements_annotations continuing
   loop_tells body continuing None = refl
   loop_tells body continuing (Some e) = refl
 
@@ -119,7 +125,7 @@ told_spells true t es h = by (slice_get es h)
     by None = refl
     by (Some k) = row k.ty
 
-functions_tell : (explicit : Bool) (names : NameMap) (types : List Type_) (g : ℕ) (fs : List ir_function.Function) (ess : List (List ExpressionInfo)) → map (λ (f : tree.Function). statements_annotations f.body) (functions_form explicit names types g fs ess) ≡ module_annotations explicit (names_of types names) (namings_from names g (function_shapes types fs ess)) ess
+functions_tell : (explicit : Bool) (names : NameMap) (types : List Type_) (g : ℕ) (fs : List ir_function.Function) (ess : List (List ExpressionInfo)) → map (λ (f : tree_functions.Function). statements_annotations f.body) (functions_form explicit names types g fs ess) ≡ module_annotations explicit (names_of types names) (namings_from names g (function_shapes types fs ess)) ess
 functions_tell explicit names types g [] ess = refl
 functions_tell explicit names types g (f ∷ fs) [] = refl
 functions_tell explicit names types g (f ∷ fs) (es ∷ ess) =

@@ -27,28 +27,28 @@ use Rattle.shader_runs.specs.Scope.{Naming, given_by_all, given_by_cases, given_
 use Rattle.shader_runs.specs.Premises.{AllBelow, WordFits, IsLiteral, literal_type, LeafFits, ReturnFits, AreRegular, AreDistinct, FunctionFits, FixedKey, NumberedKey, GivenKey, ArgumentName, LocalName, ConstantName, GlobalName, OperatesBy, StandsFree, IsNoName, IsRegular, IsName, NameKey, name_at}
 use Rattle.naga_info.proofs.Options.{then_some}
 use Rattle.shader_runs.proofs.Update.{and_left, and_right}
-use Rattle.naga_names.proofs.Counts.{element}
+use Rattle.naga_form.proofs.TypeIdentity.{declared_spelling}
+use Rattle.naga_form.proofs.Names.{numbered_distinct, name_is, item_is_identifier}
+use Rattle.naga_form.proofs.Names.{item_not_numbered, items_tell, function_item, argument_item}
+use Rattle.naga_form.proofs.Names.{function_there, argument_there}
+use Rattle.naga_names.proofs.Refusal.{element}
+use Rattle.module_meaning.proofs.Accepted.{function_fits_expressions, function_fits_block}
+use Rattle.module_meaning.proofs.Accepted.{function_fits_word_at, local_word_at, load_word_at}
+use Rattle.module_meaning.proofs.Accepted.{applied_at}
 use Rattle.module_meaning.specs.Names.{argument_name, numbered_name, wgsl_names, module_names, name_in, function_name, local_name, numbered_text, NamesAreCounted}
 use Rattle.module_meaning.specs.Types.{value_type, pointer_to_local, declared_type, type_spelled, type_told}
 use Rattle.naga_info.specs.declared.info.TypeResolution.TheVariants.{Handle}
 use Rattle.module_meaning.specs.TypeIdentity.{Nothing, identity}
-use Rattle.naga_form.proofs.TypeIdentities.{declared_spelling}
 use Rattle.module_meaning.specs.Literals.{literal_value}
 use Rattle.module_meaning.specs.Shapes.{no_parts, expression_shape, statements_shape, cases_shape}
 use Rattle.module_meaning.specs.Shapes.{function_shape, outer_names, function_naming}
 use Rattle.module_meaning.specs.Shapes.{statement_shape, given_from}
-use Rattle.naga_form.proofs.Named.{numbered_distinct, name_is, item_not_numbered, items_tell}
-use Rattle.naga_form.proofs.Named.{item_is_identifier, function_item, argument_item, function_there}
-use Rattle.naga_form.proofs.Named.{argument_there}
 use Rattle.naga_form.proofs.Facts.{returned_at}
 use Rattle.std.proofs.lemmas.Option.{slice_get-map}
 use Rattle.indexmap.specs.IndexMap.{keys}
 use Rattle.naga_ir.specs.declared.expression.Expression.TheVariants as expression
 use Rattle.naga_ir.specs.declared.operators.BinaryOperator.TheVariants as operator
 use Rattle.naga_ir.specs.declared.module.Module.{Module}
-use Rattle.module_meaning.proofs.Accepting.{function_fits_word_at, function_fits_expressions}
-use Rattle.module_meaning.proofs.Accepting.{function_fits_block, local_word_at, load_word_at}
-use Rattle.module_meaning.proofs.Accepting.{applied_at}
 use Rattle.naga_keywords.specs.Plain.{is_word}
 use Rattle.naga_names.specs.Naming.{label_or}
 use Rattle.naga_names.specs.declared.key.NameKey.TheVariants as key

@@ -19,9 +19,10 @@ use Rattle.naga_info.specs.declared.info.ModuleInfo.{ModuleInfo}
 use Rattle.std.proofs.lemmas.Option.{same_Some}
 use Rattle.module_meaning.specs.Spelled.{spelling_at, local_pointer}
 use Rattle.module_meaning.specs.Accepted.{is_accepted, function_fits, functions_fit, statement_fits, block_fits}
-use Rattle.module_meaning.proofs.Accepting.{accepted_parts, function_fits_block, load_word_at}
-use Rattle.module_meaning.proofs.Accepting.{store_fits_word, applied_at, IsOperation}
-use Rattle.module_meaning.proofs.Operating.{IsApplied, accepted_operations_agree}
+use Rattle.naga_form.specs.Declarations.{written_program}
+use Rattle.module_meaning.proofs.Accepted.{accepted_parts, function_fits_block, load_word_at}
+use Rattle.module_meaning.proofs.Accepted.{IsOperation, applied_at, store_fits_word}
+use Rattle.module_meaning.proofs.Operations.{IsApplied, accepted_operations_agree}
 use Rattle.module_meaning.proofs.Shapes.{accepted_is, accepted_shape, application_any, operator_any}
 use Rattle.module_meaning.specs.Applications.{Application, application_of}
 use Rattle.module_meaning.specs.OperatorTable.{run_word}
@@ -50,7 +51,6 @@ use Rattle.module_meaning.specs.Shapes.{operator_shape, expression_shape, statem
 use Rattle.module_meaning.specs.Shapes.{statements_shape, function_shape, function_shapes}
 use Rattle.module_meaning.specs.Shapes.{program_shape, namings, outer_names}
 use Rattle.wgsl_text.specs.Requests.{is_request}
-use Rattle.naga_form.specs.Form.{written_program}
 use Rattle.module_meaning.specs.Meanings.{OperatorsAreConsistent, HasTypedMeaning, HasTypedWorld, IsNeverStuck}
 use Rattle.naga_form.proofs.Fits.{typed_as, at_any}
 use Rattle.naga_form.proofs.ScopeRules.{scopes_are_checked}

@@ -8,17 +8,17 @@ use Rattle.std.proofs.lemmas.Bool.{false≢true, true≢false, and_parts, not-tr
 use Rattle.std.proofs.lemmas.Option.{same_Some}
 use Rattle.naga_ir.specs.declared.operators.UnaryOperator.TheVariants as unary
 use Rattle.wgsl_text.specs.Words.{stands_in, is_builtin}
-use Rattle.wgsl_text.specs.Grammar.{IsType, is_type, PartsRule, TakesNone, rule_among, type_templates}
+use Rattle.wgsl_text.specs.Types.{TypeSpecifier, Named, is_type, PartsRule, TakesNone, rule_among}
+use Rattle.wgsl_text.specs.Types.{type_templates, IsType}
+use Rattle.wgsl_text.proofs.Words.{all_words, passes}
+use Rattle.naga_form.proofs.OperatorTable.{mathematical, others, first_with, operator_of, told}
 use Rattle.wgsl_text.specs.Reading.{type_layout}
-use Rattle.wgsl_text.specs.Tree.{TypeSpecifier, Named}
-use Rattle.wgsl_text.proofs.WordLemmas.{all_words, passes}
 use Rattle.wgsl_text.specs.Requests.{request_words, is_request}
 use Rattle.module_meaning.specs.OperatorTable.{Operator, UnarySign, Sample, Gather, Texel}
 use Rattle.module_meaning.specs.OperatorTable.{OnlyTexel, Automatic, Zero, CooperativeLoad}
 use Rattle.module_meaning.specs.OperatorTable.{CooperativeStore, Construct, Convert, Reinterpret}
 use Rattle.module_meaning.specs.OperatorTable.{with_type, operator_word, own_word, run_word}
 use Rattle.module_meaning.specs.OperatorTable.{one_word, asks, is_untyped, TypeIsSound}
-use Rattle.naga_form.proofs.OperatorWords.{others, mathematical, first_with, operator_of, told}
 use Rattle.naga_form.proofs.TypedWords.{head_of, head_is, no_type_begins}
 
 keeps_text : (o : Operator) → operator_word (one_word o) ≡ operator_word o

@@ -12,7 +12,14 @@ use Rattle.module_meaning.specs.Applications.{Application, application_of}
 use Rattle.module_meaning.specs.OperatorTable.{Operator, BinarySign, UnarySign, Construct, Convert}
 use Rattle.module_meaning.specs.OperatorTable.{Reinterpret, run_word}
 use Rattle.module_meaning.specs.Shapes.{operator_shape, application_shape}
-use Rattle.naga_form.specs.Form.{PlainForm, ValueForm, as_value, value_forms, application_plain}
+use Rattle.wgsl_text.specs.Types.{TypeSpecifier, Named}
+use Rattle.wgsl_text.specs.Expressions.{Call, operands, binary_pieces, unary_mark, IsExpression}
+use Rattle.naga_form.specs.Expressions.{PlainForm, ValueForm, as_value, value_forms}
+use Rattle.naga_form.specs.Expressions.{application_plain}
+use Rattle.wgsl_text.specs.Functions.{Each}
+use Rattle.wgsl_text.proofs.Building.{called_words}
+use Rattle.wgsl_text.proofs.Types.{named_text, template_text, type_part_text}
+use Rattle.wgsl_text.specs.Types as tree
 use Rattle.naga_form.specs.Operators.{operator_form, unary_form, Notation, Infix, Prefix, Called}
 use Rattle.naga_form.specs.Operators.{notation, callee, applied_form}
 use Rattle.shader_runs.specs.Form as runs
@@ -20,16 +27,9 @@ use Rattle.shader_runs.specs.Text.{Tree, Trees, more, no_more, Apply, LogicalOf}
 use Rattle.shader_runs.specs.Scope.{Naming}
 use Rattle.shader_runs.specs.Value.{ValueType, ShortCircuitAnd, ShortCircuitOr}
 use Rattle.text_meaning.specs.Abstraction.{expression_read, arguments_read, called_word}
-use Rattle.wgsl_text.proofs.Calls.{called_words}
-use Rattle.wgsl_text.proofs.RowText.{named_text, template_text, type_part_text}
-use Rattle.wgsl_text.specs.Grammar.{IsExpression}
-use Rattle.wgsl_text.specs.GrammarOfLines.{Each}
-use Rattle.wgsl_text.specs.Pieces.{binary_pieces, unary_mark}
 use Rattle.wgsl_text.specs.Reading.{type_layout}
 use Rattle.wgsl_text.specs.Text.{text, mark_text}
-use Rattle.wgsl_text.specs.Tree as tree
 use Rattle.wgsl_text.specs.Keywords.{builtin_words}
-use Rattle.wgsl_text.specs.Tree.{TypeSpecifier, Named, Call, operands}
 use Rattle.wgsl_text.specs.Words.{is_builtin}
 use Rattle.wgsl_words.specs.Words.{operator_text, unary_text}
 

@@ -1,15 +1,18 @@
 -- What is written for a module is a program of the grammar.
-use Rattle.std.proofs.Common.{[], ◌≡◌, ℕ, suc, ◌+◌, ◌<◌, ◌^◌, Bool, true, false, pos, negsuc, List, ◌∷◌, length, Option, Some, None, nat_lt, refl, sym, subst, arith, codes, zero, ◌-◌, ◌≤◌, not, ◌&&◌, ◌||◌, ◌++◌, decimal, nat_eq, nat_le, ap, ◌∙◌, true≢false}
-use Rattle.std.specs.Prelude.{IsTrue, slice_get, ◌==◌, if◌then◌else◌, get_or, cond}
+use Rattle.std.proofs.Common.{◌≡◌, ℕ, ◌<◌, ◌≤◌, suc, Bool, true, false, not, ◌&&◌, List, [], ◌∷◌}
+use Rattle.std.proofs.Common.{◌++◌, length, refl, sym, ap, subst, ◌∙◌, arith, ◌||◌, zero, codes}
+use Rattle.std.proofs.Common.{nat_lt, ◌+◌, pos, negsuc, Option, Some, None, ◌-◌, ◌^◌, decimal}
+use Rattle.std.proofs.Common.{nat_eq, nat_le, true≢false}
+use Rattle.std.specs.Prelude.{IsTrue, slice_get, cond, get_or}
 use Rattle.std.specs.List.{list_all}
-use Rattle.std.specs.Option.{is_some, option_map}
-use Rattle.std.proofs.lemmas.Bool.{eqb-false, ltb-true, leb-true, lt-ltb, and_from, or_right}
-use Rattle.naga_ir.specs.StatementTree.{SimpleStatement, emit, store, return, StatementTree, simple, block, branch, switch, loop, BlockTree, no_statements, statement, CaseTrees, no_cases, case}
+use Rattle.std.specs.Option.{option_map, is_some}
+use Rattle.std.proofs.lemmas.Bool.{and_from, or_right, lt-ltb, ltb-true, leb-true}
+use Rattle.naga_ir.specs.StatementTree.{SimpleStatement, emit, store, return, StatementTree, simple}
+use Rattle.naga_ir.specs.StatementTree.{block, branch, switch, loop, BlockTree, no_statements}
+use Rattle.naga_ir.specs.StatementTree.{statement, CaseTrees, no_cases, case}
 use Rattle.naga_ir.specs.declared.statement.SwitchValue.{SwitchValue}
 use Rattle.naga_ir.specs.declared.statement.SwitchValue.TheVariants as label
 use Rattle.naga_ir.specs.declared.expression.Expression as ir
-use Rattle.naga_ir.specs.declared.expression.Literal as ir_literal
-use Rattle.naga_ir.specs.declared.expression.Literal.TheVariants as literal
 use Rattle.naga_ir.specs.declared.module.Function as ir_function
 use Rattle.naga_ir.specs.declared.module.FunctionArgument.{FunctionArgument}
 use Rattle.naga_ir.specs.declared.module.FunctionResult.{FunctionResult}
@@ -17,70 +20,70 @@ use Rattle.naga_ir.specs.declared.module.Module.{Module}
 use Rattle.naga_ir.specs.declared.types.Type_.{Type_}
 use Rattle.naga_info.specs.declared.info.ExpressionInfo.{ExpressionInfo}
 use Rattle.naga_info.specs.declared.info.ModuleInfo.{ModuleInfo}
-use Rattle.module_meaning.specs.Spelled.{literal_word, literal_is_within, spelling_of, is_alike, word_at}
+use Rattle.module_meaning.specs.Spelled.{word_at, literal_word, literal_is_within, spelling_of}
+use Rattle.module_meaning.specs.Spelled.{is_alike}
 use Rattle.module_meaning.specs.Part.{names_nothing}
-use Rattle.module_meaning.specs.Accepted.{is_scalar_type, is_below, is_accepted, statement_fits, block_fits, function_fits, functions_fit, local_fits}
-use Rattle.module_meaning.proofs.Accepting.{accepted_parts, function_fits_word_at, function_fits_expressions, function_fits_parts, function_fits_block, expressions_fit_known, local_word_at, local_fits_parts}
-use Rattle.wgsl_text.specs.Words.{IsIdentifier, is_reserved, is_letter, is_word_byte, all_word_bytes, stands_in, is_builtin}
-use Rattle.wgsl_text.specs.Tree.{LeastInteger, Suffixed, LeastLong, TypeSpecifier, Named as NamedType}
-use Rattle.wgsl_text.specs.Token.{SuffixI, SuffixLi}
-use Rattle.wgsl_text.specs.Grammar.{IsType, IsLiteral, IsExpression}
-use Rattle.wgsl_text.specs.GrammarOfLines.{IsStatement, IsStatements, IsLabel, IsLabels, IsCases, has_case, IsParameter, IsResult, IsFunction, IsProgram, Each, is_reference, IsValue, IsLocal}
+use Rattle.module_meaning.specs.Accepted.{is_scalar_type, local_fits, function_fits, is_accepted}
+use Rattle.module_meaning.specs.Accepted.{functions_fit, is_below, statement_fits, block_fits}
+use Rattle.module_meaning.proofs.Accepted.{accepted_parts, expressions_fit_known}
+use Rattle.module_meaning.proofs.Accepted.{function_fits_parts, function_fits_expressions}
+use Rattle.module_meaning.proofs.Accepted.{function_fits_block, function_fits_word_at}
+use Rattle.module_meaning.proofs.Accepted.{local_fits_parts, local_word_at}
+use Rattle.wgsl_text.specs.Words.{stands_in, is_builtin, IsIdentifier, is_letter, is_word_byte}
+use Rattle.wgsl_text.specs.Words.{all_word_bytes, is_reserved}
+use Rattle.wgsl_text.specs.Declarations.{IsProgram}
+use Rattle.wgsl_text.specs.Expressions.{IsExpression}
+use Rattle.wgsl_text.specs.Expressions as tree_expressions
+use Rattle.wgsl_text.specs.Functions.{IsValue, IsParameter, IsResult, IsLocal, Each, IsFunction}
+use Rattle.wgsl_text.specs.Statements.{is_reference, IsLabel, IsLabels, has_case, IsStatement}
+use Rattle.wgsl_text.specs.Statements.{IsStatements, IsCases}
+use Rattle.wgsl_text.specs.Statements as tree
+use Rattle.wgsl_text.specs.Types.{TypeSpecifier, IsType}
 use Rattle.naga_info.proofs.Options.{then_some}
 use Rattle.shader_runs.proofs.Update.{and_left, and_right}
 use Rattle.shader_runs.proofs.Sources.{forgotten_named}
-use Rattle.naga_names.proofs.Counts.{element}
-use Rattle.naga_form.specs.Form.{parameters_form, result_form, function_form, functions_form}
-use Rattle.naga_form.specs.Form.{PlainForm, ValueForm, ReferenceForm, as_value, as_reference}
-use Rattle.naga_form.specs.Form.{application_plain, own_plain, own_if, standing_plain, plain_below}
-use Rattle.naga_form.specs.Form.{plain_form, value_form, let_form, then_if, lets_form, return_line}
-use Rattle.naga_form.specs.Form.{simple_form, loop_form, label_form, labels_form, line_form}
-use Rattle.naga_form.specs.Form.{lines_form, cases_form, locals_form, written_program}
+use Rattle.naga_names.proofs.Label.{all_digits-decimal}
+use Rattle.naga_names.proofs.Refusal.{element}
+use Rattle.naga_form.specs.Declarations.{written_program}
+use Rattle.naga_form.specs.Expressions.{PlainForm, ValueForm, ReferenceForm, as_value, as_reference}
+use Rattle.naga_form.specs.Expressions.{application_plain, own_plain, own_if, standing_plain}
+use Rattle.naga_form.specs.Expressions.{plain_below, plain_form, value_form}
+use Rattle.naga_form.specs.Functions.{locals_form, parameters_form, result_form, function_form}
+use Rattle.naga_form.specs.Functions.{functions_form}
+use Rattle.naga_form.specs.Statements.{let_form, then_if, lets_form, return_line, simple_form}
+use Rattle.naga_form.specs.Statements.{loop_form, label_form, labels_form, line_form, lines_form}
+use Rattle.naga_form.specs.Statements.{cases_form}
 use Rattle.module_meaning.specs.Premises.{nothing_named, handles_are_counted}
 use Rattle.module_meaning.specs.Names.{module_names, wgsl_names, numbered_text, numbered_name}
 use Rattle.module_meaning.specs.Types.{type_names}
 use Rattle.naga_form.specs.Types.{told_type}
 use Rattle.naga_form.proofs.WrittenTypes.{is_type_at, told_is, known_spelled}
-use Rattle.naga_form.specs.Literals.{literal_form}
 use Rattle.module_meaning.specs.Applications.{Application, application_of}
 use Rattle.naga_form.specs.Operators.{notation}
 use Rattle.naga_form.proofs.Operators.{is_notated, notated, applied_is}
 use Rattle.naga_form.proofs.Facts.{further, from_start}
-use Rattle.naga_form.proofs.Named.{item_is_identifier, function_item, argument_item, function_there, argument_there}
+use Rattle.naga_form.proofs.Literals.{literal_is}
+use Rattle.naga_form.proofs.Names.{item_is_identifier, function_item, argument_item, function_there}
+use Rattle.naga_form.proofs.Names.{argument_there}
 use Rattle.std.specs.Char.{is_ascii_digit}
 use Rattle.std.specs.Str.{bytes_eq}
-use Rattle.std.proofs.lemmas.Option.{slice_get_within, slice_get-map}
+use Rattle.std.proofs.lemmas.Option.{slice_get-map, slice_get_within}
 use Rattle.std.proofs.lemmas.Slice.Eq.{bytes_eq-Decides}
 use Rattle.naga_names.proofs.NamedItems.{local_stands}
 use Rattle.naga_ir.specs.declared.expression.Expression.TheVariants as expression
 use Rattle.naga_ir.specs.declared.module.LocalVariable.{LocalVariable}
-use Rattle.naga_names.proofs.BaseShapes.{all_digits-decimal}
-use Rattle.wgsl_text.specs.Keywords.{reserved_words, builtin_words}
-use Rattle.wgsl_text.specs.Tree as tree
+use Rattle.wgsl_text.specs.Keywords.{builtin_words, reserved_words}
 use Rattle.shader_runs.specs.World.{update}
-use Rattle.shader_runs.specs.Program.{expression_of, operands_of, binds, binds_as, from, holds_continue}
-use Rattle.shader_runs.specs.Scope.{Standing, Absent, Barred, Everywhere, Inline, Named, Handles, Naming, bound_name, usable_all, is_pure, is_constant_below, start_standing, at_start, unbound, emitted, after_one, given_after, given_by, given_by_all, after_emit, after, after_all, forgotten_if}
-use Rattle.module_meaning.specs.Shapes.{expression_shape, statement_shape, statements_shape, function_naming}
+use Rattle.shader_runs.specs.Program.{binds, from, expression_of, operands_of, binds_as}
+use Rattle.shader_runs.specs.Program.{holds_continue}
+use Rattle.shader_runs.specs.Scope.{Standing, Named, Handles, Naming, bound_name, at_start}
+use Rattle.shader_runs.specs.Scope.{given_after, given_by, given_by_all, after_one, after}
+use Rattle.shader_runs.specs.Scope.{after_all, Absent, Barred, Everywhere, Inline, usable_all}
+use Rattle.shader_runs.specs.Scope.{is_pure, is_constant_below, start_standing, unbound, emitted}
+use Rattle.shader_runs.specs.Scope.{after_emit, forgotten_if}
+use Rattle.module_meaning.specs.Shapes.{statement_shape, statements_shape, function_naming}
+use Rattle.module_meaning.specs.Shapes.{expression_shape}
 use Rattle.naga_form.proofs.Fits.{local_item, not_given, nothing_outside}
-
--- ---- literals
-least_or : (n : ℕ) (b : Bool) → (n == 2147483647) ≡ b → n < 2 ^ 31 → IsLiteral (if b then LeastInteger else Suffixed true (suc n) SuffixI)
-least_or n true e lt = tt
-least_or n false e lt = let other : n ≡ 2147483647 → ⊥ = eqb-false n 2147483647 e in omega (arith, lt, other)
-
-least_long_or : (n : ℕ) (b : Bool) → (n == 9223372036854775807) ≡ b → n < 2 ^ 63 → IsLiteral (if b then LeastLong else Suffixed true (suc n) SuffixLi)
-least_long_or n true e lt = tt
-least_long_or n false e lt = let other : n ≡ 9223372036854775807 → ⊥ = eqb-false n 9223372036854775807 e in omega (arith, lt, other)
-
-pub literal_is : (v : ir_literal.Literal) → IsTrue (is_some (literal_word v)) → IsTrue (literal_is_within v) → IsLiteral (literal_form v)
-literal_is (literal.Bool b) w e = tt
-literal_is (literal.I32 (pos n)) w e = ltb-true n (2 ^ 31) e
-literal_is (literal.I32 (negsuc n)) w e = least_or n (n == 2147483647) refl (ltb-true n (2 ^ 31) e)
-literal_is (literal.U32 n) w e = ltb-true n (2 ^ 32) e
-literal_is (literal.I64 (pos n)) w e = ltb-true n (2 ^ 63) e
-literal_is (literal.I64 (negsuc n)) w e = least_long_or n (n == 9223372036854775807) refl (ltb-true n (2 ^ 63) e)
-literal_is (literal.U64 n) w e = ltb-true n (2 ^ 64) e
-literal_is _ w e = absurd (cc)
 
 -- ---- numbered names
 digits_are_bytes : (w : List ℕ) → list_all is_ascii_digit w ≡ true → all_word_bytes w ≡ true
@@ -303,7 +306,7 @@ module _ (m : Module) (g : ℕ) (f : ir_function.Function) (found : slice_get m.
       by true e = absurd (cc)
       by false e = absurd (cc)
 
-  let_is : (told : Option TypeSpecifier) → ((t : TypeSpecifier) → told ≡ Some t → IsType t) → (x : List ℕ) (e : tree.Expression) → IsIdentifier x → IsExpression e → IsStatement (let_form told x e)
+  let_is : (told : Option TypeSpecifier) → ((t : TypeSpecifier) → told ≡ Some t → IsType t) → (x : List ℕ) (e : tree_expressions.Expression) → IsIdentifier x → IsExpression e → IsStatement (let_form told x e)
   let_is None told_well x e name is = (name, is)
   let_is (Some t) told_well x e name is = (name, told_well t refl, is)
 
@@ -312,7 +315,7 @@ module _ (m : Module) (g : ℕ) (f : ir_function.Function) (found : slice_get m.
   lets_are told told_well k (h ∷ hs) s well rest is =
       then_is (binds own.function h) refl (lets_are told told_well (given_after own.function h k) hs (after_one own k h s) (after_one_is k h s well) rest is)
     where
-      e : tree.Expression
+      e : tree_expressions.Expression
       e = as_value (own_if own (plain_form own f.expressions s) (slice_get f.expressions h))
 
       behind : tree.Statements

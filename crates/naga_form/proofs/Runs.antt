@@ -18,7 +18,12 @@ use Rattle.naga_ir.specs.declared.expression.Literal.{Literal}
 use Rattle.naga_ir.specs.declared.expression.Expression as ir
 use Rattle.naga_ir.specs.declared.expression.Expression.TheVariants as expression
 use Rattle.module_meaning.specs.Spelled.{literal_word}
-use Rattle.module_meaning.proofs.Accepting.{accepted_parts, function_fits_word_at}
+use Rattle.naga_form.specs.Functions.{functions_form}
+use Rattle.naga_form.specs.Declarations.{written_program}
+use Rattle.naga_form.proofs.Abstraction.{locals_spelled, function_reads}
+use Rattle.naga_form.proofs.Names.{items_tell, function_item, function_there}
+use Rattle.naga_names.proofs.Refusal.{element}
+use Rattle.module_meaning.proofs.Accepted.{accepted_parts, function_fits_word_at}
 use Rattle.naga_form.specs.Literals.{LiteralsAreWritten, literal_is_written}
 use Rattle.naga_names.specs.Keys.{NameMap}
 use Rattle.naga_names.specs.declared.key.NameKey.TheVariants as key
@@ -32,8 +37,6 @@ use Rattle.shader_runs.specs.Correct.{ModuleFits}
 use Rattle.shader_runs.proofs.Calls.{runs_alike}
 use Rattle.shader_runs.proofs.Names.{length-functions_of}
 use Rattle.shader_runs.proofs.Update.{and_left, and_right}
-use Rattle.naga_names.proofs.Counts.{element}
-use Rattle.naga_form.specs.Form.{functions_form, written_program}
 use Rattle.module_meaning.specs.Premises.{nothing_named, scope_holds, ScopesHold}
 use Rattle.module_meaning.specs.Names.{NamesAreCounted, module_names, function_name}
 use Rattle.module_meaning.specs.Shapes.{function_shapes, program_shape, namings_from, namings, outer_names, function_naming}
@@ -41,10 +44,8 @@ use Rattle.text_meaning.specs.Abstraction.{function_read, program_read}
 use Rattle.wgsl_text.specs.Requests.{is_request}
 use Rattle.module_meaning.specs.Faithful.{RunsAs}
 use Rattle.naga_form.proofs.Facts.{further, from_start}
-use Rattle.naga_form.proofs.Abstractions.{locals_spelled, function_reads}
 use Rattle.naga_form.proofs.Fits.{function_fits_shape}
 use Rattle.naga_form.proofs.ScopeRules.{namings_functions, scopes_are_checked}
-use Rattle.naga_form.proofs.Named.{items_tell, function_item, function_there}
 
 pub form_functions-map : (ns : List Naming) → form_functions ns ≡ map form_function ns
 form_functions-map [] = refl

@@ -10,19 +10,19 @@ use Rattle.std.proofs.lemmas.Bool.{false≢true, true≢false, and_parts, eqb-tr
 use Rattle.std.proofs.lemmas.List.{append_cancel_left, append_cancel_right}
 use Rattle.std.proofs.lemmas.Slice.Eq.{bytes_eq-Decides}
 use Rattle.wgsl_text.specs.Words.{is_word_text, is_letter, all_word_bytes, is_word_byte, stands_in, is_builtin}
-use Rattle.wgsl_text.specs.Grammar.{IsType, IsPart, is_type, plain_type_words, TakesNone, fits, rule_among, type_templates}
+use Rattle.wgsl_text.specs.Types.{TypeSpecifier, Named, Template, TypeParts, has_gaps, parts_pieces}
+use Rattle.wgsl_text.specs.Types.{plain_type_words, is_type, TakesNone, rule_among, type_templates}
+use Rattle.wgsl_text.specs.Types.{fits, IsPart, IsType}
+use Rattle.naga_form.proofs.OperatorTable.{mathematical, others, first_with, operator_of, told}
+use Rattle.naga_form.proofs.OperatorTable.{untyped_share}
+use Rattle.wgsl_text.proofs.Types.{fits_none, type_template, named_text}
 use Rattle.wgsl_text.specs.Reading.{ReadsType, type_layout}
-use Rattle.wgsl_text.specs.Pieces.{parts_pieces, has_gaps}
 use Rattle.wgsl_text.specs.Text.{text, tokens}
-use Rattle.wgsl_text.specs.Tree.{TypeSpecifier, Named, Template, TypeParts}
-use Rattle.wgsl_text.proofs.RowText.{named_text}
-use Rattle.wgsl_text.proofs.WordLemmas.{fits_none, type_template}
 use Rattle.wgsl_text.proofs.Reading.{type_has_one_reading}
 use Rattle.wgsl_text.specs.Requests.{head_word}
 use Rattle.module_meaning.specs.OperatorTable.{Operator, CooperativeLoad, Construct, Convert}
 use Rattle.module_meaning.specs.OperatorTable.{Reinterpret, with_type, run_word, one_word}
 use Rattle.module_meaning.specs.OperatorTable.{is_untyped, TypeIsSound}
-use Rattle.naga_form.proofs.OperatorWords.{others, mathematical, first_with, operator_of, told, untyped_share}
 
 -- ---- the head of a word
 word_byte_goes_on : (b : ℕ) → is_word_byte b ≡ true → (nat_eq b 60 || nat_eq b 32) ≡ false

@@ -20,17 +20,16 @@ use Rattle.module_meaning.specs.Accepted.{is_scalar_type, function_fits}
 use Rattle.naga_info.specs.Resolution.{inner_of}
 use Rattle.module_meaning.specs.Spelled.{word_of_width, word_of_type, word_at, pointer_spelling, spelling, spelling_of}
 use Rattle.naga_info.proofs.Options.{map_some, then_some}
-use Rattle.module_meaning.proofs.Accepting.{scalar_types_word_at, function_fits_expressions, function_fits_word_at}
+use Rattle.wgsl_text.specs.Types.{TypeSpecifier, Named, IsType, of_two}
+use Rattle.wgsl_text.proofs.Building.{scalar_word_is, pointer_to_is}
+use Rattle.module_meaning.proofs.Accepted.{scalar_types_word_at, function_fits_expressions}
+use Rattle.module_meaning.proofs.Accepted.{function_fits_word_at}
 use Rattle.wgsl_words.specs.Words.{scalar_word_of, space_word, space_access_word}
 use Rattle.naga_names.specs.Keys.{NameMap}
 use Rattle.naga_words.specs.Contexts.{names_of, Names as TypeNames}
-use Rattle.wgsl_text.specs.Templates.{of_two}
 use Rattle.naga_form.specs.TypeTrees.{inner_tree, named_tree_by, pointer_tree_in, found_tree_by, tree_within, type_tree, resolution_tree}
-use Rattle.wgsl_text.specs.Grammar.{IsType}
 use Rattle.wgsl_text.specs.Tables.{scalar_words}
-use Rattle.wgsl_text.specs.Tree.{TypeSpecifier, Named}
 use Rattle.wgsl_text.specs.Words.{stands_in}
-use Rattle.wgsl_text.proofs.TypeWords.{scalar_word_is, pointer_to_is}
 use Rattle.wgsl_text.proofs.ValueWords.{value_words}
 use Rattle.naga_form.specs.Types.{told_type, type_form}
 use Rattle.naga_form.proofs.Facts.{expression_at}

@@ -19,11 +19,12 @@ use Rattle.naga_names.specs.Keys.{NameMap}
 use Rattle.naga_words.specs.Contexts.{Names, writer_context}
 use Rattle.naga_words.specs.Parts.{Part, IsText, known_text, lacks}
 use Rattle.naga_words.specs.Spelling.{inner_parts, type_parts}
-use Rattle.wgsl_text.specs.Grammar.{IsType}
-use Rattle.wgsl_text.specs.GrammarOfLines.{IsProgram}
+use Rattle.wgsl_text.specs.Types.{TypeSpecifier, IsType}
+use Rattle.naga_form.specs.Functions.{function_form}
+use Rattle.wgsl_text.specs.Declarations.{Program, IsProgram}
+use Rattle.naga_form.specs.Declarations.{written_program}
 use Rattle.wgsl_text.specs.Reading.{HasOneReading, ReadsType, type_layout}
 use Rattle.wgsl_text.specs.Requests.{is_request}
-use Rattle.wgsl_text.specs.Tree.{Program, TypeSpecifier}
 use Rattle.shader_runs.specs.Form.{form_function, form_module}
 use Rattle.text_meaning.specs.Abstraction.{function_read, program_read}
 use Rattle.module_meaning.specs.Accepted.{is_accepted}
@@ -40,7 +41,6 @@ use Rattle.module_meaning.specs.Shapes.{function_naming, program_shape, outer_na
 use Rattle.module_meaning.specs.Spelled.{spelling_of}
 use Rattle.module_meaning.specs.TypeIdentity.{identity}
 use Rattle.module_meaning.specs.Types.{value_type, LocalsAreSpelled}
-use Rattle.naga_form.specs.Form.{function_form, written_program}
 use Rattle.naga_form.specs.Literals.{LiteralsAreWritten}
 use Rattle.module_meaning.specs.OperatorTable.{Operator, TypeIsSound, asks, is_told, one_word}
 use Rattle.module_meaning.specs.OperatorTable.{operand_count, operator_word, run_word}

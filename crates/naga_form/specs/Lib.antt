@@ -1,7 +1,10 @@
-pub mod Form
+pub mod Declarations
+pub mod Expressions
+pub mod Functions
 pub mod Laws
 pub mod Literals
 pub mod Operators
 pub mod Readable
+pub mod Statements
 pub mod TypeTrees
 pub mod Types

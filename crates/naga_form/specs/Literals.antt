@@ -7,7 +7,7 @@ use Rattle.naga_ir.specs.declared.expression.Expression.TheVariants as expressio
 use Rattle.std.specs.Option.{is_some, option_map_or}
 use Rattle.module_meaning.specs.Spelled.{literal_word}
 use Rattle.wgsl_text.specs.Token.{SuffixI, SuffixU, SuffixLi, SuffixLu}
-use Rattle.wgsl_text.specs.Tree.{Literal, Truth, Suffixed, LeastInteger, LeastLong}
+use Rattle.wgsl_text.specs.Literals.{Literal, Truth, Suffixed, LeastInteger, LeastLong}
 
 -- The least `i32` and the least `i64` have forms of their own: a `-` stands outside of a number.
 abbrev pub integer_form : ℤ → Literal

@@ -6,15 +6,14 @@ use Rattle.naga_ir.specs.declared.operators.UnaryOperator as ir_unary
 use Rattle.naga_ir.specs.declared.operators.UnaryOperator.TheVariants as unary
 use Rattle.module_meaning.specs.OperatorTable.{Operator, BinarySign, UnarySign, Construct}
 use Rattle.module_meaning.specs.OperatorTable.{Convert, Reinterpret, run_word}
-use Rattle.wgsl_text.specs.Pieces.{binary_pieces, unary_mark}
+use Rattle.wgsl_text.specs.Types.{TypeSpecifier, Named, Template, NoParts, TypePart}
+use Rattle.wgsl_text.specs.Expressions.{BinaryOperator, Add, Subtract, Multiply, Divide, Modulo}
+use Rattle.wgsl_text.specs.Expressions.{Equal, NotEqual, Less, LessEqual, Greater, GreaterEqual}
+use Rattle.wgsl_text.specs.Expressions.{And, ExclusiveOr, InclusiveOr, LogicalAnd, LogicalOr}
+use Rattle.wgsl_text.specs.Expressions.{ShiftLeft, ShiftRight, UnaryOperator, Negate, LogicalNot}
+use Rattle.wgsl_text.specs.Expressions.{BitwiseNot, Expression, Binary, Unary, Call, operands}
+use Rattle.wgsl_text.specs.Expressions.{binary_pieces, unary_mark}
 use Rattle.wgsl_text.specs.Text.{text, mark_text}
-use Rattle.wgsl_text.specs.Tree.{BinaryOperator, Add, Subtract, Multiply, Divide, Modulo}
-use Rattle.wgsl_text.specs.Tree.{Equal, NotEqual, Less, LessEqual, Greater, GreaterEqual}
-use Rattle.wgsl_text.specs.Tree.{And, ExclusiveOr, InclusiveOr, LogicalAnd, LogicalOr}
-use Rattle.wgsl_text.specs.Tree.{ShiftLeft, ShiftRight}
-use Rattle.wgsl_text.specs.Tree.{UnaryOperator, Negate, LogicalNot, BitwiseNot}
-use Rattle.wgsl_text.specs.Tree.{TypeSpecifier, Named, Template, TypePart, NoParts}
-use Rattle.wgsl_text.specs.Tree.{Expression, Binary, Unary, Call, operands}
 
 abbrev pub operator_form : ir.BinaryOperator → BinaryOperator
 operator_form operator.Add = Add

@@ -13,7 +13,7 @@ use Rattle.naga_ir.specs.declared.types.ArraySize.TheVariants as size
 use Rattle.naga_ir.specs.declared.types.Type_.{Type_}
 use Rattle.naga_ir.specs.declared.types.TypeInner.{TypeInner}
 use Rattle.naga_ir.specs.declared.types.TypeInner.TheVariants as inner
-use Rattle.wgsl_text.specs.Tree.{TypeSpecifier}
+use Rattle.wgsl_text.specs.Types.{TypeSpecifier}
 use Rattle.wgsl_text.specs.Words.{IsIdentifier}
 use Rattle.naga_words.specs.Spelling.{is_struct}
 use Rattle.naga_form.specs.TypeTrees.{resolution_tree}

@@ -6,7 +6,8 @@
 use Rattle.std.specs.Prelude.{ℕ, zero, suc, Bool, true, false, if◌then◌else◌, List, Option, Some, None, codes, slice_get}
 use Rattle.std.specs.Option.{option_map}
 use Rattle.std.specs.Int.NonZero.{non_zero_u32_get}
-use Rattle.wgsl_text.specs.Tree.{TypeSpecifier, Named, Template, NoParts, TypePart, SizePart}
+use Rattle.wgsl_text.specs.Types.{TypeSpecifier, Named, Template, NoParts, TypePart, SizePart}
+use Rattle.wgsl_text.specs.Types.{of_one, of_two, pointer_tree}
 use Rattle.naga_info.specs.declared.info.TypeResolution.{TypeResolution}
 use Rattle.naga_info.specs.declared.info.TypeResolution.TheVariants.{Handle, Value}
 use Rattle.naga_ir.specs.declared.types.Type_.{Type_}
@@ -23,7 +24,6 @@ use Rattle.wgsl_words.specs.Words.{scalar_word, space_word, space_access_word, i
 use Rattle.naga_words.specs.Words.{vector_word, matrix_word, cooperative_word, image_word, sampler_word}
 use Rattle.naga_words.specs.Contexts.{Names}
 use Rattle.naga_words.specs.Spelling.{is_struct}
-use Rattle.wgsl_text.specs.Templates.{of_one, of_two, pointer_tree}
 
 abbrev pub scalar_tree : Scalar → Option TypeSpecifier
 scalar_tree scalar = option_map Named (scalar_word scalar)

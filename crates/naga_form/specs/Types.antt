@@ -4,7 +4,7 @@ use Rattle.std.specs.Option.{option_and_then}
 use Rattle.naga_info.specs.declared.info.ExpressionInfo.{ExpressionInfo}
 use Rattle.naga_words.specs.Contexts.{Names as TypeNames}
 use Rattle.naga_form.specs.TypeTrees.{type_tree, resolution_tree}
-use Rattle.wgsl_text.specs.Tree.{TypeSpecifier, Named}
+use Rattle.wgsl_text.specs.Types.{TypeSpecifier, Named}
 
 -- a type of the module. What has no form is not written
 abbrev pub type_form : TypeNames → ℕ → TypeSpecifier

@@ -7,7 +7,7 @@ use Rattle.std.proofs.lemmas.Option.{none-some}
 use Rattle.naga_names.specs.Label.{ends_separated}
 use Rattle.naga_names.specs.Naming.{Names, uses_of, label_base, labels_with_base, name_of, name_of_base, HasNamed}
 use Rattle.naga_names.specs.Laws.{WasGiven, FollowsFromUses}
-use Rattle.naga_names.proofs.BaseShapes.{base_ends}
+use Rattle.naga_names.proofs.Label.{base_ends}
 use Rattle.naga_names.proofs.NameShapes.{counted_more, same_base_and_number}
 
 split_at : (labels : List (List ℕ)) (i : ℕ) (label : List ℕ) → slice_get labels i ≡ Some label → (rest : List (List ℕ)) × (labels ≡ take i labels ++ label ∷ rest)

@@ -1,16 +1,13 @@
-pub mod BaseShapes
-pub mod Counts
+pub mod Label
+pub mod Refusal
 mod Examples
 pub mod Given
-pub mod MemberLemmas
-pub mod MemberNames
-pub mod ModuleLemmas
-pub mod NameKeys
+pub mod Members
+pub mod TypeNames
+pub mod Keys
 pub mod NameShapes
 pub mod NamedItems
-pub mod NamerLemmas
+pub mod Naming
 pub mod Outputs
 pub mod Progress
-pub mod ResetLemmas
-pub mod Spellings
-pub mod UsesLemmas
+pub mod Reset

@@ -17,12 +17,13 @@ use Rattle.std.proofs.lemmas.Bool.Decides.{nat_tests}
 use Rattle.std.proofs.lemmas.Map.Text.{is_eq-slice_cmp}
 use Rattle.std.proofs.lemmas.Bool.{and_parts, and_from, true≢false, or_parts}
 use Rattle.std.proofs.Math.Bool.{and-false}
-use Rattle.naga_names.proofs.Spellings.{ends_separated-push, get_or-last}
+use Rattle.naga_names.proofs.Label.{get_or-last, ends_separated-push, is_text, is_text-decimal}
+use Rattle.naga_names.proofs.Label.{all_digits-decimal, base_is_word, base_ends, begins_double}
+use Rattle.naga_names.proofs.Label.{base_not_double}
 use Rattle.naga_names.specs.Label.{ends_separated, after_numerics, spelling, without_last_separators, or_unnamed, kept_off, base_of}
 use Rattle.naga_keywords.specs.Plain.{is_identifier_char, is_word, is_identifier, is_empty_or_separated, HasPlainEnds, IsPlain}
 use Rattle.naga_keywords.specs.Words.{lowered}
 use Rattle.naga_names.specs.Naming.{Names, label_base, is_taken, ends_in_digit, first_name, later_name, name_of_base, labels_with_base, name_after}
-use Rattle.naga_names.proofs.BaseShapes.{base_is_word, base_ends, begins_double, base_not_double, is_text, is_text-decimal, all_digits-decimal}
 
 -- ---- the last character
 -- the text ends in a character that passes

@@ -21,9 +21,9 @@ use Rattle.naga_names.specs.declared.key.NameKey.TheVariants as key
 use Rattle.naga_names.specs.Naming.{Names, name_after, labels_with_base, label_or}
 use Rattle.naga_names.specs.Keys.{NameMap, same_key}
 use Rattle.naga_names.specs.Reset.{Labelled, is_member, item_name, labels_of, named_items, members_of, labelled_members, labelled_type, type_label, is_external, labelled_parts, labelled_types, labelled_argument, labelled_arguments, labelled_locals, labelled_function, labelled_functions, labelled_entry_arguments, labelled_entry_locals, labelled_entry_point, labelled_entry_points, labelled_global, labelled_globals, labelled_declarations, value_label, type_name, labelled_constants, labelled_overrides, labelled_values, labelled_items, PutsInto, HasNamedItems}
-use Rattle.naga_names.proofs.NameKeys.{AreApart, same_key_laws, items_apart, single}
+use Rattle.naga_names.proofs.Reset.{labels_of-around, item_name-outside}
+use Rattle.naga_names.proofs.Keys.{same_key_laws, AreApart, single, items_apart}
 use Rattle.naga_names.proofs.NameShapes.{names_differ}
-use Rattle.naga_names.proofs.ResetLemmas.{labels_of-around, item_name-outside}
 
 -- ---- the name of the item at a place
 abbrev named_from : Names → List Labelled → List Labelled → List (NameKey × List ℕ)

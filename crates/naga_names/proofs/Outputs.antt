@@ -6,7 +6,7 @@ use Rattle.std.specs.Option.{option_map, option_map_or, option_or}
 use Rattle.naga_ir.specs.declared.module.EntryPoint.{EntryPoint}
 use Rattle.naga_ir.specs.declared.module.FunctionResult.{FunctionResult}
 use Rattle.naga_names.specs.Reset.{output_label, output_word}
-use Rattle.naga_names.proofs.ResetLemmas.{output_label-more}
+use Rattle.naga_names.proofs.Reset.{output_label-more}
 use Rattle.naga_names.specs.Outputs.{words_in}
 
 module _ (t : ℕ) (entry_points : List EntryPoint) (i : ℕ) (entry_point : EntryPoint) (lt : i < length entry_points) (is : entry_point ≡ get_or entry_points i entry_point) where

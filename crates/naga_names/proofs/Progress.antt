@@ -12,9 +12,9 @@ use Rattle.naga_names.specs.declared.error.NamerError.TheVariants.{KeyFull, Memo
 use Rattle.naga_names.specs.Naming.{Names}
 use Rattle.naga_names.specs.Refusal.{IsRefusalOfItems, RefusesItems}
 use Rattle.naga_names.specs.Reset.{Labelled, key_fits, keys_fit, named_items, PutsInto, PutsBeginning, HasNamedItems, NamesItems, labelled_declarations, labelled_values, labelled_items, type_name, type_names_in}
-use Rattle.naga_names.proofs.ResetLemmas.{beginning_more, refusal_more, begins, not_below}
-use Rattle.naga_names.proofs.ModuleLemmas.{agree}
-use Rattle.naga_names.proofs.NamerLemmas.{has_named_nothing}
+use Rattle.naga_names.proofs.Naming.{has_named_nothing}
+use Rattle.naga_names.proofs.Reset.{begins, refusal_more, beginning_more, not_below}
+use Rattle.naga_names.proofs.TypeNames.{agree}
 use Rattle.naga_names.specs.Progress.{Progress, Stands, Gives, GivesModule, Leaves, argument_key}
 use Rattle.naga_names.specs.declared.namer.items.Owner.{Owner}
 use Rattle.naga_names.specs.declared.namer.items.Owner.TheVariants as owner

@@ -14,18 +14,20 @@ use Rattle.module_meaning.specs.Names.{numbered_name}
 use Rattle.module_meaning.specs.Applications.{Application, application_of}
 use Rattle.naga_form.specs.Operators.{Infix, applied_form, notation, operator_form}
 use Rattle.module_meaning.specs.Shapes.{application_shape, expression_shape, OperandsStandBefore}
-use Rattle.naga_form.specs.Form.{PlainForm, ValueForm, as_value, as_reference, value_forms}
-use Rattle.naga_form.specs.Form.{application_plain, own_plain, own_if, standing_plain, plain_below}
-use Rattle.naga_form.specs.Form.{plain_form, value_form}
+use Rattle.wgsl_text.specs.Literals.{Truth}
+use Rattle.wgsl_text.specs.Expressions.{Constant, Name, Dereference}
+use Rattle.naga_form.specs.Expressions.{PlainForm, ValueForm, as_value, as_reference, value_forms}
+use Rattle.naga_form.specs.Expressions.{application_plain, own_plain, own_if, standing_plain}
+use Rattle.naga_form.specs.Expressions.{plain_below, plain_form, value_form}
+use Rattle.wgsl_text.proofs.Expressions.{name_text, binary_text as binary_row_text}
+use Rattle.wgsl_text.proofs.Expressions.{address_text as address_row_text, dereference_text}
 use Rattle.naga_scope.specs.Standings.{handles_of, standing_of}
 use Rattle.naga_scope.specs.declared.points.Standing.{Standing}
 use Rattle.naga_scope.specs.declared.points.Standing.TheVariants.{Absent, Barred, Everywhere, Inline, Named}
 use Rattle.module_meaning.proofs.Shapes.{operator_operands}
 use Rattle.naga_words.specs.Output.{joined}
 use Rattle.naga_wgsl_fns.specs.Literals.{literal_text}
-use Rattle.wgsl_text.specs.Tree.{Constant, Dereference, Name, Truth}
 use Rattle.wgsl_text.specs.Reading.{expression_layout}
-use Rattle.wgsl_text.proofs.RowText.{address_text as address_row_text, binary_text as binary_row_text, dereference_text, name_text}
 use Rattle.naga_wgsl_fns.specs.declared.functions.FunctionText.{FunctionText}
 use Rattle.naga_wgsl_fns.specs.FunctionText.{CanWrite, expressions, naming}
 use Rattle.naga_wgsl_fns.specs.Names.{name_of_argument, name_of_local}

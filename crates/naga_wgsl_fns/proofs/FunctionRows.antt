@@ -16,12 +16,22 @@ use Rattle.naga_info.specs.declared.info.ExpressionInfo.{ExpressionInfo}
 use Rattle.naga_info.specs.declared.info.ModuleInfo.{ModuleInfo}
 use Rattle.module_meaning.specs.Accepted.{is_accepted, function_fits}
 use Rattle.module_meaning.specs.Part.{function_is_written, is_written_so_far}
-use Rattle.module_meaning.proofs.Accepting.{accepted_types_are_scalar, accepted_functions_fit, list_all_at, functions_fit_at}
+use Rattle.naga_form.specs.Expressions.{value_form}
+use Rattle.naga_form.specs.Statements.{lines_form}
+use Rattle.wgsl_text.specs.Functions.{Parameter, value_pieces, parameter_pieces}
+use Rattle.wgsl_text.specs.Functions.{more_parameters_pieces, parameters_pieces, result_pieces}
+use Rattle.wgsl_text.specs.Functions.{locals_pieces, group_end, function_pieces}
+use Rattle.naga_form.specs.Functions.{locals_form, parameter_form, parameters_form, result_form}
+use Rattle.naga_form.specs.Functions.{function_form}
+use Rattle.wgsl_text.proofs.Text.{text-append}
+use Rattle.naga_names.proofs.Refusal.{element}
+use Rattle.module_meaning.proofs.Accepted.{accepted_types_are_scalar, accepted_functions_fit}
+use Rattle.module_meaning.proofs.Accepted.{list_all_at, functions_fit_at}
+use Rattle.wgsl_text.proofs.Functions.{value_text as value_row_text, locals_text as local_row_text}
+use Rattle.wgsl_text.proofs.Functions.{function_text as function_row_text}
 use Rattle.naga_names.specs.Keys.{names_in}
-use Rattle.naga_names.proofs.Counts.{element}
 use Rattle.shader_runs.specs.Scope.{Handles}
 use Rattle.module_meaning.specs.Names.{HasNamesOf, module_names}
-use Rattle.naga_form.specs.Form.{function_form, lines_form, locals_form, parameter_form, parameters_form, result_form, value_form}
 use Rattle.module_meaning.proofs.Part.{functions_are_written}
 use Rattle.naga_scope.specs.declared.points.Standing.{Standing}
 use Rattle.naga_words.specs.declared.error.TypeTextError.{TypeTextError}
@@ -30,11 +40,8 @@ use Rattle.naga_words.specs.declared.sink.SinkError.TheVariants.{Failed, Memory 
 use Rattle.naga_words.specs.Output.{IsReason, joined}
 use Rattle.naga_wgsl_fns.specs.Errors.{IsErrorOf, IsWant}
 use Rattle.naga_wgsl_fns.specs.declared.error.Error.{Error}
-use Rattle.wgsl_text.specs.Declarations.{function_pieces, group_end, locals_pieces, more_parameters_pieces, parameter_pieces, parameters_pieces, result_pieces, value_pieces}
 use Rattle.wgsl_text.specs.Reading.{expression_layout, type_layout}
 use Rattle.wgsl_text.specs.Text.{text}
-use Rattle.wgsl_text.specs.Tree.{Parameter}
-use Rattle.wgsl_text.proofs.RowText.{text-append, function_text as function_row_text, locals_text as local_row_text, value_text as value_row_text}
 use Rattle.naga_wgsl_fns.specs.declared.functions.FunctionText.{FunctionText}
 use Rattle.naga_wgsl_fns.specs.FunctionText.{CanWrite, expressions, naming, tells_types, told, type_names_of}
 use Rattle.naga_wgsl_fns.specs.Names.{name_of_argument, name_of_function, name_of_local}

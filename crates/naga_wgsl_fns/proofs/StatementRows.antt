@@ -18,18 +18,22 @@ use Rattle.shader_runs.specs.Program.{binds, from}
 use Rattle.shader_runs.specs.Scope.{Handles, Naming, after, after_all, after_emit, after_one, bound_name, given_after, given_by_all}
 use Rattle.module_meaning.specs.Names.{numbered_name}
 use Rattle.module_meaning.specs.Shapes.{statement_shape, statements_shape}
-use Rattle.naga_form.specs.Form.{as_reference, as_value, cases_form, let_form, lets_form, line_form, lines_form, loop_form, own_if, return_line, plain_form, then_if, value_form}
+use Rattle.wgsl_text.specs.Types.{TypeSpecifier}
+use Rattle.wgsl_text.specs.Expressions.{Expression, expression_pieces}
+use Rattle.naga_form.specs.Expressions.{as_value, as_reference, own_if, plain_form, value_form}
+use Rattle.wgsl_text.specs.Statements.{Block, Statements, NoStatements, Then, statement_pieces}
+use Rattle.wgsl_text.specs.Statements.{statements_pieces}
+use Rattle.naga_form.specs.Statements.{let_form, then_if, lets_form, return_line, loop_form}
+use Rattle.naga_form.specs.Statements.{line_form, lines_form, cases_form}
+use Rattle.wgsl_text.proofs.Statements.{let_text as let_row_text, typed_let_text, assign_text}
+use Rattle.wgsl_text.proofs.Statements.{return_text as return_row_text, then_text}
+use Rattle.wgsl_text.specs.Statements as tree
 use Rattle.naga_scope.specs.declared.points.Standing.{Standing}
 use Rattle.naga_scope.specs.Standings.{handles_of}
 use Rattle.naga_scope.proofs.Emitting.{range_more, range_none}
 use Rattle.naga_words.specs.Output.{joined}
-use Rattle.wgsl_text.specs.Tree.{Block, Expression, NoStatements, Statements, Then, TypeSpecifier}
-use Rattle.wgsl_text.specs.Tree as tree
-use Rattle.wgsl_text.specs.Lines.{statement_pieces, statements_pieces}
-use Rattle.wgsl_text.specs.Pieces.{expression_pieces}
 use Rattle.wgsl_text.specs.Reading.{type_layout}
 use Rattle.wgsl_text.specs.Text.{text}
-use Rattle.wgsl_text.proofs.RowText.{assign_text, let_text as let_row_text, return_text as return_row_text, then_text, typed_let_text}
 use Rattle.naga_wgsl_fns.specs.declared.functions.FunctionText.{FunctionText}
 use Rattle.naga_wgsl_fns.specs.FunctionText.{CanWrite, expressions, naming, told}
 use Rattle.naga_wgsl_fns.specs.Expressions.{own_form, own_text, reference_text, value_text}

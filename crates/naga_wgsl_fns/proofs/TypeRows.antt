@@ -13,7 +13,10 @@ use Rattle.module_meaning.specs.Accepted.{is_scalar_type}
 use Rattle.naga_info.specs.Resolution.{inner_of}
 use Rattle.module_meaning.specs.Spelled.{word_of_type, word_at, pointer_spelling, spelling, spelling_of}
 use Rattle.naga_info.proofs.Options.{map_some, then_some}
-use Rattle.module_meaning.proofs.Accepting.{list_all_at}
+use Rattle.wgsl_text.specs.Types.{TypeSpecifier, Named}
+use Rattle.wgsl_text.proofs.Text.{text-append}
+use Rattle.naga_form.proofs.TypeTrees.{only_text, lacks_unknown, type_row, inner_tree_row}
+use Rattle.module_meaning.proofs.Accepted.{list_all_at}
 use Rattle.naga_names.specs.Keys.{NameMap, names_in}
 use Rattle.naga_info.specs.declared.info.TypeResolution.{TypeResolution}
 use Rattle.naga_info.specs.declared.info.TypeResolution.TheVariants as resolution
@@ -25,10 +28,7 @@ use Rattle.naga_words.specs.Spelling.{Context, Fits, FitsResolution, IsInOrder, 
 use Rattle.naga_words.specs.Sink.{IsBehind}
 use Rattle.naga_form.specs.TypeTrees.{type_tree, resolution_tree}
 use Rattle.naga_words.specs.declared.error.TypeTextError.{TypeTextError}
-use Rattle.naga_form.proofs.TypeTexts.{only_text, lacks_unknown, type_row, inner_tree_row}
 use Rattle.wgsl_text.specs.Reading.{type_layout}
-use Rattle.wgsl_text.specs.Tree.{TypeSpecifier, Named}
-use Rattle.wgsl_text.proofs.RowText.{text-append}
 use Rattle.module_meaning.specs.Names.{module_names}
 use Rattle.naga_form.proofs.WrittenTypes.{HasForm, word_has_form, resolution_has_form}
 use Rattle.naga_words.specs.Output.{Follows, Goes, Lies, PartsFollow, PartsGo, PartsLie, Seen}

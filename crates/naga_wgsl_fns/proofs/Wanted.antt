@@ -26,7 +26,14 @@ use Rattle.module_meaning.specs.Types.{type_names}
 use Rattle.naga_form.proofs.WrittenTypes.{known_spelled, resolution_has_form}
 use Rattle.naga_form.specs.TypeTrees.{resolution_tree}
 use Rattle.wgsl_text.specs.Reading.{type_layout}
-use Rattle.wgsl_text.specs.Tree.{Named}
+use Rattle.wgsl_text.specs.Types.{Named}
+use Rattle.naga_names.proofs.Refusal.{element}
+use Rattle.module_meaning.proofs.Accepted.{list_all_at, scalar_types_word_at}
+use Rattle.module_meaning.proofs.Accepted.{function_fits_signature, function_fits_locals}
+use Rattle.module_meaning.proofs.Accepted.{function_fits_block, function_fits_length}
+use Rattle.module_meaning.proofs.Accepted.{function_fits_word_at, value_fits_word, local_fits_parts}
+use Rattle.module_meaning.proofs.Accepted.{local_word_at, load_word_at, applied_at, store_fits_word}
+use Rattle.module_meaning.proofs.Accepted.{local_first_word}
 use Rattle.module_meaning.proofs.Part.{written_parts}
 use Rattle.module_meaning.specs.Applications.{Application, application_of}
 use Rattle.shader_runs.specs.Premises.{AllBelow}
@@ -34,13 +41,6 @@ use Rattle.module_meaning.specs.Spelled.{literal_word, word_at, spelling_of, loc
 use Rattle.module_meaning.specs.Accepted.{is_below, expected_type, local_fits, statement_fits, return_fits}
 use Rattle.module_meaning.specs.Part.{names_nothing}
 use Rattle.naga_info.proofs.Options.{then_some}
-use Rattle.module_meaning.proofs.Accepting.{list_all_at, scalar_types_word_at}
-use Rattle.module_meaning.proofs.Accepting.{function_fits_signature, function_fits_locals}
-use Rattle.module_meaning.proofs.Accepting.{function_fits_block, function_fits_length}
-use Rattle.module_meaning.proofs.Accepting.{function_fits_word_at, local_fits_parts}
-use Rattle.module_meaning.proofs.Accepting.{value_fits_word, local_word_at, load_word_at}
-use Rattle.module_meaning.proofs.Accepting.{applied_at, store_fits_word, local_first_word}
-use Rattle.naga_names.proofs.Counts.{element}
 use Rattle.naga_wgsl_fns.specs.declared.functions.FunctionText.{FunctionText}
 use Rattle.naga_wgsl_fns.specs.FunctionText.{CanWrite, naming, tells_types}
 use Rattle.naga_wgsl_fns.specs.Types.{annotation_text, has_word, resolution_text, told_text, told_type_text}

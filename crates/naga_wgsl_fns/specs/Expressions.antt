@@ -1,10 +1,11 @@
 -- The texts of expressions, by the table of what is in scope where they are written.
 use Rattle.std.specs.Prelude.{ℕ, List, slice_get}
-use Rattle.naga_form.specs.Form.{PlainForm, as_reference, as_value, own_if, plain_form, value_forms}
+use Rattle.wgsl_text.specs.Expressions.{Name, AddressOf, Dereference}
+use Rattle.naga_form.specs.Expressions.{PlainForm, as_value, as_reference, value_forms, own_if}
+use Rattle.naga_form.specs.Expressions.{plain_form}
 use Rattle.naga_form.specs.Operators.{Notation, applied_form}
 use Rattle.naga_scope.specs.declared.points.Standing.{Standing}
 use Rattle.naga_scope.specs.Standings.{handles_of}
-use Rattle.wgsl_text.specs.Tree.{AddressOf, Dereference, Name}
 use Rattle.wgsl_text.specs.Reading.{expression_layout}
 use Rattle.naga_wgsl_fns.specs.declared.functions.FunctionText.{FunctionText}
 use Rattle.naga_wgsl_fns.specs.FunctionText.{expressions, naming}

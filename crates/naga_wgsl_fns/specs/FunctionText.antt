@@ -11,7 +11,7 @@ use Rattle.module_meaning.specs.Shapes.{function_naming}
 use Rattle.naga_form.specs.Types.{told_type}
 use Rattle.module_meaning.specs.Types.{type_names}
 use Rattle.naga_words.specs.Contexts.{Names as TypeNames}
-use Rattle.wgsl_text.specs.Tree.{TypeSpecifier}
+use Rattle.wgsl_text.specs.Types.{TypeSpecifier}
 use Rattle.naga_back.specs.declared.flags.WriterFlags.{WriterFlags}
 use Rattle.naga_wgsl_fns.specs.declared.functions.FunctionText.{FunctionText}
 

@@ -9,13 +9,16 @@ use Rattle.naga_info.specs.declared.info.ExpressionInfo.{ExpressionInfo}
 use Rattle.naga_info.specs.declared.info.ModuleInfo.{ModuleInfo}
 use Rattle.shader_runs.specs.Scope.{at_start}
 use Rattle.module_meaning.specs.Names.{module_names}
-use Rattle.naga_form.specs.Form.{function_form, parameter_form, value_form}
+use Rattle.wgsl_text.specs.Expressions.{Expression}
+use Rattle.naga_form.specs.Expressions.{value_form}
+use Rattle.wgsl_text.specs.Functions.{Local, Function, value_pieces, parameter_pieces}
+use Rattle.wgsl_text.specs.Functions.{parameters_pieces, result_pieces, locals_pieces, group_end}
+use Rattle.wgsl_text.specs.Functions.{function_pieces}
+use Rattle.naga_form.specs.Functions.{parameter_form, function_form}
 use Rattle.naga_form.specs.Types.{type_form}
 use Rattle.naga_scope.specs.declared.points.Standing.{Standing}
 use Rattle.naga_scope.specs.Standings.{handles_of}
-use Rattle.wgsl_text.specs.Declarations.{function_pieces, group_end, locals_pieces, parameter_pieces, parameters_pieces, result_pieces, value_pieces}
 use Rattle.wgsl_text.specs.Text.{text}
-use Rattle.wgsl_text.specs.Tree.{Expression, Function, Local}
 use Rattle.naga_back.specs.declared.flags.WriterFlags.{WriterFlags}
 use Rattle.naga_wgsl_fns.specs.declared.functions.FunctionText.{FunctionText}
 use Rattle.naga_wgsl_fns.specs.FunctionText.{expressions, naming, tells_types, type_names_of}

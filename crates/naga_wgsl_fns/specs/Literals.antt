@@ -2,7 +2,7 @@
 use Rattle.std.specs.Prelude.{ℕ, ℤ, List}
 use Rattle.naga_ir.specs.declared.expression.Literal.{Literal}
 use Rattle.naga_form.specs.Literals.{integer_form, literal_form, long_form}
-use Rattle.wgsl_text.specs.Pieces.{literal_pieces}
+use Rattle.wgsl_text.specs.Literals.{literal_pieces}
 use Rattle.wgsl_text.specs.Text.{text}
 
 unfoldable pub literal_text : Literal → List ℕ

@@ -5,11 +5,12 @@ use Rattle.naga_ir.specs.StatementTree.{BlockTree, StatementTree}
 use Rattle.naga_back.specs.Indentation.{indentation}
 use Rattle.shader_runs.specs.Program.{binds}
 use Rattle.shader_runs.specs.Scope.{bound_name}
-use Rattle.naga_form.specs.Form.{as_reference, as_value, let_form, lets_form, line_form, lines_form, return_line}
+use Rattle.naga_form.specs.Expressions.{as_value, as_reference}
+use Rattle.wgsl_text.specs.Statements.{Statement, Assign, ReturnValue, Statements, NoStatements}
+use Rattle.wgsl_text.specs.Statements.{statement_pieces, statements_pieces}
+use Rattle.naga_form.specs.Statements.{let_form, lets_form, return_line, line_form, lines_form}
 use Rattle.naga_scope.specs.declared.points.Standing.{Standing}
 use Rattle.naga_scope.specs.Standings.{handles_of}
-use Rattle.wgsl_text.specs.Tree.{Assign, NoStatements, ReturnValue, Statement, Statements}
-use Rattle.wgsl_text.specs.Lines.{statement_pieces, statements_pieces}
 use Rattle.wgsl_text.specs.Text.{text}
 use Rattle.naga_wgsl_fns.specs.declared.functions.FunctionText.{FunctionText}
 use Rattle.naga_wgsl_fns.specs.FunctionText.{expressions, naming, told}

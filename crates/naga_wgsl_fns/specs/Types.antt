@@ -6,7 +6,7 @@ use Rattle.naga_info.specs.declared.info.TypeResolution.{TypeResolution}
 use Rattle.module_meaning.specs.Spelled.{word_at}
 use Rattle.naga_form.specs.Types.{type_form}
 use Rattle.naga_form.specs.TypeTrees.{resolution_tree}
-use Rattle.wgsl_text.specs.Tree.{TypeSpecifier, Named}
+use Rattle.wgsl_text.specs.Types.{TypeSpecifier, Named}
 use Rattle.wgsl_text.specs.Reading.{type_layout}
 use Rattle.naga_wgsl_fns.specs.declared.functions.FunctionText.{FunctionText}
 use Rattle.naga_wgsl_fns.specs.FunctionText.{told, type_names_of}

@@ -5,21 +5,21 @@ use Rattle.std.specs.Prelude.{IfErr, IsTrue, OnErr, OnOk, Result}
 use Rattle.naga_ir.specs.declared.module.Module.{Module}
 use Rattle.module_meaning.specs.Accepted.{is_accepted}
 use Rattle.module_meaning.specs.Part.{is_written_so_far}
-use Rattle.module_meaning.proofs.Accepting.{accepted_functions_fit, functions_fit_length}
+use Rattle.wgsl_text.specs.Declarations.{Program}
+use Rattle.naga_form.specs.Declarations.{written_program}
+use Rattle.naga_form.proofs.Resolution.{resolves}
+use Rattle.naga_form.proofs.Interface.{has_interface}
+use Rattle.naga_form.proofs.Programs.{is_program}
+use Rattle.module_meaning.proofs.Accepted.{accepted_functions_fit, functions_fit_length}
 use Rattle.naga_info.specs.declared.info.ModuleInfo.{ModuleInfo}
 use Rattle.naga_names.specs.Keys.{NameMap}
 use Rattle.wgsl_text.specs.Reading.{Reads, HasOneReading}
 use Rattle.wgsl_text.specs.Text.{tokens}
-use Rattle.wgsl_text.specs.Tree.{Program}
 use Rattle.wgsl_text.proofs.Reading.{program_has_one_reading}
 use Rattle.module_meaning.specs.Faithful.{HasInterfaceOf, RunsAs}
-use Rattle.naga_form.specs.Form.{written_program}
 use Rattle.module_meaning.specs.Bindings.{BindsAs}
 use Rattle.naga_form.proofs.Bindings.{binds_as}
-use Rattle.naga_form.proofs.Interfaces.{has_interface}
-use Rattle.naga_form.proofs.Programs.{is_program}
 use Rattle.module_meaning.specs.Resolution.{ResolvesAs}
-use Rattle.naga_form.proofs.Resolutions.{resolves}
 use Rattle.module_meaning.proofs.Part.{functions_name_nothing}
 use Rattle.naga_form.proofs.Runs.{runs_as}
 use Rattle.naga_scope.specs.Plans.{ScopeHoldsIn}

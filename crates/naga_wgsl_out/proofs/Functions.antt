@@ -14,13 +14,13 @@ use Rattle.naga_ir.specs.declared.module.Module.{Module}
 use Rattle.naga_info.specs.declared.info.ExpressionInfo.{ExpressionInfo}
 use Rattle.naga_info.specs.declared.info.ModuleInfo.{ModuleInfo}
 use Rattle.module_meaning.specs.Accepted.{is_accepted}
-use Rattle.module_meaning.proofs.Accepting.{accepted_functions_fit, functions_fit_length}
-use Rattle.wgsl_text.specs.Declarations.{function_pieces, functions_pieces}
-use Rattle.wgsl_text.specs.Text.{text}
 use Rattle.wgsl_text.specs.Token.{LineEnd}
-use Rattle.wgsl_text.proofs.RowText.{text-append}
-use Rattle.naga_form.specs.Form.{function_form, functions_form}
-use Rattle.naga_names.proofs.Counts.{element}
+use Rattle.wgsl_text.specs.Functions.{function_pieces, functions_pieces}
+use Rattle.naga_form.specs.Functions.{function_form, functions_form}
+use Rattle.wgsl_text.proofs.Text.{text-append}
+use Rattle.naga_names.proofs.Refusal.{element}
+use Rattle.module_meaning.proofs.Accepted.{accepted_functions_fit, functions_fit_length}
+use Rattle.wgsl_text.specs.Text.{text}
 use Rattle.naga_scope.specs.Plans.{IsPlanOf, ScopeHoldsIn}
 use Rattle.naga_scope.specs.declared.points.Standing.{Standing}
 use Rattle.module_meaning.specs.Names.{module_names}

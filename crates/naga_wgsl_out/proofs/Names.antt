@@ -16,10 +16,11 @@ use Rattle.naga_names.specs.Reset.{labelled_items, key_fits, HasNamedItems}
 use Rattle.naga_names.specs.declared.key.NameKey.TheVariants as key
 use Rattle.naga_names.proofs.NamedItems.{named_there, few_labels, local_stands}
 use Rattle.module_meaning.specs.Names.{reserved_prefixes, wgsl_names, module_names, function_name, HasNamesOf}
-use Rattle.module_meaning.proofs.Accepting.{list_all_at}
+use Rattle.naga_form.proofs.Names.{name_is, function_item, argument_item, function_there}
+use Rattle.naga_form.proofs.Names.{argument_there}
+use Rattle.naga_names.proofs.Refusal.{element}
+use Rattle.module_meaning.proofs.Accepted.{list_all_at}
 use Rattle.naga_form.proofs.Fits.{local_item}
-use Rattle.naga_form.proofs.Named.{name_is, function_item, argument_item, function_there, argument_there}
-use Rattle.naga_names.proofs.Counts.{element}
 use Rattle.naga_wgsl_out.specs.Refusals.{NamerIsFull, KeyIsOutOfRange, HasAllNames}
 
 module _ (m : Module) (before now : NameMap) (names : Names) (has : HasNamedItems wgsl_names before (labelled_items wgsl_names m) names now) where

@@ -15,7 +15,7 @@ use Rattle.shader_runs.specs.ScopeRules.{ScopeHolds}
 use Rattle.module_meaning.specs.Accepted.{is_accepted}
 use Rattle.module_meaning.specs.Premises.{EachScopeHolds, ScopesHold, handles_are_counted}
 use Rattle.module_meaning.specs.Shapes.{expression_shape, function_shapes}
-use Rattle.module_meaning.proofs.Accepting.{accepted_functions_fit, functions_fit_at}
+use Rattle.module_meaning.proofs.Accepted.{accepted_functions_fit, functions_fit_at}
 use Rattle.naga_scope.specs.Plans.{IsPlan, ScopeHoldsIn, function_shape_at}
 use Rattle.naga_scope.proofs.Planned.{plan_found}
 use Rattle.naga_wgsl_out.specs.Writing.{HasPlan}

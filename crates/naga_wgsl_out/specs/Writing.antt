@@ -8,9 +8,10 @@ use Rattle.naga_ir.specs.declared.module.Module.{Module}
 use Rattle.naga_info.specs.declared.info.ModuleInfo.{ModuleInfo}
 use Rattle.naga_scope.specs.Plans.{IsPlanOf, ScopeHoldsIn}
 use Rattle.naga_scope.specs.declared.points.Standing.{Standing}
-use Rattle.naga_form.specs.Form.{function_form, written_program}
+use Rattle.wgsl_text.specs.Functions.{function_pieces}
+use Rattle.naga_form.specs.Functions.{function_form}
+use Rattle.naga_form.specs.Declarations.{written_program}
 use Rattle.module_meaning.specs.Names.{module_names}
-use Rattle.wgsl_text.specs.Declarations.{function_pieces}
 use Rattle.wgsl_text.specs.Text.{text}
 use Rattle.wgsl_text.specs.Reading.{layout}
 use Rattle.naga_wgsl_fns.specs.Appends.{Stopped, Wrote}

@@ -1,10 +1,21 @@
 -- What a syntax tree does when it runs: the abstract text of each tree of the grammar, a line for each row.
 use Rattle.std.specs.Prelude.{pos, ◌||◌, List, [], ◌∷◌, ◌++◌, map, reverse, ◌==◌, if◌then◌else◌, Some, None, codes, decimal}
 use Rattle.std.specs.Option.{option_map}
-use Rattle.wgsl_text.specs.Tree as tree
-use Rattle.wgsl_text.specs.Templates.{pointer_tree}
-use Rattle.wgsl_text.specs.Tree.{NoSpace, SpaceAlone, SpaceAndAccess, Constant, Name as NameExpression, Binary, Unary, Call, Member, IndexAt, AddressOf as Address, Dereference, NoArguments, Argument, NumberArgument, ZeroArgument, BinaryOperator, LogicalAnd, LogicalOr, TypeSpecifier, DefaultLabel, SignedLabel, UnsignedLabel, LastLabel, MoreLabels, TypedLet, CallStatement, ReturnValue, Discard, If, Loop, LoopBreakIf, Switch, NoStatements, Then, NoCases, Case}
-use Rattle.wgsl_text.specs.Pieces.{binary_pieces, unary_mark}
+use Rattle.wgsl_text.specs.Types.{TypeSpecifier, pointer_tree}
+use Rattle.wgsl_text.specs.Expressions.{BinaryOperator, LogicalAnd, LogicalOr, Constant}
+use Rattle.wgsl_text.specs.Expressions.{Name as NameExpression, Binary, Unary, Call, Member}
+use Rattle.wgsl_text.specs.Expressions.{IndexAt, AddressOf as Address, Dereference, NoArguments}
+use Rattle.wgsl_text.specs.Expressions.{Argument, NumberArgument, ZeroArgument, binary_pieces}
+use Rattle.wgsl_text.specs.Expressions.{unary_mark}
+use Rattle.wgsl_text.specs.Statements.{DefaultLabel, SignedLabel, UnsignedLabel, LastLabel}
+use Rattle.wgsl_text.specs.Statements.{MoreLabels, TypedLet, CallStatement, ReturnValue, Discard}
+use Rattle.wgsl_text.specs.Statements.{If, Loop, LoopBreakIf, Switch, NoStatements, Then, NoCases}
+use Rattle.wgsl_text.specs.Statements.{Case}
+use Rattle.wgsl_text.specs.Declarations.{NoSpace, SpaceAlone, SpaceAndAccess}
+use Rattle.wgsl_text.specs.Expressions as tree_expressions
+use Rattle.wgsl_text.specs.Statements as tree
+use Rattle.wgsl_text.specs.Functions as tree_functions
+use Rattle.wgsl_text.specs.Declarations as tree_declarations
 use Rattle.wgsl_text.specs.Text.{text, mark_text}
 use Rattle.wgsl_text.specs.Reading.{type_layout}
 use Rattle.shader_runs.specs.Value.{Bytes, MemberNamed, ElementAt, Opaque, ShortCircuitAnd, ShortCircuitOr}
@@ -19,25 +30,25 @@ binary_tree LogicalOr a b = Logical ShortCircuitOr a b
 binary_tree op a b = Apply (text (binary_pieces op)) (more a (more b no_more))
 
 -- the component of a gather belongs to the word
-abbrev pub called_word : TypeSpecifier → tree.Arguments → Bytes
+abbrev pub called_word : TypeSpecifier → tree_expressions.Arguments → Bytes
 called_word t (NumberArgument n rest) = type_layout t ++ (codes " " ++ decimal n)
 called_word t _ = type_layout t
 
 abbrev mutual
-  pub expression_read : tree.Expression → Tree
+  pub expression_read : tree_expressions.Expression → Tree
   expression_read (Constant l) = LiteralOf (value_read l)
   expression_read (NameExpression w) = Name w
   expression_read (Binary a op b) = binary_tree op (expression_read a) (expression_read b)
   expression_read (Unary op e) = Apply (mark_text (unary_mark op)) (more (expression_read e) no_more)
   expression_read (Call t args) = Apply (called_word t args) (arguments_read args)
   expression_read (Member e w) = PartOf (MemberNamed w) (expression_read e)
-  expression_read (tree.Index e i) = Index (expression_read e) (expression_read i)
+  expression_read (tree_expressions.Index e i) = Index (expression_read e) (expression_read i)
   expression_read (IndexAt e n) = PartOf (ElementAt n) (expression_read e)
   expression_read (Address e) = AddressOf (expression_read e)
   expression_read (Dereference e) = Deref (expression_read e)
 
   -- the level `0.0` is a number
-  pub arguments_read : tree.Arguments → Trees
+  pub arguments_read : tree_expressions.Arguments → Trees
   arguments_read NoArguments = no_more
   arguments_read (Argument e rest) = more (expression_read e) (arguments_read rest)
   arguments_read (NumberArgument n rest) = arguments_read rest
@@ -83,27 +94,27 @@ abbrev mutual
 abbrev pub local_pointer_read : TypeSpecifier → Bytes
 local_pointer_read type = type_layout (pointer_tree (codes "function") None type)
 
-abbrev pub global_pointer_read : tree.Space → TypeSpecifier → Bytes
+abbrev pub global_pointer_read : tree_declarations.Space → TypeSpecifier → Bytes
 global_pointer_read NoSpace type = []
 global_pointer_read (SpaceAlone space) type = type_layout (pointer_tree space None type)
 global_pointer_read (SpaceAndAccess space access) type = type_layout (pointer_tree space (Some access) type)
 
-abbrev pub variable_read : tree.Local → Variable
+abbrev pub variable_read : tree_functions.Local → Variable
 variable_read l =
     record { name = l.name; pointer = local_pointer_read l.type; first_value = option_map expression_read l.value }
 
-abbrev pub module_variable_read : tree.Global → ModuleVariable
+abbrev pub module_variable_read : tree_declarations.Global → ModuleVariable
 module_variable_read g = record { name = g.name; pointer = global_pointer_read g.space g.type }
 
-abbrev pub function_read : tree.Function → TextFunction
+abbrev pub function_read : tree_functions.Function → TextFunction
 function_read f =
     record { name = f.name; parameters = map (λ p. p.name) f.parameters; variables = map variable_read f.locals; lines = statements_read f.body }
 
-abbrev pub constant_read : tree.NamedConstant → TextConstant
+abbrev pub constant_read : tree_declarations.NamedConstant → TextConstant
 constant_read c = record { name = c.name; initialiser = expression_read c.value }
 
 -- a text's functions and entry points, the last one first
-abbrev pub program_read : tree.Program → TextModule
+abbrev pub program_read : tree_declarations.Program → TextModule
 program_read p =
     record {
       constants = map constant_read p.constants;

@@ -1,7 +1,8 @@
 -- The types that the `let`s of a text tell.
 use Rattle.std.specs.Prelude.{◌≡◌, ℕ, List, [], ◌∷◌, ◌++◌, Option, Some, None}
 use Rattle.wgsl_text.specs.Reading.{type_layout}
-use Rattle.wgsl_text.specs.Tree.{Statement, Let, TypedLet, If, Loop, LoopBreakIf, Switch, Block, Statements, NoStatements, Then, Cases, NoCases, Case}
+use Rattle.wgsl_text.specs.Statements.{Statement, Let, TypedLet, If, Loop, LoopBreakIf, Switch}
+use Rattle.wgsl_text.specs.Statements.{Block, Statements, NoStatements, Then, Cases, NoCases, Case}
 
 -- the types that `let`s tell, by their spellings, in the order of the text: one for each, if it
 -- tells one

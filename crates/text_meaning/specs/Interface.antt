@@ -2,7 +2,9 @@
 -- module under its names. A type is told by its spelling.
 use Rattle.std.specs.Prelude.{ℕ, ◌+◌, List, [], ◌∷◌, map, Option, Some, None}
 use Rattle.wgsl_text.specs.Reading.{type_layout}
-use Rattle.wgsl_text.specs.Tree.{Attribute, Parameter, Result, NoResult, ResultOf, Function, EntryPoint, Struct, NamedConstant, Override, Global, Program}
+use Rattle.wgsl_text.specs.Attributes.{Attribute}
+use Rattle.wgsl_text.specs.Functions.{Parameter, Result, NoResult, ResultOf, Function, EntryPoint}
+use Rattle.wgsl_text.specs.Declarations.{Struct, NamedConstant, Override, Global, Program}
 
 -- what passes in or out of a function: the attributes that bind it, and its type's spelling
 pub record Passed : Type 0 where

@@ -1,7 +1,8 @@
 -- The values of literals in a text.
 use Rattle.std.specs.Prelude.{ℕ, suc, ℤ, pos, negsuc, Bool, true, List, [], ◌==◌, ◌+◌, ◌*◌, if◌then◌else◌, codes}
 use Rattle.wgsl_text.specs.Token.{Suffix, NoSuffix, SuffixI, SuffixU, SuffixLi, SuffixLu}
-use Rattle.wgsl_text.specs.Tree.{Literal, Truth, Suffixed, SignedShort, UnsignedShort, LeastInteger, LeastLong}
+use Rattle.wgsl_text.specs.Literals.{Literal, Truth, Suffixed, SignedShort, UnsignedShort}
+use Rattle.wgsl_text.specs.Literals.{LeastInteger, LeastLong}
 use Rattle.shader_runs.specs.Value.{Value, Truth as TruthValue, Whole}
 
 -- the integer of a sign and a number

@@ -2,9 +2,9 @@
 use Rattle.std.proofs.Common.{ℕ, zero, suc, refl, rules}
 use Rattle.std.specs.Prelude.{codes}
 use Rattle.wgsl_text.specs.Words.{is_reserved, is_builtin, IsIdentifier}
-use Rattle.wgsl_text.specs.Tree.{Template, TypePart, NoParts}
-use Rattle.wgsl_text.specs.Grammar.{IsType, IsExpression}
-use Rattle.wgsl_text.specs.GrammarOfLines.{IsProgram}
+use Rattle.wgsl_text.specs.Types.{Template, NoParts, TypePart, IsType}
+use Rattle.wgsl_text.specs.Expressions.{IsExpression}
+use Rattle.wgsl_text.specs.Declarations.{IsProgram}
 use Rattle.wgsl_text.specs.WorkedTrees.{named}
 use Rattle.wgsl_text.specs.LargeExamples.{deep, doubled, double, LargePrograms}
 

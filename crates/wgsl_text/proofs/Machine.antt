@@ -2,9 +2,46 @@
 -- pieces and no more: it may also accept what the grammar does not have.
 use Rattle.std.specs.Prelude.{ℕ, Bool, true, false, cond, List, [], ◌∷◌, codes, Option, None, Some}
 use Rattle.std.specs.Str.{bytes_eq}
-use Rattle.wgsl_text.specs.Token.{Mark, OpenParen, CloseParen, OpenBracket, CloseBracket, OpenBrace, CloseBrace, Comma, Semicolon, Colon, Dot, At, Equals, LessThan, GreaterThan, Plus, Minus, Star, Slash, Percent, Ampersand, Bar, Caret, Not, Tilde, EqualsEquals, NotEquals, LessEquals, AndAnd, BarBar, LessLess, KeywordTrue, KeywordFalse, KeywordLet, KeywordVar, KeywordIf, KeywordElse, KeywordLoop, KeywordContinuing, KeywordBreak, KeywordContinue, KeywordSwitch, KeywordCase, KeywordDefault, KeywordReturn, KeywordDiscard, KeywordFn, KeywordStruct, KeywordConst, KeywordEnable, KeywordOverride, Suffix, NoSuffix, SuffixU, Token, Fixed, Word, Number, ZeroPointZero, Foreign, Piece, TokenPiece, Blank, LineEnd, Indent}
-use Rattle.wgsl_text.specs.Tree.{BinaryOperator, Add, Subtract, Multiply, Divide, Modulo, Equal, NotEqual, Less, LessEqual, Greater, GreaterEqual, And, ExclusiveOr, InclusiveOr, LogicalAnd, LogicalOr, ShiftLeft, ShiftRight, UnaryOperator, Negate, LogicalNot, BitwiseNot, Literal, Truth, Suffixed, SignedShort, UnsignedShort, LeastInteger, LeastLong, TypeSpecifier, Named, Template, TypeParts, NoParts, TypePart, SizePart, Expression, Constant, Name, Binary, Unary, Call, Member, Index, IndexAt, AddressOf, Dereference, Arguments, NoArguments, Argument, NumberArgument, ZeroArgument, Label, DefaultLabel, SignedLabel, UnsignedLabel, Labels, LastLabel, MoreLabels, Statement, Let, TypedLet, Assign, CallStatement, Return, ReturnValue, Discard, Break, Continue, If, Loop, LoopBreakIf, Switch, Block, Statements, NoStatements, Then, Cases, NoCases, Case, PlainAttribute, Invariant, PerPrimitive, Coherent, Volatile, Vertex, Fragment, Compute, Task, RayGeneration, AnyHit, ClosestHit, Miss, NumberedAttribute, Location, BlendSource, Id, Group, Binding, Size, Align, WordedAttribute, Builtin, Interpolate, Mesh, Payload, IncomingPayload, Attribute, Plain, Numbered, Worded, Interpolated, WorkgroupSize, Parameter, Result, NoResult, ResultOf, Local, Function, EntryPoint, StructMember, Struct, NamedConstant, Override, Space, NoSpace, SpaceAlone, SpaceAndAccess, Global, Program}
-use Rattle.wgsl_text.specs.Declarations.{plain_attribute_word, numbered_attribute_word, worded_attribute_word}
+use Rattle.wgsl_text.specs.Token.{Mark, OpenParen, CloseParen, OpenBracket, CloseBracket, OpenBrace}
+use Rattle.wgsl_text.specs.Token.{CloseBrace, Comma, Semicolon, Colon, Dot, At, Equals, LessThan}
+use Rattle.wgsl_text.specs.Token.{GreaterThan, Plus, Minus, Star, Slash, Percent, Ampersand, Bar}
+use Rattle.wgsl_text.specs.Token.{Caret, Not, Tilde, EqualsEquals, NotEquals, LessEquals, AndAnd}
+use Rattle.wgsl_text.specs.Token.{BarBar, LessLess, KeywordTrue, KeywordFalse, KeywordLet}
+use Rattle.wgsl_text.specs.Token.{KeywordVar, KeywordIf, KeywordElse, KeywordLoop}
+use Rattle.wgsl_text.specs.Token.{KeywordContinuing, KeywordBreak, KeywordContinue, KeywordSwitch}
+use Rattle.wgsl_text.specs.Token.{KeywordCase, KeywordDefault, KeywordReturn, KeywordDiscard}
+use Rattle.wgsl_text.specs.Token.{KeywordFn, KeywordStruct, KeywordConst, KeywordEnable}
+use Rattle.wgsl_text.specs.Token.{KeywordOverride, Suffix, NoSuffix, SuffixU, Token, Fixed, Word}
+use Rattle.wgsl_text.specs.Token.{Number, ZeroPointZero, Foreign, Piece, TokenPiece, Blank, LineEnd}
+use Rattle.wgsl_text.specs.Token.{Indent}
+use Rattle.wgsl_text.specs.Literals.{Literal, Truth, Suffixed, SignedShort, UnsignedShort}
+use Rattle.wgsl_text.specs.Literals.{LeastInteger, LeastLong}
+use Rattle.wgsl_text.specs.Types.{TypeSpecifier, Named, Template, TypeParts, NoParts, TypePart}
+use Rattle.wgsl_text.specs.Types.{SizePart}
+use Rattle.wgsl_text.specs.Expressions.{BinaryOperator, Add, Subtract, Multiply, Divide, Modulo}
+use Rattle.wgsl_text.specs.Expressions.{Equal, NotEqual, Less, LessEqual, Greater, GreaterEqual}
+use Rattle.wgsl_text.specs.Expressions.{And, ExclusiveOr, InclusiveOr, LogicalAnd, LogicalOr}
+use Rattle.wgsl_text.specs.Expressions.{ShiftLeft, ShiftRight, UnaryOperator, Negate, LogicalNot}
+use Rattle.wgsl_text.specs.Expressions.{BitwiseNot, Expression, Constant, Name, Binary, Unary, Call}
+use Rattle.wgsl_text.specs.Expressions.{Member, Index, IndexAt, AddressOf, Dereference, Arguments}
+use Rattle.wgsl_text.specs.Expressions.{NoArguments, Argument, NumberArgument, ZeroArgument}
+use Rattle.wgsl_text.specs.Statements.{Label, DefaultLabel, SignedLabel, UnsignedLabel, Labels}
+use Rattle.wgsl_text.specs.Statements.{LastLabel, MoreLabels, Statement, Let, TypedLet, Assign}
+use Rattle.wgsl_text.specs.Statements.{CallStatement, Return, ReturnValue, Discard, Break, Continue}
+use Rattle.wgsl_text.specs.Statements.{If, Loop, LoopBreakIf, Switch, Block, Statements}
+use Rattle.wgsl_text.specs.Statements.{NoStatements, Then, Cases, NoCases, Case}
+use Rattle.wgsl_text.specs.Attributes.{PlainAttribute, Invariant, PerPrimitive, Coherent, Volatile}
+use Rattle.wgsl_text.specs.Attributes.{Vertex, Fragment, Compute, Task, RayGeneration, AnyHit}
+use Rattle.wgsl_text.specs.Attributes.{ClosestHit, Miss, NumberedAttribute, Location, BlendSource}
+use Rattle.wgsl_text.specs.Attributes.{Id, Group, Binding, Size, Align, WordedAttribute, Builtin}
+use Rattle.wgsl_text.specs.Attributes.{Interpolate, Mesh, Payload, IncomingPayload, Attribute}
+use Rattle.wgsl_text.specs.Attributes.{Plain, Numbered, Worded, Interpolated, WorkgroupSize}
+use Rattle.wgsl_text.specs.Attributes.{plain_attribute_word, numbered_attribute_word}
+use Rattle.wgsl_text.specs.Attributes.{worded_attribute_word}
+use Rattle.wgsl_text.specs.Functions.{Parameter, Result, NoResult, ResultOf, Local, Function}
+use Rattle.wgsl_text.specs.Functions.{EntryPoint}
+use Rattle.wgsl_text.specs.Declarations.{StructMember, Struct, NamedConstant, Override, Space}
+use Rattle.wgsl_text.specs.Declarations.{NoSpace, SpaceAlone, SpaceAndAccess, Global, Program}
 
 -- what is open, innermost first, with what has been read of it
 pub data Stack : Type 0 where

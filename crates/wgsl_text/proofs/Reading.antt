@@ -2,23 +2,24 @@
 use Rattle.std.proofs.Common.{◌≡◌, ℕ, List, [], ◌∷◌, refl, sym, ap, subst, ◌∙◌}
 use Rattle.std.proofs.lemmas.List.{append-nil}
 use Rattle.wgsl_text.specs.Token.{Token, Piece, TokenPiece, Blank, LineEnd, Indent}
+use Rattle.wgsl_text.specs.Types.{TypeSpecifier, type_pieces, IsType}
+use Rattle.wgsl_text.specs.Expressions.{Expression, expression_pieces, IsExpression}
+use Rattle.wgsl_text.specs.Statements.{Statement, NoStatements, Then, statement_pieces, IsStatement}
+use Rattle.wgsl_text.specs.Functions.{Function, function_pieces, IsFunction}
+use Rattle.wgsl_text.specs.Declarations.{Program, no_declarations, program_pieces, IsProgram}
+use Rattle.wgsl_text.proofs.Runs.{Runs}
+use Rattle.wgsl_text.proofs.Spacing.{Spaced}
+use Rattle.wgsl_text.proofs.Closing.{Closed}
+use Rattle.wgsl_text.proofs.Text.{Apart, pieces_scan}
+use Rattle.wgsl_text.proofs.Types.{type_runs, type_spaced}
+use Rattle.wgsl_text.proofs.Expressions.{expression_runs, expression_spaced}
+use Rattle.wgsl_text.proofs.Statements.{statement_runs, statement_closed}
+use Rattle.wgsl_text.proofs.Functions.{function_runs, function_closed}
+use Rattle.wgsl_text.proofs.Declarations.{newest_first, program_runs, newest_twice, program_closed}
 use Rattle.wgsl_text.specs.Words.{is_builtin}
-use Rattle.wgsl_text.specs.Tree.{TypeSpecifier, Expression, Statement, NoStatements, Then, Function, Program, no_declarations}
-use Rattle.wgsl_text.specs.Pieces.{type_pieces, expression_pieces}
-use Rattle.wgsl_text.specs.Lines.{statement_pieces}
-use Rattle.wgsl_text.specs.Declarations.{function_pieces, program_pieces}
-use Rattle.wgsl_text.specs.Grammar.{IsType, IsExpression}
-use Rattle.wgsl_text.specs.GrammarOfLines.{IsStatement, IsFunction, IsProgram}
 use Rattle.wgsl_text.specs.Text.{text, tokens_in, tokens}
 use Rattle.wgsl_text.specs.Reading.{ReadsType, ReadsExpression, ReadsStatement, ReadsFunction, Reads, type_layout, expression_layout, statement_layout, function_layout, layout, HasOneReading}
 use Rattle.wgsl_text.proofs.Machine.{State, Want, WantType, Got, GotType, Bottom, InStatements, InProgram, step, run}
-use Rattle.wgsl_text.proofs.Runs.{Runs, type_runs, expression_runs}
-use Rattle.wgsl_text.proofs.StatementRuns.{statement_runs}
-use Rattle.wgsl_text.proofs.DeclarationRuns.{newest_first, newest_twice, function_runs, program_runs}
-use Rattle.wgsl_text.proofs.Scans.{Apart, pieces_scan}
-use Rattle.wgsl_text.proofs.Spacing.{Spaced, type_spaced, expression_spaced}
-use Rattle.wgsl_text.proofs.StatementSpacing.{Closed, statement_closed}
-use Rattle.wgsl_text.proofs.DeclarationSpacing.{function_closed, program_closed}
 
 abbrev pub read : List Token → State → State
 read [] s = s

@@ -2,14 +2,21 @@
 use Rattle.std.proofs.Common.{◌≡◌, Bool, true, false, List, [], ◌∷◌, length, refl, sym, ap, subst, ◌∙◌, arith}
 use Rattle.std.specs.Prelude.{codes, ◌==◌, ◌<◌, ◌^◌}
 use Rattle.std.proofs.lemmas.Bool.{false≢true}
-use Rattle.wgsl_text.specs.Token.{Token, SuffixI, SuffixU}
+use Rattle.wgsl_text.specs.Token.{SuffixI, SuffixU, Token}
+use Rattle.wgsl_text.specs.Literals.{Suffixed}
+use Rattle.wgsl_text.specs.Types.{TypeSpecifier, Named, Template, NoParts, TypePart}
+use Rattle.wgsl_text.specs.Expressions.{Negate, Expression, Constant, Name, Unary, Call, Member}
+use Rattle.wgsl_text.specs.Expressions.{NoArguments, Argument, NumberArgument, ZeroArgument}
+use Rattle.wgsl_text.specs.Attributes.{Compute, Location, Size, Align, Builtin, Attribute, Plain}
+use Rattle.wgsl_text.specs.Attributes.{Numbered, Worded}
+use Rattle.wgsl_text.specs.Functions.{NoResult}
+use Rattle.wgsl_text.specs.Declarations.{Program, no_declarations}
+use Rattle.wgsl_text.proofs.Declarations.{newest_first, newest_twice}
 use Rattle.wgsl_text.specs.Words.{is_reserved, is_builtin}
-use Rattle.wgsl_text.specs.Tree.{TypeSpecifier, Expression, Program, Named, Template, TypePart, NoParts, Name, Call, Argument, NoArguments, NumberArgument, ZeroArgument, Member, Unary, Negate, Constant, Suffixed, no_declarations, NoResult, Plain, Compute, Worded, Builtin, Attribute, Numbered, Location, Size, Align}
 use Rattle.wgsl_text.specs.WorkedTrees.{named, name, call, parameter, function, of_functions, member, struct}
 use Rattle.wgsl_text.specs.Reading.{ReadsType, ReadsExpression, Reads}
 use Rattle.wgsl_text.specs.Refused.{Refused, IsNoExpression}
 use Rattle.wgsl_text.proofs.Machine.{State, Want, WantType, Got, GotType, Bottom, InProgram}
-use Rattle.wgsl_text.proofs.DeclarationRuns.{newest_first, newest_twice}
 use Rattle.wgsl_text.proofs.Reading.{read, type_read, expression_read, program_read, same_type, same_expression, same_program}
 
 abbrev is_type : State → Bool

@@ -1,15 +1,37 @@
--- The tokenizer takes the longest front that spells a token.
-use Rattle.std.proofs.Common.{◌≡◌, ℕ, ◌<◌, ◌≤◌, suc, Bool, true, false, cond, not, ◌&&◌, List, [], ◌∷◌, ◌++◌, length, take, drop, refl, sym, ap, subst, ◌∙◌, append_assoc, arith}
-use Rattle.std.specs.Prelude.{◌==◌, ◌+◌, ⊤}
+-- What the tokenizer takes is spelled by the bytes that it takes, and is the longest front that spells
+-- a token; bytes that spell a token are that token alone.
+use Rattle.std.proofs.Common.{◌≡◌, ℕ, ◌<◌, ◌≤◌, suc, Bool, true, false, cond, not, ◌&&◌, List, []}
+use Rattle.std.proofs.Common.{◌∷◌, ◌++◌, length, take, drop, refl, sym, ap, subst, ◌∙◌}
+use Rattle.std.proofs.Common.{append_assoc, arith, ◌||◌, eqb-true}
+use Rattle.std.specs.Prelude.{⊤, ◌+◌, ◌==◌}
 use Rattle.std.specs.Char.{is_ascii_digit}
-use Rattle.std.specs.Str.{all_ascii_digits, bytes_eq}
-use Rattle.std.proofs.lemmas.Bool.{false≢true, and_parts}
+use Rattle.std.specs.Str.{bytes_eq, all_ascii_digits}
+use Rattle.std.proofs.lemmas.Bool.{false≢true, and_parts, not-true}
 use Rattle.std.proofs.lemmas.List.{append-nil, length-append}
-use Rattle.wgsl_text.specs.Token.{Mark, Equals, LessThan, Ampersand, Bar, Not, Minus, EqualsEquals, NotEquals, AndAnd, BarBar, LessLess, KeywordTrue, KeywordFalse, KeywordLet, KeywordVar, KeywordIf, KeywordElse, KeywordLoop, KeywordContinuing, KeywordBreak, KeywordContinue, KeywordSwitch, KeywordCase, KeywordDefault, KeywordReturn, KeywordDiscard, KeywordFn, KeywordStruct, KeywordConst, KeywordEnable, KeywordOverride, Suffix, NoSuffix, SuffixI, SuffixU, SuffixLi, SuffixLu, Token, Fixed, Word, Foreign}
-use Rattle.wgsl_text.specs.Words.{is_letter, is_word_byte, all_word_bytes, is_word_text, is_reserved}
-use Rattle.wgsl_text.specs.Text.{Lexeme, Takes, Skips, mark_text, suffix_text, starts_with, word_length, digits_length, keyword_among, keywords, word_token, word_lexeme, suffix_at, is_point_zero, is_empty, number_of, number_lexeme, one_more, minus_lexeme, sign_or, lexeme}
-use Rattle.wgsl_text.specs.Spelling.{is_sign, number_text, Spells, SpellsWord, SpellsNumber, SpellsZeroPointZero, SpellsSign}
-use Rattle.wgsl_text.proofs.Scans.{when_true, when_false, digits_scan, digit_no_letter}
+use Rattle.wgsl_text.specs.Token.{Mark, Equals, LessThan, Minus, Ampersand, Bar, Not, EqualsEquals}
+use Rattle.wgsl_text.specs.Token.{NotEquals, LessEquals, AndAnd, BarBar, LessLess, KeywordTrue}
+use Rattle.wgsl_text.specs.Token.{KeywordFalse, KeywordLet, KeywordVar, KeywordIf, KeywordElse}
+use Rattle.wgsl_text.specs.Token.{KeywordLoop, KeywordContinuing, KeywordBreak, KeywordContinue}
+use Rattle.wgsl_text.specs.Token.{KeywordSwitch, KeywordCase, KeywordDefault, KeywordReturn}
+use Rattle.wgsl_text.specs.Token.{KeywordDiscard, KeywordFn, KeywordStruct, KeywordConst}
+use Rattle.wgsl_text.specs.Token.{KeywordEnable, KeywordOverride, Suffix, NoSuffix, SuffixI}
+use Rattle.wgsl_text.specs.Token.{SuffixU, SuffixLi, SuffixLu, Token, Fixed, Word, Number}
+use Rattle.wgsl_text.specs.Token.{ZeroPointZero, Foreign}
+use Rattle.wgsl_text.specs.Words.{is_letter, is_word_byte, all_word_bytes, is_word_text}
+use Rattle.wgsl_text.specs.Words.{is_reserved}
+use Rattle.wgsl_text.specs.Text.{Lexeme, Takes, Skips, mark_text, suffix_text, starts_with}
+use Rattle.wgsl_text.specs.Text.{word_length, digits_length, keyword_among, keywords, word_token}
+use Rattle.wgsl_text.specs.Text.{word_lexeme, suffix_at, is_point_zero, is_empty, number_of}
+use Rattle.wgsl_text.specs.Text.{number_lexeme, one_more, minus_lexeme, sign_or, lexeme, behind}
+use Rattle.wgsl_text.specs.Text.{scan, single, single_signs, sign_lexeme, tokens}
+use Rattle.wgsl_text.specs.Spelling.{is_sign, number_text, Spells, SpellsWord, SpellsNumber}
+use Rattle.wgsl_text.specs.Spelling.{SpellsZeroPointZero, SpellsSign, is_blank, Begins, AtBlank}
+use Rattle.wgsl_text.specs.Spelling.{AtToken, AtForeign}
+use Rattle.wgsl_text.proofs.Text.{when_true, when_false, ends_number, past, word_scans}
+use Rattle.wgsl_text.proofs.Text.{digit_no_letter, digits_scan, number_scans}
+use Rattle.std.specs.Str.Parse.{digits_value}
+use Rattle.std.proofs.lemmas.Slice.Eq.{bytes_eq-Decides}
+use Rattle.std.proofs.Math.Seq.{take-append_seam, drop-append_seam}
 
 -- how many bytes after its first a lexeme has
 abbrev taken : Lexeme → ℕ
@@ -171,3 +193,264 @@ longest _ _ (SpellsWord w is) rest = word_at_least w rest is
 longest _ _ (SpellsNumber negative ds suffix some is) rest = number_front negative ds suffix rest some is
 longest _ _ SpellsZeroPointZero rest = (tt, omega arith)
 longest _ _ (SpellsSign m is) rest = sign_at_least m is rest
+
+-- What is taken is spelled by the bytes that are taken.
+
+-- what the lexeme at the front of these bytes takes
+data Answer (b : ℕ) (bytes : List ℕ) (l : Lexeme) : Type 0 where
+  Skipped : is_blank b ≡ true → l ≡ Skips → Answer b bytes l
+  Spelled : (front rest : List ℕ) (t : Token) → bytes ≡ front ++ rest → Spells (b ∷ front) t → l ≡ Takes t (length front) → Answer b bytes l
+  Unknown : is_blank b ≡ false → l ≡ Takes (Foreign b) 0 → Answer b bytes l
+
+choose : {b : ℕ} {bytes : List ℕ} (c : Bool) (l m : Lexeme) → (c ≡ true → Answer b bytes l) → (c ≡ false → Answer b bytes m) → Answer b bytes (cond c l m)
+choose true l m yes_ no_ = yes_ refl
+choose false l m yes_ no_ = no_ refl
+
+answer_at : {b : ℕ} {bytes : List ℕ} {l m : Lexeme} → m ≡ l → Answer b bytes l → Answer b bytes m
+answer_at {b} {bytes} e a = subst (Answer b bytes) (sym e) a
+
+-- words
+
+record WordFront (bytes : List ℕ) : Type 0 where
+  front : List ℕ
+  rest : List ℕ
+  whole : bytes ≡ front ++ rest
+  word : all_word_bytes front ≡ true
+  count : word_length bytes ≡ length front
+
+word_front : (bytes : List ℕ) → WordFront bytes
+word_front [] = record { front = []; rest = []; whole = refl; word = refl; count = refl }
+word_front (b ∷ bytes) = longer (is_word_byte b) refl (word_front bytes)
+  where
+    longer : (c : Bool) → is_word_byte b ≡ c → WordFront bytes → WordFront (b ∷ bytes)
+    longer true e f = record {
+      front = b ∷ f.front;
+      rest = f.rest;
+      whole = ap (λ v. b ∷ v) f.whole;
+      word = ap (λ v. v && all_word_bytes f.front) e ∙ f.word;
+      count = when_true 0 e ∙ ap suc f.count;
+    }
+    longer false e f = record { front = []; rest = b ∷ bytes; whole = refl; word = refl; count = when_false (suc (word_length bytes)) e }
+
+word_answer : (b : ℕ) (bytes : List ℕ) → is_letter b ≡ true → Answer b bytes (word_lexeme b bytes)
+word_answer b bytes letter =
+    let f = word_front bytes in
+    let found : take (word_length bytes) bytes ≡ f.front = ap (λ n. take n bytes) f.count ∙ ap (take (length f.front)) f.whole ∙ take-append_seam f.front f.rest in
+    Spelled f.front f.rest (word_token (b ∷ f.front)) f.whole (SpellsWord (b ∷ f.front) (ap (λ v. v && all_word_bytes f.front) letter ∙ f.word))
+    (ap (λ v. Takes (word_token (b ∷ v)) (word_length bytes)) found ∙ ap (Takes (word_token (b ∷ f.front))) f.count)
+
+-- numbers
+
+record DigitFront (bytes : List ℕ) : Type 0 where
+  front : List ℕ
+  rest : List ℕ
+  whole : bytes ≡ front ++ rest
+  digits : all_ascii_digits front ≡ true
+  count : digits_length bytes ≡ length front
+
+digit_front : (bytes : List ℕ) → DigitFront bytes
+digit_front [] = record { front = []; rest = []; whole = refl; digits = refl; count = refl }
+digit_front (b ∷ bytes) = longer (is_ascii_digit b) refl (digit_front bytes)
+  where
+    longer : (c : Bool) → is_ascii_digit b ≡ c → DigitFront bytes → DigitFront (b ∷ bytes)
+    longer true e f = record {
+      front = b ∷ f.front;
+      rest = f.rest;
+      whole = ap (λ v. b ∷ v) f.whole;
+      digits = ap (λ v. v && all_ascii_digits f.front) e ∙ f.digits;
+      count = when_true 0 e ∙ ap suc f.count;
+    }
+    longer false e f = record { front = []; rest = b ∷ bytes; whole = refl; digits = refl; count = when_false (suc (digits_length bytes)) e }
+
+starts : (c : ℕ) (bytes : List ℕ) → starts_with c bytes ≡ true → (rest : List ℕ) × (bytes ≡ c ∷ rest)
+starts c [] e = absurd (false≢true e)
+starts c (b ∷ bytes) e = (bytes, ap (λ v. v ∷ bytes) (eqb-true b c e))
+
+-- the bytes begin with the suffix
+abbrev SuffixFront : List ℕ → Suffix → Type 0
+SuffixFront bytes s = (rest : List ℕ) × (bytes ≡ suffix_text s ++ rest)
+
+pick : (bytes : List ℕ) (c : Bool) (s s' : Suffix) → (c ≡ true → SuffixFront bytes s) → SuffixFront bytes s' → SuffixFront bytes (cond c s s')
+pick bytes true s s' a b = a refl
+pick bytes false s s' a b = b
+
+suffix_front : (bytes : List ℕ) → SuffixFront bytes (suffix_at bytes)
+suffix_front [] = ([], refl)
+suffix_front (b ∷ bytes) =
+    let none : SuffixFront (b ∷ bytes) NoSuffix = (b ∷ bytes, refl) in
+    pick _ (is_letter b) _ _ (λ _.
+    pick _ (b == 105) _ _ (λ e. (bytes, ap (λ v. v ∷ bytes) (eqb-true b 105 e)))
+    (pick _ (b == 117) _ _ (λ e. (bytes, ap (λ v. v ∷ bytes) (eqb-true b 117 e)))
+    (pick _ (b == 108) _ _ (λ e.
+    pick _ (starts_with 105 bytes) _ _ (λ f. let s = starts 105 bytes f in (s.0, ap (λ v. v ∷ bytes) (eqb-true b 108 e) ∙ ap (λ v. 108 ∷ v) s.1))
+    (pick _ (starts_with 117 bytes) _ _ (λ f. let s = starts 117 bytes f in (s.0, ap (λ v. v ∷ bytes) (eqb-true b 108 e) ∙ ap (λ v. 108 ∷ v) s.1)) none))
+    none))) none
+
+-- what a number that begins with the digit b is
+data NumberFront (negative : Bool) (b : ℕ) (bytes : List ℕ) (l : Lexeme) : Type 0 where
+  PointZero : negative ≡ false → b ≡ 48 → (rest : List ℕ) → bytes ≡ 46 ∷ 48 ∷ rest → l ≡ Takes ZeroPointZero 2 → NumberFront negative b bytes l
+  Digits : (ds rest : List ℕ) (suffix : Suffix) → all_ascii_digits ds ≡ true → bytes ≡ (ds ++ suffix_text suffix) ++ rest → l ≡ Takes (Number negative (digits_value 10 (b ∷ ds)) suffix) (length (ds ++ suffix_text suffix)) → NumberFront negative b bytes l
+
+no_more : (ds : List ℕ) → is_empty ds ≡ true → ds ≡ []
+no_more [] e = refl
+no_more (d ∷ ds) e = absurd (false≢true e)
+
+point_zero : (bytes : List ℕ) → is_point_zero bytes ≡ true → (rest : List ℕ) × (bytes ≡ 46 ∷ 48 ∷ rest)
+point_zero [] e = absurd (false≢true e)
+point_zero (b ∷ bytes) e =
+    let h = and_parts (b == 46) (starts_with 48 bytes) e in
+    let s = starts 48 bytes h.1 in
+    (s.0, ap (λ v. v ∷ bytes) (eqb-true b 46 h.0) ∙ ap (λ v. 46 ∷ v) s.1)
+
+number_of_digits : (negative : Bool) (b : ℕ) (bytes ds rest : List ℕ) → all_ascii_digits ds ≡ true → bytes ≡ ds ++ rest → NumberFront negative b bytes (number_of negative b ds rest)
+number_of_digits negative b bytes ds rest is whole = zero_or (is_point_zero rest && (not negative && (b == 48 && is_empty ds))) refl
+  where
+    s : SuffixFront rest (suffix_at rest)
+    s = suffix_front rest
+
+    zero_or : (c : Bool) → (is_point_zero rest && (not negative && (b == 48 && is_empty ds))) ≡ c → NumberFront negative b bytes (cond c (Takes ZeroPointZero 2) (Takes (Number negative (digits_value 10 (b ∷ ds)) (suffix_at rest)) (length (ds ++ suffix_text (suffix_at rest)))))
+    zero_or true e =
+        let h = and_parts (is_point_zero rest) (not negative && (b == 48 && is_empty ds)) e in
+        let i = and_parts (not negative) (b == 48 && is_empty ds) h.1 in
+        let j = and_parts (b == 48) (is_empty ds) i.1 in
+        let p = point_zero rest h.0 in
+        PointZero (not-true negative i.0) (eqb-true b 48 j.0) p.0 (whole ∙ (ap (λ v. v ++ rest) (no_more ds j.1) ∙ p.1)) refl
+    zero_or false e = Digits ds s.0 (suffix_at rest) is (whole ∙ (ap (λ v. ds ++ v) s.1 ∙ sym (append_assoc ds (suffix_text (suffix_at rest)) s.0))) refl
+
+number_at_front : (negative : Bool) (b : ℕ) (bytes : List ℕ) → NumberFront negative b bytes (number_lexeme negative b bytes)
+number_at_front negative b bytes =
+    let f = digit_front bytes in
+    let taken : take (digits_length bytes) bytes ≡ f.front = ap (λ n. take n bytes) f.count ∙ ap (take (length f.front)) f.whole ∙ take-append_seam f.front f.rest in
+    let left : drop (digits_length bytes) bytes ≡ f.rest = ap (λ n. drop n bytes) f.count ∙ ap (drop (length f.front)) f.whole ∙ drop-append_seam f.front f.rest in
+    subst (NumberFront negative b bytes) (sym (ap (λ v. number_of negative b v (drop (digits_length bytes) bytes)) taken ∙ ap (λ v. number_of negative b f.front v) left))
+    (number_of_digits negative b bytes f.front f.rest f.digits f.whole)
+
+all_digits : (b : ℕ) (ds : List ℕ) → is_ascii_digit b ≡ true → all_ascii_digits ds ≡ true → all_ascii_digits (b ∷ ds) ≡ true
+all_digits b ds digit is = ap (λ v. v && all_ascii_digits ds) digit ∙ is
+
+number_answer : (b : ℕ) (bytes : List ℕ) → is_ascii_digit b ≡ true → Answer b bytes (number_lexeme false b bytes)
+number_answer b bytes digit = elim (number_at_front false b bytes) [
+  | PointZero positive zero_ rest whole l ↦ Spelled (46 ∷ 48 ∷ []) rest ZeroPointZero whole (subst (λ v. Spells (v ∷ 46 ∷ 48 ∷ []) ZeroPointZero) (sym zero_) SpellsZeroPointZero) l
+  | Digits ds rest suffix is whole l ↦
+      Spelled (ds ++ suffix_text suffix) rest (Number false (digits_value 10 (b ∷ ds)) suffix) whole (SpellsNumber false (b ∷ ds) suffix (omega arith) (all_digits b ds digit is)) l
+]
+
+minus_sign : (bytes : List ℕ) → Answer 45 bytes (Takes (Fixed Minus) 0)
+minus_sign bytes = Spelled [] bytes (Fixed Minus) refl (SpellsSign Minus refl) refl
+
+minus_answer : (bytes : List ℕ) → Answer 45 bytes (minus_lexeme bytes)
+minus_answer [] = minus_sign []
+minus_answer (b ∷ bytes) = choose (is_ascii_digit b) _ _ (λ digit. negative_number digit (number_at_front true b bytes)) (λ _. minus_sign (b ∷ bytes))
+  where
+    negative_number : is_ascii_digit b ≡ true → NumberFront true b bytes (number_lexeme true b bytes) → Answer 45 (b ∷ bytes) (one_more (number_lexeme true b bytes))
+    negative_number digit f = elim f [
+      | PointZero positive zero_ rest whole l ↦ absurd (false≢true (sym positive))
+      | Digits ds rest suffix is whole l ↦
+          Spelled (b ∷ (ds ++ suffix_text suffix)) rest (Number true (digits_value 10 (b ∷ ds)) suffix) (ap (λ v. b ∷ v) whole) (SpellsNumber true (b ∷ ds) suffix (omega arith) (all_digits b ds digit is)) (ap one_more l)
+    ]
+
+-- signs
+
+sign_or_answer : (short long : Mark) (b x : ℕ) → is_sign short ≡ true → is_sign long ≡ true → mark_text short ≡ b ∷ [] → mark_text long ≡ b ∷ x ∷ [] → (bytes : List ℕ) → Answer b bytes (sign_or short (starts_with x bytes) long)
+sign_or_answer short long b x s l e f bytes =
+    choose (starts_with x bytes) _ _
+    (λ next. let r = starts x bytes next in Spelled (x ∷ []) r.0 (Fixed long) r.1 (subst (λ v. Spells v (Fixed long)) f (SpellsSign long l)) refl)
+    (λ _. Spelled [] bytes (Fixed short) refl (subst (λ v. Spells v (Fixed short)) e (SpellsSign short s)) refl)
+
+less_answer : (bytes : List ℕ) → Answer 60 bytes (cond (starts_with 61 bytes) (Takes (Fixed LessEquals) 1) (sign_or LessThan (starts_with 60 bytes) LessLess))
+less_answer bytes =
+    choose (starts_with 61 bytes) _ _
+    (λ next. let r = starts 61 bytes next in Spelled (61 ∷ []) r.0 (Fixed LessEquals) r.1 (SpellsSign LessEquals refl) refl)
+    (λ _. sign_or_answer LessThan LessLess 60 60 refl refl refl refl bytes)
+
+abbrev all_signs : List Mark → Bool
+all_signs [] = true
+all_signs (m ∷ marks) = is_sign m && all_signs marks
+
+single_answer : (b : ℕ) (bytes : List ℕ) (marks : List Mark) → all_signs marks ≡ true → is_blank b ≡ false → Answer b bytes (single b marks)
+single_answer b bytes [] signs plain = Unknown plain refl
+single_answer b bytes (m ∷ marks) signs plain =
+    let h = and_parts (is_sign m) (all_signs marks) signs in
+    choose (bytes_eq (mark_text m) (b ∷ [])) _ _
+    (λ same. Spelled [] bytes (Fixed m) refl (subst (λ v. Spells v (Fixed m)) ((bytes_eq-Decides (mark_text m) (b ∷ [])).0 same) (SpellsSign m h.0)) refl)
+    (λ _. single_answer b bytes marks h.1 plain)
+
+-- the answer at a byte that is known
+known : {b : ℕ} (c : ℕ) {bytes : List ℕ} {l : Lexeme} → (b == c) ≡ true → Answer c bytes l → Answer b bytes l
+known {b} c {bytes} {l} e a = subst (λ v. Answer v bytes l) (sym (eqb-true b c e)) a
+
+sign_answer : (b : ℕ) (bytes : List ℕ) → is_blank b ≡ false → Answer b bytes (sign_lexeme b bytes)
+sign_answer b bytes plain =
+    choose (b == 61) _ _ (λ e. known 61 e (sign_or_answer Equals EqualsEquals 61 61 refl refl refl refl bytes)) (λ _.
+    choose (b == 33) _ _ (λ e. known 33 e (sign_or_answer Not NotEquals 33 61 refl refl refl refl bytes)) (λ _.
+    choose (b == 38) _ _ (λ e. known 38 e (sign_or_answer Ampersand AndAnd 38 38 refl refl refl refl bytes)) (λ _.
+    choose (b == 124) _ _ (λ e. known 124 e (sign_or_answer Bar BarBar 124 124 refl refl refl refl bytes)) (λ _.
+    choose (b == 60) _ _ (λ e. known 60 e (less_answer bytes)) (λ _. single_answer b bytes single_signs refl plain)))))
+
+answer : (b : ℕ) (bytes : List ℕ) → Answer b bytes (lexeme b bytes)
+answer b bytes =
+    choose (is_letter b) _ _ (λ letter. word_answer b bytes letter) (λ _.
+    choose (is_ascii_digit b) _ _ (λ digit. number_answer b bytes digit) (λ _.
+    choose (b == 45) _ _ (λ e. known 45 e (minus_answer bytes)) (λ _.
+    choose (b == 32 || b == 10) _ _ (λ e. Skipped e refl) (λ e. sign_answer b bytes e))))
+
+-- a front that spells a token, against what is taken
+front_long : (b : ℕ) (bytes other rest : List ℕ) (u : Token) → Spells other u → b ∷ bytes ≡ other ++ rest → AtLeast (length other) (lexeme b bytes)
+front_long b bytes other rest u s e = subst (λ v. AtLeast (length other) (lexeme_of v)) (sym e) (longest other u s rest)
+
+pub begins : (b : ℕ) (bytes : List ℕ) → Begins b bytes
+begins b bytes = elim (answer b bytes) [
+  | Skipped blank l ↦ AtBlank blank (ap (λ v. behind v (scan bytes)) l)
+  | Spelled front rest t whole s l ↦
+      AtToken (b ∷ front) rest t
+      (record {
+        begins = ap (λ v. b ∷ v) whole;
+        spells = s;
+        longest = λ other after u e so. (subst (AtLeast (length other)) l (front_long b bytes other after u so e)).1;
+      })
+      (ap (λ v. behind v (scan bytes)) l ∙ ap (λ ts. t ∷ ts) (ap (λ v. scan v (length front)) whole ∙ past front rest))
+  | Unknown plain l ↦
+      AtForeign plain (λ front rest t e s. (subst (AtLeast (length front)) l (front_long b bytes front rest t s e)).0) (ap (λ v. behind v (scan bytes)) l)
+]
+
+-- Bytes that spell a token are that token alone.
+
+nothing_behind : (suffix : Suffix) → ends_number suffix [] ≡ true
+nothing_behind NoSuffix = refl
+nothing_behind SuffixI = refl
+nothing_behind SuffixU = refl
+nothing_behind SuffixLi = refl
+nothing_behind SuffixLu = refl
+
+number_alone : (negative : Bool) (ds : List ℕ) (suffix : Suffix) → 0 < length ds → all_ascii_digits ds ≡ true → tokens (number_text negative ds suffix) ≡ Number negative (digits_value 10 ds) suffix ∷ []
+number_alone false ds suffix some is = ap (λ v. scan (ds ++ v) 0) (sym (append-nil (suffix_text suffix))) ∙ number_scans false ds suffix [] some is (nothing_behind suffix)
+number_alone true ds suffix some is = ap (λ v. scan (45 ∷ (ds ++ v)) 0) (sym (append-nil (suffix_text suffix))) ∙ number_scans true ds suffix [] some is (nothing_behind suffix)
+
+sign_alone : (m : Mark) → is_sign m ≡ true → tokens (mark_text m) ≡ Fixed m ∷ []
+sign_alone KeywordTrue is = absurd (false≢true is)
+sign_alone KeywordFalse is = absurd (false≢true is)
+sign_alone KeywordLet is = absurd (false≢true is)
+sign_alone KeywordVar is = absurd (false≢true is)
+sign_alone KeywordIf is = absurd (false≢true is)
+sign_alone KeywordElse is = absurd (false≢true is)
+sign_alone KeywordLoop is = absurd (false≢true is)
+sign_alone KeywordContinuing is = absurd (false≢true is)
+sign_alone KeywordBreak is = absurd (false≢true is)
+sign_alone KeywordContinue is = absurd (false≢true is)
+sign_alone KeywordSwitch is = absurd (false≢true is)
+sign_alone KeywordCase is = absurd (false≢true is)
+sign_alone KeywordDefault is = absurd (false≢true is)
+sign_alone KeywordReturn is = absurd (false≢true is)
+sign_alone KeywordDiscard is = absurd (false≢true is)
+sign_alone KeywordFn is = absurd (false≢true is)
+sign_alone KeywordStruct is = absurd (false≢true is)
+sign_alone KeywordConst is = absurd (false≢true is)
+sign_alone KeywordEnable is = absurd (false≢true is)
+sign_alone KeywordOverride is = absurd (false≢true is)
+sign_alone _ is = refl
+
+pub alone : (bytes : List ℕ) (t : Token) → Spells bytes t → tokens bytes ≡ t ∷ []
+alone _ _ (SpellsWord w is) = ap tokens (sym (append-nil w)) ∙ word_scans w [] is refl
+alone _ _ (SpellsNumber negative ds suffix some is) = number_alone negative ds suffix some is
+alone _ _ SpellsZeroPointZero = refl
+alone _ _ (SpellsSign m is) = sign_alone m is

@@ -26,7 +26,7 @@ use Rattle.wgsl_words.specs.Words.{scalar_word, scalar_word_of, interpolation_wo
 use Rattle.wgsl_text.specs.Tables.{scalar_words, sampled_words, address_space_words, access_words, format_words, role_words, builtin_value_words, interpolation_words, sampling_words}
 use Rattle.wgsl_text.specs.ValueWords.{AreTheWordsOf, ValueWords}
 use Rattle.wgsl_text.specs.Words.{stands_in, is_builtin}
-use Rattle.wgsl_text.proofs.WordLemmas.{either}
+use Rattle.wgsl_text.proofs.Words.{either}
 
 -- a word, where there is one, stands in the table
 abbrev stands_if_there : List (List ℕ) → Option (List ℕ) → Bool

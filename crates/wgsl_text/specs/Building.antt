@@ -3,10 +3,15 @@
 -- Throughout, w is a word, t a type or a callee, n a number, e an expression (es are several), and
 -- s the name of a struct.
 use Rattle.std.specs.Prelude.{◌≡◌, ℕ, ◌<◌, List, ◌∷◌, codes, IsTrue}
-use Rattle.wgsl_text.specs.Grammar.{IsPlainNumber, IsType, IsCallee, IsExpression, TakesScalar, TakesElements, rule_among, type_templates, plain_type_words}
-use Rattle.wgsl_text.specs.GrammarOfLines.{Each, IsStatement}
+use Rattle.wgsl_text.specs.Literals.{IsPlainNumber}
+use Rattle.wgsl_text.specs.Types.{TypeSpecifier, Named, Template, NoParts, TypePart, SizePart}
+use Rattle.wgsl_text.specs.Types.{plain_type_words, TakesScalar, TakesElements, rule_among}
+use Rattle.wgsl_text.specs.Types.{type_templates, IsType}
+use Rattle.wgsl_text.specs.Expressions.{Expression, Call, NumberArgument, operands}
+use Rattle.wgsl_text.specs.Expressions.{operands_with_level, IsCallee, IsExpression}
+use Rattle.wgsl_text.specs.Statements.{CallStatement, IsStatement}
+use Rattle.wgsl_text.specs.Functions.{Each}
 use Rattle.wgsl_text.specs.Tables.{scalar_words, address_space_words, gather_words, level_words}
-use Rattle.wgsl_text.specs.Tree.{TypeSpecifier, Named, Template, NoParts, TypePart, SizePart, NumberArgument, Expression, Call, CallStatement, operands, operands_with_level}
 use Rattle.wgsl_text.specs.Words.{IsIdentifier, stands_in, is_builtin}
 
 -- types of a word alone, and of a word with parts

@@ -1,112 +1,82 @@
--- The grammar of declarations, a clause for each row, and the order that they stand in.
+-- Declarations other than functions, and programs: their trees, their pieces and the order that
+-- they stand in, and which of them the grammar has.
 --
--- Throughout, a is an attribute or a part of one, w a word, n a number, t a type, e an expression,
--- and each declaration goes by its first letter: parameter, local, function, member, struct,
--- constant, override, global, entry point.
-use Rattle.std.specs.Prelude.{ℕ, List, [], ◌∷◌, ◌++◌, codes, Option, None, Some}
-use Rattle.wgsl_text.specs.Token.{CloseParen, OpenParen, OpenBrace, CloseBrace, Comma, Semicolon, Colon, Equals, GreaterThan, LessThan, Minus, At, KeywordVar, KeywordFn, KeywordStruct, KeywordConst, KeywordEnable, KeywordOverride, Piece, Blank, LineEnd, Indent}
-use Rattle.wgsl_text.specs.Tree.{Expression, PlainAttribute, Invariant, PerPrimitive, Coherent, Volatile, Vertex, Fragment, Compute, Task, RayGeneration, AnyHit, ClosestHit, Miss, NumberedAttribute, Location, BlendSource, Id, Group, Binding, Size, Align, WordedAttribute, Builtin, Interpolate, Mesh, Payload, IncomingPayload, Attribute, Plain, Numbered, Worded, Interpolated, WorkgroupSize, Parameter, Result, NoResult, ResultOf, Local, Function, EntryPoint, StructMember, Struct, NamedConstant, Override, Space, NoSpace, SpaceAlone, SpaceAndAccess, Global, Program}
-use Rattle.wgsl_text.specs.Pieces.{mark, word, plain, expression_pieces, type_pieces}
-use Rattle.wgsl_text.specs.Lines.{line_end, statements_pieces}
+-- Throughout, a is an attribute or an address space, m an access or a member, w a word, n a number,
+-- e an expression, and each declaration goes by its first letter: struct, constant, override,
+-- global, function, entry point.
+use Rattle.std.specs.Prelude.{ℕ, Bool, List, [], ◌∷◌, Option, true, ◌++◌, codes, ◌&&◌, IsTrue}
+use Rattle.wgsl_text.specs.Attributes.{Binding, Attribute, Numbered, attribute_pieces}
+use Rattle.wgsl_text.specs.Attributes.{attributes_pieces, IsAttributes, is_member_binding, is_id}
+use Rattle.wgsl_text.specs.Attributes.{is_global_binding}
+use Rattle.wgsl_text.specs.Expressions.{Expression, expression_pieces, IsExpression}
+use Rattle.wgsl_text.specs.Functions.{Function, EntryPoint, value_pieces, group_end}
+use Rattle.wgsl_text.specs.Functions.{functions_pieces, entry_points_pieces, IsValue, Each}
+use Rattle.wgsl_text.specs.Functions.{IsFunction, IsEntryPoint}
+use Rattle.wgsl_text.specs.Token.{OpenBrace, CloseBrace, Comma, Semicolon, Colon, Equals, LessThan}
+use Rattle.wgsl_text.specs.Token.{GreaterThan, KeywordVar, KeywordStruct, KeywordConst}
+use Rattle.wgsl_text.specs.Token.{KeywordEnable, KeywordOverride, Piece, Blank, LineEnd, Indent}
+use Rattle.wgsl_text.specs.Token.{mark, word}
+use Rattle.wgsl_text.specs.Types.{TypeSpecifier, type_pieces, IsType}
+use Rattle.std.specs.Str.{bytes_eq}
+use Rattle.wgsl_text.specs.Words.{stands_in, IsWord, IsIdentifier}
+use Rattle.wgsl_text.specs.Tables.{address_space_words, access_words, enable_words}
 
-abbrev pub plain_attribute_word : PlainAttribute → List ℕ
-plain_attribute_word Invariant = codes "invariant"
-plain_attribute_word PerPrimitive = codes "per_primitive"
-plain_attribute_word Coherent = codes "coherent"
-plain_attribute_word Volatile = codes "volatile"
-plain_attribute_word Vertex = codes "vertex"
-plain_attribute_word Fragment = codes "fragment"
-plain_attribute_word Compute = codes "compute"
-plain_attribute_word Task = codes "task"
-plain_attribute_word RayGeneration = codes "ray_generation"
-plain_attribute_word AnyHit = codes "any_hit"
-plain_attribute_word ClosestHit = codes "closest_hit"
-plain_attribute_word Miss = codes "miss"
+pub record StructMember : Type 0 where
+  pub attributes : List Attribute
+  pub name : List ℕ
+  pub type : TypeSpecifier
 
-abbrev pub numbered_attribute_word : NumberedAttribute → List ℕ
-numbered_attribute_word Location = codes "location"
-numbered_attribute_word BlendSource = codes "blend_src"
-numbered_attribute_word Id = codes "id"
-numbered_attribute_word Group = codes "group"
-numbered_attribute_word Binding = codes "binding"
-numbered_attribute_word Size = codes "size"
-numbered_attribute_word Align = codes "align"
+pub record Struct : Type 0 where
+  pub name : List ℕ
+  pub members : List StructMember
 
-abbrev pub worded_attribute_word : WordedAttribute → List ℕ
-worded_attribute_word Builtin = codes "builtin"
-worded_attribute_word Interpolate = codes "interpolate"
-worded_attribute_word Mesh = codes "mesh"
-worded_attribute_word Payload = codes "payload"
-worded_attribute_word IncomingPayload = codes "incoming_payload"
+pub record NamedConstant : Type 0 where
+  pub name : List ℕ
+  pub type : TypeSpecifier
+  pub value : Expression
 
--- An attribute ends with a blank.
-abbrev pub attribute_pieces : Attribute → List Piece
-attribute_pieces (Plain a) = mark At ∷ word (plain_attribute_word a) ∷ Blank ∷ []
-attribute_pieces (Numbered a n) =
-    mark At ∷ word (numbered_attribute_word a) ∷ mark OpenParen ∷ plain n ∷
-    mark CloseParen ∷ Blank ∷ []
-attribute_pieces (Worded a w) =
-    mark At ∷ word (worded_attribute_word a) ∷ mark OpenParen ∷ word w ∷
-    mark CloseParen ∷ Blank ∷ []
-attribute_pieces (Interpolated i s) =
-    mark At ∷ word (codes "interpolate") ∷ mark OpenParen ∷ word i ∷ mark Comma ∷ Blank ∷ word s ∷
-    mark CloseParen ∷ Blank ∷ []
-attribute_pieces (WorkgroupSize x y z) =
-    mark At ∷ word (codes "workgroup_size") ∷ mark OpenParen ∷ plain x ∷ mark Comma ∷ Blank ∷
-    plain y ∷ mark Comma ∷ Blank ∷ plain z ∷ mark CloseParen ∷ Blank ∷ []
+pub record Override : Type 0 where
+  pub attributes : List Attribute
+  pub name : List ℕ
+  pub type : TypeSpecifier
+  pub value : Option Expression
 
-abbrev pub attributes_pieces : List Attribute → List Piece
-attributes_pieces [] = []
-attributes_pieces (a ∷ more) = attribute_pieces a ++ attributes_pieces more
+-- the address space of a global, and its access
+pub data Space : Type 0 where
+  NoSpace : Space
+  SpaceAlone : List ℕ → Space
+  SpaceAndAccess : List ℕ → List ℕ → Space
 
--- the value of a local, a global or an override, and the end of its line
-abbrev pub value_pieces : Option Expression → List Piece
-value_pieces None = line_end
-value_pieces (Some e) = Blank ∷ mark Equals ∷ Blank ∷ (expression_pieces e ++ line_end)
+pub record Global : Type 0 where
+  pub attributes : List Attribute
+  pub space : Space
+  pub name : List ℕ
+  pub type : TypeSpecifier
+  pub value : Option Expression
 
-abbrev pub parameter_pieces : Parameter → List Piece
-parameter_pieces p =
-    attributes_pieces p.attributes ++ (word p.name ∷ mark Colon ∷ Blank ∷ type_pieces p.type)
+-- the declarations of a text, in their order
+pub record Program : Type 0 where
+  pub enables : List (List ℕ)
+  pub structs : List Struct
+  pub constants : List NamedConstant
+  pub overrides : List Override
+  pub globals : List Global
+  pub functions : List Function
+  pub entry_points : List EntryPoint
 
--- the parameters, and the parenthesis that closes them
-abbrev pub more_parameters_pieces : List Parameter → List Piece
-more_parameters_pieces [] = mark CloseParen ∷ []
-more_parameters_pieces (p ∷ more) =
-    mark Comma ∷ Blank ∷ (parameter_pieces p ++ more_parameters_pieces more)
+abbrev pub no_declarations : Program
+no_declarations =
+    record {
+      enables = [];
+      structs = [];
+      constants = [];
+      overrides = [];
+      globals = [];
+      functions = [];
+      entry_points = [];
+    }
 
-abbrev pub parameters_pieces : List Parameter → List Piece
-parameters_pieces [] = mark CloseParen ∷ []
-parameters_pieces (p ∷ more) = parameter_pieces p ++ more_parameters_pieces more
-
--- `->` is two tokens, since `>` is always a token by itself
-abbrev pub result_pieces : Result → List Piece
-result_pieces NoResult = []
-result_pieces (ResultOf attributes t) =
-    Blank ∷ mark Minus ∷ mark GreaterThan ∷ Blank ∷ (attributes_pieces attributes ++ type_pieces t)
-
-abbrev pub locals_pieces : List Local → List Piece
-locals_pieces [] = []
-locals_pieces (l ∷ more) =
-    Indent 1 ∷ mark KeywordVar ∷ Blank ∷ word l.name ∷ mark Colon ∷ Blank ∷
-    (type_pieces l.type ++
-    (value_pieces l.value ++
-    locals_pieces more))
-
--- an empty line behind the items of a group, if there are any
-abbrev pub group_end : {A : Type 0} → List A → List Piece
-group_end [] = []
-group_end (x ∷ more) = LineEnd ∷ []
-
-abbrev pub function_pieces : Function → List Piece
-function_pieces f =
-    mark KeywordFn ∷ Blank ∷ word f.name ∷ mark OpenParen ∷
-    (parameters_pieces f.parameters ++
-    (result_pieces f.result ++
-    (Blank ∷ mark OpenBrace ∷ LineEnd ∷
-    (locals_pieces f.locals ++
-    (group_end f.locals ++
-    (statements_pieces f.body 1 ++
-    (mark CloseBrace ∷ LineEnd ∷ [])))))))
+-- The pieces of declarations.
 
 abbrev pub enables_pieces : List (List ℕ) → List Piece
 enables_pieces [] = []
@@ -175,24 +145,6 @@ globals_pieces (g ∷ more) =
     (value_pieces g.value ++
     globals_pieces more)))))
 
--- an empty line behind each
-abbrev pub functions_pieces : List Function → List Piece
-functions_pieces [] = []
-functions_pieces (f ∷ more) = function_pieces f ++ (LineEnd ∷ functions_pieces more)
-
-abbrev pub entry_point_pieces : EntryPoint → List Piece
-entry_point_pieces e = attributes_pieces e.stage ++ (LineEnd ∷ function_pieces e.function)
-
--- an empty line between two, and none behind the last
-abbrev pub more_entry_points_pieces : List EntryPoint → List Piece
-more_entry_points_pieces [] = []
-more_entry_points_pieces (e ∷ more) =
-    LineEnd ∷ (entry_point_pieces e ++ more_entry_points_pieces more)
-
-abbrev pub entry_points_pieces : List EntryPoint → List Piece
-entry_points_pieces [] = []
-entry_points_pieces (e ∷ more) = entry_point_pieces e ++ more_entry_points_pieces more
-
 -- an empty line behind the enables, the constants, the overrides and the globals, if there are any
 abbrev pub program_pieces : Program → List Piece
 program_pieces p =
@@ -207,3 +159,53 @@ program_pieces p =
     (group_end p.globals ++
     (functions_pieces p.functions ++
     entry_points_pieces p.entry_points)))))))))
+
+-- Which declarations the grammar has.
+
+pub record IsMember (m : StructMember) : Type 0 where
+  pub attributes : IsAttributes m.attributes
+  pub binding : IsTrue (is_member_binding m.attributes)
+  pub name : IsWord m.name
+  pub type : IsType m.type
+
+pub record IsStruct (s : Struct) : Type 0 where
+  pub name : IsIdentifier s.name
+  pub members : Each IsMember s.members
+
+pub record IsNamedConstant (c : NamedConstant) : Type 0 where
+  pub name : IsIdentifier c.name
+  pub type : IsType c.type
+  pub value : IsExpression c.value
+
+pub record IsOverride (o : Override) : Type 0 where
+  pub attributes : IsAttributes o.attributes
+  pub id : IsTrue (is_id o.attributes)
+  pub name : IsIdentifier o.name
+  pub type : IsType o.type
+  pub value : IsValue o.value
+
+-- `storage` alone may have an access mode
+abbrev pub is_space : Space → Bool
+is_space NoSpace = true
+is_space (SpaceAlone a) = stands_in address_space_words a
+is_space (SpaceAndAccess a m) = bytes_eq (codes "storage") a && stands_in access_words m
+
+pub record IsGlobal (g : Global) : Type 0 where
+  pub attributes : IsAttributes g.attributes
+  pub binding : IsTrue (is_global_binding g.attributes)
+  pub space : IsTrue (is_space g.space)
+  pub name : IsIdentifier g.name
+  pub type : IsType g.type
+  pub value : IsValue g.value
+
+abbrev pub IsEnable : List ℕ → Type 0
+IsEnable w = IsTrue (stands_in enable_words w)
+
+pub record IsProgram (p : Program) : Type 0 where
+  pub enables : Each IsEnable p.enables
+  pub structs : Each IsStruct p.structs
+  pub constants : Each IsNamedConstant p.constants
+  pub overrides : Each IsOverride p.overrides
+  pub globals : Each IsGlobal p.globals
+  pub functions : Each IsFunction p.functions
+  pub entry_points : Each IsEntryPoint p.entry_points

@@ -1,7 +1,17 @@
 -- Worked programs, and beside each its text.
 use Rattle.std.specs.Prelude.{ℕ, true, false, List, [], ◌∷◌, codes, None, Some}
 use Rattle.wgsl_text.specs.Token.{SuffixLi}
-use Rattle.wgsl_text.specs.Tree.{Truth, Suffixed, Add, Multiply, Negate, Constant, Binary, Unary, IndexAt, AddressOf, Dereference, NoArguments, Argument, ZeroArgument, DefaultLabel, SignedLabel, LastLabel, MoreLabels, Assign, CallStatement, ReturnValue, Continue, If, LoopBreakIf, Switch, NoStatements, NoCases, Case, Vertex, Fragment, Compute, Location, Id, Group, Binding, Size, Builtin, Interpolate, Plain, Numbered, WorkgroupSize, NoResult, ResultOf, Program, no_declarations, operands}
+use Rattle.wgsl_text.specs.Literals.{Truth, Suffixed}
+use Rattle.wgsl_text.specs.Expressions.{Add, Multiply, Negate, Constant, Binary, Unary, IndexAt}
+use Rattle.wgsl_text.specs.Expressions.{AddressOf, Dereference, NoArguments, Argument, ZeroArgument}
+use Rattle.wgsl_text.specs.Expressions.{operands}
+use Rattle.wgsl_text.specs.Statements.{DefaultLabel, SignedLabel, LastLabel, MoreLabels, Assign}
+use Rattle.wgsl_text.specs.Statements.{CallStatement, ReturnValue, Continue, If, LoopBreakIf}
+use Rattle.wgsl_text.specs.Statements.{Switch, NoStatements, NoCases, Case}
+use Rattle.wgsl_text.specs.Attributes.{Vertex, Fragment, Compute, Location, Id, Group, Binding}
+use Rattle.wgsl_text.specs.Attributes.{Size, Builtin, Interpolate, Plain, Numbered, WorkgroupSize}
+use Rattle.wgsl_text.specs.Functions.{NoResult, ResultOf}
+use Rattle.wgsl_text.specs.Declarations.{Program, no_declarations}
 use Rattle.wgsl_text.specs.WorkedTrees.{IsText, lines, named, template_of, sized, name, names, integer, unsigned, call, member_of, bound, typed, statements, parameter, bound_parameter, gives, local, function, worded, member, struct, constant, override, space, space_and_access, global, entry_point, of_functions}
 
 abbrev pub identity : Program

@@ -2,7 +2,11 @@
 --
 -- Throughout, n is the depth.
 use Rattle.std.specs.Prelude.{◌≡◌, ℕ, zero, suc, ◌*◌, List, [], ◌∷◌, ◌++◌, codes, length, replicate}
-use Rattle.wgsl_text.specs.Tree.{Add, Template, NoParts, TypePart, Expression, Binary, Index, ReturnValue, Block, Statements, NoStatements, Then, NoResult, ResultOf, Program}
+use Rattle.wgsl_text.specs.Types.{Template, NoParts, TypePart}
+use Rattle.wgsl_text.specs.Expressions.{Add, Expression, Binary, Index}
+use Rattle.wgsl_text.specs.Statements.{ReturnValue, Block, Statements, NoStatements, Then}
+use Rattle.wgsl_text.specs.Functions.{NoResult, ResultOf}
+use Rattle.wgsl_text.specs.Declarations.{Program}
 use Rattle.wgsl_text.specs.WorkedTrees.{IsText, named, name, parameter, function, of_functions}
 
 -- blocks, each inside the one before

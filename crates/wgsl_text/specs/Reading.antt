@@ -3,12 +3,11 @@
 -- Throughout, t is a type, e an expression, s a statement, f a function, and ts are tokens.
 use Rattle.std.specs.Prelude.{◌≡◌, ℕ, List}
 use Rattle.wgsl_text.specs.Token.{Token}
-use Rattle.wgsl_text.specs.Tree.{TypeSpecifier, Expression, Statement, Function, Program}
-use Rattle.wgsl_text.specs.Pieces.{type_pieces, expression_pieces}
-use Rattle.wgsl_text.specs.Lines.{statement_pieces}
-use Rattle.wgsl_text.specs.Declarations.{function_pieces, program_pieces}
-use Rattle.wgsl_text.specs.Grammar.{IsType, IsExpression}
-use Rattle.wgsl_text.specs.GrammarOfLines.{IsStatement, IsFunction, IsProgram}
+use Rattle.wgsl_text.specs.Types.{TypeSpecifier, type_pieces, IsType}
+use Rattle.wgsl_text.specs.Expressions.{Expression, expression_pieces, IsExpression}
+use Rattle.wgsl_text.specs.Statements.{Statement, statement_pieces, IsStatement}
+use Rattle.wgsl_text.specs.Functions.{Function, function_pieces, IsFunction}
+use Rattle.wgsl_text.specs.Declarations.{Program, program_pieces, IsProgram}
 use Rattle.wgsl_text.specs.Text.{text, tokens_in, tokens}
 
 -- the grammar: these are the tokens of this type

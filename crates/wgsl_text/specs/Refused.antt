@@ -2,7 +2,9 @@
 --
 -- Throughout, t is a type, and e an expression.
 use Rattle.std.specs.Prelude.{ℕ, List, [], ◌∷◌, codes}
-use Rattle.wgsl_text.specs.Tree.{TypeSpecifier, Expression, Program}
+use Rattle.wgsl_text.specs.Types.{TypeSpecifier}
+use Rattle.wgsl_text.specs.Expressions.{Expression}
+use Rattle.wgsl_text.specs.Declarations.{Program}
 use Rattle.wgsl_text.specs.WorkedTrees.{lines}
 use Rattle.wgsl_text.specs.Reading.{ReadsType, ReadsExpression, Reads}
 use Rattle.wgsl_text.specs.Text.{tokens}

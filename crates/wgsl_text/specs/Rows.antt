@@ -4,8 +4,27 @@
 use Prim.Native.String.{String}
 use Rattle.std.specs.Prelude.{◌≡◌, ℕ, true, false, List, [], ◌∷◌, codes, None, Some}
 use Rattle.wgsl_text.specs.Token.{SuffixI, SuffixLi, SuffixLu}
-use Rattle.wgsl_text.specs.Tree.{Truth, Suffixed, SignedShort, UnsignedShort, LeastInteger, LeastLong, Add, Subtract, Multiply, Divide, Modulo, Equal, NotEqual, Less, LessEqual, Greater, GreaterEqual, And, ExclusiveOr, InclusiveOr, LogicalAnd, LogicalOr, ShiftLeft, ShiftRight, Negate, LogicalNot, BitwiseNot, TypeSpecifier, Expression, Constant, Binary, Unary, Call, Index, IndexAt, AddressOf, Dereference, NoArguments, Argument, NumberArgument, ZeroArgument, DefaultLabel, SignedLabel, UnsignedLabel, LastLabel, MoreLabels, Assign, CallStatement, Return, ReturnValue, Discard, Break, If, Loop, Switch, Block, NoStatements, NoCases, Case, Invariant, PerPrimitive, Coherent, Volatile, Vertex, Fragment, Task, RayGeneration, AnyHit, ClosestHit, Miss, Location, BlendSource, Id, Group, Binding, Size, Align, Builtin, Interpolate, Mesh, Payload, IncomingPayload, Plain, Numbered, WorkgroupSize, NoResult, ResultOf, NoSpace, Program, no_declarations, operands}
-use Rattle.wgsl_text.specs.Grammar.{IsType, IsExpression}
+use Rattle.wgsl_text.specs.Literals.{Truth, Suffixed, SignedShort, UnsignedShort, LeastInteger}
+use Rattle.wgsl_text.specs.Literals.{LeastLong}
+use Rattle.wgsl_text.specs.Types.{TypeSpecifier, IsType}
+use Rattle.wgsl_text.specs.Expressions.{Add, Subtract, Multiply, Divide, Modulo, Equal, NotEqual}
+use Rattle.wgsl_text.specs.Expressions.{Less, LessEqual, Greater, GreaterEqual, And, ExclusiveOr}
+use Rattle.wgsl_text.specs.Expressions.{InclusiveOr, LogicalAnd, LogicalOr, ShiftLeft, ShiftRight}
+use Rattle.wgsl_text.specs.Expressions.{Negate, LogicalNot, BitwiseNot, Expression, Constant}
+use Rattle.wgsl_text.specs.Expressions.{Binary, Unary, Call, Index, IndexAt, AddressOf, Dereference}
+use Rattle.wgsl_text.specs.Expressions.{NoArguments, Argument, NumberArgument, ZeroArgument}
+use Rattle.wgsl_text.specs.Expressions.{operands, IsExpression}
+use Rattle.wgsl_text.specs.Statements.{DefaultLabel, SignedLabel, UnsignedLabel, LastLabel}
+use Rattle.wgsl_text.specs.Statements.{MoreLabels, Assign, CallStatement, Return, ReturnValue}
+use Rattle.wgsl_text.specs.Statements.{Discard, Break, If, Loop, Switch, Block, NoStatements}
+use Rattle.wgsl_text.specs.Statements.{NoCases, Case}
+use Rattle.wgsl_text.specs.Attributes.{Invariant, PerPrimitive, Coherent, Volatile, Vertex}
+use Rattle.wgsl_text.specs.Attributes.{Fragment, Task, RayGeneration, AnyHit, ClosestHit, Miss}
+use Rattle.wgsl_text.specs.Attributes.{Location, BlendSource, Id, Group, Binding, Size, Align}
+use Rattle.wgsl_text.specs.Attributes.{Builtin, Interpolate, Mesh, Payload, IncomingPayload, Plain}
+use Rattle.wgsl_text.specs.Attributes.{Numbered, WorkgroupSize}
+use Rattle.wgsl_text.specs.Functions.{NoResult, ResultOf}
+use Rattle.wgsl_text.specs.Declarations.{NoSpace, Program, no_declarations}
 use Rattle.wgsl_text.specs.Reading.{type_layout, expression_layout}
 use Rattle.wgsl_text.specs.WorkedTrees.{lines, names, template_of, named, template, sized, member_of, bound, typed, bound_parameter, worded, interpolated, member, struct, constant, override, space, global, entry_point, name, integer, unsigned, call, statements, parameter, local, function, of_functions, IsText}
 

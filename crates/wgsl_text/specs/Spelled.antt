@@ -2,10 +2,19 @@
 --
 -- Throughout, a is an attribute.
 use Rattle.std.specs.Prelude.{◌≡◌, ℕ, false, List, [], ◌∷◌, ◌++◌, map, codes}
-use Rattle.wgsl_text.specs.Token.{OpenParen, CloseParen, OpenBracket, CloseBracket, OpenBrace, CloseBrace, Comma, Semicolon, Colon, Dot, At, Equals, LessThan, GreaterThan, Plus, Minus, Star, Slash, Percent, Ampersand, Bar, Caret, Not, Tilde, EqualsEquals, NotEquals, LessEquals, AndAnd, BarBar, LessLess, NoSuffix, SuffixI, SuffixU, SuffixLi, SuffixLu, Fixed, Word, Number}
-use Rattle.wgsl_text.specs.Tree.{Invariant, PerPrimitive, Coherent, Volatile, Vertex, Fragment, Compute, Task, RayGeneration, AnyHit, ClosestHit, Miss, Location, BlendSource, Id, Group, Binding, Size, Align, Builtin, Interpolate, Mesh, Payload, IncomingPayload, Plain, Numbered, Worded, Interpolated, WorkgroupSize}
+use Rattle.wgsl_text.specs.Token.{OpenParen, CloseParen, OpenBracket, CloseBracket, OpenBrace}
+use Rattle.wgsl_text.specs.Token.{CloseBrace, Comma, Semicolon, Colon, Dot, At, Equals, LessThan}
+use Rattle.wgsl_text.specs.Token.{GreaterThan, Plus, Minus, Star, Slash, Percent, Ampersand, Bar}
+use Rattle.wgsl_text.specs.Token.{Caret, Not, Tilde, EqualsEquals, NotEquals, LessEquals, AndAnd}
+use Rattle.wgsl_text.specs.Token.{BarBar, LessLess, NoSuffix, SuffixI, SuffixU, SuffixLi, SuffixLu}
+use Rattle.wgsl_text.specs.Token.{Fixed, Word, Number}
+use Rattle.wgsl_text.specs.Attributes.{Invariant, PerPrimitive, Coherent, Volatile, Vertex}
+use Rattle.wgsl_text.specs.Attributes.{Fragment, Compute, Task, RayGeneration, AnyHit, ClosestHit}
+use Rattle.wgsl_text.specs.Attributes.{Miss, Location, BlendSource, Id, Group, Binding, Size, Align}
+use Rattle.wgsl_text.specs.Attributes.{Builtin, Interpolate, Mesh, Payload, IncomingPayload, Plain}
+use Rattle.wgsl_text.specs.Attributes.{Numbered, Worded, Interpolated, WorkgroupSize}
+use Rattle.wgsl_text.specs.Attributes.{attributes_pieces}
 use Rattle.wgsl_text.specs.Tables.{vector_words, matrix_words, atomic_words, array_words, pointer_words, sampled_image_words, depth_image_words, storage_image_words, cooperative_matrix_words, sampler_words, ray_words, enable_words, type_taking_words, gather_words, level_words}
-use Rattle.wgsl_text.specs.Declarations.{attributes_pieces}
 use Rattle.wgsl_text.specs.Text.{keywords, text, tokens}
 
 -- The tokens of the text are the words of the table.

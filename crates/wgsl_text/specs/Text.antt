@@ -7,7 +7,18 @@ use Rattle.std.specs.Str.{bytes_eq}
 use Rattle.std.specs.Char.{is_ascii_digit}
 use Rattle.std.specs.Str.Parse.{digits_value}
 use Rattle.std.specs.Fmt.{decimal}
-use Rattle.wgsl_text.specs.Token.{Mark, OpenParen, CloseParen, OpenBracket, CloseBracket, OpenBrace, CloseBrace, Comma, Semicolon, Colon, Dot, At, Equals, LessThan, GreaterThan, Plus, Minus, Star, Slash, Percent, Ampersand, Bar, Caret, Not, Tilde, EqualsEquals, NotEquals, LessEquals, AndAnd, BarBar, LessLess, KeywordTrue, KeywordFalse, KeywordLet, KeywordVar, KeywordIf, KeywordElse, KeywordLoop, KeywordContinuing, KeywordBreak, KeywordContinue, KeywordSwitch, KeywordCase, KeywordDefault, KeywordReturn, KeywordDiscard, KeywordFn, KeywordStruct, KeywordConst, KeywordEnable, KeywordOverride, Suffix, NoSuffix, SuffixI, SuffixU, SuffixLi, SuffixLu, Token, Fixed, Word, Number, ZeroPointZero, Foreign, Piece, TokenPiece, Blank, LineEnd, Indent}
+use Rattle.wgsl_text.specs.Token.{Mark, OpenParen, CloseParen, OpenBracket, CloseBracket, OpenBrace}
+use Rattle.wgsl_text.specs.Token.{CloseBrace, Comma, Semicolon, Colon, Dot, At, Equals, LessThan}
+use Rattle.wgsl_text.specs.Token.{GreaterThan, Plus, Minus, Star, Slash, Percent, Ampersand, Bar}
+use Rattle.wgsl_text.specs.Token.{Caret, Not, Tilde, EqualsEquals, NotEquals, LessEquals, AndAnd}
+use Rattle.wgsl_text.specs.Token.{BarBar, LessLess, KeywordTrue, KeywordFalse, KeywordLet}
+use Rattle.wgsl_text.specs.Token.{KeywordVar, KeywordIf, KeywordElse, KeywordLoop}
+use Rattle.wgsl_text.specs.Token.{KeywordContinuing, KeywordBreak, KeywordContinue, KeywordSwitch}
+use Rattle.wgsl_text.specs.Token.{KeywordCase, KeywordDefault, KeywordReturn, KeywordDiscard}
+use Rattle.wgsl_text.specs.Token.{KeywordFn, KeywordStruct, KeywordConst, KeywordEnable}
+use Rattle.wgsl_text.specs.Token.{KeywordOverride, Suffix, NoSuffix, SuffixI, SuffixU, SuffixLi}
+use Rattle.wgsl_text.specs.Token.{SuffixLu, Token, Fixed, Word, Number, ZeroPointZero, Foreign}
+use Rattle.wgsl_text.specs.Token.{Piece, TokenPiece, Blank, LineEnd, Indent}
 use Rattle.wgsl_text.specs.Words.{is_letter, is_word_byte, is_reserved}
 
 abbrev pub mark_text : Mark → List ℕ

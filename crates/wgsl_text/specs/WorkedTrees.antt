@@ -5,8 +5,17 @@
 use Prim.Native.String.{String}
 use Rattle.std.specs.Prelude.{◌≡◌, ℕ, false, List, [], ◌∷◌, ◌++◌, codes, Option}
 use Rattle.wgsl_text.specs.Token.{SuffixI, SuffixU}
-use Rattle.wgsl_text.specs.Tree.{Suffixed, TypeSpecifier, Named, Template, TypeParts, NoParts, TypePart, SizePart, Expression, Constant, Name, Call, Member, Arguments, NoArguments, Argument, Let, TypedLet, Statement, Statements, NoStatements, Then, Worded, Interpolated, Attribute, WordedAttribute, Parameter, Result, ResultOf, Local, Function, EntryPoint, StructMember, Struct, NamedConstant, Override, Space, Global, SpaceAlone, SpaceAndAccess, Program, no_declarations}
-use Rattle.wgsl_text.specs.GrammarOfLines.{IsProgram}
+use Rattle.wgsl_text.specs.Literals.{Suffixed}
+use Rattle.wgsl_text.specs.Types.{TypeSpecifier, Named, Template, TypeParts, NoParts, TypePart}
+use Rattle.wgsl_text.specs.Types.{SizePart}
+use Rattle.wgsl_text.specs.Expressions.{Expression, Constant, Name, Call, Member, Arguments}
+use Rattle.wgsl_text.specs.Expressions.{NoArguments, Argument}
+use Rattle.wgsl_text.specs.Statements.{Statement, Let, TypedLet, Statements, NoStatements, Then}
+use Rattle.wgsl_text.specs.Attributes.{WordedAttribute, Attribute, Worded, Interpolated}
+use Rattle.wgsl_text.specs.Functions.{Parameter, Result, ResultOf, Local, Function, EntryPoint}
+use Rattle.wgsl_text.specs.Declarations.{StructMember, Struct, NamedConstant, Override, Space}
+use Rattle.wgsl_text.specs.Declarations.{SpaceAlone, SpaceAndAccess, Global, Program}
+use Rattle.wgsl_text.specs.Declarations.{no_declarations, IsProgram}
 use Rattle.wgsl_text.specs.Reading.{layout}
 
 -- The tree is a program, and these bytes are its layout.

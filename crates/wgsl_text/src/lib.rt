@@ -5,8 +5,12 @@
 ghost use Rattle.std.specs.Prelude.{◌≡◌, ℕ, List, [], ◌∷◌, ◌++◌};
 ghost use Rattle.wgsl_text.specs.Building.{WordsAreTypes, CalledWordsAreExpressions};
 ghost use Rattle.wgsl_text.specs.Examples.{WorkedPrograms};
-ghost use Rattle.wgsl_text.specs.Grammar.{IsType, IsCallee, IsExpression};
-ghost use Rattle.wgsl_text.specs.GrammarOfLines.{IsStatement, IsFunction, IsProgram};
+ghost use Rattle.wgsl_text.specs.Token.{Token, Piece};
+ghost use Rattle.wgsl_text.specs.Types.{TypeSpecifier, IsType};
+ghost use Rattle.wgsl_text.specs.Expressions.{Expression, IsCallee, IsExpression};
+ghost use Rattle.wgsl_text.specs.Statements.{Statement, IsStatement};
+ghost use Rattle.wgsl_text.specs.Functions.{Function, IsFunction};
+ghost use Rattle.wgsl_text.specs.Declarations.{Program, IsProgram};
 ghost use Rattle.wgsl_text.specs.LargeExamples.{LargePrograms};
 ghost use Rattle.wgsl_text.specs.Reading.{AreReadOnce, ReadsType, ReadsExpression, ReadsStatement, ReadsFunction, Reads, HasOneReading, type_layout, expression_layout, statement_layout, function_layout, layout};
 ghost use Rattle.wgsl_text.specs.Refused.{Refused};
@@ -14,8 +18,6 @@ ghost use Rattle.wgsl_text.specs.Rows.{TypeRows, OperatorRows, AccessRows, LineR
 ghost use Rattle.wgsl_text.specs.Spelled.{Spelled};
 ghost use Rattle.wgsl_text.specs.Spelling.{Spells, Begins};
 ghost use Rattle.wgsl_text.specs.Text.{text, tokens};
-ghost use Rattle.wgsl_text.specs.Token.{Piece, Token};
-ghost use Rattle.wgsl_text.specs.Tree.{TypeSpecifier, Expression, Statement, Function, Program};
 ghost use Rattle.wgsl_text.specs.ValueWords.{ValueWords};
 
 /// The tokens of a text are those of its front, and then those of what stands behind it. The front

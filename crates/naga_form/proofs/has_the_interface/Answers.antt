@@ -1,4 +1,4 @@
-use Rattle.naga_form.proofs.Interfaces.{has_interface}
+use Rattle.naga_form.proofs.Interface.{has_interface}
 use Rattle.naga_form.proofs.has_the_interface.Goals as goal
 
 pub returns : goal.returns

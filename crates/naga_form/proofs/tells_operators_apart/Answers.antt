@@ -1,4 +1,4 @@
-use Rattle.naga_form.proofs.OperatorWords.{counted_apart, keeps_word}
+use Rattle.naga_form.proofs.OperatorTable.{counted_apart, keeps_word}
 use Rattle.naga_form.proofs.TypedWords.{share_a_word}
 use Rattle.naga_form.proofs.tells_operators_apart.Goals as goal
 

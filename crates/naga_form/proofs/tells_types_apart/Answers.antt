@@ -1,4 +1,4 @@
-use Rattle.naga_form.proofs.TypeIdentities.{unspelled_apart, spelled_apart}
+use Rattle.naga_form.proofs.TypeIdentity.{unspelled_apart, spelled_apart}
 use Rattle.naga_form.proofs.tells_types_apart.Goals as goal
 
 pub returns-clause-unspelled : goal.returns-clause-unspelled

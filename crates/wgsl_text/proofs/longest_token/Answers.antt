@@ -1,5 +1,4 @@
-use Rattle.wgsl_text.proofs.Fronts.{begins}
-use Rattle.wgsl_text.proofs.Alone.{alone}
+use Rattle.wgsl_text.proofs.Spelling.{begins, alone}
 use Rattle.wgsl_text.proofs.longest_token.Goals as goal
 
 pub returns-clause-front : goal.returns-clause-front

@@ -1,4 +1,4 @@
-use Rattle.wgsl_text.proofs.RowText.{text-append}
+use Rattle.wgsl_text.proofs.Text.{text-append}
 use Rattle.wgsl_text.proofs.text_of_appended.Goals as goal
 
 pub returns : goal.returns

@@ -1,4 +1,4 @@
-use Rattle.naga_form.proofs.Likeness.{alike_itself, alike_back, alike_through, strides_are_alike}
+use Rattle.naga_form.proofs.Readable.{alike_itself, alike_back, alike_through, strides_are_alike}
 use Rattle.naga_form.proofs.types.alike_types.Goals as goal
 
 pub returns : goal.returns

@@ -1,5 +1,5 @@
 use Rattle.naga_names.specs.contracts.key.NameKeyHash.TheImpl.Laws.{respects_eq-law}
-use Rattle.naga_names.proofs.NameKeys.{same_key_laws}
+use Rattle.naga_names.proofs.Keys.{same_key_laws}
 use Rattle.naga_names.proofs.laws.keys_are_compared.Goals as goal
 
 pub returns-clause-equality : goal.returns-clause-equality

@@ -1,4 +1,4 @@
-use Rattle.naga_names.proofs.MemberNames.{member_named, member_not_reserved, members_told}
+use Rattle.naga_names.proofs.Members.{member_named, member_not_reserved, members_told}
 use Rattle.naga_names.proofs.laws.members_have_their_names.Goals as goal
 
 pub returns-clause-named : goal.returns-clause-named

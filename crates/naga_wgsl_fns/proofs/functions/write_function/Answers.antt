@@ -1,5 +1,5 @@
 use Rattle.std.proofs.Common.{◌≡◌, ◌<◌, ◌∙◌, Some, arith, ap, length, subst, sym}
-use Rattle.module_meaning.proofs.Accepting.{accepted_functions_fit, functions_fit_length}
+use Rattle.module_meaning.proofs.Accepted.{accepted_functions_fit, functions_fit_length}
 use Rattle.naga_words.proofs.Writing.{held_part_as, held_whole_as, never_formless, reason_given}
 use Rattle.naga_words.proofs.Writing.{same_sink, writes_as}
 use Rattle.std.proofs.lemmas.List.{length-map}

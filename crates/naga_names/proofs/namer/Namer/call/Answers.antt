@@ -2,9 +2,8 @@ use Rattle.std.proofs.Common.{◌≡◌, IfOk, OnOk, map, string_bytes, ap, subs
 use Rattle.std.specs.Str.{chars}
 use Rattle.naga_names.specs.Label.{base_of}
 use Rattle.naga_names.specs.Naming.{label_base}
-use Rattle.naga_names.proofs.NamerLemmas.{name_of-by_base, with_use-by_base, push-by_base}
-use Rattle.naga_names.proofs.NamerLemmas.{name_of-after}
-use Rattle.naga_names.proofs.Spellings.{on_ok_both}
+use Rattle.naga_names.proofs.Label.{on_ok_both}
+use Rattle.naga_names.proofs.Naming.{name_of-after, name_of-by_base, with_use-by_base, push-by_base}
 use Rattle.naga_names.proofs.namer.Namer.call.Goals as goal
 
 -- the base that stands in the label

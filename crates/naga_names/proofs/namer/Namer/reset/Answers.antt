@@ -1,8 +1,8 @@
 use Rattle.std.proofs.Common.{refl, sym, map, subst, ◌∙◌}
 use Rattle.naga_names.specs.Naming.{new_names}
 use Rattle.naga_names.specs.Refusal.{IsResetRefusal}
-use Rattle.naga_names.proofs.Counts.{run_out_unfit, unfit_run_out}
-use Rattle.naga_names.proofs.ResetLemmas.{starts, none_full}
+use Rattle.naga_names.proofs.Reset.{starts, none_full}
+use Rattle.naga_names.proofs.Refusal.{run_out_unfit, unfit_run_out}
 use Rattle.naga_names.proofs.Progress.{all_named, some_named}
 use Rattle.naga_names.proofs.namer.Namer.reset.Goals as goal
 

@@ -2,7 +2,7 @@ use Rattle.std.proofs.Common.{refl, sym, ap, subst, ◌∙◌, ◌≡◌, List, 
 use Rattle.std.proofs.lemmas.Bool.{not-true}
 use Rattle.std.proofs.lemmas.List.{take_more}
 use Rattle.naga_names.specs.Label.{ends_separated, IsSpelledAlike}
-use Rattle.naga_names.proofs.Spellings.{alike-nothing, alike-letter, alike-separator}
+use Rattle.naga_names.proofs.Label.{alike-nothing, alike-letter, alike-separator}
 use Rattle.naga_names.proofs.namer.label.is_spelled_alike.Goals.{then-is_letter_or_digit}
 use Rattle.naga_names.proofs.namer.label.is_spelled_alike.Goals.{else-is_letter_or_digit+then-byte-eq95+then-not-is_separated}
 use Rattle.naga_names.proofs.namer.label.is_spelled_alike.Goals as goal

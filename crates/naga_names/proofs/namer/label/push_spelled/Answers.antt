@@ -1,7 +1,8 @@
 use Rattle.std.proofs.Common.{[], ◌∷◌, ◌++◌, sym, ap, ◌∙◌, string_bytes}
 use Rattle.std.specs.Char.{encode_utf8}
 use Rattle.naga_names.specs.Label.{with_separator}
-use Rattle.naga_names.proofs.Spellings.{spelling-separating, spelling-alphanumeric, alphanumeric_is_ascii, on_ok, on_ok_then, pushed_char}
+use Rattle.naga_names.proofs.Label.{spelling-separating, spelling-alphanumeric}
+use Rattle.naga_names.proofs.Label.{alphanumeric_is_ascii, on_ok, on_ok_then, pushed_char}
 use Rattle.naga_names.proofs.namer.label.push_spelled.Goals as goal
 
 pub returns-then-is_separating : goal.returns-then-is_separating

@@ -4,7 +4,7 @@ use Rattle.std.proofs.lemmas.Iterator.{YieldsList-from_chars}
 use Rattle.std.proofs.lemmas.Iterator.Adapters.{YieldsList-from_skip_while}
 use Rattle.std.proofs.lemmas.Iterator.Consumers.{YieldsList-at, YieldsList-end}
 use Rattle.naga_names.specs.Label.{spelling, is_numeric}
-use Rattle.naga_names.proofs.Spellings.{spelling-nil, same_items, after_numerics-drop}
+use Rattle.naga_names.proofs.Label.{after_numerics-drop, spelling-nil, same_items}
 use Rattle.naga_names.proofs.namer.label.spell.Goals as goal
 
 pub loop-c-init : goal.loop-c-init

@@ -1,8 +1,9 @@
 use Rattle.std.proofs.Common.{◌≡◌, ◌<◌, ◌∙◌, length, subst, sym}
 use Rattle.std.specs.Prelude.{IfErr, IfOk, IsSomeAnd}
 use Rattle.module_meaning.specs.Part.{names_nothing}
-use Rattle.module_meaning.proofs.Accepting.{accepted_functions_fit, function_fits_block}
-use Rattle.module_meaning.proofs.Accepting.{functions_fit_at, functions_fit_length, list_all_at}
+use Rattle.module_meaning.proofs.Accepted.{accepted_functions_fit, list_all_at}
+use Rattle.module_meaning.proofs.Accepted.{functions_fit_length, functions_fit_at}
+use Rattle.module_meaning.proofs.Accepted.{function_fits_block}
 use Rattle.naga_form.proofs.Fits.{ordered_at}
 use Rattle.naga_scope.specs.Plans.{IsPlan, IsRefusalToPlan}
 use Rattle.naga_scope.proofs.Holding.{accepted_flat}

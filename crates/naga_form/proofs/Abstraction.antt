@@ -1,0 +1,254 @@
+-- What is written of a function is read as the function's shape says: the abstraction of its form is the form of its shape.
+use Rattle.std.proofs.Common.{◌≡◌, ℕ, suc, Bool, true, false, List, [], ◌∷◌, ◌++◌, length, refl}
+use Rattle.std.proofs.Common.{sym, ap, ◌∙◌, arith, zero, ◌+◌, pos, negsuc, map, Option, Some, None}
+use Rattle.std.proofs.Common.{add-one, add-zero, zero-add, ◌-◌}
+use Rattle.std.specs.Prelude.{codes, IsTrue, slice_get, unwrap_or}
+use Rattle.std.specs.Option.{option_map_or, option_map}
+use Rattle.std.proofs.lemmas.Bool.{ltb-true}
+use Rattle.std.proofs.lemmas.List.{map-append}
+use Rattle.std.proofs.lemmas.Option.{slice_get-map}
+use Rattle.naga_ir.specs.declared.statement.SwitchValue.{SwitchValue}
+use Rattle.naga_ir.specs.declared.statement.SwitchValue.TheVariants as label
+use Rattle.naga_ir.specs.StatementTree.{SimpleStatement, emit, store, return, StatementTree, simple}
+use Rattle.naga_ir.specs.StatementTree.{block, branch, switch, loop, BlockTree, no_statements}
+use Rattle.naga_ir.specs.StatementTree.{statement, CaseTrees, no_cases, case}
+use Rattle.naga_ir.specs.declared.expression.Expression as ir
+use Rattle.naga_ir.specs.declared.module.Function as ir_function
+use Rattle.naga_ir.specs.declared.module.FunctionArgument.{FunctionArgument}
+use Rattle.naga_ir.specs.declared.module.LocalVariable.{LocalVariable}
+use Rattle.naga_ir.specs.declared.types.Type_.{Type_}
+use Rattle.naga_info.specs.declared.info.ExpressionInfo.{ExpressionInfo}
+use Rattle.std.specs.List.{list_all}
+use Rattle.module_meaning.specs.Accepted.{is_scalar_type, local_fits, function_fits}
+use Rattle.module_meaning.specs.Spelled.{word_at, local_pointer}
+use Rattle.module_meaning.proofs.Accepted.{list_all_at, scalar_types_word_at, function_fits_locals}
+use Rattle.module_meaning.proofs.Accepted.{local_fits_parts}
+use Rattle.naga_names.specs.Keys.{NameMap}
+use Rattle.wgsl_text.specs.Token.{GreaterThan, mark}
+use Rattle.wgsl_text.specs.Types.{TypeSpecifier, Named, type_pieces}
+use Rattle.shader_runs.specs.Value.{ValueType}
+use Rattle.shader_runs.specs.Program.{binds, from, handle_type, expression_of}
+use Rattle.shader_runs.specs.Scope.{Standing, Named, Handles, Naming, bound_name, at_start}
+use Rattle.shader_runs.specs.Scope.{given_after, given_by, given_by_all, after_one, after}
+use Rattle.shader_runs.specs.Scope.{after_all}
+use Rattle.shader_runs.specs.Text.{LiteralOf, before, ReturnLine, more, Let, Assign, Braces, IfElse}
+use Rattle.shader_runs.specs.Text.{SwitchOn, LoopOf, group}
+use Rattle.shader_runs.specs.Form.{written_below, names_from, variables_from, form_function, Plain}
+use Rattle.shader_runs.specs.Form.{AsValue, AsPlace, let_if}
+use Rattle.shader_runs.specs.Form as runs
+use Rattle.naga_form.specs.Expressions.{PlainForm, ValueForm, ReferenceForm, as_value, as_reference}
+use Rattle.naga_form.specs.Expressions.{application_plain, own_plain, own_if, standing_plain}
+use Rattle.naga_form.specs.Expressions.{plain_below, plain_form, value_form}
+use Rattle.naga_form.specs.Functions.{locals_form, parameters_form, function_form}
+use Rattle.naga_form.specs.Statements.{let_form, then_if, lets_form, return_line, simple_form}
+use Rattle.naga_form.specs.Statements.{loop_form, label_form, labels_form, line_form, lines_form}
+use Rattle.naga_form.specs.Statements.{cases_form}
+use Rattle.naga_words.specs.Contexts.{names_of}
+use Rattle.module_meaning.specs.Names.{function_name, argument_name}
+use Rattle.naga_form.specs.Types.{type_form, told_type}
+use Rattle.module_meaning.specs.Types.{pointer_to_local, declared_type, LocalsAreSpelled}
+use Rattle.naga_form.specs.Literals.{literal_is_written, LiteralsAreWritten}
+use Rattle.module_meaning.specs.Shapes.{statement_shape, statements_shape, function_naming}
+use Rattle.module_meaning.specs.Shapes.{application_shape, expression_shape, label_shape}
+use Rattle.module_meaning.specs.Shapes.{simple_shape, cases_shape, function_shape}
+use Rattle.text_meaning.specs.Abstraction.{expression_read, label_read, labels_read}
+use Rattle.text_meaning.specs.Abstraction.{statements_read, cases_read, function_read}
+use Rattle.text_meaning.specs.Abstraction.{statement_read, local_pointer_read, variable_read}
+use Rattle.naga_ir.specs.declared.expression.Expression.TheVariants as expression
+use Rattle.wgsl_text.specs.Text.{text}
+use Rattle.module_meaning.specs.Applications.{Application, application_of}
+use Rattle.naga_form.proofs.Operators.{operator_read}
+use Rattle.naga_form.proofs.Fits.{mapped_at, mapped_length}
+use Rattle.naga_form.proofs.WrittenTypes.{tree_of_word}
+use Rattle.naga_form.proofs.Literals.{literal_read}
+use Rattle.wgsl_text.specs.Statements as tree
+use Rattle.wgsl_text.specs.Expressions as tree_expressions
+
+pub names_counted : (names : NameMap) (types : List Type_) (g n : ℕ) (args : List FunctionArgument) → map (λ p. p.name) (parameters_form names types g n args) ≡ names_from (argument_name names g) n (length args)
+names_counted names types g n [] = refl
+names_counted names types g n (a ∷ args) = ap (λ ns. argument_name names g n ∷ ns) (names_counted names types g (n + 1) args ∙ ap (λ k. names_from (argument_name names g) k (length args)) (add-one n))
+
+-- what a plain form is read as
+abbrev plain_read : PlainForm → Plain
+plain_read (ValueForm e) = AsValue (expression_read e)
+plain_read (ReferenceForm e) = AsPlace (expression_read e)
+
+value_is : (p : PlainForm) → expression_read (as_value p) ≡ runs.value_form (plain_read p)
+value_is (ValueForm e) = refl
+value_is (ReferenceForm e) = refl
+
+place_is : (p : PlainForm) → expression_read (as_reference p) ≡ runs.place_form (plain_read p)
+place_is (ValueForm e) = refl
+place_is (ReferenceForm e) = refl
+
+-- ---- labels
+label_reads : (value : SwitchValue) → label_read (label_form value) ≡ label_shape value
+label_reads (label.I32 (pos n)) = refl
+label_reads (label.I32 (negsuc n)) = refl
+label_reads (label.U32 n) = refl
+label_reads label.Default = refl
+
+-- a label behind others
+labels_with : (labels : List tree.Label) (value : SwitchValue) → map label_read (labels ++ label_form value ∷ []) ≡ map label_read labels ++ label_shape value ∷ []
+labels_with labels value =
+    map-append label_read labels (label_form value ∷ [])
+    ∙ ap (λ l. map label_read labels ++ l ∷ []) (label_reads value)
+
+labels_read_as : (labels : List tree.Label) (value : SwitchValue) → labels_read (labels_form labels (label_form value)) ≡ map label_read labels ++ label_shape value ∷ []
+labels_read_as [] value = ap (λ l. l ∷ []) (label_reads value)
+labels_read_as (l ∷ ls) value = ap (λ more. label_read l ∷ more) (labels_read_as ls value)
+
+-- a loop
+loop_reads : (body continuing : tree.Statements) (e : Option tree_expressions.Expression) → statement_read (loop_form body continuing e) ≡ LoopOf (statements_read body) (statements_read continuing) (option_map expression_read e)
+loop_reads body continuing None = refl
+loop_reads body continuing (Some e) = refl
+
+-- ---- expressions
+module _ (n : Naming) where
+  application_reads : (operand : ℕ → PlainForm) (like : ℕ → Plain) →
+      ((x : ℕ) → plain_read (operand x) ≡ like x) → (k : ValueType) (o : Option Application) →
+      plain_read (application_plain operand o) ≡ runs.own_form n like k (Some (application_shape o))
+  application_reads operand like same k None = refl
+  application_reads operand like same k (Some applied) =
+      operator_read operand like
+      (λ h. value_is (operand h)
+      ∙ ap runs.value_form (same h)) n k applied.operator applied.operands
+
+  own_reads : (operand : ℕ → PlainForm) (like : ℕ → Plain) → ((x : ℕ) → plain_read (operand x) ≡ like x) → (k : ValueType) (e : ir.Expression) → literal_is_written e ≡ true → plain_read (own_plain n operand e) ≡ runs.own_form n like k (Some (expression_shape e))
+  own_reads operand like same k (expression.Literal value) w = ap (λ v. AsValue (LiteralOf v)) (literal_read value w)
+  own_reads operand like same k (expression.Load pointer) w = ap AsValue (place_is (operand pointer) ∙ ap runs.place_form (same pointer))
+  own_reads operand like same k (expression.FunctionArgument number) w = refl
+  own_reads operand like same k (expression.LocalVariable handle) w = refl
+  own_reads operand like same k e w = application_reads operand like same k (application_of e)
+
+  own_if_reads : (operand : ℕ → PlainForm) (like : ℕ → Plain) → ((x : ℕ) → plain_read (operand x) ≡ like x) → (k : ValueType) (e : Option ir.Expression) → option_map_or literal_is_written e true ≡ true → plain_read (own_if n operand e) ≡ runs.own_form n like k (option_map expression_shape e)
+  own_if_reads operand like same k (Some e) w = own_reads operand like same k e w
+  own_if_reads operand like same k None w = refl
+
+  standing_reads : (s : Standing) (p : PlainForm) (q : Plain) → plain_read p ≡ q → plain_read (standing_plain s p) ≡ runs.standing_form s q
+  standing_reads (Named x) p q e = refl
+  standing_reads _ p q e = e
+
+module _ (names : NameMap) (types : List Type_) (g : ℕ) (f : ir_function.Function) (es : List ExpressionInfo) (literals : LiteralsAreWritten f.expressions) where
+  abbrev own : Naming
+  own = function_naming names types g f es
+
+  below_reads : (s : Handles) (k h : ℕ) → plain_read (plain_below own f.expressions s k h) ≡ written_below own s k h
+  below_reads s zero h = refl
+  below_reads s (suc k) h =
+      standing_reads own (s h) (own_if own (plain_below own f.expressions s k) (slice_get f.expressions h)) (runs.own_form own (written_below own s k) (handle_type own.function h) (expression_of own.function h))
+      (own_if_reads own (plain_below own f.expressions s k) (written_below own s k) (below_reads s k) (handle_type own.function h) (slice_get f.expressions h) (literals h)
+      ∙ ap (runs.own_form own (written_below own s k) (handle_type own.function h)) (sym (slice_get-map expression_shape f.expressions h)))
+
+  plain_reads : (s : Handles) (h : ℕ) → plain_read (plain_form own f.expressions s h) ≡ runs.written own s h
+  plain_reads s h = below_reads s (length f.expressions) h ∙ ap (λ k. written_below own s k h) (sym (mapped_length expression_shape f.expressions))
+
+  value_reads : (s : Handles) (h : ℕ) → expression_read (value_form own f.expressions s h) ≡ runs.value_at own s h
+  value_reads s h = value_is (plain_form own f.expressions s h) ∙ ap runs.value_form (plain_reads s h)
+
+  value_if_reads : (s : Handles) (v : Option ℕ) → option_map expression_read (option_map (value_form own f.expressions s) v) ≡ runs.value_if own s v
+  value_if_reads s None = refl
+  value_if_reads s (Some h) = ap Some (value_reads s h)
+
+  let_reads : (told : Option TypeSpecifier) (x : List ℕ) (e : tree_expressions.Expression) → statement_read (let_form told x e) ≡ Let x (expression_read e)
+  let_reads None x e = refl
+  let_reads (Some t) x e = refl
+
+  then_if_reads : (b : Bool) (told : Option TypeSpecifier) (x : List ℕ) (e : tree_expressions.Expression) (rest : tree.Statements) → statements_read (then_if b (let_form told x e) rest) ≡ let_if b x (expression_read e) (statements_read rest)
+  then_if_reads true told x e rest = ap (λ l. before l (statements_read rest)) (let_reads told x e)
+  then_if_reads false told x e rest = refl
+
+  lets_read : (told : ℕ → Option TypeSpecifier) (k : ℕ) (hs : List ℕ) (s : Handles) (rest : tree.Statements) → statements_read (lets_form own told f.expressions k hs s rest) ≡ runs.lets own k hs s (statements_read rest)
+  lets_read told k [] s rest = refl
+  lets_read told k (h ∷ hs) s rest =
+      let e = own_if own (plain_form own f.expressions s) (slice_get f.expressions h) in
+      let behind = lets_form own told f.expressions (given_after own.function h k) hs (after_one own k h s) rest in
+      then_if_reads (binds own.function h) (told h) (bound_name own k h) (as_value e) behind
+      ∙ λ i. let_if (binds own.function h) (bound_name own k h)
+      ((value_is e ∙ ap runs.value_form (own_if_reads own (plain_form own f.expressions s) (runs.written own s) (plain_reads s) (handle_type own.function h) (slice_get f.expressions h) (literals h)
+      ∙ ap (runs.own_form own (runs.written own s) (handle_type own.function h)) (sym (slice_get-map expression_shape f.expressions h)))) i)
+      (lets_read told (given_after own.function h k) hs (after_one own k h s) rest i)
+
+  return_reads : (s : Handles) (v : Option ℕ) → statement_read (return_line own f.expressions s v) ≡ ReturnLine (runs.value_if own s v)
+  return_reads s None = refl
+  return_reads s (Some h) = ap (λ e. ReturnLine (Some e)) (value_reads s h)
+
+  simple_reads : (told : ℕ → Option TypeSpecifier) (k : ℕ) (st : SimpleStatement) (s : Handles) (rest : tree.Statements) → statements_read (simple_form own told f.expressions k st s rest) ≡ runs.form own k (simple_shape st) s (statements_read rest)
+  simple_reads told k (emit first end) s rest = lets_read told k (from first (end - first)) s rest
+  simple_reads told k (store pointer value) s rest = λ i. before (Assign ((place_is (plain_form own f.expressions s pointer) ∙ ap runs.place_form (plain_reads s pointer)) i) (value_reads s value i)) (statements_read rest)
+  simple_reads told k (return value) s rest = ap (λ l. before l (statements_read rest)) (return_reads s value)
+  simple_reads told k _ s rest = refl
+
+  mutual
+    line_reads : (told : ℕ → Option TypeSpecifier) (k : ℕ) (st : StatementTree) (s : Handles) (rest : tree.Statements) → statements_read (line_form own told f.expressions k st s rest) ≡ runs.form own k (statement_shape st) s (statements_read rest)
+    line_reads told k (simple st) s rest = simple_reads told k st s rest
+    line_reads told k (block b) s rest = ap (λ ls. before (Braces ls) (statements_read rest)) (lines_read told k b s)
+    line_reads told k (branch condition accept reject) s rest =
+        let behind = given_by_all own.function (statements_shape accept) k in
+        λ i. before (IfElse (value_reads s condition i) (lines_read told k accept s i) (lines_read told behind reject s i)) (statements_read rest)
+    line_reads told k (switch selector cases) s rest =
+        λ i. before (SwitchOn (value_reads s selector i) (cases_read_as told k [] cases s i)) (statements_read rest)
+    line_reads told k (loop body continuing break_if) s rest =
+        let behind = given_by_all own.function (statements_shape body) k in
+        let inside = after_all own k (statements_shape body) s in
+        let last = after_all own behind (statements_shape continuing) inside in
+        ap (λ l. before l (statements_read rest)) (loop_reads (lines_form own told f.expressions k body s) (lines_form own told f.expressions behind continuing inside) (option_map (value_form own f.expressions last) break_if))
+        ∙ λ i. before (LoopOf (lines_read told k body s i) (lines_read told behind continuing inside i) (value_if_reads last break_if i)) (statements_read rest)
+
+    lines_read : (told : ℕ → Option TypeSpecifier) (k : ℕ) (b : BlockTree) (s : Handles) → statements_read (lines_form own told f.expressions k b s) ≡ runs.form_all own k (statements_shape b) s
+    lines_read told k no_statements s = refl
+    lines_read told k (statement st b) s =
+        line_reads told k st s (lines_form own told f.expressions (given_by own.function (statement_shape st) k) b (after own k (statement_shape st) s))
+        ∙ ap (runs.form own k (statement_shape st) s) (lines_read told (given_by own.function (statement_shape st) k) b (after own k (statement_shape st) s))
+
+    cases_read_as : (told : ℕ → Option TypeSpecifier) (k : ℕ) (labels : List tree.Label) (cs : CaseTrees) (s : Handles) → cases_read (cases_form own told f.expressions k labels cs s) ≡ runs.form_cases own k (map label_read labels) (cases_shape cs) s
+    cases_read_as told k labels no_cases s = refl
+    cases_read_as told k labels (case value body true cs) s =
+        let behind = given_by_all own.function (statements_shape body) k in
+        cases_read_as told behind (labels ++ label_form value ∷ []) cs s
+        ∙ ap (λ ls. runs.form_cases own behind ls (cases_shape cs) s) (labels_with labels value)
+    cases_read_as told k labels (case value body false cs) s =
+        let behind = given_by_all own.function (statements_shape body) k in
+        λ i. group (labels_read_as labels value i) (lines_read told k body s i) (cases_read_as told behind [] cs s i)
+
+  -- the declared type of a local tells the spelling of a pointer to it
+  pointer_reads : (ty : ℕ) (w : List ℕ) → word_at types ty ≡ Some w → local_pointer_read (type_form (names_of types names) ty) ≡ local_pointer w
+  pointer_reads ty w word =
+      ap (λ t. local_pointer_read (unwrap_or t (Named []))) (tree_of_word (names_of types names) ty w word)
+      ∙ ap (λ z. codes "ptr<function, " ++ z) (closed w)
+    where
+      closed : (w : List ℕ) → text (type_pieces (Named w) ++ mark GreaterThan ∷ []) ≡ w ++ codes ">"
+      closed w = refl
+
+  locals_read : LocalsAreSpelled types f.local_variables → (l : ℕ) (vs : List LocalVariable) → ((k : ℕ) → slice_get vs k ≡ slice_get f.local_variables (k + l)) → map variable_read (locals_form own (names_of types names) f.expressions l vs) ≡ variables_from own l (map (λ v. v.init) vs)
+  locals_read spelled l [] at = refl
+  locals_read spelled l (v ∷ vs) at =
+      let here : slice_get f.local_variables l ≡ Some v = ap (slice_get f.local_variables) (sym (zero-add l)) ∙ sym (at 0) in
+      let w = spelled l v here in
+      let pointer = pointer_reads v.ty w.0 w.1 ∙ ap pointer_to_local (sym w.1) ∙ sym (mapped_at (λ l. pointer_to_local (word_at types l.ty)) [] f.local_variables l v here) in
+      let rest = locals_read spelled (l + 1) vs later in
+      λ i.
+      record { name = own.names.local_ l; pointer = pointer i; first_value = value_if_reads (at_start own.function) v.init i }
+      ∷ (rest ∙ ap (λ m. variables_from own m (map (λ v. v.init) vs)) (add-one l)) i
+    where
+      later : (k : ℕ) → slice_get vs k ≡ slice_get f.local_variables (k + (l + 1))
+      later k =
+          let same : suc k + l ≡ k + (l + 1) = omega arith in
+          at (suc k) ∙ ap (slice_get f.local_variables) same
+
+-- the type of each local of a function that fits is spelled
+pub locals_spelled : (types : List Type_) (f : ir_function.Function) (es : List ExpressionInfo) → IsTrue (list_all is_scalar_type types) → function_fits types f es ≡ true → LocalsAreSpelled types f.local_variables
+locals_spelled types f es scalars fits l v at =
+    let fit = list_all_at (local_fits types es) f.local_variables l v (function_fits_locals types f es fits) at in
+    let parts = local_fits_parts types es v fit in
+    scalar_types_word_at types v.ty scalars (ltb-true v.ty (length types) parts.0)
+
+pub function_reads : (explicit : Bool) (names : NameMap) (types : List Type_) (g : ℕ) (f : ir_function.Function) (es : List ExpressionInfo) → LiteralsAreWritten f.expressions → LocalsAreSpelled types f.local_variables → function_read (function_form explicit names types g f es) ≡ form_function (function_naming names types g f es)
+function_reads explicit names types g f es literals spelled =
+    let locals = locals_read names types g f es literals spelled 0 f.local_variables (λ k. ap (slice_get f.local_variables) (sym (add-zero k))) in
+    λ i. record {
+      name = function_name names g;
+      parameters = (names_counted names types g 0 f.arguments.items ∙ ap (names_from (argument_name names g) 0) (sym (mapped_length (λ a. declared_type types a.ty) f.arguments.items))) i;
+      variables = locals i;
+      lines = lines_read names types g f es literals (told_type explicit (names_of types names) es) 0 f.body (at_start (function_shape types f es)) i;
+    }

@@ -1,0 +1,172 @@
+-- The names of a module's items: identifiers of WGSL, no two alike, and none that a handle has.
+use Rattle.std.proofs.Common.{◌≡◌, ℕ, ◌<◌, suc, Bool, true, false, not, List, [], ◌∷◌, ◌++◌, length}
+use Rattle.std.proofs.Common.{take, drop, refl, sym, ap, subst, ◌∙◌, ◌||◌, zero, codes, nat_lt, map}
+use Rattle.std.proofs.Common.{Some, None, ◌^◌, decimal, nat_eq, true≢false, ◌≢◌, replicate}
+use Rattle.std.specs.Prelude.{slice_get, ◌==◌, unwrap_or}
+use Rattle.std.specs.FinSet as set
+use Rattle.std.specs.Bool.{one_answer}
+use Rattle.std.specs.Char.{is_ascii_digit, is_ascii_uppercase, is_ascii_lowercase}
+use Rattle.std.specs.List.{list_all, list_any}
+use Rattle.std.specs.Str.{bytes_eq}
+use Rattle.std.proofs.lemmas.Bool.{and_from, ltb-true}
+use Rattle.std.proofs.lemmas.Fmt.{decimal_injective}
+use Rattle.std.proofs.lemmas.Slice.Eq.{bytes_eq-Decides}
+use Rattle.naga_ir.specs.declared.module.Function as ir_function
+use Rattle.naga_ir.specs.declared.module.FunctionArgument.{FunctionArgument}
+use Rattle.naga_ir.specs.declared.module.Module.{Module}
+use Rattle.naga_names.specs.Naming.{label_or, name_after}
+use Rattle.naga_keywords.specs.Plain.{is_identifier_char, is_word}
+use Rattle.naga_names.specs.Reset.{Labelled, labelled_items, labels_of, named_items, PutsInto}
+use Rattle.naga_keywords.specs.declared.keywords.TheConstants.{RESERVED, BUILTIN_IDENTIFIERS}
+use Rattle.naga_names.specs.declared.key.NameKey.TheVariants as key
+use Rattle.naga_keywords.proofs.Plains.{words_are}
+use Rattle.naga_keywords.proofs.SetLemmas.{texts_of, contains-texts_of}
+use Rattle.naga_names.proofs.NameShapes.{name_after_is_word, name_after_no_keyword}
+use Rattle.naga_names.proofs.NameShapes.{name_after_no_builtin, plain_ends, name_after_not_numbered}
+use Rattle.naga_names.proofs.Keys.{items_apart}
+use Rattle.naga_names.proofs.NamedItems.{Stands, put_at, item_names_tell, function_stands}
+use Rattle.naga_names.proofs.NamedItems.{argument_stands}
+use Rattle.wgsl_text.specs.Keywords.{builtin_words, reserved_words}
+use Rattle.wgsl_text.specs.Words.{stands_in, is_builtin, IsIdentifier, is_letter, is_word_byte}
+use Rattle.wgsl_text.specs.Words.{all_word_bytes, is_word_text, is_reserved}
+use Rattle.shader_runs.proofs.Update.{and_left, and_right}
+use Rattle.module_meaning.specs.Names.{module_names, NamesAreCounted, wgsl_names, numbered_text}
+use Rattle.module_meaning.specs.Names.{numbered_name, name_in}
+
+-- ---- words
+letter_of : (d u l s : Bool) → (((d || u) || l) || s) ≡ true → not d ≡ true → (l || (u || s)) ≡ true
+letter_of true u l s e n = absurd (cc)
+letter_of false u true s e n = refl
+letter_of false true false s e n = refl
+letter_of false false false s e n = e
+
+byte_of : (d u l s : Bool) → (((d || u) || l) || s) ≡ true → ((l || (u || s)) || d) ≡ true
+byte_of d u true s e = refl
+byte_of d true false s e = refl
+byte_of d false false true e = refl
+byte_of true false false false e = refl
+byte_of false false false false e = e
+
+all_bytes : (w : List ℕ) → list_all is_identifier_char w ≡ true → all_word_bytes w ≡ true
+all_bytes [] e = refl
+all_bytes (c ∷ w) e =
+    and_from (is_word_byte c) (all_word_bytes w) (byte_of (is_ascii_digit c) (is_ascii_uppercase c) (is_ascii_lowercase c) (c == 95) (and_left (is_identifier_char c) (list_all is_identifier_char w) e)) (all_bytes w (and_right (is_identifier_char c) (list_all is_identifier_char w) e))
+
+word_text : (w : List ℕ) → is_word w ≡ true → is_word_text w ≡ true
+word_text [] e = absurd (cc)
+word_text (c ∷ w) e =
+    let chars = list_all is_identifier_char (c ∷ w) in
+    let each = and_left chars (not (is_ascii_digit c)) e in
+    and_from (is_letter c) (all_word_bytes w)
+    (letter_of (is_ascii_digit c) (is_ascii_uppercase c) (is_ascii_lowercase c) (c == 95) (and_left (is_identifier_char c) (list_all is_identifier_char w) each) (and_right chars (not (is_ascii_digit c)) e))
+    (all_bytes w (and_right (is_identifier_char c) (list_all is_identifier_char w) each))
+
+-- ---- the two tables
+same_either_way : (a b : List ℕ) → bytes_eq a b ≡ bytes_eq b a
+same_either_way a b = one_answer (bytes_eq a b) (bytes_eq b a) (bytes_eq-Decides a b) ((λ e. sym ((bytes_eq-Decides b a).0 e)), (λ e. (bytes_eq-Decides b a).1 (sym e)))
+
+stands_as_any : {K : Type 0} (read : K → List ℕ) (ks : List K) (w : List ℕ) → list_any (λ k. bytes_eq w (read k)) ks ≡ stands_in (map read ks) w
+stands_as_any read [] w = refl
+stands_as_any read (k ∷ ks) w = λ i. same_either_way w (read k) i || stands_as_any read ks w i
+
+contains_words : {K : Type 0} (read : K → List ℕ) (ks : List K) (w : List ℕ) → set.contains (texts_of read ks) w ≡ stands_in (map read ks) w
+contains_words read ks w = contains-texts_of read ks w ∙ stands_as_any read ks w
+
+keeps_off_reserved : (earlier : List (List ℕ)) (label : List ℕ) → is_reserved (name_after wgsl_names earlier label) ≡ false
+unfolding wgsl_names reserved_words is_reserved
+keeps_off_reserved earlier label =
+    sym (contains_words (λ word. word.now) RESERVED.now (name_after wgsl_names earlier label))
+    ∙ name_after_no_keyword wgsl_names earlier label (plain_ends (map (λ word. word.now) RESERVED.now) (words_are (map (λ word. word.now) RESERVED.now) refl))
+
+keeps_off_builtin : (earlier : List (List ℕ)) (label : List ℕ) → is_builtin (name_after wgsl_names earlier label) ≡ false
+unfolding wgsl_names builtin_words is_builtin
+keeps_off_builtin earlier label =
+    sym (contains_words (λ word. word.now) BUILTIN_IDENTIFIERS.now (name_after wgsl_names earlier label))
+    ∙ name_after_no_builtin wgsl_names earlier label (plain_ends (map (λ word. word.now) BUILTIN_IDENTIFIERS.now) (words_are (map (λ word. word.now) BUILTIN_IDENTIFIERS.now) refl))
+
+pub is_identifier : (earlier : List (List ℕ)) (label : List ℕ) → IsIdentifier (name_after wgsl_names earlier label)
+is_identifier earlier label = record {
+  word = record { text = word_text (name_after wgsl_names earlier label) (name_after_is_word wgsl_names earlier label); free = keeps_off_reserved earlier label };
+  own = keeps_off_builtin earlier label;
+}
+
+-- ---- numbered names
+no_blanks : (w : List ℕ) (h : ℕ) → is_word w ≡ true → w ≡ replicate h 32 → ⊥
+no_blanks w zero word e = absurd (no (sym (ap is_word e) ∙ word))
+  where
+    no : false ≡ true → ⊥
+    no q = cc
+no_blanks w (suc h) word e = absurd (no (sym (ap is_word e) ∙ word))
+  where
+    no : false ≡ true → ⊥
+    no q = cc
+
+not_text : (w : List ℕ) (b : Bool) (h : ℕ) → is_word w ≡ true → (w ≡ codes "_e" ++ decimal h → ⊥) → w ≡ numbered_text b h → ⊥
+not_text w true h word not_so is = not_so is
+not_text w false h word not_so is = no_blanks w h word is
+
+unnumbered : (w : List ℕ) (h : ℕ) → is_word w ≡ true → (w ≡ codes "_e" ++ decimal h → ⊥) → w ≡ numbered_name h → ⊥
+unfolding numbered_name
+unnumbered w h word not_so is = not_text w (nat_lt h (2 ^ 64)) h word not_so is
+
+length-replicate : (n : ℕ) → length {A = ℕ} (replicate n 32) ≡ n
+length-replicate zero = refl
+length-replicate (suc n) = ap suc (length-replicate n)
+
+-- the first byte is a `_`
+abbrev begins : List ℕ → Bool
+begins [] = false
+begins (b ∷ bytes) = nat_eq b 95
+
+no_blank : (k : ℕ) (w : List ℕ) → codes "_e" ++ w ≡ replicate k 32 → ⊥
+no_blank zero w e = true≢false (ap begins e)
+no_blank (suc k) w e = true≢false (ap begins e)
+
+texts_distinct : (a b : Bool) (h k : ℕ) → (a ≡ true → h < 2 ^ 64) → (b ≡ true → k < 2 ^ 64) → numbered_text a h ≡ numbered_text b k → h ≡ k
+texts_distinct true true h k p q e = decimal_injective h k (p refl) (q refl) (ap (drop 2) e)
+texts_distinct true false h k p q e = absurd (no_blank k (decimal h) e)
+texts_distinct false true h k p q e = absurd (no_blank h (decimal k) (sym e))
+texts_distinct false false h k p q e = sym (length-replicate h) ∙ ap length e ∙ length-replicate k
+
+pub numbered_distinct : (h k : ℕ) → numbered_name h ≡ numbered_name k → h ≡ k
+unfolding numbered_name
+numbered_distinct h k e = texts_distinct (nat_lt h (2 ^ 64)) (nat_lt k (2 ^ 64)) h k (ltb-true h (2 ^ 64)) (ltb-true k (2 ^ 64)) e
+
+-- ---- the items of a module
+module _ (m : Module) where
+  puts : PutsInto (λ _. None) (named_items wgsl_names (labelled_items wgsl_names m)) (module_names m)
+  unfolding module_names
+  puts = record { finds = λ key. refl }
+
+  -- an item's name is that of its label after those before it
+  pub name_there : (item : Labelled) (s : Stands (labelled_items wgsl_names m) item) → module_names m item.0 ≡ Some (name_after wgsl_names (labels_of (take s.place (labelled_items wgsl_names m))) item.1)
+  name_there item s = put_at wgsl_names (λ _. None) (module_names m) (labelled_items wgsl_names m) puts (items_apart wgsl_names m) s.place item s.there s.outside
+
+  pub name_is : (item : Labelled) (s : Stands (labelled_items wgsl_names m) item) → name_in (module_names m) item.0 ≡ name_after wgsl_names (labels_of (take s.place (labelled_items wgsl_names m))) item.1
+  name_is item s = ap (λ o. unwrap_or o []) (name_there item s)
+
+  pub item_is_identifier : (item : Labelled) → Stands (labelled_items wgsl_names m) item → IsIdentifier (name_in (module_names m) item.0)
+  item_is_identifier item s = subst IsIdentifier (sym (name_is item s)) (is_identifier (labels_of (take s.place (labelled_items wgsl_names m))) item.1)
+
+  pub item_not_numbered : (item : Labelled) (h : ℕ) → Stands (labelled_items wgsl_names m) item → name_in (module_names m) item.0 ≢ numbered_name h
+  item_not_numbered item h s e =
+      let earlier = labels_of (take s.place (labelled_items wgsl_names m)) in
+      unnumbered (name_after wgsl_names earlier item.1) h (name_after_is_word wgsl_names earlier item.1) (name_after_not_numbered wgsl_names earlier item.1 h) (sym (name_is item s) ∙ e)
+
+  pub items_tell : NamesAreCounted m → (a b : Labelled) → Stands (labelled_items wgsl_names m) a → Stands (labelled_items wgsl_names m) b → name_in (module_names m) a.0 ≡ name_in (module_names m) b.0 → a ≡ b
+  items_tell few a b s t e =
+      let place = item_names_tell wgsl_names (labelled_items wgsl_names m) few s.place t.place a b s.there t.there s.outside t.outside (sym (name_is a s) ∙ e ∙ name_is b t) in
+      ap (λ o. unwrap_or o a) (sym s.there ∙ ap (slice_get (labelled_items wgsl_names m)) place ∙ t.there)
+
+  -- the items of functions and arguments
+  abbrev pub function_item : ℕ → ir_function.Function → Labelled
+  function_item g f = (key.Function g, label_or f.name (codes "function"))
+
+  abbrev pub argument_item : ℕ → ℕ → FunctionArgument → Labelled
+  argument_item g n a = (key.FunctionArgument g n, label_or a.name (codes "param"))
+
+  pub function_there : (g : ℕ) (f : ir_function.Function) → slice_get m.functions g ≡ Some f → Stands (labelled_items wgsl_names m) (function_item g f)
+  function_there g f e = function_stands wgsl_names m g f e
+
+  pub argument_there : (g : ℕ) (f : ir_function.Function) (n : ℕ) (a : FunctionArgument) → slice_get m.functions g ≡ Some f → slice_get f.arguments.items n ≡ Some a → Stands (labelled_items wgsl_names m) (argument_item g n a)
+  argument_there g f n a e there = argument_stands wgsl_names m g f n a e there

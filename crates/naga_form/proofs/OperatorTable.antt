@@ -1,0 +1,462 @@
+-- Each word of the table of operators stands for one of them, but for those that share it.
+use Rattle.std.proofs.Common.{◌≡◌, ℕ, Bool, true, false, List, [], ◌∷◌, refl, sym, ap, ◌∙◌, map}
+use Rattle.std.proofs.Common.{Option, Some, None, ◌==◌}
+use Rattle.std.specs.Prelude.{if◌then◌else◌}
+use Rattle.std.specs.Str.{bytes_eq}
+use Rattle.std.proofs.lemmas.Bool.{false≢true}
+use Rattle.std.proofs.lemmas.Option.{same_Some}
+use Rattle.std.specs.Option.{option_or}
+use Rattle.naga_ir.specs.declared.expression.SwizzleComponent.{SwizzleComponent}
+use Rattle.naga_ir.specs.declared.expression.SwizzleComponent.TheVariants as component
+use Rattle.naga_ir.specs.declared.types.VectorSize.{VectorSize}
+use Rattle.naga_ir.specs.declared.types.VectorSize.TheVariants as vector
+use Rattle.naga_ir.specs.declared.operators.BinaryOperator.{BinaryOperator}
+use Rattle.naga_ir.specs.declared.operators.BinaryOperator.TheVariants as binary
+use Rattle.naga_ir.specs.declared.operators.UnaryOperator.{UnaryOperator}
+use Rattle.naga_ir.specs.declared.operators.UnaryOperator.TheVariants as unary
+use Rattle.naga_ir.specs.declared.operators.MathFunction.{MathFunction}
+use Rattle.naga_ir.specs.declared.operators.MathFunction.TheVariants as math
+use Rattle.naga_ir.specs.declared.operators.RelationalFunction.{RelationalFunction}
+use Rattle.naga_ir.specs.declared.operators.RelationalFunction.TheVariants as relational
+use Rattle.naga_ir.specs.declared.operators.DerivativeAxis.{DerivativeAxis}
+use Rattle.naga_ir.specs.declared.operators.DerivativeAxis.TheVariants as axis
+use Rattle.naga_ir.specs.declared.operators.DerivativeControl.{DerivativeControl}
+use Rattle.naga_ir.specs.declared.operators.DerivativeControl.TheVariants as control
+use Rattle.naga_ir.specs.declared.operators.SubgroupOperation.{SubgroupOperation}
+use Rattle.naga_ir.specs.declared.operators.SubgroupOperation.TheVariants as subgroup
+use Rattle.naga_ir.specs.declared.operators.CollectiveOperation.{CollectiveOperation}
+use Rattle.naga_ir.specs.declared.operators.CollectiveOperation.TheVariants as collective
+use Rattle.naga_ir.specs.declared.operators.Direction.TheVariants as direction
+use Rattle.module_meaning.specs.OperatorTable.{Operator, BinarySign, UnarySign, Choice}
+use Rattle.module_meaning.specs.OperatorTable.{Mathematical, Relation, Derivative, ArrayLength}
+use Rattle.module_meaning.specs.OperatorTable.{Sample, Gather, Texel, TexelStore, TexelChange}
+use Rattle.module_meaning.specs.OperatorTable.{ImageSize, CountOf, AtomicLoad, AtomicStore}
+use Rattle.module_meaning.specs.OperatorTable.{AtomicChange, UniformLoad, Ballot, Collective}
+use Rattle.module_meaning.specs.OperatorTable.{FromSubgroup, Barrier, CooperativeLoad}
+use Rattle.module_meaning.specs.OperatorTable.{CooperativeStore, CooperativeMultiplyAdd, TraceRay}
+use Rattle.module_meaning.specs.OperatorTable.{RayStep, RayIntersection, RayCorners, Construct}
+use Rattle.module_meaning.specs.OperatorTable.{Splat, Convert, Reinterpret, Level, Automatic, Zero}
+use Rattle.module_meaning.specs.OperatorTable.{Exact, Biased, Graded, OnlyTexel, BothTexel}
+use Rattle.module_meaning.specs.OperatorTable.{ImageCount, Levels, Layers, Samples, Change, AddTo}
+use Rattle.module_meaning.specs.OperatorTable.{SubtractFrom, AndWith, OrWith, XorWith, MinimumOf}
+use Rattle.module_meaning.specs.OperatorTable.{MaximumOf, Exchange, CompareExchange, Source, First}
+use Rattle.module_meaning.specs.OperatorTable.{Indexed, Shuffled, ShuffledDown, ShuffledUp}
+use Rattle.module_meaning.specs.OperatorTable.{ShuffledXor, QuadIndexed, QuadSwapped, Kept}
+use Rattle.module_meaning.specs.OperatorTable.{StorageKept, WorkgroupKept, SubgroupKept}
+use Rattle.module_meaning.specs.OperatorTable.{TextureKept, run_word, operand_count, one_word}
+use Rattle.module_meaning.specs.OperatorTable.{is_told, is_untyped}
+
+-- the operators of different words that take no type
+abbrev pub mathematical : List Operator
+mathematical = map Mathematical (
+    math.Abs ∷ math.Min ∷ math.Max ∷ math.Clamp ∷ math.Saturate ∷ math.Cos ∷ math.Sin ∷ math.Tan ∷ math.Acos ∷
+    math.Asin ∷ math.Atan ∷ math.Cosh ∷ math.Sinh ∷ math.Tanh ∷ math.Acosh ∷ math.Asinh ∷ math.Atanh ∷
+    math.Atan2 ∷ math.Radians ∷ math.Degrees ∷ math.Ceil ∷ math.Floor ∷ math.Round ∷ math.Fract ∷ math.Trunc ∷
+    math.Modf ∷ math.Frexp ∷ math.Ldexp ∷ math.Exp ∷ math.Exp2 ∷ math.Log ∷ math.Log2 ∷ math.Pow ∷ math.Dot ∷
+    math.Dot4I8Packed ∷ math.Dot4U8Packed ∷ math.Cross ∷ math.Distance ∷ math.Length ∷ math.Normalize ∷
+    math.FaceForward ∷ math.Reflect ∷ math.Refract ∷ math.Sign ∷ math.Fma ∷ math.Mix ∷ math.Step ∷
+    math.SmoothStep ∷ math.Sqrt ∷ math.InverseSqrt ∷ math.Transpose ∷ math.Determinant ∷ math.QuantizeToF16 ∷
+    math.CountTrailingZeros ∷ math.CountLeadingZeros ∷ math.CountOneBits ∷ math.ReverseBits ∷
+    math.ExtractBits ∷ math.InsertBits ∷ math.FirstTrailingBit ∷ math.FirstLeadingBit ∷ math.Pack4x8snorm ∷
+    math.Pack4x8unorm ∷ math.Pack2x16snorm ∷ math.Pack2x16unorm ∷ math.Unpack4x8snorm ∷ math.Unpack4x8unorm ∷
+    math.Unpack2x16snorm ∷ math.Unpack2x16unorm ∷ math.Pack2x16float ∷ math.Unpack2x16float ∷ math.Pack4xI8 ∷
+    math.Pack4xU8 ∷ math.Unpack4xI8 ∷ math.Unpack4xU8 ∷ math.Pack4xI8Clamp ∷ math.Pack4xU8Clamp ∷
+    [])
+
+abbrev pub others : List Operator
+others =
+    BinarySign binary.Add ∷ BinarySign binary.Subtract ∷ BinarySign binary.Multiply ∷
+    BinarySign binary.Divide ∷ BinarySign binary.Modulo ∷ BinarySign binary.Equal ∷
+    BinarySign binary.NotEqual ∷ BinarySign binary.Less ∷ BinarySign binary.LessEqual ∷
+    BinarySign binary.Greater ∷ BinarySign binary.GreaterEqual ∷ BinarySign binary.And ∷
+    BinarySign binary.ExclusiveOr ∷ BinarySign binary.InclusiveOr ∷ BinarySign binary.LogicalAnd ∷
+    BinarySign binary.LogicalOr ∷ BinarySign binary.ShiftLeft ∷ BinarySign binary.ShiftRight ∷
+    UnarySign unary.LogicalNot ∷ UnarySign unary.BitwiseNot ∷ Choice ∷ Relation relational.All ∷
+    Relation relational.Any ∷ Derivative axis.X control.Coarse ∷ Derivative axis.X control.Fine ∷
+    Derivative axis.X control.None ∷ Derivative axis.Y control.Coarse ∷ Derivative axis.Y control.Fine ∷
+    Derivative axis.Y control.None ∷ Derivative axis.Width control.Coarse ∷
+    Derivative axis.Width control.Fine ∷ Derivative axis.Width control.None ∷ ArrayLength ∷
+    Sample Automatic false false false false ∷ Sample Automatic true false false false ∷
+    Sample Exact false false false false ∷ Sample Exact true false false false ∷
+    Sample Biased false false false false ∷ Sample Biased true false false false ∷
+    Sample Graded false false false false ∷ Sample Graded true false false false ∷
+    Sample Zero false true false false ∷ Gather None Automatic false false false false ∷
+    Gather None Automatic true false false false ∷
+    Gather (Some component.X) Automatic false false false false ∷
+    Gather (Some component.X) Automatic true false false false ∷
+    Gather (Some component.Y) Automatic false false false false ∷
+    Gather (Some component.Y) Automatic true false false false ∷
+    Gather (Some component.Z) Automatic false false false false ∷
+    Gather (Some component.Z) Automatic true false false false ∷
+    Gather (Some component.W) Automatic false false false false ∷
+    Gather (Some component.W) Automatic true false false false ∷ Texel false OnlyTexel ∷ TexelStore false ∷
+    TexelChange AddTo false ∷ TexelChange SubtractFrom false ∷ TexelChange AndWith false ∷
+    TexelChange OrWith false ∷ TexelChange XorWith false ∷ TexelChange MinimumOf false ∷
+    TexelChange MaximumOf false ∷ TexelChange Exchange false ∷ ImageSize false ∷ CountOf Levels ∷
+    CountOf Layers ∷ CountOf Samples ∷ AtomicLoad ∷ AtomicStore ∷ AtomicChange AddTo ∷
+    AtomicChange SubtractFrom ∷ AtomicChange AndWith ∷ AtomicChange OrWith ∷ AtomicChange XorWith ∷
+    AtomicChange MinimumOf ∷ AtomicChange MaximumOf ∷ AtomicChange Exchange ∷ AtomicChange CompareExchange ∷
+    UniformLoad ∷ Ballot false ∷ Collective subgroup.All collective.Reduce ∷
+    Collective subgroup.Any collective.Reduce ∷ Collective subgroup.Add collective.Reduce ∷
+    Collective subgroup.Mul collective.Reduce ∷ Collective subgroup.Min collective.Reduce ∷
+    Collective subgroup.Max collective.Reduce ∷ Collective subgroup.And collective.Reduce ∷
+    Collective subgroup.Or collective.Reduce ∷ Collective subgroup.Xor collective.Reduce ∷
+    Collective subgroup.Add collective.InclusiveScan ∷ Collective subgroup.Mul collective.InclusiveScan ∷
+    Collective subgroup.Add collective.ExclusiveScan ∷ Collective subgroup.Mul collective.ExclusiveScan ∷
+    FromSubgroup First ∷ FromSubgroup Indexed ∷ FromSubgroup Shuffled ∷ FromSubgroup ShuffledDown ∷
+    FromSubgroup ShuffledUp ∷ FromSubgroup ShuffledXor ∷ FromSubgroup QuadIndexed ∷
+    FromSubgroup (QuadSwapped direction.X) ∷ FromSubgroup (QuadSwapped direction.Y) ∷
+    FromSubgroup (QuadSwapped direction.Diagonal) ∷ Barrier true StorageKept ∷ Barrier true WorkgroupKept ∷
+    Barrier true SubgroupKept ∷ Barrier true TextureKept ∷ Mathematical math.Inverse ∷
+    Mathematical math.Outer ∷ Relation relational.IsNan ∷ Relation relational.IsInf ∷ Texel false BothTexel ∷
+    TexelChange CompareExchange false ∷ Collective subgroup.All collective.InclusiveScan ∷
+    Collective subgroup.Any collective.InclusiveScan ∷ Collective subgroup.Min collective.InclusiveScan ∷
+    Collective subgroup.Max collective.InclusiveScan ∷ Collective subgroup.And collective.InclusiveScan ∷
+    Collective subgroup.Or collective.InclusiveScan ∷ Collective subgroup.Xor collective.InclusiveScan ∷
+    Collective subgroup.All collective.ExclusiveScan ∷ Collective subgroup.Any collective.ExclusiveScan ∷
+    Collective subgroup.Min collective.ExclusiveScan ∷ Collective subgroup.Max collective.ExclusiveScan ∷
+    Collective subgroup.And collective.ExclusiveScan ∷ Collective subgroup.Or collective.ExclusiveScan ∷
+    Collective subgroup.Xor collective.ExclusiveScan ∷ RayStep ∷ RayIntersection true ∷ RayIntersection false ∷
+    RayCorners true ∷ RayCorners false ∷ Sample Automatic false true false false ∷
+    Sample Automatic true true false false ∷ Sample Zero true true false false ∷
+    Sample Exact false true false false ∷ Sample Exact true true false false ∷
+    Sample Biased false true false false ∷ Sample Biased true true false false ∷
+    Sample Graded false true false false ∷ Sample Graded true true false false ∷
+    Gather None Exact false false false false ∷ Gather None Exact true false false false ∷
+    Gather None Biased false false false false ∷ Gather None Biased true false false false ∷
+    Gather None Graded false false false false ∷ Gather None Graded true false false false ∷
+    Gather None Automatic false true false false ∷ Gather None Automatic true true false false ∷
+    Gather None Zero false true false false ∷ Gather None Zero true true false false ∷
+    Gather None Exact false true false false ∷ Gather None Exact true true false false ∷
+    Gather None Biased false true false false ∷ Gather None Biased true true false false ∷
+    Gather None Graded false true false false ∷ Gather None Graded true true false false ∷
+    Gather (Some component.X) Exact false false false false ∷
+    Gather (Some component.X) Exact true false false false ∷
+    Gather (Some component.X) Biased false false false false ∷
+    Gather (Some component.X) Biased true false false false ∷
+    Gather (Some component.X) Graded false false false false ∷
+    Gather (Some component.X) Graded true false false false ∷
+    Gather (Some component.X) Automatic false true false false ∷
+    Gather (Some component.X) Automatic true true false false ∷
+    Gather (Some component.X) Zero false true false false ∷
+    Gather (Some component.X) Zero true true false false ∷
+    Gather (Some component.X) Exact false true false false ∷
+    Gather (Some component.X) Exact true true false false ∷
+    Gather (Some component.X) Biased false true false false ∷
+    Gather (Some component.X) Biased true true false false ∷
+    Gather (Some component.X) Graded false true false false ∷
+    Gather (Some component.X) Graded true true false false ∷
+    Gather (Some component.Y) Exact false false false false ∷
+    Gather (Some component.Y) Exact true false false false ∷
+    Gather (Some component.Y) Biased false false false false ∷
+    Gather (Some component.Y) Biased true false false false ∷
+    Gather (Some component.Y) Graded false false false false ∷
+    Gather (Some component.Y) Graded true false false false ∷
+    Gather (Some component.Y) Automatic false true false false ∷
+    Gather (Some component.Y) Automatic true true false false ∷
+    Gather (Some component.Y) Zero false true false false ∷
+    Gather (Some component.Y) Zero true true false false ∷
+    Gather (Some component.Y) Exact false true false false ∷
+    Gather (Some component.Y) Exact true true false false ∷
+    Gather (Some component.Y) Biased false true false false ∷
+    Gather (Some component.Y) Biased true true false false ∷
+    Gather (Some component.Y) Graded false true false false ∷
+    Gather (Some component.Y) Graded true true false false ∷
+    Gather (Some component.Z) Exact false false false false ∷
+    Gather (Some component.Z) Exact true false false false ∷
+    Gather (Some component.Z) Biased false false false false ∷
+    Gather (Some component.Z) Biased true false false false ∷
+    Gather (Some component.Z) Graded false false false false ∷
+    Gather (Some component.Z) Graded true false false false ∷
+    Gather (Some component.Z) Automatic false true false false ∷
+    Gather (Some component.Z) Automatic true true false false ∷
+    Gather (Some component.Z) Zero false true false false ∷
+    Gather (Some component.Z) Zero true true false false ∷
+    Gather (Some component.Z) Exact false true false false ∷
+    Gather (Some component.Z) Exact true true false false ∷
+    Gather (Some component.Z) Biased false true false false ∷
+    Gather (Some component.Z) Biased true true false false ∷
+    Gather (Some component.Z) Graded false true false false ∷
+    Gather (Some component.Z) Graded true true false false ∷
+    Gather (Some component.W) Exact false false false false ∷
+    Gather (Some component.W) Exact true false false false ∷
+    Gather (Some component.W) Biased false false false false ∷
+    Gather (Some component.W) Biased true false false false ∷
+    Gather (Some component.W) Graded false false false false ∷
+    Gather (Some component.W) Graded true false false false ∷
+    Gather (Some component.W) Automatic false true false false ∷
+    Gather (Some component.W) Automatic true true false false ∷
+    Gather (Some component.W) Zero false true false false ∷
+    Gather (Some component.W) Zero true true false false ∷
+    Gather (Some component.W) Exact false true false false ∷
+    Gather (Some component.W) Exact true true false false ∷
+    Gather (Some component.W) Biased false true false false ∷
+    Gather (Some component.W) Biased true true false false ∷
+    Gather (Some component.W) Graded false true false false ∷
+    Gather (Some component.W) Graded true true false false ∷ CooperativeStore false ∷ CooperativeStore true ∷
+    CooperativeMultiplyAdd ∷ TraceRay ∷ Splat vector.Bi ∷ Splat vector.Tri ∷ Splat vector.Quad ∷
+    []
+
+-- the first operator with this word
+abbrev pub first_with : List ℕ → List Operator → Option Operator
+first_with w [] = None
+first_with w (o ∷ os) = if bytes_eq w (run_word o) then Some o else first_with w os
+
+-- the operator of a word, if there is one: those of mathematics stand last
+abbrev pub operator_of : List ℕ → Option Operator
+operator_of w = option_or (first_with w others) (first_with w mathematical)
+
+-- its word tells the operator that stands for it
+abbrev IsToldBy : Operator → Type 0
+IsToldBy o = operator_of (run_word o) ≡ Some (one_word o)
+
+binary_told : (op : BinaryOperator) → IsToldBy (BinarySign op)
+binary_told binary.Add = refl
+binary_told _ = refl
+
+math_told : (f : MathFunction) → IsToldBy (Mathematical f)
+math_told math.Abs = refl
+math_told _ = refl
+
+unary_told : (op : UnaryOperator) → IsToldBy (UnarySign op)
+unary_told unary.Negate = refl
+unary_told _ = refl
+
+relation_told : (f : RelationalFunction) → IsToldBy (Relation f)
+relation_told relational.All = refl
+relation_told _ = refl
+
+derivative_told : (a : DerivativeAxis) (c : DerivativeControl) → IsToldBy (Derivative a c)
+derivative_told axis.X control.Coarse = refl
+derivative_told axis.X _ = refl
+derivative_told axis.Y control.Coarse = refl
+derivative_told axis.Y _ = refl
+derivative_told axis.Width control.Coarse = refl
+derivative_told axis.Width _ = refl
+
+-- with an array index or an offset or without
+sample_told : (l : Level) (compares clamped arrayed offset : Bool) → IsToldBy (Sample l compares clamped arrayed offset)
+sample_told Automatic true true arrayed offset = refl
+sample_told Automatic true false arrayed offset = refl
+sample_told Automatic false true arrayed offset = refl
+sample_told Automatic false false arrayed offset = refl
+sample_told Zero true true arrayed offset = refl
+sample_told Zero true false arrayed offset = refl
+sample_told Zero false true arrayed offset = refl
+sample_told Zero false false arrayed offset = refl
+sample_told Exact true true arrayed offset = refl
+sample_told Exact true false arrayed offset = refl
+sample_told Exact false true arrayed offset = refl
+sample_told Exact false false arrayed offset = refl
+sample_told Biased true true arrayed offset = refl
+sample_told Biased true false arrayed offset = refl
+sample_told Biased false true arrayed offset = refl
+sample_told Biased false false arrayed offset = refl
+sample_told Graded true true arrayed offset = refl
+sample_told Graded true false arrayed offset = refl
+sample_told Graded false true arrayed offset = refl
+sample_told Graded false false arrayed offset = refl
+
+gather_told : (l : Level) (compares clamped arrayed offset : Bool) (c : Option SwizzleComponent) → IsToldBy (Gather c l compares clamped arrayed offset)
+gather_told Automatic true true arrayed offset None = refl
+gather_told Automatic true true arrayed offset (Some component.X) = refl
+gather_told Automatic true true arrayed offset (Some _) = refl
+gather_told Automatic true false arrayed offset None = refl
+gather_told Automatic true false arrayed offset (Some component.X) = refl
+gather_told Automatic true false arrayed offset (Some _) = refl
+gather_told Automatic false true arrayed offset None = refl
+gather_told Automatic false true arrayed offset (Some component.X) = refl
+gather_told Automatic false true arrayed offset (Some _) = refl
+gather_told Automatic false false arrayed offset None = refl
+gather_told Automatic false false arrayed offset (Some component.X) = refl
+gather_told Automatic false false arrayed offset (Some _) = refl
+gather_told Zero true true arrayed offset None = refl
+gather_told Zero true true arrayed offset (Some component.X) = refl
+gather_told Zero true true arrayed offset (Some _) = refl
+gather_told Zero true false arrayed offset None = refl
+gather_told Zero true false arrayed offset (Some component.X) = refl
+gather_told Zero true false arrayed offset (Some _) = refl
+gather_told Zero false true arrayed offset None = refl
+gather_told Zero false true arrayed offset (Some component.X) = refl
+gather_told Zero false true arrayed offset (Some _) = refl
+gather_told Zero false false arrayed offset None = refl
+gather_told Zero false false arrayed offset (Some component.X) = refl
+gather_told Zero false false arrayed offset (Some _) = refl
+gather_told Exact true true arrayed offset None = refl
+gather_told Exact true true arrayed offset (Some component.X) = refl
+gather_told Exact true true arrayed offset (Some _) = refl
+gather_told Exact true false arrayed offset None = refl
+gather_told Exact true false arrayed offset (Some component.X) = refl
+gather_told Exact true false arrayed offset (Some _) = refl
+gather_told Exact false true arrayed offset None = refl
+gather_told Exact false true arrayed offset (Some component.X) = refl
+gather_told Exact false true arrayed offset (Some _) = refl
+gather_told Exact false false arrayed offset None = refl
+gather_told Exact false false arrayed offset (Some component.X) = refl
+gather_told Exact false false arrayed offset (Some _) = refl
+gather_told Biased true true arrayed offset None = refl
+gather_told Biased true true arrayed offset (Some component.X) = refl
+gather_told Biased true true arrayed offset (Some _) = refl
+gather_told Biased true false arrayed offset None = refl
+gather_told Biased true false arrayed offset (Some component.X) = refl
+gather_told Biased true false arrayed offset (Some _) = refl
+gather_told Biased false true arrayed offset None = refl
+gather_told Biased false true arrayed offset (Some component.X) = refl
+gather_told Biased false true arrayed offset (Some _) = refl
+gather_told Biased false false arrayed offset None = refl
+gather_told Biased false false arrayed offset (Some component.X) = refl
+gather_told Biased false false arrayed offset (Some _) = refl
+gather_told Graded true true arrayed offset None = refl
+gather_told Graded true true arrayed offset (Some component.X) = refl
+gather_told Graded true true arrayed offset (Some _) = refl
+gather_told Graded true false arrayed offset None = refl
+gather_told Graded true false arrayed offset (Some component.X) = refl
+gather_told Graded true false arrayed offset (Some _) = refl
+gather_told Graded false true arrayed offset None = refl
+gather_told Graded false true arrayed offset (Some component.X) = refl
+gather_told Graded false true arrayed offset (Some _) = refl
+gather_told Graded false false arrayed offset None = refl
+gather_told Graded false false arrayed offset (Some component.X) = refl
+gather_told Graded false false arrayed offset (Some _) = refl
+
+texel_change_told : (c : Change) (arrayed : Bool) → IsToldBy (TexelChange c arrayed)
+texel_change_told AddTo arrayed = refl
+texel_change_told _ arrayed = refl
+
+count_told : (c : ImageCount) → IsToldBy (CountOf c)
+count_told Levels = refl
+count_told _ = refl
+
+change_told : (c : Change) → IsToldBy (AtomicChange c)
+change_told AddTo = refl
+change_told _ = refl
+
+collective_told : (o : SubgroupOperation) (c : CollectiveOperation) → IsToldBy (Collective o c)
+collective_told subgroup.All collective.Reduce = refl
+collective_told subgroup.All _ = refl
+collective_told subgroup.Any collective.Reduce = refl
+collective_told subgroup.Any _ = refl
+collective_told subgroup.Add collective.Reduce = refl
+collective_told subgroup.Add _ = refl
+collective_told subgroup.Mul collective.Reduce = refl
+collective_told subgroup.Mul _ = refl
+collective_told subgroup.Min collective.Reduce = refl
+collective_told subgroup.Min _ = refl
+collective_told subgroup.Max collective.Reduce = refl
+collective_told subgroup.Max _ = refl
+collective_told subgroup.And collective.Reduce = refl
+collective_told subgroup.And _ = refl
+collective_told subgroup.Or collective.Reduce = refl
+collective_told subgroup.Or _ = refl
+collective_told subgroup.Xor collective.Reduce = refl
+collective_told subgroup.Xor _ = refl
+
+source_told : (s : Source) → IsToldBy (FromSubgroup s)
+source_told (QuadSwapped direction.X) = refl
+source_told (QuadSwapped _) = refl
+source_told _ = refl
+
+barrier_told : (control : Bool) (k : Kept) → IsToldBy (Barrier control k)
+barrier_told control StorageKept = refl
+barrier_told control _ = refl
+
+splat_told : (n : VectorSize) → IsToldBy (Splat n)
+splat_told vector.Bi = refl
+splat_told _ = refl
+
+pub told : (o : Operator) → is_untyped o ≡ true → IsToldBy o
+told (BinarySign op) u = binary_told op
+told (UnarySign op) u = unary_told op
+told Choice u = refl
+told (Mathematical f) u = math_told f
+told (Relation f) u = relation_told f
+told (Derivative a c) u = derivative_told a c
+told ArrayLength u = refl
+told (Sample l compares clamped arrayed offset) u = sample_told l compares clamped arrayed offset
+told (Gather c l compares clamped arrayed offset) u = gather_told l compares clamped arrayed offset c
+told (Texel arrayed OnlyTexel) u = refl
+told (Texel arrayed _) u = refl
+told (TexelStore arrayed) u = refl
+told (TexelChange c arrayed) u = texel_change_told c arrayed
+told (ImageSize of_level) u = refl
+told (CountOf c) u = count_told c
+told AtomicLoad u = refl
+told AtomicStore u = refl
+told (AtomicChange c) u = change_told c
+told UniformLoad u = refl
+told (Ballot predicate) u = refl
+told (Collective o c) u = collective_told o c
+told (FromSubgroup s) u = source_told s
+told (Barrier control k) u = barrier_told control k
+told (CooperativeLoad row_major t) u = absurd (false≢true u)
+told (CooperativeStore true) u = refl
+told (CooperativeStore false) u = refl
+told CooperativeMultiplyAdd u = refl
+told TraceRay u = refl
+told RayStep u = refl
+told (RayIntersection true) u = refl
+told (RayIntersection false) u = refl
+told (RayCorners true) u = refl
+told (RayCorners false) u = refl
+told (Construct t n) u = absurd (false≢true u)
+told (Splat n) u = splat_told n
+told (Convert t) u = absurd (false≢true u)
+told (Reinterpret t) u = absurd (false≢true u)
+
+-- two that take no type, and have one word, have one operator that stands for them
+pub untyped_share : (a b : Operator) → is_untyped a ≡ true → is_untyped b ≡ true → run_word a ≡ run_word b → one_word a ≡ one_word b
+untyped_share a b ua ub e = same_Some (one_word a) (one_word b) (sym (told a ua) ∙ (ap operator_of e ∙ told b ub))
+
+-- ---- with the number of operands
+-- the operator with this word's and this number of operands
+abbrev by_count : Operator → ℕ → Operator
+by_count (BinarySign op) n = if n == 1 then UnarySign unary.Negate else BinarySign op
+by_count (TexelStore arrayed) n = TexelStore (n == 4)
+by_count (TexelChange c arrayed) n = TexelChange c (n == 4)
+by_count (ImageSize of_level) n = ImageSize (n == 2)
+by_count (Ballot predicate) n = Ballot (n == 1)
+by_count (Construct t components) n = Construct t n
+by_count o n = o
+
+told_by_count : (o : Operator) → is_told o ≡ true → by_count (one_word o) (operand_count o) ≡ o
+told_by_count (UnarySign unary.Negate) t = refl
+told_by_count (UnarySign _) t = refl
+told_by_count (Sample l compares clamped arrayed offset) t = absurd (false≢true t)
+told_by_count (Gather c l compares clamped arrayed offset) t = absurd (false≢true t)
+told_by_count (Texel arrayed of_) t = absurd (false≢true t)
+told_by_count (Convert u) t = absurd (false≢true t)
+told_by_count (Barrier control k) t = absurd (false≢true t)
+told_by_count (TexelStore true) t = refl
+told_by_count (TexelStore false) t = refl
+told_by_count (TexelChange c true) t = refl
+told_by_count (TexelChange c false) t = refl
+told_by_count (ImageSize true) t = refl
+told_by_count (ImageSize false) t = refl
+told_by_count (Ballot true) t = refl
+told_by_count (Ballot false) t = refl
+told_by_count _ t = refl
+
+pub counted_apart : (a b : Operator) → is_told a ≡ true → is_told b ≡ true → one_word a ≡ one_word b → operand_count a ≡ operand_count b → a ≡ b
+counted_apart a b ta tb e n =
+    sym (told_by_count a ta) ∙ ((λ i. by_count (e i) (n i)) ∙ told_by_count b tb)
+
+-- what stands for an operator has its word
+pub keeps_word : (o : Operator) → run_word (one_word o) ≡ run_word o
+keeps_word (UnarySign unary.Negate) = refl
+keeps_word (UnarySign _) = refl
+keeps_word (Sample Zero true false arrayed offset) = refl
+keeps_word (Sample Zero false false arrayed offset) = refl
+keeps_word (Sample Zero compares true arrayed offset) = refl
+keeps_word (Sample Automatic compares clamped arrayed offset) = refl
+keeps_word (Sample _ compares clamped arrayed offset) = refl
+keeps_word (Gather c Zero compares false arrayed offset) = refl
+keeps_word (Gather c Zero compares true arrayed offset) = refl
+keeps_word (Gather c Automatic compares clamped arrayed offset) = refl
+keeps_word (Gather c _ compares clamped arrayed offset) = refl
+keeps_word (Texel arrayed OnlyTexel) = refl
+keeps_word (Texel arrayed _) = refl
+keeps_word (CooperativeLoad true t) = refl
+keeps_word (CooperativeLoad false t) = refl
+keeps_word (CooperativeStore true) = refl
+keeps_word (CooperativeStore false) = refl
+keeps_word _ = refl

@@ -1,0 +1,72 @@
+-- The function that is written for a function of a module, under the module's names.
+use Rattle.std.specs.Prelude.{ℕ, Bool, List, [], ◌∷◌, Option, None, Some, ◌+◌}
+use Rattle.std.specs.Option.{option_map}
+use Rattle.naga_ir.specs.declared.expression.Expression as ir
+use Rattle.naga_ir.specs.declared.module.Function as ir_function
+use Rattle.naga_ir.specs.declared.module.FunctionArgument.{FunctionArgument}
+use Rattle.naga_ir.specs.declared.module.FunctionResult.{FunctionResult}
+use Rattle.naga_ir.specs.declared.types.Type_.{Type_}
+use Rattle.naga_names.specs.Keys.{NameMap}
+use Rattle.wgsl_text.specs.Functions.{Parameter, Result, NoResult, ResultOf, Local, Function}
+use Rattle.module_meaning.specs.Names.{function_name, argument_name}
+use Rattle.naga_words.specs.Contexts.{names_of, Names as TypeNames}
+use Rattle.naga_form.specs.Types.{type_form, told_type}
+use Rattle.naga_ir.specs.declared.module.LocalVariable.{LocalVariable}
+use Rattle.naga_info.specs.declared.info.ExpressionInfo.{ExpressionInfo}
+use Rattle.shader_runs.specs.Scope.{Naming, at_start}
+use Rattle.module_meaning.specs.Shapes.{function_naming}
+use Rattle.naga_form.specs.Expressions.{value_form}
+use Rattle.naga_form.specs.Statements.{lines_form}
+
+-- the locals from this one on, with their first values
+abbrev pub locals_form :
+    Naming → TypeNames → List ir.Expression → ℕ → List LocalVariable → List Local
+locals_form n t es l [] = []
+locals_form n t es l (v ∷ more) =
+    record {
+      name = n.names.local_ l;
+      type = type_form t v.ty;
+      value = option_map (value_form n es (at_start n.function)) v.init;
+    } ∷ locals_form n t es (l + 1) more
+
+abbrev pub parameter_form : NameMap → List Type_ → ℕ → ℕ → FunctionArgument → Parameter
+parameter_form names types g number a =
+    record {
+      attributes = [];
+      name = argument_name names g number;
+      type = type_form (names_of types names) a.ty;
+    }
+
+-- the arguments from this number on
+abbrev pub parameters_form : NameMap → List Type_ → ℕ → ℕ → List FunctionArgument → List Parameter
+parameters_form names types g number [] = []
+parameters_form names types g number (a ∷ more) =
+    parameter_form names types g number a ∷ parameters_form names types g (number + 1) more
+
+abbrev pub result_form : TypeNames → Option FunctionResult → Result
+result_form t None = NoResult
+result_form t (Some r) = ResultOf [] (type_form t r.ty)
+
+-- a function, with what is known of its expressions
+abbrev pub function_form :
+    (explicit : Bool) → NameMap → List Type_ → ℕ → ir_function.Function → List ExpressionInfo →
+    Function
+function_form explicit names types g f es =
+    let n : Naming = function_naming names types g f es in
+    let t : TypeNames = names_of types names in
+    record {
+      name = function_name names g;
+      parameters = parameters_form names types g 0 f.arguments.items;
+      result = result_form t f.result;
+      locals = locals_form n t f.expressions 0 f.local_variables;
+      body = lines_form n (told_type explicit t es) f.expressions 0 f.body (at_start n.function);
+    }
+
+-- the functions from this handle on, each with what is known of its expressions
+abbrev pub functions_form :
+    (explicit : Bool) → NameMap → List Type_ → ℕ → List ir_function.Function →
+    List (List ExpressionInfo) → List Function
+functions_form explicit names types g (f ∷ fs) (es ∷ ess) =
+    function_form explicit names types g f es
+    ∷ functions_form explicit names types (g + 1) fs ess
+functions_form explicit names types g _ _ = []

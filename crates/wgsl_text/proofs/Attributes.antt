@@ -1,0 +1,159 @@
+-- Attributes: the machine reads back what their pieces write, and no token of these runs into the
+-- next; and the text of each row.
+use Rattle.std.proofs.Common.{◌≡◌, ℕ, List, [], ◌∷◌, ◌++◌, refl, ap}
+use Rattle.std.specs.Prelude.{codes}
+use Rattle.wgsl_text.specs.Attributes.{PlainAttribute, Invariant, PerPrimitive, Coherent, Volatile}
+use Rattle.wgsl_text.specs.Attributes.{Vertex, Fragment, Compute, Task, RayGeneration, AnyHit}
+use Rattle.wgsl_text.specs.Attributes.{ClosestHit, Miss, NumberedAttribute, Location, BlendSource}
+use Rattle.wgsl_text.specs.Attributes.{Id, Group, Binding, Size, Align, WordedAttribute, Builtin}
+use Rattle.wgsl_text.specs.Attributes.{Interpolate, Mesh, Payload, IncomingPayload, Attribute}
+use Rattle.wgsl_text.specs.Attributes.{Plain, Numbered, Worded, Interpolated, WorkgroupSize}
+use Rattle.wgsl_text.specs.Attributes.{plain_attribute_word, numbered_attribute_word}
+use Rattle.wgsl_text.specs.Attributes.{worded_attribute_word, attribute_pieces, attributes_pieces}
+use Rattle.wgsl_text.specs.Attributes.{IsAttribute, IsAttributes}
+use Rattle.wgsl_text.specs.Declarations.{StructMember, Program}
+use Rattle.wgsl_text.specs.Functions.{Parameter}
+use Rattle.wgsl_text.specs.Token.{At, Fixed}
+use Rattle.wgsl_text.specs.Words.{is_builtin, IsWord, is_reserved}
+use Rattle.wgsl_text.proofs.Machine.{Stack, State, Want, step, InProgram, InParameters, InResult}
+use Rattle.wgsl_text.proofs.Machine.{InMembers, WantParameter, WantResult, AttributeName}
+use Rattle.wgsl_text.proofs.Machine.{WantMemberName, PlainKind, NumberedKind, WordedKind, kind_of}
+use Rattle.wgsl_text.proofs.Machine.{attribute_named, turned, add_attribute}
+use Rattle.wgsl_text.proofs.Chain.{◌$◌}
+use Rattle.wgsl_text.proofs.Closing.{Closed, none, gap, tok, free, size, sign, ◌then◌}
+use Rattle.wgsl_text.proofs.Runs.{Runs, ◌onward◌, reads, over_gap, as_state, at_end}
+use Rattle.wgsl_text.proofs.Text.{IsWordToken, text-append}
+use Rattle.wgsl_text.proofs.Words.{table_word, builtin_values_free, interpolations_free}
+use Rattle.wgsl_text.proofs.Words.{samplings_free}
+use Rattle.wgsl_text.specs.Tables.{builtin_value_words, interpolation_words, sampling_words}
+use Rattle.wgsl_text.specs.Text.{text}
+
+-- attributes
+
+plain_kind : (a : PlainAttribute) → kind_of (plain_attribute_word a) ≡ PlainKind a
+plain_kind Invariant = refl
+plain_kind PerPrimitive = refl
+plain_kind Coherent = refl
+plain_kind Volatile = refl
+plain_kind Vertex = refl
+plain_kind Fragment = refl
+plain_kind Compute = refl
+plain_kind Task = refl
+plain_kind RayGeneration = refl
+plain_kind AnyHit = refl
+plain_kind ClosestHit = refl
+plain_kind Miss = refl
+
+numbered_kind : (a : NumberedAttribute) → kind_of (numbered_attribute_word a) ≡ NumberedKind a
+numbered_kind Location = refl
+numbered_kind BlendSource = refl
+numbered_kind Id = refl
+numbered_kind Group = refl
+numbered_kind Binding = refl
+numbered_kind Size = refl
+numbered_kind Align = refl
+
+worded_kind : (a : WordedAttribute) → kind_of (worded_attribute_word a) ≡ WordedKind a
+worded_kind Builtin = refl
+worded_kind Interpolate = refl
+worded_kind Mesh = refl
+worded_kind Payload = refl
+worded_kind IncomingPayload = refl
+
+-- an attribute, from a state where `@` may stand
+pub attribute_runs : (a : Attribute) {at : State} {s : Stack} → step is_builtin at (Fixed At) ≡ AttributeName s → Runs (attribute_pieces a) at (add_attribute a s)
+attribute_runs (Plain a) {s = s} e = reads $ as_state e $ reads $ as_state (ap (λ k. attribute_named k s) (plain_kind a)) $ over_gap at_end
+attribute_runs (Numbered a n) {s = s} e = reads $ as_state e $ reads $ as_state (ap (λ k. attribute_named k s) (numbered_kind a)) at_end
+attribute_runs (Worded a w) {s = s} e = reads $ as_state e $ reads $ as_state (ap (λ k. attribute_named k s) (worded_kind a)) at_end
+attribute_runs (Interpolated i w) e = reads $ as_state e at_end
+attribute_runs (WorkgroupSize x y z) e = reads $ as_state e at_end
+
+pub attributes_run : (list attributes : List Attribute) (p : Program) → Runs (attributes_pieces list) (Want (InProgram attributes p)) (Want (InProgram (turned list attributes) p))
+attributes_run [] attributes p = at_end
+attributes_run (a ∷ more) attributes p = attribute_runs a refl onward attributes_run more (a ∷ attributes) p
+
+pub member_attributes_run : (list : List Attribute) (w : List ℕ) (done : List StructMember) (attributes : List Attribute) (s : Stack) → Runs (attributes_pieces list) (WantMemberName (InMembers w done attributes s)) (WantMemberName (InMembers w done (turned list attributes) s))
+member_attributes_run [] w done attributes s = at_end
+member_attributes_run (a ∷ more) w done attributes s = attribute_runs a refl onward member_attributes_run more w done (a ∷ attributes) s
+
+pub parameter_attributes_run : (list : List Attribute) (f : List ℕ) (done : List Parameter) (attributes : List Attribute) (s : Stack) → Runs (attributes_pieces list) (WantParameter (InParameters f done attributes s)) (WantParameter (InParameters f done (turned list attributes) s))
+parameter_attributes_run [] f done attributes s = at_end
+parameter_attributes_run (a ∷ more) f done attributes s = attribute_runs a refl onward parameter_attributes_run more f done (a ∷ attributes) s
+
+pub result_attributes_run : (list : List Attribute) (f : List ℕ) (ps : List Parameter) (attributes : List Attribute) (s : Stack) → Runs (attributes_pieces list) (WantResult (InResult f ps attributes s)) (WantResult (InResult f ps (turned list attributes) s))
+result_attributes_run [] f ps attributes s = at_end
+result_attributes_run (a ∷ more) f ps attributes s = attribute_runs a refl onward result_attributes_run more f ps (a ∷ attributes) s
+
+-- In their pieces no token runs into the next.
+
+-- attributes
+
+plain_word : (a : PlainAttribute) → IsWordToken (plain_attribute_word a)
+unfolding is_reserved
+plain_word Invariant = record { text = refl; token = refl }
+plain_word PerPrimitive = record { text = refl; token = refl }
+plain_word Coherent = record { text = refl; token = refl }
+plain_word Volatile = record { text = refl; token = refl }
+plain_word Vertex = record { text = refl; token = refl }
+plain_word Fragment = record { text = refl; token = refl }
+plain_word Compute = record { text = refl; token = refl }
+plain_word Task = record { text = refl; token = refl }
+plain_word RayGeneration = record { text = refl; token = refl }
+plain_word AnyHit = record { text = refl; token = refl }
+plain_word ClosestHit = record { text = refl; token = refl }
+plain_word Miss = record { text = refl; token = refl }
+
+numbered_word : (a : NumberedAttribute) → IsWordToken (numbered_attribute_word a)
+unfolding is_reserved
+numbered_word Location = record { text = refl; token = refl }
+numbered_word BlendSource = record { text = refl; token = refl }
+numbered_word Id = record { text = refl; token = refl }
+numbered_word Group = record { text = refl; token = refl }
+numbered_word Binding = record { text = refl; token = refl }
+numbered_word Size = record { text = refl; token = refl }
+numbered_word Align = record { text = refl; token = refl }
+
+worded_word : (a : WordedAttribute) → IsWordToken (worded_attribute_word a)
+unfolding is_reserved
+worded_word Builtin = record { text = refl; token = refl }
+worded_word Interpolate = record { text = refl; token = refl }
+worded_word Mesh = record { text = refl; token = refl }
+worded_word Payload = record { text = refl; token = refl }
+worded_word IncomingPayload = record { text = refl; token = refl }
+
+interpolate_word : IsWordToken (codes "interpolate")
+unfolding is_reserved
+interpolate_word = record { text = refl; token = refl }
+
+size_word : IsWordToken (codes "workgroup_size")
+unfolding is_reserved
+size_word = record { text = refl; token = refl }
+
+-- the word in an attribute
+attribute_word : (a : WordedAttribute) (w : List ℕ) → IsAttribute (Worded a w) → IsWord w
+attribute_word Builtin w is = table_word builtin_value_words w builtin_values_free is
+attribute_word Interpolate w is = table_word interpolation_words w interpolations_free is
+attribute_word Mesh w is = is.word
+attribute_word Payload w is = is.word
+attribute_word IncomingPayload w is = is.word
+
+pub attribute_closed : (a : Attribute) → IsAttribute a → Closed (attribute_pieces a)
+attribute_closed (Plain a) is = sign (λ _. refl) $ tok (plain_word a) (λ _. refl) $ gap none
+attribute_closed (Numbered a n) is = sign (λ _. refl) $ tok (numbered_word a) (λ _. refl) $ sign (λ _. refl) $ size is (λ _. refl) $ sign (λ _. refl) $ gap none
+attribute_closed (Worded a w) is =
+    sign (λ _. refl) $ tok (worded_word a) (λ _. refl) $ sign (λ _. refl) $ free (attribute_word a w is) (λ _. refl) $ sign (λ _. refl) $ gap none
+attribute_closed (Interpolated i s) is =
+    sign (λ _. refl) $ tok interpolate_word (λ _. refl) $ sign (λ _. refl) $ free (table_word interpolation_words i interpolations_free is.0) (λ _. refl) $ sign (λ _. refl) $ gap $
+    free (table_word sampling_words s samplings_free is.1) (λ _. refl) $ sign (λ _. refl) $ gap none
+attribute_closed (WorkgroupSize x y z) is =
+    sign (λ _. refl) $ tok size_word (λ _. refl) $ sign (λ _. refl) $ size is.0 (λ _. refl) $ sign (λ _. refl) $ gap $ size is.1 (λ _. refl) $ sign (λ _. refl) $ gap $
+    size is.2 (λ _. refl) $ sign (λ _. refl) $ gap none
+
+pub attributes_closed : (list : List Attribute) → IsAttributes list → Closed (attributes_pieces list)
+attributes_closed [] is = none
+attributes_closed (a ∷ more) is = attribute_closed a is.0 then attributes_closed more is.1
+
+-- The text of each row, from the texts of its parts.
+
+pub attribute_then_text : (a : Attribute) (more : List Attribute) → text (attributes_pieces (a ∷ more)) ≡ text (attribute_pieces a) ++ text (attributes_pieces more)
+attribute_then_text a more = simp text-append

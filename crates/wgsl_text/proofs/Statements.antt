@@ -1,0 +1,221 @@
+-- Statements: the machine reads back what their pieces write, and no token of these runs into the
+-- next; and the text of each row.
+use Rattle.std.proofs.Common.{◌≡◌, ℕ, suc, true, false, List, [], ◌∷◌, ◌++◌, refl, ap, append_assoc}
+use Rattle.std.proofs.Common.{arith}
+use Rattle.wgsl_text.specs.Expressions.{Expression, Arguments, arguments_pieces}
+use Rattle.wgsl_text.specs.Statements.{Label, DefaultLabel, SignedLabel, UnsignedLabel, Labels}
+use Rattle.wgsl_text.specs.Statements.{LastLabel, MoreLabels, Statement, Let, TypedLet, Assign}
+use Rattle.wgsl_text.specs.Statements.{CallStatement, ReturnValue, If, Loop, LoopBreakIf, Switch}
+use Rattle.wgsl_text.specs.Statements.{Block, Statements, NoStatements, Then, Cases, NoCases, Case}
+use Rattle.wgsl_text.specs.Statements.{label_pieces, labels_pieces, case_pieces, statement_pieces}
+use Rattle.wgsl_text.specs.Statements.{statements_pieces, else_pieces, continuing_pieces}
+use Rattle.wgsl_text.specs.Statements.{cases_pieces, IsLabel, IsLabels, IsStatement, IsStatements}
+use Rattle.wgsl_text.specs.Statements.{IsCases}
+use Rattle.wgsl_text.specs.Token.{CloseBrace, KeywordContinuing, NoSuffix, Number, Piece, LineEnd}
+use Rattle.wgsl_text.specs.Token.{mark}
+use Rattle.wgsl_text.specs.Types.{TypeSpecifier}
+use Rattle.wgsl_text.proofs.Machine.{Stack, State, Want, InStatements, InLoop, InContinuing, InCase}
+use Rattle.wgsl_text.proofs.Machine.{CloseTwice, WantBrace, CloseOnce, AtCase, WantLabel}
+use Rattle.wgsl_text.proofs.Machine.{AfterLabel, unwind_statements, unwind_cases, unwind_labels}
+use Rattle.wgsl_text.proofs.Machine.{add_statement, close_block}
+use Rattle.wgsl_text.proofs.Chain.{◌$◌}
+use Rattle.wgsl_text.proofs.Closing.{Closed, none, line, gap, indent, tok, free, sign, part, ◌then◌}
+use Rattle.wgsl_text.proofs.Closing.{stop, close_line}
+use Rattle.wgsl_text.proofs.Expressions.{callee_runs, expression_runs, arguments_run, callee_spaced}
+use Rattle.wgsl_text.proofs.Expressions.{expression_spaced, arguments_spaced}
+use Rattle.wgsl_text.proofs.Literals.{signed_number}
+use Rattle.wgsl_text.proofs.Runs.{Runs, ◌onward◌, reads, over_gap, over_line, over_indent, as_state}
+use Rattle.wgsl_text.proofs.Runs.{at_end}
+use Rattle.wgsl_text.proofs.Spacing.{number_of_plain}
+use Rattle.wgsl_text.proofs.Text.{ends_word, ends, text-append, indent_text}
+use Rattle.wgsl_text.proofs.Types.{type_runs, type_spaced}
+use Rattle.std.specs.Prelude.{codes, ◌^◌}
+use Rattle.wgsl_text.specs.Text.{text}
+use Rattle.wgsl_text.specs.Reading.{type_layout, expression_layout}
+
+-- the first, newest first, in front of the second
+abbrev rewind_statements : Statements → Statements → Statements
+rewind_statements NoStatements done = done
+rewind_statements (Then s more) done = rewind_statements more (Then s done)
+
+abbrev rewind_cases : Cases → Cases → Cases
+rewind_cases NoCases done = done
+rewind_cases (Case labels body more) done = rewind_cases more (Case labels body done)
+
+unwind_rewind : (ss done : Statements) → unwind_statements (rewind_statements ss done) NoStatements ≡ unwind_statements done ss
+unwind_rewind NoStatements done = refl
+unwind_rewind (Then s more) done = unwind_rewind more (Then s done)
+
+unwind_rewind_cases : (cs done : Cases) → unwind_cases (rewind_cases cs done) NoCases ≡ unwind_cases done cs
+unwind_rewind_cases NoCases done = refl
+unwind_rewind_cases (Case labels body more) done = unwind_rewind_cases more (Case labels body done)
+
+-- the brace behind statements
+pub closes : (ss : Statements) {s : Stack} {qs : List Piece} {s' : State} → Runs qs (close_block ss s) s' → Runs (mark CloseBrace ∷ qs) (Want (InStatements (rewind_statements ss NoStatements) s)) s'
+closes ss {s} b = reads $ as_state (ap (λ body. close_block body s) (unwind_rewind ss NoStatements)) b
+
+label_runs : (l : Label) (e : Expression) (done : Cases) (labels : List Label) (s : Stack) → Runs (label_pieces l) (WantLabel e done labels s) (AfterLabel e done labels l s)
+label_runs DefaultLabel e done labels s = at_end
+label_runs _ e done labels s = at_end
+
+labels_run : (ls : Labels) (e : Expression) (done : Cases) (labels : List Label) (s : Stack) → Runs (labels_pieces ls) (WantLabel e done labels s) (WantBrace (InCase e done (unwind_labels labels ls) s))
+labels_run (LastLabel l) e done labels s = label_runs l e done labels s onward at_end
+labels_run (MoreLabels l more) e done labels s = label_runs l e done labels s onward reads $ over_gap $ labels_run more e done (l ∷ labels) s
+
+case_runs : (ls : Labels) (e : Expression) (done : Cases) (s : Stack) → Runs (case_pieces ls) (AtCase e done s) (WantBrace (InCase e done ls s))
+case_runs (LastLabel DefaultLabel) e done s = at_end
+case_runs (LastLabel (SignedLabel negative n)) e done s = reads $ over_gap $ labels_run (LastLabel (SignedLabel negative n)) e done [] s
+case_runs (LastLabel (UnsignedLabel n)) e done s = reads $ over_gap $ labels_run (LastLabel (UnsignedLabel n)) e done [] s
+case_runs (MoreLabels l more) e done s = reads $ over_gap $ labels_run (MoreLabels l more) e done [] s
+
+-- a loop, up to the brace that closes it
+abbrev loop_state : Statements → Statements → Stack → State
+loop_state body NoStatements s = Want (InStatements (rewind_statements body NoStatements) (InLoop s))
+loop_state body (Then r rest) s = CloseOnce (Loop body (Then r rest)) s
+
+loop_closes : (body rest : Statements) (done : Statements) (s : Stack) → Runs (mark CloseBrace ∷ LineEnd ∷ []) (loop_state body rest (InStatements done s)) (Want (InStatements (Then (Loop body rest) done) s))
+loop_closes body NoStatements done s = closes body at_end
+loop_closes body (Then r rest) done s = at_end
+
+continues : (body : Statements) {s : Stack} {qs : List Piece} {s' : State} → Runs qs (WantBrace (InContinuing body s)) s' → Runs (mark KeywordContinuing ∷ qs) (Want (InStatements (rewind_statements body NoStatements) (InLoop s))) s'
+continues body {s} b = reads $ as_state (ap (λ v. WantBrace (InContinuing v s)) (unwind_rewind body NoStatements)) b
+
+mutual
+  pub statement_runs : (st : Statement) → IsStatement st → (n : ℕ) (done : Statements) (s : Stack) → Runs (statement_pieces st n) (Want (InStatements done s)) (Want (InStatements (Then st done) s))
+  statement_runs (Let w e) is n done s = over_indent $ reads $ over_gap $ reads $ over_gap $ reads $ over_gap $ expression_runs e is.1 _ onward at_end
+  statement_runs (TypedLet w t e) is n done s =
+      over_indent $ reads $ over_gap $ reads $ reads $ over_gap $ type_runs t is.1.part _ onward over_gap $ reads $ over_gap $ expression_runs e is.2 _ onward at_end
+  statement_runs (Assign a b) is n done s = over_indent $ expression_runs a is.0 _ onward over_gap $ reads $ over_gap $ expression_runs b is.1 _ onward at_end
+  statement_runs (CallStatement t args) is n done s = over_indent $ callee_runs t is.0 _ _ _ (arguments_run args is.1 t _ onward at_end)
+  statement_runs (ReturnValue e) is n done s = over_indent $ reads $ over_gap $ expression_runs e is _ onward at_end
+  statement_runs (If e accept reject) is n done s =
+      over_indent $ reads $ over_gap $ expression_runs e is.0 _ onward over_gap $ reads $ over_line $ statements_run accept is.1 (suc n) NoStatements _ onward over_indent $ closes accept $ else_runs reject is.2 n e accept done s
+  statement_runs (Loop body rest) is n done s =
+      over_indent $ reads $ over_gap $ reads $ over_line $ statements_run body is.0 (suc n) NoStatements _ onward continuing_runs rest is.1 (suc n) body (InStatements done s) onward over_indent $ loop_closes body rest done s
+  statement_runs (LoopBreakIf body rest e) is n done s =
+      over_indent (reads (over_gap (reads (over_line (statements_run body is.0 (suc n) NoStatements _ onward over_indent (continues body (over_gap (reads (over_line (
+      statements_run rest is.1 (suc (suc n)) NoStatements _ onward over_indent (reads (over_gap (reads (over_gap (expression_runs e is.2 _ onward
+      reads (as_state (ap (λ v. CloseTwice (LoopBreakIf body v e) (InStatements done s)) (unwind_rewind rest NoStatements)) at_end))))))))))))))))
+  statement_runs (Switch e cases) is n done s =
+      over_indent $ reads $ over_gap $ expression_runs e is.0 _ onward over_gap $ reads $ over_line $ cases_run cases is.1 (suc n) e NoCases _ onward over_indent $ reads $ as_state (ap (λ cs. add_statement (Switch e cs) (InStatements done s)) (unwind_rewind_cases cases NoCases)) at_end
+  statement_runs (Block body) is n done s = over_indent $ reads $ over_line $ statements_run body is (suc n) NoStatements _ onward over_indent $ closes body at_end
+  statement_runs _ is n done s = at_end
+
+  pub statements_run : (ss : Statements) → IsStatements ss → (n : ℕ) (done : Statements) (s : Stack) → Runs (statements_pieces ss n) (Want (InStatements done s)) (Want (InStatements (rewind_statements ss done) s))
+  statements_run NoStatements is n done s = at_end
+  statements_run (Then st more) is n done s = statement_runs st is.0 n done s onward statements_run more is.1 n (Then st done) s
+
+  else_runs : (ss : Statements) → IsStatements ss → (n : ℕ) (e : Expression) (accept done : Statements) (s : Stack) → Runs (else_pieces ss n) (Want (InStatements (Then (If e accept NoStatements) done) s)) (Want (InStatements (Then (If e accept ss) done) s))
+  else_runs NoStatements is n e accept done s = at_end
+  else_runs (Then st more) is n e accept done s =
+      over_gap $ reads $ over_gap $ reads $ over_line $ statement_runs st is.0 (suc n) NoStatements _ onward statements_run more is.1 (suc n) (Then st NoStatements) _ onward over_indent $ closes (Then st more) at_end
+
+  continuing_runs : (ss : Statements) → IsStatements ss → (n : ℕ) (body : Statements) (s : Stack) → Runs (continuing_pieces ss n) (Want (InStatements (rewind_statements body NoStatements) (InLoop s))) (loop_state body ss s)
+  continuing_runs NoStatements is n body s = at_end
+  continuing_runs (Then st more) is n body s =
+      over_indent $ continues body $ over_gap $ reads $ over_line $ statement_runs st is.0 (suc n) NoStatements _ onward statements_run more is.1 (suc n) (Then st NoStatements) _ onward over_indent $ closes (Then st more) at_end
+
+  cases_run : (cs : Cases) → IsCases cs → (n : ℕ) (e : Expression) (done : Cases) (s : Stack) → Runs (cases_pieces cs n) (AtCase e done s) (AtCase e (rewind_cases cs done) s)
+  cases_run NoCases is n e done s = at_end
+  cases_run (Case labels body more) is n e done s =
+      over_indent $ case_runs labels e done s onward over_gap $ reads $ over_line $ statements_run body is.1 (suc n) NoStatements _ onward over_indent $ closes body $ over_line $ cases_run more is.2 n e (Case labels body done) s
+
+-- In their pieces no token runs into the next.
+
+label_closed : (l : Label) → IsLabel l → {qs : List Piece} → ((more : List Piece) → ends (Number false 0 NoSuffix) (text (qs ++ more)) ≡ true) → ((more : List Piece) → ends_word (text (qs ++ more)) ≡ true) → Closed qs → Closed (label_pieces l ++ qs)
+label_closed DefaultLabel is number front a = sign front a
+label_closed (SignedLabel negative n) is number front a = tok (signed_number negative n (2 ^ 31) (omega arith) is) number a
+label_closed (UnsignedLabel n) is number front a = tok (number_of_plain n is) (λ _. refl) a
+
+labels_closed : (ls : Labels) → IsLabels ls → Closed (labels_pieces ls)
+labels_closed (LastLabel l) is = label_closed l is (λ _. refl) (λ _. refl) (sign (λ _. refl) none)
+labels_closed (MoreLabels l more) is = label_closed l is.0 (λ _. refl) (λ _. refl) (sign (λ _. refl) (gap (labels_closed more is.1)))
+
+case_closed : (ls : Labels) → IsLabels ls → Closed (case_pieces ls)
+case_closed (LastLabel DefaultLabel) is = sign (λ _. refl) $ sign (λ _. refl) none
+case_closed (LastLabel (SignedLabel negative n)) is = sign (λ _. refl) $ gap $ labels_closed (LastLabel (SignedLabel negative n)) is
+case_closed (LastLabel (UnsignedLabel n)) is = sign (λ _. refl) $ gap $ labels_closed (LastLabel (UnsignedLabel n)) is
+case_closed (MoreLabels l more) is = sign (λ _. refl) $ gap $ labels_closed (MoreLabels l more) is
+
+mutual
+  pub statement_closed : (st : Statement) → IsStatement st → (n : ℕ) → Closed (statement_pieces st n)
+  statement_closed (Let w e) is n =
+      indent $ sign (λ _. refl) $ gap $ free is.0.word (λ _. refl) $ gap $ sign (λ _. refl) $ gap $ part (expression_spaced e is.1) (λ _. refl) stop
+  statement_closed (TypedLet w t e) is n =
+      indent $ sign (λ _. refl) $ gap $ free is.0.word (λ _. refl) $ sign (λ _. refl) $ gap $ part (type_spaced t is.1.part) (λ _. refl) $ gap $ sign (λ _. refl) $ gap $ part (expression_spaced e is.2) (λ _. refl) stop
+  statement_closed (Assign a b) is n = indent $ part (expression_spaced a is.0) (λ _. refl) $ gap $ sign (λ _. refl) $ gap $ part (expression_spaced b is.1) (λ _. refl) stop
+  statement_closed (CallStatement t args) is n = indent $ part (callee_spaced t is.0) (λ _. refl) $ sign (λ _. refl) $ part (arguments_spaced args is.1) (λ _. refl) stop
+  statement_closed (ReturnValue e) is n = indent $ sign (λ _. refl) $ gap $ part (expression_spaced e is) (λ _. refl) stop
+  statement_closed (If e accept reject) is n =
+      indent $ sign (λ _. refl) $ gap $ part (expression_spaced e is.0) (λ _. refl) $ gap $ sign (λ _. refl) $ line $ statements_closed accept is.1 (suc n) then indent $ sign (λ _. refl) $ else_closed reject is.2 n
+  statement_closed (Loop body rest) is n =
+      indent $ sign (λ _. refl) $ gap $ sign (λ _. refl) $ line $ statements_closed body is.0 (suc n) then continuing_closed rest is.1 (suc n) then indent close_line
+  statement_closed (LoopBreakIf body rest e) is n =
+      indent $ sign (λ _. refl) $ gap $ sign (λ _. refl) $ line $ statements_closed body is.0 (suc n) then indent $ sign (λ _. refl) $ gap $ sign (λ _. refl) $ line $ statements_closed rest is.1 (suc (suc n)) then indent $ sign (λ _. refl) $ gap $ sign (λ _. refl) $ gap $ part (expression_spaced e is.2) (λ _. refl) $ sign (λ _. refl) $ line $ indent $ sign (λ _. refl) $ line $ indent close_line
+  statement_closed (Switch e cases) is n =
+      indent $ sign (λ _. refl) $ gap $ part (expression_spaced e is.0) (λ _. refl) $ gap $ sign (λ _. refl) $ line $ cases_closed cases is.1 (suc n) then indent close_line
+  statement_closed (Block body) is n = indent $ sign (λ _. refl) $ line $ statements_closed body is (suc n) then indent close_line
+  statement_closed _ is n = indent $ sign (λ _. refl) stop
+
+  pub statements_closed : (ss : Statements) → IsStatements ss → (n : ℕ) → Closed (statements_pieces ss n)
+  statements_closed NoStatements is n = none
+  statements_closed (Then st more) is n = statement_closed st is.0 n then statements_closed more is.1 n
+
+  else_closed : (ss : Statements) → IsStatements ss → (n : ℕ) → Closed (else_pieces ss n)
+  else_closed NoStatements is n = line none
+  else_closed (Then st more) is n =
+      gap $ sign (λ _. refl) $ gap $ sign (λ _. refl) $ line $ statement_closed st is.0 (suc n) then statements_closed more is.1 (suc n) then indent close_line
+
+  continuing_closed : (ss : Statements) → IsStatements ss → (n : ℕ) → Closed (continuing_pieces ss n)
+  continuing_closed NoStatements is n = none
+  continuing_closed (Then st more) is n =
+      indent $ sign (λ _. refl) $ gap $ sign (λ _. refl) $ line $ statement_closed st is.0 (suc n) then statements_closed more is.1 (suc n) then indent close_line
+
+  cases_closed : (cs : Cases) → IsCases cs → (n : ℕ) → Closed (cases_pieces cs n)
+  cases_closed NoCases is n = none
+  cases_closed (Case labels body more) is n =
+      indent $ case_closed labels is.0 then gap $ sign (λ _. refl) $ line $ statements_closed body is.1 (suc n) then indent $ sign (λ _. refl) $ line $ cases_closed more is.2 n
+
+-- The text of each row, from the texts of its parts.
+
+pub let_text : (w : List ℕ) (e : Expression) (n : ℕ) → text (statement_pieces (Let w e) n) ≡ indent_text n ++ (codes "let " ++ (w ++ (codes " = " ++ (expression_layout e ++ codes ";\n"))))
+let_text w e n = simp text-append
+
+pub typed_let_text : (w : List ℕ) (t : TypeSpecifier) (e : Expression) (n : ℕ) → text (statement_pieces (TypedLet w t e) n) ≡ indent_text n ++ (codes "let " ++ (w ++ (codes ": " ++ (type_layout t ++ (codes " = " ++ (expression_layout e ++ codes ";\n"))))))
+typed_let_text w t e n = simp text-append
+
+pub assign_text : (a b : Expression) (n : ℕ) → text (statement_pieces (Assign a b) n) ≡ indent_text n ++ (expression_layout a ++ (codes " = " ++ (expression_layout b ++ codes ";\n")))
+assign_text a b n = simp text-append
+
+pub call_statement_text : (t : TypeSpecifier) (args : Arguments) (n : ℕ) → text (statement_pieces (CallStatement t args) n) ≡ indent_text n ++ (type_layout t ++ (codes "(" ++ (text (arguments_pieces args) ++ codes ";\n")))
+call_statement_text t args n = simp text-append
+
+pub return_text : (e : Expression) (n : ℕ) → text (statement_pieces (ReturnValue e) n) ≡ indent_text n ++ (codes "return " ++ (expression_layout e ++ codes ";\n"))
+return_text e n = simp text-append
+
+pub if_text : (e : Expression) (accept reject : Statements) (n : ℕ) → text (statement_pieces (If e accept reject) n) ≡ indent_text n ++ (codes "if " ++ (expression_layout e ++ (codes " {\n" ++ (text (statements_pieces accept (suc n)) ++ (indent_text n ++ (codes "}" ++ text (else_pieces reject n)))))))
+if_text e accept reject n = simp text-append
+
+pub else_text : (s : Statement) (more : Statements) (n : ℕ) → text (else_pieces (Then s more) n) ≡ codes " else {\n" ++ (text (statements_pieces (Then s more) (suc n)) ++ (indent_text n ++ codes "}\n"))
+else_text s more n = simp (text-append, append_assoc)
+
+pub loop_text : (body rest : Statements) (n : ℕ) → text (statement_pieces (Loop body rest) n) ≡ indent_text n ++ (codes "loop {\n" ++ (text (statements_pieces body (suc n)) ++ (text (continuing_pieces rest (suc n)) ++ (indent_text n ++ codes "}\n"))))
+loop_text body rest n = simp text-append
+
+pub loop_break_if_text : (body rest : Statements) (e : Expression) (n : ℕ) → text (statement_pieces (LoopBreakIf body rest e) n) ≡ indent_text n ++ (codes "loop {\n" ++ (text (statements_pieces body (suc n)) ++ (indent_text (suc n) ++ (codes "continuing {\n" ++ (text (statements_pieces rest (suc (suc n))) ++ (indent_text (suc (suc n)) ++ (codes "break if " ++ (expression_layout e ++ (codes ";\n" ++ (indent_text (suc n) ++ (codes "}\n" ++ (indent_text n ++ codes "}\n"))))))))))))
+loop_break_if_text body rest e n = simp text-append
+
+pub continuing_text : (s : Statement) (more : Statements) (n : ℕ) → text (continuing_pieces (Then s more) n) ≡ indent_text n ++ (codes "continuing {\n" ++ (text (statements_pieces (Then s more) (suc n)) ++ (indent_text n ++ codes "}\n")))
+continuing_text s more n = simp (text-append, append_assoc)
+
+pub switch_text : (e : Expression) (cases : Cases) (n : ℕ) → text (statement_pieces (Switch e cases) n) ≡ indent_text n ++ (codes "switch " ++ (expression_layout e ++ (codes " {\n" ++ (text (cases_pieces cases (suc n)) ++ (indent_text n ++ codes "}\n")))))
+switch_text e cases n = simp text-append
+
+pub case_text : (labels : Labels) (body : Statements) (more : Cases) (n : ℕ) → text (cases_pieces (Case labels body more) n) ≡ indent_text n ++ (text (case_pieces labels) ++ (codes " {\n" ++ (text (statements_pieces body (suc n)) ++ (indent_text n ++ (codes "}\n" ++ text (cases_pieces more n))))))
+case_text labels body more n = simp text-append
+
+pub block_text : (body : Statements) (n : ℕ) → text (statement_pieces (Block body) n) ≡ indent_text n ++ (codes "{\n" ++ (text (statements_pieces body (suc n)) ++ (indent_text n ++ codes "}\n")))
+block_text body n = simp text-append
+
+pub then_text : (s : Statement) (more : Statements) (n : ℕ) → text (statements_pieces (Then s more) n) ≡ text (statement_pieces s n) ++ text (statements_pieces more n)
+then_text s more n = simp text-append

@@ -1,0 +1,208 @@
+-- Statements: their trees, their pieces (their tokens, with the blanks, line ends and indentation
+-- between them), and which of them the grammar has.
+--
+-- Throughout, n is the level of indentation or a number, w a word, t a type, e an expression, a and
+-- b are two, l is a label, s a statement, and i an index.
+use Rattle.std.specs.Prelude.{ℕ, Bool, List, [], ◌∷◌, true, false, ◌++◌, suc, ◌<◌, ◌^◌, ⊤, IsTrue}
+use Rattle.wgsl_text.specs.Expressions.{Expression, Name, Member, Index, IndexAt, Dereference}
+use Rattle.wgsl_text.specs.Expressions.{Arguments, expression_pieces, arguments_pieces, IsCallee}
+use Rattle.wgsl_text.specs.Expressions.{may_take, IsExpression, IsArguments}
+use Rattle.wgsl_text.specs.Literals.{IsSigned}
+use Rattle.wgsl_text.specs.Token.{OpenParen, OpenBrace, CloseBrace, Comma, Semicolon, Colon, Equals}
+use Rattle.wgsl_text.specs.Token.{KeywordLet, KeywordIf, KeywordElse, KeywordLoop}
+use Rattle.wgsl_text.specs.Token.{KeywordContinuing, KeywordBreak, KeywordContinue, KeywordSwitch}
+use Rattle.wgsl_text.specs.Token.{KeywordCase, KeywordDefault, KeywordReturn, KeywordDiscard}
+use Rattle.wgsl_text.specs.Token.{NoSuffix, SuffixU, Number, Piece, TokenPiece, Blank, LineEnd}
+use Rattle.wgsl_text.specs.Token.{Indent, mark, word}
+use Rattle.wgsl_text.specs.Types.{TypeSpecifier, type_pieces, IsType}
+use Rattle.wgsl_text.specs.Words.{IsIdentifier}
+
+pub data Label : Type 0 where
+  DefaultLabel : Label
+  SignedLabel : Bool → ℕ → Label
+  UnsignedLabel : ℕ → Label
+
+pub data Labels : Type 0 where
+  LastLabel : Label → Labels
+  MoreLabels : Label → Labels → Labels
+
+mutual
+  pub data Statement : Type 0 where
+    Let : List ℕ → Expression → Statement
+    TypedLet : List ℕ → TypeSpecifier → Expression → Statement
+    Assign : Expression → Expression → Statement
+    CallStatement : TypeSpecifier → Arguments → Statement
+    Return : Statement
+    ReturnValue : Expression → Statement
+    Discard Break Continue : Statement
+    If : Expression → Statements → Statements → Statement
+    -- the body, and what stands in `continuing`
+    Loop : Statements → Statements → Statement
+    LoopBreakIf : Statements → Statements → Expression → Statement
+    Switch : Expression → Cases → Statement
+    Block : Statements → Statement
+
+  pub data Statements : Type 0 where
+    NoStatements : Statements
+    Then : Statement → Statements → Statements
+
+  pub data Cases : Type 0 where
+    NoCases : Cases
+    Case : Labels → Statements → Cases → Cases
+
+-- The pieces of statements.
+
+-- the end of a line that is a statement
+abbrev pub line_end : List Piece
+line_end = mark Semicolon ∷ LineEnd ∷ []
+
+-- a signed label has no suffix
+abbrev pub label_pieces : Label → List Piece
+label_pieces DefaultLabel = mark KeywordDefault ∷ []
+label_pieces (SignedLabel negative n) = TokenPiece (Number negative n NoSuffix) ∷ []
+label_pieces (UnsignedLabel n) = TokenPiece (Number false n SuffixU) ∷ []
+
+-- the labels, and the sign that ends them
+abbrev pub labels_pieces : Labels → List Piece
+labels_pieces (LastLabel l) = label_pieces l ++ (mark Colon ∷ [])
+labels_pieces (MoreLabels l more) = label_pieces l ++ (mark Comma ∷ Blank ∷ labels_pieces more)
+
+-- a default that stands alone has no `case`
+abbrev pub case_pieces : Labels → List Piece
+case_pieces (LastLabel DefaultLabel) = mark KeywordDefault ∷ mark Colon ∷ []
+case_pieces labels = mark KeywordCase ∷ Blank ∷ labels_pieces labels
+
+-- A statement stands n levels deep.
+abbrev mutual
+  pub statement_pieces : Statement → ℕ → List Piece
+  statement_pieces (Let w e) n =
+      Indent n ∷ mark KeywordLet ∷ Blank ∷ word w ∷ Blank ∷ mark Equals ∷ Blank ∷
+      (expression_pieces e ++ line_end)
+  statement_pieces (TypedLet w t e) n =
+      Indent n ∷ mark KeywordLet ∷ Blank ∷ word w ∷ mark Colon ∷ Blank ∷
+      (type_pieces t ++
+      (Blank ∷ mark Equals ∷ Blank ∷
+      (expression_pieces e ++ line_end)))
+  statement_pieces (Assign a b) n =
+      Indent n ∷
+      (expression_pieces a ++
+      (Blank ∷ mark Equals ∷ Blank ∷
+      (expression_pieces b ++ line_end)))
+  statement_pieces (CallStatement t args) n =
+      Indent n ∷ (type_pieces t ++ (mark OpenParen ∷ (arguments_pieces args ++ line_end)))
+  statement_pieces Return n = Indent n ∷ mark KeywordReturn ∷ line_end
+  statement_pieces (ReturnValue e) n =
+      Indent n ∷ mark KeywordReturn ∷ Blank ∷ (expression_pieces e ++ line_end)
+  statement_pieces Discard n = Indent n ∷ mark KeywordDiscard ∷ line_end
+  statement_pieces Break n = Indent n ∷ mark KeywordBreak ∷ line_end
+  statement_pieces Continue n = Indent n ∷ mark KeywordContinue ∷ line_end
+  statement_pieces (If e accept reject) n =
+      Indent n ∷ mark KeywordIf ∷ Blank ∷
+      (expression_pieces e ++
+      (Blank ∷ mark OpenBrace ∷ LineEnd ∷
+      (statements_pieces accept (suc n) ++
+      (Indent n ∷ mark CloseBrace ∷ else_pieces reject n))))
+  statement_pieces (Loop body rest) n =
+      Indent n ∷ mark KeywordLoop ∷ Blank ∷ mark OpenBrace ∷ LineEnd ∷
+      (statements_pieces body (suc n) ++
+      (continuing_pieces rest (suc n) ++
+      (Indent n ∷ mark CloseBrace ∷ LineEnd ∷ [])))
+  -- `break if` stands last in `continuing`
+  statement_pieces (LoopBreakIf body rest e) n =
+      Indent n ∷ mark KeywordLoop ∷ Blank ∷ mark OpenBrace ∷ LineEnd ∷
+      (statements_pieces body (suc n) ++
+      (Indent (suc n) ∷ mark KeywordContinuing ∷ Blank ∷ mark OpenBrace ∷ LineEnd ∷
+      (statements_pieces rest (suc (suc n)) ++
+      (Indent (suc (suc n)) ∷ mark KeywordBreak ∷ Blank ∷ mark KeywordIf ∷ Blank ∷
+      (expression_pieces e ++
+      (mark Semicolon ∷ LineEnd ∷
+      Indent (suc n) ∷ mark CloseBrace ∷ LineEnd ∷
+      Indent n ∷ mark CloseBrace ∷ LineEnd ∷ []))))))
+  statement_pieces (Switch e cases) n =
+      Indent n ∷ mark KeywordSwitch ∷ Blank ∷
+      (expression_pieces e ++
+      (Blank ∷ mark OpenBrace ∷ LineEnd ∷
+      (cases_pieces cases (suc n) ++
+      (Indent n ∷ mark CloseBrace ∷ LineEnd ∷ []))))
+  statement_pieces (Block body) n =
+      Indent n ∷ mark OpenBrace ∷ LineEnd ∷
+      (statements_pieces body (suc n) ++
+      (Indent n ∷ mark CloseBrace ∷ LineEnd ∷ []))
+
+  pub statements_pieces : Statements → ℕ → List Piece
+  statements_pieces NoStatements n = []
+  statements_pieces (Then s more) n = statement_pieces s n ++ statements_pieces more n
+
+  -- nothing is written of an empty `else`
+  pub else_pieces : Statements → ℕ → List Piece
+  else_pieces NoStatements n = LineEnd ∷ []
+  else_pieces (Then s more) n =
+      Blank ∷ mark KeywordElse ∷ Blank ∷ mark OpenBrace ∷ LineEnd ∷
+      (statement_pieces s (suc n) ++
+      (statements_pieces more (suc n) ++
+      (Indent n ∷ mark CloseBrace ∷ LineEnd ∷ [])))
+
+  -- nor of an empty `continuing`
+  pub continuing_pieces : Statements → ℕ → List Piece
+  continuing_pieces NoStatements n = []
+  continuing_pieces (Then s more) n =
+      Indent n ∷ mark KeywordContinuing ∷ Blank ∷ mark OpenBrace ∷ LineEnd ∷
+      (statement_pieces s (suc n) ++
+      (statements_pieces more (suc n) ++
+      (Indent n ∷ mark CloseBrace ∷ LineEnd ∷ [])))
+
+  pub cases_pieces : Cases → ℕ → List Piece
+  cases_pieces NoCases n = []
+  cases_pieces (Case labels body more) n =
+      Indent n ∷
+      (case_pieces labels ++
+      (Blank ∷ mark OpenBrace ∷ LineEnd ∷
+      (statements_pieces body (suc n) ++
+      (Indent n ∷ mark CloseBrace ∷ LineEnd ∷ cases_pieces more n))))
+
+-- Which statements the grammar has.
+
+-- what may stand on the left of an assignment
+abbrev pub is_reference : Expression → Bool
+is_reference (Name w) = true
+is_reference (Dereference e) = true
+is_reference (Member e w) = is_reference e
+is_reference (Index e i) = is_reference e
+is_reference (IndexAt e n) = is_reference e
+is_reference _ = false
+
+abbrev pub IsLabel : Label → Type 0
+IsLabel DefaultLabel = ⊤
+IsLabel (SignedLabel negative n) = IsSigned negative n (2 ^ 31)
+IsLabel (UnsignedLabel n) = n < 2 ^ 32
+
+abbrev pub IsLabels : Labels → Type 0
+IsLabels (LastLabel l) = IsLabel l
+IsLabels (MoreLabels l more) = IsLabel l × IsLabels more
+
+-- a switch has a case
+abbrev pub has_case : Cases → Bool
+has_case NoCases = false
+has_case (Case labels body more) = true
+
+abbrev mutual
+  pub IsStatement : Statement → Type 0
+  IsStatement (Let w e) = IsIdentifier w × IsExpression e
+  IsStatement (TypedLet w t e) = IsIdentifier w × IsType t × IsExpression e
+  IsStatement (Assign a b) = IsExpression a × IsExpression b × IsTrue (is_reference a)
+  IsStatement (CallStatement t args) = IsCallee t × IsArguments args × IsTrue (may_take t args)
+  IsStatement (ReturnValue e) = IsExpression e
+  IsStatement (If e accept reject) = IsExpression e × IsStatements accept × IsStatements reject
+  IsStatement (Loop body rest) = IsStatements body × IsStatements rest
+  IsStatement (LoopBreakIf body rest e) = IsStatements body × IsStatements rest × IsExpression e
+  IsStatement (Switch e cases) = IsExpression e × IsCases cases × IsTrue (has_case cases)
+  IsStatement (Block body) = IsStatements body
+  IsStatement _ = ⊤
+
+  pub IsStatements : Statements → Type 0
+  IsStatements NoStatements = ⊤
+  IsStatements (Then s more) = IsStatement s × IsStatements more
+
+  pub IsCases : Cases → Type 0
+  IsCases NoCases = ⊤
+  IsCases (Case labels body more) = IsLabels labels × IsStatements body × IsCases more
