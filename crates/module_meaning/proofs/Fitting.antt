@@ -1,5 +1,7 @@
 -- Loops that find out whether each item of a list fits, or each item of two lists side by side.
-use Rattle.std.proofs.Common.{◌≡◌, ◌≢◌, ℕ, ◌+◌, ◌<◌, suc, Bool, true, false, ◌&&◌, List, [], ◌∷◌, length, drop, refl, ap, ◌∙◌, add-one, drop-cons, slice_index_or, slice_get, Some}
+use Rattle.std.proofs.Common.{◌≡◌, ◌≢◌, ℕ, ◌+◌, ◌<◌, suc, Bool, true, false, ◌&&◌, List, [], ◌∷◌}
+use Rattle.std.proofs.Common.{length, drop, refl, ap, ◌∙◌, add-one, drop-cons, slice_index_or}
+use Rattle.std.proofs.Common.{slice_get, Some}
 use Rattle.std.specs.List.{list_all, enumerate_from}
 use Rattle.std.proofs.lemmas.Bool.{and_right}
 use Rattle.std.proofs.lemmas.Option.{slice_get-get_or}
@@ -7,7 +9,8 @@ use Rattle.naga_ir.specs.declared.expression.Expression.{Expression}
 use Rattle.naga_ir.specs.declared.module.Function.{Function}
 use Rattle.naga_ir.specs.declared.types.Type_.{Type_}
 use Rattle.naga_info.specs.declared.info.ExpressionInfo.{ExpressionInfo}
-use Rattle.module_meaning.specs.Accepted.{expression_fits, expressions_fit_from, function_fits, functions_fit}
+use Rattle.module_meaning.specs.Accepted.{expression_fits, expressions_fit_from, function_fits}
+use Rattle.module_meaning.specs.Accepted.{functions_fit}
 
 -- an arena's items with their handles, tested by the items alone
 pub list_all-pairs : {X : Type 0} (test : X → Bool) (n : ℕ) (xs : List X) → list_all (λ p. test p.1) (enumerate_from n xs) ≡ list_all test xs

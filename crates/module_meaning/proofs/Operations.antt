@@ -1,4 +1,5 @@
--- What follows from the operators of an accepted module agreeing: one operator over operands of types alike has one type.
+-- What follows from the operators of an accepted module agreeing: one operator over operands of
+-- types alike has one type.
 use Rattle.std.proofs.Common.{◌≡◌, ℕ, suc, true, ◌&&◌, List, [], ◌∷◌, ◌++◌, refl, sym, ap, subst}
 use Rattle.std.proofs.Common.{◌∙◌, arith, zero, ◌+◌, Some, slice_get}
 use Rattle.std.specs.Prelude.{if◌then◌else◌}
@@ -33,7 +34,8 @@ agrees_answer a b agree o os =
     (ap (are_alike a.operands) (sym os) ∙ alike_itself a.operands) i
     in (bytes_eq-Decides a.answer b.answer).0 (sym (ap (λ c. if c then bytes_eq a.answer b.answer else true) alike) ∙ agree)
 
--- of operations any two of which agree, two with one word and operands of types alike have types alike
+-- of operations any two of which agree, two with one word and operands of types alike have types
+-- alike
 pub all_agree_at : (os : List Operation) → all_agree os ≡ true → (i j : ℕ) (a b : Operation) → slice_get os i ≡ Some a → slice_get os j ≡ Some b
     → a.operator ≡ b.operator → a.operands ≡ b.operands → a.answer ≡ b.answer
 all_agree_at [] all i j a b at_i at_j o same = absurd cc
@@ -164,8 +166,8 @@ stands_applied types fs ess x =
     (λ is. function_has types x.known 0 x.function.expressions x.handle x.expression x.applied
     x.application is x.expression_there) x.operation)
 
--- two operators of an accepted module that are spelled alike, over operands of types alike, in one function or two, have types
--- alike
+-- two operators of an accepted module that are spelled alike, over operands of types alike, in one
+-- function or two, have types alike
 pub accepted_operations_agree : (m : Module) (info : ModuleInfo) → is_accepted m info ≡ true →
     (a b : IsApplied m.types m.functions info.functions.items)
     → a.operation.word ≡ b.operation.word → a.operation.operand_words ≡ b.operation.operand_words →

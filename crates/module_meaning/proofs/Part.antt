@@ -6,9 +6,12 @@ use Rattle.std.proofs.lemmas.Bool.{and_parts, and_from}
 use Rattle.naga_ir.specs.declared.module.Function.{Function}
 use Rattle.naga_ir.specs.declared.module.Module.{Module}
 use Rattle.module_meaning.specs.Accepted.{is_scalar_type, declares_functions}
-use Rattle.module_meaning.specs.Part.{is_written_so_far, function_is_written, local_is_written, names_nothing, is_unbound, expression_is_written, block_is_written}
+use Rattle.module_meaning.specs.Part.{is_written_so_far, function_is_written, local_is_written}
+use Rattle.module_meaning.specs.Part.{names_nothing, is_unbound, expression_is_written}
+use Rattle.module_meaning.specs.Part.{block_is_written}
 
--- front ends name nothing in a function that is written, and the first values of its locals are written
+-- front ends name nothing in a function that is written, and the first values of its locals are
+-- written
 pub written_parts : (f : Function) → IsTrue (function_is_written f) → IsTrue (names_nothing f) × IsTrue (list_all (local_is_written f.expressions) f.local_variables)
 written_parts f written =
     let expressions = list_all expression_is_written f.expressions in

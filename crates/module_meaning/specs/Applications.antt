@@ -1,6 +1,6 @@
 -- Which operator an expression applies to its operands: the one place that is asked by shapes,
--- acceptance, the part that is written so far and the form. An expression of a new kind is a line of
--- `operator_of`, and an operator that is accepted from then on one of `operator_is_accepted`.
+-- acceptance, the part that is written so far and the form. An expression of a new kind is a line
+-- of `operator_of`, and an operator that is accepted from then on one of `operator_is_accepted`.
 --
 -- Throughout, e is an expression and op an operator.
 use Rattle.std.specs.Prelude.{ℕ, Bool, true, false, if◌then◌else◌}

@@ -1,5 +1,6 @@
 -- The values of a module's literals.
-use Rattle.std.specs.Prelude.{ℕ, ℤ, pos, negsuc, Bool, List, [], ◌==◌, ◌+◌, ◌*◌, if◌then◌else◌, codes}
+use Rattle.std.specs.Prelude.{ℕ, ℤ, pos, negsuc, Bool, List, [], ◌==◌, ◌+◌, ◌*◌, if◌then◌else◌}
+use Rattle.std.specs.Prelude.{codes}
 use Rattle.naga_ir.specs.declared.expression.Literal as ir
 use Rattle.naga_ir.specs.declared.expression.Literal.TheVariants as literal
 use Rattle.naga_ir.specs.declared.types.ScalarKind.{ScalarKind}

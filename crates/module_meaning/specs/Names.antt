@@ -1,5 +1,6 @@
 -- The names that a module's items have in its WGSL text.
-use Rattle.std.specs.Prelude.{◌≡◌, ℕ, Bool, true, false, ◌<◌, ◌≤◌, ◌^◌, List, [], ◌∷◌, ◌++◌, length, replicate, slice_get, nat_lt, None, Some, codes, decimal, unwrap_or}
+use Rattle.std.specs.Prelude.{◌≡◌, ℕ, Bool, true, false, ◌<◌, ◌≤◌, ◌^◌, List, [], ◌∷◌, ◌++◌, length}
+use Rattle.std.specs.Prelude.{replicate, slice_get, nat_lt, None, Some, codes, decimal, unwrap_or}
 use Rattle.std.specs.FinSet as set
 use Rattle.std.specs.Map.{update_all}
 use Rattle.naga_ir.specs.declared.module.Function as ir_function

@@ -2,7 +2,8 @@
 -- here is what an expression or a statement asks for, apart from its operands; which of those are
 -- there that may be left out belongs to it. What is new is a constructor, and a line of each
 -- function below.
-use Rattle.std.specs.Prelude.{ℕ, ◌||◌, ◌+◌, Bool, true, false, List, [], ◌++◌, Option, Some, None, codes, ⊤, unwrap_or, if◌then◌else◌}
+use Rattle.std.specs.Prelude.{ℕ, ◌||◌, ◌+◌, Bool, true, false, List, [], ◌++◌, Option, Some, None}
+use Rattle.std.specs.Prelude.{codes, ⊤, unwrap_or, if◌then◌else◌}
 use Rattle.naga_ir.specs.declared.expression.SwizzleComponent.{SwizzleComponent}
 use Rattle.naga_ir.specs.declared.expression.SwizzleComponent.TheVariants as component
 use Rattle.naga_ir.specs.declared.types.VectorSize.{VectorSize}
@@ -34,7 +35,8 @@ use Rattle.wgsl_text.specs.Reading.{type_layout}
 pub data Level : Type 0 where
   Automatic Zero Exact Biased Graded : Level
 
--- whether a texel is taken of an image without samples or levels, of a sample, of a level, or of both
+-- whether a texel is taken of an image without samples or levels, of a sample, of a level, or of
+-- both
 pub data TexelOf : Type 0 where
   OnlyTexel SampleTexel LevelTexel BothTexel : TexelOf
 
@@ -136,7 +138,8 @@ component_word (Some component.Z) = codes " 2"
 component_word (Some component.W) = codes " 3"
 
 -- a gather is always at level zero, told or not, and nothing is clamped
-abbrev pub gather_word : Option SwizzleComponent → Level → (compares clamped : Bool) → Option (List ℕ)
+abbrev pub gather_word : Option SwizzleComponent → Level → (compares clamped : Bool) →
+    Option (List ℕ)
 gather_word component Automatic compares false =
     Some (codes "textureGather" ++ (if_word compares (codes "Compare") ++ component_word component))
 gather_word component Zero compares false =
@@ -218,7 +221,8 @@ operator_word (Relation fun) = relational_word fun
 operator_word (Derivative axis control) = Some (axis_word axis ++ control_word control)
 operator_word ArrayLength = Some (codes "arrayLength")
 operator_word (Sample level compares clamped arrayed offset) = sample_word level compares clamped
-operator_word (Gather component level compares clamped arrayed offset) = gather_word component level compares clamped
+operator_word (Gather component level compares clamped arrayed offset) =
+    gather_word component level compares clamped
 operator_word (Texel arrayed BothTexel) = None
 operator_word (Texel arrayed of_) = Some (codes "textureLoad")
 operator_word (TexelStore arrayed) = Some (codes "textureStore")
@@ -271,7 +275,8 @@ own_level_word Graded = codes "Graded"
 
 abbrev pub own_form_word : Level → (compares clamped : Bool) → List ℕ
 own_form_word level compares clamped =
-    if_word compares (codes "Compare") ++ (if_word clamped (codes "Clamped") ++ own_level_word level)
+    if_word compares (codes "Compare")
+    ++ (if_word clamped (codes "Clamped") ++ own_level_word level)
 
 abbrev pub committed_word : (committed : Bool) → List ℕ
 committed_word committed = if committed then codes "Committed" else codes "Candidate"
@@ -280,7 +285,8 @@ committed_word committed = if committed then codes "Committed" else codes "Candi
 abbrev pub own_word : Operator → List ℕ
 own_word (Mathematical fun) = own_math_word fun
 own_word (Relation fun) = own_relational_word fun
-own_word (Sample level compares clamped arrayed offset) = codes " sample" ++ own_form_word level compares clamped
+own_word (Sample level compares clamped arrayed offset) =
+    codes " sample" ++ own_form_word level compares clamped
 own_word (Gather component level compares clamped arrayed offset) =
     codes " gather" ++ (own_form_word level compares clamped ++ component_word component)
 own_word (Texel arrayed of_) = codes " textureLoad"
@@ -351,7 +357,8 @@ operand_count (Relation fun) = 1
 operand_count (Derivative axis control) = 1
 operand_count ArrayLength = 1
 operand_count (Sample level compares clamped arrayed offset) =
-    3 + (if_there compares + (level_count level compares clamped + (if_there arrayed + if_there offset)))
+    3 + (if_there compares
+    + (level_count level compares clamped + (if_there arrayed + if_there offset)))
 operand_count (Gather component level compares clamped arrayed offset) =
     3 + (if_there compares + (if_there arrayed + if_there offset))
 operand_count (Texel arrayed of_) = 2 + (if_there arrayed + texel_count of_)
@@ -400,8 +407,9 @@ one_word (UnarySign unary.Negate) = BinarySign binary.Subtract
 -- operand or, compared, one operand less;
 one_word (Sample level compares clamped arrayed offset) =
     Sample (written_level level clamped) compares clamped false false
--- gathers of images with layers and without, and with an offset and without, which the types tell apart; and gathers at
--- level zero and at that of the derivatives, which are one operation, since a gather is always at level zero;
+-- gathers of images with layers and without, and with an offset and without, which the types tell
+-- apart; and gathers at level zero and at that of the derivatives, which are one operation, since a
+-- gather is always at level zero;
 one_word (Gather component level compares clamped arrayed offset) =
     Gather component (gathered_level level clamped) compares clamped false false
 -- loads of texels, of images of other types;
@@ -410,13 +418,14 @@ one_word (Texel arrayed of_) = Texel false OnlyTexel
 -- stores and changes of texels of images with layers and without, which have one operand more;
 one_word (TexelStore arrayed) = TexelStore false
 one_word (TexelChange way arrayed) = TexelChange way false
--- the size of an image, and of a level of it, and a ballot with a predicate and without: these have one operand more;
+-- the size of an image, and of a level of it, and a ballot with a predicate and without: these have
+-- one operand more;
 one_word (ImageSize of_level) = ImageSize false
 one_word (Ballot predicate) = Ballot false
 -- a control barrier and a memory barrier, which are alike;
 one_word (Barrier control kept) = Barrier true kept
--- constructors of one type, which their number of operands tells apart; and a conversion, which is one operation with
--- the constructor of one operand.
+-- constructors of one type, which their number of operands tells apart; and a conversion, which is
+-- one operation with the constructor of one operand.
 one_word (Construct t components) = Construct t 1
 one_word (Convert t) = Construct t 1
 one_word operator = operator

@@ -7,7 +7,10 @@ use Rattle.std.specs.Option.{option_map}
 use Rattle.indexmap.specs.IndexMap.{keys}
 use Rattle.naga_ir.specs.declared.statement.SwitchValue.{SwitchValue}
 use Rattle.naga_ir.specs.declared.statement.SwitchValue.TheVariants as label
-use Rattle.naga_ir.specs.StatementTree.{SimpleStatement, emit, store, return, break, continue, kill, StatementTree, simple, block, branch, switch, loop, BlockTree, no_statements, statement, CaseTrees, no_cases, case as case_tree}
+use Rattle.naga_ir.specs.StatementTree.{SimpleStatement, emit, store, return, break, continue, kill}
+use Rattle.naga_ir.specs.StatementTree.{StatementTree, simple, block, branch, switch, loop}
+use Rattle.naga_ir.specs.StatementTree.{BlockTree, no_statements, statement, CaseTrees, no_cases}
+use Rattle.naga_ir.specs.StatementTree.{case as case_tree}
 use Rattle.naga_ir.specs.declared.expression.Expression as ir
 use Rattle.naga_ir.specs.declared.expression.Expression.TheVariants as expression
 use Rattle.naga_ir.specs.declared.module.Function as ir_function
@@ -21,7 +24,11 @@ use Rattle.module_meaning.specs.OperatorTable.{Operator as TableOperator, Binary
 use Rattle.module_meaning.specs.Spelled.{word_at}
 use Rattle.naga_names.specs.Keys.{NameMap}
 use Rattle.shader_runs.specs.Value.{PartTypes, ShortCircuitAnd, ShortCircuitOr}
-use Rattle.shader_runs.specs.Program.{Fixed, Expression, Constant, Argument, Local, Load, Operator, Logical, Result, Label, Numbered, Default, Statement, Emit, Store, Block, If, Switch, Loop, Break, Continue, Return, Kill, Statements, end, then, Cases, no_case, case, Function, Module, operands_of}
+use Rattle.shader_runs.specs.Program.{Fixed, Expression, Constant, Argument, Local, Load, Operator}
+use Rattle.shader_runs.specs.Program.{Logical, Result, Label, Numbered, Default, Statement, Emit}
+use Rattle.shader_runs.specs.Program.{Store, Block, If, Switch, Loop, Break, Continue, Return, Kill}
+use Rattle.shader_runs.specs.Program.{Statements, end, then, Cases, no_case, case, Function, Module}
+use Rattle.shader_runs.specs.Program.{operands_of}
 use Rattle.shader_runs.specs.Premises.{AllBelow}
 use Rattle.shader_runs.specs.Scope.{ModuleNames, Names, Naming}
 use Rattle.module_meaning.specs.Names.{function_name, argument_name, local_name, numbered_name}

@@ -1,5 +1,8 @@
 -- Uses that are counted one by one add up to the number of places.
-use Rattle.std.proofs.Common.{◌≡◌, ◌≢◌, ℕ, ◌+◌, ◌<◌, ◌≤◌, ◌==◌, zero, suc, min, List, [], ◌∷◌, ◌++◌, length, true, false, cond, drop, refl, ap, sym, ◌∙◌, arith, add-zero, zero-add, slice_index_or, slice_set, slice_get, Some, unwrap_or, eq-eqb, ne_eqb}
+use Rattle.std.proofs.Common.{◌≡◌, ◌≢◌, ℕ, ◌+◌, ◌<◌, ◌≤◌, ◌==◌, zero, suc, min, List, [], ◌∷◌, ◌++◌}
+use Rattle.std.proofs.Common.{length, true, false, cond, drop, refl, ap, sym, ◌∙◌, arith, add-zero}
+use Rattle.std.proofs.Common.{zero-add, slice_index_or, slice_set, slice_get, Some, unwrap_or}
+use Rattle.std.proofs.Common.{eq-eqb, ne_eqb}
 use Rattle.std.specs.List.{flat_map, enumerate_from}
 use Rattle.std.proofs.lemmas.List.Sums.{sum_by-cons}
 use Rattle.naga_ir.specs.declared.module.Function.{Function}
@@ -12,8 +15,11 @@ use Rattle.naga_ir.specs.StatementTree.{block_size, cases_size}
 use Rattle.naga_ir.specs.StatementViews.{tree_of, block_of, cases_of}
 use Rattle.naga_info.specs.declared.info.ExpressionInfo.{ExpressionInfo}
 use Rattle.module_meaning.proofs.Fitting.{drop_first}
-use Rattle.naga_ir.specs.Operands.{expression_operands, statement_operands, block_operands, cases_operands}
-use Rattle.naga_acceptance.specs.Counts.{with_use, with_uses, used_again, counted_from, use_count, greatest_count, without_uses, operand_places, counted, all_counted, functions_of}
+use Rattle.naga_ir.specs.Operands.{expression_operands, statement_operands, block_operands}
+use Rattle.naga_ir.specs.Operands.{cases_operands}
+use Rattle.naga_acceptance.specs.Counts.{with_use, with_uses, used_again, counted_from, use_count}
+use Rattle.naga_acceptance.specs.Counts.{greatest_count, without_uses, operand_places, counted}
+use Rattle.naga_acceptance.specs.Counts.{all_counted, functions_of}
 
 pub with_use_set : (es : List ExpressionInfo) (handle : ℕ) (d : ExpressionInfo) → handle < length es → slice_set es handle (used_again (slice_index_or es handle d)) ≡ with_use es handle
 with_use_set [] handle d h = refl

@@ -1,4 +1,5 @@
--- A pass that tests items one behind another, and enters the operations of each in the table of types that operators have given.
+-- A pass that tests items one behind another, and enters the operations of each in the table of
+-- types that operators have given.
 use Rattle.std.proofs.Common.{◌≡◌, ℕ, ◌+◌, ◌<◌, Bool, true, false, ◌&&◌, List, [], ◌∷◌, ◌++◌}
 use Rattle.std.proofs.Common.{Option, Some, None, length, drop, replicate, refl, ap, sym, ◌∙◌}
 use Rattle.std.proofs.Common.{slice_get, slice_index_or}
@@ -15,8 +16,10 @@ use Rattle.naga_info.specs.declared.info.ExpressionInfo.{ExpressionInfo}
 use Rattle.module_meaning.specs.Accepted.{signature_fits, names_fit, application_fits}
 use Rattle.module_meaning.specs.Accepted.{expression_fits, expressions_fit_from, expressions_fit}
 use Rattle.module_meaning.specs.Accepted.{local_fits, block_fits, function_fits, functions_fit}
-use Rattle.module_meaning.specs.Operations.{Operation, expression_operations, function_operations, all_operations, operators_agree}
-use Rattle.module_meaning.proofs.Fitting.{drop_first, item_at, expressions_fit-step, functions_fit-step}
+use Rattle.module_meaning.specs.Operations.{Operation, expression_operations, function_operations}
+use Rattle.module_meaning.specs.Operations.{all_operations, operators_agree}
+use Rattle.module_meaning.proofs.Fitting.{drop_first, item_at, expressions_fit-step}
+use Rattle.module_meaning.proofs.Fitting.{functions_fit-step}
 use Rattle.module_meaning.specs.Spelled.{is_alike, spelling_of, spelling_at}
 use Rattle.module_meaning.specs.OperatorTable.{BinarySign}
 use Rattle.naga_acceptance.specs.Fitting.{surroundings_fit, operation_fits}

@@ -1,6 +1,8 @@
 -- A loop that writes each place of a slice in turn.
-use Rattle.std.proofs.Common.{◌≡◌, ℕ, ◌+◌, ◌<◌, ◌≤◌, List, [], ◌∷◌, ◌++◌, length, take, drop, refl, ap, sym, ◌∙◌, arith, slice_index_or, slice_set}
-use Rattle.std.proofs.lemmas.List.{take_more_set, take_more, take_all, drop-set-lt, get_or-drop, length-set, drop_more, drop_all, append-nil}
+use Rattle.std.proofs.Common.{◌≡◌, ℕ, ◌+◌, ◌<◌, ◌≤◌, List, [], ◌∷◌, ◌++◌, length, take, drop, refl}
+use Rattle.std.proofs.Common.{ap, sym, ◌∙◌, arith, slice_index_or, slice_set}
+use Rattle.std.proofs.lemmas.List.{take_more_set, take_more, take_all, drop-set-lt, get_or-drop}
+use Rattle.std.proofs.lemmas.List.{length-set, drop_more, drop_all, append-nil}
 
 -- the places before i are as in `target`, the others as they were at first
 pub record IsWritten {X : Type 0} (target initial xs : List X) (i : ℕ) : Type 0 where

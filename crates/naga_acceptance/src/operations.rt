@@ -1,7 +1,7 @@
 //! Whether operators that are spelled alike have types alike where their operands have.
 //!
-//! Types and operators are numbered, and a table has for each operator and the types of its operands
-//! the type that it gave.
+//! Types and operators are numbered, and a table has for each operator and the types of its
+//! operands the type that it gave.
 
 ghost use Rattle.std.specs.Prelude.{◌≡◌, ◌<◌, if◌then◌else◌, length, nat_lt, IfSome, None, Some};
 ghost use Rattle.std.specs.Option.{option_map};
@@ -55,8 +55,8 @@ fn spelling_number(spelling: Spelled) -> Option<usize>
     }
 }
 
-/// The number of the spelling of an operand's type, if it stands before the expression with the handle
-/// `here`.
+/// The number of the spelling of an operand's type, if it stands before the expression with the
+/// handle `here`.
 #[inline(always)]
 fn operand_number(
     types: &UniqueArena<Type_>,
@@ -102,9 +102,9 @@ fn enter(table: &mut [Option<usize>], place: usize, answer: usize) -> bool
     }
 }
 
-/// Whether the operator with the handle `here` fits, whose type is spelled `known`: its operands stand
-/// before it, all is spelled, and its type is the one that the table has for it, if it has one. Else
-/// that is entered.
+/// Whether the operator with the handle `here` fits, whose type is spelled `known`: its operands
+/// stand before it, all is spelled, and its type is the one that the table has for it, if it has
+/// one. Else that is entered.
 #[tactic(auto, using(crate::proofs::Agreeing::operation_where))]
 pub(crate) fn operation_fits(
     types: &UniqueArena<Type_>,

@@ -19,8 +19,8 @@ use naga_ir::{
 };
 
 /// Whether the module holds nothing but what is written so far: the types `bool`, `i32`, `u32`,
-/// `i64` and `u64`, and functions without names of their expressions, whose arguments and result are
-/// bound to nothing, whose locals have a literal as first value or none, whose expressions are
+/// `i64` and `u64`, and functions without names of their expressions, whose arguments and result
+/// are bound to nothing, whose locals have a literal as first value or none, whose expressions are
 /// arguments, locals, literals of these types, loads, sums, differences and products, and whose
 /// statements are `Emit`s, `Store`s and `Return`s.
 #[tactic(auto, unfolding(module_meaning::specs::Part::is_written_so_far))]

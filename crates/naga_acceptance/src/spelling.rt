@@ -1,5 +1,5 @@
-//! How types are spelled, of those that are told apart so far. Types are alike where they are spelled
-//! alike.
+//! How types are spelled, of those that are told apart so far. Types are alike where they are
+//! spelled alike.
 
 ghost use Rattle.std.specs.Prelude.{◌≡◌};
 ghost use Rattle.std.specs.Option.{is_some, option_and_then, option_map};

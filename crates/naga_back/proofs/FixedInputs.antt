@@ -1,5 +1,7 @@
--- A walk from an expression towards the argument that it is a part of, which keeps the builtin value that was met last.
-use Rattle.std.proofs.Common.{◌≡◌, ℕ, ◌+◌, ◌-◌, ◌<◌, ◌≤◌, zero, suc, length, List, [], ◌∷◌, ◌++◌, Option, Some, None, slice_get, refl, ap, sym, ◌∙◌, arith}
+-- A walk from an expression towards the argument that it is a part of, which keeps the builtin
+-- value that was met last.
+use Rattle.std.proofs.Common.{◌≡◌, ℕ, ◌+◌, ◌-◌, ◌<◌, ◌≤◌, zero, suc, length, List, [], ◌∷◌, ◌++◌}
+use Rattle.std.proofs.Common.{Option, Some, None, slice_get, refl, ap, sym, ◌∙◌, arith}
 use Rattle.std.specs.Option.{option_and_then, option_map, option_or}
 use Rattle.std.proofs.lemmas.Option.{slice_get_past}
 use Rattle.naga_ir.specs.declared.binding.Binding.{Binding}

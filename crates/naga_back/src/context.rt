@@ -3,7 +3,9 @@
 ghost use Rattle.std.specs.Prelude.{◌≡◌, ◌<◌, Some, length, slice_get};
 ghost use Rattle.std.specs.Option.{ForSome};
 ghost use Rattle.naga_info.specs.Resolution.{InRange};
-ghost use Rattle.naga_back.specs.FunctionContext.{IsFunction, IsInRange, argument_key, external_texture_key, is_compute_like, local_key, type_at};
+ghost use Rattle.naga_back.specs.FunctionContext.{IsFunction, IsInRange, argument_key};
+ghost use Rattle.naga_back.specs.FunctionContext.{external_texture_key, is_compute_like, local_key};
+ghost use Rattle.naga_back.specs.FunctionContext.{type_at};
 
 use indexmap::IndexMap;
 use naga_info::FunctionInfo;

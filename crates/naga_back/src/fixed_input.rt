@@ -2,7 +2,8 @@
 
 ghost use Rattle.std.specs.Prelude.{◌≡◌, Some, None, slice_get, length};
 ghost use Rattle.std.specs.Option.{option_and_then, option_map, option_copied, option_or};
-ghost use Rattle.naga_back.specs.FixedInput.{builtin_of, first_builtin, fixed_input, member_binding, member_of, way_of};
+ghost use Rattle.naga_back.specs.FixedInput.{builtin_of, first_builtin, fixed_input};
+ghost use Rattle.naga_back.specs.FixedInput.{member_binding, member_of, way_of};
 ghost use Rattle.naga_back.specs.FunctionContext.{IsInRange, type_at};
 
 use crate::context::{FunctionCtx, FunctionType};

@@ -1,4 +1,5 @@
--- What is written of a function is read as the function's shape says: the abstraction of its form is the form of its shape.
+-- What is written of a function is read as the function's shape says: the abstraction of its form
+-- is the form of its shape.
 use Rattle.std.proofs.Common.{◌≡◌, ℕ, suc, Bool, true, false, List, [], ◌∷◌, ◌++◌, length, refl}
 use Rattle.std.proofs.Common.{sym, ap, ◌∙◌, arith, zero, ◌+◌, pos, negsuc, map, Option, Some, None}
 use Rattle.std.proofs.Common.{add-one, add-zero, zero-add, ◌-◌}

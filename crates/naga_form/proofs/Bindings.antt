@@ -1,8 +1,11 @@
 -- The `let`s of what is written are those of the bound handles.
-use Rattle.std.proofs.Common.{◌≡◌, ℕ, ◌+◌, ◌-◌, Bool, true, false, List, [], ◌∷◌, ◌++◌, map, Option, Some, None, refl, sym, ap, ◌∙◌}
+use Rattle.std.proofs.Common.{◌≡◌, ℕ, ◌+◌, ◌-◌, Bool, true, false, List, [], ◌∷◌, ◌++◌, map, Option}
+use Rattle.std.proofs.Common.{Some, None, refl, sym, ap, ◌∙◌}
 use Rattle.std.specs.Prelude.{IsTrue, slice_get, cond}
 use Rattle.std.proofs.lemmas.List.{map-append}
-use Rattle.naga_ir.specs.StatementTree.{SimpleStatement, emit, return, StatementTree, simple, block, branch, switch, loop, BlockTree, no_statements, statement, CaseTrees, no_cases, case}
+use Rattle.naga_ir.specs.StatementTree.{SimpleStatement, emit, return, StatementTree, simple, block}
+use Rattle.naga_ir.specs.StatementTree.{branch, switch, loop, BlockTree, no_statements, statement}
+use Rattle.naga_ir.specs.StatementTree.{CaseTrees, no_cases, case}
 use Rattle.naga_ir.specs.declared.expression.Expression as ir
 use Rattle.naga_ir.specs.declared.module.Function as ir_function
 use Rattle.naga_ir.specs.declared.module.Module.{Module}
@@ -13,8 +16,10 @@ use Rattle.module_meaning.specs.Accepted.{is_accepted}
 use Rattle.naga_names.specs.Keys.{NameMap}
 use Rattle.naga_words.specs.Contexts.{names_of, Names as TypeNames}
 use Rattle.shader_runs.specs.Program.{binds, from}
-use Rattle.shader_runs.specs.Scope.{Handles, Naming, at_start, bound_name, given_after, given_by, given_by_all, after_one, after, after_all}
-use Rattle.shader_runs.specs.Bindings.{text_lets, Binding, function_bindings, emit_bindings, statement_bindings, statements_bindings, cases_bindings}
+use Rattle.shader_runs.specs.Scope.{Handles, Naming, at_start, bound_name, given_after, given_by}
+use Rattle.shader_runs.specs.Scope.{given_by_all, after_one, after, after_all}
+use Rattle.shader_runs.specs.Bindings.{text_lets, Binding, function_bindings, emit_bindings}
+use Rattle.shader_runs.specs.Bindings.{statement_bindings, statements_bindings, cases_bindings}
 use Rattle.shader_runs.proofs.Bindings.{binds_as_meant}
 use Rattle.wgsl_text.specs.Types.{TypeSpecifier}
 use Rattle.naga_form.specs.Expressions.{as_value, own_if, plain_form}
@@ -35,8 +40,11 @@ use Rattle.naga_form.specs.TypeTrees.{resolution_tree}
 use Rattle.naga_form.specs.Types.{told_type}
 use Rattle.module_meaning.specs.Types.{told_spelling, spelled_resolution}
 use Rattle.module_meaning.specs.Names.{module_names}
-use Rattle.module_meaning.specs.Shapes.{simple_shape, statement_shape, statements_shape, cases_shape, function_shapes, program_shape, namings_from, namings, outer_names, function_naming}
-use Rattle.text_meaning.specs.Bindings.{statement_annotations, statements_annotations, cases_annotations}
+use Rattle.module_meaning.specs.Shapes.{simple_shape, statement_shape, statements_shape}
+use Rattle.module_meaning.specs.Shapes.{cases_shape, function_shapes, program_shape, namings_from}
+use Rattle.module_meaning.specs.Shapes.{namings, outer_names, function_naming}
+use Rattle.text_meaning.specs.Bindings.{statement_annotations, statements_annotations}
+use Rattle.text_meaning.specs.Bindings.{cases_annotations}
 use Rattle.module_meaning.specs.Bindings.{module_annotations, BindsAs}
 use Rattle.naga_form.proofs.Runs.{program_reads}
 

@@ -1,5 +1,6 @@
 -- What is known of each expression of an accepted function.
-use Rattle.std.proofs.Common.{[], arith, ◌≡◌, ℕ, ◌+◌, suc, zero, List, ◌∷◌, length, Option, Some, None, refl, subst}
+use Rattle.std.proofs.Common.{[], arith, ◌≡◌, ℕ, ◌+◌, suc, zero, List, ◌∷◌, length, Option, Some}
+use Rattle.std.proofs.Common.{None, refl, subst}
 use Rattle.std.specs.Prelude.{IsTrue, slice_get}
 use Rattle.naga_ir.specs.declared.expression.Expression.{Expression}
 use Rattle.naga_ir.specs.declared.module.Function.{Function}

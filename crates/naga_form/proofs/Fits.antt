@@ -1,10 +1,15 @@
--- An accepted function meets what the law of runs asks of its shape, where its handles are in scope.
-use Rattle.std.proofs.Common.{[], ◌≡◌, ◌≢◌, ℕ, suc, zero, Bool, true, false, ◌<◌, List, ◌∷◌, map, length, Option, Some, None, refl, sym, ap, subst, ◌∙◌, arith, ◌+◌, ◌-◌, take, codes, nat_eq, true≢false}
+-- An accepted function meets what the law of runs asks of its shape, where its handles are in
+-- scope.
+use Rattle.std.proofs.Common.{[], ◌≡◌, ◌≢◌, ℕ, suc, zero, Bool, true, false, ◌<◌, List, ◌∷◌, map}
+use Rattle.std.proofs.Common.{length, Option, Some, None, refl, sym, ap, subst, ◌∙◌, arith, ◌+◌}
+use Rattle.std.proofs.Common.{◌-◌, take, codes, nat_eq, true≢false}
 use Rattle.std.specs.Prelude.{IsTrue, slice_get, unwrap_or, ◌==◌, get_or, cond, if◌then◌else◌, not}
 use Rattle.std.specs.Prelude.{◌&&◌, ◌||◌}
 use Rattle.std.specs.Option.{option_map}
 use Rattle.std.proofs.lemmas.Bool.{and_parts, eqb-true}
-use Rattle.naga_ir.specs.StatementTree.{emit, store, return, StatementTree, simple, block, branch, switch, loop, BlockTree, no_statements, statement, CaseTrees, no_cases, case}
+use Rattle.naga_ir.specs.StatementTree.{emit, store, return, StatementTree, simple, block, branch}
+use Rattle.naga_ir.specs.StatementTree.{switch, loop, BlockTree, no_statements, statement}
+use Rattle.naga_ir.specs.StatementTree.{CaseTrees, no_cases, case}
 use Rattle.naga_ir.specs.declared.expression.Expression as ir
 use Rattle.naga_ir.specs.declared.expression.Literal as ir_literal
 use Rattle.naga_ir.specs.declared.expression.Literal.TheVariants as literal
@@ -22,9 +27,15 @@ use Rattle.module_meaning.specs.Part.{names_nothing}
 use Rattle.naga_names.specs.Reset.{Labelled, labelled_items, labels_of}
 use Rattle.shader_runs.specs.Value.{ValueType, BooleanType, PointerType, type_at}
 use Rattle.shader_runs.specs.Program as shapes
-use Rattle.shader_runs.specs.Program.{operands_of, handle_type, argument_count, expression_of, is_given, local_count, from}
-use Rattle.shader_runs.specs.Scope.{Naming, given_by_all, given_by_cases, given_after, given_after_all, given_by, fits_function}
-use Rattle.shader_runs.specs.Premises.{AllBelow, WordFits, IsLiteral, literal_type, LeafFits, ReturnFits, AreRegular, AreDistinct, FunctionFits, FixedKey, NumberedKey, GivenKey, ArgumentName, LocalName, ConstantName, GlobalName, OperatesBy, StandsFree, IsNoName, IsRegular, IsName, NameKey, name_at}
+use Rattle.shader_runs.specs.Program.{operands_of, handle_type, argument_count, expression_of}
+use Rattle.shader_runs.specs.Program.{is_given, local_count, from}
+use Rattle.shader_runs.specs.Scope.{Naming, given_by_all, given_by_cases, given_after}
+use Rattle.shader_runs.specs.Scope.{given_after_all, given_by, fits_function}
+use Rattle.shader_runs.specs.Premises.{AllBelow, WordFits, IsLiteral, literal_type, LeafFits}
+use Rattle.shader_runs.specs.Premises.{ReturnFits, AreRegular, AreDistinct, FunctionFits, FixedKey}
+use Rattle.shader_runs.specs.Premises.{NumberedKey, GivenKey, ArgumentName, LocalName, ConstantName}
+use Rattle.shader_runs.specs.Premises.{GlobalName, OperatesBy, StandsFree, IsNoName, IsRegular}
+use Rattle.shader_runs.specs.Premises.{IsName, NameKey, name_at}
 use Rattle.naga_info.proofs.Options.{then_some}
 use Rattle.shader_runs.proofs.Update.{and_left, and_right}
 use Rattle.naga_form.proofs.TypeIdentity.{declared_spelling}
@@ -35,8 +46,11 @@ use Rattle.naga_names.proofs.Refusal.{element}
 use Rattle.module_meaning.proofs.Accepted.{function_fits_expressions, function_fits_block}
 use Rattle.module_meaning.proofs.Accepted.{function_fits_word_at, local_word_at, load_word_at}
 use Rattle.module_meaning.proofs.Accepted.{applied_at}
-use Rattle.module_meaning.specs.Names.{argument_name, numbered_name, wgsl_names, module_names, name_in, function_name, local_name, numbered_text, NamesAreCounted}
-use Rattle.module_meaning.specs.Types.{value_type, pointer_to_local, declared_type, type_spelled, type_told}
+use Rattle.module_meaning.specs.Names.{argument_name, numbered_name, wgsl_names, module_names}
+use Rattle.module_meaning.specs.Names.{name_in, function_name, local_name, numbered_text}
+use Rattle.module_meaning.specs.Names.{NamesAreCounted}
+use Rattle.module_meaning.specs.Types.{value_type, pointer_to_local, declared_type, type_spelled}
+use Rattle.module_meaning.specs.Types.{type_told}
 use Rattle.naga_info.specs.declared.info.TypeResolution.TheVariants.{Handle}
 use Rattle.module_meaning.specs.TypeIdentity.{Nothing, identity}
 use Rattle.module_meaning.specs.Literals.{literal_value}

@@ -1,4 +1,5 @@
--- An accepted module has a typed meaning and a world that keeps the types, and no run of it is stuck.
+-- An accepted module has a typed meaning and a world that keeps the types, and no run of it is
+-- stuck.
 use Rattle.std.proofs.Common.{[], ◌≡◌, ℕ, suc, zero, Bool, true, false, List, ◌∷◌, length, map}
 use Rattle.std.proofs.Common.{Option, Some, None, refl, sym, ap, subst, ◌∙◌, ◌⊎◌, inl, inr, codes}
 use Rattle.std.specs.Prelude.{IsTrue, slice_get, reverse, cond, if◌then◌else◌}
@@ -7,7 +8,8 @@ use Rattle.std.specs.List.{starts_with}
 use Rattle.std.specs.Bool.{nat_eq}
 use Rattle.std.specs.Str.{bytes_eq}
 use Rattle.std.proofs.lemmas.Slice.Eq.{bytes_eq-Decides}
-use Rattle.naga_ir.specs.StatementTree.{BlockTree, no_statements, statement, emit, store, return, StatementTree, simple}
+use Rattle.naga_ir.specs.StatementTree.{BlockTree, no_statements, statement, emit, store, return}
+use Rattle.naga_ir.specs.StatementTree.{StatementTree, simple}
 use Rattle.naga_ir.specs.declared.expression.Expression as ir
 use Rattle.naga_ir.specs.declared.expression.Expression.TheVariants as expression
 use Rattle.naga_ir.specs.declared.module.Function as ir_function
@@ -18,7 +20,8 @@ use Rattle.naga_info.specs.declared.info.ExpressionInfo.{ExpressionInfo}
 use Rattle.naga_info.specs.declared.info.ModuleInfo.{ModuleInfo}
 use Rattle.std.proofs.lemmas.Option.{same_Some}
 use Rattle.module_meaning.specs.Spelled.{spelling_at, local_pointer}
-use Rattle.module_meaning.specs.Accepted.{is_accepted, function_fits, functions_fit, statement_fits, block_fits}
+use Rattle.module_meaning.specs.Accepted.{is_accepted, function_fits, functions_fit, statement_fits}
+use Rattle.module_meaning.specs.Accepted.{block_fits}
 use Rattle.naga_form.specs.Declarations.{written_program}
 use Rattle.module_meaning.proofs.Accepted.{accepted_parts, function_fits_block, load_word_at}
 use Rattle.module_meaning.proofs.Accepted.{IsOperation, applied_at, store_fits_word}
@@ -27,17 +30,21 @@ use Rattle.module_meaning.proofs.Shapes.{accepted_is, accepted_shape, applicatio
 use Rattle.module_meaning.specs.Applications.{Application, application_of}
 use Rattle.module_meaning.specs.OperatorTable.{run_word}
 use Rattle.module_meaning.specs.Operations.{spelling_then, spellings_at}
-use Rattle.shader_runs.specs.Value.{ValueType, BooleanType, IntegerType, PointerType, OtherType, Spelled, Value}
+use Rattle.shader_runs.specs.Value.{ValueType, BooleanType, IntegerType, PointerType, OtherType}
+use Rattle.shader_runs.specs.Value.{Spelled, Value}
 use Rattle.shader_runs.specs.World.{World, Meaning, Event, entries, Environment}
 use Rattle.shader_runs.specs.Outcome.{Reached, and_then, answer}
 use Rattle.shader_runs.specs.Program as shapes
 use Rattle.shader_runs.specs.Program.{handle_type, expression_of, argument_count}
-use Rattle.shader_runs.specs.ProgramRun.{Call, Kept, constants_kept, first_used_all, entered, run, run_all, run_body, called, run_call}
+use Rattle.shader_runs.specs.ProgramRun.{Call, Kept, constants_kept, first_used_all, entered, run}
+use Rattle.shader_runs.specs.ProgramRun.{run_all, run_body, called, run_call}
 use Rattle.shader_runs.specs.Constants.{environment_of, run_module, follow_module}
 use Rattle.shader_runs.specs.Text.{TextModule}
 use Rattle.shader_runs.specs.Correct.{KeepsTypes}
-use Rattle.shader_runs.specs.Progress.{IsNotStuck, IsPointer, LoadFits, AreWellFormed, IsWellFormed, FunctionIsWellFormed, AllWellFormed}
-use Rattle.shader_runs.specs.Typing.{Signature, signatures_of, IsOneOf, first_of, later_of, IsSpelled, in_function, in_initialiser, PartsFit}
+use Rattle.shader_runs.specs.Progress.{IsNotStuck, IsPointer, LoadFits, AreWellFormed, IsWellFormed}
+use Rattle.shader_runs.specs.Progress.{FunctionIsWellFormed, AllWellFormed}
+use Rattle.shader_runs.specs.Typing.{Signature, signatures_of, IsOneOf, first_of, later_of}
+use Rattle.shader_runs.specs.Typing.{IsSpelled, in_function, in_initialiser, PartsFit}
 use Rattle.shader_runs.specs.Premises.{handle_types}
 use Rattle.shader_runs.proofs.Update.{and_left, and_right}
 use Rattle.shader_runs.proofs.Typing.{has_typed_meaning, no_signature}
@@ -51,7 +58,8 @@ use Rattle.module_meaning.specs.Shapes.{operator_shape, expression_shape, statem
 use Rattle.module_meaning.specs.Shapes.{statements_shape, function_shape, function_shapes}
 use Rattle.module_meaning.specs.Shapes.{program_shape, namings, outer_names}
 use Rattle.wgsl_text.specs.Requests.{is_request}
-use Rattle.module_meaning.specs.Meanings.{OperatorsAreConsistent, HasTypedMeaning, HasTypedWorld, IsNeverStuck}
+use Rattle.module_meaning.specs.Meanings.{OperatorsAreConsistent, HasTypedMeaning, HasTypedWorld}
+use Rattle.module_meaning.specs.Meanings.{IsNeverStuck}
 use Rattle.naga_form.proofs.Fits.{typed_as, at_any}
 use Rattle.naga_form.proofs.ScopeRules.{scopes_are_checked}
 use Rattle.naga_form.proofs.Runs.{module_fits, program_reads}
@@ -212,7 +220,8 @@ only_one : (x y : Signature) → IsOneOf x (y ∷ []) → x ≡ y
 only_one x y first_of = refl
 only_one x y (later_of there) = absurd (no_signature x there)
 
--- the integers, locals and so on of an accepted function spell nothing; an operator between two operands has its signature
+-- the integers, locals and so on of an accepted function spell nothing; an operator between two
+-- operands has its signature
 module _ (types : List Type_) (fs : List ir_function.Function) (ess : List (List ExpressionInfo)) (p : shapes.Module) (g : ℕ) (f : ir_function.Function) (f_at : slice_get fs g ≡ Some f) (es : List ExpressionInfo) (es_at : slice_get ess g ≡ Some es) (fit : function_fits types f es ≡ true) where
   abbrev own : shapes.Function
   own = function_shape types f es

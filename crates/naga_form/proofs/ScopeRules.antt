@@ -1,4 +1,5 @@
--- The check of scope decides whether the rules of scope hold in each function of an accepted module.
+-- The check of scope decides whether the rules of scope hold in each function of an accepted
+-- module.
 use Rattle.std.proofs.Common.{[], ◌≡◌, ℕ, ◌+◌, true, List, ◌∷◌, map, refl, ap, subst, ◌∙◌}
 use Rattle.std.specs.Prelude.{IsTrue, reverse, ◌↔◌}
 use Rattle.std.specs.List.{list_all}
@@ -22,7 +23,8 @@ use Rattle.shader_runs.proofs.ScopeRules.{scope_check_is_the_rules}
 use Rattle.shader_runs.proofs.Update.{and_left, and_right}
 use Rattle.module_meaning.specs.Names.{module_names}
 use Rattle.module_meaning.specs.Premises.{scope_holds, EachScopeHolds, ScopesHold}
-use Rattle.module_meaning.specs.Shapes.{function_shapes, program_shape, namings_from, namings, function_naming}
+use Rattle.module_meaning.specs.Shapes.{function_shapes, program_shape, namings_from, namings}
+use Rattle.module_meaning.specs.Shapes.{function_naming}
 use Rattle.naga_form.proofs.Fits.{ordered}
 
 pub functions_of-map : (ns : List Naming) → functions_of ns ≡ map (λ n. n.function) ns

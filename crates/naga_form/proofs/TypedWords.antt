@@ -1,5 +1,6 @@
 -- The words of operators that take a type are told from all others, and tell the type.
-use Rattle.std.proofs.Common.{[], ◌≡◌, ℕ, Bool, true, false, not, ◌&&◌, ◌||◌, List, ◌∷◌, ◌++◌, codes, drop, Some, None, refl, sym, ap, subst, ◌∙◌}
+use Rattle.std.proofs.Common.{[], ◌≡◌, ℕ, Bool, true, false, not, ◌&&◌, ◌||◌, List, ◌∷◌, ◌++◌}
+use Rattle.std.proofs.Common.{codes, drop, Some, None, refl, sym, ap, subst, ◌∙◌}
 use Rattle.std.specs.Prelude.{if◌then◌else◌}
 use Rattle.std.specs.Str.{bytes_eq}
 use Rattle.std.specs.Bool.{nat_eq}
@@ -9,7 +10,8 @@ use Rattle.std.specs.Option.{option_or}
 use Rattle.std.proofs.lemmas.Bool.{false≢true, true≢false, and_parts, eqb-true}
 use Rattle.std.proofs.lemmas.List.{append_cancel_left, append_cancel_right}
 use Rattle.std.proofs.lemmas.Slice.Eq.{bytes_eq-Decides}
-use Rattle.wgsl_text.specs.Words.{is_word_text, is_letter, all_word_bytes, is_word_byte, stands_in, is_builtin}
+use Rattle.wgsl_text.specs.Words.{is_word_text, is_letter, all_word_bytes, is_word_byte, stands_in}
+use Rattle.wgsl_text.specs.Words.{is_builtin}
 use Rattle.wgsl_text.specs.Types.{TypeSpecifier, Named, Template, TypeParts, has_gaps, parts_pieces}
 use Rattle.wgsl_text.specs.Types.{plain_type_words, is_type, TakesNone, rule_among, type_templates}
 use Rattle.wgsl_text.specs.Types.{fits, IsPart, IsType}

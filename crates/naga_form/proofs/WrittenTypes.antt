@@ -1,5 +1,6 @@
 -- The types of an accepted module are written by their words, and are types of the grammar.
-use Rattle.std.proofs.Common.{[], ◌≡◌, ℕ, ◌<◌, Bool, true, false, List, length, Option, Some, None, refl, sym, ap, subst, ◌∙◌, codes, slice_get, ◌==◌}
+use Rattle.std.proofs.Common.{[], ◌≡◌, ℕ, ◌<◌, Bool, true, false, List, length, Option, Some, None}
+use Rattle.std.proofs.Common.{refl, sym, ap, subst, ◌∙◌, codes, slice_get, ◌==◌}
 use Rattle.std.specs.Prelude.{IsTrue, unwrap_or, if◌then◌else◌}
 use Rattle.std.specs.List.{list_all}
 use Rattle.std.specs.Option.{option_map, option_and_then}
@@ -18,7 +19,8 @@ use Rattle.naga_info.specs.declared.info.TypeResolution.{TypeResolution}
 use Rattle.naga_info.specs.declared.info.TypeResolution.TheVariants.{Handle, Value}
 use Rattle.module_meaning.specs.Accepted.{is_scalar_type, function_fits}
 use Rattle.naga_info.specs.Resolution.{inner_of}
-use Rattle.module_meaning.specs.Spelled.{word_of_width, word_of_type, word_at, pointer_spelling, spelling, spelling_of}
+use Rattle.module_meaning.specs.Spelled.{word_of_width, word_of_type, word_at, pointer_spelling}
+use Rattle.module_meaning.specs.Spelled.{spelling, spelling_of}
 use Rattle.naga_info.proofs.Options.{map_some, then_some}
 use Rattle.wgsl_text.specs.Types.{TypeSpecifier, Named, IsType, of_two}
 use Rattle.wgsl_text.proofs.Building.{scalar_word_is, pointer_to_is}
@@ -27,7 +29,8 @@ use Rattle.module_meaning.proofs.Accepted.{function_fits_word_at}
 use Rattle.wgsl_words.specs.Words.{scalar_word_of, space_word, space_access_word}
 use Rattle.naga_names.specs.Keys.{NameMap}
 use Rattle.naga_words.specs.Contexts.{names_of, Names as TypeNames}
-use Rattle.naga_form.specs.TypeTrees.{inner_tree, named_tree_by, pointer_tree_in, found_tree_by, tree_within, type_tree, resolution_tree}
+use Rattle.naga_form.specs.TypeTrees.{inner_tree, named_tree_by, pointer_tree_in, found_tree_by}
+use Rattle.naga_form.specs.TypeTrees.{tree_within, type_tree, resolution_tree}
 use Rattle.wgsl_text.specs.Tables.{scalar_words}
 use Rattle.wgsl_text.specs.Words.{stands_in}
 use Rattle.wgsl_text.proofs.ValueWords.{value_words}

@@ -1,5 +1,6 @@
 -- Literals: how they are written, and the values that they have in the module and in its text.
-use Rattle.std.specs.Prelude.{ℕ, suc, ℤ, pos, negsuc, Bool, true, false, List, ◌==◌, IsTrue, slice_get, if◌then◌else◌}
+use Rattle.std.specs.Prelude.{ℕ, suc, ℤ, pos, negsuc, Bool, true, false, List, ◌==◌, IsTrue}
+use Rattle.std.specs.Prelude.{slice_get, if◌then◌else◌}
 use Rattle.naga_ir.specs.declared.expression.Literal as ir
 use Rattle.naga_ir.specs.declared.expression.Literal.TheVariants as literal
 use Rattle.naga_ir.specs.declared.expression.Expression.{Expression}

@@ -3,7 +3,8 @@
 --
 -- Throughout, n are the names of structs and overrides, f gives the tree of the type at a handle, t
 -- is the type there, and s the tree of a scalar.
-use Rattle.std.specs.Prelude.{ℕ, zero, suc, Bool, true, false, if◌then◌else◌, List, Option, Some, None, codes, slice_get}
+use Rattle.std.specs.Prelude.{ℕ, zero, suc, Bool, true, false, if◌then◌else◌, List, Option, Some}
+use Rattle.std.specs.Prelude.{None, codes, slice_get}
 use Rattle.std.specs.Option.{option_map}
 use Rattle.std.specs.Int.NonZero.{non_zero_u32_get}
 use Rattle.wgsl_text.specs.Types.{TypeSpecifier, Named, Template, NoParts, TypePart, SizePart}
@@ -20,8 +21,10 @@ use Rattle.naga_ir.specs.declared.types.Scalar.{Scalar}
 use Rattle.naga_ir.specs.declared.image.ImageClass.{ImageClass}
 use Rattle.naga_ir.specs.declared.image.ImageClass.TheVariants as class
 use Rattle.naga_ir.specs.declared.image.ImageDimension.{ImageDimension}
-use Rattle.wgsl_words.specs.Words.{scalar_word, space_word, space_access_word, image_access_word, role_word, format_word}
-use Rattle.naga_words.specs.Words.{vector_word, matrix_word, cooperative_word, image_word, sampler_word}
+use Rattle.wgsl_words.specs.Words.{scalar_word, space_word, space_access_word, image_access_word}
+use Rattle.wgsl_words.specs.Words.{role_word, format_word}
+use Rattle.naga_words.specs.Words.{vector_word, matrix_word, cooperative_word, image_word}
+use Rattle.naga_words.specs.Words.{sampler_word}
 use Rattle.naga_words.specs.Contexts.{Names}
 use Rattle.naga_words.specs.Spelling.{is_struct}
 

@@ -1,6 +1,7 @@
 //! Lists that hand out the place of each item, and the handles that name those places.
 
-ghost use Rattle.std.specs.Prelude.{◌≡◌, ℕ, ◌<◌, ◌==◌, List, [], ◌∷◌, ◌++◌, length, drop, OnErr, IfOk, slice_get, Some};
+ghost use Rattle.std.specs.Prelude.{◌≡◌, ℕ, ◌<◌, ◌==◌, List, [], ◌∷◌, ◌++◌, length, drop, OnErr};
+ghost use Rattle.std.specs.Prelude.{IfOk, slice_get, Some};
 ghost use Rattle.std.specs.Iterator.{YieldsFirstBy, item_count};
 ghost use Rattle.std.specs.List.{enumerate_from};
 
@@ -15,7 +16,8 @@ pub trait Item {
     type Mark;
 }
 
-/// The place of an item in an [`Arena<T>`] or a [`UniqueArena<T>`](crate::UniqueArena), counted from zero.
+/// The place of an item in an [`Arena<T>`] or a [`UniqueArena<T>`](crate::UniqueArena), counted
+/// from zero.
 pub type Handle<T> = Place<<T as Item>::Mark>;
 
 /// What [`Handle`] stands for: an index, with the mark of the items that it is an index of.

@@ -98,7 +98,8 @@ impl Flags for Barrier {
 
     ghost exact = { ⊤ };
 
-    ghost table = { (codes "STORAGE", 1) ∷ (codes "WORK_GROUP", 2) ∷ (codes "SUB_GROUP", 4) ∷ (codes "TEXTURE", 8) ∷ [] };
+    ghost table = { (codes "STORAGE", 1) ∷ (codes "WORK_GROUP", 2) ∷ (codes "SUB_GROUP", 4)
+        ∷ (codes "TEXTURE", 8) ∷ [] };
 
     ghost set_of = { λ f. f.0 };
 

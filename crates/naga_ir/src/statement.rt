@@ -2,7 +2,8 @@
 
 ghost use Rattle.std.specs.Prelude.{◌≡◌, IfOk, OnErr};
 ghost use Rattle.std.specs.Slice.Iter.{iter_rest};
-ghost use Rattle.naga_ir.specs.StatementTree.{no_statements, statement_count, has_no_statements, with_statement};
+ghost use Rattle.naga_ir.specs.StatementTree.{no_statements, statement_count, has_no_statements};
+ghost use Rattle.naga_ir.specs.StatementTree.{with_statement};
 ghost use Rattle.naga_ir.specs.StatementViews.{tree_of, block_of};
 
 use crate::arena::Handle;

@@ -51,7 +51,8 @@ pub enum ScalarKind {
     Bool,
     /// An integer of WGSL's constant expressions. It has no type of its own in a shader.
     AbstractInt,
-    /// A floating-point number of WGSL's constant expressions. It has no type of its own in a shader.
+    /// A floating-point number of WGSL's constant expressions. It has no type of its own in a
+    /// shader.
     AbstractFloat,
 }
 
@@ -249,8 +250,8 @@ pub enum TypeInner {
         /// Where that lives.
         space: AddressSpace,
     },
-    /// A pointer to a scalar or a vector that has no type of its own in the module, such as one into
-    /// a vector: `ptr<function, vec3<f32>>`.
+    /// A pointer to a scalar or a vector that has no type of its own in the module, such as one
+    /// into a vector: `ptr<function, vec3<f32>>`.
     ValuePointer {
         /// How many scalars; none for one scalar by itself.
         size: Option<VectorSize>,

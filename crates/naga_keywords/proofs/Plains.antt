@@ -1,5 +1,6 @@
 -- The tests of a word are the rule.
-use Rattle.std.proofs.Common.{◌≡◌, ℕ, get_or, List, [], ◌∷◌, ◌++◌, true, false, not, ◌&&◌, ◌==◌, ap, sym, ◌∙◌}
+use Rattle.std.proofs.Common.{◌≡◌, ℕ, get_or, List, [], ◌∷◌, ◌++◌, true, false, not, ◌&&◌, ◌==◌, ap}
+use Rattle.std.proofs.Common.{sym, ◌∙◌}
 use Rattle.std.specs.List.{list_all, All}
 use Rattle.std.proofs.lemmas.List.Sums.{AllPass-from_list_all}
 use Rattle.std.specs.Char.{is_ascii_digit}

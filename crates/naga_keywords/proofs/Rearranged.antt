@@ -1,10 +1,13 @@
 -- Lists of words in the order of their bytes.
-use Rattle.std.proofs.Common.{◌≡◌, ℕ, Bool, true, false, List, [], ◌∷◌, cond, IfOk, Result, Ok, Err, sym, ◌∙◌, subst}
+use Rattle.std.proofs.Common.{◌≡◌, ℕ, Bool, true, false, List, [], ◌∷◌, cond, IfOk, Result, Ok, Err}
+use Rattle.std.proofs.Common.{sym, ◌∙◌, subst}
 use Rattle.std.specs.Cmp.Lexicographic.{nat_list_cmp_total}
 use Rattle.std.specs.FinSet as set
 use Rattle.std.specs.List.Sorted.{IsPermutation}
 use Rattle.std.specs.Ordering.{eq_by_cmp, is_lt}
-use Rattle.std.proofs.lemmas.List.Sorted.{IsPermutation-cons, IsPermutation-refl, IsPermutation-trans, IsPermutation-middle, list_any-IsPermutation}
+use Rattle.std.proofs.lemmas.List.Sorted.{IsPermutation-cons, IsPermutation-refl}
+use Rattle.std.proofs.lemmas.List.Sorted.{IsPermutation-trans, IsPermutation-middle}
+use Rattle.std.proofs.lemmas.List.Sorted.{list_any-IsPermutation}
 use Rattle.naga_keywords.specs.SortedWords.{word_cmp}
 use Rattle.naga_keywords.specs.Words.{Words, alike_words}
 

@@ -1,7 +1,9 @@
 -- Finite sets of words that are kept in ascending order.
 --
 -- Throughout, ks are the words, and w is the wanted one.
-use Rattle.std.proofs.Common.{◌≡◌, ℕ, zero, suc, ◌+◌, ◌<◌, Bool, true, false, ◌||◌, ◌&&◌, cond, nat_lt, List, [], ◌∷◌, length, get_or, refl, sym, ap, subst, ◌∙◌, arith, if◌then◌else◌, Result, Ok, Err, OnErr}
+use Rattle.std.proofs.Common.{◌≡◌, ℕ, zero, suc, ◌+◌, ◌<◌, Bool, true, false, ◌||◌, ◌&&◌, cond}
+use Rattle.std.proofs.Common.{nat_lt, List, [], ◌∷◌, length, get_or, refl, sym, ap, subst, ◌∙◌}
+use Rattle.std.proofs.Common.{arith, if◌then◌else◌, Result, Ok, Err, OnErr}
 use Rattle.std.specs.Cmp.{Equal-is, both_ways, tied_itself}
 use Rattle.std.specs.Cmp.Lexicographic.{nat_list_cmp_total}
 use Rattle.std.specs.FinSet as set
@@ -17,7 +19,8 @@ use Rattle.std.proofs.lemmas.List.Sorted.{IsPermutation-insert}
 use Rattle.naga_keywords.proofs.SetLemmas.{or_true_right, texts_of-again, texts_of-permuted}
 use Rattle.std.proofs.lemmas.Map.Lookups.{exact_bytes}
 use Rattle.std.proofs.lemmas.Map.Keys.{sorted_head, sorted_tail}
-use Rattle.naga_keywords.specs.SortedWords.{IsFoundAt, IsPlaceOf, Seen, StandsAt, keys_of, read, seen_words, word_cmp}
+use Rattle.naga_keywords.specs.SortedWords.{IsFoundAt, IsPlaceOf, Seen, StandsAt, keys_of, read}
+use Rattle.naga_keywords.specs.SortedWords.{seen_words, word_cmp}
 use Rattle.naga_keywords.specs.declared.sorted.Case.{Case}
 use Rattle.naga_keywords.specs.Words.{Words}
 use denote.Ref.{Bor}

@@ -19,8 +19,8 @@ abbrev pub is_empty_or_separated : List ℕ → Bool
 is_empty_or_separated [] = true
 is_empty_or_separated (c ∷ cs) = c == 95
 
--- an identifier has ASCII letters, digits and `_` alone, begins with no digit and not with `__`, and
--- is not `_`
+-- an identifier has ASCII letters, digits and `_` alone, begins with no digit and not with `__`,
+-- and is not `_`
 abbrev pub is_identifier : List ℕ → Bool
 is_identifier [] = false
 is_identifier (c ∷ cs) =

@@ -480,8 +480,8 @@ pub const BUILTIN_IDENTIFIERS_BY_BYTES: &[&str] = &[
     "write",
 ];
 
-/// The tables in the order of their bytes have the words of the tables themselves, each as often. It
-/// does nothing; its contract says so.
+/// The tables in the order of their bytes have the words of the tables themselves, each as often.
+/// It does nothing; its contract says so.
 pub fn tables_are_rearranged()
     ensures reserved { IsPermutation (map (λ word. word.now) RESERVED.now)
         (map (λ word. word.now) RESERVED_BY_BYTES.now) }

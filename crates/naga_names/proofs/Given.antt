@@ -1,11 +1,14 @@
 -- The identifiers given so far follow from the uses, and the next one is new.
-use Rattle.std.proofs.Common.{◌≡◌, ℕ, ◌+◌, ◌<◌, ◌≤◌, ◌^◌, zero, suc, Bool, true, false, cond, List, [], ◌∷◌, ◌++◌, take, Some, refl, ap, sym, subst, ◌∙◌, arith, unwrap_or, slice_get}
+use Rattle.std.proofs.Common.{◌≡◌, ℕ, ◌+◌, ◌<◌, ◌≤◌, ◌^◌, zero, suc, Bool, true, false, cond, List}
+use Rattle.std.proofs.Common.{[], ◌∷◌, ◌++◌, take, Some, refl, ap, sym, subst, ◌∙◌, arith}
+use Rattle.std.proofs.Common.{unwrap_or, slice_get}
 use Rattle.std.specs.Str.{bytes_eq, chars}
 use Rattle.std.specs.Cmp.Lexicographic.{bytes_decides}
 use Rattle.std.proofs.lemmas.List.Sums.{sum_by-cons}
 use Rattle.std.proofs.lemmas.Option.{none-some}
 use Rattle.naga_names.specs.Label.{ends_separated}
-use Rattle.naga_names.specs.Naming.{Names, uses_of, label_base, labels_with_base, name_of, name_of_base, HasNamed}
+use Rattle.naga_names.specs.Naming.{Names, uses_of, label_base, labels_with_base, name_of}
+use Rattle.naga_names.specs.Naming.{name_of_base, HasNamed}
 use Rattle.naga_names.specs.Laws.{WasGiven, FollowsFromUses}
 use Rattle.naga_names.proofs.Label.{base_ends}
 use Rattle.naga_names.proofs.NameShapes.{counted_more, same_base_and_number}

@@ -45,7 +45,8 @@ abbrev pub part_code : ExternalTextureNameKey → ℕ
 part_code (Plane n) = n + 2
 part_code Params = 1
 
--- the group of a key (types, entry points, functions, globals, constants, overrides), its owner's place, and what of the owner it is for: the kind, the place among that kind, and the part
+-- the group of a key (types, entry points, functions, globals, constants, overrides), its owner's
+-- place, and what of the owner it is for: the kind, the place among that kind, and the part
 abbrev pub key_code : NameKey → List ℕ
 key_code (Type_ t) = 0 ∷ t ∷ 0 ∷ 0 ∷ 0 ∷ []
 key_code (StructMember t n) = 0 ∷ t ∷ 1 ∷ n ∷ 0 ∷ []

@@ -1,5 +1,5 @@
--- How a spelling grows at its end, one character after another, and what every base looks like: a word
--- that ends in no `_`.
+-- How a spelling grows at its end, one character after another, and what every base looks like: a
+-- word that ends in no `_`.
 use Rattle.std.proofs.Common.{◌≡◌, ℕ, ◌<◌, ◌≤◌, suc, Bool, true, false, cond, not, ◌&&◌, List, []}
 use Rattle.std.proofs.Common.{◌∷◌, ◌++◌, length, take, drop, refl, sym, ap, subst, ◌∙◌}
 use Rattle.std.proofs.Common.{append_assoc, arith, ◌||◌, inl, inr, zero, codes, ◌+◌, map, add-one}

@@ -1,5 +1,5 @@
--- The members of one struct, which are named by themselves, among the items of their module, and their
--- names after a `reset`.
+-- The members of one struct, which are named by themselves, among the items of their module, and
+-- their names after a `reset`.
 use Rattle.std.proofs.Common.{◌≡◌, ℕ, ◌<◌, ◌≤◌, suc, Bool, true, false, cond, ◌&&◌, List, [], ◌∷◌}
 use Rattle.std.proofs.Common.{◌++◌, length, take, drop, refl, sym, ap, subst, ◌∙◌, append_assoc}
 use Rattle.std.proofs.Common.{arith, zero, ◌+◌, map, Some, ◌-◌, ◌^◌, slice_get, get_or, append-nil}

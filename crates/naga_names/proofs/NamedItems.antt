@@ -1,5 +1,8 @@
--- The names of a list of items: where they stand, that none comes twice, and what a map has of them.
-use Rattle.std.proofs.Common.{◌≡◌, ℕ, ◌+◌, ◌<◌, ◌≤◌, ◌^◌, zero, suc, string_bytes, List, [], ◌∷◌, ◌++◌, map, take, Some, None, true, false, cond, refl, ap, sym, subst, ◌∙◌, arith, codes, append_assoc, append-nil, slice_get}
+-- The names of a list of items: where they stand, that none comes twice, and what a map has of
+-- them.
+use Rattle.std.proofs.Common.{◌≡◌, ℕ, ◌+◌, ◌<◌, ◌≤◌, ◌^◌, zero, suc, string_bytes, List, [], ◌∷◌}
+use Rattle.std.proofs.Common.{◌++◌, map, take, Some, None, true, false, cond, refl, ap, sym, subst}
+use Rattle.std.proofs.Common.{◌∙◌, arith, codes, append_assoc, append-nil, slice_get}
 use Rattle.std.specs.Prelude.{◌⊎◌}
 use mathlib.Core.Logic.{inl, inr}
 use Rattle.std.specs.List.{AllByRecursion, IsDistinct, scan, flat_map, enumerate_from}
@@ -20,7 +23,16 @@ use Rattle.naga_names.specs.declared.key.NameKey.{NameKey}
 use Rattle.naga_names.specs.declared.key.NameKey.TheVariants as key
 use Rattle.naga_names.specs.Naming.{Names, name_after, labels_with_base, label_or}
 use Rattle.naga_names.specs.Keys.{NameMap, same_key}
-use Rattle.naga_names.specs.Reset.{Labelled, is_member, item_name, labels_of, named_items, members_of, labelled_members, labelled_type, type_label, is_external, labelled_parts, labelled_types, labelled_argument, labelled_arguments, labelled_locals, labelled_function, labelled_functions, labelled_entry_arguments, labelled_entry_locals, labelled_entry_point, labelled_entry_points, labelled_global, labelled_globals, labelled_declarations, value_label, type_name, labelled_constants, labelled_overrides, labelled_values, labelled_items, PutsInto, HasNamedItems}
+use Rattle.naga_names.specs.Reset.{Labelled, is_member, item_name, labels_of, named_items}
+use Rattle.naga_names.specs.Reset.{members_of, labelled_members, labelled_type, type_label}
+use Rattle.naga_names.specs.Reset.{is_external, labelled_parts, labelled_types, labelled_argument}
+use Rattle.naga_names.specs.Reset.{labelled_arguments, labelled_locals, labelled_function}
+use Rattle.naga_names.specs.Reset.{labelled_functions, labelled_entry_arguments}
+use Rattle.naga_names.specs.Reset.{labelled_entry_locals, labelled_entry_point}
+use Rattle.naga_names.specs.Reset.{labelled_entry_points, labelled_global, labelled_globals}
+use Rattle.naga_names.specs.Reset.{labelled_declarations, value_label, type_name}
+use Rattle.naga_names.specs.Reset.{labelled_constants, labelled_overrides, labelled_values}
+use Rattle.naga_names.specs.Reset.{labelled_items, PutsInto, HasNamedItems}
 use Rattle.naga_names.proofs.Reset.{labels_of-around, item_name-outside}
 use Rattle.naga_names.proofs.Keys.{same_key_laws, AreApart, single, items_apart}
 use Rattle.naga_names.proofs.NameShapes.{names_differ}

@@ -1,5 +1,6 @@
 -- One entry point more in the table by which structs without a name are labelled.
-use Rattle.std.proofs.Common.{◌≡◌, ℕ, ◌+◌, ◌<◌, Bool, true, false, cond, List, length, take, get_or, Option, Some, None, HashMap, nat_eq, refl, sym, ap, ◌∙◌}
+use Rattle.std.proofs.Common.{◌≡◌, ℕ, ◌+◌, ◌<◌, Bool, true, false, cond, List, length, take, get_or}
+use Rattle.std.proofs.Common.{Option, Some, None, HashMap, nat_eq, refl, sym, ap, ◌∙◌}
 use denote.Ref.{Bor}
 use Rattle.std.specs.HashMap as hash
 use Rattle.std.specs.Option.{option_map, option_map_or, option_or}

@@ -1,5 +1,8 @@
 -- Items named one after another, up to the first refusal.
-use Rattle.std.proofs.Common.{◌≡◌, ℕ, ◌+◌, ◌<◌, ◌≤◌, ◌^◌, nat_lt, zero, suc, List, [], ◌∷◌, ◌++◌, map, length, drop, get_or, Option, None, Some, true, false, ◌&&◌, refl, sym, ap, subst, ◌∙◌, arith, add-one, drop-cons, append_assoc, append-nil}
+use Rattle.std.proofs.Common.{◌≡◌, ℕ, ◌+◌, ◌<◌, ◌≤◌, ◌^◌, nat_lt, zero, suc, List, [], ◌∷◌, ◌++◌}
+use Rattle.std.proofs.Common.{map, length, drop, get_or, Option, None, Some, true, false, ◌&&◌}
+use Rattle.std.proofs.Common.{refl, sym, ap, subst, ◌∙◌, arith, add-one, drop-cons, append_assoc}
+use Rattle.std.proofs.Common.{append-nil}
 use Rattle.std.specs.List.{flat_map, enumerate_from}
 use Rattle.std.specs.FinMap as finite
 use Rattle.std.specs.Option.{option_or, is_some}
@@ -11,7 +14,9 @@ use Rattle.naga_names.specs.declared.error.NamerError.{NamerError}
 use Rattle.naga_names.specs.declared.error.NamerError.TheVariants.{KeyFull, Memory}
 use Rattle.naga_names.specs.Naming.{Names}
 use Rattle.naga_names.specs.Refusal.{IsRefusalOfItems, RefusesItems}
-use Rattle.naga_names.specs.Reset.{Labelled, key_fits, keys_fit, named_items, PutsInto, PutsBeginning, HasNamedItems, NamesItems, labelled_declarations, labelled_values, labelled_items, type_name, type_names_in}
+use Rattle.naga_names.specs.Reset.{Labelled, key_fits, keys_fit, named_items, PutsInto}
+use Rattle.naga_names.specs.Reset.{PutsBeginning, HasNamedItems, NamesItems, labelled_declarations}
+use Rattle.naga_names.specs.Reset.{labelled_values, labelled_items, type_name, type_names_in}
 use Rattle.naga_names.proofs.Naming.{has_named_nothing}
 use Rattle.naga_names.proofs.Reset.{begins, refusal_more, beginning_more, not_below}
 use Rattle.naga_names.proofs.TypeNames.{agree}

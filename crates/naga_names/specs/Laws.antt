@@ -2,14 +2,17 @@
 --
 -- Throughout, t is the handle of a type ty, n and k are indexes of its members, i and j those of
 -- items; a and b are labels, items or members, and h is the handle of an expression.
-use Rattle.std.specs.Prelude.{◌≡◌, ℕ, ◌<◌, ◌≤◌, ◌^◌, map, List, [], ◌∷◌, nat_eq, ◌++◌, take, true, false, codes, decimal, slice_get, Some}
+use Rattle.std.specs.Prelude.{◌≡◌, ℕ, ◌<◌, ◌≤◌, ◌^◌, map, List, [], ◌∷◌, nat_eq, ◌++◌, take, true}
+use Rattle.std.specs.Prelude.{false, codes, decimal, slice_get, Some}
 use Rattle.std.specs.List.{starts_with}
 use Rattle.std.specs.FinSet as set
 use Rattle.naga_keywords.specs.Plain.{is_identifier, HasPlainEnds}
 use Rattle.naga_keywords.specs.Words.{lowered}
-use Rattle.naga_names.specs.Naming.{Names, uses_of, name_of, name_of_base, name_after, labels_with_base, HasNamed}
+use Rattle.naga_names.specs.Naming.{Names, uses_of, name_of, name_of_base, name_after}
+use Rattle.naga_names.specs.Naming.{labels_with_base, HasNamed}
 use Rattle.naga_names.specs.Keys.{NameMap}
-use Rattle.naga_names.specs.Reset.{Labelled, is_member, members_of, member_label, member_names, item_name, labelled_items, HasNamedItems}
+use Rattle.naga_names.specs.Reset.{Labelled, is_member, members_of, member_label, member_names}
+use Rattle.naga_names.specs.Reset.{item_name, labelled_items, HasNamedItems}
 use Rattle.naga_ir.specs.declared.module.Module.{Module}
 use Rattle.naga_ir.specs.declared.types.StructMember.{StructMember}
 use Rattle.naga_ir.specs.declared.types.Type_.{Type_}

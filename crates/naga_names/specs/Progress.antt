@@ -13,7 +13,8 @@ use Rattle.naga_names.specs.declared.key.NameKey.TheVariants as key
 use Rattle.naga_names.specs.declared.error.NamerError.{NamerError}
 use Rattle.naga_names.specs.Naming.{Names, label_or}
 use Rattle.naga_names.specs.Refusal.{IsRefusalOfItems}
-use Rattle.naga_names.specs.Reset.{Labelled, HasNamedItems, PutsBeginning, labelled_items, is_external, with_parts}
+use Rattle.naga_names.specs.Reset.{Labelled, HasNamedItems, PutsBeginning, labelled_items}
+use Rattle.naga_names.specs.Reset.{is_external, with_parts}
 use Rattle.naga_names.specs.declared.namer.items.Naming.{Naming}
 use Rattle.naga_names.specs.declared.namer.items.Owner.{Owner}
 use Rattle.naga_names.specs.declared.namer.items.Owner.TheVariants as owner

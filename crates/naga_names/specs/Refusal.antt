@@ -9,7 +9,8 @@ use Rattle.naga_names.specs.declared.error.NamerError.{NamerError}
 use Rattle.naga_names.specs.declared.error.NamerError.TheVariants.{Full, KeyFull, Memory}
 use Rattle.naga_names.specs.Naming.{Names, Uses, uses_of, label_base, labels_with_base}
 use Rattle.naga_names.specs.Keys.{NameMap}
-use Rattle.naga_names.specs.Reset.{Labelled, members_of, is_member, labels_of, keys_fit, labelled_items, HasNamedItems, PutsBeginning}
+use Rattle.naga_names.specs.Reset.{Labelled, members_of, is_member, labels_of, keys_fit}
+use Rattle.naga_names.specs.Reset.{labelled_items, HasNamedItems, PutsBeginning}
 
 -- `Full` comes only where the base is full,
 -- `KeyFull` never, and `Memory` may come at any time

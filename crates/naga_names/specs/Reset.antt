@@ -3,7 +3,9 @@
 -- Throughout, t is the handle of a type, f that of a function, g that
 -- of a global, e the index of an entry point, l and n those of a
 -- local and of an argument or a member, and p an index with its item.
-use Rattle.std.specs.Prelude.{◌≡◌, ℕ, ◌-◌, ◌^◌, List, [], ◌∷◌, ◌++◌, length, drop, map, Option, Some, None, Bool, true, false, ◌&&◌, ◌==◌, if◌then◌else◌, nat_lt, unwrap_or, slice_get, codes, string_bytes}
+use Rattle.std.specs.Prelude.{◌≡◌, ℕ, ◌-◌, ◌^◌, List, [], ◌∷◌, ◌++◌, length, drop, map, Option}
+use Rattle.std.specs.Prelude.{Some, None, Bool, true, false, ◌&&◌, ◌==◌, if◌then◌else◌, nat_lt}
+use Rattle.std.specs.Prelude.{unwrap_or, slice_get, codes, string_bytes}
 use Rattle.std.specs.declared.string.String.{String}
 use Rattle.std.specs.List.{scan, flat_map, enumerate_from, list_all}
 use Rattle.std.specs.FinMap as finite

@@ -3,7 +3,11 @@ ghost use Rattle.std.specs.Prelude.{map};
 ghost use Rattle.std.specs.Cmp.{IsEquivalence};
 ghost use Rattle.std.specs.FinSet as set;
 ghost use Rattle.std.specs.Hash.{Alike};
-ghost use Rattle.naga_names.specs.Laws.{NamesAreIdentifiers, NamesKeepOffNaga, NamesAreNoKeywords, NamesAreNoBuiltins, NamesAreNoCaselessKeywords, NamesAreNotNumbered, NamesDiffer, ItemsAreNamed, ItemsAreTold, MembersAreNamed, MembersAreTold, MembersAreNotReserved, GivenNamesFollow, GivenNamesAreNew};
+ghost use Rattle.naga_names.specs.Laws.{NamesAreIdentifiers, NamesKeepOffNaga, NamesAreNoKeywords};
+ghost use Rattle.naga_names.specs.Laws.{NamesAreNoBuiltins, NamesAreNoCaselessKeywords};
+ghost use Rattle.naga_names.specs.Laws.{NamesAreNotNumbered, NamesDiffer, ItemsAreNamed};
+ghost use Rattle.naga_names.specs.Laws.{ItemsAreTold, MembersAreNamed, MembersAreTold};
+ghost use Rattle.naga_names.specs.Laws.{MembersAreNotReserved, GivenNamesFollow, GivenNamesAreNew};
 ghost use Rattle.naga_keywords.specs.Plain.{HasPlainEnds};
 ghost use Rattle.naga_names.specs.Keys.{same_key, key_writes};
 ghost use Rattle.naga_keywords.specs.Words.{same_caseless, caseless_writes};
@@ -31,7 +35,8 @@ pub fn names_are_not_taken()
 /// The words of WGSL have no such end.
 pub fn words_of_wgsl_have_plain_ends()
     ensures reserved { HasPlainEnds (set.from_list (map (λ word. word.now) RESERVED.now)) }
-    ensures builtin { HasPlainEnds (set.from_list (map (λ word. word.now) BUILTIN_IDENTIFIERS.now)) }
+    ensures builtin { HasPlainEnds
+        (set.from_list (map (λ word. word.now) BUILTIN_IDENTIFIERS.now)) }
 {}
 
 /// No name is `_e` and a number behind it.

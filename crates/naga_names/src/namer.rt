@@ -10,7 +10,8 @@ ghost use Rattle.naga_names.specs.Refusal.{IsRefusalOf, IsRefusalOfBase, IsReset
 ghost use Rattle.naga_names.specs.Refusal.{RefusesItems, SomeNameIsFull, SomeKeyIsFull, KeysRunOut};
 ghost use Rattle.naga_names.specs.declared.error.NamerError.TheVariants.{KeyFull};
 ghost use Rattle.naga_names.specs.Keys.{names_in};
-ghost use Rattle.naga_names.specs.Reset.{labelled_members, labelled_items, HasNamedItems, PutsBeginning, NamesItems};
+ghost use Rattle.naga_names.specs.Reset.{labelled_members, labelled_items, HasNamedItems};
+ghost use Rattle.naga_names.specs.Reset.{PutsBeginning, NamesItems};
 
 use crate::namer::fallback::label_or;
 use crate::namer::items::Naming;
@@ -30,10 +31,10 @@ mod uses;
 
 /// Gives each label an identifier that it has given to no other label.
 ///
-/// An identifier has ASCII letters, digits and `_` alone. It is made of the label's *base* and, where
-/// the base was used before, is a word that means something, or ends in a digit, of an ending that
-/// begins with `_`. Contracts see a `Namer` as its words, its prefixes and the number of uses of each
-/// base.
+/// An identifier has ASCII letters, digits and `_` alone. It is made of the label's *base* and,
+/// where the base was used before, is a word that means something, or ends in a digit, of an ending
+/// that begins with `_`. Contracts see a `Namer` as its words, its prefixes and the number of uses
+/// of each base.
 #[derive(Drop)]
 pub struct Namer {
     alloc: Global,
@@ -76,9 +77,9 @@ impl Namer {
 
     /// The identifier of the label, and one more use of the label's base.
     ///
-    /// A second `x` is `x_1`, and `x1` is `x1_`. The answer is `NamerError::Full` only where the base
-    /// was used 4,294,967,295 times after its first use, and `NamerError::Memory` where memory runs
-    /// out. A refused call changes nothing.
+    /// A second `x` is `x_1`, and `x1` is `x1_`. The answer is `NamerError::Full` only where the
+    /// base was used 4,294,967,295 times after its first use, and `NamerError::Memory` where memory
+    /// runs out. A refused call changes nothing.
     pub fn call(&mut self, label: &str) -> Result<String, NamerError>
         ensures name { IfOk result (λ name. string_bytes name ≡ name_of self.old label.now) }
         ensures used { OnOk result (self.new ≡ with_use self.old label.now) }
@@ -124,7 +125,8 @@ impl Namer {
     pub fn call_or(&mut self, label: &Option<String>, fallback: &str) -> Result<String, NamerError>
         ensures name { IfOk result (λ name.
             string_bytes name ≡ name_of self.old (label_or label.now fallback.now)) }
-        ensures used { OnOk result (self.new ≡ with_use self.old (label_or label.now fallback.now)) }
+        ensures used { OnOk result (self.new
+            ≡ with_use self.old (label_or label.now fallback.now)) }
         ensures history { (earlier : List (List ℕ)) → HasNamed self.old earlier →
             IfOk result (λ name.
             string_bytes name ≡ name_after self.old earlier (label_or label.now fallback.now)) }
@@ -137,23 +139,24 @@ impl Namer {
         self.call(label_or(label, fallback))
     }
 
-    /// Gives names to what the module declares, and puts them into the map under their keys: to its types,
-    /// each with its members, its entry points and its functions with their arguments and variables, its
-    /// globals, its constants and its overrides, in this order.
+    /// Gives names to what the module declares, and puts them into the map under their keys: to its
+    /// types, each with its members, its entry points and its functions with their arguments and
+    /// variables, its globals, its constants and its overrides, in this order.
     ///
-    /// From then on identifiers keep off the words and prefixes given, and the names given before are
-    /// forgotten. The members of a struct are a namespace of their own, in which builtin words are free: a
-    /// member may have the name of another struct's, or of an item outside. An item without a label is named
-    /// `type`, `member`, `param`, `local`, `function` or `global`; a struct without one that entry points
-    /// return `VertexOutput`, `FragmentOutput` or `ComputeOutput`, by the last of them that has such a word; a
-    /// constant `const_` and its type's name, an override `override_` and its type's name. A global or a
-    /// function's argument that is an external image has four names more, for its planes and its parameters.
+    /// From then on identifiers keep off the words and prefixes given, and the names given before
+    /// are forgotten. The members of a struct are a namespace of their own, in which builtin words
+    /// are free: a member may have the name of another struct's, or of an item outside. An item
+    /// without a label is named `type`, `member`, `param`, `local`, `function` or `global`; a
+    /// struct without one that entry points return `VertexOutput`, `FragmentOutput` or
+    /// `ComputeOutput`, by the last of them that has such a word; a constant `const_` and its
+    /// type's name, an override `override_` and its type's name. A global or a function's argument
+    /// that is an external image has four names more, for its planes and its parameters.
     ///
-    /// The map keeps its other keys. The answer is `NamerError::Full` only where a label comes whose base
-    /// the labels before it used up, and `NamerError::KeyFull` only where there are more entry points than
-    /// an `EntryPointIndex` can tell apart, or more members or arguments than a `u32` can count; such a
-    /// module is always refused. After a refusal the `Namer` is as a new one, and the names of some first
-    /// items stand in the map.
+    /// The map keeps its other keys. The answer is `NamerError::Full` only where a label comes
+    /// whose base the labels before it used up, and `NamerError::KeyFull` only where there are more
+    /// entry points than an `EntryPointIndex` can tell apart, or more members or arguments than a
+    /// `u32` can count; such a module is always refused. After a refusal the `Namer` is as a new
+    /// one, and the names of some first items stand in the map.
     pub fn reset(
         &mut self,
         module: &Module,
@@ -219,7 +222,8 @@ impl Namer {
         }
     }
 
-    /// Gives the members of a struct their names, in a namespace of their own without builtin words.
+    /// Gives the members of a struct their names, in a namespace of their own without builtin
+    /// words.
     fn name_members(
         &mut self,
         ty: Handle<Type_>,

@@ -1,4 +1,5 @@
--- Which expressions are in scope from the start, by one pass over a function's expressions in their order.
+-- Which expressions are in scope from the start, by one pass over a function's expressions in their
+-- order.
 use Rattle.std.proofs.Common.{◌≡◌, ◌+◌, ◌<◌, ◌≤◌, ◌&&◌, ◌||◌, ◌∙◌, ℕ, zero, suc, Bool, true, false}
 use Rattle.std.proofs.Common.{List, [], ◌∷◌, Option, Some, None, ap, ap₂, arith, below_more, get_or}
 use Rattle.std.proofs.Common.{length, nat_lt, refl, slice_set, subst, sym}
@@ -13,13 +14,15 @@ use Rattle.naga_ir.specs.declared.module.Function as ir_function
 use Rattle.naga_ir.specs.declared.types.Type_.{Type_}
 use Rattle.naga_info.specs.declared.info.ExpressionInfo.{ExpressionInfo}
 use Rattle.shader_runs.specs.Program.{Expression, Constant, operands_of}
-use Rattle.shader_runs.specs.Scope.{is_pure, all_constant, is_constant_leaf, constant_test, is_constant_below, start_standing, at_start}
+use Rattle.shader_runs.specs.Scope.{is_pure, all_constant, is_constant_leaf, constant_test}
+use Rattle.shader_runs.specs.Scope.{is_constant_below, start_standing, at_start}
 use Rattle.shader_runs.specs.Premises.{AllBelow}
 use Rattle.module_meaning.specs.Names.{numbered_name}
 use Rattle.module_meaning.specs.Shapes.{expression_shape, function_shape, OperandsStandBefore}
 use Rattle.naga_scope.specs.declared.points.Standing.{Standing}
 use Rattle.naga_scope.specs.declared.points.Standing.TheVariants.{Absent}
-use Rattle.naga_scope.specs.Standings.{standing_of, handles_of, shape_at, is_everywhere, is_constant_by, first_standing}
+use Rattle.naga_scope.specs.Standings.{standing_of, handles_of, shape_at, is_everywhere}
+use Rattle.naga_scope.specs.Standings.{is_constant_by, first_standing}
 
 -- ---- tests of the operands
 -- tests that agree below a bound agree on operands below it
@@ -35,7 +38,8 @@ pure_constant a b h each e l = ap (λ t. is_pure e && t) (all_alike a b h each (
     no_leaf (Some _) = refl
     no_leaf None = refl
 
--- a tree is constant by its own test where that holds of its leaf, or of its being an operator over constant ones
+-- a tree is constant by its own test where that holds of its leaf, or of its being an operator over
+-- constant ones
 test_again : (l p a : Bool) → (l || (p && (l || (p && a)))) ≡ (l || (p && a))
 test_again true p a = refl
 test_again false false a = refl

@@ -1,5 +1,7 @@
 -- Where the expressions stand behind an Emit.
-use Rattle.std.proofs.Common.{◌≡◌, ℕ, suc, ◌+◌, ◌-◌, ◌<◌, ◌≤◌, ◌&&◌, ◌||◌, Bool, true, false, nat_eq, List, [], ◌∷◌, length, get_or, refl, sym, ap, ap₂, ◌∙◌, arith, slice_set, eqb-true, add-one}
+use Rattle.std.proofs.Common.{◌≡◌, ℕ, suc, ◌+◌, ◌-◌, ◌<◌, ◌≤◌, ◌&&◌, ◌||◌, Bool, true, false}
+use Rattle.std.proofs.Common.{nat_eq, List, [], ◌∷◌, length, get_or, refl, sym, ap, ap₂, ◌∙◌, arith}
+use Rattle.std.proofs.Common.{slice_set, eqb-true, add-one}
 use Rattle.std.specs.Prelude.{IsTrue, cond, not}
 use Rattle.std.specs.Option.{option_map}
 use Rattle.std.proofs.lemmas.Bool.{eqb-false}
@@ -14,13 +16,16 @@ use Rattle.naga_names.specs.Keys.{NameMap}
 use Rattle.shader_runs.specs.World.{update}
 use Rattle.shader_runs.specs.Program.{Function, binds, binds_as, expression_of, operands_of, from}
 use Rattle.shader_runs.specs.Scope as runs
-use Rattle.shader_runs.specs.Scope.{Naming, Handles, is_pure, is_new, is_emittable, usable_all, emitted, after_one, after_emit, given_after, may_emit, may_emit_all}
+use Rattle.shader_runs.specs.Scope.{Naming, Handles, is_pure, is_new, is_emittable, usable_all}
+use Rattle.shader_runs.specs.Scope.{emitted, after_one, after_emit, given_after, may_emit}
+use Rattle.shader_runs.specs.Scope.{may_emit_all}
 use Rattle.module_meaning.specs.Names.{numbered_name}
 use Rattle.module_meaning.specs.Shapes.{expression_shape, function_shape, function_naming}
 use Rattle.naga_form.proofs.Fits.{none_is_given}
 use Rattle.naga_scope.specs.declared.points.Standing.{Standing}
 use Rattle.naga_scope.specs.declared.points.Standing.TheVariants.{Absent, Named}
-use Rattle.naga_scope.specs.Standings.{standing_of, handles_of, shape_at, unbound_standing, emitted_standing}
+use Rattle.naga_scope.specs.Standings.{standing_of, handles_of, shape_at, unbound_standing}
+use Rattle.naga_scope.specs.Standings.{emitted_standing}
 
 -- ---- a table with another cell
 set_handles : (table : List Standing) (h : ℕ) (cell : Standing) → h < length table → handles_of (slice_set table h cell) ≡ update (handles_of table) h (standing_of (numbered_name h) cell)

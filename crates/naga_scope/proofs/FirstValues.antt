@@ -1,5 +1,6 @@
 -- The first values of locals, each in scope behind the locals before it.
-use Rattle.std.proofs.Common.{◌≡◌, ℕ, ◌+◌, min, Bool, true, false, ◌&&◌, nat_lt, List, [], ◌∷◌, map, Option, Some, None, refl, sym, ap, ◌∙◌, add-one, ◌<◌, arith}
+use Rattle.std.proofs.Common.{◌≡◌, ℕ, ◌+◌, min, Bool, true, false, ◌&&◌, nat_lt, List, [], ◌∷◌, map}
+use Rattle.std.proofs.Common.{Option, Some, None, refl, sym, ap, ◌∙◌, add-one, ◌<◌, arith}
 use Rattle.std.specs.Prelude.{slice_get}
 use Rattle.std.specs.List.{enumerate_from}
 use Rattle.std.specs.Option.{option_map}
@@ -14,7 +15,8 @@ use Rattle.naga_ir.specs.declared.module.LocalVariable.{LocalVariable}
 use Rattle.naga_ir.specs.declared.types.Type_.{Type_}
 use Rattle.naga_info.specs.declared.info.ExpressionInfo.{ExpressionInfo}
 use Rattle.shader_runs.specs.Program.{Function, local_count}
-use Rattle.shader_runs.specs.Scope.{Standing, Handles, usable_as, usable_if, at_start, before_local, first_values_fit}
+use Rattle.shader_runs.specs.Scope.{Standing, Handles, usable_as, usable_if, at_start, before_local}
+use Rattle.shader_runs.specs.Scope.{first_values_fit}
 use Rattle.shader_runs.proofs.Update.{and_left, and_right, and_both}
 use Rattle.module_meaning.specs.Applications.{Application, application_of}
 use Rattle.module_meaning.specs.Shapes.{application_shape, expression_shape, function_shape}

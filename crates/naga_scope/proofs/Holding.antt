@@ -1,5 +1,7 @@
 -- The check over the locals, the statements and the functions in turn.
-use Rattle.std.proofs.Common.{◌≡◌, ℕ, suc, ◌+◌, ◌<◌, ◌≤◌, ◌&&◌, true, false, zero, Option, arith, List, [], ◌∷◌, map, drop, length, refl, sym, ap, ap₂, ◌∙◌, slice_index_or}
+use Rattle.std.proofs.Common.{◌≡◌, ℕ, suc, ◌+◌, ◌<◌, ◌≤◌, ◌&&◌, true, false, zero, Option, arith}
+use Rattle.std.proofs.Common.{List, [], ◌∷◌, map, drop, length, refl, sym, ap, ap₂, ◌∙◌}
+use Rattle.std.proofs.Common.{slice_index_or}
 use Rattle.std.specs.Prelude.{IsTrue}
 use Rattle.std.specs.List.{enumerate_from}
 use Rattle.std.proofs.lemmas.Bool.{and_parts, and_from}

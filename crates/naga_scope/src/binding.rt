@@ -63,8 +63,8 @@ pub(crate) fn is_emittable(expression: Option<&Expression>) -> bool
     }
 }
 
-/// Whether a `let` binds the expression with this handle where it is emitted: a `Load` with a use, or
-/// an operator with two. It is for functions in which no front end named an expression.
+/// Whether a `let` binds the expression with this handle where it is emitted: a `Load` with a use,
+/// or an operator with two. It is for functions in which no front end named an expression.
 pub fn binds(function: &Function, info: &FunctionInfo, handle: Handle<Expression>) -> bool
     requires unnamed { IsTrue (names_nothing function.now) }
     ensures { (types : List Type_) →

@@ -22,7 +22,8 @@ use naga_ir::{Expression, Function, Handle, LocalVariable, Module, Place, Range,
 
 /// Whether the expression, if there is one, may be written at this point.
 fn is_usable_if(scope: &Scope, function: &Function, handle: Option<Handle<Expression>>) -> bool
-    ensures { (types : List Type_) (es : List ExpressionInfo) → result ≡ usable_if (function_shape types function.now es) (handles_of scope.now) handle }
+    ensures { (types : List Type_) (es : List ExpressionInfo) →
+        result ≡ usable_if (function_shape types function.now es) (handles_of scope.now) handle }
 {
     match handle {
         Some(handle) => scope.is_usable(function, handle),
@@ -54,14 +55,18 @@ fn first_value_holds(
     handle: Handle<LocalVariable>,
     local: &LocalVariable,
 ) -> bool
-    ensures { (types : List Type_) (es : List ExpressionInfo) → result ≡ usable_if (before_local (function_shape types function.now es) handle) (handles_of scope.now) local.now.init }
+    ensures { (types : List Type_) (es : List ExpressionInfo) →
+        let shape = function_shape types function.now es in
+        result ≡ usable_if (before_local shape handle) (handles_of scope.now) local.now.init }
 {
     is_usable_if(scope, function, local.init) && is_earlier(function, local.init, handle)
 }
 
 /// Whether the first value of each local is in scope where it stands, at the start of the function.
 fn first_values_hold(scope: &Scope, function: &Function) -> bool
-    ensures { (types : List Type_) (es : List ExpressionInfo) → let shape = function_shape types function.now es in handles_of scope.now ≡ at_start shape → result ≡ first_values_fit shape 0 shape.first_values }
+    ensures { (types : List Type_) (es : List ExpressionInfo) →
+        let shape = function_shape types function.now es in
+        handles_of scope.now ≡ at_start shape → result ≡ first_values_fit shape 0 shape.first_values }
 {
     for (handle, local) in function.local_variables.iter() {
         if !first_value_holds(scope, function, handle, local) {
@@ -71,13 +76,19 @@ fn first_values_hold(scope: &Scope, function: &Function) -> bool
     true
 }
 
-/// Goes behind an `Emit` of these handles, and says whether it is allowed. Where it is not, the scope
-/// is that of some point inside.
+/// Goes behind an `Emit` of these handles, and says whether it is allowed. Where it is not, the
+/// scope is that of some point inside.
 fn emit_holds(scope: &mut Scope, function: &Function, info: &FunctionInfo, range: Range) -> bool
     requires unnamed { IsTrue (names_nothing function.now) }
     requires size { length scope.old ≡ length function.now.expressions }
-    ensures fits { (names : NameMap) (types : List Type_) (g k : ℕ) → result ≡ may_emit_all (function_naming names types g function.now info.now) k (from range.first (range.end - range.first)) (handles_of scope.old) }
-    ensures after { (names : NameMap) (types : List Type_) (g k : ℕ) → IsTrue result → handles_of scope.new ≡ after_emit (function_naming names types g function.now info.now) k (from range.first (range.end - range.first)) (handles_of scope.old) }
+    ensures fits { (names : NameMap) (types : List Type_) (g k : ℕ) →
+        let n = function_naming names types g function.now info.now in
+        result
+            ≡ may_emit_all n k (from range.first (range.end - range.first)) (handles_of scope.old) }
+    ensures after { (names : NameMap) (types : List Type_) (g k : ℕ) → IsTrue result →
+        let n = function_naming names types g function.now info.now in
+        handles_of scope.new
+            ≡ after_emit n k (from range.first (range.end - range.first)) (handles_of scope.old) }
     ensures size { length scope.new ≡ length scope.old }
 {
     for index in range.first..range.end {
@@ -90,8 +101,8 @@ fn emit_holds(scope: &mut Scope, function: &Function, info: &FunctionInfo, range
     true
 }
 
-/// Goes behind the statement, and says whether its operands are in scope. Where they are not, the scope
-/// is that of some point inside.
+/// Goes behind the statement, and says whether its operands are in scope. Where they are not, the
+/// scope is that of some point inside.
 fn statement_holds(
     scope: &mut Scope,
     function: &Function,
@@ -101,8 +112,13 @@ fn statement_holds(
     requires flat { IsTrue (holds_no_block (tree_of statement.now)) }
     requires unnamed { IsTrue (names_nothing function.now) }
     requires size { length scope.old ≡ length function.now.expressions }
-    ensures fits { (names : NameMap) (types : List Type_) (g k : ℕ) → result ≡ fits (function_naming names types g function.now info.now) k (statement_shape (tree_of statement.now)) (handles_of scope.old) }
-    ensures after { (names : NameMap) (types : List Type_) (g k : ℕ) → IsTrue result → handles_of scope.new ≡ after (function_naming names types g function.now info.now) k (statement_shape (tree_of statement.now)) (handles_of scope.old) }
+    ensures fits { (names : NameMap) (types : List Type_) (g k : ℕ) →
+        let n = function_naming names types g function.now info.now in
+        result ≡ fits n k (statement_shape (tree_of statement.now)) (handles_of scope.old) }
+    ensures after { (names : NameMap) (types : List Type_) (g k : ℕ) → IsTrue result →
+        let n = function_naming names types g function.now info.now in
+        handles_of scope.new
+            ≡ after n k (statement_shape (tree_of statement.now)) (handles_of scope.old) }
     ensures size { length scope.new ≡ length scope.old }
 {
     match statement {
@@ -115,8 +131,8 @@ fn statement_holds(
     }
 }
 
-/// Whether each expression of the function is in scope where it is used, and each `Emit` is allowed.
-/// The scope is that of the function's start, and then that of some point inside.
+/// Whether each expression of the function is in scope where it is used, and each `Emit` is
+/// allowed. The scope is that of the function's start, and then that of some point inside.
 pub(crate) fn function_holds(scope: &mut Scope, function: &Function, info: &FunctionInfo) -> bool
     requires flat { IsTrue (is_flat function.now.body) }
     requires unnamed { IsTrue (names_nothing function.now) }

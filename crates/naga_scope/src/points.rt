@@ -168,8 +168,8 @@ fn first_standing(standings: &[Standing], function: &Function, expression: &Expr
 }
 
 impl Scope {
-    /// Where the expressions stand at the start of the function: operators over literals alone are in
-    /// scope everywhere, and all others are absent.
+    /// Where the expressions stand at the start of the function: operators over literals alone are
+    /// in scope everywhere, and all others are absent.
     pub fn start(alloc: Global, function: &Function) -> Result<Scope, AllocError>
         requires ordered { OperandsStandBefore function.now.expressions }
         ensures start { (types : List Type_) (es : List ExpressionInfo) →
@@ -206,8 +206,8 @@ impl Scope {
         standing_at(&self.standings, handle)
     }
 
-    /// Whether the expression with this handle is in scope here. A literal, and an argument or a local
-    /// that there is, is so everywhere.
+    /// Whether the expression with this handle is in scope here. A literal, and an argument or a
+    /// local that there is, is so everywhere.
     pub fn is_usable(&self, function: &Function, handle: Handle<Expression>) -> bool
         ensures { (types : List Type_) (es : List ExpressionInfo) →
             result ≡ usable (function_shape types function.now es) (handles_of self.now) handle }
@@ -254,8 +254,8 @@ impl Scope {
         }
     }
 
-    /// Whether an `Emit` may give the expression with this handle here: none gave it before, it is one
-    /// that is emitted, and where a `let` binds it, its operands are in scope.
+    /// Whether an `Emit` may give the expression with this handle here: none gave it before, it is
+    /// one that is emitted, and where a `let` binds it, its operands are in scope.
     pub fn may_emit(
         &self,
         function: &Function,
@@ -273,9 +273,10 @@ impl Scope {
             && (!binds(function, info, handle) || self.has_operands(function, expression))
     }
 
-    /// Goes behind an `Emit` of the expression with this handle. It is named where a `let` binds it. An
-    /// operator that no `let` binds is written where it is used, if its operands are in scope here. A
-    /// `Load` that no `let` binds stays absent, since it may not be read later than here.
+    /// Goes behind an `Emit` of the expression with this handle. It is named where a `let` binds
+    /// it. An operator that no `let` binds is written where it is used, if its operands are in
+    /// scope here. A `Load` that no `let` binds stays absent, since it may not be read later than
+    /// here.
     pub fn emit(&mut self, function: &Function, info: &FunctionInfo, handle: Handle<Expression>)
         requires unnamed { IsTrue (names_nothing function.now) }
         requires size { length self.old ≡ length function.now.expressions }

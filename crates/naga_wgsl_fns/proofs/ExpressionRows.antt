@@ -1,4 +1,5 @@
--- The text of an expression by its kind and by where it stands, and from what is written of it in turn.
+-- The text of an expression by its kind and by where it stands, and from what is written of it in
+-- turn.
 use Rattle.std.proofs.Common.{◌≡◌, ℕ, zero, suc, ◌<◌, false, List, [], ◌∷◌, length, Option, Some}
 use Rattle.std.proofs.Common.{None, codes, refl, sym, ap, ◌∙◌, subst, arith, get_or}
 use Rattle.std.specs.Prelude.{slice_get}
@@ -23,7 +24,8 @@ use Rattle.wgsl_text.proofs.Expressions.{name_text, binary_text as binary_row_te
 use Rattle.wgsl_text.proofs.Expressions.{address_text as address_row_text, dereference_text}
 use Rattle.naga_scope.specs.Standings.{handles_of, standing_of}
 use Rattle.naga_scope.specs.declared.points.Standing.{Standing}
-use Rattle.naga_scope.specs.declared.points.Standing.TheVariants.{Absent, Barred, Everywhere, Inline, Named}
+use Rattle.naga_scope.specs.declared.points.Standing.TheVariants.{Absent, Barred, Everywhere}
+use Rattle.naga_scope.specs.declared.points.Standing.TheVariants.{Inline, Named}
 use Rattle.module_meaning.proofs.Shapes.{operator_operands}
 use Rattle.naga_words.specs.Output.{joined}
 use Rattle.naga_wgsl_fns.specs.Literals.{literal_text}

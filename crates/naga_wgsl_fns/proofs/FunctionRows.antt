@@ -1,5 +1,5 @@
--- Each function of a module that is accepted and written so far can be written; and the texts of its parts, from what is
--- written of them in turn.
+-- Each function of a module that is accepted and written so far can be written; and the texts of
+-- its parts, from what is written of them in turn.
 use Rattle.std.proofs.Common.{◌≡◌, ℕ, ◌+◌, ◌<◌, ◌≤◌, ◌==◌, zero, suc, add-one, arith, ne_eqb}
 use Rattle.std.proofs.Common.{true, false, Option, None, Some, refl, sym, ap, subst, ◌∙◌, codes}
 use Rattle.std.proofs.Common.{List, [], ◌∷◌, ◌++◌, append_assoc, drop, length}
@@ -43,13 +43,19 @@ use Rattle.naga_wgsl_fns.specs.declared.error.Error.{Error}
 use Rattle.wgsl_text.specs.Reading.{expression_layout, type_layout}
 use Rattle.wgsl_text.specs.Text.{text}
 use Rattle.naga_wgsl_fns.specs.declared.functions.FunctionText.{FunctionText}
-use Rattle.naga_wgsl_fns.specs.FunctionText.{CanWrite, expressions, naming, tells_types, told, type_names_of}
+use Rattle.naga_wgsl_fns.specs.FunctionText.{CanWrite, expressions, naming, tells_types, told}
+use Rattle.naga_wgsl_fns.specs.FunctionText.{type_names_of}
 use Rattle.naga_wgsl_fns.specs.Names.{name_of_argument, name_of_function, name_of_local}
 use Rattle.naga_wgsl_fns.specs.Types.{type_text}
 use Rattle.naga_wgsl_fns.specs.Expressions.{value_text}
 use Rattle.naga_wgsl_fns.specs.Statements.{block_text, lines_text}
 use Rattle.naga_wgsl_fns.proofs.StatementRows.{drop_first}
-use Rattle.naga_wgsl_fns.specs.Functions.{StartsAt, answer_text, argument_text, arguments_text, body_text, first_form, first_text, first_value_text, form_of, function_text, group_end_text, head_text, known_of, local_form, local_text, local_text_of, locals_text, next_argument_text, result_text, separator, text_of_function}
+use Rattle.naga_wgsl_fns.specs.Functions.{StartsAt, answer_text, argument_text, arguments_text}
+use Rattle.naga_wgsl_fns.specs.Functions.{body_text, first_form, first_text, first_value_text}
+use Rattle.naga_wgsl_fns.specs.Functions.{form_of, function_text, group_end_text, head_text}
+use Rattle.naga_wgsl_fns.specs.Functions.{known_of, local_form, local_text, local_text_of}
+use Rattle.naga_wgsl_fns.specs.Functions.{locals_text, next_argument_text, result_text, separator}
+use Rattle.naga_wgsl_fns.specs.Functions.{text_of_function}
 
 -- ---- what is wanted
 -- what is known of a function is what is known of its handle

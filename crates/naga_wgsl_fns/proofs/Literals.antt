@@ -1,5 +1,6 @@
 -- The texts of integers, from what is written of them in turn.
-use Rattle.std.proofs.Common.{◌≡◌, ◌++◌, ℤ, pos, negsuc, false, codes, decimal, refl, ap, ◌==◌, ne_eqb}
+use Rattle.std.proofs.Common.{◌≡◌, ◌++◌, ℤ, pos, negsuc, false, codes, decimal, refl, ap, ◌==◌}
+use Rattle.std.proofs.Common.{ne_eqb}
 use Rattle.std.specs.Fmt.{digits, signed_decimal}
 use Rattle.std.proofs.lemmas.List.{append-nil}
 use Rattle.naga_wgsl_fns.specs.Literals.{integer_text, long_text}

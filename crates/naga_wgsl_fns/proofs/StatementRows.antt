@@ -1,9 +1,13 @@
 -- The texts of statements, from what is written of them in turn.
-use Rattle.std.proofs.Common.{◌≡◌, ℕ, ◌+◌, ◌-◌, ◌<◌, ◌≤◌, ◌*◌, zero, suc, Bool, true, false, List, [], ◌∷◌, ◌++◌, Option, None, Some, length, refl, sym, ap, ◌∙◌, arith, add-one, codes, replicate, drop, drop-cons, slice_index_or, append_assoc, IsTrue}
+use Rattle.std.proofs.Common.{◌≡◌, ℕ, ◌+◌, ◌-◌, ◌<◌, ◌≤◌, ◌*◌, zero, suc, Bool, true, false, List}
+use Rattle.std.proofs.Common.{[], ◌∷◌, ◌++◌, Option, None, Some, length, refl, sym, ap, ◌∙◌, arith}
+use Rattle.std.proofs.Common.{add-one, codes, replicate, drop, drop-cons, slice_index_or}
+use Rattle.std.proofs.Common.{append_assoc, IsTrue}
 use Rattle.std.specs.Prelude.{cond, slice_get}
 use Rattle.std.proofs.lemmas.Bool.{and_parts}
 use Rattle.std.proofs.lemmas.List.{append-nil, drop_all}
-use Rattle.naga_ir.specs.StatementTree.{BlockTree, StatementTree, emit, return, simple, statement, store, break, continue, kill, block, branch, switch, loop}
+use Rattle.naga_ir.specs.StatementTree.{BlockTree, StatementTree, emit, return, simple, statement}
+use Rattle.naga_ir.specs.StatementTree.{store, break, continue, kill, block, branch, switch, loop}
 use Rattle.std.specs.Option.{option_map}
 use Rattle.naga_ir.specs.StatementViews.{tree_of, block_of}
 use Rattle.naga_ir.specs.declared.statement.Range.{Range}
@@ -15,7 +19,8 @@ use Rattle.naga_info.specs.declared.info.ExpressionInfo.{ExpressionInfo}
 use Rattle.naga_back.specs.Indentation.{indentation}
 use Rattle.module_meaning.specs.Accepted.{statement_fits, block_fits}
 use Rattle.shader_runs.specs.Program.{binds, from}
-use Rattle.shader_runs.specs.Scope.{Handles, Naming, after, after_all, after_emit, after_one, bound_name, given_after, given_by_all}
+use Rattle.shader_runs.specs.Scope.{Handles, Naming, after, after_all, after_emit, after_one}
+use Rattle.shader_runs.specs.Scope.{bound_name, given_after, given_by_all}
 use Rattle.module_meaning.specs.Names.{numbered_name}
 use Rattle.module_meaning.specs.Shapes.{statement_shape, statements_shape}
 use Rattle.wgsl_text.specs.Types.{TypeSpecifier}
@@ -37,7 +42,9 @@ use Rattle.wgsl_text.specs.Text.{text}
 use Rattle.naga_wgsl_fns.specs.declared.functions.FunctionText.{FunctionText}
 use Rattle.naga_wgsl_fns.specs.FunctionText.{CanWrite, expressions, naming, told}
 use Rattle.naga_wgsl_fns.specs.Expressions.{own_form, own_text, reference_text, value_text}
-use Rattle.naga_wgsl_fns.specs.Statements.{block_text, emitted_text, let_line, let_text, lets_text, line_start, line_text, lines_text, return_text, return_value_text, statement_text, store_text}
+use Rattle.naga_wgsl_fns.specs.Statements.{block_text, emitted_text, let_line, let_text, lets_text}
+use Rattle.naga_wgsl_fns.specs.Statements.{line_start, line_text, lines_text, return_text}
+use Rattle.naga_wgsl_fns.specs.Statements.{return_value_text, statement_text, store_text}
 use Rattle.naga_wgsl_fns.specs.Types.{told_text, told_type_text}
 use Rattle.naga_wgsl_fns.proofs.Wanted.{bound_is, none_given, none_given_by}
 

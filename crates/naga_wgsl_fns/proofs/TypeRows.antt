@@ -1,5 +1,6 @@
 -- What is said of a type's spelling, for types that have a form.
-use Rattle.std.proofs.Common.{◌≡◌, ℕ, ◌<◌, true, codes, List, [], ◌∷◌, ◌++◌, Option, Some, None, refl, sym, ap, subst, ◌∙◌, ◌≤◌, arith, slice_get, length}
+use Rattle.std.proofs.Common.{◌≡◌, ℕ, ◌<◌, true, codes, List, [], ◌∷◌, ◌++◌, Option, Some, None}
+use Rattle.std.proofs.Common.{refl, sym, ap, subst, ◌∙◌, ◌≤◌, arith, slice_get, length}
 use Rattle.std.specs.Prelude.{Bool, IsTrue, unwrap_or}
 use Rattle.std.specs.Option.{is_some, option_map}
 use Rattle.std.specs.List.{list_all}
@@ -11,7 +12,8 @@ use Rattle.naga_ir.specs.declared.types.TypeInner.{TypeInner}
 use Rattle.naga_ir.specs.declared.types.TypeInner.TheVariants as inner
 use Rattle.module_meaning.specs.Accepted.{is_scalar_type}
 use Rattle.naga_info.specs.Resolution.{inner_of}
-use Rattle.module_meaning.specs.Spelled.{word_of_type, word_at, pointer_spelling, spelling, spelling_of}
+use Rattle.module_meaning.specs.Spelled.{word_of_type, word_at, pointer_spelling, spelling}
+use Rattle.module_meaning.specs.Spelled.{spelling_of}
 use Rattle.naga_info.proofs.Options.{map_some, then_some}
 use Rattle.wgsl_text.specs.Types.{TypeSpecifier, Named}
 use Rattle.wgsl_text.proofs.Text.{text-append}
@@ -24,7 +26,8 @@ use Rattle.naga_words.specs.Parts.{Part, Word, Shown, Missing}
 use Rattle.naga_words.specs.Parts.{IsText, before_missing, known_text, lacks}
 use Rattle.naga_words.proofs.PartWriting.{reason_as}
 use Rattle.naga_words.specs.Contexts.{names_of, names_context}
-use Rattle.naga_words.specs.Spelling.{Context, Fits, FitsResolution, IsInOrder, end_of_base, knows_override, type_parts, resolution_parts}
+use Rattle.naga_words.specs.Spelling.{Context, Fits, FitsResolution, IsInOrder, end_of_base}
+use Rattle.naga_words.specs.Spelling.{knows_override, type_parts, resolution_parts}
 use Rattle.naga_words.specs.Sink.{IsBehind}
 use Rattle.naga_form.specs.TypeTrees.{type_tree, resolution_tree}
 use Rattle.naga_words.specs.declared.error.TypeTextError.{TypeTextError}

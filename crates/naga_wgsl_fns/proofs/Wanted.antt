@@ -1,5 +1,6 @@
 -- What the parts of a function want, from what the function wants.
-use Rattle.std.proofs.Common.{◌≡◌, ℕ, suc, ◌<◌, ◌≤◌, true, false, List, [], ◌++◌, codes, length, Option, None, Some, refl, sym, ap, subst, ◌∙◌, IsTrue}
+use Rattle.std.proofs.Common.{◌≡◌, ℕ, suc, ◌<◌, ◌≤◌, true, false, List, [], ◌++◌, codes, length}
+use Rattle.std.proofs.Common.{Option, None, Some, refl, sym, ap, subst, ◌∙◌, IsTrue}
 use Rattle.std.specs.Prelude.{slice_get, cond, nat_lt, nat_le, unwrap_or}
 use Rattle.std.specs.List.{list_all}
 use Rattle.std.specs.Option.{is_some, option_map, option_and_then}
@@ -38,12 +39,14 @@ use Rattle.module_meaning.proofs.Part.{written_parts}
 use Rattle.module_meaning.specs.Applications.{Application, application_of}
 use Rattle.shader_runs.specs.Premises.{AllBelow}
 use Rattle.module_meaning.specs.Spelled.{literal_word, word_at, spelling_of, local_pointer}
-use Rattle.module_meaning.specs.Accepted.{is_below, expected_type, local_fits, statement_fits, return_fits}
+use Rattle.module_meaning.specs.Accepted.{is_below, expected_type, local_fits, statement_fits}
+use Rattle.module_meaning.specs.Accepted.{return_fits}
 use Rattle.module_meaning.specs.Part.{names_nothing}
 use Rattle.naga_info.proofs.Options.{then_some}
 use Rattle.naga_wgsl_fns.specs.declared.functions.FunctionText.{FunctionText}
 use Rattle.naga_wgsl_fns.specs.FunctionText.{CanWrite, naming, tells_types}
-use Rattle.naga_wgsl_fns.specs.Types.{annotation_text, has_word, resolution_text, told_text, told_type_text}
+use Rattle.naga_wgsl_fns.specs.Types.{annotation_text, has_word, resolution_text, told_text}
+use Rattle.naga_wgsl_fns.specs.Types.{told_type_text}
 
 module _ (t : FunctionText) (can : CanWrite t) where
   -- its module, its map of names, its handle, the function, and what is known of its expressions

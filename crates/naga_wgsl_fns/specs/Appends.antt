@@ -1,4 +1,5 @@
--- What a call that writes a text to a sink does, by what the sink held, how often it had failed, and both afterwards.
+-- What a call that writes a text to a sink does, by what the sink held, how often it had failed,
+-- and both afterwards.
 use Rattle.std.specs.Prelude.{◌≡◌, ℕ, List, ◌++◌, Result, Ok, Err}
 use Rattle.naga_words.specs.Sink.{IsBehind}
 use Rattle.naga_wgsl_fns.specs.declared.error.Error.{Error}
@@ -10,11 +11,13 @@ pub record Wrote (held : List ℕ) (failed : ℕ) (text now : List ℕ) (failure
   pub kept : failures ≡ failed
 
 -- a beginning of the text stands there, for want of memory or because the sink failed
-pub record Stopped (held : List ℕ) (failed : ℕ) (text now : List ℕ) (failures : ℕ) (error : Error) : Type 0 where
+pub record Stopped (held : List ℕ) (failed : ℕ) (text now : List ℕ) (failures : ℕ)
+    (error : Error) : Type 0 where
   pub behind : IsBehind held text now
   pub reason : IsWant failed failures error
 
 -- one or the other, as the answer says
-abbrev pub Appends : Result Unit Error → (held : List ℕ) (failed : ℕ) (text now : List ℕ) (failures : ℕ) → Type 0
+abbrev pub Appends : Result Unit Error → (held : List ℕ) (failed : ℕ) (text now : List ℕ)
+    (failures : ℕ) → Type 0
 Appends (Ok _) held failed text now failures = Wrote held failed text now failures
 Appends (Err error) held failed text now failures = Stopped held failed text now failures error

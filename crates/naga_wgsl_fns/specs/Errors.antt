@@ -25,7 +25,8 @@ abbrev pub IsSinkWant : (old new : ℕ) → SinkError → Type 0
 IsSinkWant old new Failed = old < new
 IsSinkWant old new (Memory e) = ⊥
 
--- why a text was not written to a sink: memory ran out, or the sink failed once more. There is no other reason
+-- why a text was not written to a sink: memory ran out, or the sink failed once more. There is no
+-- other reason
 abbrev pub IsWant : (old new : ℕ) → Error → Type 0
 IsWant old new (FmtError e) = IsSinkWant old new e
 IsWant old new (Want e) = ⊤

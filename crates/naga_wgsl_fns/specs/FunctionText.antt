@@ -22,7 +22,8 @@ tells_types flags = bit_and flags.0 1 == 1
 -- the function under its names
 abbrev pub naming : FunctionText → Naming
 naming f =
-    function_naming (module_names f.shader.now) f.shader.now.types f.handle f.function.now f.info.now
+    let m = f.shader.now in
+    function_naming (module_names m) m.types f.handle f.function.now f.info.now
 
 -- its expressions
 abbrev pub expressions : FunctionText → List Expression

@@ -1,5 +1,6 @@
 -- The text of a function and of its parts.
-use Rattle.std.specs.Prelude.{◌≡◌, ℕ, Bool, List, [], ◌∷◌, ◌++◌, Option, Some, codes, slice_get, unwrap_or, ◌==◌, if◌then◌else◌}
+use Rattle.std.specs.Prelude.{◌≡◌, ℕ, Bool, List, [], ◌∷◌, ◌++◌, Option, Some, codes, slice_get}
+use Rattle.std.specs.Prelude.{unwrap_or, ◌==◌, if◌then◌else◌}
 use Rattle.std.specs.Option.{option_map, option_map_or}
 use Rattle.naga_ir.specs.declared.module.Function as ir
 use Rattle.naga_ir.specs.declared.module.FunctionArgument.{FunctionArgument}
@@ -31,7 +32,8 @@ abbrev pub known_of : ModuleInfo → ℕ → List ExpressionInfo
 known_of info handle = unwrap_or (slice_get info.functions.items handle) []
 
 -- the text of a function of the module, with what is known of its expressions
-abbrev pub text_of : Module → WriterFlags → (handle : ℕ) → ir.Function → List ExpressionInfo → List ℕ
+abbrev pub text_of : Module → WriterFlags → (handle : ℕ) → ir.Function → List ExpressionInfo
+    → List ℕ
 text_of m flags handle f known =
     let form = function_form (tells_types flags) (module_names m) m.types handle f known in
     text (function_pieces form)
@@ -39,7 +41,8 @@ text_of m flags handle f known =
 -- the same of the module's function with this handle; nothing, where there is none
 abbrev pub text_of_function : Module → ModuleInfo → WriterFlags → (handle : ℕ) → List ℕ
 text_of_function m info flags handle =
-    option_map_or (λ f. text_of m flags handle f (known_of info handle)) (slice_get m.functions handle) []
+    let text = λ f. text_of m flags handle f (known_of info handle) in
+    option_map_or text (slice_get m.functions handle) []
 
 -- the form of a function
 abbrev pub form_of : FunctionText → Function

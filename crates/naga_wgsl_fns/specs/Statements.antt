@@ -30,7 +30,8 @@ line_start level word = indentation level ++ word
 unfoldable pub store_text : FunctionText → (table : List Standing)
     → (level pointer value : ℕ) → List ℕ
 store_text f table level pointer value =
-    line_text level (Assign (as_reference (form_at f table pointer)) (as_value (form_at f table value)))
+    let place = as_reference (form_at f table pointer) in
+    line_text level (Assign place (as_value (form_at f table value)))
 
 unfoldable pub return_text : FunctionText → (table : List Standing)
     → (level : ℕ) (value : Option ℕ) → List ℕ
@@ -60,14 +61,16 @@ unfoldable pub lets_text : FunctionText → (table : List Standing) → (level :
     → (handles : List ℕ) → List ℕ
 lets_text f table level handles =
     let rest = NoStatements in
-    lines_text level (lets_form (naming f) (told f) (expressions f) 0 handles (handles_of table) rest)
+    let lets = lets_form (naming f) (told f) (expressions f) 0 handles (handles_of table) rest in
+    lines_text level lets
 
 -- a statement of a block
 unfoldable pub statement_text : FunctionText → (table : List Standing) → (level : ℕ)
     → StatementTree → List ℕ
 statement_text f table level statement =
     let rest = NoStatements in
-    lines_text level (line_form (naming f) (told f) (expressions f) 0 statement (handles_of table) rest)
+    let lines = line_form (naming f) (told f) (expressions f) 0 statement (handles_of table) rest in
+    lines_text level lines
 
 unfoldable pub block_text : FunctionText → (table : List Standing) → (level : ℕ)
     → BlockTree → List ℕ

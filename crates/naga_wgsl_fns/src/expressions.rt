@@ -16,8 +16,8 @@ use naga_scope::{Scope, Standing};
 use naga_words::{Output, TextSink};
 
 impl FunctionText<'_> {
-    /// An expression as a value: its name where it has one here, else what it is made of. A reference
-    /// is written with `&`.
+    /// An expression as a value: its name where it has one here, else what it is made of. A
+    /// reference is written with `&`.
     #[cycle(expression)]
     #[tactic(auto, using(crate::proofs::ExpressionRows::value_row))]
     pub(crate) fn write_value<W: TextSink>(

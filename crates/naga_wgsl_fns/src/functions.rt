@@ -1,6 +1,7 @@
 //! Functions.
 
-ghost use Rattle.std.specs.Prelude.{◌≡◌, ◌<◌, ◌++◌, IfErr, IsTrue, OnErr, OnOk, Some, length, slice_get};
+ghost use Rattle.std.specs.Prelude.{◌≡◌, ◌<◌, ◌++◌, IfErr, IsTrue, OnErr, OnOk, Some, length};
+ghost use Rattle.std.specs.Prelude.{slice_get};
 ghost use Rattle.module_meaning.specs.Accepted.{is_accepted, is_below};
 ghost use Rattle.module_meaning.specs.Part.{is_written_so_far};
 ghost use Rattle.module_meaning.specs.Names.{HasNamesOf};
@@ -11,7 +12,12 @@ ghost use Rattle.naga_words.specs.Sink.{IsBehind};
 ghost use Rattle.naga_wgsl_fns.specs.Errors.{IsWant};
 ghost use Rattle.naga_wgsl_fns.specs.FunctionText.{CanWrite};
 ghost use Rattle.naga_wgsl_fns.specs.Types.{has_word};
-ghost use Rattle.naga_wgsl_fns.specs.Functions.{StartsAt, answer_text, argument_text, arguments_text, body_text, first_text, first_value_text, function_text, group_end_text, head_text, local_text, locals_text, next_argument_text, result_text, separator, text_of_function};
+ghost use Rattle.naga_wgsl_fns.specs.Functions.{StartsAt, answer_text, argument_text};
+ghost use Rattle.naga_wgsl_fns.specs.Functions.{arguments_text, body_text, first_text};
+ghost use Rattle.naga_wgsl_fns.specs.Functions.{first_value_text, function_text, group_end_text};
+ghost use Rattle.naga_wgsl_fns.specs.Functions.{head_text, local_text, locals_text};
+ghost use Rattle.naga_wgsl_fns.specs.Functions.{next_argument_text, result_text, separator};
+ghost use Rattle.naga_wgsl_fns.specs.Functions.{text_of_function};
 
 use crate::Error;
 use crate::error::error_of_want;

@@ -10,7 +10,9 @@ ghost use Rattle.shader_runs.specs.Program.{from};
 ghost use Rattle.shader_runs.specs.Scope.{after, after_emit};
 ghost use Rattle.naga_words.specs.Output.{Writes};
 ghost use Rattle.naga_wgsl_fns.specs.FunctionText.{CanWrite, naming};
-ghost use Rattle.naga_wgsl_fns.specs.Statements.{block_text, emitted_text, let_text, lets_text, line_start, return_text, return_value_text, statement_text, store_text};
+ghost use Rattle.naga_wgsl_fns.specs.Statements.{block_text, emitted_text, let_text, lets_text};
+ghost use Rattle.naga_wgsl_fns.specs.Statements.{line_start, return_text, return_value_text};
+ghost use Rattle.naga_wgsl_fns.specs.Statements.{statement_text, store_text};
 
 use crate::functions::FunctionText;
 use crate::names::write_bound_name;
@@ -77,8 +79,8 @@ impl FunctionText<'_> {
         }
     }
 
-    /// A `let` for each of these expressions that is to be bound. Behind the call, `scope` is what is in
-    /// scope behind the `Emit`.
+    /// A `let` for each of these expressions that is to be bound. Behind the call, `scope` is what
+    /// is in scope behind the `Emit`.
     #[tactic(auto, using(naga_words::proofs::Writing::loop_writes))]
     fn write_emit<W: TextSink>(
         &self,

@@ -70,8 +70,8 @@ impl FunctionText<'_> {
         write_resolution_in(&context, alloc, ty, out);
     }
 
-    /// What stands between the name of a `let` and its `=`: a colon and the type, if the flags ask for
-    /// it.
+    /// What stands between the name of a `let` and its `=`: a colon and the type, if the flags ask
+    /// for it.
     pub(crate) fn write_told_type<W: TextSink>(
         &self,
         alloc: Global,

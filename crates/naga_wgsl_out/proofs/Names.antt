@@ -1,5 +1,6 @@
 -- What a `Namer` that was reset by a module knows of the module's names.
-use Rattle.std.proofs.Common.{◌≡◌, ℕ, zero, suc, ◌<◌, ◌≤◌, ◌^◌, true, false, List, length, Some, sym, ap, subst, ◌∙◌, arith}
+use Rattle.std.proofs.Common.{◌≡◌, ℕ, zero, suc, ◌<◌, ◌≤◌, ◌^◌, true, false, List, length, Some}
+use Rattle.std.proofs.Common.{sym, ap, subst, ◌∙◌, arith}
 use Rattle.std.specs.Prelude.{slice_get, map, Result, Ok, Err, OnOk, IfErr, IsErr}
 use Rattle.std.specs.FinSet as set
 use Rattle.std.proofs.lemmas.Bool.{ltb-true}
@@ -15,7 +16,8 @@ use Rattle.naga_names.specs.Keys.{NameMap}
 use Rattle.naga_names.specs.Reset.{labelled_items, key_fits, HasNamedItems}
 use Rattle.naga_names.specs.declared.key.NameKey.TheVariants as key
 use Rattle.naga_names.proofs.NamedItems.{named_there, few_labels, local_stands}
-use Rattle.module_meaning.specs.Names.{reserved_prefixes, wgsl_names, module_names, function_name, HasNamesOf}
+use Rattle.module_meaning.specs.Names.{reserved_prefixes, wgsl_names, module_names, function_name}
+use Rattle.module_meaning.specs.Names.{HasNamesOf}
 use Rattle.naga_form.proofs.Names.{name_is, function_item, argument_item, function_there}
 use Rattle.naga_form.proofs.Names.{argument_there}
 use Rattle.naga_names.proofs.Refusal.{element}

@@ -1,5 +1,5 @@
-//! What is known of a module beside itself, whether it is accepted, and how often its expressions are
-//! used.
+//! What is known of a module beside itself, whether it is accepted, and how often its expressions
+//! are used.
 
 pub use naga_acceptance::{accepts, count};
 pub use naga_info::{

@@ -1,8 +1,9 @@
 //! Writes shaders as WGSL.
 //!
-//! This crate offers all that a user of the project needs, under naga's module names. A [`Module`](ir::Module) is
-//! built from the types of [`ir`], with what is known of its expressions from [`info`], and written
-//! by [`wgsl::write_string`], or by a [`wgsl::Writer`] to any [`types::TextSink`].
+//! This crate offers all that a user of the project needs, under naga's module names. A
+//! [`Module`](ir::Module) is built from the types of [`ir`], with what is known of its expressions
+//! from [`info`], and written by [`wgsl::write_string`], or by a [`wgsl::Writer`] to any
+//! [`types::TextSink`].
 #![tactic(auto)]
 
 pub mod back;

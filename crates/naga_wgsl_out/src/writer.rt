@@ -71,36 +71,44 @@ impl<W: TextSink> Writer<W> {
         out
     }
 
-    /// Writes the module behind what the sink holds: a text that is read as one program, which has the
-    /// module's interface and does what the module does. The module is accepted with what is known of it.
+    /// Writes the module behind what the sink holds: a text that is read as one program, which has
+    /// the module's interface and does what the module does. The module is accepted with what is
+    /// known of it.
     ///
-    /// The text depends on the module, on what is known of it and on the flags alone, whatever was written
-    /// or refused before. Where the call gives up for want of memory or because the sink failed, a
-    /// beginning of its text stands behind what the sink held. The next call starts afresh.
+    /// The text depends on the module, on what is known of it and on the flags alone, whatever was
+    /// written or refused before. Where the call gives up for want of memory or because the sink
+    /// failed, a beginning of its text stands behind what the sink held. The next call starts
+    /// afresh.
     ///
     /// An expression that is used where it is out of scope, and an `Emit` that is not allowed where
-    /// it stands, are refused as `Custom`, `operand out of scope`. Each function is looked at before
-    /// its text, so the functions in front of the first such one then stand behind what the sink
-    /// held, whole, an empty line behind each. Any other refusal leaves the sink's text as it was.
-    /// None of them is a failure of the sink.
+    /// it stands, are refused as `Custom`, `operand out of scope`. Each function is looked at
+    /// before its text, so the functions in front of the first such one then stand behind what the
+    /// sink held, whole, an empty line behind each. Any other refusal leaves the sink's text as it
+    /// was. None of them is a failure of the sink.
     ///
     /// So far a module is refused as `Unimplemented`, `not yet written`, unless it declares nothing
-    /// but scalar types and functions whose locals have a literal as first value or none, whose expressions are arguments, locals,
-    /// literals, loads, sums, differences and products, without names of their own, and whose
-    /// statements are `Emit`s, `Store`s and `Return`s.
+    /// but scalar types and functions whose locals have a literal as first value or none, whose
+    /// expressions are arguments, locals, literals, loads, sums, differences and products, without
+    /// names of their own, and whose statements are `Emit`s, `Store`s and `Return`s.
     ///
     /// An emitted expression is bound by a `let` where it is a `Load` that is used at all or an
     /// operator that is used at least twice; `EXPLICIT_TYPES` has each `let` tell its type.
     pub fn write(&mut self, module: &Module, info: &ModuleInfo) -> Result<(), Error>
         requires accepted { IsTrue (is_accepted «module».now info.now) }
-        ensures faithful { FaithfulWriting «module».now info.now result (W.text self.old.sink) (W.text self.new.sink) (W.failures self.old.sink) (W.failures self.new.sink) }
+        ensures faithful { FaithfulWriting «module».now info.now result
+            (W.text self.old.sink) (W.text self.new.sink)
+            (W.failures self.old.sink) (W.failures self.new.sink) }
         // Each identifier of the text stands for the item that it was written for.
-        ensures resolution { OnOk result (EachReading (W.text self.old.sink) (W.text self.new.sink) (ResolvesAs «module».now info.now)) }
+        ensures resolution { OnOk result (EachReading (W.text self.old.sink) (W.text self.new.sink)
+            (ResolvesAs «module».now info.now)) }
         // Its `let`s are those of the emitted expressions that are to be bound, and tell the types
         // of these if the flags ask for it.
-        ensures bindings { OnOk result (EachReading (W.text self.old.sink) (W.text self.new.sink) (BindsAs «module».now info.now (tells_types self.old.flags))) }
-        ensures text_ok { OnOk result (W.text self.new.sink ≡ W.text self.old.sink ++ written_text «module».now info.now self.old.flags) }
-        ensures text_err { OnErr result (IsBehind (W.text self.old.sink) (written_text «module».now info.now self.old.flags) (W.text self.new.sink)) }
+        ensures bindings { OnOk result (EachReading (W.text self.old.sink) (W.text self.new.sink)
+            (BindsAs «module».now info.now (tells_types self.old.flags))) }
+        ensures text_ok { OnOk result (W.text self.new.sink
+            ≡ W.text self.old.sink ++ written_text «module».now info.now self.old.flags) }
+        ensures text_err { OnErr result (IsBehind (W.text self.old.sink)
+            (written_text «module».now info.now self.old.flags) (W.text self.new.sink)) }
         ensures failures_ok { OnOk result (W.failures self.new.sink ≡ W.failures self.old.sink) }
         ensures untouched { IfErr result (λ e. ComesBeforeText e →
             W.text self.new.sink ≡ W.text self.old.sink) }
@@ -108,7 +116,8 @@ impl<W: TextSink> Writer<W> {
         ensures written_before { IfErr result (λ e. TellsOfScope e →
             WroteFunctionsBefore «module».now info.now self.old.flags
             (W.text self.old.sink) (W.text self.new.sink)) }
-        ensures unfailed { IfErr result (λ e. TellsOfModule e → W.failures self.new.sink ≡ W.failures self.old.sink) }
+        ensures unfailed { IfErr result (λ e. TellsOfModule e →
+            W.failures self.new.sink ≡ W.failures self.old.sink) }
         ensures flags { self.new.flags ≡ self.old.flags }
     {
         if !is_written_so_far(module) {
@@ -178,7 +187,9 @@ fn write_function_line<W: TextSink>(
     requires handle { handle < length «module».now.functions }
     requires names { HasNamesOf «module».now (names_in names.now) }
     requires planned { IsPlanOf «module».now info.now handle plan }
-    ensures { Appends result (W.text out.old) (W.failures out.old) (text_of_function «module».now info.now flags handle ++ codes "\n") (W.text out.new) (W.failures out.new) }
+    ensures { Appends result (W.text out.old) (W.failures out.old)
+        (text_of_function «module».now info.now flags handle ++ codes "\n")
+        (W.text out.new) (W.failures out.new) }
 {
     write_function(alloc, module, info, names, flags, handle, plan, out)?;
     put("\n", out)
@@ -254,10 +265,14 @@ pub fn write_string(
     flags: WriterFlags,
 ) -> Result<String, Error>
     requires accepted { IsTrue (is_accepted «module».now info.now) }
-    ensures faithful { FaithfulWriting «module».now info.now (answer_of result) [] (text_of result) 0 0 }
-    ensures resolution { OnOk (answer_of result) (EachReading [] (text_of result) (ResolvesAs «module».now info.now)) }
-    ensures bindings { OnOk (answer_of result) (EachReading [] (text_of result) (BindsAs «module».now info.now (tells_types flags))) }
-    ensures text { IfOk result (λ text. string_bytes text ≡ written_text «module».now info.now flags) }
+    ensures faithful { FaithfulWriting «module».now info.now (answer_of result)
+        [] (text_of result) 0 0 }
+    ensures resolution { OnOk (answer_of result) (EachReading [] (text_of result)
+        (ResolvesAs «module».now info.now)) }
+    ensures bindings { OnOk (answer_of result) (EachReading [] (text_of result)
+        (BindsAs «module».now info.now (tells_types flags))) }
+    ensures text { IfOk result (λ text.
+        string_bytes text ≡ written_text «module».now info.now flags) }
 {
     let mut writer = Writer::new(alloc, String::new(alloc), flags);
     writer.write(module, info)?;

@@ -1,11 +1,14 @@
 -- The spelling of a type is one level over the spellings of the types that it names.
-use Rattle.std.proofs.Common.{◌≡◌, ◌<◌, ◌≤◌, ℕ, zero, suc, List, [], ◌∷◌, Option, Some, None, refl, ap, ◌∙◌, arith, slice_get, codes, if◌then◌else◌}
+use Rattle.std.proofs.Common.{◌≡◌, ◌<◌, ◌≤◌, ℕ, zero, suc, List, [], ◌∷◌, Option, Some, None, refl}
+use Rattle.std.proofs.Common.{ap, ◌∙◌, arith, slice_get, codes, if◌then◌else◌}
 use Rattle.naga_ir.specs.declared.types.Type_.{Type_}
 use Rattle.naga_ir.specs.declared.types.TypeInner.{TypeInner}
 use Rattle.naga_ir.specs.declared.types.TypeInner.TheVariants as inner
 use Rattle.wgsl_words.specs.Words.{space_word, space_access_word}
 use Rattle.naga_words.specs.Parts.{Part, Word}
-use Rattle.naga_words.specs.Spelling.{Context, IsInOrder, is_struct, end_of_base, pointer_parts, array_parts, inner_parts_by, named_parts_by, found_parts_by, parts_within, type_parts}
+use Rattle.naga_words.specs.Spelling.{Context, IsInOrder, is_struct, end_of_base, pointer_parts}
+use Rattle.naga_words.specs.Spelling.{array_parts, inner_parts_by, named_parts_by, found_parts_by}
+use Rattle.naga_words.specs.Spelling.{parts_within, type_parts}
 
 module _ (f g : ℕ → List Part) (n : ℕ) (same : (k : ℕ) → k < n → f k ≡ g k) where
   -- spellings that agree on the types that it names agree on the whole

@@ -7,7 +7,8 @@ use Rattle.naga_ir.specs.declared.types.TypeInner.{TypeInner}
 use Rattle.naga_ir.specs.declared.types.TypeInner.TheVariants as inner
 use Rattle.naga_ir.specs.declared.types.ArraySize.{ArraySize}
 use Rattle.naga_ir.specs.declared.types.ArraySize.TheVariants as size
-use Rattle.naga_words.specs.Spelling.{Context, IsInOrder, StandsBehind, knows_size, knows_override, size_within, length_within}
+use Rattle.naga_words.specs.Spelling.{Context, IsInOrder, StandsBehind, knows_size, knows_override}
+use Rattle.naga_words.specs.Spelling.{size_within, length_within}
 
 knows_each_size : (c : Context) → ((h : ℕ) → IsTrue (c.knows h)) → (it : ArraySize) → IsTrue (knows_size c it)
 knows_each_size c all (size.Constant number) = refl

@@ -1,8 +1,12 @@
 -- Two runs that make the same events and stand in a relation wherever they pause.
-use Rattle.std.proofs.Common.{◌≡◌, ℕ, zero, suc, Bool, true, false, List, Option, Some, None, refl, sym, subst, cond, option_map, option_and_then}
+use Rattle.std.proofs.Common.{◌≡◌, ℕ, zero, suc, Bool, true, false, List, Option, Some, None, refl}
+use Rattle.std.proofs.Common.{sym, subst, cond, option_map, option_and_then}
 use Rattle.shader_runs.specs.Value.{Place, Value, truth_in, place_in}
 use Rattle.shader_runs.specs.World.{Event}
-use Rattle.shader_runs.specs.Outcome.{Stop, Mistyped, Outcome, Done, Continued, Broke, Returned, Stopped, Reached, Gives, Halts, answer, Next, and_then, and_continue, within, and_again, turns, after_switch, closed_outcome, branch_by, or_stuck, reach}
+use Rattle.shader_runs.specs.Outcome.{Stop, Mistyped, Outcome, Done, Continued, Broke, Returned}
+use Rattle.shader_runs.specs.Outcome.{Stopped, Reached, Gives, Halts, answer, Next, and_then}
+use Rattle.shader_runs.specs.Outcome.{and_continue, within, and_again, turns, after_switch}
+use Rattle.shader_runs.specs.Outcome.{closed_outcome, branch_by, or_stuck, reach}
 use Rattle.shader_runs.specs.ProgramRun.{if_typed, with_pointer}
 use Rattle.shader_runs.specs.TextRun.{Denoted, IsPlace, with_value, with_place}
 
@@ -10,7 +14,8 @@ abbrev pub HoldsOf : {A : Type 0} → (A → Type 0) → Reached A → Type 0
 HoldsOf R (Gives a t) = R a
 HoldsOf R (Halts x t) = Unit {0}
 
--- the second does what the first does, with a result of which R holds, unless the first met an answer of a wrong type
+-- the second does what the first does, with a result of which R holds, unless the first met an
+-- answer of a wrong type
 pub data Answers {A : Type 0} (R : A → Type 0) : Reached A → Reached A → Type 0 where
   same_answer : {q : Reached A} → HoldsOf R q → Answers R q q
   mistyped_answer : {t : List Event} {q : Reached A} → Answers R (Halts Mistyped t) q

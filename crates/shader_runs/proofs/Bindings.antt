@@ -1,13 +1,21 @@
 -- The `let`s of a text are those of the handles that the module binds.
-use Rattle.std.proofs.Common.{◌≡◌, ℕ, Bool, true, false, cond, List, [], ◌∷◌, ◌++◌, map, Option, Some, None, refl, sym, ap, ◌∙◌}
+use Rattle.std.proofs.Common.{◌≡◌, ℕ, Bool, true, false, cond, List, [], ◌∷◌, ◌++◌, map, Option}
+use Rattle.std.proofs.Common.{Some, None, refl, sym, ap, ◌∙◌}
 use Rattle.std.proofs.lemmas.List.{map-append}
 use Rattle.shader_runs.specs.Value.{Bytes}
-use Rattle.shader_runs.specs.Program.{Statement, Emit, Block, If, Switch, Loop, Barrier, Act, Statements, end, then, Cases, no_case, case, Label, expression_of, handle_type, binds, from}
+use Rattle.shader_runs.specs.Program.{Statement, Emit, Block, If, Switch, Loop, Barrier, Act}
+use Rattle.shader_runs.specs.Program.{Statements, end, then, Cases, no_case, case, Label}
+use Rattle.shader_runs.specs.Program.{expression_of, handle_type, binds, from}
 use Rattle.shader_runs.specs.ProgramRun.{barrier_words}
-use Rattle.shader_runs.specs.Scope.{Handles, Naming, bound_name, at_start, given_after, given_by, given_by_all, after_one, after, after_all}
+use Rattle.shader_runs.specs.Scope.{Handles, Naming, bound_name, at_start, given_after, given_by}
+use Rattle.shader_runs.specs.Scope.{given_by_all, after_one, after, after_all}
 use Rattle.shader_runs.specs.Text.{Tree, Trees, Lines, before}
-use Rattle.shader_runs.specs.Form.{value_form, value_forms, own_form, written, let_if, lets, word_of, act_line, perform_each, form, form_all, form_cases, form_functions}
-use Rattle.shader_runs.specs.Bindings.{lines_lets, groups_lets, Binding, emit_bindings, result_bindings, statement_bindings, statements_bindings, cases_bindings, bound_names}
+use Rattle.shader_runs.specs.Form.{value_form, value_forms, own_form, written, let_if, lets}
+use Rattle.shader_runs.specs.Form.{word_of, act_line, perform_each, form, form_all, form_cases}
+use Rattle.shader_runs.specs.Form.{form_functions}
+use Rattle.shader_runs.specs.Bindings.{lines_lets, groups_lets, Binding, emit_bindings}
+use Rattle.shader_runs.specs.Bindings.{result_bindings, statement_bindings, statements_bindings}
+use Rattle.shader_runs.specs.Bindings.{cases_bindings, bound_names}
 use Rattle.shader_runs.specs.Identifiers.{BindsAsMeant}
 
 -- the names of handles that are bound

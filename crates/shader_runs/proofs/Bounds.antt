@@ -1,11 +1,16 @@
 -- With more turns a process ends as with fewer, or the one with fewer ran out of turns before.
-use Rattle.std.proofs.Common.{◌≡◌, ℕ, zero, suc, ◌+◌, ◌≤◌, ◌⊎◌, inl, inr, Bool, true, false, List, ◌∷◌, length, refl, sym, subst, arith}
+use Rattle.std.proofs.Common.{◌≡◌, ℕ, zero, suc, ◌+◌, ◌≤◌, ◌⊎◌, inl, inr, Bool, true, false, List}
+use Rattle.std.proofs.Common.{◌∷◌, length, refl, sym, subst, arith}
 use Rattle.shader_runs.specs.Value.{has_type}
 use Rattle.shader_runs.specs.World.{Event, entries}
 use Rattle.shader_runs.specs.Outcome.{OutOfTurns, Reached, Gives, Halts}
 use Rattle.shader_runs.specs.ProgramRun.{Kept}
-use Rattle.shader_runs.proofs.Process.{Pause, DoneWith, ContinuedWith, BrokeWith, ReturnedWith, Process, gives, stuck, unreturned, discards, tells, wants, looks, sequence, repeats, answered, resumed, again, rounds, perform}
-use Rattle.shader_runs.proofs.Worlds.{Types, world_of, mistakes, events_made, Makes, rounds_make, process_makes}
+use Rattle.shader_runs.proofs.Process.{Pause, DoneWith, ContinuedWith, BrokeWith, ReturnedWith}
+use Rattle.shader_runs.proofs.Process.{Process, gives, stuck, unreturned, discards, tells, wants}
+use Rattle.shader_runs.proofs.Process.{looks, sequence, repeats, answered, resumed, again, rounds}
+use Rattle.shader_runs.proofs.Process.{perform}
+use Rattle.shader_runs.proofs.Worlds.{Types, world_of, mistakes, events_made, Makes, rounds_make}
+use Rattle.shader_runs.proofs.Worlds.{process_makes}
 
 -- a run makes events behind those that it began with, and a mistake behind at least one
 abbrev Grows : List Event → Reached Pause → Type 0

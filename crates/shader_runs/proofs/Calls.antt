@@ -1,24 +1,48 @@
 -- Calls, by the functions of a module in their order.
-use Rattle.std.proofs.Common.{◌≡◌, ◌≢◌, ℕ, suc, ◌+◌, ◌<◌, ◌≤◌, min, Bool, true, false, cond, nat_eq, List, [], ◌∷◌, take, length, Option, Some, None, slice_get, refl, sym, ap, ◌∙◌, subst, add-zero, zero-add, arith, eqb-true, map, option_map}
+use Rattle.std.proofs.Common.{◌≡◌, ◌≢◌, ℕ, suc, ◌+◌, ◌<◌, ◌≤◌, min, Bool, true, false, cond, nat_eq}
+use Rattle.std.proofs.Common.{List, [], ◌∷◌, take, length, Option, Some, None, slice_get, refl, sym}
+use Rattle.std.proofs.Common.{ap, ◌∙◌, subst, add-zero, zero-add, arith, eqb-true, map, option_map}
 use Rattle.std.proofs.Math.Nat.{min-le_right}
 use Rattle.std.proofs.lemmas.List.{length-take, length-take-le}
 use Rattle.std.proofs.lemmas.Option.{slice_get_within, none-some, same_Some}
 use Rattle.std.proofs.lemmas.Bool.{eqb-false}
 use Rattle.std.specs.Prelude.{IsTrue}
 use Rattle.shader_runs.specs.Value.{Bytes, same_bytes, PartTypes, ValueType, has_types, Value}
-use Rattle.shader_runs.specs.World.{Event, Entry, entries, World, Meaning, Environment, bind, Settings}
+use Rattle.shader_runs.specs.World.{Event, Entry, entries, World, Meaning, Environment, bind}
+use Rattle.shader_runs.specs.World.{Settings}
 use Rattle.shader_runs.specs.Outcome.{Stuck, Reached, Gives, Halts, answer, reach}
-use Rattle.shader_runs.specs.Program.{ConstantTree, Fixed, NamedConstant, Constructed, ConstantTrees, no_constant, constant, Expression, Constant, Operator, Request, Function, argument_count, local_count, function_numbered, expression_of, handle_type, operands_of, from, Statement, Emit, Block, If, Switch, Loop, Statements, end, then, Cases, no_case, case, Module, any_continue}
-use Rattle.shader_runs.specs.ProgramRun.{Call, Kept, constants_kept, called, used_value, with_first, first_used, first_used_all, entered, run_all, run_body, run_call}
-use Rattle.shader_runs.specs.TextRun.{Scope, Words, WordUse, NamesFunction, AsksForEvent, Operates, value_of, with_parameters, with_variables, with_globals, no_names, respond_by_use, word_use, put_first, first_followed, first_then, first_of_each, entered_by, follow_all, follow_body, follow_call}
-use Rattle.shader_runs.specs.Scope.{ModuleNames, Naming, usable, usable_if, given_after, given_after_all, given_by, given_by_all, given_by_cases, at_start, before_local, first_values_fit, fits_all, after_all}
-use Rattle.shader_runs.specs.Form.{names_from, variables_from, globals_from, value_at, value_if, form_all, form_function, form_functions, form_module, functions_of}
+use Rattle.shader_runs.specs.Program.{ConstantTree, Fixed, NamedConstant, Constructed}
+use Rattle.shader_runs.specs.Program.{ConstantTrees, no_constant, constant, Expression, Constant}
+use Rattle.shader_runs.specs.Program.{Operator, Request, Function, argument_count, local_count}
+use Rattle.shader_runs.specs.Program.{function_numbered, expression_of, handle_type, operands_of}
+use Rattle.shader_runs.specs.Program.{from, Statement, Emit, Block, If, Switch, Loop, Statements}
+use Rattle.shader_runs.specs.Program.{end, then, Cases, no_case, case, Module, any_continue}
+use Rattle.shader_runs.specs.ProgramRun.{Call, Kept, constants_kept, called, used_value, with_first}
+use Rattle.shader_runs.specs.ProgramRun.{first_used, first_used_all, entered, run_all, run_body}
+use Rattle.shader_runs.specs.ProgramRun.{run_call}
+use Rattle.shader_runs.specs.TextRun.{Scope, Words, WordUse, NamesFunction, AsksForEvent, Operates}
+use Rattle.shader_runs.specs.TextRun.{value_of, with_parameters, with_variables, with_globals}
+use Rattle.shader_runs.specs.TextRun.{no_names, respond_by_use, word_use, put_first, first_followed}
+use Rattle.shader_runs.specs.TextRun.{first_then, first_of_each, entered_by, follow_all}
+use Rattle.shader_runs.specs.TextRun.{follow_body, follow_call}
+use Rattle.shader_runs.specs.Scope.{ModuleNames, Naming, usable, usable_if, given_after}
+use Rattle.shader_runs.specs.Scope.{given_after_all, given_by, given_by_all, given_by_cases}
+use Rattle.shader_runs.specs.Scope.{at_start, before_local, first_values_fit, fits_all, after_all}
+use Rattle.shader_runs.specs.Form.{names_from, variables_from, globals_from, value_at, value_if}
+use Rattle.shader_runs.specs.Form.{form_all, form_function, form_functions, form_module}
+use Rattle.shader_runs.specs.Form.{functions_of}
 use Rattle.shader_runs.specs.Points.{call_of as a_call}
-use Rattle.shader_runs.specs.Premises.{FixedName, ArgumentName, LocalName, ConstantName, GlobalName, NameKey, FixedKey, NumberedKey, GivenKey, fixed_name, IsFixedName, IsName, StandsFree, ConstantWords, ConstantsWords, WordFits, AllBelow, LeafFits, AreDistinct, FunctionFits, AllFit, EnvironmentFits, IsTypedIn, AllTypedIn, SettingsFit, IsTyped}
+use Rattle.shader_runs.specs.Premises.{FixedName, ArgumentName, LocalName, ConstantName, GlobalName}
+use Rattle.shader_runs.specs.Premises.{NameKey, FixedKey, NumberedKey, GivenKey, fixed_name}
+use Rattle.shader_runs.specs.Premises.{IsFixedName, IsName, StandsFree, ConstantWords}
+use Rattle.shader_runs.specs.Premises.{ConstantsWords, WordFits, AllBelow, LeafFits, AreDistinct}
+use Rattle.shader_runs.specs.Premises.{FunctionFits, AllFit, EnvironmentFits, IsTypedIn, AllTypedIn}
+use Rattle.shader_runs.specs.Premises.{SettingsFit, IsTyped}
 use Rattle.shader_runs.specs.Correct.{KeepsTypes, RunsAlike, ModuleFits}
 use Rattle.shader_runs.specs.Constants.{environment_of, module_scope}
 use Rattle.shader_runs.proofs.Alike.{Answers, same_answer, mistyped_answer, alike_answers}
-use Rattle.shader_runs.proofs.Update.{and_left, and_right, same_bytes_equal, same_bytes_apart, has_types_length}
+use Rattle.shader_runs.proofs.Update.{and_left, and_right, same_bytes_equal, same_bytes_apart}
+use Rattle.shader_runs.proofs.Update.{has_types_length}
 use Rattle.shader_runs.proofs.Relation.{Returns, global_as, IsHere, NoName, fixed_denoted, Related}
 use Rattle.shader_runs.proofs.Evaluation.{words, Respond, Responds}
 use Rattle.shader_runs.proofs.Form.{Given, globals_length, value_here}
@@ -26,7 +50,10 @@ use Rattle.shader_runs.proofs.Checked.{FitsAll}
 use Rattle.shader_runs.proofs.Statements.{Same, same_all}
 use Rattle.shader_runs.proofs.Fresh.{all_fresh, start_sources}
 use Rattle.shader_runs.proofs.Start.{start_stands}
-use Rattle.shader_runs.proofs.Names.{parameter_other, parameter_at, variable_place, variable_other, variable_at, one_more_variable, take_one_more, globals_other, globals_at, held, length-names_from, length-functions_of, module_names_given, no_name_among}
+use Rattle.shader_runs.proofs.Names.{parameter_other, parameter_at, variable_place, variable_other}
+use Rattle.shader_runs.proofs.Names.{variable_at, one_more_variable, take_one_more, globals_other}
+use Rattle.shader_runs.proofs.Names.{globals_at, held, length-names_from, length-functions_of}
+use Rattle.shader_runs.proofs.Names.{module_names_given, no_name_among}
 use Rattle.shader_runs.proofs.Constants.{environment_fits, scope_is}
 
 length-form_functions : (fs : List Naming) → length (form_functions fs) ≡ length fs

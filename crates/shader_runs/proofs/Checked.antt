@@ -2,10 +2,15 @@
 use Rattle.std.proofs.Common.{◌≢◌, ℕ, Bool, true, false, List, [], ◌∷◌, Option, Some, None}
 use Rattle.std.specs.Prelude.{IsTrue}
 use Rattle.shader_runs.specs.Value.{Bytes}
-use Rattle.shader_runs.specs.Program.{Expression, Statement, Emit, Store, Block, If, Switch, Loop, Return, Barrier, Act, Statements, end, then, Cases, no_case, case, Module, expression_of, operands_of, binds, from}
+use Rattle.shader_runs.specs.Program.{Expression, Statement, Emit, Store, Block, If, Switch, Loop}
+use Rattle.shader_runs.specs.Program.{Return, Barrier, Act, Statements, end, then, Cases, no_case}
+use Rattle.shader_runs.specs.Program.{case, Module, expression_of, operands_of, binds, from}
 use Rattle.shader_runs.specs.ProgramRun.{Call, barrier_words}
-use Rattle.shader_runs.specs.Scope.{Named, Handles, Names, bound_name, usable, usable_all, usable_if, is_new, is_emittable, given_after, given_by, given_by_all, after_one, after, after_all}
-use Rattle.shader_runs.specs.Premises.{FixedName, fixed_name, EachAsks, ActionFits, ReturnFits, IsResult, FallsFrom}
+use Rattle.shader_runs.specs.Scope.{Named, Handles, Names, bound_name, usable, usable_all}
+use Rattle.shader_runs.specs.Scope.{usable_if, is_new, is_emittable, given_after, given_by}
+use Rattle.shader_runs.specs.Scope.{given_by_all, after_one, after, after_all}
+use Rattle.shader_runs.specs.Premises.{FixedName, fixed_name, EachAsks, ActionFits, ReturnFits}
+use Rattle.shader_runs.specs.Premises.{IsResult, FallsFrom}
 use Rattle.shader_runs.proofs.Relation.{IsHere, NoName}
 use Rattle.shader_runs.proofs.Evaluation.{naming}
 

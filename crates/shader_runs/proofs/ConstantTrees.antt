@@ -1,14 +1,19 @@
 -- Trees over constants alone: the types of their values, and what their text gives.
 use Rattle.std.proofs.Common.{◌≡◌, ℕ, List, [], ◌∷◌, Option, Some, refl, ap, ap₂, ◌∙◌}
 use Rattle.std.specs.Prelude.{IsTrue}
-use Rattle.shader_runs.specs.Value.{Bytes, PartTypes, IntegerType, OtherType, type_at, has_type, has_types, Value, Truth, Whole, Pointer, Opaque, Spelled}
+use Rattle.shader_runs.specs.Value.{Bytes, PartTypes, IntegerType, OtherType, type_at, has_type}
+use Rattle.shader_runs.specs.Value.{has_types, Value, Truth, Whole, Pointer, Opaque, Spelled}
 use Rattle.shader_runs.specs.World.{Event, Meaning}
-use Rattle.shader_runs.specs.Program.{ConstantTree, Fixed, NamedConstant, Constructed, ConstantTrees, no_constant, constant, Module}
+use Rattle.shader_runs.specs.Program.{ConstantTree, Fixed, NamedConstant, Constructed}
+use Rattle.shader_runs.specs.Program.{ConstantTrees, no_constant, constant, Module}
 use Rattle.shader_runs.specs.ProgramRun.{also, operator_value, tree_value, tree_values}
-use Rattle.shader_runs.specs.TextRun.{Words, Scope, read_value, word_answer, followed_by, as_value, evaluate, evaluate_all}
+use Rattle.shader_runs.specs.TextRun.{Words, Scope, read_value, word_answer, followed_by, as_value}
+use Rattle.shader_runs.specs.TextRun.{evaluate, evaluate_all}
 use Rattle.shader_runs.specs.Scope.{ModuleNames}
 use Rattle.shader_runs.specs.Form.{constant_form, constant_forms}
-use Rattle.shader_runs.specs.Premises.{EachWord, EachWordOf, EachLeaf, EachLeafOf, IsLiteral, literal_type, constant_type, constant_types_of, ConstantTyped, ConstantsTyped}
+use Rattle.shader_runs.specs.Premises.{EachWord, EachWordOf, EachLeaf, EachLeafOf, IsLiteral}
+use Rattle.shader_runs.specs.Premises.{literal_type, constant_type, constant_types_of}
+use Rattle.shader_runs.specs.Premises.{ConstantTyped, ConstantsTyped}
 use Rattle.shader_runs.proofs.Update.{and_both, same_type_self}
 use Rattle.shader_runs.proofs.Relation.{TypedValue, as_denoted}
 use Rattle.shader_runs.proofs.Evaluation.{denoted, valued_denoted, followed_reached}
@@ -60,7 +65,8 @@ module _ (known known' : ℕ → Option Value) (m : Meaning) (P : ℕ → Type 0
     trees_same no_constant r = refl
     trees_same (constant e es) r = ap₂ also (tree_same e r.0) (trees_same es r.1)
 
--- where the names of the constants stand for what is known of them, and no name hides a word, the text of a tree gives its value and makes no event
+-- where the names of the constants stand for what is known of them, and no name hides a word, the
+-- text of a tree gives its value and makes no event
 module _ (l : Words) (names : Scope) (n : ModuleNames) (known : ℕ → Option Value) (P : ℕ → Type 0) (here : (i : ℕ) → P i → names (n.constant i) ≡ as_denoted (known i)) (Q : Bytes → Type 0) (operates : (w : Bytes) → Q w → (os : Option (List Value)) (t : List Event) → as_value (unless (names w) t (word_answer l w (reach os t))) ≡ denoted (operator_value l.meaning (Spelled w) os) t) where
   mutual
     pub tree_gives : (e : ConstantTree) → EachWord Q e → EachLeaf IsLiteral P e → (t : List Event) → evaluate l (constant_form n e) names t ≡ denoted (tree_value known l.meaning e) t

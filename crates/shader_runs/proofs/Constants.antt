@@ -1,20 +1,29 @@
--- The named constants that a module computes have the values of their initialisers, and those of its text have the same.
-use Rattle.std.proofs.Common.{inl, inr, ◌≡◌, ◌≢◌, ℕ, zero, suc, ◌+◌, ◌-◌, ◌<◌, ◌≤◌, false, cond, List, [], ◌∷◌, ◌++◌, map, drop, length, Option, Some, None, unwrap_or, slice_get, ◌||◌, refl, sym, ap, ap₂, ◌∙◌, subst, arith}
+-- The named constants that a module computes have the values of their initialisers, and those of
+-- its text have the same.
+use Rattle.std.proofs.Common.{inl, inr, ◌≡◌, ◌≢◌, ℕ, zero, suc, ◌+◌, ◌-◌, ◌<◌, ◌≤◌, false, cond}
+use Rattle.std.proofs.Common.{List, [], ◌∷◌, ◌++◌, map, drop, length, Option, Some, None, unwrap_or}
+use Rattle.std.proofs.Common.{slice_get, ◌||◌, refl, sym, ap, ap₂, ◌∙◌, subst, arith}
 use Rattle.std.specs.Prelude.{IsTrue}
 use Rattle.std.specs.List.{list_any}
 use Rattle.std.proofs.lemmas.List.{length-map, length-append, drop-map}
 use Rattle.std.proofs.lemmas.Option.{slice_get_cases, slice_get_within, none-some, same_Some}
-use Rattle.shader_runs.specs.Value.{Bytes, same_bytes, PartTypes, ValueType, type_at, has_type, has_types, Value, Spelled}
+use Rattle.shader_runs.specs.Value.{Bytes, same_bytes, PartTypes, ValueType, type_at, has_type}
+use Rattle.shader_runs.specs.Value.{has_types, Value, Spelled}
 use Rattle.shader_runs.specs.World.{Event, World, Meaning, Settings, Environment, bind}
 use Rattle.shader_runs.specs.Outcome.{Stuck, Gives, Halts, reach, unless}
 use Rattle.shader_runs.specs.Program.{ConstantTree, Module, constant_count, override_types}
 use Rattle.shader_runs.specs.ProgramRun.{also, operator_value, tree_value, constant_value}
 use Rattle.shader_runs.specs.Text.{Tree, TextModule}
-use Rattle.shader_runs.specs.TextRun.{Denoted, Words, Scope, as_value, word_answer, with_parameters, with_globals, no_names, names_function}
-use Rattle.shader_runs.specs.Constants.{known, found_with, found_after, all_found, environment_of, is_declared, operate, initialised_name, with_constants, scope_with, initialiser_value, scope_after, module_scope}
+use Rattle.shader_runs.specs.TextRun.{Denoted, Words, Scope, as_value, word_answer, with_parameters}
+use Rattle.shader_runs.specs.TextRun.{with_globals, no_names, names_function}
+use Rattle.shader_runs.specs.Constants.{known, found_with, found_after, all_found, environment_of}
+use Rattle.shader_runs.specs.Constants.{is_declared, operate, initialised_name, with_constants}
+use Rattle.shader_runs.specs.Constants.{scope_with, initialiser_value, scope_after, module_scope}
 use Rattle.shader_runs.specs.Scope.{ModuleNames, Naming}
-use Rattle.shader_runs.specs.Form.{constant_form, names_from, globals_from, constants_from, form_functions, form_module}
-use Rattle.shader_runs.specs.Premises.{OperatesOutside, EachLeaf, IsLiteral, ConstantsFit, SettingsFit, EnvironmentFits, IsTyped, AllFit}
+use Rattle.shader_runs.specs.Form.{constant_form, names_from, globals_from, constants_from}
+use Rattle.shader_runs.specs.Form.{form_functions, form_module}
+use Rattle.shader_runs.specs.Premises.{OperatesOutside, EachLeaf, IsLiteral, ConstantsFit}
+use Rattle.shader_runs.specs.Premises.{SettingsFit, EnvironmentFits, IsTyped, AllFit}
 use Rattle.shader_runs.specs.Correct.{IsSolution, ConstantsAreComputed}
 use Rattle.shader_runs.proofs.Update.{and_both, same_bytes_apart, has_types_length}
 use Rattle.shader_runs.proofs.Relation.{TypedValue, as_denoted}
@@ -22,7 +31,9 @@ use Rattle.shader_runs.proofs.Evaluation.{denoted}
 use Rattle.shader_runs.proofs.ConstantTrees.{each_both, tree_typed, tree_same, tree_gives}
 use Rattle.shader_runs.proofs.Form.{has_type_at}
 use Rattle.shader_runs.proofs.Ranks.{count_below, count_rises, count_misses}
-use Rattle.shader_runs.proofs.Names.{with_known, known_at, known_other, parameters_known, known_some, globals_other, held_values, module_names_given, no_name_among}
+use Rattle.shader_runs.proofs.Names.{with_known, known_at, known_other, parameters_known}
+use Rattle.shader_runs.proofs.Names.{known_some, globals_other, held_values, module_names_given}
+use Rattle.shader_runs.proofs.Names.{no_name_among}
 
 -- a place in a list, or one past its end
 by_place : {X A : Type 0} (xs : List X) (i : ℕ) → ((x : X) → slice_get xs i ≡ Some x → i < length xs → A) → (length xs ≤ i → A) → A

@@ -1,21 +1,42 @@
 -- An `Emit` and the lines that are written for it.
-use Rattle.std.proofs.Common.{◌≡◌, ◌≢◌, ℕ, Bool, true, false, cond, nat_eq, List, [], ◌∷◌, Option, Some, None, refl, sym, ap, ◌∙◌, subst, true≢false, eqb-true, option_map}
+use Rattle.std.proofs.Common.{◌≡◌, ◌≢◌, ℕ, Bool, true, false, cond, nat_eq, List, [], ◌∷◌, Option}
+use Rattle.std.proofs.Common.{Some, None, refl, sym, ap, ◌∙◌, subst, true≢false, eqb-true}
+use Rattle.std.proofs.Common.{option_map}
 use Rattle.std.specs.Prelude.{IsTrue}
 use Rattle.shader_runs.specs.Value.{Bytes, PartTypes, ValueType, has_type, Value, place_in, Place}
 use Rattle.shader_runs.specs.World.{Event, Ask, Read, update, bind}
-use Rattle.shader_runs.specs.Outcome.{Outcome, Done, Next, and_then, Continued, Broke, Returned, Stopped, Reached, Gives, or_stuck, reach, unless}
-use Rattle.shader_runs.specs.Program.{Expression, Constant, Argument, Local, Global, Load, Operator, Access, AccessIndex, Logical, Swizzle, Request, Asking, ConstantTrees, expression_of, handle_type, operands_of, is_counted, is_asked, binds, binds_as, greatest_count, Module}
-use Rattle.shader_runs.specs.ProgramRun.{Call, Kept, used_value_as, constant_values, used_value, used_values, joined_values, combined_value, computed_value, after_load, after_request, if_counted, emit_as, emit, keep_typed}
+use Rattle.shader_runs.specs.Outcome.{Outcome, Done, Next, and_then, Continued, Broke, Returned}
+use Rattle.shader_runs.specs.Outcome.{Stopped, Reached, Gives, or_stuck, reach, unless}
+use Rattle.shader_runs.specs.Program.{Expression, Constant, Argument, Local, Global, Load, Operator}
+use Rattle.shader_runs.specs.Program.{Access, AccessIndex, Logical, Swizzle, Request, Asking}
+use Rattle.shader_runs.specs.Program.{ConstantTrees, expression_of, handle_type, operands_of}
+use Rattle.shader_runs.specs.Program.{is_counted, is_asked, binds, binds_as, greatest_count, Module}
+use Rattle.shader_runs.specs.ProgramRun.{Call, Kept, used_value_as, constant_values, used_value}
+use Rattle.shader_runs.specs.ProgramRun.{used_values, joined_values, combined_value, computed_value}
+use Rattle.shader_runs.specs.ProgramRun.{after_load, after_request, if_counted, emit_as, emit}
+use Rattle.shader_runs.specs.ProgramRun.{keep_typed}
 use Rattle.shader_runs.specs.Text.{Apply, Lines}
-use Rattle.shader_runs.specs.TextRun.{Denoted, IsValue, Scope, read_value, as_value, word_answer, evaluate_all, value_of, with_value, follow_all, IsPlace}
-use Rattle.shader_runs.specs.Scope.{Standing, Absent, Barred, Everywhere, is_present, is_new, Inline, Named, Handles, Names, bound_name, is_pure, is_emittable, usable, usable_all, unbound, emitted, after_one, given_after, after_emit}
-use Rattle.shader_runs.specs.Form.{value_form, place_form, value_forms_then, constant_forms, own_form, written, let_if, lets}
-use Rattle.shader_runs.specs.Premises.{FixedName, fixed_name, WordFits, LeafFits, LeafTyped, ConstantsInRange, ConstantsTyped}
+use Rattle.shader_runs.specs.TextRun.{Denoted, IsValue, Scope, read_value, as_value, word_answer}
+use Rattle.shader_runs.specs.TextRun.{evaluate_all, value_of, with_value, follow_all, IsPlace}
+use Rattle.shader_runs.specs.Scope.{Standing, Absent, Barred, Everywhere, is_present, is_new}
+use Rattle.shader_runs.specs.Scope.{Inline, Named, Handles, Names, bound_name, is_pure}
+use Rattle.shader_runs.specs.Scope.{is_emittable, usable, usable_all, unbound, emitted, after_one}
+use Rattle.shader_runs.specs.Scope.{given_after, after_emit}
+use Rattle.shader_runs.specs.Form.{value_form, place_form, value_forms_then, constant_forms}
+use Rattle.shader_runs.specs.Form.{own_form, written, let_if, lets}
+use Rattle.shader_runs.specs.Premises.{FixedName, fixed_name, WordFits, LeafFits, LeafTyped}
+use Rattle.shader_runs.specs.Premises.{ConstantsInRange, ConstantsTyped}
 use Rattle.shader_runs.proofs.Alike.{Alike, stopped, typed_alike, placed}
 use Rattle.shader_runs.proofs.Update.{and_left, update_cases, bind_same, bind_other}
-use Rattle.shader_runs.proofs.Relation.{TypedValue, as_denoted, IsHere, NoName, Stands, Related, Extends, Agree, extends_refl, agree_refl, extends_trans, agree_trans, computed_agree, usable_all_more, KeepsName, keeps_all, stands_on, related_agree}
-use Rattle.shader_runs.proofs.Evaluation.{naming, words, Respond, value_form_gives, request_responds}
-use Rattle.shader_runs.proofs.Form.{Given, free, request_forms_give, request_values, no_value, unwritten, typed_value, operator_typed, operator_there, place_here, all_here}
+use Rattle.shader_runs.proofs.Relation.{TypedValue, as_denoted, IsHere, NoName, Stands, Related}
+use Rattle.shader_runs.proofs.Relation.{Extends, Agree, extends_refl, agree_refl, extends_trans}
+use Rattle.shader_runs.proofs.Relation.{agree_trans, computed_agree, usable_all_more, KeepsName}
+use Rattle.shader_runs.proofs.Relation.{keeps_all, stands_on, related_agree}
+use Rattle.shader_runs.proofs.Evaluation.{naming, words, Respond, value_form_gives}
+use Rattle.shader_runs.proofs.Evaluation.{request_responds}
+use Rattle.shader_runs.proofs.Form.{Given, free, request_forms_give, request_values, no_value}
+use Rattle.shader_runs.proofs.Form.{unwritten, typed_value, operator_typed, operator_there}
+use Rattle.shader_runs.proofs.Form.{place_here, all_here}
 use Rattle.shader_runs.proofs.Checked.{IsFresh, MayBind, MayEmitAll}
 use Rattle.std.proofs.lemmas.Option.{none-some}
 

@@ -1,12 +1,23 @@
 -- No end of a run is missed by the points that it passes.
-use Rattle.std.proofs.Common.{◌≡◌, ℕ, zero, suc, ◌<◌, Bool, true, false, cond, List, Option, Some, None, refl, sym, ap, ◌∙◌, subst, arith, true≢false}
+use Rattle.std.proofs.Common.{◌≡◌, ℕ, zero, suc, ◌<◌, Bool, true, false, cond, List, Option, Some}
+use Rattle.std.proofs.Common.{None, refl, sym, ap, ◌∙◌, subst, arith, true≢false}
 use Rattle.std.specs.Prelude.{IsTrue}
 use Rattle.shader_runs.specs.Value.{Value, Truth, Whole}
 use Rattle.shader_runs.specs.World.{Event}
-use Rattle.shader_runs.specs.Outcome.{Outcome, Done, Continued, Broke, Returned, Stopped, Next, and_then, and_continue, within, turns, and_again, after_switch, branch_by, with_integer, or_stuck}
-use Rattle.shader_runs.specs.Program.{Label, Numbered, Statement, Emit, Store, Block, If, Switch, Loop, Break, Continue, Return, Kill, Barrier, Act, Statements, end, then, Cases, no_case, case}
-use Rattle.shader_runs.specs.ProgramRun.{Call, Kept, used_value, leave, same_label, has_label, label_if, run, run_all, run_cases, run_on}
-use Rattle.shader_runs.specs.Passes.{Region, Inner, LoopBody, Continuing, here, behind, inside, after_turns, to_body, to_continuing, body_at, statements_in, module_turn, FallsTo, this_case, next_case, ComesToCase, own_case, other_case, Comes, into_block, into_accept, into_reject, into_case, into_loop, Passes, is_here, goes_behind, goes_inside}
+use Rattle.shader_runs.specs.Outcome.{Outcome, Done, Continued, Broke, Returned, Stopped, Next}
+use Rattle.shader_runs.specs.Outcome.{and_then, and_continue, within, turns, and_again}
+use Rattle.shader_runs.specs.Outcome.{after_switch, branch_by, with_integer, or_stuck}
+use Rattle.shader_runs.specs.Program.{Label, Numbered, Statement, Emit, Store, Block, If, Switch}
+use Rattle.shader_runs.specs.Program.{Loop, Break, Continue, Return, Kill, Barrier, Act, Statements}
+use Rattle.shader_runs.specs.Program.{end, then, Cases, no_case, case}
+use Rattle.shader_runs.specs.ProgramRun.{Call, Kept, used_value, leave, same_label, has_label}
+use Rattle.shader_runs.specs.ProgramRun.{label_if, run, run_all, run_cases, run_on}
+use Rattle.shader_runs.specs.Passes.{Region, Inner, LoopBody, Continuing, here, behind, inside}
+use Rattle.shader_runs.specs.Passes.{after_turns, to_body, to_continuing, body_at, statements_in}
+use Rattle.shader_runs.specs.Passes.{module_turn, FallsTo, this_case, next_case, ComesToCase}
+use Rattle.shader_runs.specs.Passes.{own_case, other_case, Comes, into_block, into_accept}
+use Rattle.shader_runs.specs.Passes.{into_reject, into_case, into_loop, Passes, is_here}
+use Rattle.shader_runs.specs.Passes.{goes_behind, goes_inside}
 use Rattle.shader_runs.specs.Ends.{end_of, is_simple, stops_early, is_early, EndsAt, EndsArePassed}
 use Rattle.shader_runs.proofs.Passes.{same_state, same_events, then_parts, one_more_turn}
 

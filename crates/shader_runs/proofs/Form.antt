@@ -1,20 +1,48 @@
 -- What is written for a handle in scope gives the value that the module uses for it, with no event.
-use Rattle.std.proofs.Common.{◌≡◌, ℕ, zero, suc, ◌<◌, ◌≤◌, true, nat_lt, List, [], ◌∷◌, ◌++◌, length, Option, Some, None, slice_get, refl, sym, ap, ◌∙◌, subst, true≢false, arith, ltb-true}
+use Rattle.std.proofs.Common.{◌≡◌, ℕ, zero, suc, ◌<◌, ◌≤◌, true, nat_lt, List, [], ◌∷◌, ◌++◌}
+use Rattle.std.proofs.Common.{length, Option, Some, None, slice_get, refl, sym, ap, ◌∙◌, subst}
+use Rattle.std.proofs.Common.{true≢false, arith, ltb-true}
 use Rattle.std.specs.Prelude.{IsTrue}
 use Rattle.std.proofs.lemmas.Option.{slice_get_within, same_Some, none-some}
-use Rattle.shader_runs.specs.Value.{Bytes, PartTypes, Rooted, GlobalRoot, LocalRoot, Selector, ShortCircuit, ValueType, BooleanType, IntegerType, PointerType, OtherType, type_at, has_type, has_types, Value, Pointer, Spelled}
+use Rattle.shader_runs.specs.Value.{Bytes, PartTypes, Rooted, GlobalRoot, LocalRoot, Selector}
+use Rattle.shader_runs.specs.Value.{ShortCircuit, ValueType, BooleanType, IntegerType, PointerType}
+use Rattle.shader_runs.specs.Value.{OtherType, type_at, has_type, has_types, Value, Pointer}
+use Rattle.shader_runs.specs.Value.{Spelled}
 use Rattle.shader_runs.specs.World.{Event, GlobalValue, Stored, Held, Environment, Meaning}
-use Rattle.shader_runs.specs.Program.{ConstantTree, ConstantTrees, Expression, Constant, Argument, Local, Global, Load, Operator, Access, AccessIndex, Logical, Swizzle, Request, Result, argument_count, local_count, local_pointer, expression_of, handle_type, operands_of, Module}
-use Rattle.shader_runs.specs.ProgramRun.{Call, Kept, constant_value, constant_values, global_value, used_value_as, used_value, also, used_values, joined_values, operator_value, combined_value, gathered_value, computed_value}
+use Rattle.shader_runs.specs.Program.{ConstantTree, ConstantTrees, Expression, Constant, Argument}
+use Rattle.shader_runs.specs.Program.{Local, Global, Load, Operator, Access, AccessIndex, Logical}
+use Rattle.shader_runs.specs.Program.{Swizzle, Request, Result, argument_count, local_count}
+use Rattle.shader_runs.specs.Program.{local_pointer, expression_of, handle_type, operands_of}
+use Rattle.shader_runs.specs.Program.{Module}
+use Rattle.shader_runs.specs.ProgramRun.{Call, Kept, constant_value, constant_values, global_value}
+use Rattle.shader_runs.specs.ProgramRun.{used_value_as, used_value, also, used_values}
+use Rattle.shader_runs.specs.ProgramRun.{joined_values, operator_value, combined_value}
+use Rattle.shader_runs.specs.ProgramRun.{gathered_value, computed_value}
 use Rattle.shader_runs.specs.Text.{Name}
-use Rattle.shader_runs.specs.TextRun.{Scope, word_answer, followed_by, as_value, evaluate, evaluate_all, value_of}
-use Rattle.shader_runs.specs.Scope.{Standing, Absent, Barred, Everywhere, Inline, Named, Handles, Names, usable, usable_as, usable_all, is_pure, is_present}
-use Rattle.shader_runs.specs.Form.{Plain, AsValue, AsPlace, value_form, place_form, value_forms_then, constant_form, constant_forms, global_form, own_form, standing_form, written_below, written}
-use Rattle.shader_runs.specs.Premises.{FixedName, FixedKey, NumberedKey, GivenKey, IsFixedName, IsNoName, ConstantWords, ConstantsWords, WordFits, AllBelow, constant_type, constant_types_of, ConstantInRange, ConstantsInRange, LeafFits, ConstantTyped, ConstantsTyped, LeafTyped, handle_types, IsTypedIn, ConstantName, ArgumentName, LocalName, GlobalName, global_has_type, globals_have_types, EnvironmentFits, OperatesBy}
+use Rattle.shader_runs.specs.TextRun.{Scope, word_answer, followed_by, as_value, evaluate}
+use Rattle.shader_runs.specs.TextRun.{evaluate_all, value_of}
+use Rattle.shader_runs.specs.Scope.{Standing, Absent, Barred, Everywhere, Inline, Named, Handles}
+use Rattle.shader_runs.specs.Scope.{Names, usable, usable_as, usable_all, is_pure, is_present}
+use Rattle.shader_runs.specs.Form.{Plain, AsValue, AsPlace, value_form, place_form}
+use Rattle.shader_runs.specs.Form.{value_forms_then, constant_form, constant_forms, global_form}
+use Rattle.shader_runs.specs.Form.{own_form, standing_form, written_below, written}
+use Rattle.shader_runs.specs.Premises.{FixedName, FixedKey, NumberedKey, GivenKey, IsFixedName}
+use Rattle.shader_runs.specs.Premises.{IsNoName, ConstantWords, ConstantsWords, WordFits, AllBelow}
+use Rattle.shader_runs.specs.Premises.{constant_type, constant_types_of, ConstantInRange}
+use Rattle.shader_runs.specs.Premises.{ConstantsInRange, LeafFits, ConstantTyped, ConstantsTyped}
+use Rattle.shader_runs.specs.Premises.{LeafTyped, handle_types, IsTypedIn, ConstantName}
+use Rattle.shader_runs.specs.Premises.{ArgumentName, LocalName, GlobalName, global_has_type}
+use Rattle.shader_runs.specs.Premises.{globals_have_types, EnvironmentFits, OperatesBy}
 use Rattle.shader_runs.proofs.Alike.{placed}
-use Rattle.shader_runs.proofs.Update.{and_left, and_right, and_both, same_type_self, has_types_length}
-use Rattle.shader_runs.proofs.Relation.{IsHere, NoName, TypedValue, stored_denoted, global_as, Stands, Related, as_denoted}
-use Rattle.shader_runs.proofs.Evaluation.{naming, Respond, words, Responds, denoted, Means, value_form_gives, place_form_gives, AllMean, followed_reached, value_forms_give, applied_reached, OneOf, one_of, TwoOf, two_of, one_there, two_there, access_means, part_means, swizzle_means, logical_means}
+use Rattle.shader_runs.proofs.Update.{and_left, and_right, and_both, same_type_self}
+use Rattle.shader_runs.proofs.Update.{has_types_length}
+use Rattle.shader_runs.proofs.Relation.{IsHere, NoName, TypedValue, stored_denoted, global_as}
+use Rattle.shader_runs.proofs.Relation.{Stands, Related, as_denoted}
+use Rattle.shader_runs.proofs.Evaluation.{naming, Respond, words, Responds, denoted, Means}
+use Rattle.shader_runs.proofs.Evaluation.{value_form_gives, place_form_gives, AllMean}
+use Rattle.shader_runs.proofs.Evaluation.{followed_reached, value_forms_give, applied_reached}
+use Rattle.shader_runs.proofs.Evaluation.{OneOf, one_of, TwoOf, two_of, one_there, two_there}
+use Rattle.shader_runs.proofs.Evaluation.{access_means, part_means, swizzle_means, logical_means}
 use Rattle.shader_runs.proofs.ConstantTrees.{tree_typed, trees_typed, tree_gives, trees_give}
 use Rattle.shader_runs.specs.Outcome.{reach, unless}
 

@@ -1,17 +1,30 @@
 -- Each name that is given is new where it is given.
-use Rattle.std.proofs.Common.{◌≡◌, ⊎_elim, ℕ, suc, ◌<◌, ◌≤◌, Bool, true, false, cond, not, List, [], ◌∷◌, Option, Some, None, ◌&&◌, ◌||◌, sym, ap, ◌∙◌, true≢false, arith}
+use Rattle.std.proofs.Common.{◌≡◌, ⊎_elim, ℕ, suc, ◌<◌, ◌≤◌, Bool, true, false, cond, not, List, []}
+use Rattle.std.proofs.Common.{◌∷◌, Option, Some, None, ◌&&◌, ◌||◌, sym, ap, ◌∙◌, true≢false, arith}
 use Rattle.std.specs.Prelude.{IsTrue}
 use Rattle.shader_runs.specs.Value.{Bytes}
-use Rattle.shader_runs.specs.Program.{Expression, Statement, Emit, Store, Block, If, Switch, Loop, Break, Continue, Return, Kill, Barrier, Act, Statements, end, then, Cases, no_case, case, expression_of, operands_of, is_given, binds, from, Module}
+use Rattle.shader_runs.specs.Program.{Expression, Statement, Emit, Store, Block, If, Switch, Loop}
+use Rattle.shader_runs.specs.Program.{Break, Continue, Return, Kill, Barrier, Act, Statements, end}
+use Rattle.shader_runs.specs.Program.{then, Cases, no_case, case, expression_of, operands_of}
+use Rattle.shader_runs.specs.Program.{is_given, binds, from, Module}
 use Rattle.shader_runs.specs.ProgramRun.{Call}
-use Rattle.shader_runs.specs.Scope.{Standing, Named, Handles, Names, bound_name, usable, usable_all, usable_if, is_new, is_emittable, after_one, given_after, given_after_all, given_by, given_by_all, given_by_cases, after, after_all, at_start, may_emit, may_emit_all, may_give, fits, fits_all, fits_cases}
-use Rattle.shader_runs.specs.Premises.{FixedKey, NumberedKey, GivenKey, AreDistinct, EnvironmentFits, ResultFits, IsRegular, AreRegular, CasesAreRegular}
+use Rattle.shader_runs.specs.Scope.{Standing, Named, Handles, Names, bound_name, usable, usable_all}
+use Rattle.shader_runs.specs.Scope.{usable_if, is_new, is_emittable, after_one, given_after}
+use Rattle.shader_runs.specs.Scope.{given_after_all, given_by, given_by_all, given_by_cases, after}
+use Rattle.shader_runs.specs.Scope.{after_all, at_start, may_emit, may_emit_all, may_give, fits}
+use Rattle.shader_runs.specs.Scope.{fits_all, fits_cases}
+use Rattle.shader_runs.specs.Premises.{FixedKey, NumberedKey, GivenKey, AreDistinct}
+use Rattle.shader_runs.specs.Premises.{EnvironmentFits, ResultFits, IsRegular, AreRegular}
+use Rattle.shader_runs.specs.Premises.{CasesAreRegular}
 use Rattle.shader_runs.proofs.Update.{and_left, and_right}
 use Rattle.shader_runs.proofs.Evaluation.{naming}
 use Rattle.shader_runs.proofs.Form.{in_range}
 use Rattle.shader_runs.proofs.Sources as sources
-use Rattle.shader_runs.proofs.Sources.{fixed_numbered, fixed_given, numbered_given, numbered_same, given_same, Sources, given_all_more, list_more, cases_more, sources_more, sources_one, sources_all, sources_after}
-use Rattle.shader_runs.proofs.Checked.{IsFresh, MayBind, MayEmitAll, MayGive, Fits, FitsAll, FitsCases}
+use Rattle.shader_runs.proofs.Sources.{fixed_numbered, fixed_given, numbered_given, numbered_same}
+use Rattle.shader_runs.proofs.Sources.{given_same, Sources, given_all_more, list_more, cases_more}
+use Rattle.shader_runs.proofs.Sources.{sources_more, sources_one, sources_all, sources_after}
+use Rattle.shader_runs.proofs.Checked.{IsFresh, MayBind, MayEmitAll, MayGive, Fits, FitsAll}
+use Rattle.shader_runs.proofs.Checked.{FitsCases}
 
 not_named : (st : Standing) (x : Bytes) → IsTrue (is_new st) → st ≡ Named x → ⊥
 not_named st x i e = true≢false (sym i ∙ ap is_new e)

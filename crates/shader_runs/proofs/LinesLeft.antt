@@ -1,15 +1,25 @@
--- What a statement's lines leave behind them: whether there is a `continue`, how many `let`s, and the names in scope.
-use Rattle.std.proofs.Common.{◌≡◌, ℕ, suc, Bool, true, false, cond, ◌||◌, List, [], ◌∷◌, ◌++◌, Option, Some, None, refl, sym, ap, ◌∙◌}
+-- What a statement's lines leave behind them: whether there is a `continue`, how many `let`s, and
+-- the names in scope.
+use Rattle.std.proofs.Common.{◌≡◌, ℕ, suc, Bool, true, false, cond, ◌||◌, List, [], ◌∷◌, ◌++◌}
+use Rattle.std.proofs.Common.{Option, Some, None, refl, sym, ap, ◌∙◌}
 use Rattle.shader_runs.specs.Value.{Bytes}
 use Rattle.shader_runs.specs.World.{bind}
-use Rattle.shader_runs.specs.Program.{Statement, Emit, Store, Block, If, Switch, Loop, Break, Continue, Return, Kill, Barrier, Act, Statements, end, then, Cases, no_case, case, Label, Function, expression_of, handle_type, binds, from, holds_continue, any_continue, some_case_continues, Module}
+use Rattle.shader_runs.specs.Program.{Statement, Emit, Store, Block, If, Switch, Loop, Break}
+use Rattle.shader_runs.specs.Program.{Continue, Return, Kill, Barrier, Act, Statements, end, then}
+use Rattle.shader_runs.specs.Program.{Cases, no_case, case, Label, Function, expression_of}
+use Rattle.shader_runs.specs.Program.{handle_type, binds, from, holds_continue, any_continue}
+use Rattle.shader_runs.specs.Program.{some_case_continues, Module}
 use Rattle.shader_runs.specs.ProgramRun.{barrier_words}
-use Rattle.shader_runs.specs.Scope.{Handles, Naming, bound_name, given_after, given_by, given_by_all, after_one, after, after_all}
+use Rattle.shader_runs.specs.Scope.{Handles, Naming, bound_name, given_after, given_by}
+use Rattle.shader_runs.specs.Scope.{given_by_all, after_one, after, after_all}
 use Rattle.shader_runs.specs.Text.{Tree, Lines}
 use Rattle.shader_runs.specs.TextRun.{some_continue, some_group_continues}
-use Rattle.shader_runs.specs.Form.{value_form, own_form, written, let_if, lets, perform_each, form, form_all, form_cases}
+use Rattle.shader_runs.specs.Form.{value_form, own_form, written, let_if, lets, perform_each, form}
+use Rattle.shader_runs.specs.Form.{form_all, form_cases}
 use Rattle.shader_runs.specs.Premises.{FallsFrom, IsRegular, AreRegular, CasesAreRegular}
-use Rattle.shader_runs.specs.Resolution.{LetTarget, Lookup, lets_behind_all, lets_behind_groups, names_left, lets_after, lets_after_all, lets_by, lets_by_all, lets_by_cases}
+use Rattle.shader_runs.specs.Resolution.{LetTarget, Lookup, lets_behind_all, lets_behind_groups}
+use Rattle.shader_runs.specs.Resolution.{names_left, lets_after, lets_after_all, lets_by}
+use Rattle.shader_runs.specs.Resolution.{lets_by_all, lets_by_cases}
 use Rattle.shader_runs.proofs.Scope.{lets_continue, performs_continue}
 
 -- ---- `continue`

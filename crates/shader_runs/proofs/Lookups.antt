@@ -1,19 +1,48 @@
--- What is known of the names in scope at a point of a function, and how it is kept from one point to the next.
-use Rattle.std.proofs.Common.{◌≡◌, ◌≢◌, ⊎_elim, ℕ, zero, suc, ◌+◌, ◌<◌, ◌≤◌, Bool, true, false, cond, ◌&&◌, List, [], ◌∷◌, map, take, length, Option, Some, None, refl, sym, ap, subst, ◌∙◌, true≢false, arith, nat_eq}
+-- What is known of the names in scope at a point of a function, and how it is kept from one point
+-- to the next.
+use Rattle.std.proofs.Common.{◌≡◌, ◌≢◌, ⊎_elim, ℕ, zero, suc, ◌+◌, ◌<◌, ◌≤◌, Bool, true, false}
+use Rattle.std.proofs.Common.{cond, ◌&&◌, List, [], ◌∷◌, map, take, length, Option, Some, None}
+use Rattle.std.proofs.Common.{refl, sym, ap, subst, ◌∙◌, true≢false, arith, nat_eq}
 use Rattle.std.specs.Prelude.{IsTrue}
 use Rattle.std.proofs.lemmas.Bool.{ltb-true, eqb-false}
 use Rattle.shader_runs.specs.Value.{Bytes, ValueType}
 use Rattle.shader_runs.specs.World.{update, bind}
-use Rattle.shader_runs.specs.Program.{ConstantTree, ConstantTrees, Expression, Constant, Argument, Local, Global, Operator, Access, AccessIndex, Logical, Swizzle, Asked, Statement, Emit, Block, If, Switch, Loop, Act, Statements, end, then, argument_count, local_count, expression_of, handle_type, operands_of, is_given, binds, from, holds_continue, Module}
-use Rattle.shader_runs.specs.Scope.{Named, Handles, Naming, at_start, start_standing, bound_name, is_present, usable_as, usable_if, usable_all, is_pure, all_constant, constant_test, is_constant_below, unbound, emitted, given_after, given_after_all, given_by, given_by_all, after_one, after_emit, after_result, after, after_all, forgotten_if, before_local}
+use Rattle.shader_runs.specs.Program.{ConstantTree, ConstantTrees, Expression, Constant, Argument}
+use Rattle.shader_runs.specs.Program.{Local, Global, Operator, Access, AccessIndex, Logical}
+use Rattle.shader_runs.specs.Program.{Swizzle, Asked, Statement, Emit, Block, If, Switch, Loop, Act}
+use Rattle.shader_runs.specs.Program.{Statements, end, then, argument_count, local_count}
+use Rattle.shader_runs.specs.Program.{expression_of, handle_type, operands_of, is_given, binds}
+use Rattle.shader_runs.specs.Program.{from, holds_continue, Module}
+use Rattle.shader_runs.specs.Scope.{Named, Handles, Naming, at_start, start_standing, bound_name}
+use Rattle.shader_runs.specs.Scope.{is_present, usable_as, usable_if, usable_all, is_pure}
+use Rattle.shader_runs.specs.Scope.{all_constant, constant_test, is_constant_below, unbound}
+use Rattle.shader_runs.specs.Scope.{emitted, given_after, given_after_all, given_by, given_by_all}
+use Rattle.shader_runs.specs.Scope.{after_one, after_emit, after_result, after, after_all}
+use Rattle.shader_runs.specs.Scope.{forgotten_if, before_local}
 use Rattle.shader_runs.specs.Form.{constant_form, constant_forms, written, value_if, names_from}
-use Rattle.shader_runs.specs.Premises.{FixedName, ArgumentName, LocalName, ConstantName, GlobalName, NameKey, FixedKey, NumberedKey, GivenKey, fixed_name, name_at, IsFixedName, IsName, IsNoName, StandsFree, OperatesBy, ConstantWords, ConstantsWords, ConstantInRange, ConstantsInRange, WordFits, LeafFits, AreDistinct}
-use Rattle.shader_runs.specs.Resolution.{Target, ConstantTarget, GlobalTarget, FunctionTarget, ArgumentTarget, LocalTarget, LetTarget, Lookup, tree_targets, trees_targets, tree_targets_if, with_items, constant_targets, constants_targets, LetNumbers, value_targets_if, lets_after, numbers_after, numbers_after_all, numbers_after_result, lets_by, numbers_by, numbers_left, no_numbers}
-use Rattle.shader_runs.proofs.Update.{and_left, and_right, bind_same, bind_other, bind_cases, update_cases}
+use Rattle.shader_runs.specs.Premises.{FixedName, ArgumentName, LocalName, ConstantName, GlobalName}
+use Rattle.shader_runs.specs.Premises.{NameKey, FixedKey, NumberedKey, GivenKey, fixed_name}
+use Rattle.shader_runs.specs.Premises.{name_at, IsFixedName, IsName, IsNoName, StandsFree}
+use Rattle.shader_runs.specs.Premises.{OperatesBy, ConstantWords, ConstantsWords, ConstantInRange}
+use Rattle.shader_runs.specs.Premises.{ConstantsInRange, WordFits, LeafFits, AreDistinct}
+use Rattle.shader_runs.specs.Resolution.{Target, ConstantTarget, GlobalTarget, FunctionTarget}
+use Rattle.shader_runs.specs.Resolution.{ArgumentTarget, LocalTarget, LetTarget, Lookup}
+use Rattle.shader_runs.specs.Resolution.{tree_targets, trees_targets, tree_targets_if, with_items}
+use Rattle.shader_runs.specs.Resolution.{constant_targets, constants_targets, LetNumbers}
+use Rattle.shader_runs.specs.Resolution.{value_targets_if, lets_after, numbers_after}
+use Rattle.shader_runs.specs.Resolution.{numbers_after_all, numbers_after_result, lets_by}
+use Rattle.shader_runs.specs.Resolution.{numbers_by, numbers_left, no_numbers}
+use Rattle.shader_runs.proofs.Update.{and_left, and_right, bind_same, bind_other, bind_cases}
+use Rattle.shader_runs.proofs.Update.{update_cases}
 use Rattle.shader_runs.proofs.Names.{NotAmong, AllDifferent}
-use Rattle.shader_runs.proofs.Sources.{fixed_numbered, fixed_given, numbered_given, numbered_same, given_same, Sources, same_name, forgotten_named, unbound_named, start_unnamed, sources_more, given_all_more, given_by_more, list_more, sources_one, sources_after}
-use Rattle.shader_runs.proofs.TreeTargets.{constant_resolves, constants_resolve, EachOf, IsNamed, Below, one_below, value_targets_of}
-use Rattle.shader_runs.proofs.LinesLeft.{list_names, names_after, names_after_all, names_after_result, names_by}
+use Rattle.shader_runs.proofs.Sources.{fixed_numbered, fixed_given, numbered_given, numbered_same}
+use Rattle.shader_runs.proofs.Sources.{given_same, Sources, same_name, forgotten_named}
+use Rattle.shader_runs.proofs.Sources.{unbound_named, start_unnamed, sources_more, given_all_more}
+use Rattle.shader_runs.proofs.Sources.{given_by_more, list_more, sources_one, sources_after}
+use Rattle.shader_runs.proofs.TreeTargets.{constant_resolves, constants_resolve, EachOf, IsNamed}
+use Rattle.shader_runs.proofs.TreeTargets.{Below, one_below, value_targets_of}
+use Rattle.shader_runs.proofs.LinesLeft.{list_names, names_after, names_after_all}
+use Rattle.shader_runs.proofs.LinesLeft.{names_after_result, names_by}
 
 -- what is below a bound is not among others from it on
 pub family_other : (target : ℕ → Target) (name : ℕ → Bytes) (x : Bytes) (n j : ℕ) → NotAmong name j n x → (names : Lookup) → with_items target j (names_from name j n) names x ≡ names x

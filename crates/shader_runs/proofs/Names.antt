@@ -1,14 +1,22 @@
 -- The names that a function's text starts with.
-use Rattle.std.proofs.Common.{◌≡◌, ◌≢◌, ℕ, zero, suc, ◌+◌, ◌<◌, ◌≤◌, List, [], ◌∷◌, ◌++◌, take, false, length, Option, Some, None, ◌||◌, slice_get, refl, sym, ap, ◌∙◌, true≢false, arith, map}
+use Rattle.std.proofs.Common.{◌≡◌, ◌≢◌, ℕ, zero, suc, ◌+◌, ◌<◌, ◌≤◌, List, [], ◌∷◌, ◌++◌, take}
+use Rattle.std.proofs.Common.{false, length, Option, Some, None, ◌||◌, slice_get, refl, sym, ap}
+use Rattle.std.proofs.Common.{◌∙◌, true≢false, arith, map}
 use Rattle.std.specs.Prelude.{IsTrue}
-use Rattle.shader_runs.specs.Value.{Bytes, same_bytes, pointer_spelling, PartTypes, Rooted, GlobalRoot, LocalRoot, ValueType, BooleanType, IntegerType, PointerType, OtherType, Value}
+use Rattle.shader_runs.specs.Value.{Bytes, same_bytes, pointer_spelling, PartTypes, Rooted}
+use Rattle.shader_runs.specs.Value.{GlobalRoot, LocalRoot, ValueType, BooleanType, IntegerType}
+use Rattle.shader_runs.specs.Value.{PointerType, OtherType, Value}
 use Rattle.shader_runs.specs.World.{GlobalValue, Stored, Held, bind, Environment}
 use Rattle.shader_runs.specs.Program.{local_pointer, Module}
-use Rattle.shader_runs.specs.TextRun.{names_function, Denoted, IsValue, IsPlace, Scope, with_parameters, with_variables, with_globals, global_denoted, no_names}
+use Rattle.shader_runs.specs.TextRun.{names_function, Denoted, IsValue, IsPlace, Scope}
+use Rattle.shader_runs.specs.TextRun.{with_parameters, with_variables, with_globals, global_denoted}
+use Rattle.shader_runs.specs.TextRun.{no_names}
 use Rattle.shader_runs.specs.Scope.{Naming, ModuleNames}
-use Rattle.shader_runs.specs.Form.{names_from, variables_from, globals_from, functions_of, form_functions}
+use Rattle.shader_runs.specs.Form.{names_from, variables_from, globals_from, functions_of}
+use Rattle.shader_runs.specs.Form.{form_functions}
 use Rattle.shader_runs.specs.Premises.{global_has_type, globals_have_types, AllFit}
-use Rattle.shader_runs.proofs.Update.{and_left, and_right, same_bytes_true, same_bytes_apart, bind_same, bind_other}
+use Rattle.shader_runs.proofs.Update.{and_left, and_right, same_bytes_true, same_bytes_apart}
+use Rattle.shader_runs.proofs.Update.{bind_same, bind_other}
 use Rattle.shader_runs.proofs.Relation.{as_denoted, stored_denoted, global_as}
 use Rattle.std.proofs.lemmas.List.{length-map}
 use Rattle.shader_runs.specs.Constants.{known, global_values}

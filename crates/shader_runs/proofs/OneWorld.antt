@@ -1,10 +1,13 @@
--- The types of the answers for all bounds on loop turns, from one start: each is the one that is wanted with enough turns.
-use Rattle.std.proofs.Common.{◌≡◌, ℕ, zero, suc, ◌+◌, ◌<◌, ◌≤◌, ◌⊎◌, inl, inr, List, [], length, Option, Some, refl, sym, ap, ◌∙◌, subst, arith}
+-- The types of the answers for all bounds on loop turns, from one start: each is the one that is
+-- wanted with enough turns.
+use Rattle.std.proofs.Common.{◌≡◌, ℕ, zero, suc, ◌+◌, ◌<◌, ◌≤◌, ◌⊎◌, inl, inr, List, [], length}
+use Rattle.std.proofs.Common.{Option, Some, refl, sym, ap, ◌∙◌, subst, arith}
 use Rattle.std.specs.Prelude.{IsTrue}
 use Rattle.std.proofs.Math.Nat.{eq-or-lt_of_le}
 use Rattle.shader_runs.specs.Value.{BooleanType, has_types, Value}
 use Rattle.shader_runs.specs.World.{Event, World, Meaning, Environment, Settings}
-use Rattle.shader_runs.specs.Outcome.{Stuck, Unreturned, OutOfTurns, Discarded, Mistyped, Reached, Gives, Halts}
+use Rattle.shader_runs.specs.Outcome.{Stuck, Unreturned, OutOfTurns, Discarded, Mistyped, Reached}
+use Rattle.shader_runs.specs.Outcome.{Gives, Halts}
 use Rattle.shader_runs.specs.Program.{Function, function_numbered, Module}
 use Rattle.shader_runs.specs.ProgramRun.{run_call}
 use Rattle.shader_runs.specs.Constants.{environment_of, module_scope, follow_module}
@@ -16,7 +19,8 @@ use Rattle.shader_runs.specs.Correct.{KeepsTypes, ModuleFits}
 use Rattle.shader_runs.proofs.Calls.{runs_alike}
 use Rattle.shader_runs.proofs.Process.{Pause, Process, perform, call_process}
 use Rattle.shader_runs.proofs.Performed.{call_outcome, call_performed}
-use Rattle.shader_runs.proofs.Worlds.{Types, world_of, mistakes, events_made, Completes, process_makes}
+use Rattle.shader_runs.proofs.Worlds.{Types, world_of, mistakes, events_made, Completes}
+use Rattle.shader_runs.proofs.Worlds.{process_makes}
 use Rattle.shader_runs.proofs.Bounds.{Cut, cut_cases, cut_fine, process_cut}
 use Rattle.shader_runs.proofs.Settles.{settled_events, call_settles}
 
@@ -56,7 +60,8 @@ module _ (p : Process) where
       (events_made (after_turns j a) ≡ events_made (after_turns n a)) ⊎ (j ≤ events_made (after_turns j a))
 
   module _ (settle : EventsSettle) where
-    -- where the types are right with j + 1 turns, the first mistake with one turn more stands behind j + 1 events
+    -- where the types are right with j + 1 turns, the first mistake with one turn more stands
+    -- behind j + 1 events
     late_mistake : (j : ℕ) (a : Types) (now finally : Reached Pause) → Completes (after_turns (suc (suc j))) [] a now finally → mistakes (after_turns (suc j) a) ≡ 0 → mistakes now ≡ 1 → suc j < events_made now
     late_mistake j a now finally k f c = go (cut_cases (after_turns (suc j) a) now cutting)
       where
@@ -101,7 +106,8 @@ module _ (p : Process) where
         go (inl e) rest = ap (λ n. chain p n i) (sym e)
         go (inr lt) rest = next_agrees n i (omega (arith, lt)) ∙ rest (omega (arith, lt))
 
-    -- with any number of turns: a run asks for finitely many answers, whose types a late element of the chain has too
+    -- with any number of turns: a run asks for finitely many answers, whose types a late element of
+    -- the chain has too
     pub diagonal_fine : (n : ℕ) → mistakes (after_turns n (diagonal p)) ≡ 0
     diagonal_fine n =
         let k = process_makes n p [] (diagonal p) in

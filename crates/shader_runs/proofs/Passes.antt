@@ -1,25 +1,51 @@
 -- Where the module's run passes a point, the text's run passes the point of the text there.
-use Rattle.std.proofs.Common.{◌≡◌, ℕ, zero, suc, ◌+◌, ◌-◌, ◌≤◌, Bool, true, false, cond, List, [], ◌∷◌, ◌++◌, length, Option, Some, None, ◌||◌, refl, sym, ap, ◌∙◌, subst, true≢false}
+use Rattle.std.proofs.Common.{◌≡◌, ℕ, zero, suc, ◌+◌, ◌-◌, ◌≤◌, Bool, true, false, cond, List, []}
+use Rattle.std.proofs.Common.{◌∷◌, ◌++◌, length, Option, Some, None, ◌||◌, refl, sym, ap, ◌∙◌}
+use Rattle.std.proofs.Common.{subst, true≢false}
 use Rattle.std.specs.Prelude.{IsTrue}
 use Rattle.shader_runs.specs.Value.{Bytes, Value, Truth, Whole}
 use Rattle.shader_runs.specs.World.{Event, Ask}
-use Rattle.shader_runs.specs.Outcome.{Stop, Outcome, Done, Continued, Broke, Returned, Stopped, Reached, Gives, Halts, Next, and_then, and_continue, after_switch, branch_by, with_integer, closed_outcome, closed_if, or_stuck, reach, unless}
-use Rattle.shader_runs.specs.Program.{expression_of, handle_type, Label, Numbered, Statement, Emit, Store, Block, If, Switch, Loop, Break, Continue, Return, Kill, Barrier, Act, Statements, end, then, Cases, no_case, case, Module, binds, from, holds_continue, any_continue}
-use Rattle.shader_runs.specs.ProgramRun.{Call, Kept, used_value, emit, emit_as, barrier_words, ask_each, same_label, label_if, run, run_all}
-use Rattle.shader_runs.specs.Text.{Tree, Line, Let, Braces, IfElse, SwitchOn, LoopOf, Lines, last, before, Groups}
-use Rattle.shader_runs.specs.TextRun.{Scope, perform_outcome, value_of, with_value, has_continue, among, group_has, follow, follow_all, follow_groups}
-use Rattle.shader_runs.specs.Scope.{usable, Handles, Names, bound_name, after_one, given_after, given_after_all, after_emit, given_by, given_by_all, after, after_all, forgotten_if}
-use Rattle.shader_runs.specs.Form.{written, value_at, value_if, value_form, own_form, let_if, lets, perform_each, form, form_all, form_cases}
+use Rattle.shader_runs.specs.Outcome.{Stop, Outcome, Done, Continued, Broke, Returned, Stopped}
+use Rattle.shader_runs.specs.Outcome.{Reached, Gives, Halts, Next, and_then, and_continue}
+use Rattle.shader_runs.specs.Outcome.{after_switch, branch_by, with_integer, closed_outcome}
+use Rattle.shader_runs.specs.Outcome.{closed_if, or_stuck, reach, unless}
+use Rattle.shader_runs.specs.Program.{expression_of, handle_type, Label, Numbered, Statement, Emit}
+use Rattle.shader_runs.specs.Program.{Store, Block, If, Switch, Loop, Break, Continue, Return, Kill}
+use Rattle.shader_runs.specs.Program.{Barrier, Act, Statements, end, then, Cases, no_case, case}
+use Rattle.shader_runs.specs.Program.{Module, binds, from, holds_continue, any_continue}
+use Rattle.shader_runs.specs.ProgramRun.{Call, Kept, used_value, emit, emit_as, barrier_words}
+use Rattle.shader_runs.specs.ProgramRun.{ask_each, same_label, label_if, run, run_all}
+use Rattle.shader_runs.specs.Text.{Tree, Line, Let, Braces, IfElse, SwitchOn, LoopOf, Lines, last}
+use Rattle.shader_runs.specs.Text.{before, Groups}
+use Rattle.shader_runs.specs.TextRun.{Scope, perform_outcome, value_of, with_value, has_continue}
+use Rattle.shader_runs.specs.TextRun.{among, group_has, follow, follow_all, follow_groups}
+use Rattle.shader_runs.specs.Scope.{usable, Handles, Names, bound_name, after_one, given_after}
+use Rattle.shader_runs.specs.Scope.{given_after_all, after_emit, given_by, given_by_all, after}
+use Rattle.shader_runs.specs.Scope.{after_all, forgotten_if}
+use Rattle.shader_runs.specs.Form.{written, value_at, value_if, value_form, own_form, let_if, lets}
+use Rattle.shader_runs.specs.Form.{perform_each, form, form_all, form_cases}
 use Rattle.shader_runs.specs.Premises.{EachAsks, FallsFrom}
-use Rattle.shader_runs.specs.Passes.{Region, Point, here, behind, inside, after_turns, InTurn, to_body, to_continuing, to_break_if, body_at, statements_in, module_turn, FallsTo, this_case, next_case, ComesToCase, own_case, other_case, Comes, into_block, into_accept, into_reject, into_case, into_loop, Passes, is_here, goes_behind, goes_inside, emits, lines_at, lines_in, text_turn, GoesToGroup, own_group, other_group, into_braces, into_then, into_else, into_group, into_loop_line, TextPasses, is_here_in_text, goes_behind_line, goes_inside_line, let_count, line_count, behind_lines, group_of, region_in_text, point_in_text}
+use Rattle.shader_runs.specs.Passes.{Region, Point, here, behind, inside, after_turns, InTurn}
+use Rattle.shader_runs.specs.Passes.{to_body, to_continuing, to_break_if, body_at, statements_in}
+use Rattle.shader_runs.specs.Passes.{module_turn, FallsTo, this_case, next_case, ComesToCase}
+use Rattle.shader_runs.specs.Passes.{own_case, other_case, Comes, into_block, into_accept}
+use Rattle.shader_runs.specs.Passes.{into_reject, into_case, into_loop, Passes, is_here}
+use Rattle.shader_runs.specs.Passes.{goes_behind, goes_inside, emits, lines_at, lines_in, text_turn}
+use Rattle.shader_runs.specs.Passes.{GoesToGroup, own_group, other_group, into_braces, into_then}
+use Rattle.shader_runs.specs.Passes.{into_else, into_group, into_loop_line, TextPasses}
+use Rattle.shader_runs.specs.Passes.{is_here_in_text, goes_behind_line, goes_inside_line, let_count}
+use Rattle.shader_runs.specs.Passes.{line_count, behind_lines, group_of, region_in_text}
+use Rattle.shader_runs.specs.Passes.{point_in_text}
 use Rattle.shader_runs.specs.Points.{given_before, given_in, handles_in, handles_at}
-use Rattle.shader_runs.proofs.Alike.{Alike, done, continued, broke, returned_alike, stopped, mistyped, weaker, continue_alike}
+use Rattle.shader_runs.proofs.Alike.{Alike, done, continued, broke, returned_alike, stopped}
+use Rattle.shader_runs.proofs.Alike.{mistyped, weaker, continue_alike}
 use Rattle.shader_runs.proofs.Relation.{Related, Agree, agree_refl, related_agree}
 use Rattle.shader_runs.proofs.Evaluation.{naming, words, Respond, request_responds}
 use Rattle.shader_runs.proofs.Form.{Given, free, value_here}
 use Rattle.shader_runs.proofs.Emission.{emit_alike}
 use Rattle.shader_runs.proofs.Statements.{or_left, or_right, turns_keep, same_one, same_all}
-use Rattle.shader_runs.proofs.Scope.{IsFollowed, falls_followed, among_append, has_all_cases, extends_all}
+use Rattle.shader_runs.proofs.Scope.{IsFollowed, falls_followed, among_append, has_all_cases}
+use Rattle.shader_runs.proofs.Scope.{extends_all}
 use Rattle.shader_runs.proofs.Places.{from_split}
 use Rattle.shader_runs.proofs.Checked.{Fits, FitsAll, FitsCases, MayEmitAll}
 

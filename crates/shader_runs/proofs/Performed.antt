@@ -1,11 +1,39 @@
 -- The module's run is its process, performed.
-use Rattle.std.proofs.Common.{◌≡◌, ℕ, zero, suc, Bool, true, false, cond, nat_eq, List, [], ◌∷◌, length, Option, Some, None, refl, ap, ap₂, ◌∙◌, option_and_then, option_map}
-use Rattle.shader_runs.specs.Value.{Bytes, PartTypes, ValueType, has_type, Value, truth_in, integer_in, place_in}
-use Rattle.shader_runs.specs.World.{Event, Entry, Ask, Read, Write, entries, World, Meaning, Environment, update}
-use Rattle.shader_runs.specs.Outcome.{Outcome, Done, Continued, Broke, Returned, Stopped, Reached, Gives, Halts, answer, Next, and_then, and_continue, within, turn, and_again, turns, after_switch, branch_by, with_integer, or_stuck}
-use Rattle.shader_runs.specs.Program.{Expression, Constant, Load, Operator, Access, AccessIndex, Logical, Swizzle, Request, Action, Asked, Called, Label, Numbered, Statement, Emit, Store, Block, If, Switch, Loop, Break, Continue, Return, Kill, Barrier, Act, Statements, end, then, Cases, no_case, case, Function, argument_count, expression_of, handle_type, operands_of, is_counted, is_asked, from}
-use Rattle.shader_runs.specs.ProgramRun.{Call, Kept, constant_values, used_value, used_value_as, also, used_values, gathered_value, computed_value, joined_values, if_typed, keep_typed, after_load, after_request, if_counted, emit_as, emit, leave, return_outcome, action_answer, with_result, barrier_words, ask_each, same_label, has_label, label_if, run, run_all, run_cases, run_on, constants_kept, with_first, first_used, first_used_all, entered, run_body, called, run_call}
-use Rattle.shader_runs.proofs.Process.{Pause, DoneWith, ContinuedWith, BrokeWith, ReturnedWith, Process, gives, stuck, tells, looks, sequence, answered, resumed, again, rounds, perform, then_on, continue_on, inside, behind_switch, on_there, on_truth, if_true, keeping, load_process, ask_process, asks_process, given_back, result_process, answers_call, entry_process, emit_one, emit_process, act_process, leave_process, return_process, statement_process, list_process, cases_process, on_process, body_process, call_in, call_alone, call_process}
+use Rattle.std.proofs.Common.{◌≡◌, ℕ, zero, suc, Bool, true, false, cond, nat_eq, List, [], ◌∷◌}
+use Rattle.std.proofs.Common.{length, Option, Some, None, refl, ap, ap₂, ◌∙◌, option_and_then}
+use Rattle.std.proofs.Common.{option_map}
+use Rattle.shader_runs.specs.Value.{Bytes, PartTypes, ValueType, has_type, Value, truth_in}
+use Rattle.shader_runs.specs.Value.{integer_in, place_in}
+use Rattle.shader_runs.specs.World.{Event, Entry, Ask, Read, Write, entries, World, Meaning}
+use Rattle.shader_runs.specs.World.{Environment, update}
+use Rattle.shader_runs.specs.Outcome.{Outcome, Done, Continued, Broke, Returned, Stopped, Reached}
+use Rattle.shader_runs.specs.Outcome.{Gives, Halts, answer, Next, and_then, and_continue, within}
+use Rattle.shader_runs.specs.Outcome.{turn, and_again, turns, after_switch, branch_by, with_integer}
+use Rattle.shader_runs.specs.Outcome.{or_stuck}
+use Rattle.shader_runs.specs.Program.{Expression, Constant, Load, Operator, Access, AccessIndex}
+use Rattle.shader_runs.specs.Program.{Logical, Swizzle, Request, Action, Asked, Called, Label}
+use Rattle.shader_runs.specs.Program.{Numbered, Statement, Emit, Store, Block, If, Switch, Loop}
+use Rattle.shader_runs.specs.Program.{Break, Continue, Return, Kill, Barrier, Act, Statements, end}
+use Rattle.shader_runs.specs.Program.{then, Cases, no_case, case, Function, argument_count}
+use Rattle.shader_runs.specs.Program.{expression_of, handle_type, operands_of, is_counted, is_asked}
+use Rattle.shader_runs.specs.Program.{from}
+use Rattle.shader_runs.specs.ProgramRun.{Call, Kept, constant_values, used_value, used_value_as}
+use Rattle.shader_runs.specs.ProgramRun.{also, used_values, gathered_value, computed_value}
+use Rattle.shader_runs.specs.ProgramRun.{joined_values, if_typed, keep_typed, after_load}
+use Rattle.shader_runs.specs.ProgramRun.{after_request, if_counted, emit_as, emit, leave}
+use Rattle.shader_runs.specs.ProgramRun.{return_outcome, action_answer, with_result, barrier_words}
+use Rattle.shader_runs.specs.ProgramRun.{ask_each, same_label, has_label, label_if, run, run_all}
+use Rattle.shader_runs.specs.ProgramRun.{run_cases, run_on, constants_kept, with_first, first_used}
+use Rattle.shader_runs.specs.ProgramRun.{first_used_all, entered, run_body, called, run_call}
+use Rattle.shader_runs.proofs.Process.{Pause, DoneWith, ContinuedWith, BrokeWith, ReturnedWith}
+use Rattle.shader_runs.proofs.Process.{Process, gives, stuck, tells, looks, sequence, answered}
+use Rattle.shader_runs.proofs.Process.{resumed, again, rounds, perform, then_on, continue_on}
+use Rattle.shader_runs.proofs.Process.{inside, behind_switch, on_there, on_truth, if_true, keeping}
+use Rattle.shader_runs.proofs.Process.{load_process, ask_process, asks_process, given_back}
+use Rattle.shader_runs.proofs.Process.{result_process, answers_call, entry_process, emit_one}
+use Rattle.shader_runs.proofs.Process.{emit_process, act_process, leave_process, return_process}
+use Rattle.shader_runs.proofs.Process.{statement_process, list_process, cases_process, on_process}
+use Rattle.shader_runs.proofs.Process.{body_process, call_in, call_alone, call_process}
 
 -- what a performed process is as an outcome, and as what a call gives
 abbrev outcome : Reached Pause → Outcome Kept

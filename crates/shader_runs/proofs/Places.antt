@@ -1,13 +1,24 @@
--- What stands behind a point of the text is what is written for what stands behind the point of the module.
-use Rattle.std.proofs.Common.{◌≡◌, ℕ, zero, suc, ◌+◌, ◌-◌, ◌≤◌, Bool, true, false, cond, List, [], ◌∷◌, ◌++◌, length, ◌||◌, refl, ap, ap₂, ◌∙◌, arith, true≢false}
+-- What stands behind a point of the text is what is written for what stands behind the point of the
+-- module.
+use Rattle.std.proofs.Common.{◌≡◌, ℕ, zero, suc, ◌+◌, ◌-◌, ◌≤◌, Bool, true, false, cond, List, []}
+use Rattle.std.proofs.Common.{◌∷◌, ◌++◌, length, ◌||◌, refl, ap, ap₂, ◌∙◌, arith, true≢false}
 use Rattle.shader_runs.specs.Value.{Bytes}
 use Rattle.shader_runs.specs.World.{Event}
-use Rattle.shader_runs.specs.Program.{Label, Statement, Emit, Barrier, Statements, Cases, no_case, case, expression_of, handle_type, binds, from}
+use Rattle.shader_runs.specs.Program.{Label, Statement, Emit, Barrier, Statements, Cases, no_case}
+use Rattle.shader_runs.specs.Program.{case, expression_of, handle_type, binds, from}
 use Rattle.shader_runs.specs.ProgramRun.{Call, Kept, barrier_words}
 use Rattle.shader_runs.specs.Text.{Tree, Lines}
-use Rattle.shader_runs.specs.Scope.{Handles, Naming, bound_name, after_one, given_after, given_after_all, after_emit, given_by, given_by_all, after}
-use Rattle.shader_runs.specs.Form.{written, value_form, own_form, let_if, lets, perform_each, form, form_all, form_cases}
-use Rattle.shader_runs.specs.Passes.{Region, Point, here, inside, to_body, to_continuing, to_break_if, body_at, statements_in, statements_at, Comes, into_block, into_accept, into_reject, into_case, into_loop, Passes, is_here, goes_behind, goes_inside, emits, lines_at, lines_behind, let_count, line_count, behind_lines, group_of, region_in_text, point_in_text, case_falls, region_falls, falls_at}
+use Rattle.shader_runs.specs.Scope.{Handles, Naming, bound_name, after_one, given_after}
+use Rattle.shader_runs.specs.Scope.{given_after_all, after_emit, given_by, given_by_all, after}
+use Rattle.shader_runs.specs.Form.{written, value_form, own_form, let_if, lets, perform_each, form}
+use Rattle.shader_runs.specs.Form.{form_all, form_cases}
+use Rattle.shader_runs.specs.Passes.{Region, Point, here, inside, to_body, to_continuing}
+use Rattle.shader_runs.specs.Passes.{to_break_if, body_at, statements_in, statements_at, Comes}
+use Rattle.shader_runs.specs.Passes.{into_block, into_accept, into_reject, into_case, into_loop}
+use Rattle.shader_runs.specs.Passes.{Passes, is_here, goes_behind, goes_inside, emits, lines_at}
+use Rattle.shader_runs.specs.Passes.{lines_behind, let_count, line_count, behind_lines, group_of}
+use Rattle.shader_runs.specs.Passes.{region_in_text, point_in_text, case_falls, region_falls}
+use Rattle.shader_runs.specs.Passes.{falls_at}
 use Rattle.shader_runs.specs.Points.{given_before, given_in, handles_in, handles_at, given_at}
 
 or_none : (a b : Bool) → (a || b) ≡ false → (a ≡ false) × (b ≡ false)

@@ -1,5 +1,6 @@
 -- The two facts at each point.
-use Rattle.std.proofs.Common.{◌≡◌, ℕ, ◌<◌, ◌≤◌, List, [], ◌∷◌, ◌++◌, length, sym, ap, ◌∙◌, subst, arith}
+use Rattle.std.proofs.Common.{◌≡◌, ℕ, ◌<◌, ◌≤◌, List, [], ◌∷◌, ◌++◌, length, sym, ap, ◌∙◌, subst}
+use Rattle.std.proofs.Common.{arith}
 use Rattle.shader_runs.specs.Value.{PartTypes}
 use Rattle.shader_runs.specs.World.{Meaning, Environment}
 use Rattle.shader_runs.specs.Program.{expression_of, handle_type, Module}
@@ -8,13 +9,15 @@ use Rattle.shader_runs.specs.TextRun.{Scope, word_use}
 use Rattle.shader_runs.specs.Scope.{Handles, ModuleNames, Names, Naming, at_start}
 use Rattle.shader_runs.specs.Form.{form_functions, functions_of, form_all}
 use Rattle.shader_runs.specs.Premises.{AllFit, AllTypedIn, EnvironmentFits}
-use Rattle.shader_runs.specs.Points.{LinesAreTheForm, FactsHold, call_of, words_of, handles_at, PointsAgree, names_of}
+use Rattle.shader_runs.specs.Points.{LinesAreTheForm, FactsHold, call_of, words_of, handles_at}
+use Rattle.shader_runs.specs.Points.{PointsAgree, names_of}
 use Rattle.shader_runs.specs.Constants.{environment_of}
 use Rattle.shader_runs.proofs.Update.{has_types_length}
 use Rattle.shader_runs.proofs.Relation.{as_denoted, Stands, Related}
 use Rattle.shader_runs.proofs.Evaluation.{naming, words, Respond}
 use Rattle.shader_runs.proofs.Form.{Given, typed_value, value_here}
-use Rattle.shader_runs.proofs.Calls.{starting, given, starts, body_fits, calls_alike, uses_fit, module_within, names_are}
+use Rattle.shader_runs.proofs.Calls.{starting, given, starts, body_fits, calls_alike, uses_fit}
+use Rattle.shader_runs.proofs.Calls.{module_within, names_are}
 use Rattle.shader_runs.proofs.Places.{lines_there}
 use Rattle.shader_runs.proofs.Passes.{passes}
 use Rattle.shader_runs.proofs.Names.{length-functions_of, module_names_given}

@@ -1,10 +1,23 @@
--- A module's run as a process: what it asks for and tells, apart from any world and any bound on loop turns.
-use Rattle.std.proofs.Common.{ℕ, zero, suc, Bool, true, false, nat_eq, List, [], ◌∷◌, length, Option, Some, None, option_and_then}
-use Rattle.shader_runs.specs.Value.{Bytes, PartTypes, ValueType, has_type, Value, Truth, truth_in, integer_in, place_in}
-use Rattle.shader_runs.specs.World.{Event, Entry, Ask, Read, Write, Discard, entries, World, Meaning, Environment, update}
-use Rattle.shader_runs.specs.Outcome.{Stuck, Unreturned, OutOfTurns, Discarded, Mistyped, Outcome, Done, Continued, Broke, Returned, Stopped, Reached, Gives, Halts}
-use Rattle.shader_runs.specs.Program.{Expression, Load, Operator, Access, AccessIndex, Logical, Swizzle, Request, Action, Asked, Called, Label, Numbered, Statement, Emit, Store, Block, If, Switch, Loop, Break, Continue, Return, Kill, Barrier, Act, Statements, end, then, Cases, no_case, case, Function, argument_count, expression_of, handle_type, is_counted, is_asked, from}
-use Rattle.shader_runs.specs.ProgramRun.{Call, Kept, constant_values, used_value, used_values, computed_value, joined_values, barrier_words, same_label, has_label, label_if, constants_kept, first_used_all}
+-- A module's run as a process: what it asks for and tells, apart from any world and any bound on
+-- loop turns.
+use Rattle.std.proofs.Common.{ℕ, zero, suc, Bool, true, false, nat_eq, List, [], ◌∷◌, length}
+use Rattle.std.proofs.Common.{Option, Some, None, option_and_then}
+use Rattle.shader_runs.specs.Value.{Bytes, PartTypes, ValueType, has_type, Value, Truth, truth_in}
+use Rattle.shader_runs.specs.Value.{integer_in, place_in}
+use Rattle.shader_runs.specs.World.{Event, Entry, Ask, Read, Write, Discard, entries, World}
+use Rattle.shader_runs.specs.World.{Meaning, Environment, update}
+use Rattle.shader_runs.specs.Outcome.{Stuck, Unreturned, OutOfTurns, Discarded, Mistyped, Outcome}
+use Rattle.shader_runs.specs.Outcome.{Done, Continued, Broke, Returned, Stopped, Reached, Gives}
+use Rattle.shader_runs.specs.Outcome.{Halts}
+use Rattle.shader_runs.specs.Program.{Expression, Load, Operator, Access, AccessIndex, Logical}
+use Rattle.shader_runs.specs.Program.{Swizzle, Request, Action, Asked, Called, Label, Numbered}
+use Rattle.shader_runs.specs.Program.{Statement, Emit, Store, Block, If, Switch, Loop, Break}
+use Rattle.shader_runs.specs.Program.{Continue, Return, Kill, Barrier, Act, Statements, end, then}
+use Rattle.shader_runs.specs.Program.{Cases, no_case, case, Function, argument_count, expression_of}
+use Rattle.shader_runs.specs.Program.{handle_type, is_counted, is_asked, from}
+use Rattle.shader_runs.specs.ProgramRun.{Call, Kept, constant_values, used_value, used_values}
+use Rattle.shader_runs.specs.ProgramRun.{computed_value, joined_values, barrier_words, same_label}
+use Rattle.shader_runs.specs.ProgramRun.{has_label, label_if, constants_kept, first_used_all}
 
 abbrev pub events_of : {S : Type 0} → Outcome S → List Event
 events_of (Done s t) = t
@@ -24,8 +37,9 @@ pub data Pause : Type 0 where
   BrokeWith : Kept → Pause
   ReturnedWith : Option Value → Pause
 
--- gives a pause, is stuck, lacks a result or discards; tells an event; wants an answer of a type to a request; looks at the number of entries so far;
--- goes on from how another process ends; or repeats one from the state that the turn before left
+-- gives a pause, is stuck, lacks a result or discards; tells an event; wants an answer of a type to
+-- a request; looks at the number of entries so far; goes on from how another process ends; or
+-- repeats one from the state that the turn before left
 pub data Process : Type 0 where
   gives : Pause → Process
   stuck : Process

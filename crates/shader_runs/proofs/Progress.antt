@@ -1,22 +1,55 @@
 -- No run of a module is stuck: at each point of it, each handle in scope has a value of its type.
-use Rattle.std.proofs.Common.{◌≡◌, ℕ, zero, suc, min, Bool, true, false, cond, nat_eq, List, [], ◌∷◌, length, Option, Some, None, ◌||◌, refl, sym, ap, ◌∙◌, subst, true≢false, arith, eqb-true, eq-eqb, option_map}
+use Rattle.std.proofs.Common.{◌≡◌, ℕ, zero, suc, min, Bool, true, false, cond, nat_eq, List, []}
+use Rattle.std.proofs.Common.{◌∷◌, length, Option, Some, None, ◌||◌, refl, sym, ap, ◌∙◌, subst}
+use Rattle.std.proofs.Common.{true≢false, arith, eqb-true, eq-eqb, option_map}
 use Rattle.std.specs.Prelude.{IsTrue, ℤ}
 use Rattle.std.proofs.Math.Nat.{min-le_right}
 use Rattle.std.proofs.lemmas.Bool.{ltb-true, lt-ltb}
 use Rattle.std.proofs.lemmas.List.{length-take}
-use Rattle.shader_runs.specs.Value.{Bytes, PartTypes, Place, ValueType, has_type, has_types, Value, Pointer}
+use Rattle.shader_runs.specs.Value.{Bytes, PartTypes, Place, ValueType, has_type, has_types, Value}
+use Rattle.shader_runs.specs.Value.{Pointer}
 use Rattle.shader_runs.specs.World.{Event, Entry, Ask, Read, World, Meaning, Environment, update}
-use Rattle.shader_runs.specs.Outcome.{Stop, Outcome, Done, Continued, Broke, Returned, Stopped, Reached, Gives, Halts, answer, Next, and_then, and_continue, within, and_again, turn, turns, after_switch, branch_by, with_integer, or_stuck}
-use Rattle.shader_runs.specs.Program.{Asking, ConstantTrees, Expression, Local, Load, Operator, Access, AccessIndex, Logical, Swizzle, Request, Action, Asked, Called, Label, Numbered, Statement, Emit, Store, Block, If, Switch, Loop, Break, Continue, Return, Kill, Barrier, Act, Statements, end, then, Cases, no_case, case, Function, argument_count, local_count, function_numbered, expression_of, handle_type, operands_of, is_counted, is_asked, binds_as, from, holds_continue, any_continue, some_case_continues, Module}
-use Rattle.shader_runs.specs.ProgramRun.{Call, Kept, constant_values, used_value, used_values, joined_values, computed_value, if_typed, after_load, after_request, if_counted, emit_as, emit, with_pointer, leave, return_outcome, action_answer, with_result, barrier_words, ask_each, same_label, has_label, label_if, run, run_all, run_cases, run_on, constants_kept, with_first, first_used_all, entered, run_body, called, run_call}
+use Rattle.shader_runs.specs.Outcome.{Stop, Outcome, Done, Continued, Broke, Returned, Stopped}
+use Rattle.shader_runs.specs.Outcome.{Reached, Gives, Halts, answer, Next, and_then, and_continue}
+use Rattle.shader_runs.specs.Outcome.{within, and_again, turn, turns, after_switch, branch_by}
+use Rattle.shader_runs.specs.Outcome.{with_integer, or_stuck}
+use Rattle.shader_runs.specs.Program.{Asking, ConstantTrees, Expression, Local, Load, Operator}
+use Rattle.shader_runs.specs.Program.{Access, AccessIndex, Logical, Swizzle, Request, Action, Asked}
+use Rattle.shader_runs.specs.Program.{Called, Label, Numbered, Statement, Emit, Store, Block, If}
+use Rattle.shader_runs.specs.Program.{Switch, Loop, Break, Continue, Return, Kill, Barrier, Act}
+use Rattle.shader_runs.specs.Program.{Statements, end, then, Cases, no_case, case, Function}
+use Rattle.shader_runs.specs.Program.{argument_count, local_count, function_numbered, expression_of}
+use Rattle.shader_runs.specs.Program.{handle_type, operands_of, is_counted, is_asked, binds_as}
+use Rattle.shader_runs.specs.Program.{from, holds_continue, any_continue, some_case_continues}
+use Rattle.shader_runs.specs.Program.{Module}
+use Rattle.shader_runs.specs.ProgramRun.{Call, Kept, constant_values, used_value, used_values}
+use Rattle.shader_runs.specs.ProgramRun.{joined_values, computed_value, if_typed, after_load}
+use Rattle.shader_runs.specs.ProgramRun.{after_request, if_counted, emit_as, emit, with_pointer}
+use Rattle.shader_runs.specs.ProgramRun.{leave, return_outcome, action_answer, with_result}
+use Rattle.shader_runs.specs.ProgramRun.{barrier_words, ask_each, same_label, has_label, label_if}
+use Rattle.shader_runs.specs.ProgramRun.{run, run_all, run_cases, run_on, constants_kept}
+use Rattle.shader_runs.specs.ProgramRun.{with_first, first_used_all, entered, run_body, called}
+use Rattle.shader_runs.specs.ProgramRun.{run_call}
 use Rattle.shader_runs.specs.TextRun.{Scope, no_names}
-use Rattle.shader_runs.specs.Scope.{Standing, Absent, Barred, Everywhere, Inline, Named, Handles, ModuleNames, Names, Naming, bound_name, is_present, is_new, is_pure, is_emittable, before_local, usable, usable_as, usable_all, usable_if, unbound, emitted, after_one, given_after, given_by, given_by_all, after_emit, after_result, after, after_all, forgotten_handles, forgotten_one, forgotten_if, start_standing, at_start, first_values_fit, fits_all}
+use Rattle.shader_runs.specs.Scope.{Standing, Absent, Barred, Everywhere, Inline, Named, Handles}
+use Rattle.shader_runs.specs.Scope.{ModuleNames, Names, Naming, bound_name, is_present, is_new}
+use Rattle.shader_runs.specs.Scope.{is_pure, is_emittable, before_local, usable, usable_as}
+use Rattle.shader_runs.specs.Scope.{usable_all, usable_if, unbound, emitted, after_one, given_after}
+use Rattle.shader_runs.specs.Scope.{given_by, given_by_all, after_emit, after_result, after}
+use Rattle.shader_runs.specs.Scope.{after_all, forgotten_handles, forgotten_one, forgotten_if}
+use Rattle.shader_runs.specs.Scope.{start_standing, at_start, first_values_fit, fits_all}
 use Rattle.shader_runs.specs.Form.{functions_of}
 use Rattle.shader_runs.specs.Points.{call_of}
-use Rattle.shader_runs.specs.Premises.{LeafFits, LeafTyped, ConstantsInRange, ConstantsTyped, IsTypedIn, EnvironmentFits, handle_types, CallFits, ActionFits, ReturnFits, FunctionFits, AllFit, AllTypedIn}
-use Rattle.shader_runs.specs.Progress.{IsPointer, IsInteger, IsBoolean, LoadFits, BreakIfFits, IsWellFormed, AreWellFormed, CasesAreWellFormed, FunctionIsWellFormed, AllWellFormed, NotStuck, IsNotStuck, RunsAreNotStuck}
+use Rattle.shader_runs.specs.Premises.{LeafFits, LeafTyped, ConstantsInRange, ConstantsTyped}
+use Rattle.shader_runs.specs.Premises.{IsTypedIn, EnvironmentFits, handle_types, CallFits}
+use Rattle.shader_runs.specs.Premises.{ActionFits, ReturnFits, FunctionFits, AllFit, AllTypedIn}
+use Rattle.shader_runs.specs.Progress.{IsPointer, IsInteger, IsBoolean, LoadFits, BreakIfFits}
+use Rattle.shader_runs.specs.Progress.{IsWellFormed, AreWellFormed, CasesAreWellFormed}
+use Rattle.shader_runs.specs.Progress.{FunctionIsWellFormed, AllWellFormed, NotStuck, IsNotStuck}
+use Rattle.shader_runs.specs.Progress.{RunsAreNotStuck}
 use Rattle.shader_runs.proofs.Update.{and_left, and_right, update_cases, has_types_length}
-use Rattle.shader_runs.proofs.Relation.{TypedValue, ResultTyped, Returns, Stands, Extends, extends_trans, extends_forgotten, usable_all_more}
+use Rattle.shader_runs.proofs.Relation.{TypedValue, ResultTyped, Returns, Stands, Extends}
+use Rattle.shader_runs.proofs.Relation.{extends_trans, extends_forgotten, usable_all_more}
 use Rattle.shader_runs.proofs.Evaluation.{naming, pointer_typed, integer_typed, truth_typed}
 use Rattle.shader_runs.proofs.Form.{used_typed, UsesTyped, all_typed, operator_typed, request_there}
 use Rattle.shader_runs.proofs.Checked.{MayBind, MayEmitAll, Fits, FitsAll, FitsCases}
@@ -31,7 +64,8 @@ use Rattle.shader_runs.specs.Constants.{environment_of}
 use Rattle.shader_runs.proofs.Constants.{environment_fits}
 use Rattle.std.proofs.lemmas.Option.{same_Some, none-some}
 
--- a run that isn't stuck: P holds where it is done, Q where it continues, B where it breaks, R of what it returns
+-- a run that isn't stuck: P holds where it is done, Q where it continues, B where it breaks, R of
+-- what it returns
 pub data Proceeds {S : Type 0} (R : Option Value → Type 0) (P Q B : S → Type 0) : Outcome S → Type 0 where
   done : {s : S} {t : List Event} → P s → Proceeds R P Q B (Done s t)
   continued : {s : S} {t : List Event} → Q s → Proceeds R P Q B (Continued s t)
@@ -299,8 +333,8 @@ module _ (p : Module) (c : Call) (n : Names) (sound : Sound p c) where
       then_proceeds {P = Typed c s1} (λ kept1 t1 y1. emit_proceeds k1 hs s1 kept1 t1 (rooted_one c n k h s r) y1 m.1) (emit_as_proceeds s kept t r y h (bound_name (naming c n) k h) m.0.new e refl (sound.loads h) (sound.leaves h) (sound.typed.constants h) m.0.kind m.0.bound)
 
 module _ (p : Module) (c : Call) (n : Names) (sound : Sound p c) (bound : ℕ) where
-  -- what a run from the scope s is, which leaves the scope s2: held tells whether it holds a `continue`, and breaks and continues
-  -- whether one may stand here
+  -- what a run from the scope s is, which leaves the scope s2: held tells whether it holds a
+  -- `continue`, and breaks and continues whether one may stand here
   abbrev Runs : (s s2 at_continue : Handles) → (breaks continues held : Bool) → Outcome Kept → Type 0
   Runs s s2 at_continue breaks continues held =
       Proceeds (Returns c.environment.parts c.function) (Typed c s2) (λ k. Typed c at_continue k × IsTrue held × IsTrue continues) (λ k. Typed c s k × IsTrue breaks)

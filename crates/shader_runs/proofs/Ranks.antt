@@ -1,5 +1,6 @@
 -- A rank of finitely many numbers, made small: how many of them have a smaller one.
-use Rattle.std.proofs.Common.{◌≡◌, ℕ, zero, suc, ◌<◌, ◌≤◌, Bool, true, false, cond, nat_eq, nat_lt, refl, subst, arith, eqb-true, ltb-true, ltb-false}
+use Rattle.std.proofs.Common.{◌≡◌, ℕ, zero, suc, ◌<◌, ◌≤◌, Bool, true, false, cond, nat_eq, nat_lt}
+use Rattle.std.proofs.Common.{refl, subst, arith, eqb-true, ltb-true, ltb-false}
 use Rattle.std.proofs.lemmas.Bool.{eqb-false}
 
 -- how many of the numbers below n have a rank below r

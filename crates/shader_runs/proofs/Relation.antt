@@ -1,13 +1,21 @@
 -- What relates the module's kept values and the text's names, at each point of both runs.
-use Rattle.std.proofs.Common.{◌≡◌, ◌≢◌, ℕ, ◌<◌, Bool, true, false, cond, List, [], ◌∷◌, length, Option, Some, None, slice_get, refl, sym, ap, ◌∙◌, option_map}
+use Rattle.std.proofs.Common.{◌≡◌, ◌≢◌, ℕ, ◌<◌, Bool, true, false, cond, List, [], ◌∷◌, length}
+use Rattle.std.proofs.Common.{Option, Some, None, slice_get, refl, sym, ap, ◌∙◌, option_map}
 use Rattle.std.specs.Prelude.{IsTrue}
-use Rattle.shader_runs.specs.Value.{Bytes, Rooted, LocalRoot, GlobalRoot, PartTypes, ValueType, has_type, Value}
+use Rattle.shader_runs.specs.Value.{Bytes, Rooted, LocalRoot, GlobalRoot, PartTypes, ValueType}
+use Rattle.shader_runs.specs.Value.{has_type, Value}
 use Rattle.shader_runs.specs.World.{GlobalValue, Stored, Held}
-use Rattle.shader_runs.specs.Program.{Expression, Constant, Argument, Local, Global, Function, argument_count, local_count, local_pointer, expression_of, handle_type, operands_of}
-use Rattle.shader_runs.specs.ProgramRun.{Call, Kept, used_value_as, used_value, also, used_values, gathered_value, computed_value}
+use Rattle.shader_runs.specs.Program.{Expression, Constant, Argument, Local, Global, Function}
+use Rattle.shader_runs.specs.Program.{argument_count, local_count, local_pointer, expression_of}
+use Rattle.shader_runs.specs.Program.{handle_type, operands_of}
+use Rattle.shader_runs.specs.ProgramRun.{Call, Kept, used_value_as, used_value, also, used_values}
+use Rattle.shader_runs.specs.ProgramRun.{gathered_value, computed_value}
 use Rattle.shader_runs.specs.TextRun.{Denoted, IsValue, IsPlace, Scope}
-use Rattle.shader_runs.specs.Scope.{Standing, Absent, Barred, Everywhere, Inline, Named, Handles, Names, usable, usable_as, usable_all, is_present, is_new, forgotten_handles, forgotten_one, given_by_all}
-use Rattle.shader_runs.specs.Premises.{FixedName, ArgumentName, LocalName, ConstantName, GlobalName, fixed_name}
+use Rattle.shader_runs.specs.Scope.{Standing, Absent, Barred, Everywhere, Inline, Named, Handles}
+use Rattle.shader_runs.specs.Scope.{Names, usable, usable_as, usable_all, is_present, is_new}
+use Rattle.shader_runs.specs.Scope.{forgotten_handles, forgotten_one, given_by_all}
+use Rattle.shader_runs.specs.Premises.{FixedName, ArgumentName, LocalName, ConstantName, GlobalName}
+use Rattle.shader_runs.specs.Premises.{fixed_name}
 use Rattle.shader_runs.proofs.Update.{and_left, and_right, and_both}
 
 -- a value of this type

@@ -1,24 +1,61 @@
 -- Each identifier of a text stands for what the module means by it.
-use Rattle.std.proofs.Common.{◌≡◌, ◌≢◌, ℕ, zero, suc, ◌+◌, ◌<◌, ◌≤◌, Bool, true, false, cond, List, [], ◌∷◌, ◌++◌, map, length, Option, Some, None, refl, sym, ap, subst, ◌∙◌, arith, append_assoc, length-drop}
+use Rattle.std.proofs.Common.{◌≡◌, ◌≢◌, ℕ, zero, suc, ◌+◌, ◌<◌, ◌≤◌, Bool, true, false, cond, List}
+use Rattle.std.proofs.Common.{[], ◌∷◌, ◌++◌, map, length, Option, Some, None, refl, sym, ap, subst}
+use Rattle.std.proofs.Common.{◌∙◌, arith, append_assoc, length-drop}
 use Rattle.std.specs.Prelude.{IsTrue, slice_get}
 use Rattle.std.proofs.lemmas.List.{map-append}
 use Rattle.shader_runs.specs.Value.{Bytes, ValueType}
 use Rattle.shader_runs.specs.World.{update, bind}
-use Rattle.shader_runs.specs.Program.{ConstantTree, Expression, Constant, Argument, Local, Global, Operator, Request, Action, Asked, Called, Statement, Emit, Store, Block, If, Switch, Loop, Break, Continue, Return, Kill, Barrier, Act, Statements, end, then, Cases, no_case, case, Label, Function, argument_count, local_count, expression_of, handle_type, binds, from, Module, constant_count, override_types}
+use Rattle.shader_runs.specs.Program.{ConstantTree, Expression, Constant, Argument, Local, Global}
+use Rattle.shader_runs.specs.Program.{Operator, Request, Action, Asked, Called, Statement, Emit}
+use Rattle.shader_runs.specs.Program.{Store, Block, If, Switch, Loop, Break, Continue, Return, Kill}
+use Rattle.shader_runs.specs.Program.{Barrier, Act, Statements, end, then, Cases, no_case, case}
+use Rattle.shader_runs.specs.Program.{Label, Function, argument_count, local_count, expression_of}
+use Rattle.shader_runs.specs.Program.{handle_type, binds, from, Module, constant_count}
+use Rattle.shader_runs.specs.Program.{override_types}
 use Rattle.shader_runs.specs.ProgramRun.{barrier_words}
-use Rattle.shader_runs.specs.Scope.{Handles, ModuleNames, Naming, at_start, bound_name, usable_if, given_after, given_after_all, given_by, given_by_all, given_by_cases, after_one, after, after_all, before_local, first_values_fit, fits_all, fits_function}
+use Rattle.shader_runs.specs.Scope.{Handles, ModuleNames, Naming, at_start, bound_name, usable_if}
+use Rattle.shader_runs.specs.Scope.{given_after, given_after_all, given_by, given_by_all}
+use Rattle.shader_runs.specs.Scope.{given_by_cases, after_one, after, after_all, before_local}
+use Rattle.shader_runs.specs.Scope.{first_values_fit, fits_all, fits_function}
 use Rattle.shader_runs.specs.Text.{Tree, Lines, before}
-use Rattle.shader_runs.specs.Form.{value_form, value_forms, own_form, written, value_if, let_if, lets, word_of, act_line, perform_each, form, form_all, form_cases, names_from, variables_from, constants_from, globals_from, functions_of, form_function, form_functions, form_module}
-use Rattle.shader_runs.specs.Premises.{FixedName, ArgumentName, LocalName, ConstantName, GlobalName, FixedKey, fixed_name, IsFixedName, IsNoName, EachAsks, WordFits, LeafFits, ActionFits, IsRegular, AreRegular, CasesAreRegular, AreDistinct, FunctionFits, AllFit, InitialiserFits, OperatesOutside, ModuleNamesAreDistinct}
+use Rattle.shader_runs.specs.Form.{value_form, value_forms, own_form, written, value_if, let_if}
+use Rattle.shader_runs.specs.Form.{lets, word_of, act_line, perform_each, form, form_all}
+use Rattle.shader_runs.specs.Form.{form_cases, names_from, variables_from, constants_from}
+use Rattle.shader_runs.specs.Form.{globals_from, functions_of, form_function, form_functions}
+use Rattle.shader_runs.specs.Form.{form_module}
+use Rattle.shader_runs.specs.Premises.{FixedName, ArgumentName, LocalName, ConstantName, GlobalName}
+use Rattle.shader_runs.specs.Premises.{FixedKey, fixed_name, IsFixedName, IsNoName, EachAsks}
+use Rattle.shader_runs.specs.Premises.{WordFits, LeafFits, ActionFits, IsRegular, AreRegular}
+use Rattle.shader_runs.specs.Premises.{CasesAreRegular, AreDistinct, FunctionFits, AllFit}
+use Rattle.shader_runs.specs.Premises.{InitialiserFits, OperatesOutside, ModuleNamesAreDistinct}
 use Rattle.shader_runs.specs.Correct.{ModuleFits}
-use Rattle.shader_runs.specs.Resolution.{Target, ConstantTarget, GlobalTarget, FunctionTarget, ArgumentTarget, LocalTarget, LetTarget, Lookup, word_target, tree_targets, trees_targets, tree_targets_if, lets_behind_all, names_left, lines_targets, groups_targets, with_items, with_functions, text_names, variables_targets, text_function_targets, constant_targets, operands_targets, own_targets, LetNumbers, value_targets, value_targets_if, lets_after, numbers_after, lets_after_all, lets_after_result, lets_by, lets_by_all, numbers_by, numbers_left, emit_targets, action_targets, statement_targets, statements_targets, cases_targets, no_numbers, first_values_targets, function_targets}
+use Rattle.shader_runs.specs.Resolution.{Target, ConstantTarget, GlobalTarget, FunctionTarget}
+use Rattle.shader_runs.specs.Resolution.{ArgumentTarget, LocalTarget, LetTarget, Lookup}
+use Rattle.shader_runs.specs.Resolution.{word_target, tree_targets, trees_targets, tree_targets_if}
+use Rattle.shader_runs.specs.Resolution.{lets_behind_all, names_left, lines_targets, groups_targets}
+use Rattle.shader_runs.specs.Resolution.{with_items, with_functions, text_names, variables_targets}
+use Rattle.shader_runs.specs.Resolution.{text_function_targets, constant_targets, operands_targets}
+use Rattle.shader_runs.specs.Resolution.{own_targets, LetNumbers, value_targets, value_targets_if}
+use Rattle.shader_runs.specs.Resolution.{lets_after, numbers_after, lets_after_all}
+use Rattle.shader_runs.specs.Resolution.{lets_after_result, lets_by, lets_by_all, numbers_by}
+use Rattle.shader_runs.specs.Resolution.{numbers_left, emit_targets, action_targets}
+use Rattle.shader_runs.specs.Resolution.{statement_targets, statements_targets, cases_targets}
+use Rattle.shader_runs.specs.Resolution.{no_numbers, first_values_targets, function_targets}
 use Rattle.shader_runs.specs.Identifiers.{LeafStands, LeavesStand, ResolvesAsMeant}
 use Rattle.shader_runs.proofs.Update.{and_left, and_right, bind_other, bind_cases}
 use Rattle.shader_runs.proofs.Names.{length-functions_of}
 use Rattle.shader_runs.proofs.Sources.{given_all_more, list_more, cases_more, start_sources}
-use Rattle.shader_runs.proofs.TreeTargets.{both, constant_resolves, IsNamed, place_resolves, value_resolves, value_if_resolves, values_resolve, let_resolves}
-use Rattle.shader_runs.proofs.LinesLeft.{groups_counted, lines_counted, list_names, names_after, names_after_all, names_after_result, names_by, lines_leave}
-use Rattle.shader_runs.proofs.Lookups.{InScope, IsDeclared, Knows, KnowsItems, constant_named, constants_named, entry, first_resolves, fixed_target, knows_more, none_at_start, one_argument, scope_by, scope_left, scope_more, scope_one, total, family_other, family_found}
+use Rattle.shader_runs.proofs.TreeTargets.{both, constant_resolves, IsNamed, place_resolves}
+use Rattle.shader_runs.proofs.TreeTargets.{value_resolves, value_if_resolves, values_resolve}
+use Rattle.shader_runs.proofs.TreeTargets.{let_resolves}
+use Rattle.shader_runs.proofs.LinesLeft.{groups_counted, lines_counted, list_names, names_after}
+use Rattle.shader_runs.proofs.LinesLeft.{names_after_all, names_after_result, names_by, lines_leave}
+use Rattle.shader_runs.proofs.Lookups.{InScope, IsDeclared, Knows, KnowsItems, constant_named}
+use Rattle.shader_runs.proofs.Lookups.{constants_named, entry, first_resolves, fixed_target}
+use Rattle.shader_runs.proofs.Lookups.{knows_more, none_at_start, one_argument, scope_by}
+use Rattle.shader_runs.proofs.Lookups.{scope_left, scope_more, scope_one, total, family_other}
+use Rattle.shader_runs.proofs.Lookups.{family_found}
 
 module _ (p : Module) (f : Naming) (distinct : AreDistinct p f) where
   -- ---- statements

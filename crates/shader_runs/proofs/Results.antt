@@ -1,22 +1,43 @@
 -- No call misses a result, where functions return what they promise.
-use Rattle.std.proofs.Common.{◌≡◌, ℕ, zero, suc, Bool, true, false, not, cond, nat_eq, List, [], ◌∷◌, length, Option, Some, None, ◌&&◌, ◌||◌, refl, sym, ap, ◌∙◌, subst, true≢false, option_and_then}
+use Rattle.std.proofs.Common.{◌≡◌, ℕ, zero, suc, Bool, true, false, not, cond, nat_eq, List, []}
+use Rattle.std.proofs.Common.{◌∷◌, length, Option, Some, None, ◌&&◌, ◌||◌, refl, sym, ap, ◌∙◌}
+use Rattle.std.proofs.Common.{subst, true≢false, option_and_then}
 use Rattle.std.specs.Prelude.{IsTrue, ℤ, is_some}
-use Rattle.shader_runs.specs.Value.{PartTypes, Bytes, ValueType, has_type, Value, truth_in, integer_in, place_in}
+use Rattle.shader_runs.specs.Value.{PartTypes, Bytes, ValueType, has_type, Value, truth_in}
+use Rattle.shader_runs.specs.Value.{integer_in, place_in}
 use Rattle.shader_runs.specs.World.{Event, Entry, Ask, Read, World, Meaning, Environment, update}
-use Rattle.shader_runs.specs.Outcome.{Outcome, Done, Continued, Broke, Returned, Stopped, Reached, Gives, Halts, answer, Next, and_then, and_continue, within, and_again, turn, turns, after_switch, branch_by, or_stuck}
-use Rattle.shader_runs.specs.Program.{Expression, Load, Request, Action, Asked, Called, Label, Numbered, Default, Statement, Emit, Store, Block, If, Switch, Loop, Break, Continue, Return, Kill, Barrier, Act, Statements, end, then, Cases, no_case, case, Function, argument_count, function_numbered, expression_of, handle_type, is_counted, is_asked, from, Module}
-use Rattle.shader_runs.specs.ProgramRun.{Call, Kept, constant_values, used_value, used_values, joined_values, if_typed, after_load, after_request, if_counted, emit_as, emit, leave, action_answer, with_result, barrier_words, ask_each, same_label, has_label, label_if, run, run_all, run_cases, run_on, constants_kept, first_used_all, entered, run_body, called, run_call}
+use Rattle.shader_runs.specs.Outcome.{Outcome, Done, Continued, Broke, Returned, Stopped, Reached}
+use Rattle.shader_runs.specs.Outcome.{Gives, Halts, answer, Next, and_then, and_continue, within}
+use Rattle.shader_runs.specs.Outcome.{and_again, turn, turns, after_switch, branch_by, or_stuck}
+use Rattle.shader_runs.specs.Program.{Expression, Load, Request, Action, Asked, Called, Label}
+use Rattle.shader_runs.specs.Program.{Numbered, Default, Statement, Emit, Store, Block, If, Switch}
+use Rattle.shader_runs.specs.Program.{Loop, Break, Continue, Return, Kill, Barrier, Act, Statements}
+use Rattle.shader_runs.specs.Program.{end, then, Cases, no_case, case, Function, argument_count}
+use Rattle.shader_runs.specs.Program.{function_numbered, expression_of, handle_type, is_counted}
+use Rattle.shader_runs.specs.Program.{is_asked, from, Module}
+use Rattle.shader_runs.specs.ProgramRun.{Call, Kept, constant_values, used_value, used_values}
+use Rattle.shader_runs.specs.ProgramRun.{joined_values, if_typed, after_load, after_request}
+use Rattle.shader_runs.specs.ProgramRun.{if_counted, emit_as, emit, leave, action_answer}
+use Rattle.shader_runs.specs.ProgramRun.{with_result, barrier_words, ask_each, same_label}
+use Rattle.shader_runs.specs.ProgramRun.{has_label, label_if, run, run_all, run_cases, run_on}
+use Rattle.shader_runs.specs.ProgramRun.{constants_kept, first_used_all, entered, run_body, called}
+use Rattle.shader_runs.specs.ProgramRun.{run_call}
 use Rattle.shader_runs.specs.Scope.{ModuleNames, Naming}
 use Rattle.shader_runs.specs.Form.{functions_of}
 use Rattle.shader_runs.specs.Points.{call_of}
-use Rattle.shader_runs.specs.Premises.{CallFits, ActionFits, FallsFrom, IsRegular, AreRegular, CasesAreRegular, AllFit}
-use Rattle.shader_runs.specs.Results.{holds_break, any_break, may_end, may_end_all, some_case_ends, has_values, all_have_values, cases_have_values, GivesResult, AllGiveResults, IsGiven, NotUnreturned, IsComplete, ResultsAreReturned}
+use Rattle.shader_runs.specs.Premises.{CallFits, ActionFits, FallsFrom, IsRegular, AreRegular}
+use Rattle.shader_runs.specs.Premises.{CasesAreRegular, AllFit}
+use Rattle.shader_runs.specs.Results.{holds_break, any_break, may_end, may_end_all, some_case_ends}
+use Rattle.shader_runs.specs.Results.{has_values, all_have_values, cases_have_values, GivesResult}
+use Rattle.shader_runs.specs.Results.{AllGiveResults, IsGiven, NotUnreturned, IsComplete}
+use Rattle.shader_runs.specs.Results.{ResultsAreReturned}
 use Rattle.shader_runs.proofs.Update.{and_left, and_right, and_both}
 use Rattle.shader_runs.proofs.Statements.{or_left, or_right}
 use Rattle.shader_runs.specs.Constants.{environment_of}
 use Rattle.std.proofs.lemmas.Option.{same_Some, none-some}
 
--- a run that misses no result, with a result of this type: ends and breaks tell whether it may be done and may break
+-- a run that misses no result, with a result of this type: ends and breaks tell whether it may be
+-- done and may break
 abbrev Leads : {S : Type 0} → Option ValueType → (ends breaks : Bool) → Outcome S → Type 0
 Leads k ends breaks (Done s t) = IsTrue ends
 Leads k ends breaks (Continued s t) = Unit {0}

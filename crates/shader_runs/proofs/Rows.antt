@@ -1,11 +1,16 @@
 -- The worked functions, by computing, and the premises of the law for one of them.
-use Rattle.std.proofs.Common.{◌≡◌, ℕ, zero, suc, ◌+◌, ◌<◌, List, [], ◌∷◌, Some, slice_get, refl, sym, ap, subst, arith}
+use Rattle.std.proofs.Common.{◌≡◌, ℕ, zero, suc, ◌+◌, ◌<◌, List, [], ◌∷◌, Some, slice_get, refl}
+use Rattle.std.proofs.Common.{sym, ap, subst, arith}
 use Rattle.std.specs.Prelude.{codes}
 use Rattle.shader_runs.specs.Program.{Function, expression_of, handle_type, operands_of}
 use Rattle.shader_runs.specs.Scope.{given_by_all}
-use Rattle.shader_runs.specs.Premises.{AllBelow, WordFits, LeafFits, AreDistinct, FixedKey, NumberedKey, GivenKey, ArgumentName, LocalName, ConstantName, GlobalName, ConstantsFit}
-use Rattle.shader_runs.specs.Typing.{Signature, IsOneOf, IsSpelled, PartsFit, signatures_of, in_function, in_initialiser}
-use Rattle.shader_runs.specs.Rows.{RowsHold, PremisesHold, store_function, store_naming, store_module}
+use Rattle.shader_runs.specs.Premises.{AllBelow, WordFits, LeafFits, AreDistinct, FixedKey}
+use Rattle.shader_runs.specs.Premises.{NumberedKey, GivenKey, ArgumentName, LocalName, ConstantName}
+use Rattle.shader_runs.specs.Premises.{GlobalName, ConstantsFit}
+use Rattle.shader_runs.specs.Typing.{Signature, IsOneOf, IsSpelled, PartsFit, signatures_of}
+use Rattle.shader_runs.specs.Typing.{in_function, in_initialiser}
+use Rattle.shader_runs.specs.Rows.{RowsHold, PremisesHold, store_function, store_naming}
+use Rattle.shader_runs.specs.Rows.{store_module}
 use Rattle.shader_runs.specs.Progress.{LoadFits}
 use Rattle.std.proofs.lemmas.Option.{none-some, same_Some}
 use Rattle.shader_runs.specs.WorkedFunctions.{no_parts as row_parts, numbered_name}

@@ -1,13 +1,20 @@
 -- The scope only grows, and the text holds a `continue` and a label where the module does.
-use Rattle.std.proofs.Common.{◌≡◌, ℕ, Bool, true, false, List, [], ◌∷◌, ◌++◌, Some, None, ◌||◌, refl, sym, ap, ap₂, ◌∙◌}
+use Rattle.std.proofs.Common.{◌≡◌, ℕ, Bool, true, false, List, [], ◌∷◌, ◌++◌, Some, None, ◌||◌}
+use Rattle.std.proofs.Common.{refl, sym, ap, ap₂, ◌∙◌}
 use Rattle.std.proofs.Math.Bool.{or-false}
 use Rattle.shader_runs.specs.Value.{Bytes}
-use Rattle.shader_runs.specs.Program.{Label, Statement, Emit, Store, Block, If, Switch, Loop, Break, Continue, Return, Kill, Barrier, Act, Statements, end, then, Cases, no_case, case, Module, from, binds, holds_continue, any_continue, some_case_continues, expression_of, handle_type}
+use Rattle.shader_runs.specs.Program.{Label, Statement, Emit, Store, Block, If, Switch, Loop, Break}
+use Rattle.shader_runs.specs.Program.{Continue, Return, Kill, Barrier, Act, Statements, end, then}
+use Rattle.shader_runs.specs.Program.{Cases, no_case, case, Module, from, binds, holds_continue}
+use Rattle.shader_runs.specs.Program.{any_continue, some_case_continues, expression_of, handle_type}
 use Rattle.shader_runs.specs.Text.{Tree, Lines}
 use Rattle.shader_runs.specs.TextRun.{some_continue, some_group_continues, among, group_has}
 use Rattle.shader_runs.specs.ProgramRun.{Call, barrier_words, same_label, has_label}
-use Rattle.shader_runs.specs.Scope.{Named, Handles, Names, Naming, bound_name, after_one, given_after, given_by, given_by_all, after, after_all, forgotten_if}
-use Rattle.shader_runs.specs.Form.{value_form, own_form, written, let_if, lets, perform_each, form, form_all, form_cases}
+use Rattle.shader_runs.specs.Scope.{Named, Handles, Names, Naming, bound_name, after_one}
+use Rattle.shader_runs.specs.Scope.{given_after, given_by, given_by_all, after, after_all}
+use Rattle.shader_runs.specs.Scope.{forgotten_if}
+use Rattle.shader_runs.specs.Form.{value_form, own_form, written, let_if, lets, perform_each, form}
+use Rattle.shader_runs.specs.Form.{form_all, form_cases}
 use Rattle.shader_runs.specs.Premises.{FallsFrom}
 use Rattle.shader_runs.proofs.Relation.{Extends, extends_refl, extends_trans, extends_forgotten}
 use Rattle.shader_runs.proofs.Evaluation.{naming}

@@ -1,14 +1,40 @@
--- The check of scope decides the rules of scope: at each point the standings of handles say what the rules do.
-use Rattle.std.proofs.Common.{◌≡◌, ◌⊎◌, inl, inr, ⊎_elim, ℕ, zero, suc, ◌<◌, ◌≤◌, Bool, true, false, cond, not, List, [], ◌∷◌, length, Option, Some, None, ◌&&◌, ◌||◌, refl, sym, ap, ◌∙◌, subst, true≢false, arith, ltb-true}
+-- The check of scope decides the rules of scope: at each point the standings of handles say what
+-- the rules do.
+use Rattle.std.proofs.Common.{◌≡◌, ◌⊎◌, inl, inr, ⊎_elim, ℕ, zero, suc, ◌<◌, ◌≤◌, Bool, true, false}
+use Rattle.std.proofs.Common.{cond, not, List, [], ◌∷◌, length, Option, Some, None, ◌&&◌, ◌||◌}
+use Rattle.std.proofs.Common.{refl, sym, ap, ◌∙◌, subst, true≢false, arith, ltb-true}
 use Rattle.std.specs.Prelude.{IsTrue, ◌↔◌}
 use Rattle.std.proofs.lemmas.Bool.{or_right, lt-ltb, true_from_ne_false}
 use Rattle.std.proofs.lemmas.Option.{slice_get_within}
 use Rattle.shader_runs.specs.Value.{Bytes}
 use Rattle.shader_runs.specs.World.{update}
-use Rattle.shader_runs.specs.Program.{Expression, Constant, Argument, Local, Global, Load, Request, Result, Statement, Emit, Store, Block, If, Switch, Loop, Return, Act, Statements, end, then, Cases, no_case, case, Function, argument_count, local_count, expression_of, operands_of, is_counted, is_asked, binds_as, binds, from, holds_continue}
-use Rattle.shader_runs.specs.Scope.{Standing, Absent, Barred, Everywhere, Inline, Named, Handles, Naming, before_local, bound_name, is_present, is_new, usable_as, usable, usable_all, usable_if, is_pure, all_constant, is_constant_leaf, constant_test, is_constant_below, start_standing, at_start, unbound, emitted, after_one, given_after, given_by, given_by_all, after_emit, after, forgotten_handles, forgotten_one, forgotten_if, after_all, is_emittable, may_emit, may_emit_all, may_give, fits, fits_all, fits_cases, first_values_fit}
+use Rattle.shader_runs.specs.Program.{Expression, Constant, Argument, Local, Global, Load, Request}
+use Rattle.shader_runs.specs.Program.{Result, Statement, Emit, Store, Block, If, Switch, Loop}
+use Rattle.shader_runs.specs.Program.{Return, Act, Statements, end, then, Cases, no_case, case}
+use Rattle.shader_runs.specs.Program.{Function, argument_count, local_count, expression_of}
+use Rattle.shader_runs.specs.Program.{operands_of, is_counted, is_asked, binds_as, binds, from}
+use Rattle.shader_runs.specs.Program.{holds_continue}
+use Rattle.shader_runs.specs.Scope.{Standing, Absent, Barred, Everywhere, Inline, Named, Handles}
+use Rattle.shader_runs.specs.Scope.{Naming, before_local, bound_name, is_present, is_new, usable_as}
+use Rattle.shader_runs.specs.Scope.{usable, usable_all, usable_if, is_pure, all_constant}
+use Rattle.shader_runs.specs.Scope.{is_constant_leaf, constant_test, is_constant_below}
+use Rattle.shader_runs.specs.Scope.{start_standing, at_start, unbound, emitted, after_one}
+use Rattle.shader_runs.specs.Scope.{given_after, given_by, given_by_all, after_emit, after}
+use Rattle.shader_runs.specs.Scope.{forgotten_handles, forgotten_one, forgotten_if, after_all}
+use Rattle.shader_runs.specs.Scope.{is_emittable, may_emit, may_emit_all, may_give, fits, fits_all}
+use Rattle.shader_runs.specs.Scope.{fits_cases, first_values_fit}
 use Rattle.shader_runs.specs.Premises.{AllBelow}
-use Rattle.shader_runs.specs.ScopeRules.{Given, Emitted, AsResult, handle_of, IsAmong, IsConstantTree, one_constant, over_constants, AreConstantTrees, no_tree, and_tree, can_be_given, InScope, constant_tree, argument, local, global, bound, written_out, result, still, EachInScope, no_handle, and_handle, InScopeIf, is_unwritten, with_one, with_emitted, with_statement, with_statements, unskipped, Point, entry_point, behind_one, behind, behind_turn, WasGiven, in_sight, as_a_tree, MayEmit, MayEmitEach, MayResult, StatementHolds, StatementsHold, CasesHold, FirstValuesHold, ScopeCheckIsTheRules}
+use Rattle.shader_runs.specs.ScopeRules.{Given, Emitted, AsResult, handle_of, IsAmong}
+use Rattle.shader_runs.specs.ScopeRules.{IsConstantTree, one_constant, over_constants}
+use Rattle.shader_runs.specs.ScopeRules.{AreConstantTrees, no_tree, and_tree, can_be_given, InScope}
+use Rattle.shader_runs.specs.ScopeRules.{constant_tree, argument, local, global, bound, written_out}
+use Rattle.shader_runs.specs.ScopeRules.{result, still, EachInScope, no_handle, and_handle}
+use Rattle.shader_runs.specs.ScopeRules.{InScopeIf, is_unwritten, with_one, with_emitted}
+use Rattle.shader_runs.specs.ScopeRules.{with_statement, with_statements, unskipped, Point}
+use Rattle.shader_runs.specs.ScopeRules.{entry_point, behind_one, behind, behind_turn, WasGiven}
+use Rattle.shader_runs.specs.ScopeRules.{in_sight, as_a_tree, MayEmit, MayEmitEach, MayResult}
+use Rattle.shader_runs.specs.ScopeRules.{StatementHolds, StatementsHold, CasesHold, FirstValuesHold}
+use Rattle.shader_runs.specs.ScopeRules.{ScopeCheckIsTheRules}
 use Rattle.shader_runs.proofs.Update.{and_left, and_right, and_both, update_cases}
 use Rattle.shader_runs.proofs.Relation.{present_forgotten}
 use Rattle.shader_runs.proofs.Start.{or_cases}
@@ -449,7 +475,8 @@ new_forgotten now = go (is_new now)
     go true = refl
     go false = refl
 
--- what is given from here to a later point of the list is forgotten, but that constant trees were given
+-- what is given from here to a later point of the list is forgotten, but that constant trees were
+-- given
 module _ (f : Function) (at later : Point) (s now : Handles) (t : Tracks f at s) (t1 : Tracks f later now)
     (more : (h : ℕ) → IsAmong h at.passed → IsAmong h later.passed) where
   abbrev Skipped : Point

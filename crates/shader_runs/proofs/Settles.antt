@@ -1,13 +1,35 @@
--- A text's run with more turns is the run with fewer turns, or that one ran out of turns behind as many events.
-use Rattle.std.proofs.Common.{◌≡◌, ℕ, zero, suc, ◌+◌, ◌<◌, ◌≤◌, ◌⊎◌, inl, inr, Bool, true, false, cond, nat_eq, List, [], ◌∷◌, length, Option, Some, None, refl, sym, ap, ◌∙◌, subst, arith, option_map}
+-- A text's run with more turns is the run with fewer turns, or that one ran out of turns behind as
+-- many events.
+use Rattle.std.proofs.Common.{◌≡◌, ℕ, zero, suc, ◌+◌, ◌<◌, ◌≤◌, ◌⊎◌, inl, inr, Bool, true, false}
+use Rattle.std.proofs.Common.{cond, nat_eq, List, [], ◌∷◌, length, Option, Some, None, refl, sym}
+use Rattle.std.proofs.Common.{ap, ◌∙◌, subst, arith, option_map}
 use Rattle.std.proofs.Math.Nat.{eq-or-lt_of_le}
-use Rattle.shader_runs.specs.Value.{Bytes, same_bytes, Place, Selector, Value, ShortCircuit, truth_in, integer_in, place_in, Part, At}
+use Rattle.shader_runs.specs.Value.{Bytes, same_bytes, Place, Selector, Value, ShortCircuit}
+use Rattle.shader_runs.specs.Value.{truth_in, integer_in, place_in, Part, At}
 use Rattle.shader_runs.specs.World.{Event, Entry, Write, entries, World, Meaning, bind}
-use Rattle.shader_runs.specs.Outcome.{OutOfTurns, Outcome, Done, Continued, Broke, Returned, Stopped, Reached, Gives, Halts, answer, Next, and_then, and_continue, within, turn, and_again, turns, after_switch, closed_outcome, closed_if, branch_by, with_integer, or_stuck, reach, unless}
+use Rattle.shader_runs.specs.Outcome.{OutOfTurns, Outcome, Done, Continued, Broke, Returned}
+use Rattle.shader_runs.specs.Outcome.{Stopped, Reached, Gives, Halts, answer, Next, and_then}
+use Rattle.shader_runs.specs.Outcome.{and_continue, within, turn, and_again, turns, after_switch}
+use Rattle.shader_runs.specs.Outcome.{closed_outcome, closed_if, branch_by, with_integer, or_stuck}
+use Rattle.shader_runs.specs.Outcome.{reach, unless}
 use Rattle.shader_runs.specs.Program.{Label, Numbered}
 use Rattle.shader_runs.specs.ProgramRun.{called, decides, label_if}
-use Rattle.shader_runs.specs.Text.{Tree, Name, LiteralOf, Apply, Deref, AddressOf, Index, PartOf, LogicalOf, Trees, no_more, more, Line, Let, Assign, Braces, IfElse, SwitchOn, LoopOf, BreakLine, ContinueLine, ReturnLine, DiscardLine, Perform, Lines, last, before, Groups, no_group, group, Variable, TextFunction}
-use Rattle.shader_runs.specs.TextRun.{Denoted, IsValue, IsPlace, Scope, Words, read_value, put_before, followed_by, word_answer, word_reached, as_value, dereference, address_reached, part_reached, index_reached, index_into, part_picked, undecided_reached, logical_reached, evaluate, evaluate_all, value_of, with_value, with_place, perform_outcome, has_continue, break_line, return_line, among, group_has, follow, follow_all, follow_groups, with_parameters, with_variables, put_first, first_followed, first_of_each, entered_by, follow_body, follow_call, WordUse, NamesFunction, AsksForEvent, Operates, respond_by_use, first_then, with_variable}
+use Rattle.shader_runs.specs.Text.{Tree, Name, LiteralOf, Apply, Deref, AddressOf, Index, PartOf}
+use Rattle.shader_runs.specs.Text.{LogicalOf, Trees, no_more, more, Line, Let, Assign, Braces}
+use Rattle.shader_runs.specs.Text.{IfElse, SwitchOn, LoopOf, BreakLine, ContinueLine, ReturnLine}
+use Rattle.shader_runs.specs.Text.{DiscardLine, Perform, Lines, last, before, Groups, no_group}
+use Rattle.shader_runs.specs.Text.{group, Variable, TextFunction}
+use Rattle.shader_runs.specs.TextRun.{Denoted, IsValue, IsPlace, Scope, Words, read_value}
+use Rattle.shader_runs.specs.TextRun.{put_before, followed_by, word_answer, word_reached, as_value}
+use Rattle.shader_runs.specs.TextRun.{dereference, address_reached, part_reached, index_reached}
+use Rattle.shader_runs.specs.TextRun.{index_into, part_picked, undecided_reached, logical_reached}
+use Rattle.shader_runs.specs.TextRun.{evaluate, evaluate_all, value_of, with_value, with_place}
+use Rattle.shader_runs.specs.TextRun.{perform_outcome, has_continue, break_line, return_line, among}
+use Rattle.shader_runs.specs.TextRun.{group_has, follow, follow_all, follow_groups, with_parameters}
+use Rattle.shader_runs.specs.TextRun.{with_variables, put_first, first_followed, first_of_each}
+use Rattle.shader_runs.specs.TextRun.{entered_by, follow_body, follow_call, WordUse, NamesFunction}
+use Rattle.shader_runs.specs.TextRun.{AsksForEvent, Operates, respond_by_use, first_then}
+use Rattle.shader_runs.specs.TextRun.{with_variable}
 use Rattle.shader_runs.proofs.Process.{events_of, reached_events}
 
 -- the second history is the first with later events

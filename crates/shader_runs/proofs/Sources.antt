@@ -1,9 +1,17 @@
--- Where the names in scope come from: each is its handle's own, or one that a front end gave before.
-use Rattle.std.proofs.Common.{◌≡◌, ◌⊎◌, inl, inr, ⊎_elim, ℕ, suc, ◌<◌, ◌≤◌, Bool, true, false, cond, List, [], ◌∷◌, Option, Some, None, refl, sym, subst, arith}
+-- Where the names in scope come from: each is its handle's own, or one that a front end gave
+-- before.
+use Rattle.std.proofs.Common.{◌≡◌, ◌⊎◌, inl, inr, ⊎_elim, ℕ, suc, ◌<◌, ◌≤◌, Bool, true, false, cond}
+use Rattle.std.proofs.Common.{List, [], ◌∷◌, Option, Some, None, refl, sym, subst, arith}
 use Rattle.shader_runs.specs.Value.{Bytes}
 use Rattle.shader_runs.specs.World.{update}
-use Rattle.shader_runs.specs.Program.{Statement, Emit, Block, If, Switch, Loop, Act, Statements, end, then, Cases, no_case, case, expression_of, operands_of, is_given, binds, from, holds_continue}
-use Rattle.shader_runs.specs.Scope.{Standing, Absent, Everywhere, Inline, Named, Handles, Naming, bound_name, usable_all, is_new, is_pure, unbound, emitted, after_one, given_after, given_after_all, after_emit, given_by, given_by_all, given_by_cases, after_result, after, after_all, forgotten_one, forgotten_if, start_standing, at_start}
+use Rattle.shader_runs.specs.Program.{Statement, Emit, Block, If, Switch, Loop, Act, Statements}
+use Rattle.shader_runs.specs.Program.{end, then, Cases, no_case, case, expression_of, operands_of}
+use Rattle.shader_runs.specs.Program.{is_given, binds, from, holds_continue}
+use Rattle.shader_runs.specs.Scope.{Standing, Absent, Everywhere, Inline, Named, Handles, Naming}
+use Rattle.shader_runs.specs.Scope.{bound_name, usable_all, is_new, is_pure, unbound, emitted}
+use Rattle.shader_runs.specs.Scope.{after_one, given_after, given_after_all, after_emit, given_by}
+use Rattle.shader_runs.specs.Scope.{given_by_all, given_by_cases, after_result, after, after_all}
+use Rattle.shader_runs.specs.Scope.{forgotten_one, forgotten_if, start_standing, at_start}
 use Rattle.shader_runs.specs.Premises.{FixedName, FixedKey, NumberedKey, GivenKey}
 use Rattle.shader_runs.proofs.Update.{update_cases}
 

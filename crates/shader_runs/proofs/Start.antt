@@ -1,14 +1,23 @@
 -- Constant trees have their values from the start.
-use Rattle.std.proofs.Common.{◌≡◌, ◌⊎◌, inl, inr, ℕ, zero, suc, ◌<◌, Bool, true, false, List, [], ◌∷◌, length, Option, Some, None, ◌&&◌, ◌||◌, refl, sym, ap, ap₂, ◌∙◌, true≢false, arith}
+use Rattle.std.proofs.Common.{◌≡◌, ◌⊎◌, inl, inr, ℕ, zero, suc, ◌<◌, Bool, true, false, List, []}
+use Rattle.std.proofs.Common.{◌∷◌, length, Option, Some, None, ◌&&◌, ◌||◌, refl, sym, ap, ap₂, ◌∙◌}
+use Rattle.std.proofs.Common.{true≢false, arith}
 use Rattle.std.specs.Prelude.{IsTrue}
 use Rattle.std.proofs.lemmas.Option.{slice_get_within}
 use Rattle.shader_runs.specs.Value.{ValueType, Value, has_type, has_types}
 use Rattle.shader_runs.specs.World.{Environment, Meaning}
-use Rattle.shader_runs.specs.Program.{Expression, Constant, Operator, Access, AccessIndex, Logical, Swizzle, Function, expression_of, handle_type, operands_of, Module}
-use Rattle.shader_runs.specs.ProgramRun.{Call, used_value_as, used_value, also, used_values, gathered_value, all_of, or_constant, constant_as, constant_below, constants_kept}
+use Rattle.shader_runs.specs.Program.{Expression, Constant, Operator, Access, AccessIndex, Logical}
+use Rattle.shader_runs.specs.Program.{Swizzle, Function, expression_of, handle_type, operands_of}
+use Rattle.shader_runs.specs.Program.{Module}
+use Rattle.shader_runs.specs.ProgramRun.{Call, used_value_as, used_value, also, used_values}
+use Rattle.shader_runs.specs.ProgramRun.{gathered_value, all_of, or_constant, constant_as}
+use Rattle.shader_runs.specs.ProgramRun.{constant_below, constants_kept}
 use Rattle.shader_runs.specs.TextRun.{Scope}
-use Rattle.shader_runs.specs.Scope.{is_pure, all_constant, is_constant_leaf, constant_test, is_constant_below, start_standing, at_start, is_present, usable, usable_as, usable_all}
-use Rattle.shader_runs.specs.Premises.{AllBelow, LeafFits, LeafTyped, handle_types, IsTypedIn, EnvironmentFits}
+use Rattle.shader_runs.specs.Scope.{is_pure, all_constant, is_constant_leaf, constant_test}
+use Rattle.shader_runs.specs.Scope.{is_constant_below, start_standing, at_start, is_present, usable}
+use Rattle.shader_runs.specs.Scope.{usable_as, usable_all}
+use Rattle.shader_runs.specs.Premises.{AllBelow, LeafFits, LeafTyped, handle_types, IsTypedIn}
+use Rattle.shader_runs.specs.Premises.{EnvironmentFits}
 use Rattle.shader_runs.proofs.Update.{and_left, and_right, and_both}
 use Rattle.shader_runs.proofs.Relation.{TypedValue, Stands}
 use Rattle.shader_runs.proofs.Form.{constant_typed}

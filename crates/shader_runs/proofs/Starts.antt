@@ -1,16 +1,23 @@
 -- One world for all starts: it looks at the entry that its history began with.
-use Rattle.std.proofs.Common.{◌≡◌, ℕ, zero, suc, Bool, true, false, nat_eq, List, [], ◌∷◌, length, Option, Some, None, refl, sym, ap, ◌∙◌, subst, eqb-true}
+use Rattle.std.proofs.Common.{◌≡◌, ℕ, zero, suc, Bool, true, false, nat_eq, List, [], ◌∷◌, length}
+use Rattle.std.proofs.Common.{Option, Some, None, refl, sym, ap, ◌∙◌, subst, eqb-true}
 use Rattle.shader_runs.specs.Value.{has_type, Value, Truth, has_types}
-use Rattle.shader_runs.specs.World.{Event, Entry, Discard, entries, World, Meaning, Environment, Settings}
+use Rattle.shader_runs.specs.World.{Event, Entry, Discard, entries, World, Meaning, Environment}
+use Rattle.shader_runs.specs.World.{Settings}
 use Rattle.shader_runs.specs.Outcome.{Reached, Gives, Halts, turns}
 use Rattle.shader_runs.specs.Program.{Function, argument_count, Module, function_numbered}
 use Rattle.shader_runs.specs.ProgramRun.{Kept, constants_kept, first_used_all}
 use Rattle.shader_runs.specs.Constants.{environment_of, run_module}
 use Rattle.std.specs.Prelude.{IsTrue}
 use Rattle.shader_runs.specs.Correct.{KeepsTypes, AlwaysKeepsTypes, HasTypedWorld}
-use Rattle.shader_runs.proofs.Process.{reached_events, Pause, DoneWith, ContinuedWith, BrokeWith, ReturnedWith, Process, gives, stuck, unreturned, discards, tells, wants, looks, sequence, repeats, answered, resumed, again, rounds, perform, answers_call, if_true, entry_process, list_process, body_process, call_alone, call_process}
+use Rattle.shader_runs.proofs.Process.{reached_events, Pause, DoneWith, ContinuedWith, BrokeWith}
+use Rattle.shader_runs.proofs.Process.{ReturnedWith, Process, gives, stuck, unreturned, discards}
+use Rattle.shader_runs.proofs.Process.{tells, wants, looks, sequence, repeats, answered, resumed}
+use Rattle.shader_runs.proofs.Process.{again, rounds, perform, answers_call, if_true, entry_process}
+use Rattle.shader_runs.proofs.Process.{list_process, body_process, call_alone, call_process}
 use Rattle.shader_runs.proofs.Worlds.{world_of, mistakes}
-use Rattle.shader_runs.proofs.OneWorld.{diagonal, EventsSettle, diagonal_fine, call_keeps, steady_settles, events_settle}
+use Rattle.shader_runs.proofs.OneWorld.{diagonal, EventsSettle, diagonal_fine, call_keeps}
+use Rattle.shader_runs.proofs.OneWorld.{steady_settles, events_settle}
 
 -- the function and the arguments that a history began with
 data Start : Type 0 where

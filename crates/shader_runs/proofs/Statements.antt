@@ -1,23 +1,51 @@
 -- LogicalOf runs of each statement, in step.
-use Rattle.std.proofs.Common.{◌≡◌, ℕ, Bool, true, false, cond, List, [], ◌∷◌, ◌++◌, Option, Some, None, ◌||◌, refl, sym, ap, ap₂, ◌∙◌, subst, true≢false}
+use Rattle.std.proofs.Common.{◌≡◌, ℕ, Bool, true, false, cond, List, [], ◌∷◌, ◌++◌, Option, Some}
+use Rattle.std.proofs.Common.{None, ◌||◌, refl, sym, ap, ap₂, ◌∙◌, subst, true≢false}
 use Rattle.std.specs.Prelude.{IsTrue, ℤ}
 use Rattle.shader_runs.specs.Value.{Bytes, PartTypes, has_type, has_types, Value, integer_in}
 use Rattle.shader_runs.specs.World.{Event, Ask, update, bind}
-use Rattle.shader_runs.specs.Outcome.{Outcome, Next, Done, Continued, Returned, Reached, Gives, Halts, and_then, within, turn, turns, after_switch, branch_by, with_integer, closed_outcome, closed_if, or_stuck, reach, unless}
-use Rattle.shader_runs.specs.Program.{Expression, Result, Action, Asked, Called, Label, Numbered, Statement, Emit, Store, Block, If, Switch, Loop, Break, Continue, Return, Kill, Barrier, Act, Statements, end, then, Cases, no_case, case, from, holds_continue, any_continue, some_case_continues, expression_of, handle_type, BarrierBits, Function, function_numbered, Module}
-use Rattle.shader_runs.specs.ProgramRun.{Call, Kept, combined_value, used_value, used_value_as, used_values, action_answer, with_result, leave, return_outcome, barrier_words, ask_each, same_label, has_label, label_if, run, run_all, run_cases, run_on}
+use Rattle.shader_runs.specs.Outcome.{Outcome, Next, Done, Continued, Returned, Reached, Gives}
+use Rattle.shader_runs.specs.Outcome.{Halts, and_then, within, turn, turns, after_switch, branch_by}
+use Rattle.shader_runs.specs.Outcome.{with_integer, closed_outcome, closed_if, or_stuck, reach}
+use Rattle.shader_runs.specs.Outcome.{unless}
+use Rattle.shader_runs.specs.Program.{Expression, Result, Action, Asked, Called, Label, Numbered}
+use Rattle.shader_runs.specs.Program.{Statement, Emit, Store, Block, If, Switch, Loop, Break}
+use Rattle.shader_runs.specs.Program.{Continue, Return, Kill, Barrier, Act, Statements, end, then}
+use Rattle.shader_runs.specs.Program.{Cases, no_case, case, from, holds_continue, any_continue}
+use Rattle.shader_runs.specs.Program.{some_case_continues, expression_of, handle_type, BarrierBits}
+use Rattle.shader_runs.specs.Program.{Function, function_numbered, Module}
+use Rattle.shader_runs.specs.ProgramRun.{Call, Kept, combined_value, used_value, used_value_as}
+use Rattle.shader_runs.specs.ProgramRun.{used_values, action_answer, with_result, leave}
+use Rattle.shader_runs.specs.ProgramRun.{return_outcome, barrier_words, ask_each, same_label}
+use Rattle.shader_runs.specs.ProgramRun.{has_label, label_if, run, run_all, run_cases, run_on}
 use Rattle.shader_runs.specs.Text.{Lines}
-use Rattle.shader_runs.specs.TextRun.{IsValue, Scope, read_value, as_value, word_reached, perform_outcome, evaluate_all, value_of, with_value, break_line, return_line, among, group_has, follow_all, follow_groups}
-use Rattle.shader_runs.specs.Scope.{usable_all, is_present, Named, Handles, Names, usable, usable_if, given_by, given_by_all, after, after_all, forgotten_if}
-use Rattle.shader_runs.specs.Form.{word_of, value_forms, written, value_at, value_if, perform_each, form, form_all, form_cases}
-use Rattle.shader_runs.specs.Premises.{IsNoName, handle_types, CallFits, ActionFits, ReturnFits, IsResult, EachAsks}
-use Rattle.shader_runs.proofs.Alike.{HoldsOf, Answers, same_answer, mistyped_answer, Alike, done, continued, broke, returned_alike, stopped, mistyped, typed_alike, Steps, weaker, then_alike, continue_alike, within_alike, turns_alike, switch_alike, closed_alike, chosen_alike, used_alike, pointer_alike, there_alike}
-use Rattle.shader_runs.proofs.Relation.{ResultTyped, Returns, Related, Extends, Agree, extends_refl, agree_refl, agree_trans, related_agree, related_forgotten}
-use Rattle.shader_runs.proofs.Evaluation.{naming, words, Respond, request_responds, value_forms_give}
-use Rattle.shader_runs.proofs.Form.{Given, free, typed_value, value_here, place_here, all_here, values_here}
+use Rattle.shader_runs.specs.TextRun.{IsValue, Scope, read_value, as_value, word_reached}
+use Rattle.shader_runs.specs.TextRun.{perform_outcome, evaluate_all, value_of, with_value}
+use Rattle.shader_runs.specs.TextRun.{break_line, return_line, among, group_has, follow_all}
+use Rattle.shader_runs.specs.TextRun.{follow_groups}
+use Rattle.shader_runs.specs.Scope.{usable_all, is_present, Named, Handles, Names, usable}
+use Rattle.shader_runs.specs.Scope.{usable_if, given_by, given_by_all, after, after_all}
+use Rattle.shader_runs.specs.Scope.{forgotten_if}
+use Rattle.shader_runs.specs.Form.{word_of, value_forms, written, value_at, value_if, perform_each}
+use Rattle.shader_runs.specs.Form.{form, form_all, form_cases}
+use Rattle.shader_runs.specs.Premises.{IsNoName, handle_types, CallFits, ActionFits, ReturnFits}
+use Rattle.shader_runs.specs.Premises.{IsResult, EachAsks}
+use Rattle.shader_runs.proofs.Alike.{HoldsOf, Answers, same_answer, mistyped_answer, Alike, done}
+use Rattle.shader_runs.proofs.Alike.{continued, broke, returned_alike, stopped, mistyped}
+use Rattle.shader_runs.proofs.Alike.{typed_alike, Steps, weaker, then_alike, continue_alike}
+use Rattle.shader_runs.proofs.Alike.{within_alike, turns_alike, switch_alike, closed_alike}
+use Rattle.shader_runs.proofs.Alike.{chosen_alike, used_alike, pointer_alike, there_alike}
+use Rattle.shader_runs.proofs.Relation.{ResultTyped, Returns, Related, Extends, Agree, extends_refl}
+use Rattle.shader_runs.proofs.Relation.{agree_refl, agree_trans, related_agree, related_forgotten}
+use Rattle.shader_runs.proofs.Evaluation.{naming, words, Respond, request_responds}
+use Rattle.shader_runs.proofs.Evaluation.{value_forms_give}
+use Rattle.shader_runs.proofs.Form.{Given, free, typed_value, value_here, place_here, all_here}
+use Rattle.shader_runs.proofs.Form.{values_here}
 use Rattle.shader_runs.proofs.Emission.{new_event, agree_update, bind_related, emit_alike}
 use Rattle.shader_runs.proofs.Checked.{Fits, FitsAll, FitsCases, MayResult}
-use Rattle.shader_runs.proofs.Scope.{IsFollowed, falls_followed, continue_all, continue_cases, among_append, first_followed_by, has_all_cases, extends_after, extends_all}
+use Rattle.shader_runs.proofs.Scope.{IsFollowed, falls_followed, continue_all, continue_cases}
+use Rattle.shader_runs.proofs.Scope.{among_append, first_followed_by, has_all_cases, extends_after}
+use Rattle.shader_runs.proofs.Scope.{extends_all}
 
 -- both runs of a list from the scope s end alike, in the scope s2; held: it holds a `continue`
 abbrev pub Same : Call → Names → Handles → Kept → Handles → Bool → Outcome Kept → Outcome Scope → Type 0
@@ -255,7 +283,8 @@ module _ (p : Module) (c : Call) (n : Names) (d : Respond) (given : Given p c n 
       let q' = word_reached (words c d) (word_of n a) names t (evaluate_all (words c d) (value_forms (written (naming c n) s) xs) names t) in
       subst (λ os. Same c n s kept s2 held2 (and_then (or_stuck os t (λ vs. with_result c.environment.parts c.function a (Some h) kept (action_answer c a vs t))) f) (bound_to names (n.numbered h) (Follow tail) q')) (sym v.1) (result_alike s s2 names kept held2 a xs h f (Follow tail) r m.1 m.2 next (action_answer c a v.0 t) q' (responded_written s names kept r a xs (Some h) m.1 m.0 v.0 v.1 v.2 t))
 
-  -- what is to be shown of the cases of a switch, behind waiting labels: entered, or on the way to the label x
+  -- what is to be shown of the cases of a switch, behind waiting labels: entered, or on the way to
+  -- the label x
   pub record Cases_row (k : ℕ) (cs : Cases) (s : Handles) : Type 0 where
     pub entered : (labels : List Label) → IsFollowed labels cs → (x : Label) → IsTrue (among x labels) → (names : Scope) (kept : Kept) (t : List Event) → Related c n s names kept → FitsCases p c n k cs s → SameBody c s kept (some_case_continues cs) (run_on c bound cs kept t) (follow_groups (words c d) bound (form_cases (naming c n) k labels cs s) x names t)
     pub searching : (labels : List Label) → IsFollowed labels cs → (x : Label) → among x labels ≡ false → (names : Scope) (kept : Kept) (t : List Event) → Related c n s names kept → FitsCases p c n k cs s → SameBody c s kept (some_case_continues cs) (run_cases c bound cs x kept t) (follow_groups (words c d) bound (form_cases (naming c n) k labels cs s) x names t)

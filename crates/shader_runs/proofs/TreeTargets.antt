@@ -1,13 +1,26 @@
 -- The identifiers of an expression's form stand for what is meant by it.
-use Rattle.std.proofs.Common.{◌≡◌, ℕ, zero, suc, ◌<◌, List, [], ◌∷◌, ◌++◌, map, length, Option, Some, None, refl, sym, ap, ◌∙◌, append_assoc}
+use Rattle.std.proofs.Common.{◌≡◌, ℕ, zero, suc, ◌<◌, List, [], ◌∷◌, ◌++◌, map, length, Option}
+use Rattle.std.proofs.Common.{Some, None, refl, sym, ap, ◌∙◌, append_assoc}
 use Rattle.std.proofs.lemmas.List.{map-append}
 use Rattle.shader_runs.specs.Value.{Bytes, ValueType, PointerType, Selector}
-use Rattle.shader_runs.specs.Program.{ConstantTree, Fixed, NamedConstant, Constructed, ConstantTrees, no_constant, constant, Expression, Constant, Argument, Local, Global, Load, Operator, Access, AccessIndex, Logical, Swizzle, Request, Result, expression_of, handle_type, operands_of}
+use Rattle.shader_runs.specs.Program.{ConstantTree, Fixed, NamedConstant, Constructed}
+use Rattle.shader_runs.specs.Program.{ConstantTrees, no_constant, constant, Expression, Constant}
+use Rattle.shader_runs.specs.Program.{Argument, Local, Global, Load, Operator, Access, AccessIndex}
+use Rattle.shader_runs.specs.Program.{Logical, Swizzle, Request, Result, expression_of, handle_type}
+use Rattle.shader_runs.specs.Program.{operands_of}
 use Rattle.shader_runs.specs.Scope.{Standing, Named, Handles, ModuleNames, Naming}
 use Rattle.shader_runs.specs.Text.{Tree, Trees}
-use Rattle.shader_runs.specs.Form.{Plain, AsValue, AsPlace, value_form, place_form, value_forms, value_forms_then, access_form, part_form, constant_form, constant_forms, global_form, own_form, standing_form, written_below, written, value_at, value_if}
+use Rattle.shader_runs.specs.Form.{Plain, AsValue, AsPlace, value_form, place_form, value_forms}
+use Rattle.shader_runs.specs.Form.{value_forms_then, access_form, part_form, constant_form}
+use Rattle.shader_runs.specs.Form.{constant_forms, global_form, own_form, standing_form}
+use Rattle.shader_runs.specs.Form.{written_below, written, value_at, value_if}
 use Rattle.shader_runs.specs.Premises.{EachWord, EachWordOf, EachLeaf, EachLeafOf, IsLiteral}
-use Rattle.shader_runs.specs.Resolution.{Target, ConstantTarget, GlobalTarget, ArgumentTarget, LocalTarget, LetTarget, Lookup, word_target, tree_targets, trees_targets, tree_targets_if, constant_targets, constants_targets, operands_targets, own_targets, LetNumbers, standing_targets, targets_below, value_targets, value_targets_if}
+use Rattle.shader_runs.specs.Resolution.{Target, ConstantTarget, GlobalTarget, ArgumentTarget}
+use Rattle.shader_runs.specs.Resolution.{LocalTarget, LetTarget, Lookup, word_target, tree_targets}
+use Rattle.shader_runs.specs.Resolution.{trees_targets, tree_targets_if, constant_targets}
+use Rattle.shader_runs.specs.Resolution.{constants_targets, operands_targets, own_targets}
+use Rattle.shader_runs.specs.Resolution.{LetNumbers, standing_targets, targets_below, value_targets}
+use Rattle.shader_runs.specs.Resolution.{value_targets_if}
 
 -- the identifiers of a plain form
 abbrev plain_targets : Lookup → Plain → List (Option Target)

@@ -1,18 +1,36 @@
 -- A module whose operators are typed consistently has a typed meaning.
-use Rattle.std.proofs.Common.{◌≡◌, ◌≢◌, ◌⊎◌, inl, inr, ℕ, zero, suc, ◌+◌, ◌<◌, pos, Bool, true, false, cond, nat_eq, List, [], ◌∷◌, ◌++◌, length, Option, Some, None, ◌&&◌, slice_get, refl, sym, ap, ap₂, ◌∙◌, subst, true≢false, arith, eqb-true, eq-eqb, option_map}
+use Rattle.std.proofs.Common.{◌≡◌, ◌≢◌, ◌⊎◌, inl, inr, ℕ, zero, suc, ◌+◌, ◌<◌, pos, Bool, true}
+use Rattle.std.proofs.Common.{false, cond, nat_eq, List, [], ◌∷◌, ◌++◌, length, Option, Some, None}
+use Rattle.std.proofs.Common.{◌&&◌, slice_get, refl, sym, ap, ap₂, ◌∙◌, subst, true≢false, arith}
+use Rattle.std.proofs.Common.{eqb-true, eq-eqb, option_map}
 use Rattle.std.specs.Prelude.{IsTrue}
 use Rattle.std.proofs.lemmas.Bool.{eqb-false}
 use Rattle.std.proofs.lemmas.Option.{slice_get_within, none-some, same_Some}
-use Rattle.shader_runs.specs.Value.{Bytes, PartTypes, Place, place_type, Step, Rooted, GlobalRoot, Part, At, Selector, MemberNamed, ElementAt, step_of, ValueType, BooleanType, IntegerType, PointerType, OtherType, type_of, same_type, has_type, has_types, same_bytes, Value, Truth, Whole, Pointer, Opaque, Word, Spelled, PartWord, IndexWord, ShortCircuit, short_circuit_word}
+use Rattle.shader_runs.specs.Value.{Bytes, PartTypes, Place, place_type, Step, Rooted, GlobalRoot}
+use Rattle.shader_runs.specs.Value.{Part, At, Selector, MemberNamed, ElementAt, step_of, ValueType}
+use Rattle.shader_runs.specs.Value.{BooleanType, IntegerType, PointerType, OtherType, type_of}
+use Rattle.shader_runs.specs.Value.{same_type, has_type, has_types, same_bytes, Value, Truth, Whole}
+use Rattle.shader_runs.specs.Value.{Pointer, Opaque, Word, Spelled, PartWord, IndexWord}
+use Rattle.shader_runs.specs.Value.{ShortCircuit, short_circuit_word}
 use Rattle.shader_runs.specs.World.{Meaning}
-use Rattle.shader_runs.specs.Program.{ConstantTree, Fixed, NamedConstant, Constructed, ConstantTrees, no_constant, constant, Expression, Constant, Operator, Access, AccessIndex, Logical, Swizzle, Request, Function, expression_of, handle_type, operands_of, Module}
-use Rattle.shader_runs.specs.ProgramRun.{index_value_of, part_value, decides, undecided_value, combined_value}
+use Rattle.shader_runs.specs.Program.{ConstantTree, Fixed, NamedConstant, Constructed}
+use Rattle.shader_runs.specs.Program.{ConstantTrees, no_constant, constant, Expression, Constant}
+use Rattle.shader_runs.specs.Program.{Operator, Access, AccessIndex, Logical, Swizzle, Request}
+use Rattle.shader_runs.specs.Program.{Function, expression_of, handle_type, operands_of, Module}
+use Rattle.shader_runs.specs.ProgramRun.{index_value_of, part_value, decides, undecided_value}
+use Rattle.shader_runs.specs.ProgramRun.{combined_value}
 use Rattle.shader_runs.specs.Scope.{is_pure}
-use Rattle.shader_runs.specs.Premises.{constant_types_of, handle_types, ConstantTyped, ConstantsTyped, LeafTyped, IsTypedIn, AllTypedIn}
-use Rattle.shader_runs.specs.Typing.{Signature, constant_signatures, constants_signatures, signatures_of, IsOneOf, first_of, later_of, IsSpelled, in_function, in_initialiser, AccessFits, AccessIndexFits, LogicalFits, PartsFit, IsConsistent}
+use Rattle.shader_runs.specs.Premises.{constant_types_of, handle_types, ConstantTyped}
+use Rattle.shader_runs.specs.Premises.{ConstantsTyped, LeafTyped, IsTypedIn, AllTypedIn}
+use Rattle.shader_runs.specs.Typing.{Signature, constant_signatures, constants_signatures}
+use Rattle.shader_runs.specs.Typing.{signatures_of, IsOneOf, first_of, later_of, IsSpelled}
+use Rattle.shader_runs.specs.Typing.{in_function, in_initialiser, AccessFits, AccessIndexFits}
+use Rattle.shader_runs.specs.Typing.{LogicalFits, PartsFit, IsConsistent}
 use Rattle.shader_runs.specs.Correct.{HasTypedMeaning}
-use Rattle.shader_runs.proofs.Update.{and_left, and_right, and_both, same_bytes_true, same_bytes_self, same_type_true, same_type_self}
-use Rattle.shader_runs.proofs.Evaluation.{not_pointer_type, typed_not_pointer, pointer_typed, integer_typed, index_value_is, part_value_is}
+use Rattle.shader_runs.proofs.Update.{and_left, and_right, and_both, same_bytes_true}
+use Rattle.shader_runs.proofs.Update.{same_bytes_self, same_type_true, same_type_self}
+use Rattle.shader_runs.proofs.Evaluation.{not_pointer_type, typed_not_pointer, pointer_typed}
+use Rattle.shader_runs.proofs.Evaluation.{integer_typed, index_value_is, part_value_is}
 
 abbrev pub default_value : ValueType → Value
 default_value BooleanType = Truth false

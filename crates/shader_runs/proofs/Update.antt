@@ -1,8 +1,12 @@
 -- Facts on words, on maps with another entry, and on tests.
-use Rattle.std.proofs.Common.{◌≡◌, ◌≢◌, ℕ, suc, Bool, true, false, cond, nat_eq, List, [], ◌∷◌, length, ◌&&◌, refl, sym, ap, ap₂, ◌∙◌, subst, true≢false, eqb-true, eq-eqb}
+use Rattle.std.proofs.Common.{◌≡◌, ◌≢◌, ℕ, suc, Bool, true, false, cond, nat_eq, List, [], ◌∷◌}
+use Rattle.std.proofs.Common.{length, ◌&&◌, refl, sym, ap, ap₂, ◌∙◌, subst, true≢false, eqb-true}
+use Rattle.std.proofs.Common.{eq-eqb}
 use Rattle.std.proofs.lemmas.Bool.{eqb-false}
 use Rattle.std.specs.Prelude.{IsTrue}
-use Rattle.shader_runs.specs.Value.{Bytes, same_bytes, PartTypes, ValueType, BooleanType, IntegerType, PointerType, OtherType, same_type, has_type, has_types, Value}
+use Rattle.shader_runs.specs.Value.{Bytes, same_bytes, PartTypes, ValueType, BooleanType}
+use Rattle.shader_runs.specs.Value.{IntegerType, PointerType, OtherType, same_type, has_type}
+use Rattle.shader_runs.specs.Value.{has_types, Value}
 use Rattle.shader_runs.specs.World.{update, bind}
 
 pub and_left : (a b : Bool) → IsTrue (a && b) → IsTrue a

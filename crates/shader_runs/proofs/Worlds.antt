@@ -1,11 +1,17 @@
--- Types of answers with which a process meets no mistake: at the first mistake the wanted type is put in, and so on.
-use Rattle.std.proofs.Common.{◌≡◌, ℕ, zero, suc, ◌<◌, ◌≤◌, Bool, true, false, List, ◌∷◌, length, refl, ap, ◌∙◌, arith, ◌+◌}
+-- Types of answers with which a process meets no mistake: at the first mistake the wanted type is
+-- put in, and so on.
+use Rattle.std.proofs.Common.{◌≡◌, ℕ, zero, suc, ◌<◌, ◌≤◌, Bool, true, false, List, ◌∷◌, length}
+use Rattle.std.proofs.Common.{refl, ap, ◌∙◌, arith, ◌+◌}
 use Rattle.shader_runs.specs.Value.{PartTypes, ValueType, has_type, Value}
 use Rattle.shader_runs.specs.World.{Event, Discard, entries, World, update}
-use Rattle.shader_runs.specs.Outcome.{Stop, Stuck, Unreturned, OutOfTurns, Discarded, Mistyped, Reached, Gives, Halts}
+use Rattle.shader_runs.specs.Outcome.{Stop, Stuck, Unreturned, OutOfTurns, Discarded, Mistyped}
+use Rattle.shader_runs.specs.Outcome.{Reached, Gives, Halts}
 use Rattle.shader_runs.specs.ProgramRun.{Kept}
 use Rattle.shader_runs.proofs.Update.{update_cases}
-use Rattle.shader_runs.proofs.Process.{reached_events, Pause, DoneWith, ContinuedWith, BrokeWith, ReturnedWith, Process, gives, stuck, unreturned, discards, tells, wants, looks, sequence, repeats, answered, resumed, again, rounds, perform}
+use Rattle.shader_runs.proofs.Process.{reached_events, Pause, DoneWith, ContinuedWith, BrokeWith}
+use Rattle.shader_runs.proofs.Process.{ReturnedWith, Process, gives, stuck, unreturned, discards}
+use Rattle.shader_runs.proofs.Process.{tells, wants, looks, sequence, repeats, answered, resumed}
+use Rattle.shader_runs.proofs.Process.{again, rounds, perform}
 use Rattle.shader_runs.proofs.Typing.{default_value, default_typed}
 
 -- the types of the answers, by the length of the history
@@ -24,8 +30,8 @@ mistakes (Halts _ t) = 0
 abbrev pub events_made : {A : Type 0} → Reached A → ℕ
 events_made q = length (reached_events q)
 
--- a run by the answers' types. With those given it ends as `now`, with others it ends as `finally`, without a mistake;
--- only the types from the mistake on are changed
+-- a run by the answers' types. With those given it ends as `now`, with others it ends as `finally`,
+-- without a mistake; only the types from the mistake on are changed
 pub record Completes (R : Types → Reached Pause) (t : List Event) (a : Types) (now finally : Reached Pause) : Type 0 where
   pub local_now : (b : Types) → ((i : ℕ) → i < events_made now → b i ≡ a i) → R b ≡ now
   pub grown : length t + mistakes now ≤ events_made now

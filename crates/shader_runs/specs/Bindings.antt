@@ -2,9 +2,11 @@
 -- by front ends before a point.
 use Rattle.std.specs.Prelude.{ℕ, true, false, cond, List, [], ◌∷◌, ◌++◌, map, Option, Some, None}
 use Rattle.shader_runs.specs.Value.{Bytes}
-use Rattle.shader_runs.specs.Program.{Statement, Emit, Block, If, Switch, Loop, Act, Statements, end, then, Cases, no_case, case, binds, from}
+use Rattle.shader_runs.specs.Program.{Statement, Emit, Block, If, Switch, Loop, Act, Statements}
+use Rattle.shader_runs.specs.Program.{end, then, Cases, no_case, case, binds, from}
 use Rattle.shader_runs.specs.Scope.{Names, Naming, bound_name, given_after, given_by, given_by_all}
-use Rattle.shader_runs.specs.Text.{Line, Let, Braces, IfElse, SwitchOn, LoopOf, Lines, last, before, Groups, no_group, group, TextModule}
+use Rattle.shader_runs.specs.Text.{Line, Let, Braces, IfElse, SwitchOn, LoopOf, Lines, last, before}
+use Rattle.shader_runs.specs.Text.{Groups, no_group, group, TextModule}
 
 -- the names of the `let`s of a line, in their order
 abbrev mutual

@@ -2,17 +2,22 @@
 -- sides compute, and what texts with other initialisers do.
 --
 -- Throughout, b is the value of the override.
-use Rattle.std.specs.Prelude.{◌≡◌, ℕ, ◌+◌, ◌*◌, pos, cond, [], ◌∷◌, get_or, Option, Some, None, codes}
-use Rattle.shader_runs.specs.Value.{Bytes, same_bytes, OtherType, PointerType, Value, Whole, Opaque, Spelled}
+use Rattle.std.specs.Prelude.{◌≡◌, ℕ, ◌+◌, ◌*◌, pos, cond, [], ◌∷◌, get_or, Option, Some, None}
+use Rattle.std.specs.Prelude.{codes}
+use Rattle.shader_runs.specs.Value.{Bytes, same_bytes, OtherType, PointerType, Value, Whole, Opaque}
+use Rattle.shader_runs.specs.Value.{Spelled}
 use Rattle.shader_runs.specs.World.{Entry, Meaning, Settings}
 use Rattle.shader_runs.specs.Outcome.{Reached, Gives, Halts, Stuck}
-use Rattle.shader_runs.specs.Program.{ConstantTree, Fixed, NamedConstant, Constructed, no_constant, constant, Constant, Return, end, then, Function, Module}
-use Rattle.shader_runs.specs.Text.{Tree, Name, LiteralOf, Apply, no_more, more, ReturnLine, last, before, TextModule}
+use Rattle.shader_runs.specs.Program.{ConstantTree, Fixed, NamedConstant, Constructed, no_constant}
+use Rattle.shader_runs.specs.Program.{constant, Constant, Return, end, then, Function, Module}
+use Rattle.shader_runs.specs.Text.{Tree, Name, LiteralOf, Apply, no_more, more, ReturnLine, last}
+use Rattle.shader_runs.specs.Text.{before, TextModule}
 use Rattle.shader_runs.specs.Constants.{run_module, follow_module}
 use Rattle.shader_runs.specs.Scope.{ModuleNames, Naming}
 use Rattle.shader_runs.specs.Form.{form_module}
 use Rattle.shader_runs.specs.Premises.{ConstantsFit, SettingsFit}
-use Rattle.shader_runs.specs.WorkedFunctions.{no_parts, i32, number, numbered_name, row_world, row_asks, text_of}
+use Rattle.shader_runs.specs.WorkedFunctions.{no_parts, i32, number, numbered_name, row_world}
+use Rattle.shader_runs.specs.WorkedFunctions.{row_asks, text_of}
 
 -- the type `vec2<i32>`
 abbrev pub pair_word : Bytes

@@ -5,15 +5,18 @@
 -- bound on turns or the number of rounds, g the number of a function or what holds of a variable, k
 -- a type, o a value that may be missing, l is what words do, e an initialiser, i an index and t are
 -- the events so far.
-use Rattle.std.specs.Prelude.{ℕ, zero, suc, Bool, cond, List, [], ◌∷◌, ◌++◌, map, length, get_or, Option, Some, None, unwrap_or, ◌||◌}
+use Rattle.std.specs.Prelude.{ℕ, zero, suc, Bool, cond, List, [], ◌∷◌, ◌++◌, map, length, get_or}
+use Rattle.std.specs.Prelude.{Option, Some, None, unwrap_or, ◌||◌}
 use Rattle.std.specs.List.{list_any}
 use Rattle.shader_runs.specs.Value.{Bytes, same_bytes, ValueType, pointer_spelling, Value, Spelled}
-use Rattle.shader_runs.specs.World.{Event, World, Meaning, GlobalValue, Stored, Held, Settings, Environment, bind}
+use Rattle.shader_runs.specs.World.{Event, World, Meaning, GlobalValue, Stored, Held, Settings}
+use Rattle.shader_runs.specs.World.{Environment, bind}
 use Rattle.shader_runs.specs.Outcome.{Stuck, Reached, Gives, Halts}
 use Rattle.shader_runs.specs.Program.{ConstantTree, Module, constant_count}
 use Rattle.shader_runs.specs.ProgramRun.{also, tree_value, run_call}
 use Rattle.shader_runs.specs.Text.{Tree, TextConstant, TextModule}
-use Rattle.shader_runs.specs.TextRun.{Denoted, IsValue, Scope, Words, evaluate, with_parameters, with_globals, no_names, names_function, word_use, follow_call}
+use Rattle.shader_runs.specs.TextRun.{Denoted, IsValue, Scope, Words, evaluate, with_parameters}
+use Rattle.shader_runs.specs.TextRun.{with_globals, no_names, names_function, word_use, follow_call}
 
 -- what is known of an item
 abbrev pub known : List (Option Value) → ℕ → Option Value

@@ -7,13 +7,15 @@ use Rattle.std.specs.Prelude.{◌≡◌, ℕ, List, [], Some, IsTrue, slice_get,
 use Rattle.shader_runs.specs.Value.{Value, has_types}
 use Rattle.shader_runs.specs.World.{World, Meaning, Event, Settings, Environment}
 use Rattle.shader_runs.specs.Outcome.{Mistyped, Reached, Gives, Halts}
-use Rattle.shader_runs.specs.Program.{Function, function_numbered, Module, ConstantTree, constant_count}
+use Rattle.shader_runs.specs.Program.{Function, function_numbered, Module, ConstantTree}
+use Rattle.shader_runs.specs.Program.{constant_count}
 use Rattle.shader_runs.specs.ProgramRun.{constant_value}
 use Rattle.shader_runs.specs.Constants.{global_values, environment_of, run_module, follow_module}
 use Rattle.shader_runs.specs.Scope.{ModuleNames, Naming}
 use Rattle.shader_runs.specs.Form.{form_module, functions_of}
 use Rattle.shader_runs.specs.Typing.{IsConsistent}
-use Rattle.shader_runs.specs.Premises.{IsTyped, AllFit, ConstantsFit, SettingsFit, EnvironmentFits, ModuleNamesAreDistinct}
+use Rattle.shader_runs.specs.Premises.{IsTyped, AllFit, ConstantsFit, SettingsFit, EnvironmentFits}
+use Rattle.shader_runs.specs.Premises.{ModuleNamesAreDistinct}
 
 -- each answer of the world that the run asks for has its type
 abbrev pub KeepsTypes : {A : Type 0} → Reached A → Type 0

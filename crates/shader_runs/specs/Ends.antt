@@ -4,7 +4,8 @@
 -- statements, b and d bodies.
 use Rattle.std.specs.Prelude.{◌≡◌, ℕ, Bool, true, false, List, IsTrue}
 use Rattle.shader_runs.specs.World.{Event}
-use Rattle.shader_runs.specs.Outcome.{Stop, Stuck, Unreturned, OutOfTurns, Discarded, Mistyped, Outcome, Done, Continued, Broke, Returned, Stopped}
+use Rattle.shader_runs.specs.Outcome.{Stop, Stuck, Unreturned, OutOfTurns, Discarded, Mistyped}
+use Rattle.shader_runs.specs.Outcome.{Outcome, Done, Continued, Broke, Returned, Stopped}
 use Rattle.shader_runs.specs.Program.{Statement, Block, If, Switch, Loop, Statements, end, then}
 use Rattle.shader_runs.specs.ProgramRun.{Call, Kept, run, run_all}
 use Rattle.shader_runs.specs.Passes.{Point, here, behind, statements_at, Passes}

@@ -4,12 +4,29 @@
 -- a part), k is how many names have been given, or a type, h a handle, e an expression or a
 -- constant tree, st a statement, b a body, i an index, j a short circuit, w a word, x a name, a
 -- selector or a handle, and l a label or a local.
-use Rattle.std.specs.Prelude.{ℕ, zero, suc, Bool, true, false, List, [], ◌∷◌, ◌++◌, length, Option, Some, None}
-use Rattle.shader_runs.specs.Value.{Bytes, Selector, MemberNamed, ValueType, PointerType, pointer_spelling, Truth}
-use Rattle.shader_runs.specs.Program.{ConstantTree, Fixed, NamedConstant, Constructed, ConstantTrees, no_constant, constant, Expression, Constant, Argument, Local, Global, Load, Operator, Access, AccessIndex, Logical, Swizzle, Request, Result, Action, Asked, Called, Label, Statement, Emit, Store, Block, If, Switch, Loop, Break, Continue, Return, Kill, Barrier, Act, Statements, end, then, Cases, no_case, case, Function, argument_count, local_pointer, expression_of, handle_type, binds, from, Module, constant_count, override_types}
+use Rattle.std.specs.Prelude.{ℕ, zero, suc, Bool, true, false, List, [], ◌∷◌, ◌++◌, length, Option}
+use Rattle.std.specs.Prelude.{Some, None}
+use Rattle.shader_runs.specs.Value.{Bytes, Selector, MemberNamed, ValueType, PointerType}
+use Rattle.shader_runs.specs.Value.{pointer_spelling, Truth}
+use Rattle.shader_runs.specs.Program.{ConstantTree, Fixed, NamedConstant, Constructed}
+use Rattle.shader_runs.specs.Program.{ConstantTrees, no_constant, constant, Expression, Constant}
+use Rattle.shader_runs.specs.Program.{Argument, Local, Global, Load, Operator, Access, AccessIndex}
+use Rattle.shader_runs.specs.Program.{Logical, Swizzle, Request, Result, Action, Asked, Called}
+use Rattle.shader_runs.specs.Program.{Label, Statement, Emit, Store, Block, If, Switch, Loop, Break}
+use Rattle.shader_runs.specs.Program.{Continue, Return, Kill, Barrier, Act, Statements, end, then}
+use Rattle.shader_runs.specs.Program.{Cases, no_case, case, Function, argument_count, local_pointer}
+use Rattle.shader_runs.specs.Program.{expression_of, handle_type, binds, from, Module}
+use Rattle.shader_runs.specs.Program.{constant_count, override_types}
 use Rattle.shader_runs.specs.ProgramRun.{barrier_words}
-use Rattle.shader_runs.specs.Text.{Tree, Name, LiteralOf, Apply, Deref, AddressOf, Index, PartOf, LogicalOf, Trees, no_more, more, Line, Let, Assign, Braces, IfElse, SwitchOn, LoopOf, BreakLine, ContinueLine, ReturnLine, DiscardLine, Perform, Lines, last, before, Groups, no_group, group, Variable, ModuleVariable, TextFunction, TextModule, TextConstant}
-use Rattle.shader_runs.specs.Scope.{Standing, Named, Handles, ModuleNames, Names, Naming, bound_name, after_one, given_after, given_by, given_by_all, after, after_all, at_start}
+use Rattle.shader_runs.specs.Text.{Tree, Name, LiteralOf, Apply, Deref, AddressOf, Index, PartOf}
+use Rattle.shader_runs.specs.Text.{LogicalOf, Trees, no_more, more, Line, Let, Assign, Braces}
+use Rattle.shader_runs.specs.Text.{IfElse, SwitchOn, LoopOf, BreakLine, ContinueLine, ReturnLine}
+use Rattle.shader_runs.specs.Text.{DiscardLine, Perform, Lines, last, before, Groups, no_group}
+use Rattle.shader_runs.specs.Text.{group, Variable, ModuleVariable, TextFunction, TextModule}
+use Rattle.shader_runs.specs.Text.{TextConstant}
+use Rattle.shader_runs.specs.Scope.{Standing, Named, Handles, ModuleNames, Names, Naming}
+use Rattle.shader_runs.specs.Scope.{bound_name, after_one, given_after, given_by, given_by_all}
+use Rattle.shader_runs.specs.Scope.{after, after_all, at_start}
 
 -- a plain form, a value or a reference
 pub data Plain : Type 0 where

@@ -1,6 +1,7 @@
 -- The laws of the identifiers in the text that is written for a module.
 use Rattle.std.specs.Prelude.{◌≡◌, ℕ, ◌<◌, List, [], ◌∷◌, map, Option, Some}
-use Rattle.shader_runs.specs.Program.{Expression, Argument, Local, Function, argument_count, local_count, expression_of, Module}
+use Rattle.shader_runs.specs.Program.{Expression, Argument, Local, Function, argument_count}
+use Rattle.shader_runs.specs.Program.{local_count, expression_of, Module}
 use Rattle.shader_runs.specs.Scope.{ModuleNames, Naming}
 use Rattle.shader_runs.specs.Form.{form_module}
 use Rattle.shader_runs.specs.Correct.{ModuleFits}

@@ -4,14 +4,21 @@
 -- and t2 are later ones), s is a state (s1 and s2 are later ones), q a point, g a region, h a
 -- handle, i the index of a case, j the number of a turn, x a label or a name, z an integer, e a
 -- tree or an optional handle, b, d and a are bodies, ss statements, ls lines.
-use Rattle.std.specs.Prelude.{◌≡◌, ℕ, zero, suc, ℤ, Bool, true, false, cond, ◌||◌, ◌+◌, ◌-◌, ◌<◌, ◌≤◌, List, [], ◌∷◌, length, Option, Some, IsTrue}
+use Rattle.std.specs.Prelude.{◌≡◌, ℕ, zero, suc, ℤ, Bool, true, false, cond, ◌||◌, ◌+◌, ◌-◌, ◌<◌}
+use Rattle.std.specs.Prelude.{◌≤◌, List, [], ◌∷◌, length, Option, Some, IsTrue}
 use Rattle.shader_runs.specs.Value.{Bytes, Truth, Whole}
 use Rattle.shader_runs.specs.World.{Event}
-use Rattle.shader_runs.specs.Outcome.{Done, Gives, Next, and_then, and_continue, turn, closed_outcome}
-use Rattle.shader_runs.specs.Program.{Label, Numbered, Statement, Emit, Block, If, Switch, Loop, Barrier, Statements, end, then, Cases, no_case, case, Function, binds, from}
-use Rattle.shader_runs.specs.ProgramRun.{Call, Kept, used_value, emit, leave, barrier_words, same_label, has_label, label_if, run, run_all}
-use Rattle.shader_runs.specs.Text.{Tree, Line, Braces, IfElse, SwitchOn, LoopOf, Lines, last, before, Groups, no_group, group}
-use Rattle.shader_runs.specs.TextRun.{Scope, Words, value_of, break_line, among, group_has, follow, follow_all}
+use Rattle.shader_runs.specs.Outcome.{Done, Gives, Next, and_then, and_continue, turn}
+use Rattle.shader_runs.specs.Outcome.{closed_outcome}
+use Rattle.shader_runs.specs.Program.{Label, Numbered, Statement, Emit, Block, If, Switch, Loop}
+use Rattle.shader_runs.specs.Program.{Barrier, Statements, end, then, Cases, no_case, case}
+use Rattle.shader_runs.specs.Program.{Function, binds, from}
+use Rattle.shader_runs.specs.ProgramRun.{Call, Kept, used_value, emit, leave, barrier_words}
+use Rattle.shader_runs.specs.ProgramRun.{same_label, has_label, label_if, run, run_all}
+use Rattle.shader_runs.specs.Text.{Tree, Line, Braces, IfElse, SwitchOn, LoopOf, Lines, last}
+use Rattle.shader_runs.specs.Text.{before, Groups, no_group, group}
+use Rattle.shader_runs.specs.TextRun.{Scope, Words, value_of, break_line, among, group_has, follow}
+use Rattle.shader_runs.specs.TextRun.{follow_all}
 
 -- where more statements or lines stand inside one: a block, the branches, the cases of a switch or
 -- the groups of its text, and in each turn of a loop, the first one 0, its body, its `continuing`

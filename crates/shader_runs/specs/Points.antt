@@ -9,15 +9,22 @@ use Rattle.std.specs.Prelude.{◌≡◌, ℕ, zero, suc, false, List, ◌∷◌,
 use Rattle.shader_runs.specs.Value.{Bytes, Value, has_types}
 use Rattle.shader_runs.specs.World.{Event, entries, World, Meaning, Environment, Settings}
 use Rattle.shader_runs.specs.Outcome.{Gives}
-use Rattle.shader_runs.specs.Program.{Statement, Emit, If, Switch, Loop, Statements, end, then, Cases, no_case, case, Function, from, Module}
+use Rattle.shader_runs.specs.Program.{Statement, Emit, If, Switch, Loop, Statements, end, then}
+use Rattle.shader_runs.specs.Program.{Cases, no_case, case, Function, from, Module}
 use Rattle.shader_runs.specs.ProgramRun.{Call, Kept, used_value, constants_kept, run_call}
-use Rattle.shader_runs.specs.TextRun.{IsValue, Scope, Words, value_of, with_parameters, with_variables, word_use, follow_call}
-use Rattle.shader_runs.specs.Scope.{Named, Handles, ModuleNames, Naming, usable, given_by, given_by_all, after, after_emit, after_all, at_start, given_after_all}
+use Rattle.shader_runs.specs.TextRun.{IsValue, Scope, Words, value_of, with_parameters}
+use Rattle.shader_runs.specs.TextRun.{with_variables, word_use, follow_call}
+use Rattle.shader_runs.specs.Scope.{Named, Handles, ModuleNames, Naming, usable, given_by}
+use Rattle.shader_runs.specs.Scope.{given_by_all, after, after_emit, after_all, at_start}
+use Rattle.shader_runs.specs.Scope.{given_after_all}
 use Rattle.shader_runs.specs.Constants.{environment_of, module_scope}
-use Rattle.shader_runs.specs.Form.{value_at, form_all, form_function, form_functions, form_module, functions_of}
+use Rattle.shader_runs.specs.Form.{value_at, form_all, form_function, form_functions, form_module}
+use Rattle.shader_runs.specs.Form.{functions_of}
 use Rattle.shader_runs.specs.Premises.{IsTyped, SettingsFit}
 use Rattle.shader_runs.specs.Correct.{ModuleFits}
-use Rattle.shader_runs.specs.Passes.{Region, Reject, CaseBody, Continuing, BreakIf, Point, here, behind, inside, emitting, statements_in, statements_at, lines_behind, Passes, TextPasses, point_in_text, falls_at}
+use Rattle.shader_runs.specs.Passes.{Region, Reject, CaseBody, Continuing, BreakIf, Point, here}
+use Rattle.shader_runs.specs.Passes.{behind, inside, emitting, statements_in, statements_at}
+use Rattle.shader_runs.specs.Passes.{lines_behind, Passes, TextPasses, point_in_text, falls_at}
 
 -- a name in scope has the value that the module uses for its handle; and what is written for any
 -- handle in scope makes no event and gives, evaluated now, the value that the module uses

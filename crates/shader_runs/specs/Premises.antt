@@ -4,13 +4,24 @@
 -- is the number of a function, h a handle, e an expression or a constant tree, i
 -- an index, m the meaning, w a word, xs are operands, r is a result, k a type, s
 -- are settings, v is a value, and a and b are keys of names or bodies.
-use Rattle.std.specs.Prelude.{◌≡◌, ◌≢◌, ℕ, ◌<◌, Bool, true, false, List, [], ◌∷◌, length, Option, Some, None, ◌&&◌, IsTrue, ◌≤◌, slice_get}
-use Rattle.shader_runs.specs.Value.{Bytes, same_bytes, PartTypes, ValueType, BooleanType, IntegerType, PointerType, OtherType, type_at, Value, Truth, Whole, Pointer, Opaque, has_type, has_types, Spelled}
+use Rattle.std.specs.Prelude.{◌≡◌, ◌≢◌, ℕ, ◌<◌, Bool, true, false, List, [], ◌∷◌, length, Option}
+use Rattle.std.specs.Prelude.{Some, None, ◌&&◌, IsTrue, ◌≤◌, slice_get}
+use Rattle.shader_runs.specs.Value.{Bytes, same_bytes, PartTypes, ValueType, BooleanType}
+use Rattle.shader_runs.specs.Value.{IntegerType, PointerType, OtherType, type_at, Value, Truth}
+use Rattle.shader_runs.specs.Value.{Whole, Pointer, Opaque, has_type, has_types, Spelled}
 use Rattle.shader_runs.specs.World.{Environment, GlobalValue, Stored, Held, Meaning, Settings}
-use Rattle.shader_runs.specs.Program.{ConstantTree, Fixed, NamedConstant, Constructed, ConstantTrees, no_constant, constant, Expression, Constant, Argument, Local, Global, Operator, Swizzle, Request, Result, Action, Asked, Called, Statement, Block, If, Switch, Loop, Return, Barrier, Act, Statements, end, then, Cases, no_case, case, Function, argument_count, local_count, local_pointer, function_numbered, expression_of, handle_type, operands_of, Module, constant_count, override_types}
+use Rattle.shader_runs.specs.Program.{ConstantTree, Fixed, NamedConstant, Constructed}
+use Rattle.shader_runs.specs.Program.{ConstantTrees, no_constant, constant, Expression, Constant}
+use Rattle.shader_runs.specs.Program.{Argument, Local, Global, Operator, Swizzle, Request, Result}
+use Rattle.shader_runs.specs.Program.{Action, Asked, Called, Statement, Block, If, Switch, Loop}
+use Rattle.shader_runs.specs.Program.{Return, Barrier, Act, Statements, end, then, Cases, no_case}
+use Rattle.shader_runs.specs.Program.{case, Function, argument_count, local_count, local_pointer}
+use Rattle.shader_runs.specs.Program.{function_numbered, expression_of, handle_type, operands_of}
+use Rattle.shader_runs.specs.Program.{Module, constant_count, override_types}
 use Rattle.shader_runs.specs.ProgramRun.{combined_value, barrier_words}
 use Rattle.shader_runs.specs.Constants.{global_values}
-use Rattle.shader_runs.specs.Scope.{ModuleNames, Names, Naming, is_pure, given_by_all, fits_function}
+use Rattle.shader_runs.specs.Scope.{ModuleNames, Names, Naming, is_pure, given_by_all}
+use Rattle.shader_runs.specs.Scope.{fits_function}
 use Rattle.shader_runs.specs.Form.{functions_of}
 
 -- a name that a function's text uses from its start on

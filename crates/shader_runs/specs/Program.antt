@@ -3,8 +3,11 @@
 -- Throughout, p is a module, f a function, g the number of a function and h the handle of an
 -- expression; of an expression w is the word, and xs are the operands; of a statement a and b are
 -- the bodies, and c, d and e what its constructor tells.
-use Rattle.std.specs.Prelude.{ℕ, zero, suc, ℤ, Bool, true, false, cond, ◌-◌, ◌^◌, List, [], ◌∷◌, length, Option, Some, None, ◌||◌, nat_eq, nat_le, get_or, slice_get, drop}
-use Rattle.shader_runs.specs.Value.{Bytes, PartTypes, Selector, Value, ValueType, type_at, ShortCircuit}
+use Rattle.std.specs.Prelude.{ℕ, zero, suc, ℤ, Bool, true, false, cond, ◌-◌, ◌^◌, List, [], ◌∷◌}
+use Rattle.std.specs.Prelude.{length, Option, Some, None, ◌||◌, nat_eq, nat_le, get_or, slice_get}
+use Rattle.std.specs.Prelude.{drop}
+use Rattle.shader_runs.specs.Value.{Bytes, PartTypes, Selector, Value, ValueType, type_at}
+use Rattle.shader_runs.specs.Value.{ShortCircuit}
 
 mutual
   -- an expression over constants alone that no handle of the function names inside: a literal, a

@@ -5,11 +5,29 @@
 -- o one that may be missing, p a place or the handle of a pointer, k a type, z an integer, i an
 -- index, j a short circuit, x a selector, a label, a handle or why a run stops, g the number of a
 -- function and r a result.
-use Rattle.std.specs.Prelude.{ℕ, zero, suc, ℤ, Bool, true, false, cond, nat_eq, List, [], ◌∷◌, ◌++◌, option_map, option_and_then, length, Option, Some, None, ◌||◌, slice_get, codes}
-use Rattle.shader_runs.specs.Value.{Bytes, same_integer, PartTypes, Place, Part, Rooted, GlobalRoot, truth_in, integer_in, place_in, LocalRoot, At, step_of, ValueType, has_type, Selector, MemberNamed, Value, Truth, Pointer, Word, Spelled, PartWord, IndexWord, ShortCircuit, short_circuit_word, is_decided}
-use Rattle.shader_runs.specs.World.{Event, Entry, Ask, Read, Write, Discard, entries, World, Meaning, GlobalValue, Stored, Held, Environment, update}
-use Rattle.shader_runs.specs.Outcome.{Stuck, Discarded, Mistyped, Outcome, Done, Continued, Broke, or_stuck, Returned, Stopped, Reached, Gives, Halts, answer, Next, and_then, turn, turns, after_switch, branch_by, with_integer, Unreturned}
-use Rattle.shader_runs.specs.Program.{ConstantTree, Fixed, NamedConstant, Constructed, ConstantTrees, no_constant, constant, Expression, Constant, Argument, Local, Global, Load, Operator, Access, AccessIndex, Logical, Swizzle, Request, Action, Asked, Called, BarrierBits, Label, Numbered, Default, Statement, Emit, Store, Block, If, Switch, Loop, Break, Continue, Return, Kill, Barrier, Act, Statements, end, then, Cases, no_case, case, Function, argument_count, local_pointer, expression_of, handle_type, operands_of, is_counted, is_asked, from}
+use Rattle.std.specs.Prelude.{ℕ, zero, suc, ℤ, Bool, true, false, cond, nat_eq, List, [], ◌∷◌, ◌++◌}
+use Rattle.std.specs.Prelude.{option_map, option_and_then, length, Option, Some, None, ◌||◌}
+use Rattle.std.specs.Prelude.{slice_get, codes}
+use Rattle.shader_runs.specs.Value.{Bytes, same_integer, PartTypes, Place, Part, Rooted, GlobalRoot}
+use Rattle.shader_runs.specs.Value.{truth_in, integer_in, place_in, LocalRoot, At, step_of}
+use Rattle.shader_runs.specs.Value.{ValueType, has_type, Selector, MemberNamed, Value, Truth}
+use Rattle.shader_runs.specs.Value.{Pointer, Word, Spelled, PartWord, IndexWord, ShortCircuit}
+use Rattle.shader_runs.specs.Value.{short_circuit_word, is_decided}
+use Rattle.shader_runs.specs.World.{Event, Entry, Ask, Read, Write, Discard, entries, World}
+use Rattle.shader_runs.specs.World.{Meaning, GlobalValue, Stored, Held, Environment, update}
+use Rattle.shader_runs.specs.Outcome.{Stuck, Discarded, Mistyped, Outcome, Done, Continued, Broke}
+use Rattle.shader_runs.specs.Outcome.{or_stuck, Returned, Stopped, Reached, Gives, Halts, answer}
+use Rattle.shader_runs.specs.Outcome.{Next, and_then, turn, turns, after_switch, branch_by}
+use Rattle.shader_runs.specs.Outcome.{with_integer, Unreturned}
+use Rattle.shader_runs.specs.Program.{ConstantTree, Fixed, NamedConstant, Constructed}
+use Rattle.shader_runs.specs.Program.{ConstantTrees, no_constant, constant, Expression, Constant}
+use Rattle.shader_runs.specs.Program.{Argument, Local, Global, Load, Operator, Access, AccessIndex}
+use Rattle.shader_runs.specs.Program.{Logical, Swizzle, Request, Action, Asked, Called, BarrierBits}
+use Rattle.shader_runs.specs.Program.{Label, Numbered, Default, Statement, Emit, Store, Block, If}
+use Rattle.shader_runs.specs.Program.{Switch, Loop, Break, Continue, Return, Kill, Barrier, Act}
+use Rattle.shader_runs.specs.Program.{Statements, end, then, Cases, no_case, case, Function}
+use Rattle.shader_runs.specs.Program.{argument_count, local_pointer, expression_of, handle_type}
+use Rattle.shader_runs.specs.Program.{operands_of, is_counted, is_asked, from}
 use Rattle.std.specs.Option.{option_map_or}
 
 -- one call of a function: callees are the functions before it and calls what they do, frame is the

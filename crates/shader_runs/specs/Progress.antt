@@ -4,10 +4,14 @@
 -- handle, st and ss are statements, a and b bodies, m is the meaning, w the world, g the number of
 -- a function, vs are its arguments and t the events so far.
 use Rattle.std.specs.Prelude.{◌≡◌, ℕ, Bool, true, false, List, [], ◌∷◌, Option, Some, None, IsTrue}
-use Rattle.shader_runs.specs.Value.{ValueType, BooleanType, IntegerType, PointerType, Value, has_types}
+use Rattle.shader_runs.specs.Value.{ValueType, BooleanType, IntegerType, PointerType, Value}
+use Rattle.shader_runs.specs.Value.{has_types}
 use Rattle.shader_runs.specs.World.{World, Meaning, Event, Settings}
 use Rattle.shader_runs.specs.Outcome.{Stop, Stuck, Reached, Gives, Halts}
-use Rattle.shader_runs.specs.Program.{Expression, Load, Statement, Store, Block, If, Switch, Loop, Break, Continue, Statements, end, then, Cases, no_case, case, Function, function_numbered, expression_of, handle_type, Module}
+use Rattle.shader_runs.specs.Program.{Expression, Load, Statement, Store, Block, If, Switch, Loop}
+use Rattle.shader_runs.specs.Program.{Break, Continue, Statements, end, then, Cases, no_case, case}
+use Rattle.shader_runs.specs.Program.{Function, function_numbered, expression_of, handle_type}
+use Rattle.shader_runs.specs.Program.{Module}
 use Rattle.shader_runs.specs.Constants.{run_module, follow_module}
 use Rattle.shader_runs.specs.Scope.{ModuleNames, Naming}
 use Rattle.shader_runs.specs.Form.{form_module}

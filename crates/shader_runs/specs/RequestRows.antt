@@ -1,13 +1,20 @@
 -- Worked functions that ask for events: atomics, images, derivatives, collectives, barriers and ray
 -- traces. Each with its text, and what both runs of it do.
 use Rattle.std.specs.Prelude.{true, List, [], ◌∷◌, Some, None, codes}
-use Rattle.shader_runs.specs.Value.{Bytes, Place, Rooted, GlobalRoot, ValueType, PointerType, OtherType, Value, Pointer, Opaque}
+use Rattle.shader_runs.specs.Value.{Bytes, Place, Rooted, GlobalRoot, ValueType, PointerType}
+use Rattle.shader_runs.specs.Value.{OtherType, Value, Pointer, Opaque}
 use Rattle.shader_runs.specs.World.{Event, Ask, Write}
 use Rattle.shader_runs.specs.Outcome.{Gives}
-use Rattle.shader_runs.specs.Program.{Fixed, NamedConstant, no_constant, constant, WhenCounted, Always, Argument, Global, Operator, Access, Request, Result, Asked, Emit, Store, Return, Barrier, BarrierBits, Act, Function}
+use Rattle.shader_runs.specs.Program.{Fixed, NamedConstant, no_constant, constant, WhenCounted}
+use Rattle.shader_runs.specs.Program.{Always, Argument, Global, Operator, Access, Request, Result}
+use Rattle.shader_runs.specs.Program.{Asked, Emit, Store, Return, Barrier, BarrierBits, Act}
+use Rattle.shader_runs.specs.Program.{Function}
 use Rattle.shader_runs.specs.Text.{Tree, Name, LiteralOf, Index, Assign, TextFunction}
-use Rattle.shader_runs.specs.WorkedModules.{texel, ballot, pair_type, pair, in_memory, resource, named_function, Example, IsWorked, start_events}
-use Rattle.shader_runs.specs.WorkedFunctions.{i32, number, literal, named_by, sum_of, text_of, row, function_with, lines, call_of, perform, let_own, return_of, digits, pointer_of}
+use Rattle.shader_runs.specs.WorkedModules.{texel, ballot, pair_type, pair, in_memory, resource}
+use Rattle.shader_runs.specs.WorkedModules.{named_function, Example, IsWorked, start_events}
+use Rattle.shader_runs.specs.WorkedFunctions.{i32, number, literal, named_by, sum_of, text_of, row}
+use Rattle.shader_runs.specs.WorkedFunctions.{function_with, lines, call_of, perform, let_own}
+use Rattle.shader_runs.specs.WorkedFunctions.{return_of, digits, pointer_of}
 
 -- ---- atomics
 

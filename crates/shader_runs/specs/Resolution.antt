@@ -2,12 +2,24 @@
 -- where it stands, and inner names hide outer ones. Throughout, of a point of a function: k names
 -- were given by front ends before it, l `let`s of the body stand before it, s are the handles in
 -- scope there, and a handle that has a name is bound by the `let` with its number.
-use Rattle.std.specs.Prelude.{ℕ, zero, suc, true, false, cond, List, [], ◌∷◌, ◌++◌, map, length, Option, Some, None}
+use Rattle.std.specs.Prelude.{ℕ, zero, suc, true, false, cond, List, [], ◌∷◌, ◌++◌, map, length}
+use Rattle.std.specs.Prelude.{Option, Some, None}
 use Rattle.shader_runs.specs.Value.{Bytes}
 use Rattle.shader_runs.specs.World.{update, bind}
-use Rattle.shader_runs.specs.Program.{ConstantTree, Fixed, NamedConstant, Constructed, ConstantTrees, no_constant, constant, Expression, Constant, Argument, Local, Global, Load, Operator, Access, AccessIndex, Logical, Swizzle, Request, Action, Asked, Called, Statement, Emit, Store, Block, If, Switch, Loop, Return, Act, Statements, end, then, Cases, no_case, case, Function, expression_of, binds, from, holds_continue, Module}
-use Rattle.shader_runs.specs.Scope.{Standing, Named, Handles, Naming, at_start, given_after, given_by, given_by_all, after_one, after, after_all}
-use Rattle.shader_runs.specs.Text.{Tree, Name, LiteralOf, Apply, Deref, AddressOf, Index, PartOf, LogicalOf, Trees, no_more, more, Line, Let, Assign, Braces, IfElse, SwitchOn, LoopOf, ReturnLine, Perform, Lines, last, before, Groups, no_group, group, Variable, TextFunction, TextModule}
+use Rattle.shader_runs.specs.Program.{ConstantTree, Fixed, NamedConstant, Constructed}
+use Rattle.shader_runs.specs.Program.{ConstantTrees, no_constant, constant, Expression, Constant}
+use Rattle.shader_runs.specs.Program.{Argument, Local, Global, Load, Operator, Access, AccessIndex}
+use Rattle.shader_runs.specs.Program.{Logical, Swizzle, Request, Action, Asked, Called, Statement}
+use Rattle.shader_runs.specs.Program.{Emit, Store, Block, If, Switch, Loop, Return, Act, Statements}
+use Rattle.shader_runs.specs.Program.{end, then, Cases, no_case, case, Function, expression_of}
+use Rattle.shader_runs.specs.Program.{binds, from, holds_continue, Module}
+use Rattle.shader_runs.specs.Scope.{Standing, Named, Handles, Naming, at_start, given_after}
+use Rattle.shader_runs.specs.Scope.{given_by, given_by_all, after_one, after, after_all}
+use Rattle.shader_runs.specs.Text.{Tree, Name, LiteralOf, Apply, Deref, AddressOf, Index, PartOf}
+use Rattle.shader_runs.specs.Text.{LogicalOf, Trees, no_more, more, Line, Let, Assign, Braces}
+use Rattle.shader_runs.specs.Text.{IfElse, SwitchOn, LoopOf, ReturnLine, Perform, Lines, last}
+use Rattle.shader_runs.specs.Text.{before, Groups, no_group, group, Variable, TextFunction}
+use Rattle.shader_runs.specs.Text.{TextModule}
 use Rattle.shader_runs.specs.TextRun.{has_continue}
 
 -- what a name stands for: an item of the module, or an argument, a variable or a `let` of the

@@ -2,12 +2,21 @@
 -- other writers would give, which do something else.
 --
 -- Throughout, t are the events so far, vs are arguments, and f and e a function and an expression.
-use Rattle.std.specs.Prelude.{◌≡◌, pos, Bool, true, false, cond, List, [], ◌∷◌, Option, Some, None, IsTrue, codes}
-use Rattle.shader_runs.specs.Value.{Bytes, PartTypes, same_bytes, MemberNamed, ElementAt, step_of, At, Field, Rooted, GlobalRoot, LocalRoot, Part, Place, ValueType, BooleanType, PointerType, Value, Truth, Pointer}
+use Rattle.std.specs.Prelude.{◌≡◌, pos, Bool, true, false, cond, List, [], ◌∷◌, Option, Some, None}
+use Rattle.std.specs.Prelude.{IsTrue, codes}
+use Rattle.shader_runs.specs.Value.{Bytes, PartTypes, same_bytes, MemberNamed, ElementAt, step_of}
+use Rattle.shader_runs.specs.Value.{At, Field, Rooted, GlobalRoot, LocalRoot, Part, Place}
+use Rattle.shader_runs.specs.Value.{ValueType, BooleanType, PointerType, Value, Truth, Pointer}
 use Rattle.shader_runs.specs.World.{Event, Entry, Ask, Read, Write, Settings}
 use Rattle.shader_runs.specs.Outcome.{Reached, Gives, Halts, Stuck, Unreturned, OutOfTurns}
-use Rattle.shader_runs.specs.Program.{BarrierBits, Fixed, NamedConstant, Module, Expression, Constant, Argument, Local, Global, Load, Operator, Access, AccessIndex, Result, Called, Numbered, Default, Statements, Emit, Store, If, Switch, Loop, Break, Continue, Return, Act, Barrier, end, then, no_case, case, Function, Statement}
-use Rattle.shader_runs.specs.Text.{Tree, Name, LiteralOf, Deref, Index, PartOf, Let, Assign, IfElse, SwitchOn, LoopOf, ContinueLine, Lines, last, before, no_group, group, Variable, TextFunction, TextModule, Line}
+use Rattle.shader_runs.specs.Program.{BarrierBits, Fixed, NamedConstant, Module, Expression}
+use Rattle.shader_runs.specs.Program.{Constant, Argument, Local, Global, Load, Operator, Access}
+use Rattle.shader_runs.specs.Program.{AccessIndex, Result, Called, Numbered, Default, Statements}
+use Rattle.shader_runs.specs.Program.{Emit, Store, If, Switch, Loop, Break, Continue, Return, Act}
+use Rattle.shader_runs.specs.Program.{Barrier, end, then, no_case, case, Function, Statement}
+use Rattle.shader_runs.specs.Text.{Tree, Name, LiteralOf, Deref, Index, PartOf, Let, Assign, IfElse}
+use Rattle.shader_runs.specs.Text.{SwitchOn, LoopOf, ContinueLine, Lines, last, before, no_group}
+use Rattle.shader_runs.specs.Text.{group, Variable, TextFunction, TextModule, Line}
 use Rattle.shader_runs.specs.Constants.{run_module}
 use Rattle.shader_runs.specs.Scope.{Naming, fits_function}
 use Rattle.shader_runs.specs.Premises.{SettingsFit}
@@ -16,7 +25,14 @@ use Rattle.shader_runs.specs.Correct.{ModuleFits}
 use Rattle.shader_runs.specs.Progress.{AllWellFormed}
 use Rattle.shader_runs.specs.Results.{may_end_all, AllGiveResults}
 use Rattle.shader_runs.specs.Form.{form_module}
-use Rattle.shader_runs.specs.WorkedFunctions.{i32, local_i32, i32_pointer, number, literal, numbered_name, row, statements, function_with, lines, call_of, perform, let_own, return_of, digits, pointer_of, variable, number_variable, sum_of, product_of, named_by, text_of, row_world, row_meaning, row_asks, nothing, functions_alone, with_names, only, follow_text, follow_row, IsShown, IsShownAlone, Follows}
+use Rattle.shader_runs.specs.WorkedFunctions.{i32, local_i32, i32_pointer, number, literal}
+use Rattle.shader_runs.specs.WorkedFunctions.{numbered_name, row, statements, function_with, lines}
+use Rattle.shader_runs.specs.WorkedFunctions.{call_of, perform, let_own, return_of, digits}
+use Rattle.shader_runs.specs.WorkedFunctions.{pointer_of, variable, number_variable, sum_of}
+use Rattle.shader_runs.specs.WorkedFunctions.{product_of, named_by, text_of, row_world, row_meaning}
+use Rattle.shader_runs.specs.WorkedFunctions.{row_asks, nothing, functions_alone, with_names, only}
+use Rattle.shader_runs.specs.WorkedFunctions.{follow_text, follow_row, IsShown, IsShownAlone}
+use Rattle.shader_runs.specs.WorkedFunctions.{Follows}
 
 -- ---- a local, and sums
 

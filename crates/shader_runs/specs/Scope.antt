@@ -3,10 +3,16 @@
 -- Throughout, f is a function with its names, h a handle, s are the handles in scope (s1 those
 -- behind a part), k is how many names have been given, e an expression, st a statement, b a body, i
 -- an index, x a name or a handle, u tells whether operands are usable.
-use Rattle.std.specs.Prelude.{ℕ, zero, suc, Bool, true, false, cond, not, nat_lt, List, [], ◌∷◌, take, length, Option, Some, None, ◌&&◌, ◌||◌}
+use Rattle.std.specs.Prelude.{ℕ, zero, suc, Bool, true, false, cond, not, nat_lt, List, [], ◌∷◌}
+use Rattle.std.specs.Prelude.{take, length, Option, Some, None, ◌&&◌, ◌||◌}
 use Rattle.shader_runs.specs.Value.{Bytes}
 use Rattle.shader_runs.specs.World.{update}
-use Rattle.shader_runs.specs.Program.{Expression, Constant, Argument, Local, Global, Load, Operator, Access, AccessIndex, Logical, Swizzle, Request, Statement, Emit, Store, Block, If, Switch, Loop, Return, Act, Statements, end, then, Cases, no_case, case, Function, argument_count, local_count, expression_of, operands_of, is_given, binds, from, holds_continue}
+use Rattle.shader_runs.specs.Program.{Expression, Constant, Argument, Local, Global, Load, Operator}
+use Rattle.shader_runs.specs.Program.{Access, AccessIndex, Logical, Swizzle, Request, Statement}
+use Rattle.shader_runs.specs.Program.{Emit, Store, Block, If, Switch, Loop, Return, Act, Statements}
+use Rattle.shader_runs.specs.Program.{end, then, Cases, no_case, case, Function, argument_count}
+use Rattle.shader_runs.specs.Program.{local_count, expression_of, operands_of, is_given, binds}
+use Rattle.shader_runs.specs.Program.{from, holds_continue}
 
 -- a handle at a point: not emitted here; emitted where an operand was out of scope; a constant tree
 -- that wasn't emitted here; written where it is used; or bound under a name

@@ -3,8 +3,14 @@
 --
 -- Throughout, f is a function, h a handle, g are the handles that are given, e is an expression, st
 -- a statement, a, b and d are bodies and i is an index.
-use Rattle.std.specs.Prelude.{◌≡◌, ℕ, suc, ◌<◌, Bool, true, false, cond, not, List, [], ◌∷◌, Option, Some, None, ◌⊎◌, ◌↔◌, IsTrue, IsFalse}
-use Rattle.shader_runs.specs.Program.{ConstantTree, Expression, Constant, Argument, Local, Global, Load, Request, Result, Statement, Emit, Store, Block, If, Switch, Loop, Return, Act, Statements, end, then, Cases, no_case, case, Function, argument_count, local_count, expression_of, operands_of, is_counted, is_asked, binds, from, holds_continue}
+use Rattle.std.specs.Prelude.{◌≡◌, ℕ, suc, ◌<◌, Bool, true, false, cond, not, List, [], ◌∷◌, Option}
+use Rattle.std.specs.Prelude.{Some, None, ◌⊎◌, ◌↔◌, IsTrue, IsFalse}
+use Rattle.shader_runs.specs.Program.{ConstantTree, Expression, Constant, Argument, Local, Global}
+use Rattle.shader_runs.specs.Program.{Load, Request, Result, Statement, Emit, Store, Block, If}
+use Rattle.shader_runs.specs.Program.{Switch, Loop, Return, Act, Statements, end, then, Cases}
+use Rattle.shader_runs.specs.Program.{no_case, case, Function, argument_count, local_count}
+use Rattle.shader_runs.specs.Program.{expression_of, operands_of, is_counted, is_asked, binds, from}
+use Rattle.shader_runs.specs.Program.{holds_continue}
 use Rattle.shader_runs.specs.Scope.{Naming, is_pure, is_emittable, before_local, fits_function}
 use Rattle.shader_runs.specs.Premises.{AllBelow}
 

@@ -3,17 +3,35 @@
 --
 -- Throughout, c and b are the conditions of a function, j is a short circuit, n the bound on turns,
 -- vs are arguments, e is a tree.
-use Rattle.std.specs.Prelude.{◌≡◌, ◌≢◌, ℕ, pos, Bool, true, false, cond, List, [], ◌∷◌, ◌++◌, Some, None, ◌&&◌, ◌||◌, codes}
-use Rattle.shader_runs.specs.Value.{Bytes, Place, Rooted, LocalRoot, BooleanType, PointerType, Value, Truth, Pointer, MemberNamed, ShortCircuit, ShortCircuitAnd, ShortCircuitOr, is_decided}
+use Rattle.std.specs.Prelude.{◌≡◌, ◌≢◌, ℕ, pos, Bool, true, false, cond, List, [], ◌∷◌, ◌++◌, Some}
+use Rattle.std.specs.Prelude.{None, ◌&&◌, ◌||◌, codes}
+use Rattle.shader_runs.specs.Value.{Bytes, Place, Rooted, LocalRoot, BooleanType, PointerType}
+use Rattle.shader_runs.specs.Value.{Value, Truth, Pointer, MemberNamed, ShortCircuit}
+use Rattle.shader_runs.specs.Value.{ShortCircuitAnd, ShortCircuitOr, is_decided}
 use Rattle.shader_runs.specs.World.{Event, Entry, Read, Write, Discard}
 use Rattle.shader_runs.specs.Outcome.{Gives, Halts, Stuck, OutOfTurns, Discarded}
-use Rattle.shader_runs.specs.Program.{Fixed, no_constant, Constructed, Block, Constant, Argument, Local, Load, Operator, Logical, Swizzle, Result, Called, Numbered, Default, Emit, Store, If, Switch, Loop, Break, Continue, Return, Kill, Act, end, Function}
-use Rattle.shader_runs.specs.Text.{Tree, Name, LiteralOf, Deref, PartOf, LogicalOf, Assign, Braces, IfElse, SwitchOn, LoopOf, BreakLine, ContinueLine, DiscardLine, last, no_group, group, Line, TextFunction}
+use Rattle.shader_runs.specs.Program.{Fixed, no_constant, Constructed, Block, Constant, Argument}
+use Rattle.shader_runs.specs.Program.{Local, Load, Operator, Logical, Swizzle, Result, Called}
+use Rattle.shader_runs.specs.Program.{Numbered, Default, Emit, Store, If, Switch, Loop, Break}
+use Rattle.shader_runs.specs.Program.{Continue, Return, Kill, Act, end, Function}
+use Rattle.shader_runs.specs.Text.{Tree, Name, LiteralOf, Deref, PartOf, LogicalOf, Assign, Braces}
+use Rattle.shader_runs.specs.Text.{IfElse, SwitchOn, LoopOf, BreakLine, ContinueLine, DiscardLine}
+use Rattle.shader_runs.specs.Text.{last, no_group, group, Line, TextFunction}
 use Rattle.shader_runs.specs.Correct.{ModuleFits}
 use Rattle.shader_runs.specs.Rows.{x_plus_x}
-use Rattle.shader_runs.specs.WorkedModules.{texel, pair_type, pair, named_function, Example, functions_alone, module_of, outer_of, namings_of, follow_example, run_example, IsWritten, IsWorked, start_events, CallEnd}
-use Rattle.shader_runs.specs.RequestRows.{counter_place, atomic_example, atomic_text, counted, AtomicRow, level_zero, sample_example, sample_text, sample_values, sampling, SampleRow, TexelRow, UnusedRequestsRow, EdgeRow, TogetherRow}
-use Rattle.shader_runs.specs.WorkedFunctions.{i32, local_i32, i32_pointer, number, literal, LabelledBody, named_by, sum_of, product_of, text_of, row, statements, cases, function_with, lines, call_of, perform, let_own, return_of, digits, pointer_of, variable, number_variable}
+use Rattle.shader_runs.specs.WorkedModules.{texel, pair_type, pair, named_function, Example}
+use Rattle.shader_runs.specs.WorkedModules.{functions_alone, module_of, outer_of, namings_of}
+use Rattle.shader_runs.specs.WorkedModules.{follow_example, run_example, IsWritten, IsWorked}
+use Rattle.shader_runs.specs.WorkedModules.{start_events, CallEnd}
+use Rattle.shader_runs.specs.RequestRows.{counter_place, atomic_example, atomic_text, counted}
+use Rattle.shader_runs.specs.RequestRows.{AtomicRow, level_zero, sample_example, sample_text}
+use Rattle.shader_runs.specs.RequestRows.{sample_values, sampling, SampleRow, TexelRow}
+use Rattle.shader_runs.specs.RequestRows.{UnusedRequestsRow, EdgeRow, TogetherRow}
+use Rattle.shader_runs.specs.WorkedFunctions.{i32, local_i32, i32_pointer, number, literal}
+use Rattle.shader_runs.specs.WorkedFunctions.{LabelledBody, named_by, sum_of, product_of, text_of}
+use Rattle.shader_runs.specs.WorkedFunctions.{row, statements, cases, function_with, lines, call_of}
+use Rattle.shader_runs.specs.WorkedFunctions.{perform, let_own, return_of, digits, pointer_of}
+use Rattle.shader_runs.specs.WorkedFunctions.{variable, number_variable}
 
 -- ---- `&&` and `||`
 

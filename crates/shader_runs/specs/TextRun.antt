@@ -5,13 +5,24 @@
 -- stops, v a value (vs are several), p a place, z an integer, m the meaning, w the world or a word,
 -- d what a name stands for, q what is reached, f the text of a function, g its number, k the number
 -- of entries, and i an index.
-use Rattle.std.specs.Prelude.{ℕ, suc, Bool, true, false, cond, nat_eq, List, [], ◌∷◌, length, option_map, Option, Some, None, ◌||◌}
-use Rattle.shader_runs.specs.Value.{Bytes, same_bytes, Place, Rooted, GlobalRoot, LocalRoot, Part, integer_in, place_in, At, Selector, step_of, Value, Pointer, Spelled, PartWord, IndexWord, ShortCircuit}
-use Rattle.shader_runs.specs.World.{Event, Entry, Ask, Read, Write, Discard, entries, World, Meaning, bind}
-use Rattle.shader_runs.specs.Outcome.{Stuck, Unreturned, Discarded, Outcome, Done, Continued, Broke, reach, unless, Returned, Stopped, Reached, Gives, Halts, answer, Next, and_then, turn, turns, after_switch, branch_by, with_integer, closed_outcome, closed_if}
+use Rattle.std.specs.Prelude.{ℕ, suc, Bool, true, false, cond, nat_eq, List, [], ◌∷◌, length}
+use Rattle.std.specs.Prelude.{option_map, Option, Some, None, ◌||◌}
+use Rattle.shader_runs.specs.Value.{Bytes, same_bytes, Place, Rooted, GlobalRoot, LocalRoot, Part}
+use Rattle.shader_runs.specs.Value.{integer_in, place_in, At, Selector, step_of, Value, Pointer}
+use Rattle.shader_runs.specs.Value.{Spelled, PartWord, IndexWord, ShortCircuit}
+use Rattle.shader_runs.specs.World.{Event, Entry, Ask, Read, Write, Discard, entries, World}
+use Rattle.shader_runs.specs.World.{Meaning, bind}
+use Rattle.shader_runs.specs.Outcome.{Stuck, Unreturned, Discarded, Outcome, Done, Continued, Broke}
+use Rattle.shader_runs.specs.Outcome.{reach, unless, Returned, Stopped, Reached, Gives, Halts}
+use Rattle.shader_runs.specs.Outcome.{answer, Next, and_then, turn, turns, after_switch, branch_by}
+use Rattle.shader_runs.specs.Outcome.{with_integer, closed_outcome, closed_if}
 use Rattle.shader_runs.specs.Program.{Label, Numbered}
 use Rattle.shader_runs.specs.ProgramRun.{called, decides, undecided_value, same_label, label_if}
-use Rattle.shader_runs.specs.Text.{Tree, Name, LiteralOf, Apply, Deref, AddressOf, Index, PartOf, LogicalOf, Trees, no_more, more, Line, Let, Assign, Braces, IfElse, SwitchOn, LoopOf, BreakLine, ContinueLine, ReturnLine, DiscardLine, Perform, Lines, last, before, Groups, no_group, group, Variable, ModuleVariable, TextFunction}
+use Rattle.shader_runs.specs.Text.{Tree, Name, LiteralOf, Apply, Deref, AddressOf, Index, PartOf}
+use Rattle.shader_runs.specs.Text.{LogicalOf, Trees, no_more, more, Line, Let, Assign, Braces}
+use Rattle.shader_runs.specs.Text.{IfElse, SwitchOn, LoopOf, BreakLine, ContinueLine, ReturnLine}
+use Rattle.shader_runs.specs.Text.{DiscardLine, Perform, Lines, last, before, Groups, no_group}
+use Rattle.shader_runs.specs.Text.{group, Variable, ModuleVariable, TextFunction}
 
 -- what an expression stands for: a value, or a
 -- reference, the place of a variable or of a part of one

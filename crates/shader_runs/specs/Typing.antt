@@ -3,8 +3,13 @@
 -- Throughout, p is a module, f a function, h a handle, e a constant tree, w a word, xs are
 -- operands, k is a type, x and y are signatures, i is an index and z an integer.
 use Rattle.std.specs.Prelude.{◌≡◌, ℕ, ℤ, List, [], ◌∷◌, ◌++◌, Option, Some, slice_get}
-use Rattle.shader_runs.specs.Value.{PartTypes, At, Selector, MemberNamed, step_of, ValueType, BooleanType, IntegerType, PointerType, Word, Spelled, PartWord, IndexWord, short_circuit_word}
-use Rattle.shader_runs.specs.Program.{ConstantTree, Fixed, NamedConstant, Constructed, ConstantTrees, no_constant, constant, Expression, Constant, Operator, Access, AccessIndex, Logical, Swizzle, Request, Function, expression_of, handle_type, Module}
+use Rattle.shader_runs.specs.Value.{PartTypes, At, Selector, MemberNamed, step_of, ValueType}
+use Rattle.shader_runs.specs.Value.{BooleanType, IntegerType, PointerType, Word, Spelled, PartWord}
+use Rattle.shader_runs.specs.Value.{IndexWord, short_circuit_word}
+use Rattle.shader_runs.specs.Program.{ConstantTree, Fixed, NamedConstant, Constructed}
+use Rattle.shader_runs.specs.Program.{ConstantTrees, no_constant, constant, Expression, Constant}
+use Rattle.shader_runs.specs.Program.{Operator, Access, AccessIndex, Logical, Swizzle, Request}
+use Rattle.shader_runs.specs.Program.{Function, expression_of, handle_type, Module}
 use Rattle.shader_runs.specs.Premises.{constant_types_of, handle_types}
 
 -- a spelled operator with its operands' types and its result's

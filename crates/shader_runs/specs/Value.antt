@@ -3,7 +3,8 @@
 -- Throughout, v is a value (vs are several) and t a type (ts are
 -- several), b a truth value, z an integer, p a place and i an index;
 -- m, n, x, y and a, b in a test of equality are what it compares.
-use Rattle.std.specs.Prelude.{ℕ, ℤ, pos, negsuc, Bool, true, false, cond, nat_eq, List, [], ◌∷◌, Option, Some, None, ◌&&◌, get_or, codes}
+use Rattle.std.specs.Prelude.{ℕ, ℤ, pos, negsuc, Bool, true, false, cond, nat_eq, List, [], ◌∷◌}
+use Rattle.std.specs.Prelude.{Option, Some, None, ◌&&◌, get_or, codes}
 
 -- the bytes of a name or of a spelled word
 abbrev pub Bytes : Type 0

@@ -4,12 +4,19 @@
 -- Throughout, e is an expression or a tree, k a type, n a number, x a name, f a function (fs are
 -- several), g its number, vs are its arguments, t the events so far, v is a value, p and q are
 -- places, w is a word, a and b are operands.
-use Rattle.std.specs.Prelude.{◌≡◌, ℕ, ◌+◌, ◌*◌, pos, Bool, true, false, cond, List, [], ◌∷◌, ◌++◌, Option, Some, ◌&&◌, ◌||◌, nat_eq, get_or, IsTrue, codes, map}
-use Rattle.shader_runs.specs.Value.{Bytes, PartTypes, same_bytes, same_integer, At, Rooted, GlobalRoot, LocalRoot, Part, Place, ValueType, IntegerType, PointerType, Value, Truth, Whole, Spelled}
-use Rattle.shader_runs.specs.World.{Event, Entry, Ask, Read, Write, Discard, World, Meaning, Settings}
+use Rattle.std.specs.Prelude.{◌≡◌, ℕ, ◌+◌, ◌*◌, pos, Bool, true, false, cond, List, [], ◌∷◌, ◌++◌}
+use Rattle.std.specs.Prelude.{Option, Some, ◌&&◌, ◌||◌, nat_eq, get_or, IsTrue, codes, map}
+use Rattle.shader_runs.specs.Value.{Bytes, PartTypes, same_bytes, same_integer, At, Rooted}
+use Rattle.shader_runs.specs.Value.{GlobalRoot, LocalRoot, Part, Place, ValueType, IntegerType}
+use Rattle.shader_runs.specs.Value.{PointerType, Value, Truth, Whole, Spelled}
+use Rattle.shader_runs.specs.World.{Event, Entry, Ask, Read, Write, Discard, World, Meaning}
+use Rattle.shader_runs.specs.World.{Settings}
 use Rattle.shader_runs.specs.Outcome.{Reached}
-use Rattle.shader_runs.specs.Program.{Fixed, Module, Expression, Constant, Statements, end, then, no_case, case, Function, Label, Statement, Cases}
-use Rattle.shader_runs.specs.Text.{Tree, Name, LiteralOf, Apply, AddressOf, no_more, more, Let, ReturnLine, Perform, Lines, last, before, Variable, TextFunction, TextModule, Trees, Line}
+use Rattle.shader_runs.specs.Program.{Fixed, Module, Expression, Constant, Statements, end, then}
+use Rattle.shader_runs.specs.Program.{no_case, case, Function, Label, Statement, Cases}
+use Rattle.shader_runs.specs.Text.{Tree, Name, LiteralOf, Apply, AddressOf, no_more, more, Let}
+use Rattle.shader_runs.specs.Text.{ReturnLine, Perform, Lines, last, before, Variable, TextFunction}
+use Rattle.shader_runs.specs.Text.{TextModule, Trees, Line}
 use Rattle.shader_runs.specs.Constants.{run_module, follow_module}
 use Rattle.shader_runs.specs.Scope.{ModuleNames, Naming, fits_function}
 use Rattle.shader_runs.specs.Form.{form_functions, functions_of}

@@ -3,9 +3,14 @@
 --
 -- Throughout, e is an example, g the number of a function, n the bound on turns or a number, vs are
 -- arguments, t the events so far, v is a value, p and q are places, x is a name, f a function.
-use Rattle.std.specs.Prelude.{◌≡◌, ℕ, ◌+◌, ◌*◌, ◌/◌, ◌%◌, max, pos, Bool, false, cond, List, [], ◌∷◌, length, map, reverse, Option, Some, None, ◌||◌, nat_eq, get_or, unwrap_or, IsTrue, codes}
-use Rattle.shader_runs.specs.Value.{Bytes, same_bytes, Place, Rooted, LocalRoot, ValueType, PointerType, OtherType, pointer_spelling, Value, Whole, Pointer, Opaque, Spelled, PartWord, IndexWord, MemberNamed}
-use Rattle.shader_runs.specs.World.{Event, Entry, Ask, Read, Write, Discard, entries, World, Meaning, Settings}
+use Rattle.std.specs.Prelude.{◌≡◌, ℕ, ◌+◌, ◌*◌, ◌/◌, ◌%◌, max, pos, Bool, false, cond, List, []}
+use Rattle.std.specs.Prelude.{◌∷◌, length, map, reverse, Option, Some, None, ◌||◌, nat_eq, get_or}
+use Rattle.std.specs.Prelude.{unwrap_or, IsTrue, codes}
+use Rattle.shader_runs.specs.Value.{Bytes, same_bytes, Place, Rooted, LocalRoot, ValueType}
+use Rattle.shader_runs.specs.Value.{PointerType, OtherType, pointer_spelling, Value, Whole, Pointer}
+use Rattle.shader_runs.specs.Value.{Opaque, Spelled, PartWord, IndexWord, MemberNamed}
+use Rattle.shader_runs.specs.World.{Event, Entry, Ask, Read, Write, Discard, entries, World}
+use Rattle.shader_runs.specs.World.{Meaning, Settings}
 use Rattle.shader_runs.specs.Outcome.{Reached}
 use Rattle.shader_runs.specs.Program.{Fixed, Module, Function}
 use Rattle.shader_runs.specs.Text.{LiteralOf, TextFunction, TextModule}

@@ -1,5 +1,7 @@
--- What a syntax tree does when it runs: the abstract text of each tree of the grammar, a line for each row.
-use Rattle.std.specs.Prelude.{pos, ◌||◌, List, [], ◌∷◌, ◌++◌, map, reverse, ◌==◌, if◌then◌else◌, Some, None, codes, decimal}
+-- What a syntax tree does when it runs: the abstract text of each tree of the grammar, a line for
+-- each row.
+use Rattle.std.specs.Prelude.{pos, ◌||◌, List, [], ◌∷◌, ◌++◌, map, reverse, ◌==◌, if◌then◌else◌}
+use Rattle.std.specs.Prelude.{Some, None, codes, decimal}
 use Rattle.std.specs.Option.{option_map}
 use Rattle.wgsl_text.specs.Types.{TypeSpecifier, pointer_tree}
 use Rattle.wgsl_text.specs.Expressions.{BinaryOperator, LogicalAnd, LogicalOr, Constant}
@@ -18,12 +20,19 @@ use Rattle.wgsl_text.specs.Functions as tree_functions
 use Rattle.wgsl_text.specs.Declarations as tree_declarations
 use Rattle.wgsl_text.specs.Text.{text, mark_text}
 use Rattle.wgsl_text.specs.Reading.{type_layout}
-use Rattle.shader_runs.specs.Value.{Bytes, MemberNamed, ElementAt, Opaque, ShortCircuitAnd, ShortCircuitOr}
+use Rattle.shader_runs.specs.Value.{Bytes, MemberNamed, ElementAt, Opaque, ShortCircuitAnd}
+use Rattle.shader_runs.specs.Value.{ShortCircuitOr}
 use Rattle.shader_runs.specs.Program.{Label, Numbered, Default}
-use Rattle.shader_runs.specs.Text.{Tree, Name, LiteralOf, Apply, Deref, AddressOf, Index, PartOf, LogicalOf as Logical, Trees, no_more, more, Line, Let, Assign, Braces, IfElse, SwitchOn, LoopOf, BreakLine, ContinueLine, ReturnLine, DiscardLine, Perform, Lines, last, before, Groups, no_group, group, Variable, ModuleVariable, TextFunction, TextModule, TextConstant}
+use Rattle.shader_runs.specs.Text.{Tree, Name, LiteralOf, Apply, Deref, AddressOf, Index, PartOf}
+use Rattle.shader_runs.specs.Text.{LogicalOf as Logical, Trees, no_more, more, Line, Let, Assign}
+use Rattle.shader_runs.specs.Text.{Braces, IfElse, SwitchOn, LoopOf, BreakLine, ContinueLine}
+use Rattle.shader_runs.specs.Text.{ReturnLine, DiscardLine, Perform, Lines, last, before, Groups}
+use Rattle.shader_runs.specs.Text.{no_group, group, Variable, ModuleVariable, TextFunction}
+use Rattle.shader_runs.specs.Text.{TextModule, TextConstant}
 use Rattle.text_meaning.specs.Literals.{value_read, signed}
 
--- `&&` and `||` decide by their left side alone where they can; any other operator is a word with two operands
+-- `&&` and `||` decide by their left side alone where they can; any other operator is a word with
+-- two operands
 abbrev pub binary_tree : BinaryOperator → Tree → Tree → Tree
 binary_tree LogicalAnd a b = Logical ShortCircuitAnd a b
 binary_tree LogicalOr a b = Logical ShortCircuitOr a b
@@ -39,7 +48,8 @@ abbrev mutual
   expression_read (Constant l) = LiteralOf (value_read l)
   expression_read (NameExpression w) = Name w
   expression_read (Binary a op b) = binary_tree op (expression_read a) (expression_read b)
-  expression_read (Unary op e) = Apply (mark_text (unary_mark op)) (more (expression_read e) no_more)
+  expression_read (Unary op e) =
+      Apply (mark_text (unary_mark op)) (more (expression_read e) no_more)
   expression_read (Call t args) = Apply (called_word t args) (arguments_read args)
   expression_read (Member e w) = PartOf (MemberNamed w) (expression_read e)
   expression_read (tree_expressions.Index e i) = Index (expression_read e) (expression_read i)
@@ -52,7 +62,8 @@ abbrev mutual
   arguments_read NoArguments = no_more
   arguments_read (Argument e rest) = more (expression_read e) (arguments_read rest)
   arguments_read (NumberArgument n rest) = arguments_read rest
-  arguments_read (ZeroArgument rest) = more (LiteralOf (Opaque (codes "f32") 0)) (arguments_read rest)
+  arguments_read (ZeroArgument rest) =
+      more (LiteralOf (Opaque (codes "f32") 0)) (arguments_read rest)
 
 abbrev pub label_read : tree.Label → Label
 label_read DefaultLabel = Default
@@ -75,9 +86,11 @@ abbrev mutual
   statement_read Discard = DiscardLine
   statement_read tree.Break = BreakLine
   statement_read tree.Continue = ContinueLine
-  statement_read (If e accept reject) = IfElse (expression_read e) (statements_read accept) (statements_read reject)
+  statement_read (If e accept reject) =
+      IfElse (expression_read e) (statements_read accept) (statements_read reject)
   statement_read (Loop body rest) = LoopOf (statements_read body) (statements_read rest) None
-  statement_read (LoopBreakIf body rest e) = LoopOf (statements_read body) (statements_read rest) (Some (expression_read e))
+  statement_read (LoopBreakIf body rest e) =
+      LoopOf (statements_read body) (statements_read rest) (Some (expression_read e))
   statement_read (Switch e cases) = SwitchOn (expression_read e) (cases_read cases)
   statement_read (tree.Block body) = Braces (statements_read body)
 
@@ -87,7 +100,8 @@ abbrev mutual
 
   pub cases_read : tree.Cases → Groups
   cases_read NoCases = no_group
-  cases_read (Case labels body rest) = group (labels_read labels) (statements_read body) (cases_read rest)
+  cases_read (Case labels body rest) =
+      group (labels_read labels) (statements_read body) (cases_read rest)
 
 -- the spelling of a pointer to a local of the declared type, and to a module-level variable by its
 -- space; what has no space is held, and no pointer
@@ -97,18 +111,28 @@ local_pointer_read type = type_layout (pointer_tree (codes "function") None type
 abbrev pub global_pointer_read : tree_declarations.Space → TypeSpecifier → Bytes
 global_pointer_read NoSpace type = []
 global_pointer_read (SpaceAlone space) type = type_layout (pointer_tree space None type)
-global_pointer_read (SpaceAndAccess space access) type = type_layout (pointer_tree space (Some access) type)
+global_pointer_read (SpaceAndAccess space access) type =
+    type_layout (pointer_tree space (Some access) type)
 
 abbrev pub variable_read : tree_functions.Local → Variable
 variable_read l =
-    record { name = l.name; pointer = local_pointer_read l.type; first_value = option_map expression_read l.value }
+    record {
+      name = l.name;
+      pointer = local_pointer_read l.type;
+      first_value = option_map expression_read l.value;
+    }
 
 abbrev pub module_variable_read : tree_declarations.Global → ModuleVariable
 module_variable_read g = record { name = g.name; pointer = global_pointer_read g.space g.type }
 
 abbrev pub function_read : tree_functions.Function → TextFunction
 function_read f =
-    record { name = f.name; parameters = map (λ p. p.name) f.parameters; variables = map variable_read f.locals; lines = statements_read f.body }
+    record {
+      name = f.name;
+      parameters = map (λ p. p.name) f.parameters;
+      variables = map variable_read f.locals;
+      lines = statements_read f.body;
+    }
 
 abbrev pub constant_read : tree_declarations.NamedConstant → TextConstant
 constant_read c = record { name = c.name; initialiser = expression_read c.value }
@@ -120,5 +144,6 @@ program_read p =
       constants = map constant_read p.constants;
       overrides = map (λ o. o.name) p.overrides;
       globals = map module_variable_read p.globals;
-      functions = reverse (map function_read p.functions ++ map (λ e. function_read e.function) p.entry_points);
+      functions = reverse
+          (map function_read p.functions ++ map (λ e. function_read e.function) p.entry_points);
     }

@@ -1,5 +1,6 @@
 -- One name more.
-use Rattle.std.proofs.Common.{◌≡◌, ℕ, zero, suc, List, [], ◌∷◌, ◌++◌, Some, length, slice_get, subst, string_bytes}
+use Rattle.std.proofs.Common.{◌≡◌, ℕ, zero, suc, List, [], ◌∷◌, ◌++◌, Some, length, slice_get}
+use Rattle.std.proofs.Common.{subst, string_bytes}
 use Rattle.std.specs.declared.string.String.{String}
 use Rattle.wgsl_tests.specs.Numbered.{type_number, HaveNumbers}
 

@@ -1,6 +1,7 @@
 //! A sink with little room.
 
-ghost use Rattle.std.specs.Prelude.{◌≡◌, ◌<◌, ◌++◌, OnOk, OnErr, IsErrOf, IsTrue, false, [], alloc_error};
+ghost use Rattle.std.specs.Prelude.{◌≡◌, ◌<◌, ◌++◌, OnOk, OnErr, IsErrOf, IsTrue, false, []};
+ghost use Rattle.std.specs.Prelude.{alloc_error};
 ghost use Rattle.wgsl_tests.specs.Limited.{goes_past};
 
 use naga_words::{SinkError, TextSink};
@@ -24,7 +25,8 @@ impl Model for Limited {
 
     ghost Value = { Held };
 
-    ghost view = { λ s. record { text = string_bytes s.text; limit = s.limit; failures = s.failures } };
+    ghost view = { λ s.
+        record { text = string_bytes s.text; limit = s.limit; failures = s.failures } };
 }
 
 impl Limited {
@@ -61,11 +63,14 @@ impl TextSink for Limited {
     ghost failures = { λ s. s.failures };
 
     fn write_str(&mut self, piece: &str) -> Result<(), SinkError>
-        ensures text_ok { OnOk result (self.new ≡ record self.old { text = self.old.text ++ piece.now }) }
+        ensures text_ok { OnOk result (self.new
+            ≡ record self.old { text = self.old.text ++ piece.now }) }
         ensures text_err { OnErr result (self.new.text ≡ self.old.text) }
         ensures taken { OnOk result (goes_past self.old piece.now ≡ false) }
-        ensures refused { IsTrue (goes_past self.old piece.now) → (result ≡ Err SinkError.Failed) × (self.new ≡ record self.old { failures = 1 }) }
-        ensures memory { goes_past self.old piece.now ≡ false → OnErr result ((result ≡ Err (SinkError.Memory alloc_error)) × (self.new ≡ self.old)) }
+        ensures refused { IsTrue (goes_past self.old piece.now) →
+            (result ≡ Err SinkError.Failed) × (self.new ≡ record self.old { failures = 1 }) }
+        ensures memory { goes_past self.old piece.now ≡ false → OnErr result
+            ((result ≡ Err (SinkError.Memory alloc_error)) × (self.new ≡ self.old)) }
         ensures failures_ok { OnOk result (self.new.failures ≡ self.old.failures) }
         ensures failed { IsErrOf result SinkError.Failed → self.old.failures < self.new.failures }
     {

@@ -1,5 +1,6 @@
-//! Rows of labels and of modules with the names that they are to get. They are constants, and each kind
-//! of item is built by one function through a `&mut Sample`, so that a row costs the prover little.
+//! Rows of labels and of modules with the names that they are to get. They are constants, and each
+//! kind of item is built by one function through a `&mut Sample`, so that a row costs the prover
+//! little.
 use naga_ir::{
     AddressSpace, Constant, EntryPoint, Expression, Function, FunctionArgument, FunctionResult,
     GlobalVariable, Handle, ImageClass, ImageDimension, MemoryDecorations, Module, Override,
@@ -159,8 +160,9 @@ enum Case {
     OrParam(&'static [(Label, &'static str)]),
     /// A `reset` by the empty module, and then calls.
     Reset(Calls),
-    /// A `reset` by the module of the items, which stand in the order of their names, and these names with
-    /// a space between; what external images have in addition stands directly behind them.
+    /// A `reset` by the module of the items, which stand in the order of their names, and these
+    /// names with a space between; what external images have in addition stands directly behind
+    /// them.
     Module {
         items: &'static [Item],
         names: &'static str,
@@ -513,8 +515,9 @@ impl Sample {
         }
     }
 
-    /// Each key has its name, and the map no other keys than these and the one that it had; or, where
-    /// the `reset` was refused, some first keys have their names, and the map has the key that it had.
+    /// Each key has its name, and the map no other keys than these and the one that it had; or,
+    /// where the `reset` was refused, some first keys have their names, and the map has the key
+    /// that it had.
     fn has_names(&self, rt: &impl Abort, want: &str, is_reset: bool) {
         let mut has_all = true;
         for (key, name) in self.keys.iter().zip(want.split_whitespace()) {
@@ -530,8 +533,8 @@ impl Sample {
         self.keys.len() == count && self.names.len() == count.saturating_add(1)
     }
 
-    /// A `reset` gives the names, and the calls theirs behind it, or it is refused for want of memory:
-    /// then the map has the names of some first items, and the `Namer` is a new one.
+    /// A `reset` gives the names, and the calls theirs behind it, or it is refused for want of
+    /// memory: then the map has the names of some first items, and the `Namer` is a new one.
     fn check_reset(
         &mut self,
         rt: &impl Abort,
@@ -584,8 +587,8 @@ impl Sample {
     }
 }
 
-/// Checks the case on a sample of its own. The sample is dropped by a call, which is proved faster than a
-/// drop at the end of a scope, since that takes the sample apart here.
+/// Checks the case on a sample of its own. The sample is dropped by a call, which is proved faster
+/// than a drop at the end of a scope, since that takes the sample apart here.
 fn check(rt: &impl Abort, alloc: Global, case: &Case) -> Result<(), NamerError> {
     let mut sample = Sample::new(alloc);
     let checked = sample.check(rt, case);

@@ -12,8 +12,8 @@ use naga_words::pieces::write_word;
 use naga_words::{Output, TextSink, TypeContext, TypeTextError};
 use std::alloc::{AllocError, Global};
 
-/// Names the struct at a handle `T` and the handle's index, as `T12`, and overrides likewise `O` and
-/// their index. What has no form is refused, and so is a struct without a handle.
+/// Names the struct at a handle `T` and the handle's index, as `T12`, and overrides likewise `O`
+/// and their index. What has no form is refused, and so is a struct without a handle.
 #[derive(Drop)]
 pub struct NumberedTypes<'a> {
     /// The types.
@@ -36,8 +36,8 @@ impl<'a> NumberedTypes<'a> {
         Ok(Self { types, names })
     }
 
-    /// Whether each type stands behind the type that it names, and each override that a length names
-    /// is one of the first `overrides`. Then the types are in order.
+    /// Whether each type stands behind the type that it names, and each override that a length
+    /// names is one of the first `overrides`. Then the types are in order.
     pub fn is_in_order(&self, overrides: usize) -> bool
         ensures { IsTrue result → IsInOrder (numbered_context self.now.types.now) }
     {

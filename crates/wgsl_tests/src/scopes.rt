@@ -107,8 +107,8 @@ fn read_sum(sample: &mut Sample, ty: Handle<Type_>, comes_first: bool) -> Result
     sample.end_with(sum)
 }
 
-/// Two sums of pointers, one of which is known as an `i32` and the other as a `u32`: of pointers to locals of
-/// these types, or of pointers to one local.
+/// Two sums of pointers, one of which is known as an `i32` and the other as a `u32`: of pointers to
+/// locals of these types, or of pointers to one local.
 fn pointer_sums(sample: &mut Sample, ty: Handle<Type_>, apart: bool) -> Result<(), AllocError> {
     let unsigned = sample.scalar(Scalar::U32)?;
     let pointer = local(sample, ty)?;
@@ -152,8 +152,9 @@ fn first_holds(
     }
 }
 
-/// Builds the row on a sample of its own, and asks whether it holds. The sample is dropped by a call, which
-/// is proved faster than a drop at the end of a scope, since that takes the sample apart here.
+/// Builds the row on a sample of its own, and asks whether it holds. The sample is dropped by a
+/// call, which is proved faster than a drop at the end of a scope, since that takes the sample
+/// apart here.
 fn row_holds(alloc: Global, row: Row) -> Result<Option<bool>, AllocError> {
     let mut sample = Sample::new(alloc);
     let holds = built_holds(alloc, &mut sample, row);
@@ -230,8 +231,9 @@ fn rows_hold(rt: HostRuntime) -> Result<(), Fail> {
     Ok(())
 }
 
-/// `naga_form::has_a_typed_meaning` says of each accepted module that an operator over operands of types alike has one
-/// type. Sums of pointers to different types are accepted with different types, sums of pointers to one type aren't.
+/// `naga_form::has_a_typed_meaning` says of each accepted module that an operator over operands of
+/// types alike has one type. Sums of pointers to different types are accepted with different types,
+/// sums of pointers to one type aren't.
 #[test]
 fn sums_of_pointers_are_told_apart(rt: HostRuntime) -> Result<(), Fail> {
     let apart = row_holds(rt.alloc(), Row::PointerSums { apart: true })?;

@@ -11,7 +11,8 @@ use Rattle.wgsl_text.specs.Text.{text}
 use Rattle.wgsl_text.proofs.Spacing.{Spaced, number_of_plain, Opens}
 use Rattle.wgsl_text.proofs.Text.{ends_word, ends, word_token_of, IsToken, Apart}
 
--- Before any pieces these stand apart: they end in a blank, a line end or a sign that nothing extends.
+-- Before any pieces these stand apart: they end in a blank, a line end or a sign that nothing
+-- extends.
 pub record Closed (ps : List Piece) : Type 0 where
   pub by : (more : List Piece) → Apart more → Apart (ps ++ more)
 

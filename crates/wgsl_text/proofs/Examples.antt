@@ -3,8 +3,18 @@ use Rattle.std.proofs.Common.{refl, rules}
 use Rattle.std.specs.Fmt.{digits}
 use Rattle.wgsl_text.specs.Words.{is_reserved, is_builtin}
 use Rattle.wgsl_text.specs.Declarations.{no_declarations, IsProgram}
-use Rattle.wgsl_text.specs.Examples.{WorkedPrograms, identity, negative, same_labels, type_label, hostile_labels, store, store_explicit, unused_read, late_use, inlined, used_twice, select_call, named_expression, idle_literal, sample_at_zero, pointer, negate, modf_members, siblings, named_siblings, switch_joined, switch_default_first, loop_break_if, loop_tail, loop_folded, barriers, call_of_function, compute, struct_names, override_with_id, global_buffer, vertex_output, enable_f16, named_constant, flat_input, atomic_add, natural_offsets, gap_by_size, stride_by_size}
-use Rattle.wgsl_text.specs.Rows.{TypeRows, OperatorRows, AccessRows, LineRows, every_statement, every_declaration, every_stage}
+use Rattle.wgsl_text.specs.Examples.{WorkedPrograms, identity, negative, same_labels, type_label}
+use Rattle.wgsl_text.specs.Examples.{hostile_labels, store, store_explicit, unused_read, late_use}
+use Rattle.wgsl_text.specs.Examples.{inlined, used_twice, select_call, named_expression}
+use Rattle.wgsl_text.specs.Examples.{idle_literal, sample_at_zero, pointer, negate, modf_members}
+use Rattle.wgsl_text.specs.Examples.{siblings, named_siblings, switch_joined, switch_default_first}
+use Rattle.wgsl_text.specs.Examples.{loop_break_if, loop_tail, loop_folded, barriers}
+use Rattle.wgsl_text.specs.Examples.{call_of_function, compute, struct_names, override_with_id}
+use Rattle.wgsl_text.specs.Examples.{global_buffer, vertex_output, enable_f16, named_constant}
+use Rattle.wgsl_text.specs.Examples.{flat_input, atomic_add, natural_offsets, gap_by_size}
+use Rattle.wgsl_text.specs.Examples.{stride_by_size}
+use Rattle.wgsl_text.specs.Rows.{TypeRows, OperatorRows, AccessRows, LineRows, every_statement}
+use Rattle.wgsl_text.specs.Rows.{every_declaration, every_stage}
 
 no_declarations_form : IsProgram no_declarations
 unfolding is_reserved is_builtin

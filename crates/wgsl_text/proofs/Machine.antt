@@ -1,5 +1,5 @@
--- A machine that reads a tree back from its tokens, one token at a time. It is a left inverse of the
--- pieces and no more: it may also accept what the grammar does not have.
+-- A machine that reads a tree back from its tokens, one token at a time. It is a left inverse of
+-- the pieces and no more: it may also accept what the grammar does not have.
 use Rattle.std.specs.Prelude.{ℕ, Bool, true, false, cond, List, [], ◌∷◌, codes, Option, None, Some}
 use Rattle.std.specs.Str.{bytes_eq}
 use Rattle.wgsl_text.specs.Token.{Mark, OpenParen, CloseParen, OpenBracket, CloseBracket, OpenBrace}

@@ -18,8 +18,11 @@ use Rattle.wgsl_text.proofs.Functions.{function_runs, function_closed}
 use Rattle.wgsl_text.proofs.Declarations.{newest_first, program_runs, newest_twice, program_closed}
 use Rattle.wgsl_text.specs.Words.{is_builtin}
 use Rattle.wgsl_text.specs.Text.{text, tokens_in, tokens}
-use Rattle.wgsl_text.specs.Reading.{ReadsType, ReadsExpression, ReadsStatement, ReadsFunction, Reads, type_layout, expression_layout, statement_layout, function_layout, layout, HasOneReading}
-use Rattle.wgsl_text.proofs.Machine.{State, Want, WantType, Got, GotType, Bottom, InStatements, InProgram, step, run}
+use Rattle.wgsl_text.specs.Reading.{ReadsType, ReadsExpression, ReadsStatement, ReadsFunction}
+use Rattle.wgsl_text.specs.Reading.{Reads, type_layout, expression_layout, statement_layout}
+use Rattle.wgsl_text.specs.Reading.{function_layout, layout, HasOneReading}
+use Rattle.wgsl_text.proofs.Machine.{State, Want, WantType, Got, GotType, Bottom, InStatements}
+use Rattle.wgsl_text.proofs.Machine.{InProgram, step, run}
 
 abbrev pub read : List Token → State → State
 read [] s = s

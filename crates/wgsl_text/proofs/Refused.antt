@@ -1,5 +1,6 @@
 -- The machine shows which texts have no reading.
-use Rattle.std.proofs.Common.{◌≡◌, Bool, true, false, List, [], ◌∷◌, length, refl, sym, ap, subst, ◌∙◌, arith}
+use Rattle.std.proofs.Common.{◌≡◌, Bool, true, false, List, [], ◌∷◌, length, refl, sym, ap, subst}
+use Rattle.std.proofs.Common.{◌∙◌, arith}
 use Rattle.std.specs.Prelude.{codes, ◌==◌, ◌<◌, ◌^◌}
 use Rattle.std.proofs.lemmas.Bool.{false≢true}
 use Rattle.wgsl_text.specs.Token.{SuffixI, SuffixU, Token}
@@ -13,11 +14,13 @@ use Rattle.wgsl_text.specs.Functions.{NoResult}
 use Rattle.wgsl_text.specs.Declarations.{Program, no_declarations}
 use Rattle.wgsl_text.proofs.Declarations.{newest_first, newest_twice}
 use Rattle.wgsl_text.specs.Words.{is_reserved, is_builtin}
-use Rattle.wgsl_text.specs.WorkedTrees.{named, name, call, parameter, function, of_functions, member, struct}
+use Rattle.wgsl_text.specs.WorkedTrees.{named, name, call, parameter, function, of_functions}
+use Rattle.wgsl_text.specs.WorkedTrees.{member, struct}
 use Rattle.wgsl_text.specs.Reading.{ReadsType, ReadsExpression, Reads}
 use Rattle.wgsl_text.specs.Refused.{Refused, IsNoExpression}
 use Rattle.wgsl_text.proofs.Machine.{State, Want, WantType, Got, GotType, Bottom, InProgram}
-use Rattle.wgsl_text.proofs.Reading.{read, type_read, expression_read, program_read, same_type, same_expression, same_program}
+use Rattle.wgsl_text.proofs.Reading.{read, type_read, expression_read, program_read, same_type}
+use Rattle.wgsl_text.proofs.Reading.{same_expression, same_program}
 
 abbrev is_type : State → Bool
 is_type (GotType t Bottom) = true

@@ -2,7 +2,8 @@
 use Rattle.std.proofs.Common.{refl}
 use Rattle.std.specs.Fmt.{digits}
 use Rattle.wgsl_text.specs.Words.{is_reserved}
-use Rattle.wgsl_text.specs.Spelled.{SpelledTypes, SpelledCalls, SpelledMarks, SpelledAttributes, Spelled}
+use Rattle.wgsl_text.specs.Spelled.{SpelledTypes, SpelledCalls, SpelledMarks, SpelledAttributes}
+use Rattle.wgsl_text.specs.Spelled.{Spelled}
 
 types : SpelledTypes
 unfolding is_reserved

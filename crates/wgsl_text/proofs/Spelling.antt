@@ -1,5 +1,5 @@
--- What the tokenizer takes is spelled by the bytes that it takes, and is the longest front that spells
--- a token; bytes that spell a token are that token alone.
+-- What the tokenizer takes is spelled by the bytes that it takes, and is the longest front that
+-- spells a token; bytes that spell a token are that token alone.
 use Rattle.std.proofs.Common.{◌≡◌, ℕ, ◌<◌, ◌≤◌, suc, Bool, true, false, cond, not, ◌&&◌, List, []}
 use Rattle.std.proofs.Common.{◌∷◌, ◌++◌, length, take, drop, refl, sym, ap, subst, ◌∙◌}
 use Rattle.std.proofs.Common.{append_assoc, arith, ◌||◌, eqb-true}

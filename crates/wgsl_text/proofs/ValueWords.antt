@@ -1,5 +1,6 @@
 -- The tables that the grammar shares with the values of the IR have the same words.
-use Rattle.std.proofs.Common.{◌≡◌, ℕ, Bool, true, false, List, [], ◌∷◌, Option, Some, None, map, refl, sym, ap, ◌∙◌, inl, inr, codes, ◌==◌}
+use Rattle.std.proofs.Common.{◌≡◌, ℕ, Bool, true, false, List, [], ◌∷◌, Option, Some, None, map}
+use Rattle.std.proofs.Common.{refl, sym, ap, ◌∙◌, inl, inr, codes, ◌==◌}
 use Rattle.std.specs.Prelude.{if◌then◌else◌}
 use Rattle.std.specs.Str.{bytes_eq}
 use Rattle.std.proofs.lemmas.Bool.{false≢true}
@@ -22,8 +23,13 @@ use Rattle.naga_ir.specs.declared.types.ScalarKind.TheVariants as kind
 use Rattle.naga_ir.specs.declared.flags.StorageAccess.{StorageAccess}
 use Rattle.naga_ir.specs.declared.operators.MathFunction.{MathFunction}
 use Rattle.naga_ir.specs.declared.operators.MathFunction.TheVariants as math
-use Rattle.wgsl_words.specs.Words.{scalar_word, scalar_word_of, interpolation_word, sampling_word, role_word, format_word, builtin_word, space_word, image_access_word, math_word, has, atomic_bit, load_bit, store_bit}
-use Rattle.wgsl_text.specs.Tables.{scalar_words, sampled_words, address_space_words, access_words, format_words, role_words, builtin_value_words, interpolation_words, sampling_words}
+use Rattle.wgsl_words.specs.Words.{scalar_word, scalar_word_of, interpolation_word, sampling_word}
+use Rattle.wgsl_words.specs.Words.{role_word, format_word, builtin_word, space_word}
+use Rattle.wgsl_words.specs.Words.{image_access_word, math_word, has, atomic_bit, load_bit}
+use Rattle.wgsl_words.specs.Words.{store_bit}
+use Rattle.wgsl_text.specs.Tables.{scalar_words, sampled_words, address_space_words, access_words}
+use Rattle.wgsl_text.specs.Tables.{format_words, role_words, builtin_value_words}
+use Rattle.wgsl_text.specs.Tables.{interpolation_words, sampling_words}
 use Rattle.wgsl_text.specs.ValueWords.{AreTheWordsOf, ValueWords}
 use Rattle.wgsl_text.specs.Words.{stands_in, is_builtin}
 use Rattle.wgsl_text.proofs.Words.{either}

@@ -12,7 +12,11 @@ use Rattle.wgsl_text.specs.Attributes.{Vertex, Fragment, Compute, Location, Id, 
 use Rattle.wgsl_text.specs.Attributes.{Size, Builtin, Interpolate, Plain, Numbered, WorkgroupSize}
 use Rattle.wgsl_text.specs.Functions.{NoResult, ResultOf}
 use Rattle.wgsl_text.specs.Declarations.{Program, no_declarations}
-use Rattle.wgsl_text.specs.WorkedTrees.{IsText, lines, named, template_of, sized, name, names, integer, unsigned, call, member_of, bound, typed, statements, parameter, bound_parameter, gives, local, function, worded, member, struct, constant, override, space, space_and_access, global, entry_point, of_functions}
+use Rattle.wgsl_text.specs.WorkedTrees.{IsText, lines, named, template_of, sized, name, names}
+use Rattle.wgsl_text.specs.WorkedTrees.{integer, unsigned, call, member_of, bound, typed}
+use Rattle.wgsl_text.specs.WorkedTrees.{statements, parameter, bound_parameter, gives, local}
+use Rattle.wgsl_text.specs.WorkedTrees.{function, worded, member, struct, constant, override, space}
+use Rattle.wgsl_text.specs.WorkedTrees.{space_and_access, global, entry_point, of_functions}
 
 abbrev pub identity : Program
 identity = of_functions (

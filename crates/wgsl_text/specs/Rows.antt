@@ -26,7 +26,12 @@ use Rattle.wgsl_text.specs.Attributes.{Numbered, WorkgroupSize}
 use Rattle.wgsl_text.specs.Functions.{NoResult, ResultOf}
 use Rattle.wgsl_text.specs.Declarations.{NoSpace, Program, no_declarations}
 use Rattle.wgsl_text.specs.Reading.{type_layout, expression_layout}
-use Rattle.wgsl_text.specs.WorkedTrees.{lines, names, template_of, named, template, sized, member_of, bound, typed, bound_parameter, worded, interpolated, member, struct, constant, override, space, global, entry_point, name, integer, unsigned, call, statements, parameter, local, function, of_functions, IsText}
+use Rattle.wgsl_text.specs.WorkedTrees.{lines, names, template_of, named, template, sized}
+use Rattle.wgsl_text.specs.WorkedTrees.{member_of, bound, typed, bound_parameter, worded}
+use Rattle.wgsl_text.specs.WorkedTrees.{interpolated, member, struct, constant, override, space}
+use Rattle.wgsl_text.specs.WorkedTrees.{global, entry_point, name, integer, unsigned, call}
+use Rattle.wgsl_text.specs.WorkedTrees.{statements, parameter, local, function, of_functions}
+use Rattle.wgsl_text.specs.WorkedTrees.{IsText}
 
 -- The tree is a type, and this is its layout.
 pub record IsTypeText (t : TypeSpecifier) (spelling : String) : Type 0 where

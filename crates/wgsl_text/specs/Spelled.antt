@@ -14,7 +14,11 @@ use Rattle.wgsl_text.specs.Attributes.{Miss, Location, BlendSource, Id, Group, B
 use Rattle.wgsl_text.specs.Attributes.{Builtin, Interpolate, Mesh, Payload, IncomingPayload, Plain}
 use Rattle.wgsl_text.specs.Attributes.{Numbered, Worded, Interpolated, WorkgroupSize}
 use Rattle.wgsl_text.specs.Attributes.{attributes_pieces}
-use Rattle.wgsl_text.specs.Tables.{vector_words, matrix_words, atomic_words, array_words, pointer_words, sampled_image_words, depth_image_words, storage_image_words, cooperative_matrix_words, sampler_words, ray_words, enable_words, type_taking_words, gather_words, level_words}
+use Rattle.wgsl_text.specs.Tables.{vector_words, matrix_words, atomic_words, array_words}
+use Rattle.wgsl_text.specs.Tables.{pointer_words, sampled_image_words, depth_image_words}
+use Rattle.wgsl_text.specs.Tables.{storage_image_words, cooperative_matrix_words, sampler_words}
+use Rattle.wgsl_text.specs.Tables.{ray_words, enable_words, type_taking_words, gather_words}
+use Rattle.wgsl_text.specs.Tables.{level_words}
 use Rattle.wgsl_text.specs.Text.{keywords, text, tokens}
 
 -- The tokens of the text are the words of the table.

@@ -3,8 +3,12 @@
 -- Throughout, w is a word, and i an index.
 use Rattle.std.specs.Prelude.{◌≡◌, ℕ, List, Option, Some, IsTrue}
 use Rattle.naga_ir.specs.declared.operators.MathFunction.{MathFunction}
-use Rattle.wgsl_words.specs.Words.{scalar_word, scalar_word_of, interpolation_word, sampling_word, role_word, format_word, builtin_word, space_word, image_access_word, math_word}
-use Rattle.wgsl_text.specs.Tables.{scalar_words, sampled_words, address_space_words, access_words, format_words, role_words, builtin_value_words, interpolation_words, sampling_words}
+use Rattle.wgsl_words.specs.Words.{scalar_word, scalar_word_of, interpolation_word, sampling_word}
+use Rattle.wgsl_words.specs.Words.{role_word, format_word, builtin_word, space_word}
+use Rattle.wgsl_words.specs.Words.{image_access_word, math_word}
+use Rattle.wgsl_text.specs.Tables.{scalar_words, sampled_words, address_space_words, access_words}
+use Rattle.wgsl_text.specs.Tables.{format_words, role_words, builtin_value_words}
+use Rattle.wgsl_text.specs.Tables.{interpolation_words, sampling_words}
 use Rattle.wgsl_text.specs.Words.{stands_in, is_builtin}
 
 -- Each value's word stands in the table, and each word of the table is that of a value.

@@ -2,7 +2,10 @@
 
 ghost use Rattle.std.specs.Prelude.{◌≡◌, ℕ, List, Option, ◌++◌, codes, IfOk, string_bytes};
 ghost use Rattle.std.specs.Option.{option_map};
-ghost use Rattle.wgsl_words.specs.Words.{interpolation_word, sampling_word, role_word, dimension_word, format_word, math_word, builtin_word, scalar_word, space_word, space_access_word, buffer_access_word, image_access_word};
+ghost use Rattle.wgsl_words.specs.Words.{interpolation_word, sampling_word, role_word};
+ghost use Rattle.wgsl_words.specs.Words.{dimension_word, format_word, math_word, builtin_word};
+ghost use Rattle.wgsl_words.specs.Words.{scalar_word, space_word, space_access_word};
+ghost use Rattle.wgsl_words.specs.Words.{buffer_access_word, image_access_word};
 ghost use Rattle.wgsl_words.specs.Diagnostics.{IsWordOrBraced, IsScalarDiagnostic, braced_text};
 
 use bitflags::Flags;

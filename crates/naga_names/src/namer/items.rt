@@ -1,13 +1,19 @@
 //! Names for the items of a module, one after another.
-ghost use Rattle.std.specs.Prelude.{◌≡◌, ℕ, true, false, ◌∷◌, [], ◌++◌, length, map, IfOk, IfErr, None, Some};
+ghost use Rattle.std.specs.Prelude.{◌≡◌, ℕ, true, false, ◌∷◌, [], ◌++◌, length, map, IfOk, IfErr};
+ghost use Rattle.std.specs.Prelude.{None, Some};
 ghost use Rattle.std.specs.List.{flat_map, enumerate_from};
 ghost use Rattle.std.specs.Option.{option_or};
 ghost use Rattle.naga_names.specs.declared.key.NameKey.TheVariants as keys;
 ghost use Rattle.naga_names.specs.declared.key.ExternalTextureNameKey.{ExternalTextureNameKey};
 ghost use Rattle.naga_names.specs.Keys.{same_key, names_in};
 ghost use Rattle.naga_names.specs.Naming.{label_or};
-ghost use Rattle.naga_names.specs.Reset.{is_external_inner, is_external, is_member, key_fits, labelled_types, labelled_entry_points, labelled_functions, labelled_globals, labelled_constants, labelled_overrides, labelled_members, members_of, type_names_in, value_label, with_parts};
-ghost use Rattle.naga_names.specs.Progress.{progress, Gives, GivesModule, argument_key, local_key, part_key, has_parts, argument_items, local_item};
+ghost use Rattle.naga_names.specs.Reset.{is_external_inner, is_external, is_member, key_fits};
+ghost use Rattle.naga_names.specs.Reset.{labelled_types, labelled_entry_points, labelled_functions};
+ghost use Rattle.naga_names.specs.Reset.{labelled_globals, labelled_constants, labelled_overrides};
+ghost use Rattle.naga_names.specs.Reset.{labelled_members, members_of, type_names_in, value_label};
+ghost use Rattle.naga_names.specs.Reset.{with_parts};
+ghost use Rattle.naga_names.specs.Progress.{progress, Gives, GivesModule, argument_key, local_key};
+ghost use Rattle.naga_names.specs.Progress.{part_key, has_parts, argument_items, local_item};
 
 use crate::namer::fallback::{label_or, output_words, type_label, value_label};
 use crate::namer::{EntryPointIndex, ExternalTextureNameKey, NameKey, Namer, NamerError};
@@ -65,8 +71,8 @@ impl Owner {
 
 /// Gives items their names, up to the first refusal.
 ///
-/// Behind a refusal nothing is named, so that who names items goes on, and looks for it once, at the
-/// end.
+/// Behind a refusal nothing is named, so that who names items goes on, and looks for it once, at
+/// the end.
 #[derive(Drop)]
 pub struct Naming {
     pub alloc: Global,

@@ -19,7 +19,8 @@ use ucd_category::{GeneralCategory, GeneralCategoryGroup};
 /// The base of the label, where identifiers keep off the prefixes.
 #[tactic(auto, unfolding(crate::specs::Label::base_of))]
 pub fn base(alloc: Global, prefixes: &[&'static str], label: &str) -> Result<String, AllocError>
-    ensures { IfOk result (λ base. string_bytes base ≡ base_of (map (λ p. p.now) prefixes.now) (chars label.now)) }
+    ensures { IfOk result (λ base. string_bytes base
+        ≡ base_of (map (λ p. p.now) prefixes.now) (chars label.now)) }
 {
     let base = finished(spell(alloc, label)?)?;
     if begins_reserved(base.as_str(), prefixes) {
@@ -99,7 +100,8 @@ fn is_letter_or_digit(byte: u8) -> bool
 
 /// The text without the `_` at its end, or `unnamed` where nothing is left of it.
 fn finished(mut text: String) -> Result<String, AllocError>
-    ensures { IfOk result (λ finished. string_bytes finished ≡ or_unnamed (without_last_separators (string_bytes text))) }
+    ensures { IfOk result (λ finished. string_bytes finished
+        ≡ or_unnamed (without_last_separators (string_bytes text))) }
 {
     drop_last_separators(&mut text);
     if !text.as_str().is_empty() {
@@ -119,9 +121,11 @@ pub fn ends_in_digit(text: &str) -> bool
     }
 }
 
-/// The label's characters, from the first one on that is not numeric, each as an identifier can have it.
+/// The label's characters, from the first one on that is not numeric, each as an identifier can
+/// have it.
 fn spell(alloc: Global, label: &str) -> Result<String, AllocError>
-    ensures { IfOk result (λ text. string_bytes text ≡ spelling (after_numerics (chars label.now))) }
+    ensures { IfOk result (λ text.
+        string_bytes text ≡ spelling (after_numerics (chars label.now))) }
 {
     let mut text = String::new(alloc);
     for c in label.chars().skip_while(is_numeric) {
@@ -140,7 +144,8 @@ fn is_numeric(c: &char) -> bool
 
 /// One more character on a text that spells some.
 fn push_spelled(text: &mut String, c: char) -> Result<(), AllocError>
-    ensures { OnOk result ((before : List ℕ) → string_bytes text.old ≡ spelling before → string_bytes text.new ≡ spelling (before ++ c ∷ [])) }
+    ensures { OnOk result ((before : List ℕ) → string_bytes text.old ≡ spelling before →
+        string_bytes text.new ≡ spelling (before ++ c ∷ [])) }
 {
     if is_separating(c) {
         push_separator(text)
@@ -161,7 +166,8 @@ fn is_separating(c: char) -> bool
 /// A character that no identifier has, behind a `_` unless it is the first one.
 fn push_foreign(text: &mut String, c: char) -> Result<(), AllocError>
     requires { is_foreign c ≡ true }
-    ensures { OnOk result ((before : List ℕ) → string_bytes text.old ≡ spelling before → string_bytes text.new ≡ spelling (before ++ c ∷ [])) }
+    ensures { OnOk result ((before : List ℕ) → string_bytes text.old ≡ spelling before →
+        string_bytes text.new ≡ spelling (before ++ c ∷ [])) }
 {
     if text.as_str().is_empty() {
         return push_number(text, c);

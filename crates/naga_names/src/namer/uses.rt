@@ -27,7 +27,8 @@ impl Model for Uses {
 
     ghost coded = { finite.code (coded_list coded_ℕ) coded_ℕ };
 
-    ghost view = { λ u. finite.from_entries (map (λ e. (string_bytes e.0, e.1 + 1)) u.later.entries) };
+    ghost view = { λ u.
+        finite.from_entries (map (λ e. (string_bytes e.0, e.1 + 1)) u.later.entries) };
 }
 
 impl Uses {

@@ -83,8 +83,8 @@ fn rows_are_written(rt: HostRuntime) -> Result<(), Fail> {
     Ok(())
 }
 
-/// Rows with their texts, without and with the types of their `let`s. Loads are bound where they are
-/// emitted, and operators where they are used twice.
+/// Rows with their texts, without and with the types of their `let`s. Loads are bound where they
+/// are emitted, and operators where they are used twice.
 const ROWS_WITH_LETS: &[(&str, &str, &str)] = &[
     (
         "store",
@@ -227,8 +227,8 @@ fn build_without_info(sample: &mut Sample) -> Result<(), AllocError> {
     Ok(())
 }
 
-/// Whether the case, built in an empty sample, gives this output and is refused with these words, or is
-/// not refused where there are none.
+/// Whether the case, built in an empty sample, gives this output and is refused with these words,
+/// or is not refused where there are none.
 fn built_gives(
     alloc: Global,
     sample: &mut Sample,
@@ -247,8 +247,8 @@ fn built_gives(
     )
 }
 
-/// The same on a sample of its own. It is dropped by a call, which is proved faster than a drop at the end
-/// of a scope, since that takes the sample apart here.
+/// The same on a sample of its own. It is dropped by a call, which is proved faster than a drop at
+/// the end of a scope, since that takes the sample apart here.
 fn case_gives(alloc: Global, case: Case, text: &str, told: &str) -> Result<bool, AllocError> {
     let mut sample = Sample::new(alloc);
     let given = built_gives(alloc, &mut sample, case, text, told);
@@ -300,8 +300,8 @@ fn is_out_of_scope(answer: &Result<(), Error>) -> bool {
     }
 }
 
-/// Whether the sample, written behind a text, is refused as out of scope and leaves this text behind
-/// it.
+/// Whether the sample, written behind a text, is refused as out of scope and leaves this text
+/// behind it.
 fn leaves(alloc: Global, sample: &Sample, text: &str) -> Result<bool, AllocError> {
     let mut want = String::from_str(alloc, "held\n")?;
     want.push_str(text)?;

@@ -30,8 +30,8 @@ fn case_does_not_count(rt: HostRuntime) -> Result<(), Fail> {
     Ok(())
 }
 
-/// A search halves what is left, so that it takes at most as many comparisons as the number of members
-/// has binary digits; a repeated word is one member.
+/// A search halves what is left, so that it takes at most as many comparisons as the number of
+/// members has binary digits; a repeated word is one member.
 #[test]
 fn probes_are_counted(rt: HostRuntime) -> Result<(), Fail> {
     let alloc = rt.alloc();

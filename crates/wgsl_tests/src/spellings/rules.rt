@@ -6,7 +6,8 @@ ghost use Rattle.wgsl_tests.specs.Rules.{FitsAmong};
 
 use super::*;
 
-/// Each piece for a sink with room for three bytes, whether the sink takes it, and what it then holds.
+/// Each piece for a sink with room for three bytes, whether the sink takes it, and what it then
+/// holds.
 const PIECES: &[(&str, bool, &str)] = &[
     ("ab", true, "ab"),
     ("cd", false, "ab"),

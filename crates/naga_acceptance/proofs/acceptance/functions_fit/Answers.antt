@@ -1,4 +1,5 @@
-use Rattle.std.proofs.Common.{◌≡◌, ◌≢◌, ◌<◌, length, ap, sym, ◌∙◌, arith, slice_get, slice_index_or, Some}
+use Rattle.std.proofs.Common.{◌≡◌, ◌≢◌, ◌<◌, length, ap, sym, ◌∙◌, arith, slice_get, slice_index_or}
+use Rattle.std.proofs.Common.{Some}
 use Rattle.module_meaning.specs.Accepted.{function_fits}
 use Rattle.module_meaning.specs.Operations.{function_operations, all_operations}
 use Rattle.module_meaning.proofs.Fitting.{functions_fit-unequal}

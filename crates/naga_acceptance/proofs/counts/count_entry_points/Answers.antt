@@ -2,10 +2,14 @@ use Rattle.std.proofs.Common.{◌≡◌, ◌≤◌, ap, ◌∙◌, arith, length
 use Rattle.std.proofs.lemmas.List.{set-get_or}
 use Rattle.std.proofs.lemmas.Option.{slice_get-get_or}
 use Rattle.naga_acceptance.specs.Counts.{counted, all_counted, functions_of}
-use Rattle.naga_acceptance.proofs.Counting.{slice_get-functions_of, length-functions_of, length-all_counted, get_or-all_counted, get_or-all_counted_past}
-use Rattle.naga_acceptance.proofs.Writing.{IsWritten-start, IsWritten-more, IsWritten-kept, IsWritten-read}
+use Rattle.naga_acceptance.proofs.Counting.{slice_get-functions_of, length-functions_of}
+use Rattle.naga_acceptance.proofs.Counting.{length-all_counted, get_or-all_counted}
+use Rattle.naga_acceptance.proofs.Counting.{get_or-all_counted_past}
+use Rattle.naga_acceptance.proofs.Writing.{IsWritten-start, IsWritten-more, IsWritten-kept}
+use Rattle.naga_acceptance.proofs.Writing.{IsWritten-read}
 use Rattle.naga_acceptance.proofs.counts.count_entry_points.Goals as goal
-use Rattle.naga_acceptance.proofs.counts.count_entry_points.Goals.{then-index-entry_points, else-index-entry_points}
+use Rattle.naga_acceptance.proofs.counts.count_entry_points.Goals.{then-index-entry_points}
+use Rattle.naga_acceptance.proofs.counts.count_entry_points.Goals.{else-index-entry_points}
 
 pub loop-index-init : goal.loop-index-init
 loop-index-init c = IsWritten-start (all_counted (functions_of c.args.entry_points.now) c.args.infos.now) c.args.infos.now (length-all_counted (functions_of c.args.entry_points.now) c.args.infos.now)

@@ -1,8 +1,10 @@
 use Rattle.std.proofs.Common.{◌≡◌, ◌≤◌, ap, ◌∙◌, arith, length, slice_get, Some}
 use Rattle.std.proofs.lemmas.List.{set-get_or}
 use Rattle.naga_acceptance.specs.Counts.{counted, all_counted}
-use Rattle.naga_acceptance.proofs.Counting.{length-all_counted, get_or-all_counted, get_or-all_counted_past}
-use Rattle.naga_acceptance.proofs.Writing.{IsWritten-start, IsWritten-more, IsWritten-kept, IsWritten-read}
+use Rattle.naga_acceptance.proofs.Counting.{length-all_counted, get_or-all_counted}
+use Rattle.naga_acceptance.proofs.Counting.{get_or-all_counted_past}
+use Rattle.naga_acceptance.proofs.Writing.{IsWritten-start, IsWritten-more, IsWritten-kept}
+use Rattle.naga_acceptance.proofs.Writing.{IsWritten-read}
 use Rattle.naga_acceptance.proofs.counts.count_functions.Goals as goal
 use Rattle.naga_acceptance.proofs.counts.count_functions.Goals.{then-index-len, else-index-len}
 

@@ -2,7 +2,10 @@ use Rattle.std.proofs.Common.{arith, ◌∙◌, sym, ap, ◌-◌, ◌+◌, ◌�
 use Rattle.std.proofs.lemmas.Option.{slice_get_past, slice_get_read}
 use Rattle.std.specs.Option.{option_or}
 use Rattle.naga_back.specs.FixedInput.{member_binding}
-use Rattle.naga_back.proofs.FixedInputs.{rest_of_walk, walk_begins, walk_ends, walk_at_member, walk_without_member, walk_at_argument, walk_without_argument, walk_past_the_end, walk_at_another, no_way_of_others}
+use Rattle.naga_back.proofs.FixedInputs.{rest_of_walk, walk_begins, walk_ends, walk_at_member}
+use Rattle.naga_back.proofs.FixedInputs.{walk_without_member, walk_at_argument}
+use Rattle.naga_back.proofs.FixedInputs.{walk_without_argument, walk_past_the_end, walk_at_another}
+use Rattle.naga_back.proofs.FixedInputs.{no_way_of_others}
 use Rattle.naga_back.proofs.fixed_input.nearest_builtin.Goals as goal
 
 pub loop-step-init : goal.loop-step-init

@@ -1,6 +1,10 @@
-use Rattle.std.proofs.Common.{rules, ◌+◌, ◌<◌, length, ◌-◌, ◌/◌, refl, sym, ap, ◌∙◌, arith, Less, Greater}
+use Rattle.std.proofs.Common.{rules, ◌+◌, ◌<◌, length, ◌-◌, ◌/◌, refl, sym, ap, ◌∙◌, arith, Less}
+use Rattle.std.proofs.Common.{Greater}
 use Rattle.naga_keywords.specs.SortedWords.{keys_of, read}
-use Rattle.naga_keywords.proofs.Halving.{HasProbesLeft, at_first, equal_at, everywhere, goes_before, goes_behind, keys_length, left_before, left_behind, middle_below, nowhere, one_probe, counted, order_at, some_left, within_digits}
+use Rattle.naga_keywords.proofs.Halving.{HasProbesLeft, at_first, equal_at, everywhere, goes_before}
+use Rattle.naga_keywords.proofs.Halving.{goes_behind, keys_length, left_before, left_behind}
+use Rattle.naga_keywords.proofs.Halving.{middle_below, nowhere, one_probe, counted, order_at}
+use Rattle.naga_keywords.proofs.Halving.{some_left, within_digits}
 use Rattle.naga_keywords.proofs.sorted.search.Goals as goal
 
 pub loop-low-init : goal.loop-low-init

@@ -1,4 +1,5 @@
-use Rattle.naga_names.proofs.NameShapes.{name_after_no_keyword, name_after_no_builtin, name_after_no_caseless}
+use Rattle.naga_names.proofs.NameShapes.{name_after_no_keyword, name_after_no_builtin}
+use Rattle.naga_names.proofs.NameShapes.{name_after_no_caseless}
 use Rattle.naga_names.proofs.laws.names_are_not_taken.Goals as goal
 
 pub returns-clause-keywords : goal.returns-clause-keywords

@@ -1,6 +1,7 @@
 use Rattle.std.proofs.Common.{ap, arith, ◌<◌, length}
 use Rattle.module_meaning.specs.Applications.{application_of}
-use Rattle.naga_wgsl_fns.proofs.Wanted.{argument_within, literal_has_word, local_within, no_other_expression, operands_before, pointer_before}
+use Rattle.naga_wgsl_fns.proofs.Wanted.{argument_within, literal_has_word, local_within}
+use Rattle.naga_wgsl_fns.proofs.Wanted.{no_other_expression, operands_before, pointer_before}
 use Rattle.naga_wgsl_fns.proofs.functions.FunctionText.+expression.Goals as goal
 
 pub write_own-write_literal-requires : goal.write_own-write_literal-requires

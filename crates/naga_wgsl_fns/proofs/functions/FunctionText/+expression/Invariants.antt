@@ -1,7 +1,8 @@
 use Rattle.std.proofs.Common.{◌+◌, ◌*◌, max}
 use Rattle.naga_wgsl_fns.proofs.functions.FunctionText.+expression.Given as goal
 
--- an expression's own form is made of the forms of those before it; its value may be its own form, what it points at is its value, and a reference may be that
+-- an expression's own form is made of the forms of those before it; its value may be its own form,
+-- what it points at is its value, and a reference may be that
 abbrev pub decreases-write_own : goal.decreases-write_own
 decreases-write_own g l = 4 * l.handle
 

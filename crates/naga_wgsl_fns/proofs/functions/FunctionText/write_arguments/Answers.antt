@@ -2,7 +2,8 @@ use Rattle.std.proofs.Common.{length, refl, sym, ap, ◌∙◌, slice_get}
 use Rattle.std.proofs.lemmas.Option.{slice_get_read}
 use Rattle.naga_words.proofs.Writing.{leaves_as, leaves_last, leaves_more, leaves_start, writes_as}
 use Rattle.naga_wgsl_fns.specs.Functions.{arguments_text}
-use Rattle.naga_wgsl_fns.proofs.FunctionRows.{arguments_left, arguments_more, arguments_none, arguments_start}
+use Rattle.naga_wgsl_fns.proofs.FunctionRows.{arguments_left, arguments_more, arguments_none}
+use Rattle.naga_wgsl_fns.proofs.FunctionRows.{arguments_start}
 use Rattle.naga_wgsl_fns.proofs.functions.FunctionText.write_arguments.Goals as goal
 
 pub loop-number-init : goal.loop-number-init

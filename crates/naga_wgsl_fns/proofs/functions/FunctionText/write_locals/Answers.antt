@@ -1,5 +1,6 @@
 use Rattle.std.proofs.Common.{◌<◌, ◌≤◌, length, subst, sym, ap}
-use Rattle.naga_words.proofs.Writing.{leaves_more, leaves_none, leaves_start, writes_as, writes_then}
+use Rattle.naga_words.proofs.Writing.{leaves_more, leaves_none, leaves_start, writes_as}
+use Rattle.naga_words.proofs.Writing.{writes_then}
 use Rattle.naga_wgsl_fns.specs.Functions.{group_end_text}
 use Rattle.naga_wgsl_fns.proofs.FunctionRows.{locals_left, locals_more, locals_none, locals_row}
 use Rattle.naga_wgsl_fns.proofs.functions.FunctionText.write_locals.Goals as goal

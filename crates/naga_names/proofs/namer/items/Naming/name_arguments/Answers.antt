@@ -2,7 +2,8 @@ use Rattle.std.proofs.Common.{ap, sym, ◌∙◌, refl}
 use Rattle.std.specs.List.{flat_map}
 use Rattle.naga_names.specs.Reset.{with_parts}
 use Rattle.naga_names.specs.Progress.{argument_items, argument_key, part_key}
-use Rattle.naga_names.proofs.Progress.{gives_same, gives_up_key, argument_unfit, leaves_turn, at_place}
+use Rattle.naga_names.proofs.Progress.{gives_same, gives_up_key, argument_unfit, leaves_turn}
+use Rattle.naga_names.proofs.Progress.{at_place}
 use Rattle.naga_names.proofs.namer.items.Naming.name_arguments.Goals as goal
 
 pub returns-in_default : goal.returns-in_default

@@ -1,6 +1,7 @@
 use Rattle.std.proofs.Common.{ℕ, List, length, sym, ap, ◌∙◌, ◌++◌}
 use Rattle.naga_names.specs.Keys.{names_in}
-use Rattle.naga_names.specs.Reset.{labelled_types, labelled_entry_points, labelled_functions, labelled_globals, labelled_overrides}
+use Rattle.naga_names.specs.Reset.{labelled_types, labelled_entry_points, labelled_functions}
+use Rattle.naga_names.specs.Reset.{labelled_globals, labelled_overrides}
 use Rattle.naga_names.proofs.Reset.{same_type_names}
 use Rattle.naga_names.proofs.Progress.{gives_alike, gives_same, gives_then, no_refusal}
 use Rattle.naga_names.proofs.Progress.{module_refused, module_named}
