@@ -41,8 +41,8 @@ text_of m flags handle f known =
 -- the same of the module's function with this handle; nothing, where there is none
 abbrev pub text_of_function : Module → ModuleInfo → WriterFlags → (handle : ℕ) → List ℕ
 text_of_function m info flags handle =
-    let text = λ f. text_of m flags handle f (known_of info handle) in
-    option_map_or text (slice_get m.functions handle) []
+    option_map_or (λ f. text_of m flags handle f (known_of info handle))
+    (slice_get m.functions handle) []
 
 -- the form of a function
 abbrev pub form_of : FunctionText → Function
