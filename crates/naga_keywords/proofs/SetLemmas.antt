@@ -78,9 +78,10 @@ module _ {K : Type 0} (read : K → List ℕ) where
 -- the test decides whether two sets are equal
 pub same_words_decides : (s t : Words) (answer : Bool) → answer ≡ same_words s t →
     (answer ≡ true → s ≡ t) × (s ≡ t → answer ≡ true)
-same_words_decides s t answer is =
-    ( λ yes. equal_from_same_words s t (sym is ∙ yes)
-    , λ equal. is ∙ sym (ap (same_words s) equal) ∙ same_words_itself s )
+same_words_decides s t answer is = (
+  λ yes. equal_from_same_words s t (sym is ∙ yes),
+  λ equal. is ∙ sym (ap (same_words s) equal) ∙ same_words_itself s,
+)
 
 -- ---- one word after another
 pub union-empty : (s : Words) → s ≡ set.union s (set.from_list [])
@@ -99,7 +100,7 @@ union-insert s t word =
     alike_words (set.insert (set.union s t) word) (set.union s (set.insert t word)) (λ q.
     set.contains-insert nat_list_cmp_total (set.union s t) word q
     ∙ ap (λ b. eq_by_cmp (slice_cmp nat_cmp) q word || b)
-      (set.contains-union nat_list_cmp_total s t q)
+    (set.contains-union nat_list_cmp_total s t q)
     ∙ swapped (eq_by_cmp (slice_cmp nat_cmp) q word) (set.contains s q) (set.contains t q)
     ∙ sym (set.contains-union nat_list_cmp_total s (set.insert t word) q
     ∙ ap (λ b. set.contains s q || b) (set.contains-insert nat_list_cmp_total t word q)))

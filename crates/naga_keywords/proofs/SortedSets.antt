@@ -80,7 +80,7 @@ pub len_is_length : (ks : List (List ℕ)) → IsStrictlySortedBy word_cmp ks �
 len_is_length [] up = set.len-empty word_cmp
 len_is_length (k ∷ ks) up =
     let new = set.contains-from_list nat_list_cmp_total ks k
-        ∙ is_before k ks (sorted_head word_cmp k ks up) in
+    ∙ is_before k ks (sorted_head word_cmp k ks up) in
     let more = set.len-insert nat_list_cmp_total (set_of ks) k in
     more ∙ ap (λ b. cond b (set.len (set_of ks)) (set.len (set_of ks) + 1)) new
     ∙ ap (λ n. n + 1) (len_is_length ks (sorted_tail word_cmp k ks up)) ∙ omega arith
@@ -109,8 +109,8 @@ sorted_insert [] w zero up place = (tt, tt)
 sorted_insert [] w (suc i) up place = (tt, tt)
 sorted_insert (k ∷ ks) w zero up place =
     let less : word_cmp w k ≡ Less =
-        nat_list_cmp_total.antisymm w k
-        ∙ ap ordering_reverse (place.behind 0 [] (omega arith) (omega arith)) in
+    nat_list_cmp_total.antisymm w k
+    ∙ ap ordering_reverse (place.behind 0 [] (omega arith) (omega arith)) in
     ((less, before_all w k ks less up.0), up)
 sorted_insert (k ∷ ks) w (suc i) up place =
     let here : IsPlaceOf ks w i = record {
@@ -212,7 +212,7 @@ module _ (case : Case) (t : Words) where
   each_of (m ∷ members) each =
       let key = read case m.now in
       let here : (eq_by_cmp word_cmp key key || list_any (eq_by_cmp word_cmp key) (keys_of case members)) ≡ true =
-          ap (λ b. b || list_any (eq_by_cmp word_cmp key) (keys_of case members)) (is_itself key) in
+      ap (λ b. b || list_any (eq_by_cmp word_cmp key) (keys_of case members)) (is_itself key) in
       ap (λ b. b && list_all is_of members) (each key here)
       ∙ each_of members (λ q one. each q (ap (λ b. eq_by_cmp word_cmp q key || b) one ∙ or_true_right (eq_by_cmp word_cmp q key)))
 

@@ -98,7 +98,6 @@ fn search(members: &[&'static str], counter: &mut Counter) -> Result<usize, usiz
     Err(low)
 }
 
-
 /// Where the word is to be put among words in ascending order, if it isn't there. One that comes
 /// behind all of them takes one comparison.
 fn place(case: Case, members: &[&'static str], word: &str) -> Option<usize>

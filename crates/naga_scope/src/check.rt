@@ -84,11 +84,11 @@ fn emit_holds(scope: &mut Scope, function: &Function, info: &FunctionInfo, range
     ensures fits { (names : NameMap) (types : List Type_) (g k : ℕ) →
         let n = function_naming names types g function.now info.now in
         result
-            ≡ may_emit_all n k (from range.first (range.end - range.first)) (handles_of scope.old) }
+        ≡ may_emit_all n k (from range.first (range.end - range.first)) (handles_of scope.old) }
     ensures after { (names : NameMap) (types : List Type_) (g k : ℕ) → IsTrue result →
         let n = function_naming names types g function.now info.now in
         handles_of scope.new
-            ≡ after_emit n k (from range.first (range.end - range.first)) (handles_of scope.old) }
+        ≡ after_emit n k (from range.first (range.end - range.first)) (handles_of scope.old) }
     ensures size { length scope.new ≡ length scope.old }
 {
     for index in range.first..range.end {
@@ -118,7 +118,7 @@ fn statement_holds(
     ensures after { (names : NameMap) (types : List Type_) (g k : ℕ) → IsTrue result →
         let n = function_naming names types g function.now info.now in
         handles_of scope.new
-            ≡ after n k (statement_shape (tree_of statement.now)) (handles_of scope.old) }
+        ≡ after n k (statement_shape (tree_of statement.now)) (handles_of scope.old) }
     ensures size { length scope.new ≡ length scope.old }
 {
     match statement {

@@ -41,7 +41,9 @@ fn probes_are_counted(rt: HostRuntime) -> Result<(), Fail> {
     assert!(rt; caseless.contains_probes("FOO") == (true, 1));
     let letters = KeywordSet::from_slice(alloc, &["a", "b", "c"])?;
     assert!(rt; letters.contains_probes("d") == (false, 2));
-    assert!(rt; letters.contains_probes("b") == (true, 1) && letters.contains_probes("a") == (true, 2));
+    assert!(rt;
+        letters.contains_probes("b") == (true, 1) && letters.contains_probes("a") == (true, 2)
+    );
     let one = KeywordSet::from_slice(alloc, &["a", "a"])?;
     assert!(rt; one.contains_probes("b") == (false, 1) && one.contains_probes("0") == (false, 1));
     Ok(())

@@ -12,10 +12,13 @@ loop-low-init c =
     let case = c.args.counter.now.case in
     let w = read case c.args.counter.now.wanted.now in
     let members = c.args.members.now in
-    let n = length members in
-    ( everywhere (keys_of case members) w n (sym (keys_length case members))
-    , at_first c.args.counter.now.comparisons n c.requires.fresh
-    , search rules, refl, refl )
+    let n = length members in (
+      everywhere (keys_of case members) w n (sym (keys_length case members)),
+      at_first c.args.counter.now.comparisons n c.requires.fresh,
+      search rules,
+      refl,
+      refl,
+    )
 
 pub compare-requires : goal.compare-requires
 compare-requires c =
@@ -36,10 +39,14 @@ loop-low-preserved-in-Less c =
     let within_keys : middle < length (keys_of c.args.counter.now.case members) = omega (arith, within, length_is) in
     let told = c.in-Less.ensures in
     let probes : HasProbesLeft c.compare.new.self.comparisons (high - (middle + 1)) (length members) =
-        counted _ _ (sym told.counted) (one_probe _ _ _ _ (some_left low high lt) (left_behind low high lt) i.1) in
-    ( goes_behind _ _ c.requires.sorted middle within_keys low high below i.0
-      (order_at members middle _ Less within i.3 i.4 told.order)
-    , probes, i.2, told.case ∙ i.3, ap (λ w. w.now) told.wanted ∙ i.4 )
+    counted _ _ (sym told.counted) (one_probe _ _ _ _ (some_left low high lt) (left_behind low high lt) i.1) in (
+      goes_behind _ _ c.requires.sorted middle within_keys low high below i.0
+          (order_at members middle _ Less within i.3 i.4 told.order),
+      probes,
+      i.2,
+      told.case ∙ i.3,
+      ap (λ w. w.now) told.wanted ∙ i.4,
+    )
 
 pub returns-in-Equal-clause-found : goal.returns-in-Equal-clause-found
 returns-in-Equal-clause-found c =
@@ -67,10 +74,14 @@ loop-low-preserved c =
     let within_keys : middle < length (keys_of c.args.counter.now.case members) = omega (arith, within, length_is) in
     let told = c.in-Greater.ensures in
     let probes : HasProbesLeft c.compare.new.self.comparisons (middle - low) (length members) =
-        counted _ _ (sym told.counted) (one_probe _ _ _ _ (some_left low high lt) (left_before low high lt) i.1) in
-    ( goes_before _ _ c.requires.sorted middle within_keys low high (omega arith) i.0
-      (order_at members middle _ Greater within i.3 i.4 told.order)
-    , probes, i.2, told.case ∙ i.3, ap (λ w. w.now) told.wanted ∙ i.4 )
+    counted _ _ (sym told.counted) (one_probe _ _ _ _ (some_left low high lt) (left_before low high lt) i.1) in (
+      goes_before _ _ c.requires.sorted middle within_keys low high (omega arith) i.0
+          (order_at members middle _ Greater within i.3 i.4 told.order),
+      probes,
+      i.2,
+      told.case ∙ i.3,
+      ap (λ w. w.now) told.wanted ∙ i.4,
+    )
 
 pub returns-clause-found : goal.returns-clause-found
 returns-clause-found c =
