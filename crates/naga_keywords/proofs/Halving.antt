@@ -2,7 +2,7 @@
 --
 -- Throughout, ks are the keys, and w is the wanted one.
 use Rattle.std.proofs.Common.{◌≡◌, ℕ, zero, suc, Bool, true, false, nat_lt, ◌+◌, ◌-◌, ◌/◌, ◌<◌, ◌≤◌}
-use Rattle.std.proofs.Common.{◌^◌, List, length, get_or, refl, sym, ap, subst, ◌∙◌, arith}
+use Rattle.std.proofs.Common.{◌^◌, List, [], length, get_or, refl, sym, ap, subst, ◌∙◌, arith}
 use Rattle.std.proofs.Math.Nat.{pow-suc}
 use Rattle.std.proofs.lemmas.Bool.{ltb-true, ltb-false}
 use Rattle.std.specs.Cmp.Lexicographic.{nat_list_cmp_total}
@@ -11,7 +11,7 @@ use Rattle.std.specs.Ordering.{ordering_reverse}
 use Rattle.std.specs.declared.cmp.Ordering.{Ordering}
 use Rattle.std.proofs.lemmas.Map.Lookups.{exact_bytes}
 use Rattle.std.specs.declared.cmp.Ordering.TheVariants.{Less, Equal, Greater}
-use Rattle.std.proofs.lemmas.Map.Keys.{Less-from_sorted}
+use Rattle.std.proofs.lemmas.Map.Keys.{Less-from_sorted, sorted_from_all_adjacent}
 use Rattle.naga_keywords.specs.SortedWords.{StandsAt, IsPlaceOf, IsWithinDigits, keys_of, read}
 use Rattle.naga_keywords.specs.SortedWords.{word_cmp}
 use Rattle.naga_keywords.specs.declared.sorted.Case.{Case}
@@ -176,3 +176,31 @@ equal_at {case} {wanted = wanted} members i x within same_case same_word is = re
   is = λ d. exact_bytes (get_or (keys_of case members) i d) (read case wanted)
       (order_at members i x Equal within same_case same_word is d);
 }
+
+-- each of the first so many comes before the next
+pub record AscendUpTo (ks : List (List ℕ)) (bound : ℕ) : Type 0 where
+  pub each : (i : ℕ) (d : List ℕ) → i + 1 < bound →
+      word_cmp (get_or ks i d) (get_or ks (i + 1) d) ≡ Less
+
+pub first_ascends : (ks : List (List ℕ)) (n : ℕ) → n ≤ 1 → AscendUpTo ks n
+first_ascends ks n few = record { each = λ i d less. absurd (omega (arith, few, less)) }
+
+pub all_ascend : (ks : List (List ℕ)) (n : ℕ) → length ks ≤ n → AscendUpTo ks n →
+    IsStrictlySortedBy word_cmp ks
+all_ascend ks n all up =
+    sorted_from_all_adjacent nat_list_cmp_total ks []
+    (λ i less. up.each i [] (omega (arith, less, all)))
+
+-- one more, where the last comes before it
+pub ascends_more : (ks : List (List ℕ)) (n : ℕ) → 0 < n → AscendUpTo ks n →
+    ((d : List ℕ) → word_cmp (get_or ks (n - 1) d) (get_or ks n d) ≡ Less) → AscendUpTo ks (n + 1)
+ascends_more ks n some up less = record { each = λ i d below. step i d below (nat_lt (i + 1) n) refl }
+  where
+    step : (i : ℕ) (d : List ℕ) → i + 1 < n + 1 → (b : Bool) → nat_lt (i + 1) n ≡ b →
+        word_cmp (get_or ks i d) (get_or ks (i + 1) d) ≡ Less
+    step i d below true lt = up.each i d (ltb-true (i + 1) n lt)
+    step i d below false not =
+        let here : n ≡ i + 1 = omega (arith, below, ltb-false (i + 1) n not) in
+        let before : n - 1 ≡ i = omega (arith, here) in
+        subst (λ m. word_cmp (get_or ks i d) (get_or ks m d) ≡ Less) here
+        (subst (λ m. word_cmp (get_or ks m d) (get_or ks n d) ≡ Less) before (less d))

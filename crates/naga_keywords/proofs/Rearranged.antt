@@ -3,8 +3,13 @@ use Rattle.std.proofs.Common.{◌≡◌, ℕ, Bool, true, false, List, [], ◌�
 use Rattle.std.proofs.Common.{sym, ◌∙◌, subst}
 use Rattle.std.specs.Cmp.Lexicographic.{nat_list_cmp_total}
 use Rattle.std.specs.FinSet as set
-use Rattle.std.specs.List.Sorted.{IsPermutation}
+use Rattle.std.specs.List.Sorted.{IsPermutation, IsStrictlySortedBy}
 use Rattle.std.specs.Ordering.{eq_by_cmp, is_lt}
+use Rattle.std.specs.declared.cmp.Ordering.{Ordering}
+use Rattle.std.specs.declared.cmp.Ordering.TheVariants.{Less, Equal, Greater}
+use Rattle.std.proofs.lemmas.Bool.{and_parts}
+use Rattle.std.proofs.lemmas.Map.Keys.{sorted_from_all_adjacent}
+use Rattle.std.proofs.Common.{zero, suc, ◌+◌, ◌<◌, ◌&&◌, length, get_or, refl, arith}
 use Rattle.std.proofs.lemmas.List.Sorted.{IsPermutation-cons, IsPermutation-refl}
 use Rattle.std.proofs.lemmas.List.Sorted.{IsPermutation-trans, IsPermutation-middle}
 use Rattle.std.proofs.lemmas.List.Sorted.{list_any-IsPermutation}
@@ -56,3 +61,29 @@ pub when_ok : {E : Type 0} {s t : Words} (answer : Result Words E) → s ≡ t �
     IfOk answer (λ found. found ≡ s) → IfOk answer (λ found. found ≡ t)
 when_ok (Ok found) same is = is ∙ same
 when_ok (Err e) same is = tt
+
+-- Does each word come before the next?
+abbrev pub do_ascend : List (List ℕ) → Bool
+do_ascend [] = true
+do_ascend (k ∷ []) = true
+do_ascend (k ∷ l ∷ ks) = is_lt (word_cmp k l) && do_ascend (l ∷ ks)
+
+less_from_test : (o : Ordering) → is_lt o ≡ true → o ≡ Less
+less_from_test Less is = refl
+less_from_test Equal is = absurd (cc)
+less_from_test Greater is = absurd (cc)
+
+each_ascends : (ks : List (List ℕ)) → do_ascend ks ≡ true → (i : ℕ) → i + 1 < length ks →
+    word_cmp (get_or ks i []) (get_or ks (i + 1) []) ≡ Less
+each_ascends [] up i less = absurd (omega (arith, less))
+each_ascends (k ∷ []) up i less = absurd (omega (arith, less))
+each_ascends (k ∷ l ∷ ks) up zero less =
+    less_from_test (word_cmp k l) (and_parts (is_lt (word_cmp k l)) (do_ascend (l ∷ ks)) up).0
+each_ascends (k ∷ l ∷ ks) up (suc i) less =
+    let rest = (and_parts (is_lt (word_cmp k l)) (do_ascend (l ∷ ks)) up).1 in
+    let next : suc (i + 1) ≡ suc i + 1 = omega arith in
+    subst (λ m. word_cmp (get_or (l ∷ ks) i []) (get_or (k ∷ l ∷ ks) m []) ≡ Less) next
+    (each_ascends (l ∷ ks) rest i (omega (arith, less)))
+
+pub ascending : (ks : List (List ℕ)) → do_ascend ks ≡ true → IsStrictlySortedBy word_cmp ks
+ascending ks up = sorted_from_all_adjacent nat_list_cmp_total ks [] (each_ascends ks up)

@@ -493,7 +493,7 @@ pub fn tables_are_rearranged()
 pub fn reserved_words(alloc: Global) -> Result<KeywordSet, AllocError>
     ensures { IfOk result (λ s. s ≡ set.from_list (map (λ word. word.now) RESERVED.now)) }
 {
-    KeywordSet::from_slice(alloc, RESERVED_BY_BYTES)
+    KeywordSet::from_ascending(alloc, RESERVED_BY_BYTES)
 }
 
 /// The set of the words of [`BUILTIN_IDENTIFIERS`].
@@ -501,5 +501,5 @@ pub fn builtin_words(alloc: Global) -> Result<KeywordSet, AllocError>
     ensures { IfOk result (λ s.
         s ≡ set.from_list (map (λ word. word.now) BUILTIN_IDENTIFIERS.now)) }
 {
-    KeywordSet::from_slice(alloc, BUILTIN_IDENTIFIERS_BY_BYTES)
+    KeywordSet::from_ascending(alloc, BUILTIN_IDENTIFIERS_BY_BYTES)
 }

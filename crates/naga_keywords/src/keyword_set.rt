@@ -5,8 +5,9 @@ ghost use Rattle.std.specs.Cmp.{partial_equiv_from_equiv, on_per, on_equiv};
 ghost use Rattle.std.specs.Coded.{coded_ℕ, coded_list};
 ghost use Rattle.std.specs.FinSet as set;
 ghost use Rattle.std.specs.Iterator.{IsFinite};
+ghost use Rattle.std.specs.List.Sorted.{IsStrictlySortedBy};
 ghost use Rattle.std.proofs.Common.{rules};
-ghost use Rattle.naga_keywords.specs.SortedWords.{IsWithinDigits};
+ghost use Rattle.naga_keywords.specs.SortedWords.{IsWithinDigits, word_cmp};
 ghost use Rattle.naga_keywords.specs.Words.{Words, lowered, same_caseless, caseless_writes};
 ghost use Rattle.naga_keywords.specs.Words.{same_words, same_words_equiv, AddsAll, AddsSome};
 ghost use Rattle.naga_keywords.specs.declared.sorted.Case.TheVariants.{Sensitive, Insensitive};
@@ -80,11 +81,20 @@ impl KeywordSet {
     }
 
     /// The set of the words of a slice. Memory is taken once, for as many words as the slice has;
-    /// words that come in ascending order take one comparison each.
+    /// words that come in ascending order take one comparison each, and are copied as they are.
     pub fn from_slice(alloc: Global, words: &[&'static str]) -> Result<Self, AllocError>
         ensures { IfOk result (λ s. s ≡ set.from_list (map (λ w. w.now) words.now)) }
     {
         let words = SortedWords::from_slice(alloc, Case::Sensitive, words)?;
+        Ok(Self { words })
+    }
+
+    /// The set of words that come in ascending order. It takes no comparison, and memory once.
+    pub(crate) fn from_ascending(alloc: Global, words: &[&'static str]) -> Result<Self, AllocError>
+        requires sorted { IsStrictlySortedBy word_cmp (map (λ w. w.now) words.now) }
+        ensures { IfOk result (λ s. s ≡ set.from_list (map (λ w. w.now) words.now)) }
+    {
+        let words = SortedWords::from_ascending(alloc, Case::Sensitive, words)?;
         Ok(Self { words })
     }
 
@@ -192,7 +202,7 @@ impl CaseInsensitiveKeywordSet {
     }
 
     /// The set of the words of a slice. Memory is taken once, for as many words as the slice has;
-    /// words that come in ascending order take one comparison each.
+    /// words that come in ascending order take one comparison each, and are copied as they are.
     pub fn from_slice(alloc: Global, words: &[&'static str]) -> Result<Self, AllocError>
         ensures { IfOk result (λ s. s ≡ set.from_list (map (λ w. lowered w.now) words.now)) }
     {

@@ -98,6 +98,19 @@ fn search(members: &[&'static str], counter: &mut Counter) -> Result<usize, usiz
     Err(low)
 }
 
+/// Whether each word comes before the next.
+fn ascend(case: Case, words: &[&'static str]) -> bool
+    ensures { IsTrue result → IsStrictlySortedBy word_cmp (keys_of case words.now) }
+{
+    for index in 1..words.len() {
+        match Counter::new(case, words[index]).compare(words[index - 1]) {
+            Ordering::Less => {}
+            _ => return false,
+        }
+    }
+    true
+}
+
 /// Where the word is to be put among words in ascending order, if it isn't there. One that comes
 /// behind all of them takes one comparison.
 fn place(case: Case, members: &[&'static str], word: &str) -> Option<usize>
@@ -173,13 +186,41 @@ impl SortedWords {
         Ok(())
     }
 
+    /// The set of words that come in ascending order. It takes no comparison, and memory once.
+    pub(crate) fn from_ascending(
+        alloc: Global,
+        case: Case,
+        words: &[&'static str],
+    ) -> Result<Self, AllocError>
+        requires sorted { IsStrictlySortedBy word_cmp (keys_of case words.now) }
+        ensures case { IfOk result (λ s. s.case ≡ case) }
+        ensures words { IfOk result (λ s. s.words
+            ≡ set.from_list (map (λ word. read case word.now) words.now)) }
+    {
+        let members = Vec::from_slice(alloc, words)?;
+        Ok(Self { case, members })
+    }
+
     /// The set of the words of a slice. Words that come in ascending order take one comparison
-    /// each; memory is taken once, for as many words as the slice has.
+    /// each, and memory once.
     pub(crate) fn from_slice(
         alloc: Global,
         case: Case,
         words: &[&'static str],
     ) -> Result<Self, AllocError>
+        ensures case { IfOk result (λ s. s.case ≡ case) }
+        ensures words { IfOk result (λ s. s.words
+            ≡ set.from_list (map (λ word. read case word.now) words.now)) }
+    {
+        if ascend(case, words) {
+            Self::from_ascending(alloc, case, words)
+        } else {
+            Self::from_any(alloc, case, words)
+        }
+    }
+
+    /// The set of the words of a slice, put in one by one.
+    fn from_any(alloc: Global, case: Case, words: &[&'static str]) -> Result<Self, AllocError>
         ensures case { IfOk result (λ s. s.case ≡ case) }
         ensures words { IfOk result (λ s. s.words
             ≡ set.from_list (map (λ word. read case word.now) words.now)) }

@@ -3,7 +3,7 @@ use Rattle.std.specs.FinSet as set
 use Rattle.naga_keywords.specs.SortedWords.{read}
 use Rattle.naga_keywords.proofs.SortedSets.{none_sorted}
 use Rattle.naga_keywords.proofs.SetLemmas.{texts_of-take}
-use Rattle.naga_keywords.proofs.sorted.SortedWords.from_slice.Goals as goal
+use Rattle.naga_keywords.proofs.sorted.SortedWords.from_any.Goals as goal
 
 pub invariant_of-sorted : goal.invariant_of-sorted
 invariant_of-sorted c = none_sorted c.args.case _ c.in_ok-members.ensures.items

@@ -1,7 +1,7 @@
 use Rattle.std.proofs.Common.{◌≡◌, take}
 use Rattle.naga_keywords.specs.SortedWords.{read}
 use Rattle.naga_keywords.proofs.SetLemmas.{texts_of}
-use Rattle.naga_keywords.proofs.sorted.SortedWords.from_slice.Given as goal
+use Rattle.naga_keywords.proofs.sorted.SortedWords.from_any.Given as goal
 
 abbrev pub invariant-loop-word : goal.invariant-loop-word
 invariant-loop-word l =
