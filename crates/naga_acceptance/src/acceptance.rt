@@ -37,16 +37,16 @@ use naga_ir::{
 /// - The types of the arguments, of the result and of the locals lie in the types, and the
 ///   expressions that have names lie in the expressions.
 /// - Each expression is a literal, an argument or a local that there is, a `Load`, or an addition,
-/// subtraction or multiplication. Operands stand before the expression. The info gives it the
-/// literal's type, the argument's type, a pointer to the local's type in the space of functions, or
-/// for a `Load` what such a pointer points at. The types of the others and of their operands are
-/// scalars or pointers to locals. Types are alike where they are spelled alike.
+///   subtraction or multiplication. Operands stand before the expression. The info gives it the
+///   literal's type, the argument's type, a pointer to the local's type in the space of functions,
+///   or for a `Load` what such a pointer points at. The types of the others and of their operands
+///   are scalars or pointers to locals. Types are alike where they are spelled alike.
 /// - Operators that are spelled alike, over operands of types alike, have types alike, across all
 ///   functions.
 /// - The first value of a local has the local's type.
-/// - Each statement is an `Emit` of a range within the expressions, a `Store` of a value of the type
-/// that a pointer to a local points at, or a `Return`: of a value of the result's type, or of none
-/// where the function has no result.
+/// - Each statement is an `Emit` of a range within the expressions, a `Store` of a value of the
+///   type that a pointer to a local points at, or a `Return`: of a value of the result's type, or
+///   of none where the function has no result.
 ///
 /// The counts are not looked at. Each other module is answered `false`.
 #[tactic(auto, using(module_meaning::proofs::Accepted::functions_fit_length), unfolding(module_meaning::specs::Accepted::is_accepted))]

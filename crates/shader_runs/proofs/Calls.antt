@@ -53,12 +53,8 @@ use Rattle.shader_runs.proofs.Start.{start_stands}
 use Rattle.shader_runs.proofs.Names.{parameter_other, parameter_at, variable_place, variable_other}
 use Rattle.shader_runs.proofs.Names.{variable_at, one_more_variable, take_one_more, globals_other}
 use Rattle.shader_runs.proofs.Names.{globals_at, held, length-names_from, length-functions_of}
-use Rattle.shader_runs.proofs.Names.{module_names_given, no_name_among}
+use Rattle.shader_runs.proofs.Names.{length-form_functions, module_names_given, no_name_among}
 use Rattle.shader_runs.proofs.Constants.{environment_fits, scope_is}
-
-length-form_functions : (fs : List Naming) → length (form_functions fs) ≡ length fs
-length-form_functions [] = refl
-length-form_functions (f ∷ fs) = ap suc (length-form_functions fs)
 
 pick_alike : {A : Type 0} (R : A → Type 0) (a b : Bool) (x x' y y' : Reached A) → a ≡ b → (b ≡ true → Answers R x x') → (b ≡ false → Answers R y y') → Answers R (cond b x y) (cond a x' y')
 pick_alike R a true x x' y y' e h k = subst (λ a. Answers R x (cond a x' y')) (sym e) (h refl)

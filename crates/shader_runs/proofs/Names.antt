@@ -189,6 +189,10 @@ pub length-functions_of : (fs : List Naming) → length (functions_of fs) ≡ le
 length-functions_of [] = refl
 length-functions_of (f ∷ fs) = ap suc (length-functions_of fs)
 
+pub length-form_functions : (fs : List Naming) → length (form_functions fs) ≡ length fs
+length-form_functions [] = refl
+length-form_functions (f ∷ fs) = ap suc (length-form_functions fs)
+
 -- no function has a word for its name that is none of the module's
 pub no_name_among : (p : Module) (n : ModuleNames) (fs : List Naming) → length fs ≤ length p.functions → AllFit p n fs → (word : Bytes) → ((g : ℕ) → g < length p.functions → n.function g ≢ word) → names_function (form_functions fs) word ≡ false
 no_name_among p n [] within fits word other = refl

@@ -44,7 +44,7 @@ use Rattle.shader_runs.specs.Resolution.{statement_targets, statements_targets, 
 use Rattle.shader_runs.specs.Resolution.{no_numbers, first_values_targets, function_targets}
 use Rattle.shader_runs.specs.Identifiers.{LeafStands, LeavesStand, ResolvesAsMeant}
 use Rattle.shader_runs.proofs.Update.{and_left, and_right, bind_other, bind_cases}
-use Rattle.shader_runs.proofs.Names.{length-functions_of}
+use Rattle.shader_runs.proofs.Names.{length-form_functions, length-functions_of}
 use Rattle.shader_runs.proofs.Sources.{given_all_more, list_more, cases_more, start_sources}
 use Rattle.shader_runs.proofs.TreeTargets.{both, constant_resolves, IsNamed, place_resolves}
 use Rattle.shader_runs.proofs.TreeTargets.{value_resolves, value_if_resolves, values_resolve}
@@ -257,10 +257,6 @@ module _ (p : Module) (f : Naming) (distinct : AreDistinct p f) where
             })
 
 -- ---- the items of a module
-counted : (fs : List Naming) → length (form_functions fs) ≡ length fs
-counted [] = refl
-counted (f ∷ fs) = ap suc (counted fs)
-
 -- the name of a function behind these
 own_name : (p : Module) (n : ModuleNames) (f : Naming) (fs : List Naming) → FunctionFits p n (functions_of fs) f → f.names.outer.function f.names.earlier ≡ n.function (length fs)
 own_name p n f fs fits = ap (λ m. m.function f.names.earlier) fits.outer ∙ ap n.function (fits.earlier ∙ length-functions_of fs)
@@ -283,7 +279,7 @@ module _ (p : Module) (n : ModuleNames) (distinct : ModuleNamesAreDistinct p n) 
   function_found [] fits within g lt = absurd (omega (arith, lt))
   function_found (f ∷ fs) fits within g lt =
       bind_cases (λ o. o ≡ Some (FunctionTarget g)) (with_functions (form_functions fs)) (f.names.outer.function f.names.earlier) (Some (FunctionTarget (length (form_functions fs)))) (n.function g)
-      (λ e. ap (λ k. Some (FunctionTarget k)) (counted fs ∙ distinct.functions (length fs) g (omega (arith, within)) (omega (arith, lt, within)) (sym (e ∙ own_name p n f fs fits.0))))
+      (λ e. ap (λ k. Some (FunctionTarget k)) (length-form_functions fs ∙ distinct.functions (length fs) g (omega (arith, within)) (omega (arith, lt, within)) (sym (e ∙ own_name p n f fs fits.0))))
       (λ other. function_found fs fits.1 (omega (arith, within)) g (before_it (λ e. other (ap n.function e ∙ sym (own_name p n f fs fits.0)))))
     where
       before_it : (g ≡ length fs → ⊥) → g < length fs
