@@ -1,5 +1,5 @@
 -- What is known of a module that is of the part written so far.
-use Rattle.std.proofs.Common.{[], ◌≡◌, List, ◌∷◌, ◌&&◌}
+use Rattle.std.proofs.Common.{[], List, ◌∷◌, ◌&&◌}
 use Rattle.std.specs.Prelude.{IsTrue}
 use Rattle.std.specs.List.{list_all}
 use Rattle.std.proofs.lemmas.Bool.{and_parts, and_from}

@@ -42,7 +42,7 @@ applied_kind e is = by e (operator_of e) refl is
     by e (Some op) at is = sym (ap (λ o. option_map_or (λ op. kind_of e) o kind.Pure) at) ∙ each e
     by e None at is = absurd cc
 
-operator_kind : (op : TableOperator) (xs : List ℕ) →
+pub operator_kind : (op : TableOperator) (xs : List ℕ) →
     shape_kind (Some (operator_shape op xs)) ≡ kind.Pure
 operator_kind op xs = operator_any (λ s. shape_kind (Some s) ≡ kind.Pure) op xs (λ j l r. refl) refl
 

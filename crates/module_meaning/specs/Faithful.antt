@@ -6,7 +6,7 @@ use Rattle.naga_info.specs.declared.info.ModuleInfo.{ModuleInfo}
 use Rattle.wgsl_text.specs.Declarations.{Program}
 use Rattle.shader_runs.specs.Value.{Value, has_types}
 use Rattle.shader_runs.specs.World.{World, Meaning, Event, Settings}
-use Rattle.shader_runs.specs.Outcome.{Reached}
+use Rattle.shader_runs.specs.Outcome.{ReachedOrHalted}
 use Rattle.shader_runs.specs.Program as shapes
 use Rattle.shader_runs.specs.Premises.{IsTyped, SettingsFit}
 use Rattle.shader_runs.specs.Constants.{run_module, follow_module}
@@ -27,7 +27,7 @@ HasInterfaceOf m program = interface_read program ≡ module_interface (module_n
 -- of operators, in every world, with every bound on loop turns and behind any history. Each side
 -- computes its named constants by itself.
 abbrev pub OfEachRun : Module → ModuleInfo → Program →
-    ((module_run text_run : Reached (Option Value)) → Type 0) → Type 0
+    ((module_run text_run : ReachedOrHalted (Option Value)) → Type 0) → Type 0
 OfEachRun m info program Holds =
     let shape = program_shape m info in
     let text = program_read program in

@@ -5,19 +5,18 @@ use Rattle.naga_ir.specs.declared.module.FunctionResult.{FunctionResult}
 use Rattle.naga_ir.specs.declared.module.Module as ir_module
 use Rattle.naga_ir.specs.declared.types.Type_.{Type_}
 use Rattle.naga_names.specs.Keys.{NameMap}
-use Rattle.wgsl_text.specs.Functions.{Function}
 use Rattle.module_meaning.specs.Names.{function_name}
 use Rattle.naga_words.specs.Contexts.{names_of, Names as TypeNames}
 use Rattle.module_meaning.specs.Types.{spelled_type}
-use Rattle.text_meaning.specs.Interface.{FunctionInterface, Interface, Passed}
+use Rattle.text_meaning.specs.Interface.{FunctionInterface, Interface, PassedValue}
 
 -- what passes in or out by a type of the module: its spelling, bound by nothing
-abbrev pub passed : TypeNames → ℕ → Passed
-passed t ty = record { attributes = []; type = spelled_type t ty }
+abbrev pub passed_of_type : TypeNames → ℕ → PassedValue
+passed_of_type t ty = record { attributes = []; type = spelled_type t ty }
 
-abbrev pub result_passed : TypeNames → Option FunctionResult → Option Passed
+abbrev pub result_passed : TypeNames → Option FunctionResult → Option PassedValue
 result_passed t None = None
-result_passed t (Some r) = Some (passed t r.ty)
+result_passed t (Some r) = Some (passed_of_type t r.ty)
 
 -- the interface of the module's function with this handle
 abbrev pub function_interface : NameMap → List Type_ → ℕ → ir_function.Function → FunctionInterface
@@ -25,7 +24,7 @@ function_interface names types g f =
     let t : TypeNames = names_of types names in
     record {
       name = function_name names g;
-      arguments = map (λ a. passed t a.ty) f.arguments.items;
+      arguments = map (λ a. passed_of_type t a.ty) f.arguments.items;
       result = result_passed t f.result;
       locals = map (λ l. spelled_type t l.ty) f.local_variables;
     }

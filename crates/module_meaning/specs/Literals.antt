@@ -1,18 +1,17 @@
 -- The values of a module's literals.
-use Rattle.std.specs.Prelude.{ℕ, ℤ, pos, negsuc, Bool, List, [], ◌==◌, ◌+◌, ◌*◌, if◌then◌else◌}
+use Rattle.std.specs.Prelude.{ℕ, ℤ, pos, negsuc, List, ◌+◌, ◌*◌}
 use Rattle.std.specs.Prelude.{codes}
 use Rattle.naga_ir.specs.declared.expression.Literal as ir
 use Rattle.naga_ir.specs.declared.expression.Literal.TheVariants as literal
 use Rattle.naga_ir.specs.declared.types.ScalarKind.{ScalarKind}
 use Rattle.naga_ir.specs.declared.types.ScalarKind.TheVariants as kind
 use Rattle.naga_ir.specs.declared.types.TypeInner.TheVariants as inner
-use Rattle.module_meaning.specs.TypeIdentity.{Itself, unspelled}
-use Rattle.wgsl_text.specs.Literals.{Literal}
+use Rattle.module_meaning.specs.TypeIdentity.{Itself, word_of_unspelled_type}
 use Rattle.shader_runs.specs.Value.{Value, Truth as TruthValue, Whole, Opaque}
 
 -- the word of an abstract type, which no text spells; its values have eight bytes
 abbrev pub abstract_word : ScalarKind → List ℕ
-abstract_word k = unspelled (Itself (inner.Scalar (record { kind = k; width = 8 })))
+abstract_word k = word_of_unspelled_type (Itself (inner.Scalar (record { kind = k; width = 8 })))
 
 -- an integer as a payload: even numbers stand for those without a sign
 abbrev pub integer_payload : ℤ → ℕ

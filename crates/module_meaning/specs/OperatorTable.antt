@@ -2,10 +2,14 @@
 -- here is what an expression or a statement asks for, apart from its operands; which of those are
 -- there that may be left out belongs to it. What is new is a constructor, and a line of each
 -- function below.
-use Rattle.std.specs.Prelude.{ℕ, ◌||◌, ◌+◌, Bool, true, false, List, [], ◌++◌, Option, Some, None}
-use Rattle.std.specs.Prelude.{codes, ⊤, unwrap_or, if◌then◌else◌}
+use Rattle.std.specs.Prelude.{ℕ, ◌||◌, ◌+◌, Bool, true, false, List, [], ◌∷◌, ◌++◌, Option, Some}
+use Rattle.std.specs.Prelude.{None, codes, ⊤, ◌≡◌, unwrap_or, if◌then◌else◌}
+use Rattle.std.specs.Option.{option_to_list}
 use Rattle.naga_ir.specs.declared.expression.SwizzleComponent.{SwizzleComponent}
 use Rattle.naga_ir.specs.declared.expression.SwizzleComponent.TheVariants as component
+use Rattle.naga_ir.specs.declared.types.CooperativeRole.{CooperativeRole}
+use Rattle.naga_ir.specs.declared.types.CooperativeSize.{CooperativeSize}
+use Rattle.naga_ir.specs.declared.types.ScalarKind.{ScalarKind}
 use Rattle.naga_ir.specs.declared.types.VectorSize.{VectorSize}
 use Rattle.naga_ir.specs.declared.operators.BinaryOperator.{BinaryOperator}
 use Rattle.naga_ir.specs.declared.operators.BinaryOperator.TheVariants as binary
@@ -25,6 +29,8 @@ use Rattle.naga_ir.specs.declared.operators.CollectiveOperation.{CollectiveOpera
 use Rattle.naga_ir.specs.declared.operators.CollectiveOperation.TheVariants as collective
 use Rattle.naga_ir.specs.declared.operators.Direction.{Direction}
 use Rattle.naga_ir.specs.declared.operators.Direction.TheVariants as direction
+use Rattle.module_meaning.specs.TypeIdentity.{truth_number, kind_number, cooperative_number}
+use Rattle.module_meaning.specs.TypeIdentity.{role_number}
 use Rattle.wgsl_words.specs.Words.{math_word, operator_text, unary_text}
 use Rattle.naga_words.specs.Words.{vector_word}
 use Rattle.wgsl_text.specs.Types.{TypeSpecifier, IsType}
@@ -54,8 +60,20 @@ pub data Source : Type 0 where
   QuadSwapped : Direction → Source
 
 -- what a barrier keeps apart
-pub data Kept : Type 0 where
-  StorageKept WorkgroupKept SubgroupKept TextureKept : Kept
+pub data BarrierMemory : Type 0 where
+  StorageKept WorkgroupKept SubgroupKept TextureKept : BarrierMemory
+
+-- What no text has: an operator by itself, told by what the expression says of it.
+pub data Formless : Type 0 where
+  -- to this scalar kind, of this width if one is told: of what is no scalar, vector or matrix, or
+  -- to a type without a form
+  Cast : ScalarKind → (width : Option ℕ) → Formless
+  -- the part at an index, of what has no parts
+  PartAt : (index : ℕ) → Formless
+  -- a value of a type without a form, which these numbers tell, from so many components
+  ValueOf : (numbers : List ℕ) → (components : ℕ) → Formless
+  -- a load of a cooperative matrix of scalars whose type has no form
+  MatrixLoad : (columns rows : CooperativeSize) → CooperativeRole → (row_major : Bool) → Formless
 
 pub data Operator : Type 0 where
   BinarySign : BinaryOperator → Operator
@@ -80,21 +98,22 @@ pub data Operator : Type 0 where
   Ballot : (predicate : Bool) → Operator
   Collective : SubgroupOperation → CollectiveOperation → Operator
   FromSubgroup : Source → Operator
-  Barrier : (control : Bool) → Kept → Operator
-  CooperativeLoad : (row_major : Bool) → TypeSpecifier → Operator
+  Barrier : (control : Bool) → BarrierMemory → Operator
+  CooperativeLoad : (row_major : Bool) → (spelling : List ℕ) → Operator
   CooperativeStore : (row_major : Bool) → Operator
   CooperativeMultiplyAdd : Operator
   TraceRay : Operator
   -- a step of a ray query; its hit, and the corners of what was hit
   RayStep : Operator
   RayIntersection RayCorners : (committed : Bool) → Operator
-  -- a value of this type from so many components; none make its zero value
-  Construct : TypeSpecifier → (components : ℕ) → Operator
+  -- a value of the type spelled so from so many components; none make its zero value
+  Construct : (spelling : List ℕ) → (components : ℕ) → Operator
   Splat : VectorSize → Operator
   -- to another scalar type, or a matrix
-  Convert : TypeSpecifier → Operator
+  Convert : (spelling : List ℕ) → Operator
   -- the bits as a value of another type
-  Reinterpret : TypeSpecifier → Operator
+  Reinterpret : (spelling : List ℕ) → Operator
+  WithoutForm : Formless → Operator
 
 -- ---- words
 abbrev pub if_word : Bool → List ℕ → List ℕ
@@ -201,15 +220,15 @@ source_word (QuadSwapped direction.X) = codes "quadSwapX"
 source_word (QuadSwapped direction.Y) = codes "quadSwapY"
 source_word (QuadSwapped direction.Diagonal) = codes "quadSwapDiagonal"
 
-abbrev pub barrier_word : Kept → List ℕ
+abbrev pub barrier_word : BarrierMemory → List ℕ
 barrier_word StorageKept = codes "storageBarrier"
 barrier_word WorkgroupKept = codes "workgroupBarrier"
 barrier_word SubgroupKept = codes "subgroupBarrier"
 barrier_word TextureKept = codes "textureBarrier"
 
 -- a built-in function that takes a type
-abbrev pub with_type : List ℕ → TypeSpecifier → List ℕ
-with_type word t = word ++ (codes "<" ++ (type_layout t ++ codes ">"))
+abbrev pub with_type : (word spelling : List ℕ) → List ℕ
+with_type word spelling = word ++ (codes "<" ++ (spelling ++ codes ">"))
 
 -- the word of an operator, and none where WGSL has none
 abbrev pub operator_word : Operator → Option (List ℕ)
@@ -237,8 +256,8 @@ operator_word (Ballot predicate) = Some (codes "subgroupBallot")
 operator_word (Collective op collective) = collective_word op collective
 operator_word (FromSubgroup source) = Some (source_word source)
 operator_word (Barrier control kept) = Some (barrier_word kept)
-operator_word (CooperativeLoad false t) = Some (with_type (codes "coopLoad") t)
-operator_word (CooperativeLoad true t) = Some (with_type (codes "coopLoadT") t)
+operator_word (CooperativeLoad false spelling) = Some (with_type (codes "coopLoad") spelling)
+operator_word (CooperativeLoad true spelling) = Some (with_type (codes "coopLoadT") spelling)
 operator_word (CooperativeStore false) = Some (codes "coopStore")
 operator_word (CooperativeStore true) = Some (codes "coopStoreT")
 operator_word CooperativeMultiplyAdd = Some (codes "coopMultiplyAdd")
@@ -246,10 +265,11 @@ operator_word TraceRay = Some (codes "traceRay")
 operator_word RayStep = None
 operator_word (RayIntersection committed) = None
 operator_word (RayCorners committed) = None
-operator_word (Construct t components) = Some (type_layout t)
+operator_word (Construct spelling components) = Some spelling
 operator_word (Splat size) = Some (vector_word size)
-operator_word (Convert t) = Some (type_layout t)
-operator_word (Reinterpret t) = Some (with_type (codes "bitcast") t)
+operator_word (Convert spelling) = Some spelling
+operator_word (Reinterpret spelling) = Some (with_type (codes "bitcast") spelling)
+operator_word (WithoutForm what) = None
 
 abbrev pub own_math_word : MathFunction → List ℕ
 own_math_word math.Inverse = codes " inverse"
@@ -281,6 +301,15 @@ own_form_word level compares clamped =
 abbrev pub committed_word : (committed : Bool) → List ℕ
 committed_word committed = if committed then codes "Committed" else codes "Candidate"
 
+-- numbers from which what no text has can be told
+abbrev pub formless_code : Formless → List ℕ
+formless_code (Cast kind width) = 0 ∷ kind_number kind ∷ option_to_list width
+formless_code (PartAt index) = 1 ∷ index ∷ []
+formless_code (ValueOf numbers components) = 2 ∷ numbers
+formless_code (MatrixLoad columns rows role row_major) =
+    3 ∷ cooperative_number columns ∷ cooperative_number rows
+    ∷ role_number role ∷ truth_number row_major ∷ []
+
 -- What has no word is called by one with a blank in front, which no text can spell.
 abbrev pub own_word : Operator → List ℕ
 own_word (Mathematical fun) = own_math_word fun
@@ -295,6 +324,7 @@ own_word (Collective op collective) = own_collective_word op collective
 own_word RayStep = codes " step"
 own_word (RayIntersection committed) = codes " intersection" ++ committed_word committed
 own_word (RayCorners committed) = codes " corners" ++ committed_word committed
+own_word (WithoutForm what) = 32 ∷ formless_code what
 own_word _ = []
 
 -- what the runs call an operator
@@ -347,6 +377,12 @@ source_count First = 1
 source_count (QuadSwapped direction) = 1
 source_count _ = 2
 
+abbrev pub formless_count : Formless → ℕ
+formless_count (Cast kind width) = 1
+formless_count (PartAt index) = 1
+formless_count (ValueOf numbers components) = components
+formless_count (MatrixLoad columns rows role row_major) = 2
+
 -- how many operands are written
 abbrev pub operand_count : Operator → ℕ
 operand_count (BinarySign op) = 2
@@ -375,17 +411,18 @@ operand_count (Ballot predicate) = if_there predicate
 operand_count (Collective op collective) = 1
 operand_count (FromSubgroup source) = source_count source
 operand_count (Barrier control kept) = 0
-operand_count (CooperativeLoad row_major t) = 2
+operand_count (CooperativeLoad row_major spelling) = 2
 operand_count (CooperativeStore row_major) = 3
 operand_count CooperativeMultiplyAdd = 3
 operand_count TraceRay = 3
 operand_count RayStep = 1
 operand_count (RayIntersection committed) = 1
 operand_count (RayCorners committed) = 1
-operand_count (Construct t components) = components
+operand_count (Construct spelling components) = components
 operand_count (Splat size) = 1
-operand_count (Convert t) = 1
-operand_count (Reinterpret t) = 1
+operand_count (Convert spelling) = 1
+operand_count (Reinterpret spelling) = 1
+operand_count (WithoutForm what) = formless_count what
 
 -- ---- what shares a word
 -- level zero is a given level, the number zero, and where it is clamped it is one by itself
@@ -397,6 +434,11 @@ written_level level clamped = level
 abbrev pub gathered_level : Level → (clamped : Bool) → Level
 gathered_level Zero false = Automatic
 gathered_level level clamped = level
+
+-- values of one type share a word too
+abbrev pub one_formless : Formless → Formless
+one_formless (ValueOf numbers components) = ValueOf numbers 1
+one_formless what = what
 
 -- The operator that stands for all that have its word. So these share words, and no others do:
 abbrev pub one_word : Operator → Operator
@@ -426,8 +468,9 @@ one_word (Ballot predicate) = Ballot false
 one_word (Barrier control kept) = Barrier true kept
 -- constructors of one type, which their number of operands tells apart; and a conversion, which is
 -- one operation with the constructor of one operand.
-one_word (Construct t components) = Construct t 1
-one_word (Convert t) = Construct t 1
+one_word (Construct spelling components) = Construct spelling 1
+one_word (Convert spelling) = Construct spelling 1
+one_word (WithoutForm what) = WithoutForm (one_formless what)
 one_word operator = operator
 
 -- what is told from all others by its word and its number of operands
@@ -436,8 +479,12 @@ is_told (Sample level compares clamped arrayed offset) = false
 is_told (Gather component level compares clamped arrayed offset) = false
 is_told (Texel arrayed of_) = false
 is_told (Barrier control kept) = false
-is_told (Convert t) = false
+is_told (Convert spelling) = false
 is_told _ = true
+
+abbrev pub formless_asks : Formless → Bool
+formless_asks (MatrixLoad columns rows role row_major) = true
+formless_asks _ = false
 
 -- it asks for an event; others with operands have a value by the values of these alone
 abbrev pub asks : Operator → Bool
@@ -448,24 +495,32 @@ asks (Mathematical fun) = false
 asks (Relation fun) = false
 asks ArrayLength = false
 asks CooperativeMultiplyAdd = false
-asks (Construct t components) = false
+asks (RayIntersection committed) = false
+asks (RayCorners committed) = false
+asks (Construct spelling components) = false
 asks (Splat size) = false
-asks (Convert t) = false
-asks (Reinterpret t) = false
+asks (Convert spelling) = false
+asks (Reinterpret spelling) = false
+asks (WithoutForm what) = formless_asks what
 asks _ = true
 
--- the operator takes no type
+-- the operator is one of a few, as it takes no type and no number
 abbrev pub is_untyped : Operator → Bool
-is_untyped (CooperativeLoad row_major t) = false
-is_untyped (Construct t components) = false
-is_untyped (Convert t) = false
-is_untyped (Reinterpret t) = false
+is_untyped (CooperativeLoad row_major spelling) = false
+is_untyped (Construct spelling components) = false
+is_untyped (Convert spelling) = false
+is_untyped (Reinterpret spelling) = false
+is_untyped (WithoutForm what) = false
 is_untyped _ = true
+
+-- it is how a type of the grammar is written
+abbrev pub SpellsAType : List ℕ → Type 0
+SpellsAType spelling = (t : TypeSpecifier) × (IsType t × (type_layout t ≡ spelling))
 
 -- the type that it takes, if it takes one, is one of the grammar
 abbrev pub TypeIsSound : Operator → Type 0
-TypeIsSound (CooperativeLoad row_major t) = IsType t
-TypeIsSound (Construct t components) = IsType t
-TypeIsSound (Convert t) = IsType t
-TypeIsSound (Reinterpret t) = IsType t
+TypeIsSound (CooperativeLoad row_major spelling) = SpellsAType spelling
+TypeIsSound (Construct spelling components) = SpellsAType spelling
+TypeIsSound (Convert spelling) = SpellsAType spelling
+TypeIsSound (Reinterpret spelling) = SpellsAType spelling
 TypeIsSound _ = ⊤

@@ -4,6 +4,8 @@ use Rattle.std.specs.Prelude.{ℕ, Bool, true, false, List, [], ◌∷◌, Optio
 use Rattle.std.specs.Prelude.{if◌then◌else◌, slice_get}
 use Rattle.std.specs.Option.{option_map}
 use Rattle.std.specs.Int.NonZero.{non_zero_u32_get}
+use denote.Enum.Declared.{tag_of}
+use Rattle.naga_ir.specs.contracts.image.StorageFormat.{the_type as formats}
 use Rattle.naga_ir.specs.declared.image.ImageClass.{ImageClass}
 use Rattle.naga_ir.specs.declared.image.ImageClass.TheVariants as class
 use Rattle.naga_ir.specs.declared.image.ImageDimension.{ImageDimension}
@@ -26,7 +28,6 @@ use Rattle.naga_ir.specs.declared.types.Type_.{Type_}
 use Rattle.naga_ir.specs.declared.types.TypeInner.{TypeInner}
 use Rattle.naga_ir.specs.declared.types.TypeInner.TheVariants as inner
 use Rattle.naga_words.specs.Spelling.{is_struct}
-use Rattle.wgsl_words.specs.Words.{format_word}
 
 -- What a type is told by. A handle out of range and a struct without a handle, which stand in no
 -- module, are told by nothing.
@@ -98,40 +99,56 @@ dimension_number dimension.D2 = 2
 dimension_number dimension.D3 = 3
 dimension_number dimension.Cube = 4
 
-abbrev pub length_code : ArraySize → List ℕ
-length_code (size.Constant number) = 0 ∷ non_zero_u32_get number ∷ []
-length_code (size.Pending override_handle) = 1 ∷ override_handle ∷ []
-length_code size.Dynamic = 2 ∷ 0 ∷ []
+-- six numbers: what a type is, and what it is made of
+abbrev pub level : (tag first second third fourth fifth : ℕ) → List ℕ
+level tag first second third fourth fifth =
+    tag ∷ first ∷ second ∷ third ∷ fourth ∷ fifth ∷ []
 
-abbrev pub class_code : ImageClass → List ℕ
-class_code (class.Sampled kind multi) = 0 ∷ kind_number kind ∷ truth_number multi ∷ []
-class_code (class.Depth multi) = 1 ∷ 0 ∷ truth_number multi ∷ []
-class_code (class.Storage format access) = 2 ∷ access.0 ∷ 0 ∷ format_word format
-class_code class.External = 3 ∷ 0 ∷ 0 ∷ []
+-- how a length is told: by a number, an override, or not at all
+abbrev pub length_kind : ArraySize → ℕ
+length_kind (size.Constant number) = 0
+length_kind (size.Pending override_handle) = 1
+length_kind size.Dynamic = 2
 
--- A list of numbers for each type by itself, from which it can be told: its kind, then what it is
--- made of. A struct has a handle.
+abbrev pub length_number : ArraySize → ℕ
+length_number (size.Constant number) = non_zero_u32_get number
+length_number (size.Pending override_handle) = override_handle
+length_number size.Dynamic = 0
+
+-- an image of this class, of which two numbers tell the rest
+abbrev pub image_code : ImageDimension → (arrayed : Bool) → ImageClass → List ℕ
+image_code dim arrayed (class.Sampled kind multi) =
+    level 9 (dimension_number dim) (truth_number arrayed) 0 (kind_number kind) (truth_number multi)
+image_code dim arrayed (class.Depth multi) =
+    level 9 (dimension_number dim) (truth_number arrayed) 1 (truth_number multi) 0
+image_code dim arrayed (class.Storage format access) =
+    level 9 (dimension_number dim) (truth_number arrayed) 2 (tag_of formats format) access.0
+image_code dim arrayed class.External =
+    level 9 (dimension_number dim) (truth_number arrayed) 3 0 0
+
+-- Six numbers for each type by itself, from which it can be told: its kind, then what it is made
+-- of. A struct has a handle.
 abbrev pub inner_code : TypeInner → List ℕ
-inner_code (inner.Scalar s) = 0 ∷ kind_number s.kind ∷ s.width ∷ []
-inner_code (inner.Vector n s) = 1 ∷ kind_number s.kind ∷ s.width ∷ vector_number n ∷ []
+inner_code (inner.Scalar s) = level 0 (kind_number s.kind) s.width 0 0 0
+inner_code (inner.Vector n s) = level 1 (kind_number s.kind) s.width (vector_number n) 0 0
 inner_code (inner.Matrix columns rows s) =
-    2 ∷ kind_number s.kind ∷ s.width ∷ vector_number columns ∷ vector_number rows ∷ []
+    level 2 (kind_number s.kind) s.width (vector_number columns) (vector_number rows) 0
 inner_code (inner.CooperativeMatrix columns rows s role) =
-    3 ∷ kind_number s.kind ∷ s.width
-    ∷ cooperative_number columns ∷ cooperative_number rows ∷ role_number role ∷ []
-inner_code (inner.Atomic s) = 4 ∷ kind_number s.kind ∷ s.width ∷ []
-inner_code (inner.Pointer base space) = 5 ∷ base ∷ space_number space ∷ space_bits space ∷ []
+    level 3 (kind_number s.kind) s.width (cooperative_number columns) (cooperative_number rows)
+    (role_number role)
+inner_code (inner.Atomic s) = level 4 (kind_number s.kind) s.width 0 0 0
+inner_code (inner.Pointer base space) = level 5 base (space_number space) (space_bits space) 0 0
 inner_code (inner.ValuePointer n s space) =
-    6 ∷ kind_number s.kind ∷ s.width
-    ∷ components_number n ∷ space_number space ∷ space_bits space ∷ []
-inner_code (inner.Array base n stride) = 7 ∷ base ∷ stride ∷ length_code n
-inner_code (inner.BindingArray base n) = 8 ∷ base ∷ length_code n
-inner_code (inner.Image dim arrayed class) =
-    9 ∷ dimension_number dim ∷ truth_number arrayed ∷ class_code class
-inner_code (inner.Sampler comparison) = 10 ∷ truth_number comparison ∷ []
-inner_code (inner.AccelerationStructure vertex_return) = 11 ∷ truth_number vertex_return ∷ []
-inner_code (inner.RayQuery vertex_return) = 12 ∷ truth_number vertex_return ∷ []
-inner_code (inner.Struct members span) = []
+    level 6 (kind_number s.kind) s.width (components_number n) (space_number space)
+    (space_bits space)
+inner_code (inner.Array base n stride) = level 7 base stride (length_kind n) (length_number n) 0
+inner_code (inner.BindingArray base n) = level 8 base (length_kind n) (length_number n) 0 0
+inner_code (inner.Image dim arrayed class) = image_code dim arrayed class
+inner_code (inner.Sampler comparison) = level 10 (truth_number comparison) 0 0 0 0
+inner_code (inner.AccelerationStructure vertex_return) =
+    level 11 (truth_number vertex_return) 0 0 0 0
+inner_code (inner.RayQuery vertex_return) = level 12 (truth_number vertex_return) 0 0 0 0
+inner_code (inner.Struct members span) = level 13 0 0 0 0 0
 
 abbrev pub identity_code : Identity → List ℕ
 identity_code Nothing = 0 ∷ []
@@ -140,5 +157,5 @@ identity_code (Itself it) = 2 ∷ inner_code it
 
 -- the word of a type that no text spells so far: it begins with a blank, which no word of a text
 -- does
-abbrev pub unspelled : Identity → List ℕ
-unspelled i = 32 ∷ identity_code i
+abbrev pub word_of_unspelled_type : Identity → List ℕ
+word_of_unspelled_type i = 32 ∷ identity_code i

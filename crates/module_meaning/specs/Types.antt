@@ -16,7 +16,7 @@ use Rattle.module_meaning.specs.Spelled.{word_at, spelling_of, local_pointer}
 use Rattle.naga_words.specs.Contexts.{names_of, Names as TypeNames, writer_context}
 use Rattle.naga_words.specs.Parts.{known_text}
 use Rattle.naga_words.specs.Spelling.{Context, type_parts, resolution_parts}
-use Rattle.module_meaning.specs.TypeIdentity.{Identity, identity, unspelled}
+use Rattle.module_meaning.specs.TypeIdentity.{Identity, identity, word_of_unspelled_type}
 use Rattle.module_meaning.specs.Names.{module_names}
 use Rattle.wgsl_text.specs.Words.{stands_in}
 use Rattle.shader_runs.specs.Value.{ValueType, BooleanType, IntegerType, PointerType, OtherType}
@@ -67,7 +67,7 @@ LocalsAreSpelled types ls =
 -- what has no spelling is told by a word that no text has
 abbrev pub type_told : Option (List ℕ) → Identity → ValueType
 type_told (Some w) i = type_spelled w
-type_told None i = OtherType (unspelled i)
+type_told None i = OtherType (word_of_unspelled_type i)
 
 -- the type of the values of an expression
 abbrev pub value_type : List Type_ → TypeResolution → ValueType

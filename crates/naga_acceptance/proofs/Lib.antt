@@ -1,6 +1,9 @@
 pub mod Agreeing
 pub mod Counting
 pub mod Entering
-pub mod Recounted
 pub mod Numbering
+pub mod Pairing
+pub mod Passing
+pub mod Recounted
+pub mod Views
 pub mod Writing

@@ -25,26 +25,27 @@ use Rattle.module_meaning.specs.Accepted.{is_accepted}
 use Rattle.module_meaning.specs.Operations.{spelling_then, spellings_at, operation_of}
 use Rattle.module_meaning.specs.Operations.{application_operations, expression_operations}
 use Rattle.module_meaning.specs.Operations.{all_operations, all_agree, operators_agree}
-use Rattle.naga_acceptance.specs.Counts.{counted_from, all_counted, use_count, operand_places}
+use Rattle.naga_acceptance.specs.Counts.{with_counts_from, all_with_counts, use_count}
+use Rattle.naga_acceptance.specs.Counts.{operand_places}
 
 -- the counts don't change the types, nor how many there are
-same_length : (c : ℕ → ℕ) (n : ℕ) (es : List ExpressionInfo) → length (counted_from c n es) ≡ length es
+same_length : (c : ℕ → ℕ) (n : ℕ) (es : List ExpressionInfo) → length (with_counts_from c n es) ≡ length es
 same_length c n [] = refl
 same_length c n (e ∷ es) = ap suc (same_length c (n + 1) es)
 
-same_spelling : (types : List Type_) (c : ℕ → ℕ) (n : ℕ) (es : List ExpressionInfo) (h : ℕ) → spelling_at types (counted_from c n es) h ≡ spelling_at types es h
+same_spelling : (types : List Type_) (c : ℕ → ℕ) (n : ℕ) (es : List ExpressionInfo) (h : ℕ) → spelling_at types (with_counts_from c n es) h ≡ spelling_at types es h
 same_spelling types c n [] h = refl
 same_spelling types c n (e ∷ es) zero = refl
 same_spelling types c n (e ∷ es) (suc h) = same_spelling types c (n + 1) es h
 
-same_pointee : (types : List Type_) (c : ℕ → ℕ) (n : ℕ) (es : List ExpressionInfo) (h : ℕ) → pointee_at types (counted_from c n es) h ≡ pointee_at types es h
+same_pointee : (types : List Type_) (c : ℕ → ℕ) (n : ℕ) (es : List ExpressionInfo) (h : ℕ) → pointee_at types (with_counts_from c n es) h ≡ pointee_at types es h
 same_pointee types c n [] h = refl
 same_pointee types c n (e ∷ es) zero = refl
 same_pointee types c n (e ∷ es) (suc h) = same_pointee types c (n + 1) es h
 
 module _ (types : List Type_) (f : Function) (c : ℕ → ℕ) (es : List ExpressionInfo) where
   abbrev now : List ExpressionInfo
-  now = counted_from c 0 es
+  now = with_counts_from c 0 es
 
   same_operands : (here : ℕ) (hs : List ℕ) →
       list_all (operand_fits types now here) hs ≡ list_all (operand_fits types es here) hs
@@ -67,7 +68,7 @@ module _ (types : List Type_) (f : Function) (c : ℕ → ℕ) (es : List Expres
   same_expected here (expression.LocalVariable handle) = refl
   same_expected here e = same_application here (application_of e)
 
-  same_expressions : (here n : ℕ) (xs : List Expression) (ks : List ExpressionInfo) → expressions_fit_from types f now here xs (counted_from c n ks) ≡ expressions_fit_from types f es here xs ks
+  same_expressions : (here n : ℕ) (xs : List Expression) (ks : List ExpressionInfo) → expressions_fit_from types f now here xs (with_counts_from c n ks) ≡ expressions_fit_from types f es here xs ks
   same_expressions here n [] [] = refl
   same_expressions here n [] (k ∷ ks) = refl
   same_expressions here n (x ∷ xs) [] = refl
@@ -105,40 +106,40 @@ module _ (types : List Type_) (f : Function) (c : ℕ → ℕ) (es : List Expres
   same_function = λ i. signature_fits (length types) f && (names_fit f && (same_expressions 0 0 f.expressions es i && (same_locals f.local_variables i && same_block f.result f.body i)))
 
 same_spellings : (types : List Type_) (c : ℕ → ℕ) (es : List ExpressionInfo) (hs : List ℕ) →
-    spellings_at types (counted_from c 0 es) hs ≡ spellings_at types es hs
+    spellings_at types (with_counts_from c 0 es) hs ≡ spellings_at types es hs
 same_spellings types c es [] = refl
 same_spellings types c es (h ∷ hs) =
     λ i. spelling_then (same_spelling types c 0 es h i) (same_spellings types c es hs i)
 
 same_applied : (types : List Type_) (c : ℕ → ℕ) (es : List ExpressionInfo) (here : ℕ)
     (o : Option Application) →
-    application_operations types (counted_from c 0 es) here o ≡
+    application_operations types (with_counts_from c 0 es) here o ≡
     application_operations types es here o
 same_applied types c es here None = refl
 same_applied types c es here (Some applied) =
     λ i. operation_of (accepted_word applied.operator)
     (same_spellings types c es applied.operands i) (same_spelling types c 0 es here i)
 
-same_operations : (types : List Type_) (c : ℕ → ℕ) (es : List ExpressionInfo) (here : ℕ) (e : Expression) → expression_operations types (counted_from c 0 es) here e ≡ expression_operations types es here e
+same_operations : (types : List Type_) (c : ℕ → ℕ) (es : List ExpressionInfo) (here : ℕ) (e : Expression) → expression_operations types (with_counts_from c 0 es) here e ≡ expression_operations types es here e
 same_operations types c es here e = same_applied types c es here (application_of e)
 
-same_operations_from : (types : List Type_) (c : ℕ → ℕ) (es : List ExpressionInfo) (ps : List (ℕ × Expression)) → flat_map (λ p. expression_operations types (counted_from c 0 es) p.0 p.1) ps ≡ flat_map (λ p. expression_operations types es p.0 p.1) ps
+same_operations_from : (types : List Type_) (c : ℕ → ℕ) (es : List ExpressionInfo) (ps : List (ℕ × Expression)) → flat_map (λ p. expression_operations types (with_counts_from c 0 es) p.0 p.1) ps ≡ flat_map (λ p. expression_operations types es p.0 p.1) ps
 same_operations_from types c es [] = refl
 same_operations_from types c es (p ∷ ps) = λ i. same_operations types c es p.0 p.1 i ++ same_operations_from types c es ps i
 
-same_all_operations : (types : List Type_) (fs : List Function) (ess : List (List ExpressionInfo)) → all_operations types fs (all_counted fs ess) ≡ all_operations types fs ess
+same_all_operations : (types : List Type_) (fs : List Function) (ess : List (List ExpressionInfo)) → all_operations types fs (all_with_counts fs ess) ≡ all_operations types fs ess
 same_all_operations types [] [] = refl
 same_all_operations types [] (es ∷ ess) = refl
 same_all_operations types (f ∷ fs) [] = refl
 same_all_operations types (f ∷ fs) (es ∷ ess) = λ i. same_operations_from types (use_count (operand_places f)) es (enumerate_from 0 f.expressions) i ++ same_all_operations types fs ess i
 
-same_functions : (types : List Type_) (fs : List Function) (ess : List (List ExpressionInfo)) → functions_fit types fs (all_counted fs ess) ≡ functions_fit types fs ess
+same_functions : (types : List Type_) (fs : List Function) (ess : List (List ExpressionInfo)) → functions_fit types fs (all_with_counts fs ess) ≡ functions_fit types fs ess
 same_functions types [] [] = refl
 same_functions types [] (es ∷ ess) = refl
 same_functions types (f ∷ fs) [] = refl
 same_functions types (f ∷ fs) (es ∷ ess) = λ i. same_function types f (use_count (operand_places f)) es i && same_functions types fs ess i
 
-pub same_acceptance : (m : Module) (old new : ModuleInfo) → new.functions.items ≡ all_counted m.functions old.functions.items → length new.entry_points.items ≡ length old.entry_points.items → new.const_expression_types ≡ old.const_expression_types → is_accepted m new ≡ is_accepted m old
+pub same_acceptance : (m : Module) (old new : ModuleInfo) → new.functions.items ≡ all_with_counts m.functions old.functions.items → length new.entry_points.items ≡ length old.entry_points.items → new.const_expression_types ≡ old.const_expression_types → is_accepted m new ≡ is_accepted m old
 unfolding is_accepted
 same_acceptance m old new functions entries types = λ i.
     declares_functions m && (list_all is_scalar_type m.types && (special_types_fit (length m.types) m.special_types &&

@@ -20,19 +20,20 @@ abbrev pub greatest_count : ℕ
 greatest_count = 2 ^ 64 - 1
 
 -- what is known of expressions, the first of which has the handle `handle`, with these counts
-abbrev pub counted_from : (ℕ → ℕ) → (handle : ℕ) → List ExpressionInfo → List ExpressionInfo
-counted_from count handle [] = []
-counted_from count handle (e ∷ es) =
-    record e { ref_count = min (count handle) greatest_count } ∷ counted_from count (handle + 1) es
+abbrev pub with_counts_from : (ℕ → ℕ) → (handle : ℕ) → List ExpressionInfo → List ExpressionInfo
+with_counts_from count handle [] = []
+with_counts_from count handle (e ∷ es) =
+    record e { ref_count = min (count handle) greatest_count } ∷
+    with_counts_from count (handle + 1) es
 
 -- what is known of a function's expressions, each with the number of operand places that hold it
-abbrev pub counted : Function → List ExpressionInfo → List ExpressionInfo
-counted f es = counted_from (use_count (operand_places f)) 0 es
+abbrev pub with_counts : Function → List ExpressionInfo → List ExpressionInfo
+with_counts f es = with_counts_from (use_count (operand_places f)) 0 es
 
 -- the same for functions in order; what is known of a function that there isn't stays
-abbrev pub all_counted : List Function → List (List ExpressionInfo) → List (List ExpressionInfo)
-all_counted (f ∷ fs) (es ∷ ess) = counted f es ∷ all_counted fs ess
-all_counted _ ess = ess
+abbrev pub all_with_counts : List Function → List (List ExpressionInfo) → List (List ExpressionInfo)
+all_with_counts (f ∷ fs) (es ∷ ess) = with_counts f es ∷ all_with_counts fs ess
+all_with_counts _ ess = ess
 
 abbrev pub functions_of : List EntryPoint → List Function
 functions_of points = map (λ e. e.function) points

@@ -91,7 +91,8 @@ fn is_scalar_type(ty: &Type_) -> bool
     }
 }
 
-fn is_below(bound: usize, handle: Option<Handle<Type_>>) -> bool
+/// Whether the handle, if there is one, lies below the bound.
+pub(crate) fn is_below<M>(bound: usize, handle: Option<Place<M>>) -> bool
     ensures { result ≡ is_below bound handle }
 {
     match handle {
@@ -100,7 +101,7 @@ fn is_below(bound: usize, handle: Option<Handle<Type_>>) -> bool
     }
 }
 
-fn special_types_fit(type_count: usize, special_types: &SpecialTypes) -> bool
+pub(crate) fn special_types_fit(type_count: usize, special_types: &SpecialTypes) -> bool
     ensures { result ≡ special_types_fit type_count special_types.now }
 {
     predeclared_types_fit(type_count, special_types)
@@ -188,7 +189,7 @@ fn surroundings_fit(
         && block_fits(types, infos, function)
 }
 
-fn signature_fits(type_count: usize, function: &Function) -> bool
+pub(crate) fn signature_fits(type_count: usize, function: &Function) -> bool
     ensures { result ≡ signature_fits type_count function.now }
 {
     arguments_fit(type_count, &function.arguments)
@@ -206,7 +207,7 @@ fn arguments_fit(type_count: usize, arguments: &[FunctionArgument]) -> bool
         .all(|argument| argument.ty.index() < type_count)
 }
 
-fn names_fit(function: &Function) -> bool
+pub(crate) fn names_fit(function: &Function) -> bool
     ensures { result ≡ names_fit function.now }
 {
     let count = function.expressions.len();

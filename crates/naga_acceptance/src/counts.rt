@@ -8,7 +8,7 @@ ghost use Rattle.naga_ir.specs.Operands.{atomic_operands, block_operands, cases_
 ghost use Rattle.naga_ir.specs.Operands.{cooperative_operands, expression_operands};
 ghost use Rattle.naga_ir.specs.Operands.{gather_operands, ray_operands, statement_operands};
 ghost use Rattle.module_meaning.specs.Accepted.{is_accepted};
-ghost use Rattle.naga_acceptance.specs.Counts.{counted, all_counted, functions_of};
+ghost use Rattle.naga_acceptance.specs.Counts.{with_counts, all_with_counts, functions_of};
 ghost use Rattle.naga_acceptance.specs.Counts.{with_use, with_uses, without_uses};
 
 use naga_info::{ExpressionInfo, FunctionInfo, ModuleInfo};
@@ -218,7 +218,7 @@ fn add_function_uses(infos: &mut [ExpressionInfo], expressions: &Arena<Expressio
 /// Counts the uses of a function's expressions.
 #[tactic(auto, using(crate::proofs::Counting::counted_by_uses))]
 fn count_function(info: &mut FunctionInfo, function: &Function)
-    ensures { info.new ≡ counted function.now info.old }
+    ensures { info.new ≡ with_counts function.now info.old }
 {
     let infos = info.expressions.as_mut_slice();
     clear_counts(infos);
@@ -227,7 +227,7 @@ fn count_function(info: &mut FunctionInfo, function: &Function)
 }
 
 fn count_functions(infos: &mut [FunctionInfo], functions: &Arena<Function>)
-    ensures { infos.new ≡ all_counted functions.now infos.old }
+    ensures { infos.new ≡ all_with_counts functions.now infos.old }
 {
     for (index, info) in infos.iter_mut().enumerate() {
         if index < functions.len() {
@@ -237,7 +237,7 @@ fn count_functions(infos: &mut [FunctionInfo], functions: &Arena<Function>)
 }
 
 fn count_entry_points(infos: &mut [FunctionInfo], entry_points: &[EntryPoint])
-    ensures { infos.new ≡ all_counted (functions_of entry_points.now) infos.old }
+    ensures { infos.new ≡ all_with_counts (functions_of entry_points.now) infos.old }
 {
     for (index, info) in infos.iter_mut().enumerate() {
         if index < entry_points.len() {
@@ -255,9 +255,9 @@ fn count_entry_points(infos: &mut [FunctionInfo], entry_points: &[EntryPoint])
 /// stays as it was, and a handle outside the info counts for nothing.
 pub fn count(info: &mut ModuleInfo, module: &Module)
     ensures functions { info.new.functions.items ≡
-        all_counted «module».now.functions info.old.functions.items }
+        all_with_counts «module».now.functions info.old.functions.items }
     ensures entry_points { info.new.entry_points.items ≡
-        all_counted (functions_of «module».now.entry_points.items) info.old.entry_points.items }
+        all_with_counts (functions_of «module».now.entry_points.items) info.old.entry_points.items }
     ensures types { info.new.const_expression_types ≡ info.old.const_expression_types }
     ensures accepted { is_accepted «module».now info.new ≡ is_accepted «module».now info.old }
 {

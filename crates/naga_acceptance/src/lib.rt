@@ -5,10 +5,16 @@
 #![tactic(auto)]
 
 pub mod acceptance;
+mod alike;
 pub mod counts;
+pub mod demands;
+pub mod expression_types;
 mod operations;
 pub mod part;
+pub mod parts;
+pub mod ranges;
 pub mod spelling;
+pub mod statements;
 
 pub use acceptance::accepts;
 pub use counts::count;

@@ -3,3 +3,4 @@ pub mod FixedInput
 pub mod FunctionContext
 pub mod Indentation
 pub mod Kinds
+pub mod Rays

@@ -1,6 +1,7 @@
 //! What a ray may meet, and what it met.
 
-ghost use Rattle.std.specs.Prelude.{⊤, [], ◌∷◌, codes};
+ghost use Rattle.std.specs.Prelude.{⊤, [], ◌∷◌, ◌≡◌, codes};
+ghost use Rattle.naga_back.specs.Rays.{intersection_number};
 
 use bitflags::{Flag, Flags, bitflag_items};
 
@@ -59,11 +60,23 @@ impl Flags for RayFlag {
     }
 }
 
-/// What a ray met, as a number in a shader.
+/// What a ray met, as a number in a shader: `RayIntersectionType::BoundingBox as u32` is 4.
 #[derive(Debug, Drop)]
 pub enum RayIntersectionType {
     /// A triangle.
     Triangle = 1,
     /// A bounding box.
     BoundingBox = 4,
+}
+
+impl RayIntersectionType {
+    /// The number by which a shader knows it: that of a bounding box is 4.
+    pub fn number(&self) -> u32
+        ensures { result ≡ intersection_number self.now }
+    {
+        match self {
+            RayIntersectionType::Triangle => RayIntersectionType::Triangle as u32,
+            RayIntersectionType::BoundingBox => RayIntersectionType::BoundingBox as u32,
+        }
+    }
 }

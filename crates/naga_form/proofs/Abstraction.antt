@@ -32,7 +32,7 @@ use Rattle.shader_runs.specs.Program.{binds, from, handle_type, expression_of}
 use Rattle.shader_runs.specs.Scope.{Standing, Named, Handles, Naming, bound_name, at_start}
 use Rattle.shader_runs.specs.Scope.{given_after, given_by, given_by_all, after_one, after}
 use Rattle.shader_runs.specs.Scope.{after_all}
-use Rattle.shader_runs.specs.Text.{LiteralOf, before, ReturnLine, more, Let, Assign, Braces, IfElse}
+use Rattle.shader_runs.specs.Text.{LiteralOf, before, ReturnLine, Let, Assign, Braces, IfElse}
 use Rattle.shader_runs.specs.Text.{SwitchOn, LoopOf, group}
 use Rattle.shader_runs.specs.Form.{written_below, names_from, variables_from, form_function, Plain}
 use Rattle.shader_runs.specs.Form.{AsValue, AsPlace, let_if}
@@ -141,7 +141,7 @@ module _ (names : NameMap) (types : List Type_) (g : ℕ) (f : ir_function.Funct
       (own_if_reads own (plain_below own f.expressions s k) (written_below own s k) (below_reads s k) (handle_type own.function h) (slice_get f.expressions h) (literals h)
       ∙ ap (runs.own_form own (written_below own s k) (handle_type own.function h)) (sym (slice_get-map expression_shape f.expressions h)))
 
-  plain_reads : (s : Handles) (h : ℕ) → plain_read (plain_form own f.expressions s h) ≡ runs.written own s h
+  plain_reads : (s : Handles) (h : ℕ) → plain_read (plain_form own f.expressions s h) ≡ runs.written_form own s h
   plain_reads s h = below_reads s (length f.expressions) h ∙ ap (λ k. written_below own s k h) (sym (mapped_length expression_shape f.expressions))
 
   value_reads : (s : Handles) (h : ℕ) → expression_read (value_form own f.expressions s h) ≡ runs.value_at own s h
@@ -166,8 +166,8 @@ module _ (names : NameMap) (types : List Type_) (g : ℕ) (f : ir_function.Funct
       let behind = lets_form own told f.expressions (given_after own.function h k) hs (after_one own k h s) rest in
       then_if_reads (binds own.function h) (told h) (bound_name own k h) (as_value e) behind
       ∙ λ i. let_if (binds own.function h) (bound_name own k h)
-      ((value_is e ∙ ap runs.value_form (own_if_reads own (plain_form own f.expressions s) (runs.written own s) (plain_reads s) (handle_type own.function h) (slice_get f.expressions h) (literals h)
-      ∙ ap (runs.own_form own (runs.written own s) (handle_type own.function h)) (sym (slice_get-map expression_shape f.expressions h)))) i)
+      ((value_is e ∙ ap runs.value_form (own_if_reads own (plain_form own f.expressions s) (runs.written_form own s) (plain_reads s) (handle_type own.function h) (slice_get f.expressions h) (literals h)
+      ∙ ap (runs.own_form own (runs.written_form own s) (handle_type own.function h)) (sym (slice_get-map expression_shape f.expressions h)))) i)
       (lets_read told (given_after own.function h k) hs (after_one own k h s) rest i)
 
   return_reads : (s : Handles) (v : Option ℕ) → statement_read (return_line own f.expressions s v) ≡ ReturnLine (runs.value_if own s v)

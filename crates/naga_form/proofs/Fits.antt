@@ -24,7 +24,7 @@ use Rattle.module_meaning.specs.Spelled.{spelling_at}
 use Rattle.module_meaning.proofs.Shapes.{application_any, operator_any, operator_operands}
 use Rattle.module_meaning.specs.Accepted.{statement_fits, return_fits, block_fits, function_fits}
 use Rattle.module_meaning.specs.Part.{names_nothing}
-use Rattle.naga_names.specs.Reset.{Labelled, labelled_items, labels_of}
+use Rattle.naga_names.specs.Reset.{LabelledItem, labelled_items, labels_of}
 use Rattle.shader_runs.specs.Value.{ValueType, BooleanType, PointerType, type_at}
 use Rattle.shader_runs.specs.Program as shapes
 use Rattle.shader_runs.specs.Program.{operands_of, handle_type, argument_count, expression_of}
@@ -150,7 +150,7 @@ none_listed : (i : ℕ) (ts : List ValueType) → ts ≡ [] → i < length ts �
 none_listed i ts e lt = let none : i < 0 = subst (λ ts. i < length ts) e lt in omega (arith, none)
 
 -- the item of a local
-abbrev pub local_item : ℕ → ℕ → LocalVariable → Labelled
+abbrev pub local_item : ℕ → ℕ → LocalVariable → LabelledItem
 local_item g l v = (key.FunctionLocal g l, label_or v.name (codes "local"))
 
 -- the type of a handle that is spelled
@@ -263,10 +263,10 @@ module _ (m : Module) (g : ℕ) (f : ir_function.Function) (found : slice_get m.
       (λ j l r. tt) tt)
 
   -- ---- words
-  word_of : (item : Labelled) → Stands (labelled_items wgsl_names m) item → is_word (name_in (module_names m) item.0) ≡ true
+  word_of : (item : LabelledItem) → Stands (labelled_items wgsl_names m) item → is_word (name_in (module_names m) item.0) ≡ true
   word_of item s = ap is_word (name_is m item s) ∙ name_after_is_word wgsl_names (labels_of (take s.place (labelled_items wgsl_names m))) item.1
 
-  no_word : (item : Labelled) (w : List ℕ) → Stands (labelled_items wgsl_names m) item →
+  no_word : (item : LabelledItem) (w : List ℕ) → Stands (labelled_items wgsl_names m) item →
       (not (is_word w) || is_builtin w) ≡ true → name_in (module_names m) item.0 ≢ w
   no_word item w s other e =
       by (is_word w) (is_builtin w) (sym (ap is_word e) ∙ word_of item s)

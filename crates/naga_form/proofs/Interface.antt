@@ -28,8 +28,8 @@ use Rattle.naga_form.specs.Declarations.{written_program}
 use Rattle.naga_form.specs.Functions.{locals_form, parameters_form, result_form, function_form}
 use Rattle.naga_form.specs.Functions.{functions_form}
 use Rattle.text_meaning.specs.Interface.{parameter_read, result_read, function_interface_read}
-use Rattle.text_meaning.specs.Interface.{Passed}
-use Rattle.module_meaning.specs.Interface.{passed, result_passed, function_interface}
+use Rattle.text_meaning.specs.Interface.{PassedValue}
+use Rattle.module_meaning.specs.Interface.{passed_of_type, result_passed, function_interface}
 use Rattle.module_meaning.specs.Interface.{function_interfaces}
 use Rattle.module_meaning.specs.Faithful.{HasInterfaceOf}
 
@@ -42,13 +42,13 @@ spelled_form t ty = by (type_tree t ty) ∙ ap (λ w. unwrap_or w []) (sym (type
     by (Some tree) = refl
 
 -- what passes in or out, by its form
-abbrev form_passed : TypeNames → ℕ → Passed
+abbrev form_passed : TypeNames → ℕ → PassedValue
 form_passed t ty = record { attributes = []; type = type_layout (type_form t ty) }
 
-passed_is : (t : TypeNames) (ty : ℕ) → form_passed t ty ≡ passed t ty
+passed_is : (t : TypeNames) (ty : ℕ) → form_passed t ty ≡ passed_of_type t ty
 passed_is t ty = ap (λ w. record { attributes = []; type = w }) (spelled_form t ty)
 
-parameters_passed : (names : NameMap) (types : List Type_) (g n : ℕ) (args : List FunctionArgument) → map parameter_read (parameters_form names types g n args) ≡ map (λ a. passed (names_of types names) a.ty) args
+parameters_passed : (names : NameMap) (types : List Type_) (g n : ℕ) (args : List FunctionArgument) → map parameter_read (parameters_form names types g n args) ≡ map (λ a. passed_of_type (names_of types names) a.ty) args
 parameters_passed names types g n [] = refl
 parameters_passed names types g n (a ∷ more) = λ i. passed_is (names_of types names) a.ty i ∷ parameters_passed names types g (n + 1) more i
 

@@ -1,4 +1,7 @@
 pub mod Abstraction
+pub mod AlikeLaw
+pub mod AlikeNumbers
+pub mod AlikeTypes
 pub mod Bindings
 pub mod Facts
 pub mod Fits

@@ -33,11 +33,12 @@ use Rattle.module_meaning.specs.Operations.{spelling_then, spellings_at}
 use Rattle.shader_runs.specs.Value.{ValueType, BooleanType, IntegerType, PointerType, OtherType}
 use Rattle.shader_runs.specs.Value.{Spelled, Value}
 use Rattle.shader_runs.specs.World.{World, Meaning, Event, entries, Environment}
-use Rattle.shader_runs.specs.Outcome.{Reached, and_then, answer}
+use Rattle.shader_runs.specs.Outcome.{ReachedOrHalted, and_then, answer}
 use Rattle.shader_runs.specs.Program as shapes
 use Rattle.shader_runs.specs.Program.{handle_type, expression_of, argument_count}
-use Rattle.shader_runs.specs.ProgramRun.{Call, Kept, constants_kept, first_used_all, entered, run}
-use Rattle.shader_runs.specs.ProgramRun.{run_all, run_body, called, run_call}
+use Rattle.shader_runs.specs.ProgramRun.{Call, KeptValues, constants_kept, first_used_all}
+use Rattle.shader_runs.specs.ProgramRun.{run_from_entry, run}
+use Rattle.shader_runs.specs.ProgramRun.{run_all, run_body, run_if_arguments_fit, run_call}
 use Rattle.shader_runs.specs.Constants.{environment_of, run_module, follow_module}
 use Rattle.shader_runs.specs.Text.{TextModule}
 use Rattle.shader_runs.specs.Correct.{KeepsTypes}
@@ -122,13 +123,13 @@ all_are_written types (f ∷ fs) (es ∷ ess) fit behind all =
 
 -- no statement that is accepted so far makes turns
 module _ (types : List Type_) (es : List ExpressionInfo) (wanted : Option FunctionResult) (c : Call) (j n : ℕ) where
-  steady_line : (s : StatementTree) → statement_fits types es wanted s ≡ true → (kept : Kept) (t : List Event) → run c j (statement_shape s) kept t ≡ run c n (statement_shape s) kept t
+  steady_line : (s : StatementTree) → statement_fits types es wanted s ≡ true → (kept : KeptValues) (t : List Event) → run c j (statement_shape s) kept t ≡ run c n (statement_shape s) kept t
   steady_line (simple (emit first last)) fit kept t = refl
   steady_line (simple (store pointer value)) fit kept t = refl
   steady_line (simple (return value)) fit kept t = refl
   steady_line _ fit kept t = absurd (cc)
 
-  steady_lines : (b : BlockTree) → block_fits types es wanted b ≡ true → (kept : Kept) (t : List Event) → run_all c j (statements_shape b) kept t ≡ run_all c n (statements_shape b) kept t
+  steady_lines : (b : BlockTree) → block_fits types es wanted b ≡ true → (kept : KeptValues) (t : List Event) → run_all c j (statements_shape b) kept t ≡ run_all c n (statements_shape b) kept t
   steady_lines no_statements fit kept t = refl
   steady_lines (statement s b) fit kept t =
       let here = and_left (statement_fits types es wanted s) (block_fits types es wanted b) fit in
@@ -137,22 +138,22 @@ module _ (types : List Type_) (es : List ExpressionInfo) (wanted : Option Functi
 
 -- one call, by what its callees do
 module _ (env : Environment) (w : World) (m : Meaning) (f : shapes.Function) (fs : List shapes.Function) (g : ℕ) (vs : List Value) (t : List Event) where
-  abbrev call_by : (ℕ → List Value → List Event → Reached (Option Value)) → Call
+  abbrev call_by : (ℕ → List Value → List Event → ReachedOrHalted (Option Value)) → Call
   call_by calls = record { function = f; callees = fs; environment = env; world = w; meaning = m; arguments = vs; frame = entries t; calls = calls }
 
-  abbrev own_by : (ℕ → List Value → List Event → Reached (Option Value)) → ℕ → Reached (Option Value)
-  own_by calls n = called (nat_eq (length vs) (argument_count f)) (run_body (call_by calls) n (length fs) vs t) t
+  abbrev own_by : (ℕ → List Value → List Event → ReachedOrHalted (Option Value)) → ℕ → ReachedOrHalted (Option Value)
+  own_by calls n = run_if_arguments_fit (nat_eq (length vs) (argument_count f)) (run_body (call_by calls) n (length fs) vs t) t
 
-  abbrev either_by : (ℕ → List Value → List Event → Reached (Option Value)) → ℕ → Reached (Option Value) → Reached (Option Value)
+  abbrev either_by : (ℕ → List Value → List Event → ReachedOrHalted (Option Value)) → ℕ → ReachedOrHalted (Option Value) → ReachedOrHalted (Option Value)
   either_by calls n other = cond (nat_eq g (length fs)) (own_by calls n) other
 
-  own_steady : (types : List Type_) (es : List ExpressionInfo) (wanted : Option FunctionResult) (b : BlockTree) → block_fits types es wanted b ≡ true → f.body ≡ statements_shape b → (calls : ℕ → List Value → List Event → Reached (Option Value)) (j n : ℕ) → own_by calls j ≡ own_by calls n
+  own_steady : (types : List Type_) (es : List ExpressionInfo) (wanted : Option FunctionResult) (b : BlockTree) → block_fits types es wanted b ≡ true → f.body ≡ statements_shape b → (calls : ℕ → List Value → List Event → ReachedOrHalted (Option Value)) (j n : ℕ) → own_by calls j ≡ own_by calls n
   own_steady types es wanted b fit is calls j n =
       let c = call_by calls in
       let kept = constants_kept f env m in
-      λ i. called (nat_eq (length vs) (argument_count f)) (entered (length fs) vs (first_used_all c kept f.first_values) t (λ t1. answer (lines kept t1 i))) t
+      λ i. run_if_arguments_fit (nat_eq (length vs) (argument_count f)) (run_from_entry (length fs) vs (first_used_all c kept f.first_values) t (λ t1. answer (lines kept t1 i))) t
     where
-      lines : (kept : Kept) (t1 : List Event) → run_all (call_by calls) j f.body kept t1 ≡ run_all (call_by calls) n f.body kept t1
+      lines : (kept : KeptValues) (t1 : List Event) → run_all (call_by calls) j f.body kept t1 ≡ run_all (call_by calls) n f.body kept t1
       lines kept t1 = subst (λ b. run_all (call_by calls) j b kept t1 ≡ run_all (call_by calls) n b kept t1) (sym is) (steady_lines types es wanted (call_by calls) j n b fit kept t1)
 
 steady_calls : (types : List Type_) (env : Environment) (w : World) (m : Meaning) (fs : List shapes.Function) → AllAreWritten types fs → (j n g : ℕ) (vs : List Value) (t : List Event) → run_call env w m j fs g vs t ≡ run_call env w m n fs g vs t

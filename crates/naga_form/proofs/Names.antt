@@ -16,7 +16,7 @@ use Rattle.naga_ir.specs.declared.module.FunctionArgument.{FunctionArgument}
 use Rattle.naga_ir.specs.declared.module.Module.{Module}
 use Rattle.naga_names.specs.Naming.{label_or, name_after}
 use Rattle.naga_keywords.specs.Plain.{is_identifier_char, is_word}
-use Rattle.naga_names.specs.Reset.{Labelled, labelled_items, labels_of, named_items, PutsInto}
+use Rattle.naga_names.specs.Reset.{LabelledItem, labelled_items, labels_of, named_items, PutsInto}
 use Rattle.naga_keywords.specs.declared.keywords.TheConstants.{RESERVED, BUILTIN_IDENTIFIERS}
 use Rattle.naga_names.specs.declared.key.NameKey.TheVariants as key
 use Rattle.naga_keywords.proofs.Plains.{words_are}
@@ -139,30 +139,30 @@ module _ (m : Module) where
   puts = record { finds = λ key. refl }
 
   -- an item's name is that of its label after those before it
-  pub name_there : (item : Labelled) (s : Stands (labelled_items wgsl_names m) item) → module_names m item.0 ≡ Some (name_after wgsl_names (labels_of (take s.place (labelled_items wgsl_names m))) item.1)
+  pub name_there : (item : LabelledItem) (s : Stands (labelled_items wgsl_names m) item) → module_names m item.0 ≡ Some (name_after wgsl_names (labels_of (take s.place (labelled_items wgsl_names m))) item.1)
   name_there item s = put_at wgsl_names (λ _. None) (module_names m) (labelled_items wgsl_names m) puts (items_apart wgsl_names m) s.place item s.there s.outside
 
-  pub name_is : (item : Labelled) (s : Stands (labelled_items wgsl_names m) item) → name_in (module_names m) item.0 ≡ name_after wgsl_names (labels_of (take s.place (labelled_items wgsl_names m))) item.1
+  pub name_is : (item : LabelledItem) (s : Stands (labelled_items wgsl_names m) item) → name_in (module_names m) item.0 ≡ name_after wgsl_names (labels_of (take s.place (labelled_items wgsl_names m))) item.1
   name_is item s = ap (λ o. unwrap_or o []) (name_there item s)
 
-  pub item_is_identifier : (item : Labelled) → Stands (labelled_items wgsl_names m) item → IsIdentifier (name_in (module_names m) item.0)
+  pub item_is_identifier : (item : LabelledItem) → Stands (labelled_items wgsl_names m) item → IsIdentifier (name_in (module_names m) item.0)
   item_is_identifier item s = subst IsIdentifier (sym (name_is item s)) (is_identifier (labels_of (take s.place (labelled_items wgsl_names m))) item.1)
 
-  pub item_not_numbered : (item : Labelled) (h : ℕ) → Stands (labelled_items wgsl_names m) item → name_in (module_names m) item.0 ≢ numbered_name h
+  pub item_not_numbered : (item : LabelledItem) (h : ℕ) → Stands (labelled_items wgsl_names m) item → name_in (module_names m) item.0 ≢ numbered_name h
   item_not_numbered item h s e =
       let earlier = labels_of (take s.place (labelled_items wgsl_names m)) in
       unnumbered (name_after wgsl_names earlier item.1) h (name_after_is_word wgsl_names earlier item.1) (name_after_not_numbered wgsl_names earlier item.1 h) (sym (name_is item s) ∙ e)
 
-  pub items_tell : NamesAreCounted m → (a b : Labelled) → Stands (labelled_items wgsl_names m) a → Stands (labelled_items wgsl_names m) b → name_in (module_names m) a.0 ≡ name_in (module_names m) b.0 → a ≡ b
+  pub items_tell : NamesAreCounted m → (a b : LabelledItem) → Stands (labelled_items wgsl_names m) a → Stands (labelled_items wgsl_names m) b → name_in (module_names m) a.0 ≡ name_in (module_names m) b.0 → a ≡ b
   items_tell few a b s t e =
       let place = item_names_tell wgsl_names (labelled_items wgsl_names m) few s.place t.place a b s.there t.there s.outside t.outside (sym (name_is a s) ∙ e ∙ name_is b t) in
       ap (λ o. unwrap_or o a) (sym s.there ∙ ap (slice_get (labelled_items wgsl_names m)) place ∙ t.there)
 
   -- the items of functions and arguments
-  abbrev pub function_item : ℕ → ir_function.Function → Labelled
+  abbrev pub function_item : ℕ → ir_function.Function → LabelledItem
   function_item g f = (key.Function g, label_or f.name (codes "function"))
 
-  abbrev pub argument_item : ℕ → ℕ → FunctionArgument → Labelled
+  abbrev pub argument_item : ℕ → ℕ → FunctionArgument → LabelledItem
   argument_item g n a = (key.FunctionArgument g n, label_or a.name (codes "param"))
 
   pub function_there : (g : ℕ) (f : ir_function.Function) → slice_get m.functions g ≡ Some f → Stands (labelled_items wgsl_names m) (function_item g f)

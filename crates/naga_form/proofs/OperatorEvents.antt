@@ -19,7 +19,8 @@ use Rattle.module_meaning.specs.OperatorTable.{Operator, UnarySign, Sample, Gath
 use Rattle.module_meaning.specs.OperatorTable.{OnlyTexel, Automatic, Zero, CooperativeLoad}
 use Rattle.module_meaning.specs.OperatorTable.{CooperativeStore, Construct, Convert, Reinterpret}
 use Rattle.module_meaning.specs.OperatorTable.{with_type, operator_word, own_word, run_word}
-use Rattle.module_meaning.specs.OperatorTable.{one_word, asks, is_untyped, TypeIsSound}
+use Rattle.module_meaning.specs.OperatorTable.{one_word, asks, is_untyped, SpellsAType}
+use Rattle.module_meaning.specs.OperatorTable.{TypeIsSound, WithoutForm, ValueOf}
 use Rattle.naga_form.proofs.TypedWords.{head_of, head_is, no_type_begins}
 
 keeps_text : (o : Operator) → operator_word (one_word o) ≡ operator_word o
@@ -47,6 +48,8 @@ keeps_asking (UnarySign unary.Negate) = refl
 keeps_asking (UnarySign _) = refl
 keeps_asking (Texel arrayed OnlyTexel) = refl
 keeps_asking (Texel arrayed _) = refl
+keeps_asking (WithoutForm (ValueOf numbers components)) = refl
+keeps_asking (WithoutForm _) = refl
 keeps_asking _ = refl
 
 abbrev same : Bool → Bool → Bool
@@ -134,29 +137,33 @@ type_asks_nothing : (t : TypeSpecifier) → IsType t → is_request (type_layout
 unfolding is_request
 type_asks_nothing t is = ap (stands_in request_words) (head_is t is.part) ∙ no_request t is
 
-reinterpret_asks : (t : TypeSpecifier) → is_request (with_type (codes "bitcast") t) ≡ false
-unfolding is_request
-reinterpret_asks t = refl
+spelling_asks_nothing : (w : List ℕ) → SpellsAType w → is_request w ≡ false
+spelling_asks_nothing w is = ap is_request (sym is.1.1) ∙ type_asks_nothing is.0 is.1.0
 
-load_asks : (t : TypeSpecifier) → is_request (with_type (codes "coopLoad") t) ≡ true
+reinterpret_asks : (w : List ℕ) → is_request (with_type (codes "bitcast") w) ≡ false
 unfolding is_request
-load_asks t = refl
+reinterpret_asks w = refl
 
-transposed_asks : (t : TypeSpecifier) → is_request (with_type (codes "coopLoadT") t) ≡ true
+load_asks : (w : List ℕ) → is_request (with_type (codes "coopLoad") w) ≡ true
 unfolding is_request
-transposed_asks t = refl
+load_asks w = refl
 
-typed_asks : (o : Operator) → is_untyped o ≡ false → TypeIsSound o → is_request (run_word o) ≡ asks o
-typed_asks (CooperativeLoad false t) u is = load_asks t
-typed_asks (CooperativeLoad true t) u is = transposed_asks t
-typed_asks (Construct t n) u is = type_asks_nothing t is
-typed_asks (Convert t) u is = type_asks_nothing t is
-typed_asks (Reinterpret t) u is = reinterpret_asks t
-typed_asks _ u is = absurd (true≢false u)
+transposed_asks : (w : List ℕ) → is_request (with_type (codes "coopLoadT") w) ≡ true
+unfolding is_request
+transposed_asks w = refl
+
+typed_asks : (o : Operator) (w : List ℕ) → is_untyped o ≡ false → TypeIsSound o → operator_word o ≡ Some w → is_request (run_word o) ≡ asks o
+typed_asks (CooperativeLoad false x) w u is e = load_asks x
+typed_asks (CooperativeLoad true x) w u is e = transposed_asks x
+typed_asks (Construct x n) w u is e = spelling_asks_nothing x is
+typed_asks (Convert x) w u is e = spelling_asks_nothing x is
+typed_asks (Reinterpret x) w u is e = reinterpret_asks x
+typed_asks (WithoutForm x) w u is e = absurd (cc)
+typed_asks _ w u is e = absurd (true≢false u)
 
 pub asks_as_told : (o : Operator) (w : List ℕ) → TypeIsSound o → operator_word o ≡ Some w → is_request w ≡ asks o
 asks_as_told o w is e = by (is_untyped o) refl
   where
     by : (b : Bool) → is_untyped o ≡ b → is_request w ≡ asks o
     by true u = untyped_asks o w u e
-    by false u = ap (λ x. is_request (unwrap_or x (own_word o))) (sym e) ∙ typed_asks o u is
+    by false u = ap (λ x. is_request (unwrap_or x (own_word o))) (sym e) ∙ typed_asks o w u is e

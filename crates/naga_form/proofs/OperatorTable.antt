@@ -41,10 +41,10 @@ use Rattle.module_meaning.specs.OperatorTable.{ImageCount, Levels, Layers, Sampl
 use Rattle.module_meaning.specs.OperatorTable.{SubtractFrom, AndWith, OrWith, XorWith, MinimumOf}
 use Rattle.module_meaning.specs.OperatorTable.{MaximumOf, Exchange, CompareExchange, Source, First}
 use Rattle.module_meaning.specs.OperatorTable.{Indexed, Shuffled, ShuffledDown, ShuffledUp}
-use Rattle.module_meaning.specs.OperatorTable.{ShuffledXor, QuadIndexed, QuadSwapped, Kept}
+use Rattle.module_meaning.specs.OperatorTable.{ShuffledXor, QuadIndexed, QuadSwapped, BarrierMemory}
 use Rattle.module_meaning.specs.OperatorTable.{StorageKept, WorkgroupKept, SubgroupKept}
 use Rattle.module_meaning.specs.OperatorTable.{TextureKept, run_word, operand_count, one_word}
-use Rattle.module_meaning.specs.OperatorTable.{is_told, is_untyped}
+use Rattle.module_meaning.specs.OperatorTable.{is_told, is_untyped, WithoutForm, ValueOf}
 
 -- the operators of different words that take no type
 abbrev pub mathematical : List Operator
@@ -356,7 +356,7 @@ source_told (QuadSwapped direction.X) = refl
 source_told (QuadSwapped _) = refl
 source_told _ = refl
 
-barrier_told : (control : Bool) (k : Kept) → IsToldBy (Barrier control k)
+barrier_told : (control : Bool) (k : BarrierMemory) → IsToldBy (Barrier control k)
 barrier_told control StorageKept = refl
 barrier_told control _ = refl
 
@@ -402,6 +402,7 @@ told (Construct t n) u = absurd (false≢true u)
 told (Splat n) u = splat_told n
 told (Convert t) u = absurd (false≢true u)
 told (Reinterpret t) u = absurd (false≢true u)
+told (WithoutForm x) u = absurd (false≢true u)
 
 -- two that take no type, and have one word, have one operator that stands for them
 pub untyped_share : (a b : Operator) → is_untyped a ≡ true → is_untyped b ≡ true → run_word a ≡ run_word b → one_word a ≡ one_word b
@@ -416,6 +417,7 @@ by_count (TexelChange c arrayed) n = TexelChange c (n == 4)
 by_count (ImageSize of_level) n = ImageSize (n == 2)
 by_count (Ballot predicate) n = Ballot (n == 1)
 by_count (Construct t components) n = Construct t n
+by_count (WithoutForm (ValueOf numbers components)) n = WithoutForm (ValueOf numbers n)
 by_count o n = o
 
 told_by_count : (o : Operator) → is_told o ≡ true → by_count (one_word o) (operand_count o) ≡ o
@@ -434,6 +436,8 @@ told_by_count (ImageSize true) t = refl
 told_by_count (ImageSize false) t = refl
 told_by_count (Ballot true) t = refl
 told_by_count (Ballot false) t = refl
+told_by_count (WithoutForm (ValueOf numbers components)) t = refl
+told_by_count (WithoutForm _) t = refl
 told_by_count _ t = refl
 
 pub counted_apart : (a b : Operator) → is_told a ≡ true → is_told b ≡ true → one_word a ≡ one_word b → operand_count a ≡ operand_count b → a ≡ b
@@ -459,4 +463,6 @@ keeps_word (CooperativeLoad true t) = refl
 keeps_word (CooperativeLoad false t) = refl
 keeps_word (CooperativeStore true) = refl
 keeps_word (CooperativeStore false) = refl
+keeps_word (WithoutForm (ValueOf numbers components)) = refl
+keeps_word (WithoutForm _) = refl
 keeps_word _ = refl

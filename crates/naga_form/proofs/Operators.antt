@@ -1,7 +1,7 @@
 -- The tree of an operator over operands: it is called by the operator's word, and is of the
 -- grammar.
-use Rattle.std.proofs.Common.{◌≡◌, ℕ, Bool, true, false, List, [], ◌∷◌, ◌++◌, Option, Some, None}
-use Rattle.std.proofs.Common.{map, codes, refl, sym, ap, ◌∙◌}
+use Rattle.std.proofs.Common.{◌≡◌, ℕ, Bool, true, false, List, [], ◌∷◌, Option, Some, None}
+use Rattle.std.proofs.Common.{refl, sym, ap, ◌∙◌}
 use Rattle.naga_ir.specs.declared.expression.Expression as ir
 use Rattle.naga_ir.specs.declared.expression.Expression.TheVariants as expression
 use Rattle.naga_ir.specs.declared.operators.BinaryOperator.{BinaryOperator}
@@ -9,24 +9,21 @@ use Rattle.naga_ir.specs.declared.operators.BinaryOperator.TheVariants as operat
 use Rattle.naga_ir.specs.declared.operators.UnaryOperator.{UnaryOperator}
 use Rattle.naga_ir.specs.declared.operators.UnaryOperator.TheVariants as unary
 use Rattle.module_meaning.specs.Applications.{Application, application_of}
-use Rattle.module_meaning.specs.OperatorTable.{Operator, BinarySign, UnarySign, Construct, Convert}
-use Rattle.module_meaning.specs.OperatorTable.{Reinterpret, run_word}
-use Rattle.module_meaning.specs.Shapes.{operator_shape, application_shape}
+use Rattle.module_meaning.specs.OperatorTable.{Operator, BinarySign, UnarySign, run_word}
+use Rattle.module_meaning.specs.Shapes.{operator_shape}
 use Rattle.wgsl_text.specs.Types.{TypeSpecifier, Named}
 use Rattle.wgsl_text.specs.Expressions.{Call, operands, binary_pieces, unary_mark, IsExpression}
-use Rattle.naga_form.specs.Expressions.{PlainForm, ValueForm, as_value, value_forms}
-use Rattle.naga_form.specs.Expressions.{application_plain}
+use Rattle.naga_form.specs.Expressions.{PlainForm, as_value, value_forms}
 use Rattle.wgsl_text.specs.Functions.{Each}
 use Rattle.wgsl_text.proofs.Building.{called_words}
-use Rattle.wgsl_text.proofs.Types.{named_text, template_text, type_part_text}
-use Rattle.wgsl_text.specs.Types as tree
+use Rattle.wgsl_text.proofs.Types.{named_text}
 use Rattle.naga_form.specs.Operators.{operator_form, unary_form, Notation, Infix, Prefix, Called}
 use Rattle.naga_form.specs.Operators.{notation, callee, applied_form}
 use Rattle.shader_runs.specs.Form as runs
-use Rattle.shader_runs.specs.Text.{Tree, Trees, more, no_more, Apply, LogicalOf}
+use Rattle.shader_runs.specs.Text.{more, no_more, Apply, LogicalOf}
 use Rattle.shader_runs.specs.Scope.{Naming}
 use Rattle.shader_runs.specs.Value.{ValueType, ShortCircuitAnd, ShortCircuitOr}
-use Rattle.text_meaning.specs.Abstraction.{expression_read, arguments_read, called_word}
+use Rattle.text_meaning.specs.Abstraction.{expression_read, arguments_read}
 use Rattle.wgsl_text.specs.Reading.{type_layout}
 use Rattle.wgsl_text.specs.Text.{text, mark_text}
 use Rattle.wgsl_text.specs.Keywords.{builtin_words}
@@ -68,11 +65,6 @@ callee_word (BinarySign op) =
     named_text (text (binary_pieces (operator_form op))) ∙ sym (operator_row op)
 callee_word (UnarySign op) =
     named_text (mark_text (unary_mark (unary_form op))) ∙ sym (unary_row op)
-callee_word (Construct t components) = refl
-callee_word (Convert t) = refl
-callee_word (Reinterpret t) =
-    template_text (codes "bitcast") (tree.TypePart t tree.NoParts)
-    ∙ ap (λ w. codes "bitcast<" ++ w) (type_part_text t tree.NoParts false)
 callee_word op = named_text (run_word op)
 
 -- ---- what is read

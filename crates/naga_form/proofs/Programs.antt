@@ -79,7 +79,8 @@ use Rattle.shader_runs.specs.Program.{holds_continue}
 use Rattle.shader_runs.specs.Scope.{Standing, Named, Handles, Naming, bound_name, at_start}
 use Rattle.shader_runs.specs.Scope.{given_after, given_by, given_by_all, after_one, after}
 use Rattle.shader_runs.specs.Scope.{after_all, Absent, Barred, Everywhere, Inline, usable_all}
-use Rattle.shader_runs.specs.Scope.{is_pure, is_constant_below, start_standing, unbound, emitted}
+use Rattle.shader_runs.specs.Scope.{is_pure, is_constant_below, start_standing}
+use Rattle.shader_runs.specs.Scope.{standing_without_name, with_emitted_handle}
 use Rattle.shader_runs.specs.Scope.{after_emit, forgotten_if}
 use Rattle.module_meaning.specs.Shapes.{statement_shape, statements_shape, function_naming}
 use Rattle.module_meaning.specs.Shapes.{expression_shape}
@@ -263,7 +264,7 @@ module _ (m : Module) (g : ℕ) (f : ir_function.Function) (found : slice_get m.
           by true e = here x e
           by false e = well j x e
 
-      unbound_is : (u : Bool) (a : Standing) → ((x : List ℕ) → a ≡ Named x → IsIdentifier x) → (x : List ℕ) → unbound u a ≡ Named x → IsIdentifier x
+      unbound_is : (u : Bool) (a : Standing) → ((x : List ℕ) → a ≡ Named x → IsIdentifier x) → (x : List ℕ) → standing_without_name u a ≡ Named x → IsIdentifier x
       unbound_is true a here x e = absurd (cc)
       unbound_is false Absent here x e = absurd (cc)
       unbound_is false Barred here x e = here x e
@@ -274,9 +275,9 @@ module _ (m : Module) (g : ℕ) (f : ir_function.Function) (found : slice_get m.
       the_name : (y x : List ℕ) → IsIdentifier y → Named y ≡ Named x → IsIdentifier x
       the_name y x is e = subst IsIdentifier (ap (λ a. name_in_scope y a) e) is
 
-      emitted_is : (b : Bool) → binds own.function h ≡ b → (o u : Bool) → NamesAre (emitted b o u (bound_name own k h) s h)
+      emitted_is : (b : Bool) → binds own.function h ≡ b → (o u : Bool) → NamesAre (with_emitted_handle b o u (bound_name own k h) s h)
       emitted_is true bound o u = updated (Named (bound_name own k h)) (λ x e. the_name (bound_name own k h) x (bound_is k h bound) e)
-      emitted_is false bound true u = updated (unbound u (s h)) (unbound_is u (s h) (well h))
+      emitted_is false bound true u = updated (standing_without_name u (s h)) (unbound_is u (s h) (well h))
       emitted_is false bound false u = well
 
   after_emit_is : (k : ℕ) (hs : List ℕ) (s : Handles) → NamesAre s → NamesAre (after_emit own k hs s)

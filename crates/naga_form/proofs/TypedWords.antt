@@ -1,7 +1,7 @@
 -- The words of operators that take a type are told from all others, and tell the type.
 use Rattle.std.proofs.Common.{[], ◌≡◌, ℕ, Bool, true, false, not, ◌&&◌, ◌||◌, List, ◌∷◌, ◌++◌}
-use Rattle.std.proofs.Common.{codes, drop, Some, None, refl, sym, ap, subst, ◌∙◌}
-use Rattle.std.specs.Prelude.{if◌then◌else◌}
+use Rattle.std.proofs.Common.{codes, drop, Some, None, refl, sym, ap, ◌∙◌}
+use Rattle.std.specs.Prelude.{if◌then◌else◌, get_or, slice_get, nat_lt}
 use Rattle.std.specs.Str.{bytes_eq}
 use Rattle.std.specs.Bool.{nat_eq}
 use Rattle.std.specs.Char.{is_ascii_digit}
@@ -18,13 +18,16 @@ use Rattle.wgsl_text.specs.Types.{fits, IsPart, IsType}
 use Rattle.naga_form.proofs.OperatorTable.{mathematical, others, first_with, operator_of, told}
 use Rattle.naga_form.proofs.OperatorTable.{untyped_share}
 use Rattle.wgsl_text.proofs.Types.{fits_none, type_template, named_text}
-use Rattle.wgsl_text.specs.Reading.{ReadsType, type_layout}
-use Rattle.wgsl_text.specs.Text.{text, tokens}
-use Rattle.wgsl_text.proofs.Reading.{type_has_one_reading}
+use Rattle.wgsl_text.specs.Reading.{type_layout}
+use Rattle.wgsl_text.specs.Text.{text}
 use Rattle.wgsl_text.specs.Requests.{head_word}
 use Rattle.module_meaning.specs.OperatorTable.{Operator, CooperativeLoad, Construct, Convert}
 use Rattle.module_meaning.specs.OperatorTable.{Reinterpret, with_type, run_word, one_word}
-use Rattle.module_meaning.specs.OperatorTable.{is_untyped, TypeIsSound}
+use Rattle.module_meaning.specs.OperatorTable.{is_untyped, SpellsAType, TypeIsSound}
+use Rattle.module_meaning.specs.OperatorTable.{Formless, Cast, PartAt, ValueOf, MatrixLoad}
+use Rattle.module_meaning.specs.OperatorTable.{WithoutForm, formless_code, one_formless}
+use Rattle.module_meaning.proofs.TypeIdentity.{kind_of, kind_told, cooperative_of, cooperative_told}
+use Rattle.module_meaning.proofs.TypeIdentity.{role_of, role_told, truth_of, truth_told}
 
 -- ---- the head of a word
 word_byte_goes_on : (b : ℕ) → is_word_byte b ≡ true → (nat_eq b 60 || nat_eq b 32) ≡ false
@@ -114,9 +117,6 @@ pub head_is : (t : TypeSpecifier) → IsPart t → head_word (type_layout t) ≡
 head_is (Named w) is = ap head_word (named_text w) ∙ head_alone w (word_bytes w is.text)
 head_is (Template w parts) is = head_before w (text (parts_pieces parts (has_gaps w))) (word_bytes w (head_text (Template w parts) is))
 
-same_type : (t u : TypeSpecifier) → IsType t → IsType u → type_layout t ≡ type_layout u → t ≡ u
-same_type t u it iu e = sym ((type_has_one_reading t it).only u (subst (λ w. ReadsType (tokens w) u) (sym e) (type_has_one_reading u iu).read))
-
 -- ---- which words these are
 any_behind : (w rest : List ℕ) → list_any (nat_eq 60) (w ++ (60 ∷ rest)) ≡ true
 any_behind [] rest = refl
@@ -150,24 +150,53 @@ type_is_none (Template w parts) is = no_operator not_open (type_layout (Template
 open_is_none : (w : List ℕ) → not_open w ≡ false → operator_of w ≡ None
 open_is_none w e = no_operator not_open w e none_open_others none_open_mathematical
 
-reinterpret_opens : (t : TypeSpecifier) → not_open (with_type (codes "bitcast") t) ≡ false
+reinterpret_opens : (w : List ℕ) → not_open (with_type (codes "bitcast") w) ≡ false
 unfolding not_open
-reinterpret_opens t = refl
+reinterpret_opens w = refl
 
-load_opens : (t : TypeSpecifier) → not_open (with_type (codes "coopLoad") t) ≡ false
+load_opens : (w : List ℕ) → not_open (with_type (codes "coopLoad") w) ≡ false
 unfolding not_open
-load_opens t = refl
+load_opens w = refl
 
-transposed_opens : (t : TypeSpecifier) → not_open (with_type (codes "coopLoadT") t) ≡ false
+transposed_opens : (w : List ℕ) → not_open (with_type (codes "coopLoadT") w) ≡ false
 unfolding not_open
-transposed_opens t = refl
+transposed_opens w = refl
+
+spelling_is_none : (w : List ℕ) → SpellsAType w → operator_of w ≡ None
+spelling_is_none w is = ap operator_of (sym is.1.1) ∙ type_is_none is.0 is.1.0
+
+-- what no text has begins with a blank and a number that is no letter's
+abbrev is_formless : List ℕ → Bool
+is_formless (b ∷ tag ∷ w) = nat_eq b 32 && nat_lt tag 4
+is_formless _ = false
+
+not_formless : List ℕ → Bool
+not_formless w = not (is_formless w)
+
+none_formless_others : all_words not_formless others ≡ true
+unfolding not_formless
+none_formless_others = refl
+
+none_formless_mathematical : all_words not_formless mathematical ≡ true
+unfolding not_formless
+none_formless_mathematical = refl
+
+formless_begins : (x : Formless) → not_formless (32 ∷ formless_code x) ≡ false
+unfolding not_formless
+formless_begins (Cast kind width) = refl
+formless_begins _ = refl
+
+formless_is_none : (x : Formless) → operator_of (32 ∷ formless_code x) ≡ None
+formless_is_none x =
+    no_operator not_formless (32 ∷ formless_code x) (formless_begins x) none_formless_others none_formless_mathematical
 
 typed_is_none : (o : Operator) → is_untyped o ≡ false → TypeIsSound o → operator_of (run_word o) ≡ None
-typed_is_none (CooperativeLoad false t) u is = open_is_none (with_type (codes "coopLoad") t) (load_opens t)
-typed_is_none (CooperativeLoad true t) u is = open_is_none (with_type (codes "coopLoadT") t) (transposed_opens t)
-typed_is_none (Construct t n) u is = type_is_none t is
-typed_is_none (Convert t) u is = type_is_none t is
-typed_is_none (Reinterpret t) u is = open_is_none (with_type (codes "bitcast") t) (reinterpret_opens t)
+typed_is_none (CooperativeLoad false w) u is = open_is_none (with_type (codes "coopLoad") w) (load_opens w)
+typed_is_none (CooperativeLoad true w) u is = open_is_none (with_type (codes "coopLoadT") w) (transposed_opens w)
+typed_is_none (Construct w n) u is = spelling_is_none w is
+typed_is_none (Convert w) u is = spelling_is_none w is
+typed_is_none (Reinterpret w) u is = open_is_none (with_type (codes "bitcast") w) (reinterpret_opens w)
+typed_is_none (WithoutForm x) u is = formless_is_none x
 typed_is_none _ u is = absurd (true≢false u)
 
 -- ---- two words with types
@@ -181,67 +210,119 @@ no_type_begins v named rule (Template w parts) is e =
 record TakesType (v : List ℕ) : Type 0 where
   pub named : is_type (Named v) ≡ false
   pub rule : rule_among type_templates v ≡ TakesNone
-  pub head : (t : TypeSpecifier) → head_word (with_type v t) ≡ v
+  pub head : (w : List ℕ) → head_word (with_type v w) ≡ v
 
 reinterpret_takes : TakesType (codes "bitcast")
 unfolding is_builtin
-reinterpret_takes = record { named = refl; rule = refl; head = λ t. refl }
+reinterpret_takes = record { named = refl; rule = refl; head = λ w. refl }
 
 load_takes : TakesType (codes "coopLoad")
 unfolding is_builtin
-load_takes = record { named = refl; rule = refl; head = λ t. refl }
+load_takes = record { named = refl; rule = refl; head = λ w. refl }
 
 transposed_takes : TakesType (codes "coopLoadT")
 unfolding is_builtin
-transposed_takes = record { named = refl; rule = refl; head = λ t. refl }
+transposed_takes = record { named = refl; rule = refl; head = λ w. refl }
 
-type_is_no_call : (v : List ℕ) → TakesType v → (t u : TypeSpecifier) → IsType t → type_layout t ≡ with_type v u → ⊥
-type_is_no_call v takes t u is e =
-    no_type_begins v takes.named takes.rule t is (sym (head_is t is.part) ∙ (ap head_word e ∙ takes.head u))
+type_is_no_call : (v : List ℕ) → TakesType v → (w x : List ℕ) → SpellsAType w → w ≡ with_type v x → ⊥
+type_is_no_call v takes w x is e =
+    no_type_begins v takes.named takes.rule is.0 is.1.0
+    (sym (head_is is.0 is.1.0.part) ∙ (ap head_word (is.1.1 ∙ e) ∙ takes.head x))
 
-same_call : (v : List ℕ) (t u : TypeSpecifier) → IsType t → IsType u → with_type v t ≡ with_type v u → t ≡ u
-same_call v t u it iu e =
-    same_type t u it iu (append_cancel_right (type_layout t) (type_layout u) (codes ">") (ap (drop 1) (append_cancel_left v (codes "<" ++ (type_layout t ++ codes ">")) (codes "<" ++ (type_layout u ++ codes ">")) e)))
+same_call : (v w x : List ℕ) → with_type v w ≡ with_type v x → w ≡ x
+same_call v w x e =
+    append_cancel_right w x (codes ">") (ap (drop 1) (append_cancel_left v (codes "<" ++ (w ++ codes ">")) (codes "<" ++ (x ++ codes ">")) e))
 
-other_call : (v x : List ℕ) → TakesType v → TakesType x → bytes_eq v x ≡ false → (t u : TypeSpecifier) → with_type v t ≡ with_type x u → ⊥
-other_call v x a b apart t u e =
-    false≢true (sym apart ∙ (bytes_eq-Decides v x).1 (sym (a.head t) ∙ (ap head_word e ∙ b.head u)))
+other_call : (v u : List ℕ) → TakesType v → TakesType u → bytes_eq v u ≡ false → (w x : List ℕ) → with_type v w ≡ with_type u x → ⊥
+other_call v u a b apart w x e =
+    false≢true (sym apart ∙ (bytes_eq-Decides v u).1 (sym (a.head w) ∙ (ap head_word e ∙ b.head x)))
+
+-- ---- what no text has
+-- its word tells it
+abbrev formless_of : List ℕ → Formless
+formless_of code =
+    get_or (
+    Cast (kind_of (get_or code 2 0)) (slice_get code 3) ∷ PartAt (get_or code 2 0) ∷ ValueOf (drop 2 code) 1 ∷
+    MatrixLoad (cooperative_of (get_or code 2 0)) (cooperative_of (get_or code 3 0)) (role_of (get_or code 4 0)) (truth_of (get_or code 5 0)) ∷
+    []) (get_or code 1 0) (PartAt 0)
+
+formless_told : (x : Formless) → formless_of (32 ∷ formless_code x) ≡ one_formless x
+formless_told (Cast kind None) = λ i. Cast (kind_told kind i) None
+formless_told (Cast kind (Some width)) = λ i. Cast (kind_told kind i) (Some width)
+formless_told (PartAt index) = refl
+formless_told (ValueOf numbers components) = refl
+formless_told (MatrixLoad columns rows role row_major) =
+    λ i. MatrixLoad (cooperative_told columns i) (cooperative_told rows i) (role_told role i) (truth_told row_major i)
+
+formless_share : (x y : Formless) → 32 ∷ formless_code x ≡ 32 ∷ formless_code y → one_formless x ≡ one_formless y
+formless_share x y e = sym (formless_told x) ∙ (ap formless_of e ∙ formless_told y)
+
+-- no type is spelled so
+no_blank : (w code : List ℕ) → SpellsAType w → w ≡ 32 ∷ code → ⊥
+no_blank w code is e =
+    false≢true (ap is_word_text (sym (ap head_word (is.1.1 ∙ e)) ∙ head_is is.0 is.1.0.part) ∙ head_text is.0 is.1.0.part)
+
+-- nor a function that takes a type
+abbrev begins_blank : List ℕ → Bool
+begins_blank [] = false
+begins_blank (b ∷ bytes) = nat_eq b 32
+
+no_blank_reinterpret : (w code : List ℕ) → with_type (codes "bitcast") w ≡ 32 ∷ code → ⊥
+no_blank_reinterpret w code e = false≢true (ap begins_blank e)
+
+no_blank_load : (w code : List ℕ) → with_type (codes "coopLoad") w ≡ 32 ∷ code → ⊥
+no_blank_load w code e = false≢true (ap begins_blank e)
+
+no_blank_transposed : (w code : List ℕ) → with_type (codes "coopLoadT") w ≡ 32 ∷ code → ⊥
+no_blank_transposed w code e = false≢true (ap begins_blank e)
 
 -- ---- the law
 some_none : (o : Operator) → Some o ≡ None → ⊥
 some_none o e = cc
 
 typed_share : (a b : Operator) → is_untyped a ≡ false → is_untyped b ≡ false → TypeIsSound a → TypeIsSound b → run_word a ≡ run_word b → one_word a ≡ one_word b
-typed_share (Construct t n) (Construct u m) ua ub sa sb e = ap (λ x. Construct x 1) (same_type t u sa sb e)
-typed_share (Construct t n) (Convert u) ua ub sa sb e = ap (λ x. Construct x 1) (same_type t u sa sb e)
-typed_share (Construct t n) (Reinterpret u) ua ub sa sb e = absurd (type_is_no_call (codes "bitcast") reinterpret_takes t u sa e)
-typed_share (Construct t n) (CooperativeLoad false u) ua ub sa sb e = absurd (type_is_no_call (codes "coopLoad") load_takes t u sa e)
-typed_share (Construct t n) (CooperativeLoad true u) ua ub sa sb e = absurd (type_is_no_call (codes "coopLoadT") transposed_takes t u sa e)
-typed_share (Convert t) (Construct u m) ua ub sa sb e = ap (λ x. Construct x 1) (same_type t u sa sb e)
-typed_share (Convert t) (Convert u) ua ub sa sb e = ap (λ x. Construct x 1) (same_type t u sa sb e)
-typed_share (Convert t) (Reinterpret u) ua ub sa sb e = absurd (type_is_no_call (codes "bitcast") reinterpret_takes t u sa e)
-typed_share (Convert t) (CooperativeLoad false u) ua ub sa sb e = absurd (type_is_no_call (codes "coopLoad") load_takes t u sa e)
-typed_share (Convert t) (CooperativeLoad true u) ua ub sa sb e = absurd (type_is_no_call (codes "coopLoadT") transposed_takes t u sa e)
-typed_share (Reinterpret t) (Construct u m) ua ub sa sb e = absurd (type_is_no_call (codes "bitcast") reinterpret_takes u t sb (sym e))
-typed_share (Reinterpret t) (Convert u) ua ub sa sb e = absurd (type_is_no_call (codes "bitcast") reinterpret_takes u t sb (sym e))
-typed_share (Reinterpret t) (Reinterpret u) ua ub sa sb e = ap Reinterpret (same_call (codes "bitcast") t u sa sb e)
-typed_share (Reinterpret t) (CooperativeLoad false u) ua ub sa sb e = absurd (other_call (codes "bitcast") (codes "coopLoad") reinterpret_takes load_takes refl t u e)
-typed_share (Reinterpret t) (CooperativeLoad true u) ua ub sa sb e = absurd (other_call (codes "bitcast") (codes "coopLoadT") reinterpret_takes transposed_takes refl t u e)
-typed_share (CooperativeLoad false t) (Construct u m) ua ub sa sb e = absurd (type_is_no_call (codes "coopLoad") load_takes u t sb (sym e))
-typed_share (CooperativeLoad false t) (Convert u) ua ub sa sb e = absurd (type_is_no_call (codes "coopLoad") load_takes u t sb (sym e))
-typed_share (CooperativeLoad false t) (Reinterpret u) ua ub sa sb e = absurd (other_call (codes "coopLoad") (codes "bitcast") load_takes reinterpret_takes refl t u e)
-typed_share (CooperativeLoad false t) (CooperativeLoad false u) ua ub sa sb e = ap (CooperativeLoad false) (same_call (codes "coopLoad") t u sa sb e)
-typed_share (CooperativeLoad false t) (CooperativeLoad true u) ua ub sa sb e = absurd (other_call (codes "coopLoad") (codes "coopLoadT") load_takes transposed_takes refl t u e)
-typed_share (CooperativeLoad true t) (Construct u m) ua ub sa sb e = absurd (type_is_no_call (codes "coopLoadT") transposed_takes u t sb (sym e))
-typed_share (CooperativeLoad true t) (Convert u) ua ub sa sb e = absurd (type_is_no_call (codes "coopLoadT") transposed_takes u t sb (sym e))
-typed_share (CooperativeLoad true t) (Reinterpret u) ua ub sa sb e = absurd (other_call (codes "coopLoadT") (codes "bitcast") transposed_takes reinterpret_takes refl t u e)
-typed_share (CooperativeLoad true t) (CooperativeLoad false u) ua ub sa sb e = absurd (other_call (codes "coopLoadT") (codes "coopLoad") transposed_takes load_takes refl t u e)
-typed_share (CooperativeLoad true t) (CooperativeLoad true u) ua ub sa sb e = ap (CooperativeLoad true) (same_call (codes "coopLoadT") t u sa sb e)
-typed_share (Construct t n) _ ua ub sa sb e = absurd (true≢false ub)
-typed_share (Convert t) _ ua ub sa sb e = absurd (true≢false ub)
-typed_share (Reinterpret t) _ ua ub sa sb e = absurd (true≢false ub)
-typed_share (CooperativeLoad false t) _ ua ub sa sb e = absurd (true≢false ub)
-typed_share (CooperativeLoad true t) _ ua ub sa sb e = absurd (true≢false ub)
+typed_share (Construct w n) (Construct x m) ua ub sa sb e = ap (λ y. Construct y 1) e
+typed_share (Construct w n) (Convert x) ua ub sa sb e = ap (λ y. Construct y 1) e
+typed_share (Construct w n) (Reinterpret x) ua ub sa sb e = absurd (type_is_no_call (codes "bitcast") reinterpret_takes w x sa e)
+typed_share (Construct w n) (CooperativeLoad false x) ua ub sa sb e = absurd (type_is_no_call (codes "coopLoad") load_takes w x sa e)
+typed_share (Construct w n) (CooperativeLoad true x) ua ub sa sb e = absurd (type_is_no_call (codes "coopLoadT") transposed_takes w x sa e)
+typed_share (Convert w) (Construct x m) ua ub sa sb e = ap (λ y. Construct y 1) e
+typed_share (Convert w) (Convert x) ua ub sa sb e = ap (λ y. Construct y 1) e
+typed_share (Convert w) (Reinterpret x) ua ub sa sb e = absurd (type_is_no_call (codes "bitcast") reinterpret_takes w x sa e)
+typed_share (Convert w) (CooperativeLoad false x) ua ub sa sb e = absurd (type_is_no_call (codes "coopLoad") load_takes w x sa e)
+typed_share (Convert w) (CooperativeLoad true x) ua ub sa sb e = absurd (type_is_no_call (codes "coopLoadT") transposed_takes w x sa e)
+typed_share (Reinterpret w) (Construct x m) ua ub sa sb e = absurd (type_is_no_call (codes "bitcast") reinterpret_takes x w sb (sym e))
+typed_share (Reinterpret w) (Convert x) ua ub sa sb e = absurd (type_is_no_call (codes "bitcast") reinterpret_takes x w sb (sym e))
+typed_share (Reinterpret w) (Reinterpret x) ua ub sa sb e = ap Reinterpret (same_call (codes "bitcast") w x e)
+typed_share (Reinterpret w) (CooperativeLoad false x) ua ub sa sb e = absurd (other_call (codes "bitcast") (codes "coopLoad") reinterpret_takes load_takes refl w x e)
+typed_share (Reinterpret w) (CooperativeLoad true x) ua ub sa sb e = absurd (other_call (codes "bitcast") (codes "coopLoadT") reinterpret_takes transposed_takes refl w x e)
+typed_share (CooperativeLoad false w) (Construct x m) ua ub sa sb e = absurd (type_is_no_call (codes "coopLoad") load_takes x w sb (sym e))
+typed_share (CooperativeLoad false w) (Convert x) ua ub sa sb e = absurd (type_is_no_call (codes "coopLoad") load_takes x w sb (sym e))
+typed_share (CooperativeLoad false w) (Reinterpret x) ua ub sa sb e = absurd (other_call (codes "coopLoad") (codes "bitcast") load_takes reinterpret_takes refl w x e)
+typed_share (CooperativeLoad false w) (CooperativeLoad false x) ua ub sa sb e = ap (CooperativeLoad false) (same_call (codes "coopLoad") w x e)
+typed_share (CooperativeLoad false w) (CooperativeLoad true x) ua ub sa sb e = absurd (other_call (codes "coopLoad") (codes "coopLoadT") load_takes transposed_takes refl w x e)
+typed_share (CooperativeLoad true w) (Construct x m) ua ub sa sb e = absurd (type_is_no_call (codes "coopLoadT") transposed_takes x w sb (sym e))
+typed_share (CooperativeLoad true w) (Convert x) ua ub sa sb e = absurd (type_is_no_call (codes "coopLoadT") transposed_takes x w sb (sym e))
+typed_share (CooperativeLoad true w) (Reinterpret x) ua ub sa sb e = absurd (other_call (codes "coopLoadT") (codes "bitcast") transposed_takes reinterpret_takes refl w x e)
+typed_share (CooperativeLoad true w) (CooperativeLoad false x) ua ub sa sb e = absurd (other_call (codes "coopLoadT") (codes "coopLoad") transposed_takes load_takes refl w x e)
+typed_share (CooperativeLoad true w) (CooperativeLoad true x) ua ub sa sb e = ap (CooperativeLoad true) (same_call (codes "coopLoadT") w x e)
+typed_share (WithoutForm x) (WithoutForm y) ua ub sa sb e = ap WithoutForm (formless_share x y e)
+typed_share (WithoutForm x) (Construct w n) ua ub sa sb e = absurd (no_blank w (formless_code x) sb (sym e))
+typed_share (WithoutForm x) (Convert w) ua ub sa sb e = absurd (no_blank w (formless_code x) sb (sym e))
+typed_share (WithoutForm x) (Reinterpret w) ua ub sa sb e = absurd (no_blank_reinterpret w (formless_code x) (sym e))
+typed_share (WithoutForm x) (CooperativeLoad false w) ua ub sa sb e = absurd (no_blank_load w (formless_code x) (sym e))
+typed_share (WithoutForm x) (CooperativeLoad true w) ua ub sa sb e = absurd (no_blank_transposed w (formless_code x) (sym e))
+typed_share (Construct w n) (WithoutForm x) ua ub sa sb e = absurd (no_blank w (formless_code x) sa e)
+typed_share (Convert w) (WithoutForm x) ua ub sa sb e = absurd (no_blank w (formless_code x) sa e)
+typed_share (Reinterpret w) (WithoutForm x) ua ub sa sb e = absurd (no_blank_reinterpret w (formless_code x) e)
+typed_share (CooperativeLoad false w) (WithoutForm x) ua ub sa sb e = absurd (no_blank_load w (formless_code x) e)
+typed_share (CooperativeLoad true w) (WithoutForm x) ua ub sa sb e = absurd (no_blank_transposed w (formless_code x) e)
+typed_share (WithoutForm x) _ ua ub sa sb e = absurd (true≢false ub)
+typed_share (Construct w n) _ ua ub sa sb e = absurd (true≢false ub)
+typed_share (Convert w) _ ua ub sa sb e = absurd (true≢false ub)
+typed_share (Reinterpret w) _ ua ub sa sb e = absurd (true≢false ub)
+typed_share (CooperativeLoad false w) _ ua ub sa sb e = absurd (true≢false ub)
+typed_share (CooperativeLoad true w) _ ua ub sa sb e = absurd (true≢false ub)
 typed_share _ b ua ub sa sb e = absurd (true≢false ua)
 
 -- operators of one word have one operator that stands for them

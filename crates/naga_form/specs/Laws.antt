@@ -3,6 +3,7 @@
 -- Throughout, m is a module, t a type's tree, r a type of an expression, and n are the names that
 -- types are spelled with.
 use Rattle.std.specs.Prelude.{◌≡◌, ◌↔◌, ℕ, List, Some, None, IsTrue, true, Bool, length}
+use Rattle.std.specs.List.{list_all}
 use Rattle.std.specs.Option.{option_map}
 use Rattle.naga_ir.specs.declared.expression.Literal.{Literal}
 use Rattle.naga_ir.specs.declared.module.Function.{Function}
@@ -28,8 +29,10 @@ use Rattle.wgsl_text.specs.Requests.{is_request}
 use Rattle.shader_runs.specs.Form.{form_function, form_module}
 use Rattle.text_meaning.specs.Abstraction.{function_read, program_read}
 use Rattle.module_meaning.specs.Accepted.{is_accepted}
+use Rattle.module_meaning.specs.AlikeTypes.{are_alike}
 use Rattle.module_meaning.specs.Bindings.{BindsAs}
 use Rattle.module_meaning.specs.Faithful.{HasInterfaceOf, RunsAs}
+use Rattle.module_meaning.specs.InfoSizes.{type_is_fit, resolution_is_fit}
 use Rattle.module_meaning.specs.Literals.{literal_value}
 use Rattle.module_meaning.specs.Meanings.{OperatorsAreConsistent, HasTypedMeaning, HasTypedWorld}
 use Rattle.module_meaning.specs.Meanings.{IsNeverStuck}
@@ -218,6 +221,14 @@ abbrev pub AlikeThrough : Type 0
 AlikeThrough =
     (types : List Type_) (a b c : TypeResolution) → AreAlike types a b → AreAlike types b c →
     AreAlike types a c
+
+-- where types have a form that they may have, they are alike by their numbers exactly where they are
+-- alike by what they are read as
+abbrev pub AlikeByNumbers : Type 0
+AlikeByNumbers =
+    (types : List Type_) (a b : TypeResolution) → IsTrue (list_all type_is_fit types) →
+    IsTrue (resolution_is_fit a) → IsTrue (resolution_is_fit b) →
+    (IsTrue (are_alike types a b) ↔ AreAlike types a b)
 
 abbrev pub array_type : ℕ → ArraySize → ℕ → TypeResolution
 array_type base size stride = resolutions.Value (inners.Array base size stride)

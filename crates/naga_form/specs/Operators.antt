@@ -1,12 +1,11 @@
 -- Operators over their operands, as they are written.
-use Rattle.std.specs.Prelude.{List, [], ◌∷◌, codes}
+use Rattle.std.specs.Prelude.{List, [], ◌∷◌}
 use Rattle.naga_ir.specs.declared.operators.BinaryOperator as ir
 use Rattle.naga_ir.specs.declared.operators.BinaryOperator.TheVariants as operator
 use Rattle.naga_ir.specs.declared.operators.UnaryOperator as ir_unary
 use Rattle.naga_ir.specs.declared.operators.UnaryOperator.TheVariants as unary
-use Rattle.module_meaning.specs.OperatorTable.{Operator, BinarySign, UnarySign, Construct}
-use Rattle.module_meaning.specs.OperatorTable.{Convert, Reinterpret, run_word}
-use Rattle.wgsl_text.specs.Types.{TypeSpecifier, Named, Template, NoParts, TypePart}
+use Rattle.module_meaning.specs.OperatorTable.{Operator, BinarySign, UnarySign, run_word}
+use Rattle.wgsl_text.specs.Types.{TypeSpecifier, Named}
 use Rattle.wgsl_text.specs.Expressions.{BinaryOperator, Add, Subtract, Multiply, Divide, Modulo}
 use Rattle.wgsl_text.specs.Expressions.{Equal, NotEqual, Less, LessEqual, Greater, GreaterEqual}
 use Rattle.wgsl_text.specs.Expressions.{And, ExclusiveOr, InclusiveOr, LogicalAnd, LogicalOr}
@@ -48,13 +47,10 @@ pub data Notation : Type 0 where
   Called : TypeSpecifier → Notation
 
 -- The notation of an operator whose operands are all expressions, as those are that ask for no
--- event.
+-- event. One that takes a type is called by its whole word, as no such operator is written so far.
 abbrev pub notation : Operator → Notation
 notation (BinarySign op) = Infix (operator_form op)
 notation (UnarySign op) = Prefix (unary_form op)
-notation (Construct t components) = Called t
-notation (Convert t) = Called t
-notation (Reinterpret t) = Called (Template (codes "bitcast") (TypePart t NoParts))
 notation op = Called (Named (run_word op))
 
 -- what is called, where a sign is not between two operands or before one, as it is in no module

@@ -2,7 +2,7 @@
 
 ghost use Rattle.naga_form.specs.Laws.{TextOfAHandle, TextOfAnInner, TextIsKnown, RefusedIsUnknown};
 ghost use Rattle.naga_form.specs.Laws.{FormsAreTypes, FormsAreRead, AlikeItself, AlikeBack};
-ghost use Rattle.naga_form.specs.Laws.{AlikeThrough, AlikeButStride};
+ghost use Rattle.naga_form.specs.Laws.{AlikeThrough, AlikeButStride, AlikeByNumbers};
 
 use wgsl_text::{one_reading_of_a_type, text_of_appended};
 
@@ -26,10 +26,13 @@ pub fn forms_are_types()
     one_reading_of_a_type();
 }
 
-/// Being alike is an equivalence of types, and arrays that differ in stride alone are alike.
+/// Being alike is an equivalence of types, and arrays that differ in stride alone are alike. Where
+/// no type is a pointer in the space of handles, two types of which neither is a struct by itself
+/// are alike exactly if the numbers that tell them are the same.
 pub fn alike_types()
     ensures itself { AlikeItself }
     ensures back { AlikeBack }
     ensures through { AlikeThrough }
     ensures stride { AlikeButStride }
+    ensures numbers { AlikeByNumbers }
 {}

@@ -126,7 +126,7 @@ impl<T: Item> Index<Handle<T>> for Arena<T> {
 }
 
 /// The handles of an arena's items, each with its item, in order.
-#[derive(Drop)]
+#[derive(Debug, Drop)]
 pub struct Iter<'a, T> {
     items: &'a [T],
     index: usize,

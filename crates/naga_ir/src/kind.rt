@@ -6,7 +6,7 @@ ghost use Rattle.naga_ir.specs.Kinds.{kind_of};
 use crate::expression::Expression;
 
 /// When an expression has its value, and what evaluating it does.
-#[derive(Debug, Clone, Copy, PartialEq, Eq)]
+#[derive(Debug, Clone, Copy, PartialEq, Eq, Hash)]
 pub enum ExpressionKind {
     /// A value of the module, which every point of a function has: a literal, a constant, an
     /// override or a zero value.

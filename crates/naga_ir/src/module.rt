@@ -133,7 +133,7 @@ pub struct FunctionArgument {
 }
 
 /// What a function returns.
-#[derive(Debug, Drop)]
+#[derive(Debug, Clone, Copy, PartialEq, Eq, Hash)]
 pub struct FunctionResult {
     /// Its type.
     pub ty: Handle<Type_>,

@@ -62,7 +62,7 @@ fn query_handle(query: ImageQuery) -> Option<Handle<Expression>>
 
 impl Expression {
     /// The operand of this number, counted from zero.
-    #[inline]
+    #[inline(never)]
     fn operand(&self, number: usize) -> Option<Handle<Expression>>
         ensures item { result ≡ slice_get (expression_operands self.now) number }
         ensures below { IfSome result (λ _. number < usize.MAX) }
@@ -163,7 +163,7 @@ impl Expression {
     ///
     /// What functions are mostly made of is looked at once, and any other expression for each
     /// operand.
-    #[inline]
+    #[inline(always)]
     pub fn operands(&self) -> Operands<'_>
         ensures { result ≡ expression_operands self.now }
     {
@@ -183,7 +183,7 @@ impl Expression {
 
 /// The operands of an expression that are still to come, in the order in which WGSL writes them:
 /// two, if they are there, and those of the expression from this number on.
-#[derive(Drop)]
+#[derive(Debug, Drop)]
 pub struct Operands<'a> {
     first: Option<Handle<Expression>>,
     second: Option<Handle<Expression>>,
@@ -204,7 +204,7 @@ impl<'a> Model for Operands<'a> {
 
 impl<'a> Operands<'a> {
     /// These two, as far as they are there.
-    #[inline]
+    #[inline(always)]
     fn of_two(first: Option<Handle<Expression>>, second: Option<Handle<Expression>>) -> Self
         ensures { result ≡ option_to_list first ++ option_to_list second }
     {
@@ -224,7 +224,7 @@ impl<'a> Iterator for Operands<'a> {
 
     ghost remaining = { item_count (λ s. s) };
 
-    #[inline]
+    #[inline(always)]
     #[tactic(auto, using(crate::proofs::Remaining::one_of_them))]
     fn next(&mut self) -> Option<Handle<Expression>> {
         if let Some(operand) = self.first {

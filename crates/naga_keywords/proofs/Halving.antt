@@ -12,7 +12,8 @@ use Rattle.std.specs.declared.cmp.Ordering.{Ordering}
 use Rattle.std.proofs.lemmas.Map.Lookups.{exact_bytes}
 use Rattle.std.specs.declared.cmp.Ordering.TheVariants.{Less, Equal, Greater}
 use Rattle.std.proofs.lemmas.Map.Keys.{Less-from_sorted, sorted_from_all_adjacent}
-use Rattle.naga_keywords.specs.SortedWords.{StandsAt, IsPlaceOf, IsWithinDigits, keys_of, read}
+use Rattle.naga_keywords.specs.SortedWords.{StandsAt, IsPlaceOf, IsWithinDigits, keys_of}
+use Rattle.naga_keywords.specs.SortedWords.{comparison_key}
 use Rattle.naga_keywords.specs.SortedWords.{word_cmp}
 use Rattle.naga_keywords.specs.declared.sorted.Case.{Case}
 use Rattle.std.proofs.lemmas.List.{get_or-map, length-map}
@@ -148,32 +149,32 @@ within_digits c left members had k below =
 -- what stands at an index is compared by the member there
 pub key_at : (case : Case) (members : List (Bor (List ℕ))) (i : ℕ) (x : Bor (List ℕ)) →
     i < length members → (d : List ℕ) →
-    get_or (keys_of case members) i d ≡ read case (get_or members i x).now
-key_at case members i x within d = get_or-map (λ member. read case member.now) members i x d within
+    get_or (keys_of case members) i d ≡ comparison_key case (get_or members i x).now
+key_at case members i x within d = get_or-map (λ member. comparison_key case member.now) members i x d within
 
 pub keys_length : (case : Case) (members : List (Bor (List ℕ))) →
     length (keys_of case members) ≡ length members
-keys_length case members = length-map members (λ member. read case member.now)
+keys_length case members = length-map members (λ member. comparison_key case member.now)
 
 -- how a member was found to stand to the wanted word is how its key stands to the wanted one
 pub order_at : {case now : Case} {wanted w : List ℕ} (members : List (Bor (List ℕ))) (i : ℕ)
     (x : Bor (List ℕ)) (o : Ordering) → i < length members → now ≡ case → w ≡ wanted →
-    o ≡ word_cmp (read now (get_or members i x).now) (read now w) → (d : List ℕ) →
-    word_cmp (get_or (keys_of case members) i d) (read case wanted) ≡ o
+    o ≡ word_cmp (comparison_key now (get_or members i x).now) (comparison_key now w) → (d : List ℕ) →
+    word_cmp (get_or (keys_of case members) i d) (comparison_key case wanted) ≡ o
 order_at {case} {now} {wanted} {w} members i x o within same_case same_word is d =
-    ap (λ key. word_cmp key (read case wanted)) (key_at case members i x within d)
-    ∙ (λ k. word_cmp (read (sym same_case k) (get_or members i x).now)
-    (read (sym same_case k) (sym same_word k)))
+    ap (λ key. word_cmp key (comparison_key case wanted)) (key_at case members i x within d)
+    ∙ (λ k. word_cmp (comparison_key (sym same_case k) (get_or members i x).now)
+    (comparison_key (sym same_case k) (sym same_word k)))
     ∙ sym is
 
 -- and where it was found to be the same, they are one
 pub equal_at : {case now : Case} {wanted w : List ℕ} (members : List (Bor (List ℕ))) (i : ℕ)
     (x : Bor (List ℕ)) → i < length members → now ≡ case → w ≡ wanted →
-    Equal ≡ word_cmp (read now (get_or members i x).now) (read now w) →
-    StandsAt (keys_of case members) (read case wanted) i
+    Equal ≡ word_cmp (comparison_key now (get_or members i x).now) (comparison_key now w) →
+    StandsAt (keys_of case members) (comparison_key case wanted) i
 equal_at {case} {wanted = wanted} members i x within same_case same_word is = record {
   within = omega (arith, within, keys_length case members);
-  is = λ d. exact_bytes (get_or (keys_of case members) i d) (read case wanted)
+  is = λ d. exact_bytes (get_or (keys_of case members) i d) (comparison_key case wanted)
       (order_at members i x Equal within same_case same_word is d);
 }
 

@@ -19,8 +19,9 @@ use Rattle.std.proofs.lemmas.List.Sorted.{IsPermutation-insert}
 use Rattle.naga_keywords.proofs.SetLemmas.{or_true_right, texts_of-again, texts_of-permuted}
 use Rattle.std.proofs.lemmas.Map.Lookups.{exact_bytes}
 use Rattle.std.proofs.lemmas.Map.Keys.{sorted_head, sorted_tail}
-use Rattle.naga_keywords.specs.SortedWords.{IsFoundAt, IsPlaceOf, Seen, StandsAt, keys_of, read}
-use Rattle.naga_keywords.specs.SortedWords.{seen_words, word_cmp}
+use Rattle.naga_keywords.specs.SortedWords.{IsFoundAt, IsPlaceOf, SetView, StandsAt, keys_of}
+use Rattle.naga_keywords.specs.SortedWords.{comparison_key}
+use Rattle.naga_keywords.specs.SortedWords.{view_of_words, word_cmp}
 use Rattle.naga_keywords.specs.declared.sorted.Case.{Case}
 use Rattle.naga_keywords.specs.Words.{Words}
 use denote.Ref.{Bor}
@@ -122,12 +123,12 @@ sorted_insert (k ∷ ks) w (suc i) up place =
 
 -- what a member put among members is compared by is put among what these are compared by
 pub keys_insert : (case : Case) (members : List (Bor (List ℕ))) (i : ℕ) (x : Bor (List ℕ)) →
-    keys_of case (insert members i x) ≡ insert (keys_of case members) i (read case x.now)
+    keys_of case (insert members i x) ≡ insert (keys_of case members) i (comparison_key case x.now)
 keys_insert case [] zero x = refl
 keys_insert case [] (suc i) x = refl
 keys_insert case (m ∷ members) zero x = refl
 keys_insert case (m ∷ members) (suc i) x =
-    ap (λ ks. read case m.now ∷ ks) (keys_insert case members i x)
+    ap (λ ks. comparison_key case m.now ∷ ks) (keys_insert case members i x)
 
 pub none_sorted : (case : Case) (members : List (Bor (List ℕ))) → members ≡ [] →
     IsStrictlySortedBy word_cmp (keys_of case members)
@@ -138,34 +139,34 @@ none_sorted case (m ∷ members) is = absurd (cc)
 -- what members are after one was put at its place, or after there was no memory for it
 pub stays_sorted : (case : Case) (old new : List (Bor (List ℕ))) (x : Bor (List ℕ)) (i : ℕ)
     (done : Bool) → IsStrictlySortedBy word_cmp (keys_of case old) →
-    IsPlaceOf (keys_of case old) (read case x.now) i →
+    IsPlaceOf (keys_of case old) (comparison_key case x.now) i →
     new ≡ (if done then insert old i x else old) → IsStrictlySortedBy word_cmp (keys_of case new)
 stays_sorted case old new x i true up place is =
     subst (IsStrictlySortedBy word_cmp)
     (sym (ap (keys_of case) is ∙ keys_insert case old i x))
-    (sorted_insert (keys_of case old) (read case x.now) i up place)
+    (sorted_insert (keys_of case old) (comparison_key case x.now) i up place)
 stays_sorted case old new x i false up place is =
     subst (λ members. IsStrictlySortedBy word_cmp (keys_of case members)) (sym is) up
 
 -- a set with one member more
 pub one_more : (case : Case) (old new : List (Bor (List ℕ))) (x : Bor (List ℕ)) (i : ℕ) →
-    new ≡ insert old i x → (seen : Seen) → seen_words case old ≡ seen →
-    set_of (keys_of case new) ≡ set.insert seen.words (read seen.case x.now)
+    new ≡ insert old i x → (seen : SetView) → view_of_words case old ≡ seen →
+    set_of (keys_of case new) ≡ set.insert seen.words (comparison_key seen.case x.now)
 one_more case old new x i is seen view_is =
-    texts_of-permuted (λ m. read case m.now) old new x
+    texts_of-permuted (λ m. comparison_key case m.now) old new x
     (subst (λ members. IsPermutation (x ∷ old) members) (sym is) (IsPermutation-insert old i x))
-    ∙ ap (λ s. set.insert s.words (read s.case x.now)) view_is
+    ∙ ap (λ s. set.insert s.words (comparison_key s.case x.now)) view_is
 
 -- a set to which a word is added that it has
 pub contained_already : (case : Case) (old : List (Bor (List ℕ))) (x : Bor (List ℕ)) →
-    (i : ℕ) × StandsAt (keys_of case old) (read case x.now) i →
-    (seen : Seen) → seen_words case old ≡ seen →
-    seen.words ≡ set.insert seen.words (read seen.case x.now)
+    (i : ℕ) × StandsAt (keys_of case old) (comparison_key case x.now) i →
+    (seen : SetView) → view_of_words case old ≡ seen →
+    seen.words ≡ set.insert seen.words (comparison_key seen.case x.now)
 contained_already case old x at seen view_is =
-    let had = contained (read case x.now) (keys_of case old) at.0 at.1 in
+    let had = contained (comparison_key case x.now) (keys_of case old) at.0 at.1 in
     ap (λ s. s.words) (sym view_is)
-    ∙ texts_of-again (λ m. read case m.now) old (read case x.now) had
-    ∙ ap (λ s. set.insert s.words (read s.case x.now)) view_is
+    ∙ texts_of-again (λ m. comparison_key case m.now) old (comparison_key case x.now) had
+    ∙ ap (λ s. set.insert s.words (comparison_key s.case x.now)) view_is
 
 -- what a search says of a set
 pub is_contained : (case : Case) (members : List (Bor (List ℕ))) (w : List ℕ)
@@ -177,32 +178,32 @@ is_contained case members w (Err i) at = sym (not_contained w (keys_of case memb
 -- the same of a case, of members and of a word that are these
 pub found_here : {case now : Case} {members shown : List (Bor (List ℕ))} {word wanted : List ℕ}
     (found : Result ℕ ℕ) → now ≡ case → shown ≡ members → wanted ≡ word →
-    IsFoundAt (keys_of now shown) (read now wanted) found →
-    IsFoundAt (keys_of case members) (read case word) found
+    IsFoundAt (keys_of now shown) (comparison_key now wanted) found →
+    IsFoundAt (keys_of case members) (comparison_key case word) found
 found_here {case} {members = members} {shown} {word} {wanted} found same_case same_members same_word at =
-    subst (λ w. IsFoundAt (keys_of case members) (read case w) found) same_word
-    (subst (λ ms. IsFoundAt (keys_of case ms) (read case wanted) found) same_members
-    (subst (λ c. IsFoundAt (keys_of c shown) (read c wanted) found) same_case at))
+    subst (λ w. IsFoundAt (keys_of case members) (comparison_key case w) found) same_word
+    (subst (λ ms. IsFoundAt (keys_of case ms) (comparison_key case wanted) found) same_members
+    (subst (λ c. IsFoundAt (keys_of c shown) (comparison_key c wanted) found) same_case at))
 
 -- what each member passes is that the set is within the other
 module _ (case : Case) (t : Words) where
   abbrev is_of : Bor (List ℕ) → Bool
-  is_of member = set.contains t (read case member.now)
+  is_of member = set.contains t (comparison_key case member.now)
 
   all_of : (members : List (Bor (List ℕ))) → list_all is_of members ≡ true → (q : List ℕ) →
       list_any (eq_by_cmp word_cmp q) (keys_of case members) ≡ true → set.contains t q ≡ true
   all_of [] all q one = absurd (cc)
   all_of (m ∷ members) all q one =
       let parts = and_parts (is_of m) (list_all is_of members) all in
-      either (eq_by_cmp word_cmp q (read case m.now)) refl parts.0 (all_of members parts.1 q) one
+      either (eq_by_cmp word_cmp q (comparison_key case m.now)) refl parts.0 (all_of members parts.1 q) one
     where
-      either : (b : Bool) → eq_by_cmp word_cmp q (read case m.now) ≡ b → is_of m ≡ true →
+      either : (b : Bool) → eq_by_cmp word_cmp q (comparison_key case m.now) ≡ b → is_of m ≡ true →
           (list_any (eq_by_cmp word_cmp q) (keys_of case members) ≡ true → set.contains t q ≡ true) →
           (b || list_any (eq_by_cmp word_cmp q) (keys_of case members)) ≡ true →
           set.contains t q ≡ true
       either true same here later one =
-          let tie = (Equal-is (word_cmp q (read case m.now))).0 same in
-          ap (set.contains t) (exact_bytes q (read case m.now) tie) ∙ here
+          let tie = (Equal-is (word_cmp q (comparison_key case m.now))).0 same in
+          ap (set.contains t) (exact_bytes q (comparison_key case m.now) tie) ∙ here
       either false other here later one = later one
 
   each_of : (members : List (Bor (List ℕ))) → ((q : List ℕ) →
@@ -210,7 +211,7 @@ module _ (case : Case) (t : Words) where
       list_all is_of members ≡ true
   each_of [] each = refl
   each_of (m ∷ members) each =
-      let key = read case m.now in
+      let key = comparison_key case m.now in
       let here : (eq_by_cmp word_cmp key key || list_any (eq_by_cmp word_cmp key) (keys_of case members)) ≡ true =
       ap (λ b. b || list_any (eq_by_cmp word_cmp key) (keys_of case members)) (is_itself key) in
       ap (λ b. b && list_all is_of members) (each key here)

@@ -8,16 +8,16 @@ use Rattle.std.specs.FinSet as set
 use Rattle.std.specs.Ordering.{nat_cmp}
 use Rattle.std.specs.declared.cmp.Ordering.{Ordering}
 use Rattle.std.specs.declared.cmp.Ordering.TheVariants.{Less, Greater}
-use Rattle.naga_keywords.specs.Words.{Words, lowered}
+use Rattle.naga_keywords.specs.Words.{Words, in_lower_case}
 use Rattle.naga_keywords.specs.declared.sorted.Case.{Case}
 use Rattle.naga_keywords.specs.declared.sorted.Case.TheVariants.{Sensitive, Insensitive}
 use Rattle.std.specs.Coded.{Coded, codes, coded_ℕ, coded_list}
 use denote.Ref.{Bor}
 
 -- what a word is compared by: its bytes, with the ASCII letters in lower case where case is ignored
-abbrev pub read : Case → List ℕ → List ℕ
-read Sensitive word = word
-read Insensitive word = lowered word
+abbrev pub comparison_key : Case → List ℕ → List ℕ
+comparison_key Sensitive word = word
+comparison_key Insensitive word = in_lower_case word
 
 -- texts are in the order of their bytes
 abbrev pub word_cmp : List ℕ → List ℕ → Ordering
@@ -25,7 +25,7 @@ word_cmp = slice_cmp nat_cmp
 
 -- what the members are compared by
 abbrev pub keys_of : Case → List (Bor (List ℕ)) → List (List ℕ)
-keys_of case members = map (λ member. read case member.now) members
+keys_of case members = map (λ member. comparison_key case member.now) members
 
 -- all keys before the index come before the wanted one, and those from there on behind it
 pub record IsPlaceOf (ks : List (List ℕ)) (w : List ℕ) (index : ℕ) : Type 0 where
@@ -53,12 +53,12 @@ abbrev pub IsPlaceFor : List (List ℕ) → List ℕ → Option ℕ → Type 0
 IsPlaceFor ks w place = MatchOption place ((index : ℕ) × StandsAt ks w index) (IsPlaceOf ks w)
 
 -- what contracts see of a set: how its words are read, and these as they are read
-pub record Seen : Type 0 where
+pub record SetView : Type 0 where
   pub case : Case
   pub words : Words
 
-abbrev pub seen_words : Case → List (Bor (List ℕ)) → Seen
-seen_words case members = record { case = case; words = set.from_list (keys_of case members) }
+abbrev pub view_of_words : Case → List (Bor (List ℕ)) → SetView
+view_of_words case members = record { case = case; words = set.from_list (keys_of case members) }
 
-pub seen_code : Coded Seen
-seen_code = Prim.hlevel (codes, set.code {R = word_cmp} (coded_list coded_ℕ))
+pub view_code : Coded SetView
+view_code = Prim.hlevel (codes, set.code {R = word_cmp} (coded_list coded_ℕ))

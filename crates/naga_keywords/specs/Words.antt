@@ -17,16 +17,16 @@ abbrev pub Words : Type 0
 Words = set.FinSet (slice_cmp nat_cmp)
 
 -- the text with its ASCII letters in lower case
-abbrev pub lowered : List ℕ → List ℕ
-lowered word = str_to_ascii_lowercase word
+abbrev pub in_lower_case : List ℕ → List ℕ
+in_lower_case word = str_to_ascii_lowercase word
 
 -- the two texts are the same where ASCII case is ignored
 abbrev pub same_caseless : List ℕ → List ℕ → Bool
-same_caseless a b = pointwise nat_eq (lowered a) (lowered b)
+same_caseless a b = pointwise nat_eq (in_lower_case a) (in_lower_case b)
 
 -- what a hasher is given of a text, so that it can't tell case
 abbrev pub caseless_writes : List ℕ → HashWrites
-caseless_writes word = flat_map fed.u8 (lowered word)
+caseless_writes word = flat_map fed.u8 (in_lower_case word)
 
 -- the two sets have the same words
 abbrev pub same_words : Words → Words → Bool

@@ -8,7 +8,7 @@ ghost use Rattle.std.specs.Iterator.{IsFinite};
 ghost use Rattle.std.specs.List.Sorted.{IsStrictlySortedBy};
 ghost use Rattle.std.proofs.Common.{rules};
 ghost use Rattle.naga_keywords.specs.SortedWords.{IsWithinDigits, word_cmp};
-ghost use Rattle.naga_keywords.specs.Words.{Words, lowered, same_caseless, caseless_writes};
+ghost use Rattle.naga_keywords.specs.Words.{Words, in_lower_case, same_caseless, caseless_writes};
 ghost use Rattle.naga_keywords.specs.Words.{same_words, same_words_equiv, AddsAll, AddsSome};
 ghost use Rattle.naga_keywords.specs.declared.sorted.Case.TheVariants.{Sensitive, Insensitive};
 
@@ -171,7 +171,7 @@ impl CaseInsensitiveKeywordSet {
 
     /// Whether a word of the set equals this one when ASCII case is ignored.
     pub fn contains(&self, identifier: &str) -> bool
-        ensures { result ≡ set.contains self.now (lowered identifier.now) }
+        ensures { result ≡ set.contains self.now (in_lower_case identifier.now) }
     {
         self.folded.probe(identifier).0
     }
@@ -181,7 +181,7 @@ impl CaseInsensitiveKeywordSet {
     /// set, one where there is one member, and two where there are two or three. It takes no memory
     /// and always succeeds.
     pub fn contains_probes(&self, identifier: &str) -> (bool, usize)
-        ensures contains { result.0 ≡ set.contains self.now (lowered identifier.now) }
+        ensures contains { result.0 ≡ set.contains self.now (in_lower_case identifier.now) }
         ensures probes { IsWithinDigits result.1 (set.len self.now) }
     {
         self.folded.probe(identifier)
@@ -194,7 +194,7 @@ impl CaseInsensitiveKeywordSet {
     ) -> Result<Self, AllocError>
         requires can { I.can_next words }
         requires ends { IsFinite (I.remaining words) }
-        ensures { IfOk result (AddsAll I.next_gives lowered words set.empty) }
+        ensures { IfOk result (AddsAll I.next_gives in_lower_case words set.empty) }
     {
         let mut caseless = Self::new(alloc);
         caseless.extend(words)?;
@@ -204,7 +204,7 @@ impl CaseInsensitiveKeywordSet {
     /// The set of the words of a slice. Memory is taken once, for as many words as the slice has;
     /// words that come in ascending order take one comparison each, and are copied as they are.
     pub fn from_slice(alloc: Global, words: &[&'static str]) -> Result<Self, AllocError>
-        ensures { IfOk result (λ s. s ≡ set.from_list (map (λ w. lowered w.now) words.now)) }
+        ensures { IfOk result (λ s. s ≡ set.from_list (map (λ w. in_lower_case w.now) words.now)) }
     {
         let folded = SortedWords::from_slice(alloc, Case::Insensitive, words)?;
         Ok(Self { folded })
@@ -218,8 +218,8 @@ impl CaseInsensitiveKeywordSet {
     ) -> Result<(), AllocError>
         requires can { I.can_next words }
         requires ends { IsFinite (I.remaining words) }
-        ensures ok { OnOk result (AddsAll I.next_gives lowered words self.old self.new) }
-        ensures err { OnErr result (AddsSome I.next_gives lowered words self.old self.new) }
+        ensures ok { OnOk result (AddsAll I.next_gives in_lower_case words self.old self.new) }
+        ensures err { OnErr result (AddsSome I.next_gives in_lower_case words self.old self.new) }
     {
         self.folded.extend(words)
     }
@@ -267,7 +267,7 @@ impl<S: AsStr> fmt::Debug for AsciiUniCase<S> {
 impl<S: AsStr> PartialEq for AsciiUniCase<S> {
     ghost eq = { λ a b. same_caseless (S.text a.word) (S.text b.word) };
 
-    ghost laws = { on_per (λ a. lowered (S.text a.word))
+    ghost laws = { on_per (λ a. in_lower_case (S.text a.word))
         (partial_equiv_from_equiv nat_list_eq_equiv) };
 
     fn eq(&self, other: &Self) -> bool {
@@ -276,7 +276,7 @@ impl<S: AsStr> PartialEq for AsciiUniCase<S> {
 }
 
 impl<S: AsStr> Eq for AsciiUniCase<S> {
-    ghost laws = { on_equiv (λ a. lowered (S.text a.word)) nat_list_eq_equiv };
+    ghost laws = { on_equiv (λ a. in_lower_case (S.text a.word)) nat_list_eq_equiv };
 }
 
 impl<S: AsStr> Hash for AsciiUniCase<S> {

@@ -5,8 +5,9 @@ ghost use Rattle.std.specs.FinSet as set;
 ghost use Rattle.std.specs.Iterator.{IsFinite};
 ghost use Rattle.std.specs.List.Sorted.{IsStrictlySortedBy};
 ghost use Rattle.naga_keywords.specs.SortedWords.{IsFoundAt, IsPlaceFor, IsWithinDigits, keys_of};
-ghost use Rattle.naga_keywords.specs.SortedWords.{Seen, read, seen_code, seen_words, word_cmp};
-ghost use Rattle.naga_keywords.specs.Words.{AddsAll, AddsSome, lowered, same_words};
+ghost use Rattle.naga_keywords.specs.SortedWords.{SetView, comparison_key, view_code};
+ghost use Rattle.naga_keywords.specs.SortedWords.{view_of_words, word_cmp};
+ghost use Rattle.naga_keywords.specs.Words.{AddsAll, AddsSome, in_lower_case, same_words};
 
 use std::alloc::{AllocError, Global};
 use std::cmp::Ordering;
@@ -24,7 +25,7 @@ pub(crate) enum Case {
 impl Case {
     /// How two words stand to each other, by their bytes.
     fn compare(self, word: &str, other: &str) -> Ordering
-        ensures { result ≡ word_cmp (read self word.now) (read self other.now) }
+        ensures { result ≡ word_cmp (comparison_key self word.now) (comparison_key self other.now) }
     {
         match self {
             Case::Sensitive => word.cmp(other),
@@ -35,7 +36,7 @@ impl Case {
 
 /// How two words stand to each other, by their bytes with the ASCII letters in lower case.
 fn compare_lowered(word: &str, other: &str) -> Ordering
-    ensures { result ≡ word_cmp (lowered word.now) (lowered other.now) }
+    ensures { result ≡ word_cmp (in_lower_case word.now) (in_lower_case other.now) }
 {
     let word = word.bytes().map(|byte| byte.to_ascii_lowercase());
     let other = other.bytes().map(|byte| byte.to_ascii_lowercase());
@@ -66,8 +67,8 @@ impl<'a> Counter<'a> {
     /// How the member stands to the wanted word. It counts one comparison more.
     fn compare(&mut self, member: &str) -> Ordering
         requires { self.old.comparisons < 2 ^ 63 }
-        ensures order { result ≡ word_cmp (read self.old.case member.now)
-            (read self.old.case self.old.wanted.now) }
+        ensures order { result ≡ word_cmp (comparison_key self.old.case member.now)
+            (comparison_key self.old.case self.old.wanted.now) }
         ensures counted { self.new.comparisons ≡ self.old.comparisons + 1 }
         ensures case { self.new.case ≡ self.old.case }
         ensures wanted { self.new.wanted ≡ self.old.wanted }
@@ -82,7 +83,7 @@ fn search(members: &[&'static str], counter: &mut Counter) -> Result<usize, usiz
     requires sorted { IsStrictlySortedBy word_cmp (keys_of counter.old.case members.now) }
     requires fresh { counter.old.comparisons ≡ 0 }
     ensures found { IsFoundAt (keys_of counter.old.case members.now)
-        (read counter.old.case counter.old.wanted.now) result }
+        (comparison_key counter.old.case counter.old.wanted.now) result }
     ensures probes { IsWithinDigits counter.new.comparisons (length members.now) }
 {
     let mut low = 0;
@@ -115,7 +116,7 @@ fn ascend(case: Case, words: &[&'static str]) -> bool
 /// behind all of them takes one comparison.
 fn place(case: Case, members: &[&'static str], word: &str) -> Option<usize>
     requires sorted { IsStrictlySortedBy word_cmp (keys_of case members.now) }
-    ensures { IsPlaceFor (keys_of case members.now) (read case word.now) result }
+    ensures { IsPlaceFor (keys_of case members.now) (comparison_key case word.now) result }
 {
     let Some(last) = members.last() else {
         return Some(0);
@@ -135,11 +136,11 @@ pub(crate) struct SortedWords {
 }
 
 impl Model for SortedWords {
-    ghost Value = { Seen };
+    ghost Value = { SetView };
 
-    ghost coded = { seen_code };
+    ghost coded = { view_code };
 
-    ghost view = { λ s. seen_words s.case s.members.items };
+    ghost view = { λ s. view_of_words s.case s.members.items };
 
     ghost invariant = { λ s. IsStrictlySortedBy word_cmp (keys_of s.case s.members.items) };
 }
@@ -158,7 +159,8 @@ impl SortedWords {
 
     /// Whether the word is in the set, and how many comparisons it took to tell.
     pub(crate) fn probe(&self, word: &str) -> (bool, usize)
-        ensures contains { result.0 ≡ set.contains self.now.words (read self.now.case word.now) }
+        ensures contains { result.0
+            ≡ set.contains self.now.words (comparison_key self.now.case word.now) }
         ensures probes { IsWithinDigits result.1 (set.len self.now.words) }
     {
         let mut counter = Counter::new(self.case, word);
@@ -177,7 +179,7 @@ impl SortedWords {
     fn insert(&mut self, word: &'static str) -> Result<(), AllocError>
         ensures case { self.new.case ≡ self.old.case }
         ensures ok { OnOk result (self.new.words
-            ≡ set.insert self.old.words (read self.old.case word.now)) }
+            ≡ set.insert self.old.words (comparison_key self.old.case word.now)) }
         ensures err { OnErr result (self.new.words ≡ self.old.words) }
     {
         if let Some(index) = place(self.case, &self.members, word) {
@@ -195,7 +197,7 @@ impl SortedWords {
         requires sorted { IsStrictlySortedBy word_cmp (keys_of case words.now) }
         ensures case { IfOk result (λ s. s.case ≡ case) }
         ensures words { IfOk result (λ s. s.words
-            ≡ set.from_list (map (λ word. read case word.now) words.now)) }
+            ≡ set.from_list (map (λ word. comparison_key case word.now) words.now)) }
     {
         let members = Vec::from_slice(alloc, words)?;
         Ok(Self { case, members })
@@ -210,7 +212,7 @@ impl SortedWords {
     ) -> Result<Self, AllocError>
         ensures case { IfOk result (λ s. s.case ≡ case) }
         ensures words { IfOk result (λ s. s.words
-            ≡ set.from_list (map (λ word. read case word.now) words.now)) }
+            ≡ set.from_list (map (λ word. comparison_key case word.now) words.now)) }
     {
         if ascend(case, words) {
             Self::from_ascending(alloc, case, words)
@@ -223,7 +225,7 @@ impl SortedWords {
     fn from_any(alloc: Global, case: Case, words: &[&'static str]) -> Result<Self, AllocError>
         ensures case { IfOk result (λ s. s.case ≡ case) }
         ensures words { IfOk result (λ s. s.words
-            ≡ set.from_list (map (λ word. read case word.now) words.now)) }
+            ≡ set.from_list (map (λ word. comparison_key case word.now) words.now)) }
     {
         let members = Vec::with_capacity(alloc, words.len())?;
         let mut sorted = Self { case, members };
@@ -243,9 +245,11 @@ impl SortedWords {
         requires ends { IsFinite (I.remaining words) }
         ensures case { self.new.case ≡ self.old.case }
         ensures ok { OnOk result
-            (AddsAll I.next_gives (read self.old.case) words self.old.words self.new.words) }
+            (AddsAll I.next_gives (comparison_key self.old.case) words self.old.words
+            self.new.words) }
         ensures err { OnErr result
-            (AddsSome I.next_gives (read self.old.case) words self.old.words self.new.words) }
+            (AddsSome I.next_gives (comparison_key self.old.case) words self.old.words
+            self.new.words) }
     {
         let (least, _) = words.size_hint();
         self.reserve(least)?;

@@ -26,7 +26,7 @@ use Rattle.naga_names.specs.contracts.key.ExternalTextureNameKeyPartialEq.TheImp
 use Rattle.naga_names.specs.contracts.key.NameKeyEq.TheImpl.Laws.{laws-law}
 use Rattle.naga_names.specs.Naming.{label_or, Names}
 use Rattle.naga_names.specs.Keys.{same_key}
-use Rattle.naga_names.specs.Reset.{Labelled, labelled_items, member_label, labelled_members}
+use Rattle.naga_names.specs.Reset.{LabelledItem, labelled_items, member_label, labelled_members}
 use Rattle.naga_names.specs.Reset.{members_of, labelled_type, labelled_types, labelled_entry_points}
 use Rattle.naga_names.specs.Reset.{labelled_functions, labelled_globals, labelled_declarations}
 use Rattle.naga_names.specs.Reset.{labelled_values, type_label, type_name, is_external}
@@ -121,22 +121,22 @@ same_key_laws = laws-law
 
 -- ---- items with different keys
 -- no key stands twice
-abbrev pub AreApart : List Labelled → Type 0
+abbrev pub AreApart : List LabelledItem → Type 0
 AreApart [] = Unit
 AreApart (x ∷ xs) = AllByRecursion (λ y. same_key x.0 y.0 ≡ false) xs × AreApart xs
 
-module _ {P Q : Labelled → Type 0} where
-  pub all_weaken : ((x : Labelled) → P x → Q x) → (xs : List Labelled) → AllByRecursion P xs → AllByRecursion Q xs
+module _ {P Q : LabelledItem → Type 0} where
+  pub all_weaken : ((x : LabelledItem) → P x → Q x) → (xs : List LabelledItem) → AllByRecursion P xs → AllByRecursion Q xs
   all_weaken f [] all = tt
   all_weaken f (x ∷ xs) all = (f x all.0, all_weaken f xs all.1)
 
-module _ (P : Labelled → Type 0) where
-  pub all_append : (xs ys : List Labelled) → AllByRecursion P xs → AllByRecursion P ys → AllByRecursion P (xs ++ ys)
+module _ (P : LabelledItem → Type 0) where
+  pub all_append : (xs ys : List LabelledItem) → AllByRecursion P xs → AllByRecursion P ys → AllByRecursion P (xs ++ ys)
   all_append [] ys x y = y
   all_append (a ∷ xs) ys x y = (x.0, all_append xs ys x.1 y)
 
   -- what holds of each section holds of all
-  pub each_section : {X : Type 0} (section : ℕ → X → List Labelled) → ((n : ℕ) (x : X) → AllByRecursion P (section n x)) → (n : ℕ) (xs : List X) → AllByRecursion P (flat_map (λ p. section p.0 p.1) (enumerate_from n xs))
+  pub each_section : {X : Type 0} (section : ℕ → X → List LabelledItem) → ((n : ℕ) (x : X) → AllByRecursion P (section n x)) → (n : ℕ) (xs : List X) → AllByRecursion P (flat_map (λ p. section p.0 p.1) (enumerate_from n xs))
   each_section section each n [] = tt
   each_section section each n (x ∷ xs) = all_append (section n x) (flat_map (λ p. section p.0 p.1) (enumerate_from (n + 1) xs)) (each n x) (each_section section each (n + 1) xs)
 
@@ -148,15 +148,15 @@ module _ (f : NameKey → ℕ) (same : (a b : NameKey) → same_key a b ≡ true
       either true e = absurd (apart (same a b e))
       either false e = refl
 
-  below : (a : NameKey) (m : ℕ) → f a < m → (ys : List Labelled) → AllByRecursion (λ y. m ≤ f y.0) ys → AllByRecursion (λ y. same_key a y.0 ≡ false) ys
+  below : (a : NameKey) (m : ℕ) → f a < m → (ys : List LabelledItem) → AllByRecursion (λ y. m ≤ f y.0) ys → AllByRecursion (λ y. same_key a y.0 ≡ false) ys
   below a m lt [] all = tt
   below a m lt (y ∷ ys) all = let le = all.0 in (different a y.0 (λ e. omega (arith, e, lt, le)), below a m lt ys all.1)
 
-  pub apart_append : (m : ℕ) (xs ys : List Labelled) → AllByRecursion (λ x. f x.0 < m) xs → AllByRecursion (λ y. m ≤ f y.0) ys → AreApart xs → AreApart ys → AreApart (xs ++ ys)
+  pub apart_append : (m : ℕ) (xs ys : List LabelledItem) → AllByRecursion (λ x. f x.0 < m) xs → AllByRecursion (λ y. m ≤ f y.0) ys → AreApart xs → AreApart ys → AreApart (xs ++ ys)
   apart_append m [] ys low high x y = y
   apart_append m (a ∷ xs) ys low high x y = (all_append (λ y. same_key a.0 y.0 ≡ false) xs ys x.0 (below a.0 m low.0 ys high), apart_append m xs ys low.1 high x.1 y)
 
-  module _ {X : Type 0} (section : ℕ → X → List Labelled) (own : (n : ℕ) (x : X) → AllByRecursion (λ item. f item.0 ≡ n) (section n x)) (apart : (n : ℕ) (x : X) → AreApart (section n x)) where
+  module _ {X : Type 0} (section : ℕ → X → List LabelledItem) (own : (n : ℕ) (x : X) → AllByRecursion (λ item. f item.0 ≡ n) (section n x)) (apart : (n : ℕ) (x : X) → AreApart (section n x)) where
     from_on : (n m : ℕ) → m ≤ n → (xs : List X) → AllByRecursion (λ item. m ≤ f item.0) (flat_map (λ p. section p.0 p.1) (enumerate_from n xs))
     from_on n m le [] = tt
     from_on n m le (x ∷ xs) =
@@ -183,12 +183,12 @@ pub unlike_types : (t u : ℕ) → (t ≡ u → ⊥) → same_key (Type_ t) (Typ
 unlike_types t u apart = different (digit_of 1) (same_digit 1) (Type_ t) (Type_ u) apart
 
 -- ---- the items of a module
-pub single : {A : Type 0} (g : A → Labelled) (xs : List A) → flat_map (λ a. g a ∷ []) xs ≡ map g xs
+pub single : {A : Type 0} (g : A → LabelledItem) (xs : List A) → flat_map (λ a. g a ∷ []) xs ≡ map g xs
 single g [] = refl
 single g (x ∷ xs) = ap (λ items. g x ∷ items) (single g xs)
 
-module _ {X : Type 0} (entry : ℕ → X → Labelled) where
-  entries_all : (P : Labelled → Type 0) → ((n : ℕ) (x : X) → P (entry n x)) → (n : ℕ) (xs : List X) → AllByRecursion P (map (λ p. entry p.0 p.1) (enumerate_from n xs))
+module _ {X : Type 0} (entry : ℕ → X → LabelledItem) where
+  entries_all : (P : LabelledItem → Type 0) → ((n : ℕ) (x : X) → P (entry n x)) → (n : ℕ) (xs : List X) → AllByRecursion P (map (λ p. entry p.0 p.1) (enumerate_from n xs))
   entries_all P each n [] = tt
   entries_all P each n (x ∷ xs) = (each n x, entries_all P each (n + 1) xs)
 
@@ -198,8 +198,8 @@ module _ {X : Type 0} (entry : ℕ → X → Labelled) where
 unlike : (a b : NameKey) (m n : ℕ) → digit_of 4 a ≡ m → digit_of 4 b ≡ n → (m ≡ n → ⊥) → same_key a b ≡ false
 unlike a b m n e f apart = different (digit_of 4) (same_digit 4) a b (λ same. apart (sym e ∙ same ∙ f))
 
-module _ (external : Bool) (make : ExternalTextureNameKey → NameKey) (item : Labelled) where
-  pub with_parts_all : (P : Labelled → Type 0) → P item → ((part : ExternalTextureNameKey) (label : List ℕ) → P (make part, label)) → AllByRecursion P (with_parts external make item)
+module _ (external : Bool) (make : ExternalTextureNameKey → NameKey) (item : LabelledItem) where
+  pub with_parts_all : (P : LabelledItem → Type 0) → P item → ((part : ExternalTextureNameKey) (label : List ℕ) → P (make part, label)) → AllByRecursion P (with_parts external make item)
   with_parts_all P own each = (own, either external)
     where
       either : (b : Bool) → AllByRecursion P (cond b (labelled_parts make item.1) [])
@@ -230,7 +230,7 @@ module _ (external : Bool) (make : ExternalTextureNameKey → NameKey) (item : L
 
 -- ---- functions
 module _ (types : List AType) (h : ℕ) where
-  arguments_all : (P : Labelled → Type 0) → ((n : ℕ) (label : List ℕ) → P (FunctionArgument h n, label)) → ((n : ℕ) (part : ExternalTextureNameKey) (label : List ℕ) → P (ExternalTextureFunctionArgument h n part, label)) → (arguments : List AnArgument) → AllByRecursion P (labelled_arguments types h arguments)
+  arguments_all : (P : LabelledItem → Type 0) → ((n : ℕ) (label : List ℕ) → P (FunctionArgument h n, label)) → ((n : ℕ) (part : ExternalTextureNameKey) (label : List ℕ) → P (ExternalTextureFunctionArgument h n part, label)) → (arguments : List AnArgument) → AllByRecursion P (labelled_arguments types h arguments)
   arguments_all P own each arguments =
       each_section P (labelled_argument types h) (λ n a. with_parts_all (is_external types a.ty) (ExternalTextureFunctionArgument h n) (FunctionArgument h n, label_or a.name (codes "param")) P (own n _) (each n)) 0 arguments
 
@@ -240,7 +240,7 @@ module _ (types : List AType) (h : ℕ) where
       (λ n a. with_parts_all (is_external types a.ty) (ExternalTextureFunctionArgument h n) (FunctionArgument h n, label_or a.name (codes "param")) (λ item. digit_of 3 item.0 ≡ n) refl (λ part label. refl))
       (λ n a. with_parts_apart (is_external types a.ty) (ExternalTextureFunctionArgument h n) (FunctionArgument h n, label_or a.name (codes "param")) refl (λ part. refl)) 0 arguments
 
-  function_all : (P : Labelled → Type 0) → ((label : List ℕ) → P (Function h, label)) → ((n : ℕ) (label : List ℕ) → P (FunctionArgument h n, label)) → ((n : ℕ) (part : ExternalTextureNameKey) (label : List ℕ) → P (ExternalTextureFunctionArgument h n part, label)) → ((l : ℕ) (label : List ℕ) → P (FunctionLocal h l, label)) → (function : AFunction) → AllByRecursion P (labelled_function types h function)
+  function_all : (P : LabelledItem → Type 0) → ((label : List ℕ) → P (Function h, label)) → ((n : ℕ) (label : List ℕ) → P (FunctionArgument h n, label)) → ((n : ℕ) (part : ExternalTextureNameKey) (label : List ℕ) → P (ExternalTextureFunctionArgument h n part, label)) → ((l : ℕ) (label : List ℕ) → P (FunctionLocal h l, label)) → (function : AFunction) → AllByRecursion P (labelled_function types h function)
   function_all P own arguments parts locals function = (
     own _,
     all_append P (labelled_arguments types h function.arguments.items) (labelled_locals h function.local_variables) (arguments_all P arguments parts function.arguments.items)
@@ -261,7 +261,7 @@ module _ (types : List AType) (h : ℕ) where
       (arguments_apart function.arguments.items)
       (entries_apart (λ l (v : ALocal). (FunctionLocal h l, label_or v.name (codes "local"))) 3 (λ l v. refl) function.local_variables))
 
-functions_all : (types : List AType) (P : Labelled → Type 0) → ((h : ℕ) (label : List ℕ) → P (Function h, label)) → ((h n : ℕ) (label : List ℕ) → P (FunctionArgument h n, label)) → ((h n : ℕ) (part : ExternalTextureNameKey) (label : List ℕ) → P (ExternalTextureFunctionArgument h n part, label)) → ((h l : ℕ) (label : List ℕ) → P (FunctionLocal h l, label)) → (functions : List AFunction) → AllByRecursion P (labelled_functions types functions)
+functions_all : (types : List AType) (P : LabelledItem → Type 0) → ((h : ℕ) (label : List ℕ) → P (Function h, label)) → ((h n : ℕ) (label : List ℕ) → P (FunctionArgument h n, label)) → ((h n : ℕ) (part : ExternalTextureNameKey) (label : List ℕ) → P (ExternalTextureFunctionArgument h n part, label)) → ((h l : ℕ) (label : List ℕ) → P (FunctionLocal h l, label)) → (functions : List AFunction) → AllByRecursion P (labelled_functions types functions)
 functions_all types P own arguments parts locals functions = each_section P (labelled_function types) (λ h f. function_all types h P (own h) (arguments h) (parts h) (locals h) f) 0 functions
 
 functions_apart : (types : List AType) (functions : List AFunction) → AreApart (labelled_functions types functions)
@@ -271,7 +271,7 @@ functions_apart types functions =
 
 -- ---- entry points
 module _ (e : ℕ) where
-  entry_point_all : (P : Labelled → Type 0) → ((label : List ℕ) → P (EntryPoint e, label)) → ((n : ℕ) (label : List ℕ) → P (EntryPointArgument e n, label)) → ((l : ℕ) (label : List ℕ) → P (EntryPointLocal e l, label)) → (entry_point : AnEntryPoint) → AllByRecursion P (labelled_entry_point e entry_point)
+  entry_point_all : (P : LabelledItem → Type 0) → ((label : List ℕ) → P (EntryPoint e, label)) → ((n : ℕ) (label : List ℕ) → P (EntryPointArgument e n, label)) → ((l : ℕ) (label : List ℕ) → P (EntryPointLocal e l, label)) → (entry_point : AnEntryPoint) → AllByRecursion P (labelled_entry_point e entry_point)
   entry_point_all P own arguments locals entry_point = (
     own _,
     all_append P (labelled_entry_arguments e entry_point.function.arguments.items) (labelled_entry_locals e entry_point.function.local_variables)
@@ -294,7 +294,7 @@ module _ (e : ℕ) where
       (entries_apart (λ n (a : AnArgument). (EntryPointArgument e n, label_or a.name (codes "param"))) 3 (λ n a. refl) entry_point.function.arguments.items)
       (entries_apart (λ l (v : ALocal). (EntryPointLocal e l, label_or v.name (codes "local"))) 3 (λ l v. refl) entry_point.function.local_variables))
 
-entry_points_all : (P : Labelled → Type 0) → ((e : ℕ) (label : List ℕ) → P (EntryPoint e, label)) → ((e n : ℕ) (label : List ℕ) → P (EntryPointArgument e n, label)) → ((e l : ℕ) (label : List ℕ) → P (EntryPointLocal e l, label)) → (entry_points : List AnEntryPoint) → AllByRecursion P (labelled_entry_points entry_points)
+entry_points_all : (P : LabelledItem → Type 0) → ((e : ℕ) (label : List ℕ) → P (EntryPoint e, label)) → ((e n : ℕ) (label : List ℕ) → P (EntryPointArgument e n, label)) → ((e l : ℕ) (label : List ℕ) → P (EntryPointLocal e l, label)) → (entry_points : List AnEntryPoint) → AllByRecursion P (labelled_entry_points entry_points)
 entry_points_all P own arguments locals entry_points = each_section P labelled_entry_point (λ e p. entry_point_all e P (own e) (arguments e) (locals e) p) 0 entry_points
 
 entry_points_apart : (entry_points : List AnEntryPoint) → AreApart (labelled_entry_points entry_points)
@@ -303,7 +303,7 @@ entry_points_apart entry_points =
     (λ e p. entry_point_all e (λ item. digit_of 1 item.0 ≡ e) (λ label. refl) (λ n label. refl) (λ l label. refl) p) entry_point_apart 0 entry_points
 
 -- ---- globals and types
-globals_all : (types : List AType) (P : Labelled → Type 0) → ((g : ℕ) (label : List ℕ) → P (GlobalVariable g, label)) → ((g : ℕ) (part : ExternalTextureNameKey) (label : List ℕ) → P (ExternalTextureGlobalVariable g part, label)) → (globals : List AGlobal) → AllByRecursion P (labelled_globals types globals)
+globals_all : (types : List AType) (P : LabelledItem → Type 0) → ((g : ℕ) (label : List ℕ) → P (GlobalVariable g, label)) → ((g : ℕ) (part : ExternalTextureNameKey) (label : List ℕ) → P (ExternalTextureGlobalVariable g part, label)) → (globals : List AGlobal) → AllByRecursion P (labelled_globals types globals)
 globals_all types P own parts globals =
     each_section P (labelled_global types) (λ g v. with_parts_all (is_external types v.ty) (ExternalTextureGlobalVariable g) (GlobalVariable g, label_or v.name (codes "global")) P (own g _) (parts g)) 0 globals
 
@@ -315,7 +315,7 @@ globals_apart types globals =
 
 -- a type and its members
 module _ (entry_points : List AnEntryPoint) (t : ℕ) where
-  type_all : (P : Labelled → Type 0) → ((label : List ℕ) → P (Type_ t, label)) → ((n : ℕ) (label : List ℕ) → P (StructMember t n, label)) → (ty : AType) → AllByRecursion P (labelled_type entry_points t ty)
+  type_all : (P : LabelledItem → Type 0) → ((label : List ℕ) → P (Type_ t, label)) → ((n : ℕ) (label : List ℕ) → P (StructMember t n, label)) → (ty : AType) → AllByRecursion P (labelled_type entry_points t ty)
   type_all P own each ty = (own _, entries_all (λ n (m : AMember). (StructMember t n, member_label m)) P (λ n m. each n _) 0 (members_of ty.inner))
 
   type_apart : (ty : AType) → AreApart (labelled_type entry_points t ty)
@@ -325,7 +325,7 @@ module _ (entry_points : List AnEntryPoint) (t : ℕ) where
       (entries_all (λ n (m : AMember). (StructMember t n, member_label m)) (λ y. 1 ≤ digit_of 2 y.0) (λ n m. omega arith) 0 members) (tt, tt)
       (entries_apart (λ n (m : AMember). (StructMember t n, member_label m)) 3 (λ n m. refl) members)
 
-pub types_all : (entry_points : List AnEntryPoint) (P : Labelled → Type 0) → ((t : ℕ) (label : List ℕ) → P (Type_ t, label)) → ((t n : ℕ) (label : List ℕ) → P (StructMember t n, label)) → (types : List AType) → AllByRecursion P (labelled_types entry_points types)
+pub types_all : (entry_points : List AnEntryPoint) (P : LabelledItem → Type 0) → ((t : ℕ) (label : List ℕ) → P (Type_ t, label)) → ((t n : ℕ) (label : List ℕ) → P (StructMember t n, label)) → (types : List AType) → AllByRecursion P (labelled_types entry_points types)
 types_all entry_points P own each types = each_section P (labelled_type entry_points) (λ t ty. type_all entry_points t P (own t) (each t) ty) 0 types
 
 pub types_apart : (entry_points : List AnEntryPoint) (types : List AType) → AreApart (labelled_types entry_points types)
@@ -335,16 +335,16 @@ types_apart entry_points types =
 
 -- what a module declares
 module _ («module» : Module) where
-  abbrev the_types : List Labelled
+  abbrev the_types : List LabelledItem
   the_types = labelled_types «module».entry_points.items «module».types
 
-  abbrev the_entry_points : List Labelled
+  abbrev the_entry_points : List LabelledItem
   the_entry_points = labelled_entry_points «module».entry_points.items
 
-  abbrev the_functions : List Labelled
+  abbrev the_functions : List LabelledItem
   the_functions = labelled_functions «module».types «module».functions
 
-  abbrev the_globals : List Labelled
+  abbrev the_globals : List LabelledItem
   the_globals = labelled_globals «module».types «module».global_variables
 
   pub declarations_apart : AreApart (labelled_declarations «module»)
@@ -376,16 +376,16 @@ module _ («module» : Module) where
 
   values_apart : (names : ℕ → List ℕ) → AreApart (labelled_values names «module»)
   values_apart names =
-      let constant : ℕ → AConstant → Labelled = λ c v. (Constant c, value_label names (codes "const_") v.name v.ty) in
-      let override_ : ℕ → AnOverride → Labelled = λ o v. (Override o, value_label names (codes "override_") v.name v.ty) in
+      let constant : ℕ → AConstant → LabelledItem = λ c v. (Constant c, value_label names (codes "const_") v.name v.ty) in
+      let override_ : ℕ → AnOverride → LabelledItem = λ o v. (Override o, value_label names (codes "override_") v.name v.ty) in
       apart_append (digit_of 0) (same_digit 0) 5 (labelled_constants names «module».constants) (labelled_overrides names «module».overrides)
       (entries_all constant (λ x. digit_of 0 x.0 < 5) (λ c v. omega arith) 0 «module».constants) (entries_all override_ (λ x. 5 ≤ digit_of 0 x.0) (λ o v. omega arith) 0 «module».overrides)
       (entries_apart constant 1 (λ c v. refl) «module».constants) (entries_apart override_ 1 (λ o v. refl) «module».overrides)
 
   values_high : (names : ℕ → List ℕ) → AllByRecursion (λ x. 4 ≤ digit_of 0 x.0) (labelled_values names «module»)
   values_high names =
-      let constant : ℕ → AConstant → Labelled = λ c v. (Constant c, value_label names (codes "const_") v.name v.ty) in
-      let override_ : ℕ → AnOverride → Labelled = λ o v. (Override o, value_label names (codes "override_") v.name v.ty) in
+      let constant : ℕ → AConstant → LabelledItem = λ c v. (Constant c, value_label names (codes "const_") v.name v.ty) in
+      let override_ : ℕ → AnOverride → LabelledItem = λ o v. (Override o, value_label names (codes "override_") v.name v.ty) in
       all_append (λ x. 4 ≤ digit_of 0 x.0) (labelled_constants names «module».constants) (labelled_overrides names «module».overrides)
       (entries_all constant (λ x. 4 ≤ digit_of 0 x.0) (λ c v. omega arith) 0 «module».constants) (entries_all override_ (λ x. 4 ≤ digit_of 0 x.0) (λ o v. omega arith) 0 «module».overrides)
 

@@ -26,7 +26,8 @@ use Rattle.std.proofs.Math.Bool.{and-false}
 use borrow.Author.Tests.{eqb-true}
 use Rattle.naga_keywords.specs.Plain.{is_identifier_char, is_word}
 use Rattle.naga_names.specs.Label.{is_numeric, after_numerics, is_mark, is_foreign, hexadecimal}
-use Rattle.naga_names.specs.Label.{by_number, spelled, begins_separated, squeezed, begins_foreign}
+use Rattle.naga_names.specs.Label.{by_number, character_spelling, begins_separated}
+use Rattle.naga_names.specs.Label.{without_repeated_underscores, begins_foreign}
 use Rattle.naga_names.specs.Label.{spelling, ends_separated, with_separator, kept_before}
 use Rattle.naga_names.specs.Label.{without_last_separators, or_unnamed, kept_off, base_of, IsPlain}
 use Rattle.naga_names.specs.Label.{IsSpelledAlike}
@@ -65,31 +66,31 @@ without_last-done (c ∷ []) e = ap (λ b. cond b [] (c ∷ [])) e
 without_last-done (c ∷ d ∷ text) e = ap (kept_before c) (without_last-done (d ∷ text) e)
 
 -- ---- squeezing
-squeezed_cons : (c : ℕ) (cs : List ℕ) → (d : ℕ) × (ds : List ℕ) × (squeezed (c ∷ cs) ≡ d ∷ ds)
+squeezed_cons : (c : ℕ) (cs : List ℕ) → (d : ℕ) × (ds : List ℕ) × (without_repeated_underscores (c ∷ cs) ≡ d ∷ ds)
 squeezed_cons c [] = elim (c == 95) as (λ b. (d : ℕ) × (ds : List ℕ) × (cond (b && false) [] (c ∷ []) ≡ d ∷ ds)) [ true ↦ (c, [], refl) | false ↦ (c, [], refl) ]
-squeezed_cons c (e ∷ es) = elim (c == 95 && e == 95) as (λ b. (d : ℕ) × (ds : List ℕ) × (cond b (squeezed (e ∷ es)) (c ∷ squeezed (e ∷ es)) ≡ d ∷ ds)) [ true ↦ squeezed_cons e es | false ↦ (c, squeezed (e ∷ es), refl) ]
+squeezed_cons c (e ∷ es) = elim (c == 95 && e == 95) as (λ b. (d : ℕ) × (ds : List ℕ) × (cond b (without_repeated_underscores (e ∷ es)) (c ∷ without_repeated_underscores (e ∷ es)) ≡ d ∷ ds)) [ true ↦ squeezed_cons e es | false ↦ (c, without_repeated_underscores (e ∷ es), refl) ]
 
-pub squeezed-push_separator : (cs : List ℕ) → squeezed (cs ++ 95 ∷ []) ≡ with_separator (squeezed cs)
-squeezed-push_separator [] = refl
-squeezed-push_separator (c ∷ []) = one (c == 95) refl
+pub without_repeated_underscores-push_separator : (cs : List ℕ) → without_repeated_underscores (cs ++ 95 ∷ []) ≡ with_separator (without_repeated_underscores cs)
+without_repeated_underscores-push_separator [] = refl
+without_repeated_underscores-push_separator (c ∷ []) = one (c == 95) refl
   where
     one : (b : Bool) → (c == 95) ≡ b → cond (b && true) (95 ∷ []) (c ∷ 95 ∷ []) ≡ with_separator (cond (b && false) [] (c ∷ []))
     one true e = ap (λ x. x ∷ []) (sym (eqb-true c 95 e)) ∙ sym (with_separator-yes (c ∷ []) e)
     one false e = sym (with_separator-not (c ∷ []) e)
-squeezed-push_separator (c ∷ d ∷ cs) = more (squeezed-push_separator (d ∷ cs)) (squeezed_cons d cs) (c == 95 && d == 95)
+without_repeated_underscores-push_separator (c ∷ d ∷ cs) = more (without_repeated_underscores-push_separator (d ∷ cs)) (squeezed_cons d cs) (c == 95 && d == 95)
   where
-    more : squeezed (d ∷ cs ++ 95 ∷ []) ≡ with_separator (squeezed (d ∷ cs)) → (e : ℕ) × (es : List ℕ) × (squeezed (d ∷ cs) ≡ e ∷ es) → (b : Bool) → cond b (squeezed (d ∷ cs ++ 95 ∷ [])) (c ∷ squeezed (d ∷ cs ++ 95 ∷ [])) ≡ with_separator (cond b (squeezed (d ∷ cs)) (c ∷ squeezed (d ∷ cs)))
+    more : without_repeated_underscores (d ∷ cs ++ 95 ∷ []) ≡ with_separator (without_repeated_underscores (d ∷ cs)) → (e : ℕ) × (es : List ℕ) × (without_repeated_underscores (d ∷ cs) ≡ e ∷ es) → (b : Bool) → cond b (without_repeated_underscores (d ∷ cs ++ 95 ∷ [])) (c ∷ without_repeated_underscores (d ∷ cs ++ 95 ∷ [])) ≡ with_separator (cond b (without_repeated_underscores (d ∷ cs)) (c ∷ without_repeated_underscores (d ∷ cs)))
     more so_far some true = so_far
     more so_far some false = ap (λ t. c ∷ t) so_far ∙ ap (λ t. c ∷ with_separator t) some.2 ∙ sym (with_separator-cons c some.0 some.1) ∙ sym (ap (λ t. with_separator (c ∷ t)) some.2)
 
-pub squeezed-append : (cs : List ℕ) (d : ℕ) (ds : List ℕ) → (d == 95) ≡ false → squeezed (cs ++ d ∷ ds) ≡ squeezed cs ++ squeezed (d ∷ ds)
-squeezed-append [] d ds e = refl
-squeezed-append (c ∷ []) d ds e =
-    ap (λ b. cond b (squeezed (d ∷ ds)) (c ∷ squeezed (d ∷ ds))) (ap (λ b. c == 95 && b) e ∙ and-false (c == 95))
-    ∙ sym (ap (λ b. cond b [] (c ∷ []) ++ squeezed (d ∷ ds)) (and-false (c == 95)))
-squeezed-append (c ∷ x ∷ cs) d ds e = more (c == 95 && x == 95) (squeezed-append (x ∷ cs) d ds e)
+pub without_repeated_underscores-append : (cs : List ℕ) (d : ℕ) (ds : List ℕ) → (d == 95) ≡ false → without_repeated_underscores (cs ++ d ∷ ds) ≡ without_repeated_underscores cs ++ without_repeated_underscores (d ∷ ds)
+without_repeated_underscores-append [] d ds e = refl
+without_repeated_underscores-append (c ∷ []) d ds e =
+    ap (λ b. cond b (without_repeated_underscores (d ∷ ds)) (c ∷ without_repeated_underscores (d ∷ ds))) (ap (λ b. c == 95 && b) e ∙ and-false (c == 95))
+    ∙ sym (ap (λ b. cond b [] (c ∷ []) ++ without_repeated_underscores (d ∷ ds)) (and-false (c == 95)))
+without_repeated_underscores-append (c ∷ x ∷ cs) d ds e = more (c == 95 && x == 95) (without_repeated_underscores-append (x ∷ cs) d ds e)
   where
-    more : (b : Bool) → squeezed (x ∷ cs ++ d ∷ ds) ≡ squeezed (x ∷ cs) ++ squeezed (d ∷ ds) → cond b (squeezed (x ∷ cs ++ d ∷ ds)) (c ∷ squeezed (x ∷ cs ++ d ∷ ds)) ≡ cond b (squeezed (x ∷ cs)) (c ∷ squeezed (x ∷ cs)) ++ squeezed (d ∷ ds)
+    more : (b : Bool) → without_repeated_underscores (x ∷ cs ++ d ∷ ds) ≡ without_repeated_underscores (x ∷ cs) ++ without_repeated_underscores (d ∷ ds) → cond b (without_repeated_underscores (x ∷ cs ++ d ∷ ds)) (c ∷ without_repeated_underscores (x ∷ cs ++ d ∷ ds)) ≡ cond b (without_repeated_underscores (x ∷ cs)) (c ∷ without_repeated_underscores (x ∷ cs)) ++ without_repeated_underscores (d ∷ ds)
     more true so_far = so_far
     more false so_far = ap (λ t. c ∷ t) so_far
 
@@ -102,11 +103,11 @@ unseparated-ends [] e = refl
 unseparated-ends (c ∷ []) e = not-true (c == 95) (and_parts (not (c == 95)) true e).0
 unseparated-ends (c ∷ d ∷ cs) e = unseparated-ends (d ∷ cs) (and_parts (not (c == 95)) (unseparated (d ∷ cs)) e).1
 
-unseparated-squeezed : (cs : List ℕ) → unseparated cs ≡ true → squeezed cs ≡ cs
-unseparated-squeezed [] e = refl
-unseparated-squeezed (c ∷ cs) e =
+unseparated-without_repeated_underscores : (cs : List ℕ) → unseparated cs ≡ true → without_repeated_underscores cs ≡ cs
+unseparated-without_repeated_underscores [] e = refl
+unseparated-without_repeated_underscores (c ∷ cs) e =
     let parts = and_parts (not (c == 95)) (unseparated cs) e in
-    ap (λ b. cond (b && begins_separated cs) (squeezed cs) (c ∷ squeezed cs)) (not-true (c == 95) parts.0) ∙ ap (λ t. c ∷ t) (unseparated-squeezed cs parts.1)
+    ap (λ b. cond (b && begins_separated cs) (without_repeated_underscores cs) (c ∷ without_repeated_underscores cs)) (not-true (c == 95) parts.0) ∙ ap (λ t. c ∷ t) (unseparated-without_repeated_underscores cs parts.1)
 
 unseparated-zeros : (n : ℕ) → unseparated (replicate n 48) ≡ true
 unseparated-zeros zero = refl
@@ -136,58 +137,58 @@ pub spelling-nil : spelling [] ≡ []
 unfolding spelling
 spelling-nil = refl
 
-pub spelled-mark : (c : ℕ) → is_mark c ≡ true → spelled c ≡ codes "_"
-spelled-mark c mark = ap (λ b. cond b (codes "_") (cond (is_identifier_char c) (c ∷ []) (codes "_" ++ by_number c))) mark
+pub character_spelling-mark : (c : ℕ) → is_mark c ≡ true → character_spelling c ≡ codes "_"
+character_spelling-mark c mark = ap (λ b. cond b (codes "_") (cond (is_identifier_char c) (c ∷ []) (codes "_" ++ by_number c))) mark
 
-pub spelled-plain : (c : ℕ) → is_mark c ≡ false → is_identifier_char c ≡ true → spelled c ≡ c ∷ []
-spelled-plain c mark plain =
+pub character_spelling-plain : (c : ℕ) → is_mark c ≡ false → is_identifier_char c ≡ true → character_spelling c ≡ c ∷ []
+character_spelling-plain c mark plain =
     ap (λ b. cond b (codes "_") (cond (is_identifier_char c) (c ∷ []) (codes "_" ++ by_number c))) mark
     ∙ ap (λ b. cond b (c ∷ []) (codes "_" ++ by_number c)) plain
 
-pub spelled-foreign : (c : ℕ) → is_foreign c ≡ true → spelled c ≡ 95 ∷ by_number c
-spelled-foreign c foreign =
+pub character_spelling-foreign : (c : ℕ) → is_foreign c ≡ true → character_spelling c ≡ 95 ∷ by_number c
+character_spelling-foreign c foreign =
     let parts = and_parts (not (is_mark c)) (not (is_identifier_char c)) foreign in
     ap (λ b. cond b (codes "_") (cond (is_identifier_char c) (c ∷ []) (codes "_" ++ by_number c))) (not-true (is_mark c) parts.0)
     ∙ ap (λ b. cond b (c ∷ []) (codes "_" ++ by_number c)) (not-true (is_identifier_char c) parts.1)
 
-squeezed-by_number : (c : ℕ) → squeezed (by_number c) ≡ by_number c
-squeezed-by_number c =
-    squeezed-push_separator (117 ∷ hexadecimal c)
-    ∙ ap with_separator (unseparated-squeezed (117 ∷ hexadecimal c) (unseparated-hexadecimal c))
+without_repeated_underscores-by_number : (c : ℕ) → without_repeated_underscores (by_number c) ≡ by_number c
+without_repeated_underscores-by_number c =
+    without_repeated_underscores-push_separator (117 ∷ hexadecimal c)
+    ∙ ap with_separator (unseparated-without_repeated_underscores (117 ∷ hexadecimal c) (unseparated-hexadecimal c))
     ∙ with_separator-not (117 ∷ hexadecimal c) (unseparated-ends (117 ∷ hexadecimal c) (unseparated-hexadecimal c))
 
 -- the spelled characters, of a foreign first one without its `_`
 unfoldable pub body : List ℕ → List ℕ
-body cs = cond (begins_foreign cs) (drop 1 (flat_map spelled cs)) (flat_map spelled cs)
+body cs = cond (begins_foreign cs) (drop 1 (flat_map character_spelling cs)) (flat_map character_spelling cs)
 
-pub spelling-body : (cs : List ℕ) → spelling cs ≡ squeezed (body cs)
+pub spelling-body : (cs : List ℕ) → spelling cs ≡ without_repeated_underscores (body cs)
 unfolding spelling body
 spelling-body [] = refl
 spelling-body (c ∷ cs) = either (is_foreign c) refl
   where
-    either : (b : Bool) → is_foreign c ≡ b → cond b (drop 1 (squeezed (spelled c ++ flat_map spelled cs))) (squeezed (spelled c ++ flat_map spelled cs)) ≡ squeezed (cond b (drop 1 (spelled c ++ flat_map spelled cs)) (spelled c ++ flat_map spelled cs))
-    either true e = ap (λ t. drop 1 (squeezed (t ++ flat_map spelled cs))) (spelled-foreign c e) ∙ sym (ap (λ t. squeezed (drop 1 (t ++ flat_map spelled cs))) (spelled-foreign c e))
+    either : (b : Bool) → is_foreign c ≡ b → cond b (drop 1 (without_repeated_underscores (character_spelling c ++ flat_map character_spelling cs))) (without_repeated_underscores (character_spelling c ++ flat_map character_spelling cs)) ≡ without_repeated_underscores (cond b (drop 1 (character_spelling c ++ flat_map character_spelling cs)) (character_spelling c ++ flat_map character_spelling cs))
+    either true e = ap (λ t. drop 1 (without_repeated_underscores (t ++ flat_map character_spelling cs))) (character_spelling-foreign c e) ∙ sym (ap (λ t. without_repeated_underscores (drop 1 (t ++ flat_map character_spelling cs))) (character_spelling-foreign c e))
     either false e = refl
 
-body-push : (c : ℕ) (cs : List ℕ) (d : ℕ) → body (c ∷ cs ++ d ∷ []) ≡ body (c ∷ cs) ++ spelled d
+body-push : (c : ℕ) (cs : List ℕ) (d : ℕ) → body (c ∷ cs ++ d ∷ []) ≡ body (c ∷ cs) ++ character_spelling d
 unfolding body
 body-push c cs d =
-    ap (λ t. cond (is_foreign c) (drop 1 t) t) (flat_map-append spelled (c ∷ cs) (d ∷ []) ∙ ap (λ t. flat_map spelled (c ∷ cs) ++ t) (append-nil (spelled d)))
+    ap (λ t. cond (is_foreign c) (drop 1 t) t) (flat_map-append character_spelling (c ∷ cs) (d ∷ []) ∙ ap (λ t. flat_map character_spelling (c ∷ cs) ++ t) (append-nil (character_spelling d)))
     ∙ either (is_foreign c) refl
   where
-    either : (b : Bool) → is_foreign c ≡ b → cond b (drop 1 (spelled c ++ flat_map spelled cs ++ spelled d)) (spelled c ++ flat_map spelled cs ++ spelled d) ≡ cond b (drop 1 (spelled c ++ flat_map spelled cs)) (spelled c ++ flat_map spelled cs) ++ spelled d
-    either true e = ap (λ t. drop 1 (t ++ flat_map spelled cs ++ spelled d)) (spelled-foreign c e) ∙ sym (ap (λ t. drop 1 (t ++ flat_map spelled cs) ++ spelled d) (spelled-foreign c e))
+    either : (b : Bool) → is_foreign c ≡ b → cond b (drop 1 (character_spelling c ++ flat_map character_spelling cs ++ character_spelling d)) (character_spelling c ++ flat_map character_spelling cs ++ character_spelling d) ≡ cond b (drop 1 (character_spelling c ++ flat_map character_spelling cs)) (character_spelling c ++ flat_map character_spelling cs) ++ character_spelling d
+    either true e = ap (λ t. drop 1 (t ++ flat_map character_spelling cs ++ character_spelling d)) (character_spelling-foreign c e) ∙ sym (ap (λ t. drop 1 (t ++ flat_map character_spelling cs) ++ character_spelling d) (character_spelling-foreign c e))
     either false e = refl
 
 -- one more character
-spelling-push : (c : ℕ) (cs : List ℕ) (d : ℕ) (text : List ℕ) → spelled d ≡ text → spelling (c ∷ cs ++ d ∷ []) ≡ squeezed (body (c ∷ cs) ++ text)
-spelling-push c cs d text is = spelling-body (c ∷ cs ++ d ∷ []) ∙ ap squeezed (body-push c cs d ∙ ap (λ t. body (c ∷ cs) ++ t) is)
+spelling-push : (c : ℕ) (cs : List ℕ) (d : ℕ) (text : List ℕ) → character_spelling d ≡ text → spelling (c ∷ cs ++ d ∷ []) ≡ without_repeated_underscores (body (c ∷ cs) ++ text)
+spelling-push c cs d text is = spelling-body (c ∷ cs ++ d ∷ []) ∙ ap without_repeated_underscores (body-push c cs d ∙ ap (λ t. body (c ∷ cs) ++ t) is)
 
 -- the first character, where it is not foreign
-spelling-first : (d : ℕ) (text : List ℕ) → is_foreign d ≡ false → spelled d ≡ text → spelling (d ∷ []) ≡ squeezed text
+spelling-first : (d : ℕ) (text : List ℕ) → is_foreign d ≡ false → character_spelling d ≡ text → spelling (d ∷ []) ≡ without_repeated_underscores text
 unfolding spelling
 spelling-first d text plain is =
-    ap (λ b. cond b (drop 1 (squeezed (spelled d ++ []))) (squeezed (spelled d ++ []))) plain ∙ ap squeezed (append-nil (spelled d) ∙ is)
+    ap (λ b. cond b (drop 1 (without_repeated_underscores (character_spelling d ++ []))) (without_repeated_underscores (character_spelling d ++ []))) plain ∙ ap without_repeated_underscores (append-nil (character_spelling d) ∙ is)
 
 not_foreign-mark : (c : ℕ) → is_mark c ≡ true → is_foreign c ≡ false
 not_foreign-mark c mark = ap (λ b. not b && not (is_identifier_char c)) mark
@@ -196,58 +197,58 @@ not_foreign-plain : (c : ℕ) → is_identifier_char c ≡ true → is_foreign c
 not_foreign-plain c plain = ap (λ b. not (is_mark c) && not b) plain ∙ and-false (not (is_mark c))
 
 pub spelling-separator : (cs : List ℕ) (c : ℕ) → is_mark c ≡ true → spelling (cs ++ c ∷ []) ≡ with_separator (spelling cs)
-spelling-separator [] c mark = spelling-first c (codes "_") (not_foreign-mark c mark) (spelled-mark c mark) ∙ sym (ap with_separator spelling-nil)
+spelling-separator [] c mark = spelling-first c (codes "_") (not_foreign-mark c mark) (character_spelling-mark c mark) ∙ sym (ap with_separator spelling-nil)
 spelling-separator (d ∷ cs) c mark =
-    spelling-push d cs c (codes "_") (spelled-mark c mark) ∙ squeezed-push_separator (body (d ∷ cs)) ∙ ap with_separator (sym (spelling-body (d ∷ cs)))
+    spelling-push d cs c (codes "_") (character_spelling-mark c mark) ∙ without_repeated_underscores-push_separator (body (d ∷ cs)) ∙ ap with_separator (sym (spelling-body (d ∷ cs)))
 
 pub spelling-underscore : (cs : List ℕ) → spelling (cs ++ 95 ∷ []) ≡ with_separator (spelling cs)
 spelling-underscore [] = spelling-first 95 (codes "_") refl refl ∙ sym (ap with_separator spelling-nil)
 spelling-underscore (d ∷ cs) =
-    spelling-push d cs 95 (codes "_") refl ∙ squeezed-push_separator (body (d ∷ cs)) ∙ ap with_separator (sym (spelling-body (d ∷ cs)))
+    spelling-push d cs 95 (codes "_") refl ∙ without_repeated_underscores-push_separator (body (d ∷ cs)) ∙ ap with_separator (sym (spelling-body (d ∷ cs)))
 
-squeezed-one : (c : ℕ) → squeezed (c ∷ []) ≡ c ∷ []
-squeezed-one c = ap (λ b. cond b [] (c ∷ [])) (and-false (c == 95))
+without_repeated_underscores-one : (c : ℕ) → without_repeated_underscores (c ∷ []) ≡ c ∷ []
+without_repeated_underscores-one c = ap (λ b. cond b [] (c ∷ [])) (and-false (c == 95))
 
 pub spelling-plain : (cs : List ℕ) (c : ℕ) → is_mark c ≡ false → is_identifier_char c ≡ true → (c == 95) ≡ false → spelling (cs ++ c ∷ []) ≡ spelling cs ++ c ∷ []
-spelling-plain [] c mark plain other = spelling-first c (c ∷ []) (not_foreign-plain c plain) (spelled-plain c mark plain) ∙ squeezed-one c ∙ sym (ap (λ t. t ++ c ∷ []) spelling-nil)
+spelling-plain [] c mark plain other = spelling-first c (c ∷ []) (not_foreign-plain c plain) (character_spelling-plain c mark plain) ∙ without_repeated_underscores-one c ∙ sym (ap (λ t. t ++ c ∷ []) spelling-nil)
 spelling-plain (d ∷ cs) c mark plain other =
-    spelling-push d cs c (c ∷ []) (spelled-plain c mark plain)
-    ∙ squeezed-append (body (d ∷ cs)) c [] other
-    ∙ ap (λ t. squeezed (body (d ∷ cs)) ++ t) (squeezed-one c)
+    spelling-push d cs c (c ∷ []) (character_spelling-plain c mark plain)
+    ∙ without_repeated_underscores-append (body (d ∷ cs)) c [] other
+    ∙ ap (λ t. without_repeated_underscores (body (d ∷ cs)) ++ t) (without_repeated_underscores-one c)
     ∙ ap (λ t. t ++ c ∷ []) (sym (spelling-body (d ∷ cs)))
 
 body_cons : (c : ℕ) (cs : List ℕ) → (d : ℕ) × (ds : List ℕ) × (body (c ∷ cs) ≡ d ∷ ds)
 unfolding body
 body_cons c cs = either (is_foreign c) (is_mark c) (is_identifier_char c) refl refl refl
   where
-    either : (f m p : Bool) → is_foreign c ≡ f → is_mark c ≡ m → is_identifier_char c ≡ p → (d : ℕ) × (ds : List ℕ) × (cond f (drop 1 (spelled c ++ flat_map spelled cs)) (spelled c ++ flat_map spelled cs) ≡ d ∷ ds)
-    either true m p f_is m_is p_is = (117, hexadecimal c ++ codes "_" ++ flat_map spelled cs, ap (λ t. drop 1 (t ++ flat_map spelled cs)) (spelled-foreign c f_is))
-    either false true p f_is m_is p_is = (95, flat_map spelled cs, ap (λ t. t ++ flat_map spelled cs) (spelled-mark c m_is))
-    either false false true f_is m_is p_is = (c, flat_map spelled cs, ap (λ t. t ++ flat_map spelled cs) (spelled-plain c m_is p_is))
+    either : (f m p : Bool) → is_foreign c ≡ f → is_mark c ≡ m → is_identifier_char c ≡ p → (d : ℕ) × (ds : List ℕ) × (cond f (drop 1 (character_spelling c ++ flat_map character_spelling cs)) (character_spelling c ++ flat_map character_spelling cs) ≡ d ∷ ds)
+    either true m p f_is m_is p_is = (117, hexadecimal c ++ codes "_" ++ flat_map character_spelling cs, ap (λ t. drop 1 (t ++ flat_map character_spelling cs)) (character_spelling-foreign c f_is))
+    either false true p f_is m_is p_is = (95, flat_map character_spelling cs, ap (λ t. t ++ flat_map character_spelling cs) (character_spelling-mark c m_is))
+    either false false true f_is m_is p_is = (c, flat_map character_spelling cs, ap (λ t. t ++ flat_map character_spelling cs) (character_spelling-plain c m_is p_is))
     either false false false f_is m_is p_is = absurd (cc (ap (λ b. not b && not (is_identifier_char c)) m_is, ap not p_is, f_is))
 
 pub spelling_cons : (c : ℕ) (cs : List ℕ) → (d : ℕ) × (ds : List ℕ) × (spelling (c ∷ cs) ≡ d ∷ ds)
 spelling_cons c cs =
     let some = body_cons c cs in
     let text = squeezed_cons some.0 some.1 in
-    (text.0, text.1, spelling-body (c ∷ cs) ∙ ap squeezed some.2 ∙ text.2)
+    (text.0, text.1, spelling-body (c ∷ cs) ∙ ap without_repeated_underscores some.2 ∙ text.2)
 
 body-foreign : (c : ℕ) → is_foreign c ≡ true → body (c ∷ []) ≡ by_number c
 unfolding body
-body-foreign c foreign = ap (λ b. cond b (drop 1 (spelled c ++ [])) (spelled c ++ [])) foreign ∙ ap (λ t. drop 1 (t ++ [])) (spelled-foreign c foreign) ∙ append-nil (by_number c)
+body-foreign c foreign = ap (λ b. cond b (drop 1 (character_spelling c ++ [])) (character_spelling c ++ [])) foreign ∙ ap (λ t. drop 1 (t ++ [])) (character_spelling-foreign c foreign) ∙ append-nil (by_number c)
 
 pub spelling-first_foreign : (cs : List ℕ) (c : ℕ) → is_foreign c ≡ true → length (spelling cs) ≡ 0 → spelling (cs ++ c ∷ []) ≡ by_number c
-spelling-first_foreign [] c foreign none = spelling-body (c ∷ []) ∙ ap squeezed (body-foreign c foreign) ∙ squeezed-by_number c
+spelling-first_foreign [] c foreign none = spelling-body (c ∷ []) ∙ ap without_repeated_underscores (body-foreign c foreign) ∙ without_repeated_underscores-by_number c
 spelling-first_foreign (d ∷ cs) c foreign none = let some = spelling_cons d cs in let long = ap length some.2 in absurd (omega (arith, long))
 
 pub spelling-later_foreign : (cs : List ℕ) (c : ℕ) → is_foreign c ≡ true → (length (spelling cs) ≡ 0 → ⊥) → spelling (cs ++ c ∷ []) ≡ with_separator (spelling cs) ++ by_number c
 spelling-later_foreign [] c foreign some = absurd (some (ap length spelling-nil))
 spelling-later_foreign (d ∷ cs) c foreign some =
-    spelling-push d cs c (95 ∷ by_number c) (spelled-foreign c foreign)
-    ∙ ap squeezed (sym (append_assoc (body (d ∷ cs)) (95 ∷ []) (by_number c)))
-    ∙ squeezed-append (body (d ∷ cs) ++ 95 ∷ []) 117 (hexadecimal c ++ codes "_") refl
-    ∙ ap (λ t. squeezed (body (d ∷ cs) ++ 95 ∷ []) ++ t) (squeezed-by_number c)
-    ∙ ap (λ t. t ++ by_number c) (squeezed-push_separator (body (d ∷ cs)) ∙ ap with_separator (sym (spelling-body (d ∷ cs))))
+    spelling-push d cs c (95 ∷ by_number c) (character_spelling-foreign c foreign)
+    ∙ ap without_repeated_underscores (sym (append_assoc (body (d ∷ cs)) (95 ∷ []) (by_number c)))
+    ∙ without_repeated_underscores-append (body (d ∷ cs) ++ 95 ∷ []) 117 (hexadecimal c ++ codes "_") refl
+    ∙ ap (λ t. without_repeated_underscores (body (d ∷ cs) ++ 95 ∷ []) ++ t) (without_repeated_underscores-by_number c)
+    ∙ ap (λ t. t ++ by_number c) (without_repeated_underscores-push_separator (body (d ∷ cs)) ∙ ap with_separator (sym (spelling-body (d ∷ cs))))
 
 -- ---- the same by the tests that the code makes
 pub spelling-separating : (cs : List ℕ) (c : ℕ) → (is_mark c || c == 95) ≡ true → spelling (cs ++ c ∷ []) ≡ with_separator (spelling cs)
@@ -467,7 +468,7 @@ only_hexadecimal c = only_append (replicate (4 - length (digits_onto 64 16 false
 only_by_number : (c : ℕ) → only (95 ∷ by_number c)
 only_by_number c = only_append (hexadecimal c) (codes "_") (only_hexadecimal c) refl
 
-only_spelled : (c : ℕ) → only (spelled c)
+only_spelled : (c : ℕ) → only (character_spelling c)
 only_spelled c = either (is_mark c) (is_identifier_char c) refl
   where
     either : (m p : Bool) → is_identifier_char c ≡ p → only (cond m (codes "_") (cond p (c ∷ []) (codes "_" ++ by_number c)))
@@ -475,21 +476,21 @@ only_spelled c = either (is_mark c) (is_identifier_char c) refl
     either false true e = ap (λ b. b && true) e
     either false false e = only_by_number c
 
-only_flat : (cs : List ℕ) → only (flat_map spelled cs)
+only_flat : (cs : List ℕ) → only (flat_map character_spelling cs)
 only_flat [] = refl
-only_flat (c ∷ cs) = only_append (spelled c) (flat_map spelled cs) (only_spelled c) (only_flat cs)
+only_flat (c ∷ cs) = only_append (character_spelling c) (flat_map character_spelling cs) (only_spelled c) (only_flat cs)
 
 only_drop : (text : List ℕ) → only text → only (drop 1 text)
 only_drop [] e = e
 only_drop (c ∷ cs) e = (and_parts (is_identifier_char c) (list_all is_identifier_char cs) e).1
 
-only_squeezed : (text : List ℕ) → only text → only (squeezed text)
+only_squeezed : (text : List ℕ) → only text → only (without_repeated_underscores text)
 only_squeezed [] e = refl
 only_squeezed (c ∷ cs) e =
     let parts = and_parts (is_identifier_char c) (list_all is_identifier_char cs) e in
     either (c == 95 && begins_separated cs) parts.0 (only_squeezed cs parts.1)
   where
-    either : (b : Bool) → is_identifier_char c ≡ true → only (squeezed cs) → only (cond b (squeezed cs) (c ∷ squeezed cs))
+    either : (b : Bool) → is_identifier_char c ≡ true → only (without_repeated_underscores cs) → only (cond b (without_repeated_underscores cs) (c ∷ without_repeated_underscores cs))
     either true one rest = rest
     either false one rest = and_from _ _ one rest
 
@@ -497,9 +498,9 @@ only_spelling : (cs : List ℕ) → only (spelling cs)
 unfolding spelling
 only_spelling cs = either (begins_foreign cs)
   where
-    either : (b : Bool) → only (cond b (drop 1 (squeezed (flat_map spelled cs))) (squeezed (flat_map spelled cs)))
-    either true = only_drop (squeezed (flat_map spelled cs)) (only_squeezed (flat_map spelled cs) (only_flat cs))
-    either false = only_squeezed (flat_map spelled cs) (only_flat cs)
+    either : (b : Bool) → only (cond b (drop 1 (without_repeated_underscores (flat_map character_spelling cs))) (without_repeated_underscores (flat_map character_spelling cs)))
+    either true = only_drop (without_repeated_underscores (flat_map character_spelling cs)) (only_squeezed (flat_map character_spelling cs) (only_flat cs))
+    either false = only_squeezed (flat_map character_spelling cs) (only_flat cs)
 
 only_kept : (c : ℕ) (rest : List ℕ) → is_identifier_char c ≡ true → only rest → only (kept_before c rest)
 only_kept c [] one all = either (c == 95)
@@ -558,17 +559,17 @@ after_numerics-first (c ∷ cs) = either (is_numeric c) refl (after_numerics-fir
     either true e rest = rest
     either false e rest = e
 
-squeezed-first : (p : ℕ → Bool) (text : List ℕ) → begins_by p (squeezed text) ≡ begins_by p text
+without_repeated_underscores-first : (p : ℕ → Bool) (text : List ℕ) → begins_by p (without_repeated_underscores text) ≡ begins_by p text
 unfolding begins_by
-squeezed-first p [] = refl
-squeezed-first p (c ∷ []) = either (c == 95)
+without_repeated_underscores-first p [] = refl
+without_repeated_underscores-first p (c ∷ []) = either (c == 95)
   where
     either : (b : Bool) → begins_by p (cond (b && false) [] (c ∷ [])) ≡ p c
     either true = refl
     either false = refl
-squeezed-first p (c ∷ d ∷ cs) = either (c == 95) (d == 95) refl refl (squeezed-first p (d ∷ cs))
+without_repeated_underscores-first p (c ∷ d ∷ cs) = either (c == 95) (d == 95) refl refl (without_repeated_underscores-first p (d ∷ cs))
   where
-    either : (x y : Bool) → (c == 95) ≡ x → (d == 95) ≡ y → begins_by p (squeezed (d ∷ cs)) ≡ p d → begins_by p (cond (x && y) (squeezed (d ∷ cs)) (c ∷ squeezed (d ∷ cs))) ≡ p c
+    either : (x y : Bool) → (c == 95) ≡ x → (d == 95) ≡ y → begins_by p (without_repeated_underscores (d ∷ cs)) ≡ p d → begins_by p (cond (x && y) (without_repeated_underscores (d ∷ cs)) (c ∷ without_repeated_underscores (d ∷ cs))) ≡ p c
     either true true ex ey rest = rest ∙ ap p (eqb-true d 95 ey ∙ sym (eqb-true c 95 ex))
     either true false ex ey rest = refl
     either false y ex ey rest = refl
@@ -591,10 +592,10 @@ unfolding begins_by body
 body-first [] e = refl
 body-first (c ∷ cs) e = either (is_foreign c) (is_mark c) (is_identifier_char c) refl refl refl
   where
-    either : (f m p : Bool) → is_foreign c ≡ f → is_mark c ≡ m → is_identifier_char c ≡ p → begins_by is_ascii_digit (cond f (drop 1 (spelled c ++ flat_map spelled cs)) (spelled c ++ flat_map spelled cs)) ≡ false
-    either true m p f_is m_is p_is = ap (λ t. begins_by is_ascii_digit (drop 1 (t ++ flat_map spelled cs))) (spelled-foreign c f_is)
-    either false true p f_is m_is p_is = ap (λ t. begins_by is_ascii_digit (t ++ flat_map spelled cs)) (spelled-mark c m_is)
-    either false false true f_is m_is p_is = ap (λ t. begins_by is_ascii_digit (t ++ flat_map spelled cs)) (spelled-plain c m_is p_is) ∙ digit_not_numeric c e
+    either : (f m p : Bool) → is_foreign c ≡ f → is_mark c ≡ m → is_identifier_char c ≡ p → begins_by is_ascii_digit (cond f (drop 1 (character_spelling c ++ flat_map character_spelling cs)) (character_spelling c ++ flat_map character_spelling cs)) ≡ false
+    either true m p f_is m_is p_is = ap (λ t. begins_by is_ascii_digit (drop 1 (t ++ flat_map character_spelling cs))) (character_spelling-foreign c f_is)
+    either false true p f_is m_is p_is = ap (λ t. begins_by is_ascii_digit (t ++ flat_map character_spelling cs)) (character_spelling-mark c m_is)
+    either false false true f_is m_is p_is = ap (λ t. begins_by is_ascii_digit (t ++ flat_map character_spelling cs)) (character_spelling-plain c m_is p_is) ∙ digit_not_numeric c e
     either false false false f_is m_is p_is = absurd (cc (ap (λ b. not b && not (is_identifier_char c)) m_is, ap not p_is, f_is))
 
 -- ---- a base
@@ -640,7 +641,7 @@ before_prefix : (characters : List ℕ) → is_word (or_unnamed (without_last_se
 before_prefix characters =
     let cs = after_numerics characters in
     unnamed_word (without_last_separators (spelling cs)) (only_without (spelling cs) (only_spelling cs))
-    (without-first is_ascii_digit (spelling cs) (ap (begins_by is_ascii_digit) (spelling-body cs) ∙ squeezed-first is_ascii_digit (body cs) ∙ body-first cs (after_numerics-first characters)))
+    (without-first is_ascii_digit (spelling cs) (ap (begins_by is_ascii_digit) (spelling-body cs) ∙ without_repeated_underscores-first is_ascii_digit (body cs) ∙ body-first cs (after_numerics-first characters)))
 
 pub base_is_word : (prefixes : List (List ℕ)) (characters : List ℕ) → is_word (base_of prefixes characters) ≡ true
 unfolding base_of
@@ -659,15 +660,15 @@ begins_double [] = false
 begins_double (c ∷ []) = false
 begins_double (c ∷ d ∷ cs) = c == 95 && d == 95
 
-squeezed-double : (text : List ℕ) → begins_double (squeezed text) ≡ false
+without_repeated_underscores-double : (text : List ℕ) → begins_double (without_repeated_underscores text) ≡ false
 unfolding begins_by
-squeezed-double [] = refl
-squeezed-double (c ∷ []) = either (c == 95)
+without_repeated_underscores-double [] = refl
+without_repeated_underscores-double (c ∷ []) = either (c == 95)
   where
     either : (b : Bool) → begins_double (cond (b && false) [] (c ∷ [])) ≡ false
     either true = refl
     either false = refl
-squeezed-double (c ∷ d ∷ cs) = either (c == 95) (d == 95) refl refl (squeezed (d ∷ cs)) (squeezed-double (d ∷ cs)) (squeezed-first (λ x. x == 95) (d ∷ cs))
+without_repeated_underscores-double (c ∷ d ∷ cs) = either (c == 95) (d == 95) refl refl (without_repeated_underscores (d ∷ cs)) (without_repeated_underscores-double (d ∷ cs)) (without_repeated_underscores-first (λ x. x == 95) (d ∷ cs))
   where
     either : (x y : Bool) → (c == 95) ≡ x → (d == 95) ≡ y → (rest : List ℕ) → begins_double rest ≡ false → begins_by (λ x. x == 95) rest ≡ begins_by (λ x. x == 95) (d ∷ cs) → begins_double (cond (x && y) rest (c ∷ rest)) ≡ false
     either true true ex ey rest single first = single
@@ -712,4 +713,4 @@ pub base_not_double : (prefixes : List (List ℕ)) (characters : List ℕ) → b
 unfolding base_of
 base_not_double prefixes characters =
     let cs = after_numerics characters in
-    kept-double prefixes (or_unnamed (without_last_separators (spelling cs))) (unnamed-double (without_last_separators (spelling cs)) (without-double (spelling cs) (ap begins_double (spelling-body cs) ∙ squeezed-double (body cs))))
+    kept-double prefixes (or_unnamed (without_last_separators (spelling cs))) (unnamed-double (without_last_separators (spelling cs)) (without-double (spelling cs) (ap begins_double (spelling-body cs) ∙ without_repeated_underscores-double (body cs))))

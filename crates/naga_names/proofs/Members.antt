@@ -25,7 +25,7 @@ use Rattle.naga_keywords.specs.Words.{Words}
 use Rattle.naga_names.specs.Naming.{name_after, Uses, Names, label_base, labels_with_base, HasNamed}
 use Rattle.naga_names.specs.Naming.{IsFull}
 use Rattle.naga_names.specs.Keys.{NameMap, same_key}
-use Rattle.naga_names.specs.Reset.{Labelled, labelled_items, labels_of, named_items, PutsInto}
+use Rattle.naga_names.specs.Reset.{LabelledItem, labelled_items, labels_of, named_items, PutsInto}
 use Rattle.naga_names.specs.Reset.{item_name, key_fits, keys_fit, HasNamedItems, NamesItems}
 use Rattle.naga_names.specs.Reset.{member_label, labelled_members, member_names, members_of}
 use Rattle.naga_names.specs.Reset.{labelled_type, labelled_types, labelled_entry_points}
@@ -51,37 +51,37 @@ use Rattle.naga_names.proofs.NamedItems.{place_left, item_put, order}
 use Rattle.naga_names.proofs.NameShapes.{name_after_no_keyword, plain_ends, names_differ}
 use Rattle.naga_keywords.proofs.Plains.{words_are}
 
-abbrev named_from : Names → List Labelled → List Labelled → List (NameKey × List ℕ)
+abbrev named_from : Names → List LabelledItem → List LabelledItem → List (NameKey × List ℕ)
 named_from start earlier items = scan (λ earlier item. earlier ++ item ∷ []) (λ earlier item. (item.0, item_name start earlier item)) earlier items
 
-abbrev alone_from : Names → List (List ℕ) → List Labelled → List (NameKey × List ℕ)
+abbrev alone_from : Names → List (List ℕ) → List LabelledItem → List (NameKey × List ℕ)
 alone_from start earlier items = scan (λ earlier item. earlier ++ item.1 ∷ []) (λ earlier item. (item.0, name_after start earlier item.1)) earlier items
 
-abbrev members_from : ℕ → ℕ → List StructMember → List Labelled
+abbrev members_from : ℕ → ℕ → List StructMember → List LabelledItem
 members_from t n members = map (λ p. (key.StructMember t p.0, member_label p.1)) (enumerate_from n members)
 
 -- the last ones of some items
-pub last_are : (xs ys : List Labelled) (n : ℕ) → length ys ≡ n → drop (length (xs ++ ys) - n) (xs ++ ys) ≡ ys
+pub last_are : (xs ys : List LabelledItem) (n : ℕ) → length ys ≡ n → drop (length (xs ++ ys) - n) (xs ++ ys) ≡ ys
 last_are xs ys n is =
     let here : length (xs ++ ys) - n ≡ length xs = omega (arith, length-append xs ys, is) in
     ap (λ k. drop k (xs ++ ys)) here ∙ drop-append_seam xs ys
 
 -- a member is named behind the members before it
-pub member_name : (start : Names) (t : ℕ) (earlier done : List Labelled) (n : ℕ) (label : List ℕ) → length done ≡ n → item_name start (earlier ++ done) (key.StructMember t n, label) ≡ name_after (member_names start) (map (λ item. item.1) done) label
+pub member_name : (start : Names) (t : ℕ) (earlier done : List LabelledItem) (n : ℕ) (label : List ℕ) → length done ≡ n → item_name start (earlier ++ done) (key.StructMember t n, label) ≡ name_after (member_names start) (map (λ item. item.1) done) label
 member_name start t earlier done n label is = ap (λ items. name_after (member_names start) (map (λ item. item.1) items) label) (last_are earlier done n is)
 
-module _ (start : Names) (t : ℕ) (earlier : List Labelled) where
-  named_beside : (done : List Labelled) (n : ℕ) (members : List StructMember) → length done ≡ n → named_from start (earlier ++ done) (members_from t n members) ≡ alone_from (member_names start) (map (λ item. item.1) done) (members_from t n members)
+module _ (start : Names) (t : ℕ) (earlier : List LabelledItem) where
+  named_beside : (done : List LabelledItem) (n : ℕ) (members : List StructMember) → length done ≡ n → named_from start (earlier ++ done) (members_from t n members) ≡ alone_from (member_names start) (map (λ item. item.1) done) (members_from t n members)
   named_beside done n [] is = refl
   named_beside done n (m ∷ members) is =
-      let item : Labelled = (key.StructMember t n, member_label m) in
+      let item : LabelledItem = (key.StructMember t n, member_label m) in
       let long : length (done ++ item ∷ []) ≡ n + 1 = omega (arith, length-append done (item ∷ []), is) in
       let rest = named_beside (done ++ item ∷ []) (n + 1) members long in
       λ i. (key.StructMember t n, member_name start t earlier done n (member_label m) is i)
       ∷ (ap (λ items. named_from start items (members_from t (n + 1) members)) (append_assoc earlier done (item ∷ [])) ∙ rest
-      ∙ ap (λ labels. alone_from (member_names start) labels (members_from t (n + 1) members)) (map-append (λ (item : Labelled). item.1) done (item ∷ []))) i
+      ∙ ap (λ labels. alone_from (member_names start) labels (members_from t (n + 1) members)) (map-append (λ (item : LabelledItem). item.1) done (item ∷ []))) i
 
-  scan-append : (before : List Labelled) (xs ys : List Labelled) → named_from start before (xs ++ ys) ≡ named_from start before xs ++ named_from start (before ++ xs) ys
+  scan-append : (before : List LabelledItem) (xs ys : List LabelledItem) → named_from start before (xs ++ ys) ≡ named_from start before xs ++ named_from start (before ++ xs) ys
   scan-append before [] ys = ap (λ items. named_from start items ys) (sym (append-nil before))
   scan-append before (x ∷ xs) ys =
       ap (λ pairs. (x.0, item_name start before x) ∷ pairs)
@@ -101,7 +101,7 @@ pub no_labels : (t n : ℕ) (members : List StructMember) → labels_of (members
 no_labels t n [] = refl
 no_labels t n (m ∷ members) = no_labels t (n + 1) members
 
-same_labels : (earlier : List Labelled) (t : ℕ) (members : List StructMember) → labels_of (earlier ++ labelled_members t members) ≡ labels_of earlier
+same_labels : (earlier : List LabelledItem) (t : ℕ) (members : List StructMember) → labels_of (earlier ++ labelled_members t members) ≡ labels_of earlier
 same_labels earlier t members = labels_of-append earlier (labelled_members t members) ∙ ap (λ labels. labels_of earlier ++ labels) (no_labels t 0 members) ∙ append-nil (labels_of earlier)
 
 -- more pairs that are put into a map
@@ -114,7 +114,7 @@ puts_more first before now xs ys one two = record {
 }
 
 module _ (old : Names) (before now : NameMap) (t : ℕ) (members : List StructMember) where
-  puts_members : (start : Names) (first : NameMap) (earlier : List Labelled) (some : List StructMember) → HasNamedItems start first earlier old before → PutsInto before (named_members (member_names old) t some) now → PutsInto first (named_items start (earlier ++ labelled_members t some)) now
+  puts_members : (start : Names) (first : NameMap) (earlier : List LabelledItem) (some : List StructMember) → HasNamedItems start first earlier old before → PutsInto before (named_members (member_names old) t some) now → PutsInto first (named_items start (earlier ++ labelled_members t some)) now
   puts_members start first earlier some has put =
       subst (λ pairs. PutsInto first pairs now)
       (ap (λ names. named_items start earlier ++ named_members (member_names names) t some) has.words ∙ sym (named_items_members start t earlier some))
@@ -143,7 +143,7 @@ module _ (old : Names) (before now : NameMap) (t : ℕ) (members : List StructMe
     why = λ start first earlier has. reason start earlier error refused.why;
   }
     where
-      reason : (start : Names) (earlier : List Labelled) (error : NamerError) → IsRefusalOfMembers (labelled_members t members) error → IsRefusalOfItems start (earlier ++ labelled_members t members) error
+      reason : (start : Names) (earlier : List LabelledItem) (error : NamerError) → IsRefusalOfMembers (labelled_members t members) error → IsRefusalOfItems start (earlier ++ labelled_members t members) error
       reason start earlier Full never = absurd never
       reason start earlier KeyFull why = list_all-append (λ item. key_fits item.0) earlier (labelled_members t members) ∙ or_not_this (keys_fit earlier) (keys_fit (labelled_members t members)) why
       reason start earlier (Memory e) why = tt
@@ -159,7 +159,7 @@ module _ (start : Names) (before : NameMap) (t : ℕ) where
       let same : 0 + length members ≡ length members = omega arith in
       entries_grown (λ n (m : StructMember). (key.StructMember t n, member_label m)) 0 members (m ∷ []) ∙ ap (λ n. labelled_members t members ++ (key.StructMember t n, member_label m) ∷ []) same
 
-  labels_folded : (earlier : List (List ℕ)) (items : List Labelled) → fold (λ labels item. labels ++ item.1 ∷ []) earlier items ≡ earlier ++ map (λ item. item.1) items
+  labels_folded : (earlier : List (List ℕ)) (items : List LabelledItem) → fold (λ labels item. labels ++ item.1 ∷ []) earlier items ≡ earlier ++ map (λ item. item.1) items
   labels_folded earlier [] = sym (append-nil earlier)
   labels_folded earlier (x ∷ items) = labels_folded (earlier ++ x.1 ∷ []) items ∙ append_assoc earlier (x.1 ∷ []) (map (λ item. item.1) items)
 
@@ -237,7 +237,7 @@ outside_again inside old last new uses words within same last_is kept uses_are w
 -- Their names after a `reset`.
 
 -- what is found in a list passes the test that all of it passes
-all_at : (test : Labelled → Bool) (xs : List Labelled) (i : ℕ) (x : Labelled) → list_all test xs ≡ true → slice_get xs i ≡ Some x → test x ≡ true
+all_at : (test : LabelledItem → Bool) (xs : List LabelledItem) (i : ℕ) (x : LabelledItem) → list_all test xs ≡ true → slice_get xs i ≡ Some x → test x ≡ true
 all_at test [] i x all e = absurd (none-some x e)
 all_at test (y ∷ xs) zero x all e = subst (λ z. test z ≡ true) (ap (λ o. unwrap_or o y) e) (and_parts (test y) (list_all test xs) all).0
 all_at test (y ∷ xs) (suc i) x all e = all_at test xs i x (and_parts (test y) (list_all test xs) all).1 e
@@ -246,24 +246,24 @@ pub reserved_plain : HasPlainEnds (set.from_list (map (λ word. word.now) RESERV
 reserved_plain = plain_ends (map (λ word. word.now) RESERVED.now) (words_are (map (λ word. word.now) RESERVED.now) refl)
 
 -- the item stands among these, directly behind those
-pub record StandsBehind (items : List Labelled) (item : Labelled) (done : List Labelled) : Type 0 where
+pub record StandsBehind (items : List LabelledItem) (item : LabelledItem) (done : List LabelledItem) : Type 0 where
   pub place : ℕ
   pub there : slice_get items place ≡ Some item
-  pub front : List Labelled
+  pub front : List LabelledItem
   pub before : take place items ≡ front ++ done
 
-behind_left : (xs ys : List Labelled) (item : Labelled) (done : List Labelled) → StandsBehind xs item done → StandsBehind (xs ++ ys) item done
+behind_left : (xs ys : List LabelledItem) (item : LabelledItem) (done : List LabelledItem) → StandsBehind xs item done → StandsBehind (xs ++ ys) item done
 behind_left xs ys item done s =
     let le : s.place ≤ length xs = omega (arith, slice_get_within xs s.place item s.there) in
     record { place = s.place; there = place_left xs ys s.place item s.there; front = s.front; before = take-append-le s.place xs ys le ∙ s.before }
 
-behind_right : (xs ys : List Labelled) (item : Labelled) (done : List Labelled) → StandsBehind ys item done → StandsBehind (xs ++ ys) item done
+behind_right : (xs ys : List LabelledItem) (item : LabelledItem) (done : List LabelledItem) → StandsBehind ys item done → StandsBehind (xs ++ ys) item done
 behind_right [] ys item done s = s
 behind_right (x ∷ xs) ys item done s =
     let inner = behind_right xs ys item done s in
     record { place = suc inner.place; there = inner.there; front = x ∷ inner.front; before = ap (λ items. x ∷ items) inner.before }
 
-behind_sections : {X : Type 0} (section : ℕ → X → List Labelled) (n i : ℕ) (xs : List X) (x : X) (item : Labelled) (done : List Labelled) → slice_get xs i ≡ Some x → StandsBehind (section (n + i) x) item done → StandsBehind (flat_map (λ p. section p.0 p.1) (enumerate_from n xs)) item done
+behind_sections : {X : Type 0} (section : ℕ → X → List LabelledItem) (n i : ℕ) (xs : List X) (x : X) (item : LabelledItem) (done : List LabelledItem) → slice_get xs i ≡ Some x → StandsBehind (section (n + i) x) item done → StandsBehind (flat_map (λ p. section p.0 p.1) (enumerate_from n xs)) item done
 behind_sections section n i [] x item done e s = absurd (none-some x e)
 behind_sections section n zero (y ∷ xs) x item done e s =
     let here : n + zero ≡ n = omega arith in
@@ -273,7 +273,7 @@ behind_sections section n (suc i) (y ∷ xs) x item done e s =
     let next : n + suc i ≡ n + 1 + i = omega arith in
     behind_right (section n y) (flat_map (λ p. section p.0 p.1) (enumerate_from (n + 1) xs)) item done (behind_sections section (n + 1) i xs x item done e (subst (λ m. StandsBehind (section m x) item done) next s))
 
-module _ {X : Type 0} (entry : ℕ → X → Labelled) where
+module _ {X : Type 0} (entry : ℕ → X → LabelledItem) where
   entry_at : (n i : ℕ) (xs : List X) (x : X) → slice_get xs i ≡ Some x → slice_get (map (λ p. entry p.0 p.1) (enumerate_from n xs)) i ≡ Some (entry (n + i) x)
   entry_at n i [] x e = absurd (none-some x e)
   entry_at n zero (y ∷ xs) x e =
@@ -289,10 +289,10 @@ module _ {X : Type 0} (entry : ℕ → X → Labelled) where
 
 -- where a member stands in its module
 module _ (start : Names) («module» : Module) (t : ℕ) (ty : Type_) (found : slice_get «module».types t ≡ Some ty) (n : ℕ) (member : StructMember) (there : slice_get (members_of ty.inner) n ≡ Some member) where
-  abbrev done : List Labelled
+  abbrev done : List LabelledItem
   done = labelled_members t (take n (members_of ty.inner))
 
-  abbrev item : Labelled
+  abbrev item : LabelledItem
   item = (key.StructMember t n, member_label member)
 
   in_type : StandsBehind (labelled_type «module».entry_points.items t ty) item done
@@ -327,7 +327,7 @@ module _ (start : Names) («module» : Module) (t : ℕ) (ty : Type_) (found : s
         ∙ ap (λ labels. Some (name_after (member_names start) labels (member_label member))) (own_labels t 0 (take n (members_of ty.inner)))
 
     pub member_counted : n < 2 ^ 32
-    member_counted = ltb-true n (2 ^ 32) (all_at (λ (x : Labelled). key_fits x.0) (labelled_items start «module») in_module.place item has.keys in_module.there)
+    member_counted = ltb-true n (2 ^ 32) (all_at (λ (x : LabelledItem). key_fits x.0) (labelled_items start «module») in_module.place item has.keys in_module.there)
 
     pub member_not_reserved : start.keywords ≡ set.from_list (map (λ word. word.now) RESERVED.now) → (name : List ℕ) → now (key.StructMember t n) ≡ Some name → set.contains start.keywords name ≡ false
     member_not_reserved reserved name is =

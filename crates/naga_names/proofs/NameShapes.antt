@@ -26,7 +26,7 @@ use Rattle.naga_names.specs.Label.{ends_separated, after_numerics, spelling}
 use Rattle.naga_names.specs.Label.{without_last_separators, or_unnamed, kept_off, base_of}
 use Rattle.naga_keywords.specs.Plain.{is_identifier_char, is_word, is_identifier}
 use Rattle.naga_keywords.specs.Plain.{is_empty_or_separated, HasPlainEnds, IsPlain}
-use Rattle.naga_keywords.specs.Words.{lowered}
+use Rattle.naga_keywords.specs.Words.{in_lower_case}
 use Rattle.naga_names.specs.Naming.{Names, label_base, is_taken, ends_in_digit, first_name}
 use Rattle.naga_names.specs.Naming.{later_name, name_of_base, labels_with_base, name_after}
 
@@ -216,9 +216,9 @@ module _ (names : Names) (b c : List ℕ) (m n : ℕ) (b_ends : ends_separated b
 pub name_after_is_word : (start : Names) (earlier : List (List ℕ)) (label : List ℕ) → is_word (name_after start earlier label) ≡ true
 name_after_is_word start earlier label = word_of_base start (label_base start label) (base_is_word start.reserved_prefixes (chars label)) (labels_with_base start earlier (label_base start label))
 
-kept_three : (start : Names) (word : List ℕ) → is_taken start word ≡ false → (set.contains start.keywords word ≡ false) × (set.contains start.builtin_identifiers word ≡ false) × (set.contains start.caseless_keywords (lowered word) ≡ false)
+kept_three : (start : Names) (word : List ℕ) → is_taken start word ≡ false → (set.contains start.keywords word ≡ false) × (set.contains start.builtin_identifiers word ≡ false) × (set.contains start.caseless_keywords (in_lower_case word) ≡ false)
 kept_three start word e =
-    let outer = or_parts (set.contains start.keywords word || set.contains start.builtin_identifiers word) (set.contains start.caseless_keywords (lowered word)) e in
+    let outer = or_parts (set.contains start.keywords word || set.contains start.builtin_identifiers word) (set.contains start.caseless_keywords (in_lower_case word)) e in
     let inner = or_parts (set.contains start.keywords word) (set.contains start.builtin_identifiers word) outer.0 in
     (inner.0, inner.1, outer.1)
 
@@ -297,18 +297,18 @@ name_after_no_builtin start earlier label plain =
     free_of_base start base (set.contains start.builtin_identifiers) plain.no_end
     (λ e. (kept_three start base e).1) (labels_with_base start earlier base)
 
-pub name_after_no_caseless : (start : Names) (earlier : List (List ℕ)) (label : List ℕ) → HasPlainEnds start.caseless_keywords → set.contains start.caseless_keywords (lowered (name_after start earlier label)) ≡ false
+pub name_after_no_caseless : (start : Names) (earlier : List (List ℕ)) (label : List ℕ) → HasPlainEnds start.caseless_keywords → set.contains start.caseless_keywords (in_lower_case (name_after start earlier label)) ≡ false
 name_after_no_caseless start earlier label plain =
     let base = label_base start label in
-    free_of_base start base (λ word. set.contains start.caseless_keywords (lowered word))
-    (λ front digits all. ap (set.contains start.caseless_keywords) (lowered_end front digits) ∙ plain.no_end (lowered front) (lowered digits) (lowered_digits digits all))
+    free_of_base start base (λ word. set.contains start.caseless_keywords (in_lower_case word))
+    (λ front digits all. ap (set.contains start.caseless_keywords) (lowered_end front digits) ∙ plain.no_end (in_lower_case front) (in_lower_case digits) (lowered_digits digits all))
     (λ e. (kept_three start base e).2) (labels_with_base start earlier base)
   where
-    lowered_end : (front digits : List ℕ) → lowered (front ++ 95 ∷ digits) ≡ lowered front ++ 95 ∷ lowered digits
+    lowered_end : (front digits : List ℕ) → in_lower_case (front ++ 95 ∷ digits) ≡ in_lower_case front ++ 95 ∷ in_lower_case digits
     lowered_end [] digits = refl
     lowered_end (c ∷ front) digits = ap (λ t. to_ascii_lowercase c ∷ t) (lowered_end front digits)
 
-    lowered_digits : (digits : List ℕ) → list_all is_ascii_digit digits ≡ true → list_all is_ascii_digit (lowered digits) ≡ true
+    lowered_digits : (digits : List ℕ) → list_all is_ascii_digit digits ≡ true → list_all is_ascii_digit (in_lower_case digits) ≡ true
     lowered_digits [] e = refl
     lowered_digits (d ∷ digits) e =
         let parts = and_parts (is_ascii_digit d) (list_all is_ascii_digit digits) e in

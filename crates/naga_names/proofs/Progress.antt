@@ -14,7 +14,7 @@ use Rattle.naga_names.specs.declared.error.NamerError.{NamerError}
 use Rattle.naga_names.specs.declared.error.NamerError.TheVariants.{KeyFull, Memory}
 use Rattle.naga_names.specs.Naming.{Names}
 use Rattle.naga_names.specs.Refusal.{IsRefusalOfItems, RefusesItems}
-use Rattle.naga_names.specs.Reset.{Labelled, key_fits, keys_fit, named_items, PutsInto}
+use Rattle.naga_names.specs.Reset.{LabelledItem, key_fits, keys_fit, named_items, PutsInto}
 use Rattle.naga_names.specs.Reset.{PutsBeginning, HasNamedItems, NamesItems, labelled_declarations}
 use Rattle.naga_names.specs.Reset.{labelled_values, labelled_items, type_name, type_names_in}
 use Rattle.naga_names.proofs.Naming.{has_named_nothing}
@@ -24,13 +24,13 @@ use Rattle.naga_names.specs.Progress.{Progress, Stands, Gives, GivesModule, Leav
 use Rattle.naga_names.specs.declared.namer.items.Owner.{Owner}
 use Rattle.naga_names.specs.declared.namer.items.Owner.TheVariants as owner
 
-stands_more : (start : Names) (first : NameMap) (earlier items : List Labelled) (names : Names) (now : NameMap) (error : NamerError) → Stands start first earlier names now (Some error) → Stands start first (earlier ++ items) names now (Some error)
+stands_more : (start : Names) (first : NameMap) (earlier items : List LabelledItem) (names : Names) (now : NameMap) (error : NamerError) → Stands start first earlier names now (Some error) → Stands start first (earlier ++ items) names now (Some error)
 stands_more start first earlier items names now error stands = (beginning_more start first now earlier items stands.0, refusal_more start earlier items error stands.1)
 
 pub gives_none : (a : Progress) → Gives a [] a
 gives_none a = record { more = λ start first earlier stands. subst (λ items. Stands start first items a.names a.map a.refusal) (sym (append-nil earlier)) stands }
 
-pub gives_then : {a b c : Progress} {xs ys : List Labelled} → Gives a xs b → Gives b ys c → Gives a (xs ++ ys) c
+pub gives_then : {a b c : Progress} {xs ys : List LabelledItem} → Gives a xs b → Gives b ys c → Gives a (xs ++ ys) c
 gives_then {a} {b} {c} {xs} {ys} one two = record {
   more = λ start first earlier stands.
       subst (λ items. Stands start first items c.names c.map c.refusal) (append_assoc earlier xs ys) (two.more start first (earlier ++ xs) (one.more start first earlier stands));
@@ -38,21 +38,21 @@ gives_then {a} {b} {c} {xs} {ys} one two = record {
 
 -- the same from names that a map has in another order
 pub gives_alike : {names : Names} {refusal : Option NamerError} {before now : NameMap}
-    {b : Progress} {xs : List Labelled} → now ≡ before
+    {b : Progress} {xs : List LabelledItem} → now ≡ before
     → Gives (record { names = names; map = now; refusal = refusal }) xs b
     → Gives (record { names = names; map = before; refusal = refusal }) xs b
 gives_alike {names} {refusal} {before} {now} {b} {xs} same =
     subst (λ map. Gives (record { names = names; map = map; refusal = refusal }) xs b) same
 
 -- the same items, said in another way
-pub gives_same : {a b : Progress} {xs ys : List Labelled} → xs ≡ ys → Gives a xs b → Gives a ys b
+pub gives_same : {a b : Progress} {xs ys : List LabelledItem} → xs ≡ ys → Gives a xs b → Gives a ys b
 gives_same {a} {b} same gives = subst (λ items. Gives a items b) same gives
 
 -- behind a refusal nothing is named
-pub gives_behind : (a : Progress) (items : List Labelled) → is_some a.refusal ≡ true → Gives a items a
+pub gives_behind : (a : Progress) (items : List LabelledItem) → is_some a.refusal ≡ true → Gives a items a
 gives_behind a items is = record { more = λ start first earlier stands. either start first earlier a.refusal is stands }
   where
-    either : (start : Names) (first : NameMap) (earlier : List Labelled) (o : Option NamerError) → is_some o ≡ true → Stands start first earlier a.names a.map o → Stands start first (earlier ++ items) a.names a.map o
+    either : (start : Names) (first : NameMap) (earlier : List LabelledItem) (o : Option NamerError) → is_some o ≡ true → Stands start first earlier a.names a.map o → Stands start first (earlier ++ items) a.names a.map o
     either start first earlier None none stands = absurd (cc)
     either start first earlier (Some error) some stands = stands_more start first earlier items a.names a.map error stands
 
@@ -60,13 +60,13 @@ pub no_refusal : (o : Option NamerError) → is_some o ≡ false → o ≡ None
 no_refusal None is = refl
 no_refusal (Some error) is = absurd (cc)
 
-pub gives_named : (a b : Progress) (items : List Labelled) → a.refusal ≡ None → b.refusal ≡ None → NamesItems a.names a.map items b.names b.map → Gives a items b
+pub gives_named : (a b : Progress) (items : List LabelledItem) → a.refusal ≡ None → b.refusal ≡ None → NamesItems a.names a.map items b.names b.map → Gives a items b
 gives_named a b items was is named = record {
   more = λ start first earlier stands.
       subst (Stands start first (earlier ++ items) b.names b.map) (sym is) (named.more start first earlier (subst (Stands start first earlier a.names a.map) was stands));
 }
 
-pub gives_refused : (a b : Progress) (items : List Labelled) (error : NamerError) → a.refusal ≡ None → b.refusal ≡ Some error → RefusesItems a.names a.map items b.map error → Gives a items b
+pub gives_refused : (a b : Progress) (items : List LabelledItem) (error : NamerError) → a.refusal ≡ None → b.refusal ≡ Some error → RefusesItems a.names a.map items b.map error → Gives a items b
 gives_refused a b items error was is refused = record {
   more = λ start first earlier stands.
       let has : HasNamedItems start first earlier a.names a.map = subst (Stands start first earlier a.names a.map) was stands in
@@ -74,11 +74,11 @@ gives_refused a b items error was is refused = record {
 }
 
 -- a refusal is remembered, for which there is a reason with these items
-pub gives_up : (a b : Progress) (items : List Labelled) (error : NamerError) → b.map ≡ a.map → b.refusal ≡ option_or a.refusal (Some error)
-    → ((start : Names) (earlier : List Labelled) → IsRefusalOfItems start (earlier ++ items) error) → Gives a items b
+pub gives_up : (a b : Progress) (items : List LabelledItem) (error : NamerError) → b.map ≡ a.map → b.refusal ≡ option_or a.refusal (Some error)
+    → ((start : Names) (earlier : List LabelledItem) → IsRefusalOfItems start (earlier ++ items) error) → Gives a items b
 gives_up a b items error map_is is why = record { more = λ start first earlier stands. either start first earlier a.refusal refl stands }
   where
-    either : (start : Names) (first : NameMap) (earlier : List Labelled) (o : Option NamerError) → a.refusal ≡ o → Stands start first earlier a.names a.map a.refusal → Stands start first (earlier ++ items) b.names b.map b.refusal
+    either : (start : Names) (first : NameMap) (earlier : List LabelledItem) (o : Option NamerError) → a.refusal ≡ o → Stands start first earlier a.names a.map a.refusal → Stands start first (earlier ++ items) b.names b.map b.refusal
     either start first earlier None was stands =
         let has : HasNamedItems start first earlier a.names a.map = subst (Stands start first earlier a.names a.map) was stands in
         subst (Stands start first (earlier ++ items) b.names b.map) (sym (is ∙ ap (λ o. option_or o (Some error)) was))
@@ -89,20 +89,20 @@ gives_up a b items error map_is is why = record { more = λ start first earlier 
         (subst (PutsBeginning start first (earlier ++ items)) (sym map_is) more.0, more.1)
 
 -- memory may run out at any time
-pub gives_up_memory : (a b : Progress) (items : List Labelled) {e : _} → b.map ≡ a.map → b.refusal ≡ option_or a.refusal (Some (Memory e)) → Gives a items b
+pub gives_up_memory : (a b : Progress) (items : List LabelledItem) {e : _} → b.map ≡ a.map → b.refusal ≡ option_or a.refusal (Some (Memory e)) → Gives a items b
 gives_up_memory a b items {e} map_is is = gives_up a b items (Memory e) map_is is (λ start earlier. tt)
 
 -- a key that can't be told
-pub gives_up_key : (a b : Progress) (item : Labelled) (others : List Labelled) → b.map ≡ a.map → b.refusal ≡ option_or a.refusal (Some KeyFull) → key_fits item.0 ≡ false → Gives a (item ∷ others) b
+pub gives_up_key : (a b : Progress) (item : LabelledItem) (others : List LabelledItem) → b.map ≡ a.map → b.refusal ≡ option_or a.refusal (Some KeyFull) → key_fits item.0 ≡ false → Gives a (item ∷ others) b
 gives_up_key a b item others map_is is unfit =
     gives_up a b (item ∷ others) KeyFull map_is is
     (λ start earlier. list_all-append (λ item. key_fits item.0) earlier (item ∷ others) ∙ ap (λ b. keys_fit earlier && (b && keys_fit others)) unfit ∙ and-false (keys_fit earlier))
 
 -- ---- loops
-pub leaves_all : (a : Progress) {all left : List Labelled} → all ≡ left → Leaves a a all left
+pub leaves_all : (a : Progress) {all left : List LabelledItem} → all ≡ left → Leaves a a all left
 leaves_all a same = record { rest = λ after gives. gives_same (sym same) gives }
 
-module _ {X : Type 0} (own : X → List Labelled) {a b : Progress} {all : List Labelled} {xs : List X} where
+module _ {X : Type 0} (own : X → List LabelledItem) {a b : Progress} {all : List LabelledItem} {xs : List X} where
   pub leaves_turn : {c : Progress} {x : X} {rest : List X} → xs ≡ x ∷ rest → Leaves a b all (flat_map own xs) → Gives b (own x) c → Leaves a c all (flat_map own rest)
   leaves_turn is leaves gives = record { rest = λ after others. leaves.rest after (gives_same (sym (ap (flat_map own) is)) (gives_then gives others)) }
 
@@ -110,11 +110,11 @@ module _ {X : Type 0} (own : X → List Labelled) {a b : Progress} {all : List L
   leaves_none is leaves = leaves.rest b (gives_same (sym (ap (flat_map own) is)) (gives_none b))
 
 -- the same where each has one item
-module _ {X : Type 0} (own : X → Labelled) {a b : Progress} {all : List Labelled} {xs : List X} where
+module _ {X : Type 0} (own : X → LabelledItem) {a b : Progress} {all : List LabelledItem} {xs : List X} where
   pub leaves_turn_one : {c : Progress} {x : X} {rest : List X} → xs ≡ x ∷ rest → Leaves a b all (map own xs) → Gives b (own x ∷ []) c → Leaves a c all (map own rest)
   leaves_turn_one is leaves gives = record { rest = λ after others. leaves.rest after (gives_same (sym (ap (map own) is)) (gives_then gives others)) }
 
-pub one_each : {X : Type 0} (own : X → Labelled) (xs : List X) → flat_map (λ x. own x ∷ []) xs ≡ map own xs
+pub one_each : {X : Type 0} (own : X → LabelledItem) (xs : List X) → flat_map (λ x. own x ∷ []) xs ≡ map own xs
 one_each own [] = refl
 one_each own (x ∷ xs) = ap (λ items. own x ∷ items) (one_each own xs)
 

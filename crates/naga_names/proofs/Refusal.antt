@@ -16,7 +16,7 @@ use Rattle.naga_ir.specs.declared.module.Override.{Override}
 use Rattle.naga_ir.specs.declared.types.StructMember.{StructMember}
 use Rattle.naga_names.specs.declared.key.NameKey.TheVariants as key
 use Rattle.naga_names.specs.Naming.{label_or, Names}
-use Rattle.naga_names.specs.Reset.{Labelled, labelled_items, key_fits, keys_fit, member_label}
+use Rattle.naga_names.specs.Reset.{LabelledItem, labelled_items, key_fits, keys_fit, member_label}
 use Rattle.naga_names.specs.Reset.{members_of, labelled_type, labelled_types, labelled_entry_points}
 use Rattle.naga_names.specs.Reset.{labelled_functions, labelled_globals, labelled_declarations}
 use Rattle.naga_names.specs.Reset.{labelled_values, type_name, is_external, labelled_argument}
@@ -36,9 +36,9 @@ element [] n lt = absurd (omega (arith, lt))
 element (x ∷ xs) zero lt = (x, refl)
 element (x ∷ xs) (suc n) lt = element xs n (omega (arith, lt))
 
-one_unfit : (items : List Labelled) (i : ℕ) (item : Labelled) → slice_get items i ≡ Some item → key_fits item.0 ≡ false → keys_fit items ≡ false
+one_unfit : (items : List LabelledItem) (i : ℕ) (item : LabelledItem) → slice_get items i ≡ Some item → key_fits item.0 ≡ false → keys_fit items ≡ false
 one_unfit [] i item e unfit = absurd (none-some item e)
-one_unfit (x ∷ items) zero item e unfit = ap (λ b. b && keys_fit items) (ap (λ (y : Labelled). key_fits y.0) (ap (λ o. unwrap_or o x) e) ∙ unfit)
+one_unfit (x ∷ items) zero item e unfit = ap (λ b. b && keys_fit items) (ap (λ (y : LabelledItem). key_fits y.0) (ap (λ o. unwrap_or o x) e) ∙ unfit)
 one_unfit (x ∷ items) (suc i) item e unfit = or_not_this (key_fits x.0) (keys_fit items) (one_unfit items i item e unfit)
 
 -- ---- a list that is too long
@@ -63,21 +63,21 @@ module _ (start : Names) («module» : Module) where
       (or_not_this (nat_lt long.place (2 ^ 16)) (nat_lt (2 ^ 32) (2 ^ 32)) (not_below (2 ^ 32) (2 ^ 32) (λ lt. omega (arith, lt))))
 
 -- ---- where a key does not fit
-module _ (P : Labelled → Type 0) where
-  sections_in : {X : Type 0} (section : ℕ → X → List Labelled) (n : ℕ) (xs : List X) → ((i : ℕ) (x : X) → slice_get xs i ≡ Some x → AllByRecursion P (section (n + i) x)) → AllByRecursion P (flat_map (λ p. section p.0 p.1) (enumerate_from n xs))
+module _ (P : LabelledItem → Type 0) where
+  sections_in : {X : Type 0} (section : ℕ → X → List LabelledItem) (n : ℕ) (xs : List X) → ((i : ℕ) (x : X) → slice_get xs i ≡ Some x → AllByRecursion P (section (n + i) x)) → AllByRecursion P (flat_map (λ p. section p.0 p.1) (enumerate_from n xs))
   sections_in section n [] each = tt
   sections_in section n (x ∷ xs) each =
       let here : n + 0 ≡ n = omega arith in
       all_append P (section n x) (flat_map (λ p. section p.0 p.1) (enumerate_from (n + 1) xs)) (subst (λ k. AllByRecursion P (section k x)) here (each 0 x refl))
       (sections_in section (n + 1) xs (λ i y e. let next : n + suc i ≡ n + 1 + i = omega arith in subst (λ k. AllByRecursion P (section k y)) next (each (suc i) y e)))
 
-  entries_in : {X : Type 0} (entry : ℕ → X → Labelled) (n : ℕ) (xs : List X) → ((i : ℕ) (x : X) → slice_get xs i ≡ Some x → P (entry (n + i) x)) → AllByRecursion P (map (λ p. entry p.0 p.1) (enumerate_from n xs))
+  entries_in : {X : Type 0} (entry : ℕ → X → LabelledItem) (n : ℕ) (xs : List X) → ((i : ℕ) (x : X) → slice_get xs i ≡ Some x → P (entry (n + i) x)) → AllByRecursion P (map (λ p. entry p.0 p.1) (enumerate_from n xs))
   entries_in entry n [] each = tt
   entries_in entry n (x ∷ xs) each =
       let here : n + 0 ≡ n = omega arith in
       (subst (λ k. P (entry k x)) here (each 0 x refl), entries_in entry (n + 1) xs (λ i y e. let next : n + suc i ≡ n + 1 + i = omega arith in subst (λ k. P (entry k y)) next (each (suc i) y e)))
 
-found_unfit : (R : Type 0) (items : List Labelled) → AllByRecursion (λ (item : Labelled). key_fits item.0 ≡ false → R) items → keys_fit items ≡ false → R
+found_unfit : (R : Type 0) (items : List LabelledItem) → AllByRecursion (λ (item : LabelledItem). key_fits item.0 ≡ false → R) items → keys_fit items ≡ false → R
 found_unfit R [] all e = absurd (true≢false e)
 found_unfit R (x ∷ items) all e = either (λ f. found_unfit R items all.1 f) (key_fits x.0) refl e
   where
@@ -95,7 +95,7 @@ too_long n bound long lt unfit =
     omega (arith, past, lt)
 
 module _ (start : Names) («module» : Module) where
-  abbrev Unfit : Labelled → Type 0
+  abbrev Unfit : LabelledItem → Type 0
   Unfit item = key_fits item.0 ≡ false → KeysRunOut «module»
 
   types_unfit : AllByRecursion Unfit (labelled_types «module».entry_points.items «module».types)

@@ -20,7 +20,7 @@ use Rattle.naga_names.specs.declared.key.NameKey.TheVariants as key
 use Rattle.naga_names.specs.Naming.{name_after, Uses, Names, label_base, with_use, labels_with_base}
 use Rattle.naga_names.specs.Naming.{HasNamed, new_names}
 use Rattle.naga_names.specs.Keys.{NameMap, same_key, names_in}
-use Rattle.naga_names.specs.Reset.{Labelled, labels_of, named_items, output_label, output_word}
+use Rattle.naga_names.specs.Reset.{LabelledItem, labels_of, named_items, output_label, output_word}
 use Rattle.naga_names.specs.Reset.{returns, is_member, item_name, key_fits, keys_fit, HasNamedItems}
 use Rattle.naga_names.specs.Reset.{type_names_in, PutsBeginning, NamesItems}
 use Rattle.naga_names.specs.Members.{PutsName, PutsNoName}
@@ -31,16 +31,16 @@ use Rattle.std.proofs.lemmas.List.Folds.{list_all-append}
 use Rattle.naga_names.proofs.NameShapes.{counted_more}
 use Rattle.naga_names.proofs.Naming.{name_of-after}
 
-pub labels_of-append : (xs ys : List Labelled) → labels_of (xs ++ ys) ≡ labels_of xs ++ labels_of ys
-labels_of-append xs ys = flat_map-append (λ (item : Labelled). cond (is_member item.0) [] (item.1 ∷ [])) xs ys
+pub labels_of-append : (xs ys : List LabelledItem) → labels_of (xs ++ ys) ≡ labels_of xs ++ labels_of ys
+labels_of-append xs ys = flat_map-append (λ (item : LabelledItem). cond (is_member item.0) [] (item.1 ∷ [])) xs ys
 
 -- the labels around an item that is no member of a struct
-pub labels_of-around : (items : List Labelled) (item : Labelled) (others : List Labelled) → is_member item.0 ≡ false → labels_of (items ++ item ∷ others) ≡ labels_of items ++ item.1 ∷ labels_of others
+pub labels_of-around : (items : List LabelledItem) (item : LabelledItem) (others : List LabelledItem) → is_member item.0 ≡ false → labels_of (items ++ item ∷ others) ≡ labels_of items ++ item.1 ∷ labels_of others
 labels_of-around items item others outside =
     labels_of-append items (item ∷ others) ∙ ap (λ b. labels_of items ++ (cond b [] (item.1 ∷ []) ++ labels_of others)) outside
 
 -- its name is that of its label behind these labels
-pub item_name-outside : (start : Names) (earlier : List Labelled) (key : NameKey) (label : List ℕ) → is_member key ≡ false → item_name start earlier (key, label) ≡ name_after start (labels_of earlier) label
+pub item_name-outside : (start : Names) (earlier : List LabelledItem) (key : NameKey) (label : List ℕ) → is_member key ≡ false → item_name start earlier (key, label) ≡ name_after start (labels_of earlier) label
 item_name-outside start earlier (key.StructMember t n) label outside = absurd (cc)
 item_name-outside start earlier other label outside = refl
 
@@ -52,11 +52,11 @@ fold-push : {S X : Type 0} (next : S → X → S) (a : S) (xs : List X) (x : X) 
 fold-push next a [] x = refl
 fold-push next a (y ∷ xs) x = fold-push next (next a y) xs x
 
-pub items_folded : (earlier items : List Labelled) → fold (λ earlier item. earlier ++ item ∷ []) earlier items ≡ earlier ++ items
+pub items_folded : (earlier items : List LabelledItem) → fold (λ earlier item. earlier ++ item ∷ []) earlier items ≡ earlier ++ items
 items_folded earlier [] = sym (append-nil earlier)
 items_folded earlier (x ∷ items) = items_folded (earlier ++ x ∷ []) items ∙ append_assoc earlier (x ∷ []) items
 
-named_items-push : (start : Names) (items : List Labelled) (item : Labelled) → named_items start (items ++ item ∷ []) ≡ named_items start items ++ (item.0, item_name start items item) ∷ []
+named_items-push : (start : Names) (items : List LabelledItem) (item : LabelledItem) → named_items start (items ++ item ∷ []) ≡ named_items start items ++ (item.0, item_name start items item) ∷ []
 named_items-push start items item =
     scan-push (λ earlier item. earlier ++ item ∷ []) (λ earlier item. (item.0, item_name start earlier item)) [] items item
     ∙ ap (λ earlier. named_items start items ++ (item.0, item_name start earlier item) ∷ []) (items_folded [] items)
@@ -105,7 +105,7 @@ pub if_err_more : {T E : Type 0} (r : Result T E) (P Q : E → Type 0) → IfErr
 if_err_more (Ok x) P Q p f = tt
 if_err_more (Err y) P Q p f = f y p
 
-full_more : (start : Names) (items others : List Labelled) → SomeNameIsFull start items → SomeNameIsFull start (items ++ others)
+full_more : (start : Names) (items others : List LabelledItem) → SomeNameIsFull start items → SomeNameIsFull start (items ++ others)
 full_more start items others full = record {
   named = full.named;
   item = full.item;
@@ -115,13 +115,13 @@ full_more start items others full = record {
   full = full.full;
 }
 
-pub refusal_more : (start : Names) (items others : List Labelled) (error : NamerError) → IsRefusalOfItems start items error → IsRefusalOfItems start (items ++ others) error
+pub refusal_more : (start : Names) (items others : List LabelledItem) (error : NamerError) → IsRefusalOfItems start items error → IsRefusalOfItems start (items ++ others) error
 refusal_more start items others Full why = full_more start items others why
 refusal_more start items others KeyFull why = list_all-append (λ item. key_fits item.0) items others ∙ ap (λ b. b && keys_fit others) why
 refusal_more start items others (Memory e) why = tt
 
 -- a beginning of some items is one of more
-pub beginning_more : (start : Names) (first now : NameMap) (items others : List Labelled) → PutsBeginning start first items now → PutsBeginning start first (items ++ others) now
+pub beginning_more : (start : Names) (first now : NameMap) (items others : List LabelledItem) → PutsBeginning start first items now → PutsBeginning start first (items ++ others) now
 beginning_more start first now items others p = record {
   named = p.named;
   left = p.left ++ others;
@@ -130,7 +130,7 @@ beginning_more start first now items others p = record {
 }
 
 -- a map that stays as it was
-beginning_unchanged : (start : Names) (first before now : NameMap) (earlier items : List Labelled) (old : Names) → ((q : NameKey) → now q ≡ before q) → HasNamedItems start first earlier old before → PutsBeginning start first (earlier ++ items) now
+beginning_unchanged : (start : Names) (first before now : NameMap) (earlier items : List LabelledItem) (old : Names) → ((q : NameKey) → now q ≡ before q) → HasNamedItems start first earlier old before → PutsBeginning start first (earlier ++ items) now
 beginning_unchanged start first before now earlier items old same has = record {
   named = earlier;
   left = items;
@@ -145,7 +145,7 @@ refuses_one old before now key label error outside refused = record {
   why = λ start first earlier has. reason error refused.why start first earlier has;
 }
   where
-    reason : (error : NamerError) → IsRefusalOf old label error → (start : Names) (first : NameMap) (earlier : List Labelled) → HasNamedItems start first earlier old before → IsRefusalOfItems start (earlier ++ (key, label) ∷ []) error
+    reason : (error : NamerError) → IsRefusalOf old label error → (start : Names) (first : NameMap) (earlier : List LabelledItem) → HasNamedItems start first earlier old before → IsRefusalOfItems start (earlier ++ (key, label) ∷ []) error
     reason Full full start first earlier has = record {
       named = earlier;
       item = (key, label);
@@ -172,7 +172,7 @@ or_not_this false b e = refl
 
 -- an item whose key can't be told
 -- where all items got their names, none met a full base
-pub none_full : (start : Names) (before : NameMap) (items : List Labelled) (names : Names) (now : NameMap) → HasNamedItems start before items names now → SomeNameIsFull start items → ⊥
+pub none_full : (start : Names) (before : NameMap) (items : List LabelledItem) (names : Names) (now : NameMap) → HasNamedItems start before items names now → SomeNameIsFull start items → ⊥
 none_full start before items names now has full =
     let base : List ℕ = label_base start full.item.1 in
     let all : labels_of items ≡ labels_of full.named ++ full.item.1 ∷ labels_of full.left = ap labels_of full.all ∙ labels_of-around full.named full.item full.left full.outside in
@@ -197,7 +197,7 @@ enumerate_from-append n (x ∷ xs) ys =
     ap (λ items. (n, x) ∷ items) (enumerate_from-append (n + 1) xs ys ∙ ap (λ m. enumerate_from (n + 1) xs ++ enumerate_from m ys) long)
 
 -- items that come of a list, in order, each by its place and the entry there
-module _ {X : Type 0} (items : ℕ → List X → List Labelled) (own : ℕ → X → List Labelled) (grown : (n : ℕ) (xs ys : List X) → items n (xs ++ ys) ≡ items n xs ++ items (n + length xs) ys) (single : (n : ℕ) (x : X) → items n (x ∷ []) ≡ own n x) (xs : List X) (i : ℕ) (x : X) (lt : i < length xs) (is : x ≡ get_or xs i x) where
+module _ {X : Type 0} (items : ℕ → List X → List LabelledItem) (own : ℕ → X → List LabelledItem) (grown : (n : ℕ) (xs ys : List X) → items n (xs ++ ys) ≡ items n xs ++ items (n + length xs) ys) (single : (n : ℕ) (x : X) → items n (x ∷ []) ≡ own n x) (xs : List X) (i : ℕ) (x : X) (lt : i < length xs) (is : x ≡ get_or xs i x) where
   long : 0 + length (take i xs) ≡ i
   long = omega (arith, length-take-le i xs (omega arith))
 
@@ -209,7 +209,7 @@ module _ {X : Type 0} (items : ℕ → List X → List Labelled) (own : ℕ → 
       ∙ ap (λ n. items 0 (take i xs) ++ items n (x ∷ [])) long
       ∙ ap (λ more. items 0 (take i xs) ++ more) (single i x)
 
-  pub items_left : List Labelled
+  pub items_left : List LabelledItem
   items_left = items (0 + length (take (i + 1) xs)) (drop (i + 1) xs)
 
   -- all of them, seen from the entry at i
@@ -221,7 +221,7 @@ module _ {X : Type 0} (items : ℕ → List X → List Labelled) (own : ℕ → 
       ∙ ap (λ front. front ++ items_left) items_more
       ∙ append_assoc (items 0 (take i xs)) (own i x) items_left
 
-module _ {X : Type 0} (entry : ℕ → X → Labelled) where
+module _ {X : Type 0} (entry : ℕ → X → LabelledItem) where
   pub entries_grown : (n : ℕ) (xs ys : List X) → map (λ p. entry p.0 p.1) (enumerate_from n (xs ++ ys)) ≡ map (λ p. entry p.0 p.1) (enumerate_from n xs) ++ map (λ p. entry p.0 p.1) (enumerate_from (n + length xs) ys)
   entries_grown n xs ys = ap (map (λ p. entry p.0 p.1)) (enumerate_from-append n xs ys) ∙ map-append (λ p. entry p.0 p.1) (enumerate_from n xs) (enumerate_from (n + length xs) ys)
 

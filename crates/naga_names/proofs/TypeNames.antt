@@ -13,7 +13,8 @@ use Rattle.naga_ir.specs.declared.types.Type_.{Type_}
 use Rattle.naga_names.specs.declared.key.NameKey.TheVariants as key
 use Rattle.naga_names.specs.Naming.{Names}
 use Rattle.naga_names.specs.Keys.{NameMap, same_key}
-use Rattle.naga_names.specs.Reset.{Labelled, item_name, HasNamedItems, type_names_in, member_label}
+use Rattle.naga_names.specs.Reset.{LabelledItem, item_name, HasNamedItems, type_names_in}
+use Rattle.naga_names.specs.Reset.{member_label}
 use Rattle.naga_names.specs.Reset.{members_of, labelled_type, labelled_types, labelled_entry_points}
 use Rattle.naga_names.specs.Reset.{labelled_functions, labelled_globals, labelled_declarations}
 use Rattle.naga_names.specs.Reset.{type_label, type_name}
@@ -28,29 +29,29 @@ past (y ∷ xs) zero e = absurd (none-some y (sym e))
 past (y ∷ xs) (suc i) e = omega (arith, past xs i e)
 
 -- no item is a type behind the last one
-no_type : (entry_points : List EntryPoint) (t n : ℕ) (types : List Type_) → n + length types ≤ t → AllByRecursion (λ (y : Labelled). same_key (key.Type_ t) y.0 ≡ false) (flat_map (λ p. labelled_type entry_points p.0 p.1) (enumerate_from n types))
+no_type : (entry_points : List EntryPoint) (t n : ℕ) (types : List Type_) → n + length types ≤ t → AllByRecursion (λ (y : LabelledItem). same_key (key.Type_ t) y.0 ≡ false) (flat_map (λ p. labelled_type entry_points p.0 p.1) (enumerate_from n types))
 no_type entry_points t n [] le = tt
 no_type entry_points t n (ty ∷ types) le =
     let differ : t ≡ n → ⊥ = λ e. absurd (omega (arith, e, le)) in
     all_append (λ y. same_key (key.Type_ t) y.0 ≡ false) (labelled_type entry_points n ty) (flat_map (λ p. labelled_type entry_points p.0 p.1) (enumerate_from (n + 1) types))
     (unlike_types t n differ, members_differ 0 (members_of ty.inner)) (no_type entry_points t (n + 1) types (omega (arith, le)))
   where
-    members_differ : (k : ℕ) (members : List StructMember) → AllByRecursion (λ (y : Labelled). same_key (key.Type_ t) y.0 ≡ false) (map (λ p. (key.StructMember n p.0, member_label p.1)) (enumerate_from k members))
+    members_differ : (k : ℕ) (members : List StructMember) → AllByRecursion (λ (y : LabelledItem). same_key (key.Type_ t) y.0 ≡ false) (map (λ p. (key.StructMember n p.0, member_label p.1)) (enumerate_from k members))
     members_differ k [] = tt
     members_differ k (m ∷ members) = (refl, members_differ (k + 1) members)
 
 module _ (start : Names) («module» : Module) where
-  abbrev the_types : List Labelled
+  abbrev the_types : List LabelledItem
   the_types = labelled_types «module».entry_points.items «module».types
 
-  abbrev the_others : List Labelled
+  abbrev the_others : List LabelledItem
   the_others = labelled_entry_points «module».entry_points.items ++ (labelled_functions «module».types «module».functions ++ labelled_globals «module».types «module».global_variables)
 
   -- a type has the name that a map has for it
   module _ (first : NameMap) (names : Names) (now : NameMap) (has : HasNamedItems start first (labelled_declarations «module») names now) where
     there : (t : ℕ) (ty : Type_) → slice_get «module».types t ≡ Some ty → now (key.Type_ t) ≡ Some (type_name start «module» t)
     there t ty e =
-        let item : Labelled = (key.Type_ t, type_label «module».entry_points.items t ty) in
+        let item : LabelledItem = (key.Type_ t, type_label «module».entry_points.items t ty) in
         let s = type_among_types start «module» t ty e in
         let le : s.place ≤ length the_types = omega (arith, slice_get_within the_types s.place item s.there) in
         item_put start first now (labelled_declarations «module») has.put (declarations_apart «module») s.place item (place_left the_types the_others s.place item s.there)

@@ -38,8 +38,8 @@ abbrev pub by_number : ℕ → List ℕ
 by_number c = codes "u" ++ hexadecimal c ++ codes "_"
 
 -- a mark is spelled `_`, a foreign character `_uXXXX_` by its number, and any other one as it is
-abbrev pub spelled : ℕ → List ℕ
-spelled c =
+abbrev pub character_spelling : ℕ → List ℕ
+character_spelling c =
     if is_mark c then codes "_"
     else (if is_identifier_char c then c ∷ [] else codes "_" ++ by_number c)
 
@@ -49,9 +49,11 @@ begins_separated [] = false
 begins_separated (c ∷ cs) = c == 95
 
 -- each run of `_` is one `_`
-abbrev pub squeezed : List ℕ → List ℕ
-squeezed [] = []
-squeezed (c ∷ cs) = if c == 95 && begins_separated cs then squeezed cs else c ∷ squeezed cs
+abbrev pub without_repeated_underscores : List ℕ → List ℕ
+without_repeated_underscores [] = []
+without_repeated_underscores (c ∷ cs) =
+    if c == 95 && begins_separated cs then without_repeated_underscores cs
+    else c ∷ without_repeated_underscores cs
 
 abbrev pub begins_foreign : List ℕ → Bool
 begins_foreign [] = false
@@ -61,7 +63,7 @@ begins_foreign (c ∷ cs) = is_foreign c
 -- without the `_` of a foreign first character
 unfoldable pub spelling : List ℕ → List ℕ
 spelling characters =
-    let text = squeezed (flat_map spelled characters) in
+    let text = without_repeated_underscores (flat_map character_spelling characters) in
     if begins_foreign characters then drop 1 text else text
 
 -- the text ends in a `_`

@@ -7,11 +7,11 @@ use Rattle.std.specs.Prelude.{false, codes, decimal, slice_get, Some}
 use Rattle.std.specs.List.{starts_with}
 use Rattle.std.specs.FinSet as set
 use Rattle.naga_keywords.specs.Plain.{is_identifier, HasPlainEnds}
-use Rattle.naga_keywords.specs.Words.{lowered}
+use Rattle.naga_keywords.specs.Words.{in_lower_case}
 use Rattle.naga_names.specs.Naming.{Names, uses_of, name_of, name_of_base, name_after}
 use Rattle.naga_names.specs.Naming.{labels_with_base, HasNamed}
 use Rattle.naga_names.specs.Keys.{NameMap}
-use Rattle.naga_names.specs.Reset.{Labelled, is_member, members_of, member_label, member_names}
+use Rattle.naga_names.specs.Reset.{LabelledItem, is_member, members_of, member_label, member_names}
 use Rattle.naga_names.specs.Reset.{item_name, labelled_items, HasNamedItems}
 use Rattle.naga_ir.specs.declared.module.Module.{Module}
 use Rattle.naga_ir.specs.declared.types.StructMember.{StructMember}
@@ -51,7 +51,7 @@ abbrev pub NamesAreNoCaselessKeywords : Type 0
 NamesAreNoCaselessKeywords =
     (start : Names) (earlier : List (List ℕ)) (label : List ℕ) →
     HasPlainEnds start.caseless_keywords →
-    set.contains start.caseless_keywords (lowered (name_after start earlier label)) ≡ false
+    set.contains start.caseless_keywords (in_lower_case (name_after start earlier label)) ≡ false
 
 -- no name is `_e` and a number behind it
 abbrev pub NamesAreNotNumbered : Type 0
@@ -73,7 +73,7 @@ abbrev pub ItemsAreNamed : Type 0
 ItemsAreNamed =
     (start : Names) (before now : NameMap) (module_ : Module) (names : Names) →
     HasNamedItems start before (labelled_items start module_) names now →
-    (i : ℕ) (item : Labelled) → slice_get (labelled_items start module_) i ≡ Some item →
+    (i : ℕ) (item : LabelledItem) → slice_get (labelled_items start module_) i ≡ Some item →
     now item.0 ≡ Some (item_name start (take i (labelled_items start module_)) item)
 
 -- and items outside structs with one name are one item
@@ -81,7 +81,7 @@ abbrev pub ItemsAreTold : Type 0
 ItemsAreTold =
     (start : Names) (before now : NameMap) (module_ : Module) (names : Names) →
     HasNamedItems start before (labelled_items start module_) names now →
-    (i j : ℕ) (a b : Labelled) → slice_get (labelled_items start module_) i ≡ Some a →
+    (i j : ℕ) (a b : LabelledItem) → slice_get (labelled_items start module_) i ≡ Some a →
     slice_get (labelled_items start module_) j ≡ Some b → is_member a.0 ≡ false →
     is_member b.0 ≡ false → now a.0 ≡ now b.0 → i ≡ j
 

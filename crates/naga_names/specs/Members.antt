@@ -11,7 +11,7 @@ use Rattle.naga_names.specs.declared.key.NameKey.{NameKey}
 use Rattle.naga_names.specs.Naming.{Names, name_of, with_use, name_after, HasNamed}
 use Rattle.naga_names.specs.Refusal.{IsRefusalOf}
 use Rattle.naga_names.specs.Keys.{NameMap, same_key}
-use Rattle.naga_names.specs.Reset.{Labelled, labelled_members, member_label, keys_fit, PutsInto}
+use Rattle.naga_names.specs.Reset.{LabelledItem, labelled_members, member_label, keys_fit, PutsInto}
 
 -- the label has one use more, and the map its name at the key
 pub record PutsName (old : Names) (before : NameMap) (key : NameKey) (label : List ℕ) (new : Names)
@@ -43,7 +43,7 @@ pub record HasNamedMembers (start : Names) (before : NameMap) (t : ℕ) (members
 
 -- `KeyFull` comes only where a member has an index that can't be told, and `Full` never: no base is
 -- used so often by members whose indexes can be told
-abbrev pub IsRefusalOfMembers : List Labelled → NamerError → Type 0
+abbrev pub IsRefusalOfMembers : List LabelledItem → NamerError → Type 0
 IsRefusalOfMembers items Full = ⊥
 IsRefusalOfMembers items KeyFull = keys_fit items ≡ false
 IsRefusalOfMembers items (Memory e) = ⊤

@@ -15,7 +15,7 @@ use Rattle.std.specs.FinSet as set
 use Rattle.std.specs.Ordering.{nat_cmp}
 use Rattle.std.specs.Str.{bytes_eq, chars}
 use Rattle.naga_names.specs.Label.{base_of}
-use Rattle.naga_keywords.specs.Words.{Words, lowered}
+use Rattle.naga_keywords.specs.Words.{Words, in_lower_case}
 
 -- how often each base was used; a base that was never used isn't there
 abbrev pub Uses : Type 0
@@ -90,7 +90,7 @@ label_base names label = base_of names.reserved_prefixes (chars label)
 abbrev pub is_taken : Names → List ℕ → Bool
 is_taken names word =
     set.contains names.keywords word || set.contains names.builtin_identifiers word ||
-    set.contains names.caseless_keywords (lowered word)
+    set.contains names.caseless_keywords (in_lower_case word)
 
 abbrev pub ends_in_digit : List ℕ → Bool
 ends_in_digit text = is_ascii_digit (slice_index text (length text - 1))

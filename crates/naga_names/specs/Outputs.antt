@@ -8,7 +8,7 @@ use Rattle.naga_ir.specs.declared.types.Type_.{Type_}
 use Rattle.naga_ir.specs.declared.types.TypeInner.{TypeInner}
 use Rattle.naga_names.specs.declared.key.NameKey.TheVariants as key
 use Rattle.naga_names.specs.Naming.{label_or}
-use Rattle.naga_names.specs.Reset.{Labelled, is_struct, members_of, labelled_members}
+use Rattle.naga_names.specs.Reset.{LabelledItem, is_struct, members_of, labelled_members}
 
 abbrev pub words_in : {S : Type 0} → hash.HashMap ℕ (Bor (List ℕ)) S → ℕ → Option (List ℕ)
 words_in words t = option_map (λ word. word.now) (hash.get nat_eq words t)
@@ -22,6 +22,6 @@ abbrev pub type_label_by : (ℕ → Option (List ℕ)) → ℕ → Type_ → Lis
 type_label_by words t ty = label_or ty.name (unnamed_label_by words t ty.inner)
 
 -- a type and then its members, by these words
-abbrev pub labelled_type_by : (ℕ → Option (List ℕ)) → ℕ → Type_ → List Labelled
+abbrev pub labelled_type_by : (ℕ → Option (List ℕ)) → ℕ → Type_ → List LabelledItem
 labelled_type_by words t ty =
     (key.Type_ t, type_label_by words t ty) ∷ labelled_members t (members_of ty.inner)

@@ -13,7 +13,7 @@ use Rattle.naga_names.specs.declared.key.NameKey.TheVariants as key
 use Rattle.naga_names.specs.declared.error.NamerError.{NamerError}
 use Rattle.naga_names.specs.Naming.{Names, label_or}
 use Rattle.naga_names.specs.Refusal.{IsRefusalOfItems}
-use Rattle.naga_names.specs.Reset.{Labelled, HasNamedItems, PutsBeginning, labelled_items}
+use Rattle.naga_names.specs.Reset.{LabelledItem, HasNamedItems, PutsBeginning, labelled_items}
 use Rattle.naga_names.specs.Reset.{is_external, with_parts}
 use Rattle.naga_names.specs.declared.namer.items.Naming.{Naming}
 use Rattle.naga_names.specs.declared.namer.items.Owner.{Owner}
@@ -30,15 +30,15 @@ progress naming output =
     record { names = naming.namer; map = names_in output; refusal = naming.refusal }
 
 -- these items have their names; or they are refused for a reason, and some first ones have theirs
-abbrev pub Stands : (start : Names) (first : NameMap) (items : List Labelled)
+abbrev pub Stands : (start : Names) (first : NameMap) (items : List LabelledItem)
     → Names → NameMap → Option NamerError → Type 0
 Stands start first items names now None = HasNamedItems start first items names now
 Stands start first items names now (Some error) =
     PutsBeginning start first items now × IsRefusalOfItems start items error
 
 -- after any items that were named before, these are named too
-pub record Gives (before : Progress) (items : List Labelled) (after : Progress) : Type 0 where
-  pub more : (start : Names) (first : NameMap) (earlier : List Labelled)
+pub record Gives (before : Progress) (items : List LabelledItem) (after : Progress) : Type 0 where
+  pub more : (start : Names) (first : NameMap) (earlier : List LabelledItem)
       → Stands start first earlier before.names before.map before.refusal
       → Stands start first (earlier ++ items) after.names after.map after.refusal
 
@@ -49,7 +49,7 @@ pub record GivesModule (before : Progress) (module_ : Module) (after : Progress)
       → Stands start first (labelled_items start module_) after.names after.map after.refusal
 
 -- of all items these are left to be named
-pub record Leaves (before now : Progress) (all left : List Labelled) : Type 0 where
+pub record Leaves (before now : Progress) (all left : List LabelledItem) : Type 0 where
   pub rest : (after : Progress) → Gives now left after → Gives before all after
 
 -- ---- functions and entry points
@@ -72,10 +72,10 @@ abbrev pub has_parts : Owner → List Type_ → ℕ → Bool
 has_parts (owner.Function f) types t = is_external types t
 has_parts (owner.EntryPoint e) types t = false
 
-abbrev pub argument_items : Owner → List Type_ → ℕ → FunctionArgument → List Labelled
+abbrev pub argument_items : Owner → List Type_ → ℕ → FunctionArgument → List LabelledItem
 argument_items of types n argument =
     with_parts (has_parts of types argument.ty) (part_key (argument_key of n))
     (argument_key of n, label_or argument.name (codes "param"))
 
-abbrev pub local_item : Owner → ℕ → LocalVariable → Labelled
+abbrev pub local_item : Owner → ℕ → LocalVariable → LabelledItem
 local_item of l variable = (local_key of l, label_or variable.name (codes "local"))

@@ -9,7 +9,7 @@ use Rattle.naga_names.specs.declared.error.NamerError.{NamerError}
 use Rattle.naga_names.specs.declared.error.NamerError.TheVariants.{Full, KeyFull, Memory}
 use Rattle.naga_names.specs.Naming.{Names, Uses, uses_of, label_base, labels_with_base}
 use Rattle.naga_names.specs.Keys.{NameMap}
-use Rattle.naga_names.specs.Reset.{Labelled, members_of, is_member, labels_of, keys_fit}
+use Rattle.naga_names.specs.Reset.{LabelledItem, members_of, is_member, labels_of, keys_fit}
 use Rattle.naga_names.specs.Reset.{labelled_items, HasNamedItems, PutsBeginning}
 
 -- `Full` comes only where the base is full,
@@ -25,17 +25,17 @@ IsRefusalOf names label error = IsRefusalOfBase names.uses (label_base names lab
 
 -- at one of these items, which is no member of a struct, the label's base is full: the labels
 -- before it used it so often that there is no next name
-pub record SomeNameIsFull (start : Names) (items : List Labelled) : Type 0 where
-  pub named : List Labelled
-  pub item : Labelled
-  pub left : List Labelled
+pub record SomeNameIsFull (start : Names) (items : List LabelledItem) : Type 0 where
+  pub named : List LabelledItem
+  pub item : LabelledItem
+  pub left : List LabelledItem
   pub all : items ≡ named ++ item ∷ left
   pub outside : is_member item.0 ≡ false
   pub full : labels_with_base start (labels_of named) (label_base start item.1) ≡ 2 ^ 32
 
 -- some item has a key that can't be told: an entry point behind the first 65,536, or a member or an
 -- argument whose index is no `u32`
-abbrev pub SomeKeyIsFull : List Labelled → Type 0
+abbrev pub SomeKeyIsFull : List LabelledItem → Type 0
 SomeKeyIsFull items = keys_fit items ≡ false
 
 -- a struct with more members than a `u32` can count
@@ -68,7 +68,7 @@ KeysRunOut module_ =
 
 -- `Full` comes only where one of the items meets a full base, `KeyFull` only where one has a key
 -- that can't be told, and `Memory` may come at any time
-abbrev pub IsRefusalOfItems : Names → List Labelled → NamerError → Type 0
+abbrev pub IsRefusalOfItems : Names → List LabelledItem → NamerError → Type 0
 IsRefusalOfItems start items Full = SomeNameIsFull start items
 IsRefusalOfItems start items KeyFull = SomeKeyIsFull items
 IsRefusalOfItems start items (Memory e) = ⊤
@@ -79,10 +79,10 @@ IsResetRefusal start module_ error = IsRefusalOfItems start (labelled_items star
 
 -- after any items that were named before, these are refused
 -- for a reason, and the map has the names of some beginning
-pub record RefusesItems (old : Names) (before : NameMap) (items : List Labelled) (now : NameMap)
+pub record RefusesItems (old : Names) (before : NameMap) (items : List LabelledItem) (now : NameMap)
     (error : NamerError) : Type 0 where
-  pub some : (start : Names) (first : NameMap) (earlier : List Labelled) →
+  pub some : (start : Names) (first : NameMap) (earlier : List LabelledItem) →
       HasNamedItems start first earlier old before →
       PutsBeginning start first (earlier ++ items) now
-  pub why : (start : Names) (first : NameMap) (earlier : List Labelled) →
+  pub why : (start : Names) (first : NameMap) (earlier : List LabelledItem) →
       HasNamedItems start first earlier old before → IsRefusalOfItems start (earlier ++ items) error

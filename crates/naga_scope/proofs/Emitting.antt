@@ -2,7 +2,7 @@
 use Rattle.std.proofs.Common.{◌≡◌, ℕ, suc, ◌+◌, ◌-◌, ◌<◌, ◌≤◌, ◌&&◌, ◌||◌, Bool, true, false}
 use Rattle.std.proofs.Common.{nat_eq, List, [], ◌∷◌, length, get_or, refl, sym, ap, ap₂, ◌∙◌, arith}
 use Rattle.std.proofs.Common.{slice_set, eqb-true, add-one}
-use Rattle.std.specs.Prelude.{IsTrue, cond, not}
+use Rattle.std.specs.Prelude.{IsTrue, Option, cond, not}
 use Rattle.std.specs.Option.{option_map}
 use Rattle.std.proofs.lemmas.Bool.{eqb-false}
 use Rattle.std.proofs.lemmas.List.{get_or-set_other, set-get_or}
@@ -14,10 +14,12 @@ use Rattle.naga_ir.specs.declared.types.Type_.{Type_}
 use Rattle.naga_info.specs.declared.info.ExpressionInfo.{ExpressionInfo}
 use Rattle.naga_names.specs.Keys.{NameMap}
 use Rattle.shader_runs.specs.World.{update}
-use Rattle.shader_runs.specs.Program.{Function, binds, binds_as, expression_of, operands_of, from}
+use Rattle.shader_runs.specs.Program.{Expression, Function, binds, binds_as, expression_of}
+use Rattle.shader_runs.specs.Program.{operands_of, from}
 use Rattle.shader_runs.specs.Scope as runs
 use Rattle.shader_runs.specs.Scope.{Naming, Handles, is_pure, is_new, is_emittable, usable_all}
-use Rattle.shader_runs.specs.Scope.{emitted, after_one, after_emit, given_after, may_emit}
+use Rattle.shader_runs.specs.Scope.{with_emitted_handle, after_one, after_emit, given_after}
+use Rattle.shader_runs.specs.Scope.{may_emit}
 use Rattle.shader_runs.specs.Scope.{may_emit_all}
 use Rattle.module_meaning.specs.Names.{numbered_name}
 use Rattle.module_meaning.specs.Shapes.{expression_shape, function_shape, function_naming}
@@ -38,13 +40,13 @@ set_handles table h cell lt = λ i j. each j i
     each : (j : ℕ) → handles_of (slice_set table h cell) j ≡ update (handles_of table) h (standing_of (numbered_name h) cell) j
     each j = by j (nat_eq j h) refl
 
-unbound_is : (u : Bool) (name : List ℕ) (cell : Standing) → standing_of name (unbound_standing u cell) ≡ runs.unbound u (standing_of name cell)
+unbound_is : (u : Bool) (name : List ℕ) (cell : Standing) → standing_of name (unbound_standing u cell) ≡ runs.standing_without_name u (standing_of name cell)
 unbound_is true name cell = refl
 unbound_is false name Absent = refl
 unbound_is false name _ = refl
 
 -- the cell of an emitted handle, in the table
-cell_emitted : (b o u : Bool) (table : List Standing) (h : ℕ) → h < length table → handles_of (slice_set table h (emitted_standing b o u (get_or table h Absent))) ≡ emitted b o u (numbered_name h) (handles_of table) h
+cell_emitted : (b o u : Bool) (table : List Standing) (h : ℕ) → h < length table → handles_of (slice_set table h (emitted_standing b o u (get_or table h Absent))) ≡ with_emitted_handle b o u (numbered_name h) (handles_of table) h
 cell_emitted true o u table h lt = set_handles table h Named lt
 cell_emitted false true u table h lt =
     set_handles table h (unbound_standing u (get_or table h Absent)) lt
@@ -93,15 +95,23 @@ module _ (names : NameMap) (types : List Type_) (g : ℕ) (f : ir_function.Funct
   abbrev shape : Function
   shape = function_shape types f es
 
-  -- an Emit of a handle, by what the code finds of it
-  pub emitted_is : (k h : ℕ) (table : List Standing) (b o u : Bool) (cell : Standing) → h < length table → b ≡ binds shape h → o ≡ is_pure (shape_at f.expressions h) → u ≡ usable_all shape (handles_of table) (operands_of (shape_at f.expressions h)) → cell ≡ emitted_standing b o u (get_or table h Absent) → handles_of (slice_set table h cell) ≡ after_one own k h (handles_of table)
-  emitted_is k h table b o u cell lt bound operator operands is =
+  -- an Emit of a handle gives it the cell that stands behind one
+  pub emitted_is : (h : ℕ) (table : List Standing) (cell : Standing) → h < length table →
+      (let evaluated = shape_at f.expressions h in
+      cell ≡ emitted_standing (binds shape h) (is_pure evaluated)
+      (usable_all shape (handles_of table) (operands_of evaluated)) (get_or table h Absent)) →
+      (k : ℕ) → handles_of (slice_set table h cell) ≡ after_one own k h (handles_of table)
+  emitted_is h table cell lt is k =
       let s = handles_of table in
       let at = sym (slice_get-map expression_shape f.expressions h) in
+      let b = binds shape h in
+      let by = λ (e : Option Expression). with_emitted_handle b (is_pure e)
+      (usable_all shape s (operands_of e)) (numbered_name h) s h in
+      let found = shape_at f.expressions h in
       ap (λ c. handles_of (slice_set table h c)) is
-      ∙ cell_emitted b o u table h lt
-      ∙ (λ i. emitted (bound i) ((operator ∙ ap is_pure at) i) ((operands ∙ ap (λ e. usable_all shape s (operands_of e)) at) i) (numbered_name h) s h)
-      ∙ ap (λ given. emitted (binds shape h) (is_pure (expression_of shape h)) (usable_all shape s (operands_of (expression_of shape h))) (cond given [] (numbered_name h)) s h) (sym (none_is_given types f es unnamed h))
+      ∙ cell_emitted b (is_pure found) (usable_all shape s (operands_of found)) table h lt
+      ∙ ap by at
+      ∙ ap (λ given. with_emitted_handle b (is_pure (expression_of shape h)) (usable_all shape s (operands_of (expression_of shape h))) (cond given [] (numbered_name h)) s h) (sym (none_is_given types f es unnamed h))
 
   -- an Emit of a handle past the expressions changes nothing
   pub past_emitted : (k h : ℕ) (table : List Standing) → length table ≤ h → length table ≡ length f.expressions → handles_of table ≡ after_one own k h (handles_of table)
@@ -109,7 +119,7 @@ module _ (names : NameMap) (types : List Type_) (g : ℕ) (f : ir_function.Funct
       let past : length f.expressions ≤ h = omega (arith, le, size) in
       let s = handles_of table in
       let at = slice_get-map expression_shape f.expressions h ∙ ap (option_map expression_shape) (slice_get_past f.expressions h past) in
-      sym (ap (λ e. emitted (binds_as shape h e) (is_pure e) (usable_all shape s (operands_of e)) (runs.bound_name own k h) s h) at)
+      sym (ap (λ e. with_emitted_handle (binds_as shape h e) (is_pure e) (usable_all shape s (operands_of e)) (runs.bound_name own k h) s h) at)
 
   -- ---- the handles of a range in turn
   given_same : (h k : ℕ) → given_after shape h k ≡ k

@@ -10,12 +10,13 @@ ghost use Rattle.naga_info.specs.declared.info.ExpressionInfo.{ExpressionInfo};
 ghost use Rattle.naga_ir.specs.Operands.{expression_operands};
 ghost use Rattle.naga_ir.specs.declared.types.Type_.{Type_};
 ghost use Rattle.naga_names.specs.Keys.{NameMap};
-ghost use Rattle.shader_runs.specs.Program.{operands_of};
+ghost use Rattle.shader_runs.specs.Program.{binds, operands_of};
 ghost use Rattle.shader_runs.specs.Scope.{all_constant, at_start, after_one, is_constant_leaf};
 ghost use Rattle.shader_runs.specs.Scope.{is_new, is_present, is_pure, may_emit};
 ghost use Rattle.shader_runs.specs.Scope.{usable, usable_all};
 ghost use Rattle.naga_scope.specs.Standings.{emitted_standing, first_standing, handles_of};
-ghost use Rattle.naga_scope.specs.Standings.{is_constant_by, standing_of, unbound_standing};
+ghost use Rattle.naga_scope.specs.Standings.{is_constant_by, shape_at, standing_of};
+ghost use Rattle.naga_scope.specs.Standings.{unbound_standing};
 
 use crate::binding::{binds, expression_at, is_emittable, shape_kind};
 use naga_info::FunctionInfo;
@@ -56,19 +57,6 @@ impl Standing {
         match self {
             Standing::Absent | Standing::Everywhere => true,
             Standing::Barred | Standing::Inline | Standing::Named => false,
-        }
-    }
-
-    /// Where it stands behind its `Emit`.
-    pub(crate) fn emitted(self, is_bound: bool, is_operator: bool, has_operands: bool) -> Self
-        ensures { result ≡ emitted_standing is_bound is_operator has_operands self }
-    {
-        if is_bound {
-            Standing::Named
-        } else if is_operator {
-            self.unbound(has_operands)
-        } else {
-            self
         }
     }
 
@@ -273,6 +261,34 @@ impl Scope {
             && (!binds(function, info, handle) || self.has_operands(function, expression))
     }
 
+    /// Where the expression with this handle stands behind an `Emit` of it. Its operands are looked
+    /// at only where that depends on them.
+    fn emitted(
+        &self,
+        function: &Function,
+        info: &FunctionInfo,
+        handle: Handle<Expression>,
+    ) -> Standing
+        requires unnamed { IsTrue (names_nothing function.now) }
+        ensures { (types : List Type_) →
+            let shape = function_shape types function.now info.now in
+            let evaluated = shape_at function.now.expressions handle in
+            result ≡ emitted_standing (binds shape handle) (is_pure evaluated)
+            (usable_all shape (handles_of self.now) (operands_of evaluated))
+            (get_or self.now handle Standing.Absent) }
+    {
+        let before = self.standing(handle);
+        if binds(function, info, handle) {
+            return Standing::Named;
+        }
+        let expression = expression_at(function, handle);
+        if is_operator(expression) {
+            before.unbound(self.has_operands(function, expression))
+        } else {
+            before
+        }
+    }
+
     /// Goes behind an `Emit` of the expression with this handle. It is named where a `let` binds
     /// it. An operator that no `let` binds is written where it is used, if its operands are in
     /// scope here. A `Load` that no `let` binds stays absent, since it may not be read later than
@@ -288,11 +304,8 @@ impl Scope {
     {
         let index = handle.index();
         if index < self.standings.len() {
-            let expression = expression_at(function, handle);
-            let is_bound = binds(function, info, handle);
-            let has_operands = self.has_operands(function, expression);
-            let before = self.standings[index];
-            self.standings[index] = before.emitted(is_bound, is_operator(expression), has_operands);
+            let standing = self.emitted(function, info, handle);
+            self.standings[index] = standing;
         }
     }
 }

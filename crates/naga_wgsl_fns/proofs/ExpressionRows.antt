@@ -27,7 +27,7 @@ use Rattle.naga_scope.specs.declared.points.Standing.{Standing}
 use Rattle.naga_scope.specs.declared.points.Standing.TheVariants.{Absent, Barred, Everywhere}
 use Rattle.naga_scope.specs.declared.points.Standing.TheVariants.{Inline, Named}
 use Rattle.module_meaning.proofs.Shapes.{operator_operands}
-use Rattle.naga_words.specs.Output.{joined}
+use Rattle.naga_words.specs.Output.{joined_texts}
 use Rattle.naga_wgsl_fns.specs.Literals.{literal_text}
 use Rattle.wgsl_text.specs.Reading.{expression_layout}
 use Rattle.naga_wgsl_fns.specs.declared.functions.FunctionText.{FunctionText}
@@ -170,22 +170,22 @@ reference_row f table handle can lt =
 pub infix_row : (f : FunctionText) (table : List Standing) (op : ir_operator.BinaryOperator)
     (left right : ℕ)
     → applied_text f table (Infix (operator_form op)) (left ∷ right ∷ []) ≡
-    joined
+    joined_texts
     (codes "(")
-    (joined (value_text f table left)
-    (joined (codes " ")
-    (joined (operator_text op)
-    (joined (codes " ") (joined (value_text f table right) (codes ")"))))))
-unfolding applied_text value_text joined
+    (joined_texts (value_text f table left)
+    (joined_texts (codes " ")
+    (joined_texts (operator_text op)
+    (joined_texts (codes " ") (joined_texts (value_text f table right) (codes ")"))))))
+unfolding applied_text value_text joined_texts
 infix_row f table op left right =
     let form = value_form (naming f) (expressions f) (handles_of table) in
     binary_row_text (form left) (operator_form op) (form right)
-    ∙ ap (λ w. joined (codes "(") (joined (expression_layout (form left)) (joined (codes " ") (joined w (joined (codes " ") (joined (expression_layout (form right)) (codes ")"))))))) (sym (operator_row op))
+    ∙ ap (λ w. joined_texts (codes "(") (joined_texts (expression_layout (form left)) (joined_texts (codes " ") (joined_texts w (joined_texts (codes " ") (joined_texts (expression_layout (form right)) (codes ")"))))))) (sym (operator_row op))
 
-pub address_row : (f : FunctionText) (local : ℕ) → address_text f local ≡ joined (codes "(&") (joined (name_of_local f local) (codes ")"))
-unfolding address_text name_of_local joined
-address_row f local = address_row_text (Name (name_of_local f local)) ∙ ap (λ w. joined (codes "(&") (joined w (codes ")"))) (name_text (name_of_local f local))
+pub address_row : (f : FunctionText) (local : ℕ) → address_text f local ≡ joined_texts (codes "(&") (joined_texts (name_of_local f local) (codes ")"))
+unfolding address_text name_of_local joined_texts
+address_row f local = address_row_text (Name (name_of_local f local)) ∙ ap (λ w. joined_texts (codes "(&") (joined_texts w (codes ")"))) (name_text (name_of_local f local))
 
-pub pointed_row : (f : FunctionText) (table : List Standing) (handle : ℕ) → pointed_text f table handle ≡ joined (codes "(*") (joined (value_text f table handle) (codes ")"))
-unfolding pointed_text value_text joined
+pub pointed_row : (f : FunctionText) (table : List Standing) (handle : ℕ) → pointed_text f table handle ≡ joined_texts (codes "(*") (joined_texts (value_text f table handle) (codes ")"))
+unfolding pointed_text value_text joined_texts
 pointed_row f table handle = dereference_text (value_form (naming f) (expressions f) (handles_of table) handle)

@@ -37,13 +37,14 @@ use Rattle.naga_scope.specs.declared.points.Standing.{Standing}
 use Rattle.naga_words.specs.declared.error.TypeTextError.{TypeTextError}
 use Rattle.naga_words.specs.declared.error.TypeTextError.TheVariants.{Sink, Memory, NoForm}
 use Rattle.naga_words.specs.declared.sink.SinkError.TheVariants.{Failed, Memory as SinkMemory}
-use Rattle.naga_words.specs.Output.{IsReason, joined}
+use Rattle.naga_words.specs.Output.{IsReason, joined_texts}
 use Rattle.naga_wgsl_fns.specs.Errors.{IsErrorOf, IsWant}
 use Rattle.naga_wgsl_fns.specs.declared.error.Error.{Error}
 use Rattle.wgsl_text.specs.Reading.{expression_layout, type_layout}
 use Rattle.wgsl_text.specs.Text.{text}
 use Rattle.naga_wgsl_fns.specs.declared.functions.FunctionText.{FunctionText}
-use Rattle.naga_wgsl_fns.specs.FunctionText.{CanWrite, expressions, naming, tells_types, told}
+use Rattle.naga_wgsl_fns.specs.FunctionText.{CanWrite, expressions, naming, tells_types}
+use Rattle.naga_wgsl_fns.specs.FunctionText.{let_annotation}
 use Rattle.naga_wgsl_fns.specs.FunctionText.{type_names_of}
 use Rattle.naga_wgsl_fns.specs.Names.{name_of_argument, name_of_function, name_of_local}
 use Rattle.naga_wgsl_fns.specs.Types.{type_text}
@@ -85,20 +86,20 @@ text_of_function_at t info here known =
     ap (λ o. option_map_or (λ f. form f (known_of info t.handle)) o []) here ∙ ap (form t.function.now) (known_is info t.handle t.info.now known)
 
 -- ---- the head
-pub head_row : (f : FunctionText) → head_text f ≡ joined (codes "fn ") (joined (name_of_function f) (joined (codes "(") (joined (arguments_text f) (joined (result_text f) (codes " {\n")))))
-unfolding head_text joined
+pub head_row : (f : FunctionText) → head_text f ≡ joined_texts (codes "fn ") (joined_texts (name_of_function f) (joined_texts (codes "(") (joined_texts (arguments_text f) (joined_texts (result_text f) (codes " {\n")))))
+unfolding head_text joined_texts
 head_row f = refl
 
-pub argument_row : (f : FunctionText) (number : ℕ) (a : FunctionArgument) → argument_text f number a ≡ joined (name_of_argument f number) (joined (codes ": ") (type_text f a.ty))
-unfolding argument_text name_of_argument type_text joined
+pub argument_row : (f : FunctionText) (number : ℕ) (a : FunctionArgument) → argument_text f number a ≡ joined_texts (name_of_argument f number) (joined_texts (codes ": ") (type_text f a.ty))
+unfolding argument_text name_of_argument type_text joined_texts
 argument_row f number a = refl
 
-pub next_argument_row : (f : FunctionText) (number : ℕ) (a : FunctionArgument) → next_argument_text f number a ≡ joined (separator number) (argument_text f number a)
-unfolding next_argument_text joined
+pub next_argument_row : (f : FunctionText) (number : ℕ) (a : FunctionArgument) → next_argument_text f number a ≡ joined_texts (separator number) (argument_text f number a)
+unfolding next_argument_text joined_texts
 next_argument_row f number a = refl
 
-pub answer_row : (f : FunctionText) (ty : ℕ) → answer_text f ty ≡ joined (codes " -> ") (type_text f ty)
-unfolding answer_text joined
+pub answer_row : (f : FunctionText) (ty : ℕ) → answer_text f ty ≡ joined_texts (codes " -> ") (type_text f ty)
+unfolding answer_text joined_texts
 answer_row f ty = refl
 
 abbrev pub result_at : FunctionText → Option FunctionResult → List ℕ
@@ -122,8 +123,8 @@ pub arguments_start : (f : FunctionText) → arguments_text f ≡ arguments_left
 unfolding arguments_text
 arguments_start f = refl
 
-arguments_row : (f : FunctionText) (n : ℕ) (a : FunctionArgument) (more : List FunctionArgument) → arguments_left f n (a ∷ more) ≡ joined (next_argument_text f n a) (arguments_left f (n + 1) more)
-unfolding next_argument_text argument_text joined
+arguments_row : (f : FunctionText) (n : ℕ) (a : FunctionArgument) (more : List FunctionArgument) → arguments_left f n (a ∷ more) ≡ joined_texts (next_argument_text f n a) (arguments_left f (n + 1) more)
+unfolding next_argument_text argument_text joined_texts
 arguments_row f n a more = by n
   where
     form : ℕ → List FunctionArgument → List Parameter
@@ -145,7 +146,7 @@ arguments_row f n a more = by n
 
 -- a loop over arguments: one more, and none
 pub arguments_more : (f : FunctionText) (n : ℕ) (items : List FunctionArgument) (a : FunctionArgument) → n < length items → a ≡ slice_index_or items n a
-    → arguments_left f n (drop n items) ≡ joined (next_argument_text f n a) (arguments_left f (n + 1) (drop (n + 1) items))
+    → arguments_left f n (drop n items) ≡ joined_texts (next_argument_text f n a) (arguments_left f (n + 1) (drop (n + 1) items))
 arguments_more f n items a lt is = ap (arguments_left f n) (drop_first n items a lt is) ∙ arguments_row f n a (drop (n + 1) items)
 
 pub arguments_none : (f : FunctionText) (n : ℕ) (items : List FunctionArgument) → length items ≤ n → arguments_left f n (drop n items) ≡ codes ")"
@@ -156,8 +157,8 @@ arguments_none f n items past = ap (arguments_left f n) (drop_all n items past) 
     by (suc n) = refl
 
 -- ---- the locals
-pub first_value_row : (f : FunctionText) (table : List Standing) (value : ℕ) → StartsAt f table → joined (codes " = ") (joined (value_text f table value) (codes ";\n")) ≡ first_value_text f value
-unfolding first_value_text value_text joined
+pub first_value_row : (f : FunctionText) (table : List Standing) (value : ℕ) → StartsAt f table → joined_texts (codes " = ") (joined_texts (value_text f table value) (codes ";\n")) ≡ first_value_text f value
+unfolding first_value_text value_text joined_texts
 first_value_row f table value start =
     ap (λ (s : Handles). codes " = " ++ (expression_layout (value_form (naming f) (expressions f) s value) ++ codes ";\n")) start
     ∙ sym (value_row_text (first_form f value))
@@ -173,8 +174,8 @@ first_row f (Some value) = refl
 
 -- a local that there is
 pub local_row : (f : FunctionText) (handle : ℕ) (local : LocalVariable) → slice_get f.function.now.local_variables handle ≡ Some local
-    → local_text f handle ≡ joined (codes "    var ") (joined (name_of_local f handle) (joined (codes ": ") (joined (type_text f local.ty) (first_text f local.init))))
-unfolding local_text name_of_local type_text first_text joined
+    → local_text f handle ≡ joined_texts (codes "    var ") (joined_texts (name_of_local f handle) (joined_texts (codes ": ") (joined_texts (type_text f local.ty) (first_text f local.init))))
+unfolding local_text name_of_local type_text first_text joined_texts
 local_row f handle local at =
     ap (λ o. option_map_or (local_text_of f handle) o []) at
     ∙ (local_row_text (local_form f handle local) []
@@ -201,8 +202,8 @@ drop_at i xs x at = drop_first i xs x (slice_get_within xs i x at) (sym (get_or_
 
 -- a loop over locals: one more, and none
 pub locals_more : (f : FunctionText) (i handle : ℕ) → i < length f.function.now.local_variables → handle ≡ i
-    → locals_left f i (drop i f.function.now.local_variables) ≡ joined (local_text f handle) (locals_left f (i + 1) (drop (i + 1) f.function.now.local_variables))
-unfolding local_text joined
+    → locals_left f i (drop i f.function.now.local_variables) ≡ joined_texts (local_text f handle) (locals_left f (i + 1) (drop (i + 1) f.function.now.local_variables))
+unfolding local_text joined_texts
 locals_more f i handle lt is =
     let locals = f.function.now.local_variables in
     let local = element locals i lt in
@@ -215,8 +216,8 @@ locals_more f i handle lt is =
 pub locals_none : (f : FunctionText) (i : ℕ) → length f.function.now.local_variables ≤ i → locals_left f i (drop i f.function.now.local_variables) ≡ []
 locals_none f i past = ap (locals_left f i) (drop_all i f.function.now.local_variables past)
 
-pub locals_row : (f : FunctionText) → locals_text f ≡ joined (locals_left f 0 f.function.now.local_variables) (group_end_text (length f.function.now.local_variables == 0))
-unfolding locals_text group_end_text joined
+pub locals_row : (f : FunctionText) → locals_text f ≡ joined_texts (locals_left f 0 f.function.now.local_variables) (group_end_text (length f.function.now.local_variables == 0))
+unfolding locals_text group_end_text joined_texts
 locals_row f = ap (λ t. locals_left f 0 f.function.now.local_variables ++ t) (sym (by f.function.now.local_variables))
   where
     by : (locals : List LocalVariable) → (if length locals == 0 then [] else codes "\n") ≡ text (group_end (locals_form (naming f) (type_names_of f) (expressions f) 0 locals))
@@ -224,13 +225,13 @@ locals_row f = ap (λ t. locals_left f 0 f.function.now.local_variables ++ t) (s
     by (local ∷ more) = ap (λ b. if b then [] else codes "\n") (ne_eqb (suc (length more)) 0 (λ same. absurd (omega arith)))
 
 -- ---- the whole
-pub body_row : (f : FunctionText) (table : List Standing) → StartsAt f table → joined (locals_text f) (joined (block_text f table 1 f.function.now.body) (codes "}\n")) ≡ body_text f
-unfolding body_text block_text joined
+pub body_row : (f : FunctionText) (table : List Standing) → StartsAt f table → joined_texts (locals_text f) (joined_texts (block_text f table 1 f.function.now.body) (codes "}\n")) ≡ body_text f
+unfolding body_text block_text joined_texts
 body_row f table start =
-    ap (λ (s : Handles). locals_text f ++ (lines_text 1 (lines_form (naming f) (told f) (expressions f) 0 f.function.now.body s) ++ codes "}\n")) start
+    ap (λ (s : Handles). locals_text f ++ (lines_text 1 (lines_form (naming f) (let_annotation f) (expressions f) 0 f.function.now.body s) ++ codes "}\n")) start
 
-pub function_row : (f : FunctionText) → function_text f ≡ joined (head_text f) (body_text f)
-unfolding function_text head_text body_text name_of_function arguments_text result_text locals_text joined
+pub function_row : (f : FunctionText) → function_text f ≡ joined_texts (head_text f) (body_text f)
+unfolding function_text head_text body_text name_of_function arguments_text result_text locals_text joined_texts
 function_row f =
     let form = form_of f in
     let locals = text (locals_pieces form.locals) in

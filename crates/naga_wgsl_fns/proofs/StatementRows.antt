@@ -36,11 +36,11 @@ use Rattle.wgsl_text.specs.Statements as tree
 use Rattle.naga_scope.specs.declared.points.Standing.{Standing}
 use Rattle.naga_scope.specs.Standings.{handles_of}
 use Rattle.naga_scope.proofs.Emitting.{range_more, range_none}
-use Rattle.naga_words.specs.Output.{joined}
+use Rattle.naga_words.specs.Output.{joined_texts}
 use Rattle.wgsl_text.specs.Reading.{type_layout}
 use Rattle.wgsl_text.specs.Text.{text}
 use Rattle.naga_wgsl_fns.specs.declared.functions.FunctionText.{FunctionText}
-use Rattle.naga_wgsl_fns.specs.FunctionText.{CanWrite, expressions, naming, told}
+use Rattle.naga_wgsl_fns.specs.FunctionText.{CanWrite, expressions, naming, let_annotation}
 use Rattle.naga_wgsl_fns.specs.Expressions.{own_form, own_text, reference_text, value_text}
 use Rattle.naga_wgsl_fns.specs.Statements.{block_text, emitted_text, let_line, let_text, lets_text}
 use Rattle.naga_wgsl_fns.specs.Statements.{line_start, line_text, lines_text, return_text}
@@ -57,33 +57,33 @@ indentation_row (suc n) =
     in rw four (ap (λ t. codes "    " ++ t) (indentation_row n))
 
 -- a loop over levels: one more, and none
-pub indentation_more : (level at : ℕ) → at < level → indentation (level - at) ≡ joined (codes "    ") (indentation (level - (at + 1)))
-unfolding joined
+pub indentation_more : (level at : ℕ) → at < level → indentation (level - at) ≡ joined_texts (codes "    ") (indentation (level - (at + 1)))
+unfolding joined_texts
 indentation_more level at lt = let one : level - at ≡ suc (level - (at + 1)) = omega arith in ap indentation one
 
 pub indentation_none : (level at : ℕ) → level ≤ at → indentation (level - at) ≡ []
 indentation_none level at past = let none : level - at ≡ 0 = omega arith in ap indentation none
 
-pub line_start_row : (level : ℕ) (word : List ℕ) → line_start level word ≡ joined (indentation level) word
-unfolding line_start joined
+pub line_start_row : (level : ℕ) (word : List ℕ) → line_start level word ≡ joined_texts (indentation level) word
+unfolding line_start joined_texts
 line_start_row level word = refl
 
 -- the start of a line in front of what follows
-line_starts : (level : ℕ) (word rest : List ℕ) → joined (line_start level word) rest ≡ replicate (4 * level) 32 ++ (word ++ rest)
-unfolding line_start joined
+line_starts : (level : ℕ) (word rest : List ℕ) → joined_texts (line_start level word) rest ≡ replicate (4 * level) 32 ++ (word ++ rest)
+unfolding line_start joined_texts
 line_starts level word rest = append_assoc (indentation level) word rest ∙ ap (λ t. t ++ (word ++ rest)) (indentation_row level)
 
 -- ---- statements
 pub store_row : (f : FunctionText) (table : List Standing) (level pointer value : ℕ)
-    → store_text f table level pointer value ≡ joined (line_start level []) (joined (reference_text f table pointer) (joined (codes " = ") (joined (value_text f table value) (codes ";\n"))))
-unfolding store_text reference_text value_text joined
+    → store_text f table level pointer value ≡ joined_texts (line_start level []) (joined_texts (reference_text f table pointer) (joined_texts (codes " = ") (joined_texts (value_text f table value) (codes ";\n"))))
+unfolding store_text reference_text value_text joined_texts
 store_row f table level pointer value =
     let operand = plain_form (naming f) (expressions f) (handles_of table) in
     assign_text (as_reference (operand pointer)) (as_value (operand value)) level
     ∙ sym (line_starts level [] (text (expression_pieces (as_reference (operand pointer))) ++ (codes " = " ++ (text (expression_pieces (as_value (operand value))) ++ codes ";\n"))))
 
-pub return_value_row : (f : FunctionText) (table : List Standing) (level value : ℕ) → return_value_text f table level value ≡ joined (line_start level (codes "return ")) (joined (value_text f table value) (codes ";\n"))
-unfolding return_value_text value_text joined
+pub return_value_row : (f : FunctionText) (table : List Standing) (level value : ℕ) → return_value_text f table level value ≡ joined_texts (line_start level (codes "return ")) (joined_texts (value_text f table value) (codes ";\n"))
+unfolding return_value_text value_text joined_texts
 return_value_row f table level value =
     let form = value_form (naming f) (expressions f) (handles_of table) value in
     return_row_text form level ∙ sym (line_starts level (codes "return ") (text (expression_pieces form) ++ codes ";\n"))
@@ -98,15 +98,15 @@ return_row f table level None = sym (ap (λ t. t ++ codes "return;\n") (indentat
 return_row f table level (Some value) = refl
 
 pub let_row : (f : FunctionText) (table : List Standing) (level handle : ℕ) → CanWrite f
-    → let_text f table level handle ≡ joined (line_start level (codes "let ")) (joined (numbered_name handle) (joined (told_text f handle) (joined (codes " = ") (joined (own_text f table handle) (codes ";\n")))))
-unfolding let_text told_text own_text joined
+    → let_text f table level handle ≡ joined_texts (line_start level (codes "let ")) (joined_texts (numbered_name handle) (joined_texts (told_text f handle) (joined_texts (codes " = ") (joined_texts (own_text f table handle) (codes ";\n")))))
+unfolding let_text told_text own_text joined_texts
 let_row f table level handle can =
-    ap (λ name. line_text level (let_form (told f handle) name own)) (sym (bound_is f can handle)) ∙ by (told f handle)
+    ap (λ name. line_text level (let_form (let_annotation f handle) name own)) (sym (bound_is f can handle)) ∙ by (let_annotation f handle)
   where
     own : Expression
     own = as_value (own_form f table handle)
 
-    by : (t : Option TypeSpecifier) → line_text level (let_form t (numbered_name handle) own) ≡ joined (line_start level (codes "let ")) (numbered_name handle ++ (told_type_text t ++ (codes " = " ++ (text (expression_pieces own) ++ codes ";\n"))))
+    by : (t : Option TypeSpecifier) → line_text level (let_form t (numbered_name handle) own) ≡ joined_texts (line_start level (codes "let ")) (numbered_name handle ++ (told_type_text t ++ (codes " = " ++ (text (expression_pieces own) ++ codes ";\n"))))
     by None =
         let_row_text (numbered_name handle) own level
         ∙ sym (line_starts level (codes "let ") (numbered_name handle ++ (codes " = " ++ (text (expression_pieces own) ++ codes ";\n"))))
@@ -132,17 +132,17 @@ statement_row f table level (simple (return value)) =
 statement_row f table level _ = refl
 
 -- ---- the handles of an Emit
-module _ (n : Naming) (told : ℕ → Option TypeSpecifier) (es : List ir.Expression) where
+module _ (n : Naming) (let_annotation : ℕ → Option TypeSpecifier) (es : List ir.Expression) where
   -- `let`s in front of what follows
-  pub lets_then : (k : ℕ) (hs : List ℕ) (s : Handles) (rest : Statements) (level : ℕ) → text (statements_pieces (lets_form n told es k hs s rest) level) ≡ text (statements_pieces (lets_form n told es k hs s NoStatements) level) ++ text (statements_pieces rest level)
+  pub lets_then : (k : ℕ) (hs : List ℕ) (s : Handles) (rest : Statements) (level : ℕ) → text (statements_pieces (lets_form n let_annotation es k hs s rest) level) ≡ text (statements_pieces (lets_form n let_annotation es k hs s NoStatements) level) ++ text (statements_pieces rest level)
   lets_then k [] s rest level = refl
   lets_then k (h ∷ hs) s rest level = by (binds n.function h) (lets_then (given_after n.function h k) hs (after_one n k h s) rest level)
     where
       behind : Statements → Statements
-      behind rest = lets_form n told es (given_after n.function h k) hs (after_one n k h s) rest
+      behind rest = lets_form n let_annotation es (given_after n.function h k) hs (after_one n k h s) rest
 
       line : tree.Statement
-      line = let_form (told h) (bound_name n k h) (as_value (own_if n (plain_form n es s) (slice_get es h)))
+      line = let_form (let_annotation h) (bound_name n k h) (as_value (own_if n (plain_form n es s) (slice_get es h)))
 
       by : (b : Bool) → text (statements_pieces (behind rest) level) ≡ text (statements_pieces (behind NoStatements) level) ++ text (statements_pieces rest level) → text (statements_pieces (then_if b line (behind rest)) level) ≡ text (statements_pieces (then_if b line (behind NoStatements)) level) ++ text (statements_pieces rest level)
       by true more =
@@ -155,8 +155,8 @@ module _ (n : Naming) (told : ℕ → Option TypeSpecifier) (es : List ir.Expres
 module _ (f : FunctionText) (can : CanWrite f) where
   -- a loop over a range: one more handle, behind which `next` has what is in scope
   pub lets_step : (table next : List Standing) (level index last handle : ℕ) → index < last → handle ≡ index → handles_of next ≡ after_one (naming f) 0 handle (handles_of table)
-      → lets_text f table level (from index (last - index)) ≡ joined (emitted_text f table level handle) (lets_text f next level (from (index + 1) (last - (index + 1))))
-  unfolding lets_text emitted_text let_text joined
+      → lets_text f table level (from index (last - index)) ≡ joined_texts (emitted_text f table level handle) (lets_text f next level (from (index + 1) (last - (index + 1))))
+  unfolding lets_text emitted_text let_text joined_texts
   lets_step table next level index last handle lt at is =
       ap (λ hs. lets hs (handles_of table) 0) (range_more index last lt ∙ ap (λ (k : ℕ). k ∷ rest) (sym at))
       ∙ (by (binds (naming f).function handle)
@@ -166,7 +166,7 @@ module _ (f : FunctionText) (can : CanWrite f) where
       rest = from (index + 1) (last - (index + 1))
 
       form : List ℕ → Handles → ℕ → Statements
-      form hs s k = lets_form (naming f) (told f) (expressions f) k hs s NoStatements
+      form hs s k = lets_form (naming f) (let_annotation f) (expressions f) k hs s NoStatements
 
       lets : List ℕ → Handles → ℕ → List ℕ
       lets hs s k = lines_text level (form hs s k)
@@ -192,18 +192,18 @@ module _ (f : FunctionText) (can : CanWrite f) where
   operand_at s h = value_form (naming f) (expressions f) s h
 
   abbrev lines_at : ℕ → BlockTree → Handles → Statements
-  lines_at k b s = lines_form (naming f) (told f) (expressions f) k b s
+  lines_at k b s = lines_form (naming f) (let_annotation f) (expressions f) k b s
 
   -- a statement in front of others
   line_then : (st : StatementTree) (s : Handles) (rest : Statements) (level : ℕ)
-      → lines_text level (line_form (naming f) (told f) (expressions f) 0 st s rest) ≡ lines_text level (line_form (naming f) (told f) (expressions f) 0 st s NoStatements) ++ lines_text level rest
+      → lines_text level (line_form (naming f) (let_annotation f) (expressions f) 0 st s rest) ≡ lines_text level (line_form (naming f) (let_annotation f) (expressions f) 0 st s NoStatements) ++ lines_text level rest
   line_then st s rest level = by st
     where
       one : (line : tree.Statement) → lines_text level (Then line rest) ≡ lines_text level (Then line NoStatements) ++ lines_text level rest
       one line = then_text line rest level ∙ ap (λ t. t ++ lines_text level rest) (sym (then_text line NoStatements level ∙ append-nil (line_text level line)))
 
-      by : (st : StatementTree) → lines_text level (line_form (naming f) (told f) (expressions f) 0 st s rest) ≡ lines_text level (line_form (naming f) (told f) (expressions f) 0 st s NoStatements) ++ lines_text level rest
-      by (simple (emit first last)) = lets_then (naming f) (told f) (expressions f) 0 (from first (last - first)) s rest level
+      by : (st : StatementTree) → lines_text level (line_form (naming f) (let_annotation f) (expressions f) 0 st s rest) ≡ lines_text level (line_form (naming f) (let_annotation f) (expressions f) 0 st s NoStatements) ++ lines_text level rest
+      by (simple (emit first last)) = lets_then (naming f) (let_annotation f) (expressions f) 0 (from first (last - first)) s rest level
       by (simple (store pointer value)) = one (tree.Assign (as_reference (plain_form (naming f) (expressions f) s pointer)) (value_form (naming f) (expressions f) s value))
       by (simple (return value)) = one (return_line (naming f) (expressions f) s value)
       by (simple break) = one tree.Break
@@ -213,7 +213,7 @@ module _ (f : FunctionText) (can : CanWrite f) where
       by (block b) = one (Block (lines_at 0 b s))
       by (branch condition accept reject) =
           one (tree.If (operand_at s condition) (lines_at 0 accept s) (lines_at (given_by_all (naming f).function (statements_shape accept) 0) reject s))
-      by (switch selector cases) = one (tree.Switch (operand_at s selector) (cases_form (naming f) (told f) (expressions f) 0 [] cases s))
+      by (switch selector cases) = one (tree.Switch (operand_at s selector) (cases_form (naming f) (let_annotation f) (expressions f) 0 [] cases s))
       by (loop body continuing break_if) =
           let behind = given_by_all (naming f).function (statements_shape body) 0 in
           let inside = after_all (naming f) 0 (statements_shape body) s in
@@ -222,15 +222,15 @@ module _ (f : FunctionText) (can : CanWrite f) where
 
   -- a block, by its first statement, behind which `next` has what is in scope
   pub block_row : (table next : List Standing) (level : ℕ) (st : StatementTree) (rest : BlockTree) → handles_of next ≡ after (naming f) 0 (statement_shape st) (handles_of table)
-      → block_text f table level (statement st rest) ≡ joined (statement_text f table level st) (block_text f next level rest)
-  unfolding block_text statement_text joined
+      → block_text f table level (statement st rest) ≡ joined_texts (statement_text f table level st) (block_text f next level rest)
+  unfolding block_text statement_text joined_texts
   block_row table next level st rest is =
       ap (λ k. lines k (after (naming f) 0 (statement_shape st) (handles_of table))) (none_given_by f can st)
       ∙ (ap (λ s. lines 0 s) (sym is)
-      ∙ line_then st (handles_of table) (lines_form (naming f) (told f) (expressions f) 0 rest (handles_of next)) level)
+      ∙ line_then st (handles_of table) (lines_form (naming f) (let_annotation f) (expressions f) 0 rest (handles_of next)) level)
     where
       lines : ℕ → Handles → List ℕ
-      lines k s = lines_text level (line_form (naming f) (told f) (expressions f) 0 st (handles_of table) (lines_form (naming f) (told f) (expressions f) k rest s))
+      lines k s = lines_text level (line_form (naming f) (let_annotation f) (expressions f) 0 st (handles_of table) (lines_form (naming f) (let_annotation f) (expressions f) k rest s))
 
 -- a list from an item of it on
 pub drop_first : {X : Type 0} (i : ℕ) (xs : List X) (x : X) → i < length xs → x ≡ slice_index_or xs i x → drop i xs ≡ x ∷ drop (i + 1) xs
@@ -243,7 +243,7 @@ block_step ss i s h here = ap (λ ts. block_of ts) (drop_first i ss s h here)
 
 -- a loop over statements: one more, and none
 pub statements_more : (f : FunctionText) → CanWrite f → (table next : List Standing) (level : ℕ) (items : List Statement) (i : ℕ) (item : Statement) → i < length items → item ≡ slice_index_or items i item → handles_of next ≡ after (naming f) 0 (statement_shape (tree_of item)) (handles_of table)
-    → block_text f table level (block_of (drop i items)) ≡ joined (statement_text f table level (tree_of item)) (block_text f next level (block_of (drop (i + 1) items)))
+    → block_text f table level (block_of (drop i items)) ≡ joined_texts (statement_text f table level (tree_of item)) (block_text f next level (block_of (drop (i + 1) items)))
 statements_more f can table next level items i item lt at is =
     ap (block_text f table level) (block_step items i item lt at) ∙ block_row f can table next level (tree_of item) (block_of (drop (i + 1) items)) is
 

@@ -34,8 +34,8 @@ use Rattle.naga_words.specs.declared.error.TypeTextError.{TypeTextError}
 use Rattle.wgsl_text.specs.Reading.{type_layout}
 use Rattle.module_meaning.specs.Names.{module_names}
 use Rattle.naga_form.proofs.WrittenTypes.{HasForm, word_has_form, resolution_has_form}
-use Rattle.naga_words.specs.Output.{Follows, Goes, Lies, PartsFollow, PartsGo, PartsLie, Seen}
-use Rattle.naga_words.specs.Output.{Spelled, Wrote, joined}
+use Rattle.naga_words.specs.Output.{Follows, Goes, Lies, PartsFollow, PartsGo, PartsLie, OutputView}
+use Rattle.naga_words.specs.Output.{SpelledParts, Wrote, joined_texts}
 use Rattle.naga_wgsl_fns.specs.declared.functions.FunctionText.{FunctionText}
 use Rattle.naga_wgsl_fns.specs.Types.{annotation_text, has_word, resolution_text, type_text}
 
@@ -59,7 +59,7 @@ module _ (ps : List Part) (t : List ℕ) (known : known_text ps ≡ Some t) wher
   lacks_nothing : lacks ps ≡ true → ⊥
   lacks_nothing lack = let none : Some t ≡ None = sym known ∙ lacks_unknown ps lack in cc
 
-  module _ (refuses : Bool) (before after : Seen) where
+  module _ (refuses : Bool) (before after : OutputView) where
     known_lies : (want : Option TypeTextError) → PartsLie refuses ps before after want
         → Lies before.held before.failures t after.held after.failures want
     known_lies None lies =
@@ -77,15 +77,15 @@ module _ (ps : List Part) (t : List ℕ) (known : known_text ps ≡ Some t) wher
     known_follows None follow = known_lies after.want follow
     known_follows (Some want) follow = follow
 
-  pub known_wrote : {refuses : Bool} {before after : Seen} → Spelled refuses before after ps
+  pub known_wrote : {refuses : Bool} {before after : OutputView} → SpelledParts refuses before after ps
       → Wrote before after t
   unfolding PartsGo Goes
   known_wrote {refuses} {before} {after} w =
       record { goes = (known_follows refuses before after before.want w.goes.0, w.goes.1) }
 
 -- a type that is told
-pub annotation_row : (f : FunctionText) (ty : TypeResolution) → annotation_text f ty ≡ joined (codes ": ") (resolution_text f ty)
-unfolding annotation_text joined
+pub annotation_row : (f : FunctionText) (ty : TypeResolution) → annotation_text f ty ≡ joined_texts (codes ": ") (resolution_text f ty)
+unfolding annotation_text joined_texts
 annotation_row f ty = refl
 
 module _ (types : List Type_) where

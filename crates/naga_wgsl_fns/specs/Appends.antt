@@ -11,7 +11,7 @@ pub record Wrote (held : List ℕ) (failed : ℕ) (text now : List ℕ) (failure
   pub kept : failures ≡ failed
 
 -- a beginning of the text stands there, for want of memory or because the sink failed
-pub record Stopped (held : List ℕ) (failed : ℕ) (text now : List ℕ) (failures : ℕ)
+pub record StoppedWithin (held : List ℕ) (failed : ℕ) (text now : List ℕ) (failures : ℕ)
     (error : Error) : Type 0 where
   pub behind : IsBehind held text now
   pub reason : IsWant failed failures error
@@ -20,4 +20,5 @@ pub record Stopped (held : List ℕ) (failed : ℕ) (text now : List ℕ) (failu
 abbrev pub Appends : Result Unit Error → (held : List ℕ) (failed : ℕ) (text now : List ℕ)
     (failures : ℕ) → Type 0
 Appends (Ok _) held failed text now failures = Wrote held failed text now failures
-Appends (Err error) held failed text now failures = Stopped held failed text now failures error
+Appends (Err error) held failed text now failures =
+    StoppedWithin held failed text now failures error

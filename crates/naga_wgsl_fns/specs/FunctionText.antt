@@ -34,8 +34,9 @@ abbrev pub type_names_of : FunctionText → TypeNames
 type_names_of f = type_names f.shader.now
 
 -- the type that the `let` of a handle tells, if it tells one
-abbrev pub told : FunctionText → (handle : ℕ) → Option TypeSpecifier
-told f handle = told_type (tells_types f.flags) (type_names f.shader.now) f.info.now handle
+abbrev pub let_annotation : FunctionText → (handle : ℕ) → Option TypeSpecifier
+let_annotation f handle =
+    told_type (tells_types f.flags) (type_names f.shader.now) f.info.now handle
 
 -- It is a function of its module, accepted with what is known of it, one of those that are written
 -- so far, and has its names.

@@ -13,7 +13,7 @@ use Rattle.naga_scope.specs.declared.points.Standing.{Standing}
 use Rattle.naga_scope.specs.Standings.{handles_of}
 use Rattle.wgsl_text.specs.Text.{text}
 use Rattle.naga_wgsl_fns.specs.declared.functions.FunctionText.{FunctionText}
-use Rattle.naga_wgsl_fns.specs.FunctionText.{expressions, naming, told}
+use Rattle.naga_wgsl_fns.specs.FunctionText.{expressions, naming, let_annotation}
 use Rattle.naga_wgsl_fns.specs.Expressions.{form_at, own_form}
 
 -- a statement's lines
@@ -46,7 +46,8 @@ return_value_text f table level value =
 -- the `let` of a handle
 abbrev pub let_line : FunctionText → (table : List Standing) → (handle : ℕ) → Statement
 let_line f table handle =
-    let_form (told f handle) (bound_name (naming f) 0 handle) (as_value (own_form f table handle))
+    let_form (let_annotation f handle) (bound_name (naming f) 0 handle)
+    (as_value (own_form f table handle))
 
 unfoldable pub let_text : FunctionText → (table : List Standing) → (level handle : ℕ) → List ℕ
 let_text f table level handle = line_text level (let_line f table handle)
@@ -61,7 +62,8 @@ unfoldable pub lets_text : FunctionText → (table : List Standing) → (level :
     → (handles : List ℕ) → List ℕ
 lets_text f table level handles =
     let rest = NoStatements in
-    let lets = lets_form (naming f) (told f) (expressions f) 0 handles (handles_of table) rest in
+    let lets =
+    lets_form (naming f) (let_annotation f) (expressions f) 0 handles (handles_of table) rest in
     lines_text level lets
 
 -- a statement of a block
@@ -69,10 +71,13 @@ unfoldable pub statement_text : FunctionText → (table : List Standing) → (le
     → StatementTree → List ℕ
 statement_text f table level statement =
     let rest = NoStatements in
-    let lines = line_form (naming f) (told f) (expressions f) 0 statement (handles_of table) rest in
+    let lines =
+    line_form (naming f) (let_annotation f) (expressions f) 0 statement (handles_of table)
+    rest in
     lines_text level lines
 
 unfoldable pub block_text : FunctionText → (table : List Standing) → (level : ℕ)
     → BlockTree → List ℕ
 block_text f table level block =
-    lines_text level (lines_form (naming f) (told f) (expressions f) 0 block (handles_of table))
+    lines_text level
+    (lines_form (naming f) (let_annotation f) (expressions f) 0 block (handles_of table))

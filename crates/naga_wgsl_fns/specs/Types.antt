@@ -9,7 +9,7 @@ use Rattle.naga_form.specs.TypeTrees.{resolution_tree}
 use Rattle.wgsl_text.specs.Types.{TypeSpecifier, Named}
 use Rattle.wgsl_text.specs.Reading.{type_layout}
 use Rattle.naga_wgsl_fns.specs.declared.functions.FunctionText.{FunctionText}
-use Rattle.naga_wgsl_fns.specs.FunctionText.{told, type_names_of}
+use Rattle.naga_wgsl_fns.specs.FunctionText.{let_annotation, type_names_of}
 
 -- Does the type have a word?
 abbrev pub has_word : List Type_ → ℕ → Bool
@@ -34,4 +34,4 @@ told_type_text (Some ty) = codes ": " ++ type_layout ty
 
 -- the same in the `let` of a handle
 unfoldable pub told_text : FunctionText → (handle : ℕ) → List ℕ
-told_text f handle = told_type_text (told f handle)
+told_text f handle = told_type_text (let_annotation f handle)

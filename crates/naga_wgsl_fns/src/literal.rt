@@ -49,7 +49,7 @@ fn write_i64<W: TextSink>(value: i64, out: &mut Output<'_, W>)
 }
 
 /// Writes a number, and the suffix of its type.
-#[tactic(auto, using(naga_words::proofs::Writing::writes_then), unfolding(naga_words::specs::Output::joined))]
+#[tactic(auto, using(naga_words::proofs::Writing::writes_then), unfolding(naga_words::specs::Output::joined_texts))]
 fn write_number<I: Integer, W: TextSink>(number: I, suffix: &str, out: &mut Output<'_, W>)
     ensures { Writes W.text W.failures out.old out.new (I.text number ++ suffix.now) }
 {

@@ -24,7 +24,7 @@ use Rattle.module_meaning.proofs.Part.{functions_name_nothing}
 use Rattle.naga_form.proofs.Runs.{runs_as}
 use Rattle.naga_scope.specs.Plans.{ScopeHoldsIn}
 use Rattle.naga_words.specs.Sink.{IsBehind}
-use Rattle.naga_wgsl_fns.specs.Appends.{Stopped}
+use Rattle.naga_wgsl_fns.specs.Appends.{StoppedWithin}
 use Rattle.naga_wgsl_fns.specs.Errors.{IsWant, IsNotYetWritten}
 use Rattle.naga_wgsl_fns.specs.declared.error.Error.{Error}
 use Rattle.naga_wgsl_fns.specs.declared.error.Error.TheVariants.{FmtError, Custom, Unimplemented}
@@ -166,7 +166,7 @@ module _ (m : Module) (info : ModuleInfo) (flags : WriterFlags)
           failures_ok = w.wrote.kept;
         }
 
-    stopped : (e : Error) → Stopped held before (module_lines m info flags) now after e →
+    stopped : (e : Error) → StoppedWithin held before (module_lines m info flags) now after e →
         Concludes (Err e) held now before after
     stopped e s = record {
       is_faithful = refused m info e held now before after

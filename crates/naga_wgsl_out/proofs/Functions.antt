@@ -24,7 +24,7 @@ use Rattle.wgsl_text.specs.Text.{text}
 use Rattle.naga_scope.specs.Plans.{IsPlanOf, ScopeHoldsIn}
 use Rattle.naga_scope.specs.declared.points.Standing.{Standing}
 use Rattle.module_meaning.specs.Names.{module_names}
-use Rattle.naga_wgsl_fns.specs.Appends.{Stopped, Wrote}
+use Rattle.naga_wgsl_fns.specs.Appends.{StoppedWithin, Wrote}
 use Rattle.naga_wgsl_fns.specs.FunctionText.{tells_types}
 use Rattle.naga_wgsl_fns.specs.Functions.{known_of, text_of_function}
 use Rattle.naga_wgsl_fns.specs.declared.error.Error.{Error}
@@ -93,7 +93,7 @@ here_line m info flags n f lt is =
 -- the answer of a call that ends with an error
 writes_err : {m : Module} {info : ModuleInfo} {flags : WriterFlags} {held now : List ℕ}
     {failed failures : ℕ} (r : Result Unit Error) {error : Error} → IsErrAnd r (λ e. e ≡ error) →
-    (Stopped held failed (module_lines m info flags) now failures error
+    (StoppedWithin held failed (module_lines m info flags) now failures error
     ⊎ MetNoPlan m info flags held failed now failures error) →
     WritesFunctions m info flags r held failed now failures
 writes_err (Ok x) is w = absurd is
@@ -180,13 +180,13 @@ module _ (m : Module) (info : ModuleInfo) (flags : WriterFlags) {n : ℕ} {held 
 
     -- memory or the sink stopped it
     pub up_to_stopped : (r : Result Unit Error) (error : Error) {now : List ℕ} {failures : ℕ} →
-        IsErrAnd r (λ e. e ≡ error) → Stopped middle among line now failures error →
+        IsErrAnd r (λ e. e ≡ error) → StoppedWithin middle among line now failures error →
         WritesFunctions m info flags r held failed now failures
     up_to_stopped r error {now} {failures} told stopped =
         let whole = ap (λ t. lines_before m info flags n ++ t)
         (ap (λ t. t ++ lines_behind m info flags (n + 1)) (sym line_is)
         ∙ sym (here_line m info flags n here below stands)) ∙ lines_split m info flags n in
-        writes_err r told (inl (subst (λ t. Stopped held failed t now failures error) whole
+        writes_err r told (inl (subst (λ t. StoppedWithin held failed t now failures error) whole
         (stopped_then so_far.wrote (stopped_first (lines_behind m info flags (n + 1)) stopped))))
 
     -- it has no plan
@@ -195,7 +195,7 @@ module _ (m : Module) (info : ModuleInfo) (flags : WriterFlags) {n : ℕ} {held 
     up_to_unplanned r error told refusal = writes_err r told (by error refusal)
       where
         by : (error : Error) → IsPlanRefusal m info handle error →
-            Stopped held failed (module_lines m info flags) middle among error
+            StoppedWithin held failed (module_lines m info flags) middle among error
             ⊎ MetNoPlan m info flags held failed middle among error
         by (Memory e) refusal = inl (record {
           behind = (

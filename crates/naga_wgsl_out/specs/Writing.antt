@@ -14,7 +14,7 @@ use Rattle.naga_form.specs.Declarations.{written_program}
 use Rattle.module_meaning.specs.Names.{module_names}
 use Rattle.wgsl_text.specs.Text.{text}
 use Rattle.wgsl_text.specs.Reading.{layout}
-use Rattle.naga_wgsl_fns.specs.Appends.{Stopped, Wrote}
+use Rattle.naga_wgsl_fns.specs.Appends.{StoppedWithin, Wrote}
 use Rattle.naga_wgsl_fns.specs.FunctionText.{tells_types}
 use Rattle.naga_wgsl_fns.specs.Functions.{known_of}
 use Rattle.naga_wgsl_fns.specs.declared.error.Error.{Error}
@@ -82,5 +82,5 @@ abbrev pub WritesFunctions : Module → ModuleInfo → WriterFlags → Result Un
 WritesFunctions m info flags (Ok _) held failed now failures =
     WroteFunctions m info flags held failed now failures
 WritesFunctions m info flags (Err error) held failed now failures =
-    Stopped held failed (module_lines m info flags) now failures error
+    StoppedWithin held failed (module_lines m info flags) now failures error
     ⊎ MetNoPlan m info flags held failed now failures error

@@ -7,11 +7,13 @@
 #![tactic(auto)]
 
 pub mod back;
+pub mod diagnostics;
 pub mod info;
+pub mod to_wgsl;
 pub mod types;
 pub mod wgsl;
 mod writer;
 
 pub use naga_ir as ir;
 pub use naga_names::{keyword_set, keywords, namer};
-pub use naga_words::{predeclared, to_wgsl};
+pub use naga_words::predeclared;

@@ -2,4 +2,4 @@
 
 pub use crate::writer::{Writer, write_string};
 pub use naga_back::WriterFlags;
-pub use naga_wgsl_fns::{Error, to_wgsl_if_implemented};
+pub use naga_wgsl_fns::Error;

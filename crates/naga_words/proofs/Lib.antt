@@ -1,4 +1,5 @@
 pub mod Empties
+pub mod FoundWords
 pub mod Levels
 pub mod Orders
 pub mod PartWriting

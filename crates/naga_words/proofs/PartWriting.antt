@@ -4,7 +4,7 @@ use Rattle.std.proofs.Common.{Option, Some, None, append_assoc, refl, sym, ap, s
 use Rattle.std.specs.Option.{is_some}
 use Rattle.std.proofs.lemmas.List.{append-nil}
 use Rattle.naga_words.specs.Output.{Follows, Goes, IsReason, Lies, PartsFollow, PartsGo, PartsLie}
-use Rattle.naga_words.specs.Output.{Seen, Spelled}
+use Rattle.naga_words.specs.Output.{OutputView, SpelledParts}
 use Rattle.naga_words.specs.Output.{Wrote}
 use Rattle.naga_words.proofs.Writing.{behind_first, behind_then}
 use Rattle.naga_words.specs.Parts.{Part, Word, Shown, Missing, IsRefused, lacks, before_missing}
@@ -109,8 +109,8 @@ reason_as f failed failures (Sink (SinkMemory a)) reason = reason
 reason_as f failed failures (Memory a) reason = reason
 reason_as f failed failures NoForm reason = f reason
 
-module _ (refuses : Bool) (before after : Seen) where
-  module _ (middle : Seen) (ps qs : List Part) where
+module _ (refuses : Bool) (before after : OutputView) where
+  module _ (middle : OutputView) (ps qs : List Part) where
     -- the second parts, where the first stand whole
     after_whole : (want : Option TypeTextError) → HasWritten ps before.held middle.held
         → middle.failures ≡ before.failures → PartsLie refuses qs middle after want
@@ -136,7 +136,7 @@ module _ (refuses : Bool) (before after : Seen) where
         → PartsLie refuses (ps ++ qs) before after after.want
     after_middle None is stand follow = after_whole after.want stand.0 stand.1 follow
     after_middle (Some want) is stand follow =
-        subst (λ (s : Seen). PartsLie refuses (ps ++ qs) before s s.want) (sym follow)
+        subst (λ (s : OutputView). PartsLie refuses (ps ++ qs) before s s.want) (sym follow)
         (subst (λ o. PartsLie refuses (ps ++ qs) before middle o) is (after_part want stand))
 
     follow_then : (want : Option TypeTextError) → want ≡ before.want
@@ -147,7 +147,7 @@ module _ (refuses : Bool) (before after : Seen) where
     follow_then (Some want) is first more =
         let stays : PartsFollow (Some want) refuses qs middle after =
         subst (λ o. PartsFollow o refuses qs middle after)
-        (ap (λ (s : Seen). s.want) first ∙ sym is)
+        (ap (λ (s : OutputView). s.want) first ∙ sym is)
         more in
         stays ∙ first
 
@@ -179,9 +179,9 @@ module _ (refuses : Bool) (before after : Seen) where
     follow_one None follows = stands after.want follows
     follow_one (Some want) follows = follows
 
-pub spells_then : {refuses : Bool} {before middle after : Seen} {ps qs : List Part}
-    → Spelled refuses before middle ps → Spelled refuses middle after qs
-    → Spelled refuses before after (ps ++ qs)
+pub spells_then : {refuses : Bool} {before middle after : OutputView} {ps qs : List Part}
+    → SpelledParts refuses before middle ps → SpelledParts refuses middle after qs
+    → SpelledParts refuses before after (ps ++ qs)
 unfolding PartsGo
 spells_then {refuses} {before} {middle} {after} {ps} {qs} w v = record {
   goes = (
@@ -191,8 +191,8 @@ spells_then {refuses} {before} {middle} {after} {ps} {qs} w v = record {
 }
 
 -- what is never refused
-pub spells_any : {refuses : Bool} {before after : Seen} {parts : List Part}
-    → Spelled false before after parts → Spelled refuses before after parts
+pub spells_any : {refuses : Bool} {before after : OutputView} {parts : List Part}
+    → SpelledParts false before after parts → SpelledParts refuses before after parts
 unfolding PartsGo
 spells_any {refuses} {before} {after} {parts} w =
     record { goes = (by before.want w.goes.0, w.goes.1) }
@@ -214,8 +214,8 @@ spells_any {refuses} {before} {after} {parts} w =
     by (Some want) follow = follow
 
 -- a word, or a debug text
-pub spells_word : {refuses : Bool} {before after : Seen} {word : List ℕ} → Wrote before after word
-    → Spelled refuses before after (Word word ∷ [])
+pub spells_word : {refuses : Bool} {before after : OutputView} {word : List ℕ} → Wrote before after word
+    → SpelledParts refuses before after (Word word ∷ [])
 unfolding PartsGo Goes
 spells_word {refuses} {before} {after} {word} w = record {
   goes = (
@@ -225,8 +225,8 @@ spells_word {refuses} {before} {after} {word} w = record {
   );
 }
 
-pub spells_shown : {refuses : Bool} {before after : Seen} {debug : List ℕ}
-    → Wrote before after debug → Spelled refuses before after (Shown ∷ [])
+pub spells_shown : {refuses : Bool} {before after : OutputView} {debug : List ℕ}
+    → Wrote before after debug → SpelledParts refuses before after (Shown ∷ [])
 unfolding PartsGo Goes
 spells_shown {refuses} {before} {after} {debug} w = record {
   goes = (
@@ -237,22 +237,22 @@ spells_shown {refuses} {before} {after} {debug} w = record {
 }
 
 -- and then other parts
-pub spells_word_then : {refuses : Bool} {before middle after : Seen} {word : List ℕ}
-    {parts : List Part} → Wrote before middle word → Spelled refuses middle after parts
-    → Spelled refuses before after (Word word ∷ parts)
+pub spells_word_then : {refuses : Bool} {before middle after : OutputView} {word : List ℕ}
+    {parts : List Part} → Wrote before middle word → SpelledParts refuses middle after parts
+    → SpelledParts refuses before after (Word word ∷ parts)
 spells_word_then {refuses} {before} {middle} {after} {word} w v =
-    let first : Spelled refuses before middle (Word word ∷ []) = spells_word w in
+    let first : SpelledParts refuses before middle (Word word ∷ []) = spells_word w in
     spells_then first v
 
-pub spells_shown_then : {refuses : Bool} {before middle after : Seen} {debug : List ℕ}
-    {parts : List Part} → Wrote before middle debug → Spelled refuses middle after parts
-    → Spelled refuses before after (Shown ∷ parts)
+pub spells_shown_then : {refuses : Bool} {before middle after : OutputView} {debug : List ℕ}
+    {parts : List Part} → Wrote before middle debug → SpelledParts refuses middle after parts
+    → SpelledParts refuses before after (Shown ∷ parts)
 spells_shown_then {refuses} {before} {middle} {after} w v =
-    let first : Spelled refuses before middle (Shown ∷ []) = spells_shown w in
+    let first : SpelledParts refuses before middle (Shown ∷ []) = spells_shown w in
     spells_then first v
 
 -- nothing is written
-pub spells_nothing : {refuses : Bool} (before : Seen) → Spelled refuses before before []
+pub spells_nothing : {refuses : Bool} (before : OutputView) → SpelledParts refuses before before []
 unfolding PartsGo
 spells_nothing {refuses} before = record { goes = (by before.want refl, refl) }
   where
@@ -263,8 +263,8 @@ spells_nothing {refuses} before = record { goes = (by before.want refl, refl) }
     by (Some want) is = refl
 
 -- behind a want all parts are written
-pub spells_no_more : {refuses : Bool} (before : Seen) (parts : List Part)
-    → is_some before.want ≡ true → Spelled refuses before before parts
+pub spells_no_more : {refuses : Bool} (before : OutputView) (parts : List Part)
+    → is_some before.want ≡ true → SpelledParts refuses before before parts
 unfolding PartsGo
 spells_no_more {refuses} before parts some = record { goes = (by before.want some, refl) }
   where
@@ -274,9 +274,9 @@ spells_no_more {refuses} before parts some = record { goes = (by before.want som
     by (Some want) some = refl
 
 -- ---- a call that writes to the sink of an output without a want
-stands_so : (refuses : Bool) (before after : Seen) (parts : List Part)
+stands_so : (refuses : Bool) (before after : OutputView) (parts : List Part)
     → is_some before.want ≡ false → after.sink ≡ before.sink
-    → PartsLie refuses parts before after after.want → Spelled refuses before after parts
+    → PartsLie refuses parts before after after.want → SpelledParts refuses before after parts
 unfolding PartsGo
 stands_so refuses before after parts fresh same stand =
     record { goes = (by before.want fresh, same) }
@@ -286,10 +286,10 @@ stands_so refuses before after parts fresh same stand =
     by None none = stand
     by (Some want) none = absurd (cc)
 
-pub spells_answered : {refuses : Bool} {before after : Seen} {parts : List Part}
+pub spells_answered : {refuses : Bool} {before after : OutputView} {parts : List Part}
     → is_some before.want ≡ false → after.sink ≡ before.sink
     → HasWritten parts before.held after.held → after.failures ≡ before.failures
-    → after.want ≡ before.want → Spelled refuses before after parts
+    → after.want ≡ before.want → SpelledParts refuses before after parts
 spells_answered {refuses} {before} {after} {parts} fresh same w kept want =
     stands_so refuses before after parts fresh same
     (subst (λ o. PartsLie refuses parts before after o) (sym (want ∙ none before.want fresh))
@@ -299,11 +299,11 @@ spells_answered {refuses} {before} {after} {parts} fresh same w kept want =
     none None is = refl
     none (Some want) is = absurd (cc)
 
-pub spells_wanting : {refuses : Bool} {before after : Seen} {parts : List Part} (e : TypeTextError)
+pub spells_wanting : {refuses : Bool} {before after : OutputView} {parts : List Part} (e : TypeTextError)
     → is_some before.want ≡ false → after.sink ≡ before.sink → after.want ≡ Some e
     → HasBegun parts before.held after.held
     → (e ≡ NoForm → IsRefused refuses parts)
-    → (e ≡ Sink Failed → before.failures < after.failures) → Spelled refuses before after parts
+    → (e ≡ Sink Failed → before.failures < after.failures) → SpelledParts refuses before after parts
 spells_wanting {refuses} {before} {after} {parts} e fresh same is begun form failure =
     stands_so refuses before after parts fresh same
     (subst (λ o. PartsLie refuses parts before after o) (sym is) (begun, by e form failure))
@@ -317,8 +317,8 @@ spells_wanting {refuses} {before} {after} {parts} e fresh same is begun form fai
     by NoForm form failure = form refl
 
 -- ---- an output that had no want at first
-from_fresh : (refuses : Bool) (start now : Seen) (parts : List Part)
-    → Spelled refuses start now parts → start.want ≡ None → (want : Option TypeTextError)
+from_fresh : (refuses : Bool) (start now : OutputView) (parts : List Part)
+    → SpelledParts refuses start now parts → start.want ≡ None → (want : Option TypeTextError)
     → now.want ≡ want
     → PartsLie refuses parts start now want
 unfolding PartsGo
@@ -327,12 +327,12 @@ from_fresh refuses start now parts w fresh want is =
     subst (λ o. PartsFollow o refuses parts start now) fresh w.goes.0 in
     subst (λ o. PartsLie refuses parts start now o) is follow
 
-module _ {refuses : Bool} {start now : Seen} {parts : List Part} where
-  pub spelled_whole : Spelled refuses start now parts → start.want ≡ None → now.want ≡ None
+module _ {refuses : Bool} {start now : OutputView} {parts : List Part} where
+  pub spelled_whole : SpelledParts refuses start now parts → start.want ≡ None → now.want ≡ None
       → HasWritten parts start.held now.held
   spelled_whole w fresh none = (from_fresh refuses start now parts w fresh None none).0
 
-  pub spelled_part : Spelled refuses start now parts → start.want ≡ None
+  pub spelled_part : SpelledParts refuses start now parts → start.want ≡ None
       → HasBegun parts start.held now.held
   spelled_part w fresh = by now.want (from_fresh refuses start now parts w fresh now.want refl)
     where
@@ -341,20 +341,20 @@ module _ {refuses : Bool} {start now : Seen} {parts : List Part} where
       by None stand = begun_all parts start.held now.held stand.0
       by (Some want) stand = stand.0
 
-  pub spelled_kept : Spelled refuses start now parts → start.want ≡ None → now.want ≡ None
+  pub spelled_kept : SpelledParts refuses start now parts → start.want ≡ None → now.want ≡ None
       → now.failures ≡ start.failures
   spelled_kept w fresh none = (from_fresh refuses start now parts w fresh None none).1
 
-  pub spelled_refused : Spelled refuses start now parts → start.want ≡ None
+  pub spelled_refused : SpelledParts refuses start now parts → start.want ≡ None
       → now.want ≡ Some NoForm → IsRefused refuses parts
   spelled_refused w fresh some = (from_fresh refuses start now parts w fresh (Some NoForm) some).1
 
-  pub spelled_failed : Spelled refuses start now parts → start.want ≡ None
+  pub spelled_failed : SpelledParts refuses start now parts → start.want ≡ None
       → now.want ≡ Some (Sink Failed) → start.failures < now.failures
   spelled_failed w fresh some =
       (from_fresh refuses start now parts w fresh (Some (Sink Failed)) some).1
 
-  pub spelled_sink : Spelled refuses start now parts → now.sink ≡ start.sink
+  pub spelled_sink : SpelledParts refuses start now parts → now.sink ≡ start.sink
   unfolding PartsGo
   spelled_sink w = w.goes.1
 

@@ -1,13 +1,13 @@
 -- Texts written one behind another are written together, in rows and in loops, and what a want then
 -- says.
-use Rattle.std.proofs.Common.{◌≡◌, ℕ, ◌<◌, true, List, [], ◌++◌, append_assoc, Option, Some, None}
+use Rattle.std.proofs.Common.{◌≡◌, ℕ, true, List, [], ◌++◌, append_assoc, Option, Some, None}
 use Rattle.std.proofs.Common.{refl, sym, ap, ◌∙◌, subst}
 use Rattle.std.specs.Option.{is_some}
 use Rattle.std.proofs.lemmas.List.{append-nil}
 use Rattle.naga_words.specs.Sink.{IsBehind}
 use Rattle.naga_words.specs.declared.error.TypeTextError.{TypeTextError}
 use Rattle.naga_words.specs.declared.error.TypeTextError.TheVariants.{NoForm}
-use Rattle.naga_words.specs.Output.{Seen, IsReason, Lies, Follows, Goes, Wrote, joined}
+use Rattle.naga_words.specs.Output.{OutputView, IsReason, Lies, Follows, Goes, Wrote, joined_texts}
 
 -- ---- rows
 -- a beginning of the first text is a beginning of both
@@ -33,14 +33,14 @@ after_whole held failed text middle more now among failures (Some want) at kept 
     (behind_then held text middle more now at lies.0, subst (λ n. IsReason ⊥ n failures want) kept lies.1)
 
 -- and where a beginning of the first does
-after_part : (held : List ℕ) (failed : ℕ) (text more : List ℕ) (middle after : Seen) (want : TypeTextError) → Lies held failed text middle.held middle.failures (Some want) → middle.want ≡ Some want → after ≡ middle
+after_part : (held : List ℕ) (failed : ℕ) (text more : List ℕ) (middle after : OutputView) (want : TypeTextError) → Lies held failed text middle.held middle.failures (Some want) → middle.want ≡ Some want → after ≡ middle
     → Lies held failed (text ++ more) after.held after.failures after.want
 after_part held failed text more middle after want lies is same =
-    subst (λ (s : Seen). Lies held failed (text ++ more) s.held s.failures s.want) (sym same)
+    subst (λ (s : OutputView). Lies held failed (text ++ more) s.held s.failures s.want) (sym same)
     (subst (λ w. Lies held failed (text ++ more) middle.held middle.failures w) (sym is) (behind_first held text middle.held more lies.0, lies.1))
 
-pub writes_then : {before middle after : Seen} {first more : List ℕ} → Wrote before middle first → Wrote middle after more → Wrote before after (joined first more)
-unfolding joined Goes
+pub writes_then : {before middle after : OutputView} {first more : List ℕ} → Wrote before middle first → Wrote middle after more → Wrote before after (joined_texts first more)
+unfolding joined_texts Goes
 writes_then {before} {middle} {after} {first} {more} w v = record { goes = (by before.want refl w.goes.0, v.goes.1 ∙ w.goes.1) }
   where
     on : (want : Option TypeTextError) → want ≡ middle.want → Lies before.held before.failures first middle.held middle.failures want → Follows want middle more after
@@ -52,11 +52,11 @@ writes_then {before} {middle} {after} {first} {more} w v = record { goes = (by b
     by : (want : Option TypeTextError) → want ≡ before.want → Follows want before first middle → Follows want before (first ++ more) after
     by None is follows = on middle.want refl follows v.goes.0
     by (Some want) is follows =
-        let stays : Follows (Some want) middle more after = subst (λ o. Follows o middle more after) (ap (λ (s : Seen). s.want) follows ∙ sym is) v.goes.0 in
+        let stays : Follows (Some want) middle more after = subst (λ o. Follows o middle more after) (ap (λ (s : OutputView). s.want) follows ∙ sym is) v.goes.0 in
         stays ∙ follows
 
 -- nothing is written
-pub writes_nothing : (before : Seen) → Wrote before before []
+pub writes_nothing : (before : OutputView) → Wrote before before []
 unfolding Goes
 writes_nothing before = record { goes = (by before.want refl, refl) }
   where
@@ -65,7 +65,7 @@ writes_nothing before = record { goes = (by before.want refl, refl) }
     by (Some want) is = refl
 
 -- behind a want every text is written
-pub writes_no_more : (before : Seen) (text : List ℕ) → is_some before.want ≡ true → Wrote before before text
+pub writes_no_more : (before : OutputView) (text : List ℕ) → is_some before.want ≡ true → Wrote before before text
 unfolding Goes
 writes_no_more before text some = record { goes = (by before.want some, refl) }
   where
@@ -74,71 +74,71 @@ writes_no_more before text some = record { goes = (by before.want some, refl) }
     by (Some want) some = refl
 
 -- the same text said in another way
-pub writes_as : {before after : Seen} {text same : List ℕ} → text ≡ same → Wrote before after text → Wrote before after same
+pub writes_as : {before after : OutputView} {text same : List ℕ} → text ≡ same → Wrote before after text → Wrote before after same
 writes_as {before} {after} is w = subst (λ t. Wrote before after t) is w
 
 -- ---- loops: of the whole text, what is left is still to be written
-pub record Leaves (start now : Seen) (whole left : List ℕ) : Type 0 where
-  pub with : (after : Seen) → Wrote now after left → Wrote start after whole
+pub record Leaves (start now : OutputView) (whole left : List ℕ) : Type 0 where
+  pub with : (after : OutputView) → Wrote now after left → Wrote start after whole
 
-pub leaves_start : (start : Seen) (whole : List ℕ) → Leaves start start whole whole
+pub leaves_start : (start : OutputView) (whole : List ℕ) → Leaves start start whole whole
 leaves_start start whole = record { with = λ after w. w }
 
 -- what is left, said in another way
-pub leaves_as : {start now : Seen} {whole left same : List ℕ} → left ≡ same → Leaves start now whole left → Leaves start now whole same
+pub leaves_as : {start now : OutputView} {whole left same : List ℕ} → left ≡ same → Leaves start now whole left → Leaves start now whole same
 leaves_as {start} {now} {whole} is leaves = subst (λ t. Leaves start now whole t) is leaves
 
-pub leaves_more : (start now next : Seen) (whole left first more : List ℕ) → Leaves start now whole left → left ≡ joined first more → Wrote now next first → Leaves start next whole more
+pub leaves_more : (start now next : OutputView) (whole left first more : List ℕ) → Leaves start now whole left → left ≡ joined_texts first more → Wrote now next first → Leaves start next whole more
 leaves_more start now next whole left first more leaves is w =
     record { with = λ after v. leaves.with after (subst (λ t. Wrote now after t) (sym is) (writes_then w v)) }
 
 -- what is left is written by the last call
-pub leaves_last : (start now after : Seen) (whole left : List ℕ) → Leaves start now whole left → Wrote now after left → Wrote start after whole
+pub leaves_last : (start now after : OutputView) (whole left : List ℕ) → Leaves start now whole left → Wrote now after left → Wrote start after whole
 leaves_last start now after whole left leaves w = leaves.with after w
 
-pub leaves_none : (start now : Seen) (whole left : List ℕ) → Leaves start now whole left → left ≡ [] → Wrote start now whole
+pub leaves_none : (start now : OutputView) (whole left : List ℕ) → Leaves start now whole left → left ≡ [] → Wrote start now whole
 leaves_none start now whole left leaves none = leaves.with now (subst (λ t. Wrote now now t) (sym none) (writes_nothing now))
 
 -- behind a want nothing is left to be done
-pub leaves_wanting : (start now : Seen) (whole left : List ℕ) → Leaves start now whole left → is_some now.want ≡ true → Wrote start now whole
+pub leaves_wanting : (start now : OutputView) (whole left : List ℕ) → Leaves start now whole left → is_some now.want ≡ true → Wrote start now whole
 leaves_wanting start now whole left leaves some = leaves.with now (writes_no_more now left some)
 
 pub ruleset loop_writes = (leaves_start, leaves_more, leaves_none, leaves_wanting)
 
 -- ---- an output that had no want at first
-from_fresh : (start now : Seen) (text : List ℕ) → Wrote start now text → start.want ≡ None → (want : Option TypeTextError) → now.want ≡ want
+from_fresh : (start now : OutputView) (text : List ℕ) → Wrote start now text → start.want ≡ None → (want : Option TypeTextError) → now.want ≡ want
     → Lies start.held start.failures text now.held now.failures want
 unfolding Goes
 from_fresh start now text w fresh want is =
     let follows : Follows None start text now = subst (λ o. Follows o start text now) fresh w.goes.0 in
     subst (λ o. Lies start.held start.failures text now.held now.failures o) is follows
 
-pub same_sink : (start now : Seen) (text : List ℕ) → Wrote start now text → now.sink ≡ start.sink
+pub same_sink : (start now : OutputView) (text : List ℕ) → Wrote start now text → now.sink ≡ start.sink
 unfolding Goes
 same_sink start now text w = w.goes.1
 
-pub held_whole : (start now : Seen) (text : List ℕ) → Wrote start now text → start.want ≡ None → now.want ≡ None → now.held ≡ start.held ++ text
+pub held_whole : (start now : OutputView) (text : List ℕ) → Wrote start now text → start.want ≡ None → now.want ≡ None → now.held ≡ start.held ++ text
 held_whole start now text w fresh none = (from_fresh start now text w fresh None none).0
 
-pub never_failed : (start now : Seen) (text : List ℕ) → Wrote start now text → start.want ≡ None → now.want ≡ None → now.failures ≡ start.failures
+pub never_failed : (start now : OutputView) (text : List ℕ) → Wrote start now text → start.want ≡ None → now.want ≡ None → now.failures ≡ start.failures
 never_failed start now text w fresh none = (from_fresh start now text w fresh None none).1
 
-pub held_part : (start now : Seen) (text : List ℕ) (want : TypeTextError) → Wrote start now text → start.want ≡ None → now.want ≡ Some want → IsBehind start.held text now.held
+pub held_part : (start now : OutputView) (text : List ℕ) (want : TypeTextError) → Wrote start now text → start.want ≡ None → now.want ≡ Some want → IsBehind start.held text now.held
 held_part start now text want w fresh some = (from_fresh start now text w fresh (Some want) some).0
 
-pub reason_given : (start now : Seen) (text : List ℕ) (want : TypeTextError) → Wrote start now text → start.want ≡ None → now.want ≡ Some want → IsReason ⊥ start.failures now.failures want
+pub reason_given : (start now : OutputView) (text : List ℕ) (want : TypeTextError) → Wrote start now text → start.want ≡ None → now.want ≡ Some want → IsReason ⊥ start.failures now.failures want
 reason_given start now text want w fresh some = (from_fresh start now text w fresh (Some want) some).1
 
 -- and no text lacks a form
-pub never_formless : (start now : Seen) (text : List ℕ) → Wrote start now text → start.want ≡ None
+pub never_formless : (start now : OutputView) (text : List ℕ) → Wrote start now text → start.want ≡ None
     → now.want ≡ Some NoForm → ⊥
 never_formless start now text w fresh some = (from_fresh start now text w fresh (Some NoForm) some).1
 
 -- the same by what the sink shows before the output is made, and once the output is done with
-pub held_whole_as : (start now : Seen) (text before after : List ℕ) → start.held ≡ before → now.held ≡ after → Wrote start now text → start.want ≡ None → now.want ≡ None → after ≡ before ++ text
+pub held_whole_as : (start now : OutputView) (text before after : List ℕ) → start.held ≡ before → now.held ≡ after → Wrote start now text → start.want ≡ None → now.want ≡ None → after ≡ before ++ text
 held_whole_as start now text before after first last w fresh none = sym last ∙ held_whole start now text w fresh none ∙ ap (λ h. h ++ text) first
 
-pub held_part_as : (start now : Seen) (text before after : List ℕ) (want : TypeTextError) → start.held ≡ before → now.held ≡ after → Wrote start now text → start.want ≡ None → now.want ≡ Some want → IsBehind before text after
+pub held_part_as : (start now : OutputView) (text before after : List ℕ) (want : TypeTextError) → start.held ≡ before → now.held ≡ after → Wrote start now text → start.want ≡ None → now.want ≡ Some want → IsBehind before text after
 held_part_as start now text before after want first last w fresh some =
     subst (λ h. IsBehind h text after) first (subst (λ h. IsBehind start.held text h) last (held_part start now text want w fresh some))
 

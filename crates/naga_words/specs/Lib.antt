@@ -1,4 +1,5 @@
 pub mod Contexts
+pub mod Diagnostics
 pub mod Output
 pub mod Parts
 pub mod Predeclared

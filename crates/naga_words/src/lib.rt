@@ -1,7 +1,8 @@
 //! Text sinks, outputs over them, and the spelling of types: words, and whole types in a context
-//! that names structs and overrides. It passes on WGSL's words.
+//! that names structs and overrides; and the words of diagnostics. It passes on WGSL's words.
 #![tactic(auto)]
 
+pub mod diagnostics;
 pub mod error;
 pub mod images;
 pub mod output;

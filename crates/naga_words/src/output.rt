@@ -64,7 +64,7 @@ impl<'a, W: TextSink> Output<'a, W> {
     }
 
     /// Remembers that there was no memory for what was to be written, whatever that is.
-    #[tactic(auto, using(crate::proofs::PartWriting::begun_at_once), unfolding(crate::specs::Output::Goes, crate::specs::Output::PartsGo))]
+    #[tactic(auto, using(crate::proofs::PartWriting::begun_at_once), unfolding(crate::specs::Output::PartsGo))]
     pub fn remember(&mut self, error: AllocError)
         ensures text { (text : List ℕ) → Writes W.text W.failures self.old self.new text }
         ensures parts { (parts : List Part) →

@@ -4,21 +4,22 @@ use Rattle.std.proofs.Common.{sym, subst, cond, option_map, option_and_then}
 use Rattle.shader_runs.specs.Value.{Place, Value, truth_in, place_in}
 use Rattle.shader_runs.specs.World.{Event}
 use Rattle.shader_runs.specs.Outcome.{Stop, Mistyped, Outcome, Done, Continued, Broke, Returned}
-use Rattle.shader_runs.specs.Outcome.{Stopped, Reached, Gives, Halts, answer, Next, and_then}
+use Rattle.shader_runs.specs.Outcome.{Stopped, ReachedOrHalted, Gives, Halts, answer, Next}
+use Rattle.shader_runs.specs.Outcome.{and_then}
 use Rattle.shader_runs.specs.Outcome.{and_continue, within, and_again, turns, after_switch}
 use Rattle.shader_runs.specs.Outcome.{closed_outcome, branch_by, or_stuck, reach}
 use Rattle.shader_runs.specs.ProgramRun.{if_typed, with_pointer}
-use Rattle.shader_runs.specs.TextRun.{Denoted, IsPlace, with_value, with_place}
+use Rattle.shader_runs.specs.TextRun.{Denotation, IsPlace, with_value, with_place}
 
-abbrev pub HoldsOf : {A : Type 0} → (A → Type 0) → Reached A → Type 0
+abbrev pub HoldsOf : {A : Type 0} → (A → Type 0) → ReachedOrHalted A → Type 0
 HoldsOf R (Gives a t) = R a
 HoldsOf R (Halts x t) = Unit {0}
 
 -- the second does what the first does, with a result of which R holds, unless the first met an
 -- answer of a wrong type
-pub data Answers {A : Type 0} (R : A → Type 0) : Reached A → Reached A → Type 0 where
-  same_answer : {q : Reached A} → HoldsOf R q → Answers R q q
-  mistyped_answer : {t : List Event} {q : Reached A} → Answers R (Halts Mistyped t) q
+pub data Answers {A : Type 0} (R : A → Type 0) : ReachedOrHalted A → ReachedOrHalted A → Type 0 where
+  same_answer : {q : ReachedOrHalted A} → HoldsOf R q → Answers R q q
+  mistyped_answer : {t : List Event} {q : ReachedOrHalted A} → Answers R (Halts Mistyped t) q
 
 -- P holds where both are done, Q where both continue, B where both break, R of what both return
 pub data Alike {S T : Type 0} (R : Option Value → Type 0) (P Q B : S → T → Type 0) : Outcome S → Outcome T → Type 0 where
@@ -121,7 +122,7 @@ typed_alike true t o f h = h refl
 typed_alike false t o f h = mistyped
 
 -- what an evaluation without events gives
-abbrev pub placed : Option Value → List Event → Reached Denoted
+abbrev pub placed : Option Value → List Event → ReachedOrHalted Denotation
 placed o t = reach (option_map IsPlace (option_and_then place_in o)) t
 
 used_alike_at : {S T : Type 0} {R : Option Value → Type 0} {P Q B : S → T → Type 0} (f : Value → Outcome S) (g : Value → List Event → Outcome T) (o : Option Value) (t : List Event) → ((v : Value) → Alike R P Q B (f v) (g v t)) → Alike R P Q B (or_stuck o t f) (with_value (reach o t) g)
@@ -129,7 +130,7 @@ used_alike_at f g None t h = stopped
 used_alike_at f g (Some v) t h = h v
 
 -- the same value on both sides
-pub used_alike : {S T : Type 0} {R : Option Value → Type 0} {P Q B : S → T → Type 0} (f : Value → Outcome S) (g : Value → List Event → Outcome T) (o : Option Value) (t : List Event) (r : Reached Value) → r ≡ reach o t → ((v : Value) → Alike R P Q B (f v) (g v t)) → Alike R P Q B (or_stuck o t f) (with_value r g)
+pub used_alike : {S T : Type 0} {R : Option Value → Type 0} {P Q B : S → T → Type 0} (f : Value → Outcome S) (g : Value → List Event → Outcome T) (o : Option Value) (t : List Event) (r : ReachedOrHalted Value) → r ≡ reach o t → ((v : Value) → Alike R P Q B (f v) (g v t)) → Alike R P Q B (or_stuck o t f) (with_value r g)
 used_alike {R = R} {P = P} {Q = Q} {B = B} f g o t r e h =
     subst (λ r. Alike R P Q B (or_stuck o t f) (with_value r g)) (sym e) (used_alike_at f g o t h)
 
@@ -138,6 +139,6 @@ pointer_alike_at f g None t h = stopped
 pointer_alike_at f g (Some p) t h = h p
 
 -- the same place on both sides
-pub pointer_alike : {S T : Type 0} {R : Option Value → Type 0} {P Q B : S → T → Type 0} (f : Place → Outcome S) (g : Place → List Event → Outcome T) (o : Option Value) (t : List Event) (r : Reached Denoted) → r ≡ placed o t → ((p : Place) → Alike R P Q B (f p) (g p t)) → Alike R P Q B (with_pointer o t f) (with_place r g)
+pub pointer_alike : {S T : Type 0} {R : Option Value → Type 0} {P Q B : S → T → Type 0} (f : Place → Outcome S) (g : Place → List Event → Outcome T) (o : Option Value) (t : List Event) (r : ReachedOrHalted Denotation) → r ≡ placed o t → ((p : Place) → Alike R P Q B (f p) (g p t)) → Alike R P Q B (with_pointer o t f) (with_place r g)
 pointer_alike {R = R} {P = P} {Q = Q} {B = B} f g o t r e h =
     subst (λ r. Alike R P Q B (with_pointer o t f) (with_place r g)) (sym e) (pointer_alike_at f g (option_and_then place_in o) t h)

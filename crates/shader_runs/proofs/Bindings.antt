@@ -10,7 +10,7 @@ use Rattle.shader_runs.specs.ProgramRun.{barrier_words}
 use Rattle.shader_runs.specs.Scope.{Handles, Naming, bound_name, at_start, given_after, given_by}
 use Rattle.shader_runs.specs.Scope.{given_by_all, after_one, after, after_all}
 use Rattle.shader_runs.specs.Text.{Tree, Trees, Lines, before}
-use Rattle.shader_runs.specs.Form.{value_form, value_forms, own_form, written, let_if, lets}
+use Rattle.shader_runs.specs.Form.{value_form, value_forms, own_form, written_form, let_if, lets}
 use Rattle.shader_runs.specs.Form.{word_of, act_line, perform_each, form, form_all, form_cases}
 use Rattle.shader_runs.specs.Form.{form_functions}
 use Rattle.shader_runs.specs.Bindings.{lines_lets, groups_lets, Binding, emit_bindings}
@@ -36,7 +36,7 @@ module _ (f : Naming) where
   lets_bind k (h ∷ hs) s tail = by (binds f.function h) (lets_bind (given_after f.function h k) hs (after_one f k h s) tail)
     where
       e : Tree
-      e = value_form (own_form f (written f s) (handle_type f.function h) (expression_of f.function h))
+      e = value_form (own_form f (written_form f s) (handle_type f.function h) (expression_of f.function h))
 
       rest : List Binding
       rest = emit_bindings f (given_after f.function h k) hs
@@ -64,7 +64,7 @@ module _ (f : Naming) where
         let k1 = given_by_all f.function b k in
         ap (λ xs. xs ++ lines_lets tail) (names_both (statements_bindings f k b) (statements_bindings f k1 d) (lines_bind k b s) (lines_bind k1 d (after_all f k b s)))
     line_binds k (Barrier bits) s tail = performs_bind (barrier_words bits) tail
-    line_binds k (Act a xs r) s tail = act_binds r (word_of f.names a) (value_forms (written f s) xs) tail
+    line_binds k (Act a xs r) s tail = act_binds r (word_of f.names a) (value_forms (written_form f s) xs) tail
     line_binds k _ s tail = refl
 
     lines_bind : (k : ℕ) (ss : Statements) (s : Handles) → lines_lets (form_all f k ss s) ≡ names_of (statements_bindings f k ss)

@@ -3,8 +3,8 @@ use Rattle.std.proofs.Common.{◌≡◌, ℕ, zero, suc, ◌+◌, ◌≤◌, ◌
 use Rattle.std.proofs.Common.{◌∷◌, length, refl, sym, subst, arith}
 use Rattle.shader_runs.specs.Value.{has_type}
 use Rattle.shader_runs.specs.World.{Event, entries}
-use Rattle.shader_runs.specs.Outcome.{OutOfTurns, Reached, Gives, Halts}
-use Rattle.shader_runs.specs.ProgramRun.{Kept}
+use Rattle.shader_runs.specs.Outcome.{OutOfTurns, ReachedOrHalted, Gives, Halts}
+use Rattle.shader_runs.specs.ProgramRun.{KeptValues}
 use Rattle.shader_runs.proofs.Process.{Pause, DoneWith, ContinuedWith, BrokeWith, ReturnedWith}
 use Rattle.shader_runs.proofs.Process.{Process, gives, stuck, unreturned, discards, tells, wants}
 use Rattle.shader_runs.proofs.Process.{looks, sequence, repeats, answered, resumed, again, rounds}
@@ -13,49 +13,49 @@ use Rattle.shader_runs.proofs.Worlds.{Types, world_of, mistakes, events_made, Ma
 use Rattle.shader_runs.proofs.Worlds.{process_makes}
 
 -- a run makes events behind those that it began with, and a mistake behind at least one
-abbrev Grows : List Event → Reached Pause → Type 0
+abbrev Grows : List Event → ReachedOrHalted Pause → Type 0
 Grows t q = length t + mistakes q ≤ events_made q
 
-pub data Cut : Reached Pause → Reached Pause → Type 0 where
-  same_end : {q : Reached Pause} → Cut q q
-  cut_off : {e : List Event} {q : Reached Pause} → length e + mistakes q ≤ events_made q → Cut (Halts OutOfTurns e) q
+pub data Cut : ReachedOrHalted Pause → ReachedOrHalted Pause → Type 0 where
+  same_end : {q : ReachedOrHalted Pause} → Cut q q
+  cut_off : {e : List Event} {q : ReachedOrHalted Pause} → length e + mistakes q ≤ events_made q → Cut (Halts OutOfTurns e) q
 
-pub cut_cases : (q q' : Reached Pause) → Cut q q' → (q ≡ q') ⊎ ((e : List Event) × (q ≡ Halts OutOfTurns e) × (length e + mistakes q' ≤ events_made q'))
+pub cut_cases : (q q' : ReachedOrHalted Pause) → Cut q q' → (q ≡ q') ⊎ ((e : List Event) × (q ≡ Halts OutOfTurns e) × (length e + mistakes q' ≤ events_made q'))
 cut_cases q q' same_end = inl refl
 cut_cases q q' (cut_off {e = e} l) = inr (e, refl, l)
 
-pub cut_fine : (q q' : Reached Pause) → Cut q q' → mistakes q' ≡ 0 → mistakes q ≡ 0
+pub cut_fine : (q q' : ReachedOrHalted Pause) → Cut q q' → mistakes q' ≡ 0 → mistakes q ≡ 0
 cut_fine q q' same_end h = h
 cut_fine q q' (cut_off l) h = refl
 
-made_grows : (t : List Event) (R : Types → Reached Pause) → Makes t R → (a : Types) → Grows t (R a)
+made_grows : (t : List Event) (R : Types → ReachedOrHalted Pause) → Makes t R → (a : Types) → Grows t (R a)
 made_grows t R make a =
     let k = make a in
     subst (λ q. Grows t q) (sym (k.completes.local_now a (λ i lt. refl))) k.completes.grown
 
-resumed_cut : (q q' : Reached Pause) (H H' : Pause → List Event → Reached Pause) → ((x : Pause) (e : List Event) → Cut (H x e) (H' x e)) → ((x : Pause) (e : List Event) → Grows e (H' x e)) → Cut q q' → Cut (resumed q H) (resumed q' H')
+resumed_cut : (q q' : ReachedOrHalted Pause) (H H' : Pause → List Event → ReachedOrHalted Pause) → ((x : Pause) (e : List Event) → Cut (H x e) (H' x e)) → ((x : Pause) (e : List Event) → Grows e (H' x e)) → Cut q q' → Cut (resumed q H) (resumed q' H')
 resumed_cut q q' H H' next grows (same_end {q = u}) = go u
   where
-    go : (u : Reached Pause) → Cut (resumed u H) (resumed u H')
+    go : (u : ReachedOrHalted Pause) → Cut (resumed u H) (resumed u H')
     go (Gives x e) = next x e
     go (Halts x e) = same_end
 resumed_cut q q' H H' next grows (cut_off {e = e} {q = u} l) = go u l
   where
-    go : (u : Reached Pause) → length e + mistakes u ≤ events_made u → Cut (Halts OutOfTurns e) (resumed u H')
+    go : (u : ReachedOrHalted Pause) → length e + mistakes u ≤ events_made u → Cut (Halts OutOfTurns e) (resumed u H')
     go (Gives x e1) l = cut_off (omega (arith, l, grows x e1))
     go (Halts x e1) l = cut_off l
 
-answered_cut : (b : Bool) (t : List Event) (q q' : Reached Pause) → Cut q q' → Cut (answered b t q) (answered b t q')
+answered_cut : (b : Bool) (t : List Event) (q q' : ReachedOrHalted Pause) → Cut q q' → Cut (answered b t q) (answered b t q')
 answered_cut true t q q' k = k
 answered_cut false t q q' k = same_end
 
-rounds_cut : (once once' : Kept → List Event → Reached Pause) → ((s : Kept) (e : List Event) → Cut (once s e) (once' s e)) → ((n : ℕ) (s : Kept) (e : List Event) → Grows e (rounds n once' s e)) → (j n : ℕ) → j ≤ n → (s : Kept) (t : List Event) → Cut (rounds j once s t) (rounds n once' s t)
+rounds_cut : (once once' : KeptValues → List Event → ReachedOrHalted Pause) → ((s : KeptValues) (e : List Event) → Cut (once s e) (once' s e)) → ((n : ℕ) (s : KeptValues) (e : List Event) → Grows e (rounds n once' s e)) → (j n : ℕ) → j ≤ n → (s : KeptValues) (t : List Event) → Cut (rounds j once s t) (rounds n once' s t)
 rounds_cut once once' each grows zero n le s t = cut_off (grows n s t)
 rounds_cut once once' each grows (suc j) zero le s t = absurd (omega (arith, le))
 rounds_cut once once' each grows (suc j) (suc n) le s t =
     resumed_cut (once s t) (once' s t) (again (rounds j once)) (again (rounds n once')) (go (rounds_cut once once' each grows j n (omega (arith, le)))) grown (each s t)
   where
-    go : ((s : Kept) (e : List Event) → Cut (rounds j once s e) (rounds n once' s e)) → (x : Pause) (e : List Event) → Cut (again (rounds j once) x e) (again (rounds n once') x e)
+    go : ((s : KeptValues) (e : List Event) → Cut (rounds j once s e) (rounds n once' s e)) → (x : Pause) (e : List Event) → Cut (again (rounds j once) x e) (again (rounds n once') x e)
     go rest (DoneWith s) e = rest s e
     go rest (ContinuedWith s) e = same_end
     go rest (BrokeWith s) e = same_end

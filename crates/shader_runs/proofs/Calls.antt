@@ -10,15 +10,17 @@ use Rattle.std.specs.Prelude.{IsTrue}
 use Rattle.shader_runs.specs.Value.{Bytes, same_bytes, PartTypes, ValueType, has_types, Value}
 use Rattle.shader_runs.specs.World.{Event, Entry, entries, World, Meaning, Environment, bind}
 use Rattle.shader_runs.specs.World.{Settings}
-use Rattle.shader_runs.specs.Outcome.{Stuck, Reached, Gives, Halts, answer, reach}
+use Rattle.shader_runs.specs.Outcome.{Stuck, ReachedOrHalted, Gives, Halts, answer, reach}
 use Rattle.shader_runs.specs.Program.{ConstantTree, Fixed, NamedConstant, Constructed}
 use Rattle.shader_runs.specs.Program.{ConstantTrees, no_constant, constant, Expression, Constant}
 use Rattle.shader_runs.specs.Program.{Operator, Request, Function, argument_count, local_count}
 use Rattle.shader_runs.specs.Program.{function_numbered, expression_of, handle_type, operands_of}
 use Rattle.shader_runs.specs.Program.{from, Statement, Emit, Block, If, Switch, Loop, Statements}
 use Rattle.shader_runs.specs.Program.{end, then, Cases, no_case, case, Module, any_continue}
-use Rattle.shader_runs.specs.ProgramRun.{Call, Kept, constants_kept, called, used_value, with_first}
-use Rattle.shader_runs.specs.ProgramRun.{first_used, first_used_all, entered, run_all, run_body}
+use Rattle.shader_runs.specs.ProgramRun.{Call, KeptValues, constants_kept, run_if_arguments_fit}
+use Rattle.shader_runs.specs.ProgramRun.{used_value, with_first}
+use Rattle.shader_runs.specs.ProgramRun.{first_used, first_used_all, run_from_entry, run_all}
+use Rattle.shader_runs.specs.ProgramRun.{run_body}
 use Rattle.shader_runs.specs.ProgramRun.{run_call}
 use Rattle.shader_runs.specs.TextRun.{Scope, Words, WordUse, NamesFunction, AsksForEvent, Operates}
 use Rattle.shader_runs.specs.TextRun.{value_of, with_parameters, with_variables, with_globals}
@@ -56,13 +58,13 @@ use Rattle.shader_runs.proofs.Names.{globals_at, held, length-names_from, length
 use Rattle.shader_runs.proofs.Names.{length-form_functions, module_names_given, no_name_among}
 use Rattle.shader_runs.proofs.Constants.{environment_fits, scope_is}
 
-pick_alike : {A : Type 0} (R : A → Type 0) (a b : Bool) (x x' y y' : Reached A) → a ≡ b → (b ≡ true → Answers R x x') → (b ≡ false → Answers R y y') → Answers R (cond b x y) (cond a x' y')
+pick_alike : {A : Type 0} (R : A → Type 0) (a b : Bool) (x x' y y' : ReachedOrHalted A) → a ≡ b → (b ≡ true → Answers R x x') → (b ≡ false → Answers R y y') → Answers R (cond b x y) (cond a x' y')
 pick_alike R a true x x' y y' e h k = subst (λ a. Answers R x (cond a x' y')) (sym e) (h refl)
 pick_alike R a false x x' y y' e h k = subst (λ a. Answers R y (cond a x' y')) (sym e) (k refl)
 
-called_alike : (R : Option Value → Type 0) (a b : Bool) (x x' : Reached (Option Value)) (t : List Event) → a ≡ b → (b ≡ true → Answers R x x') → Answers R (called b x t) (called a x' t)
-called_alike R a true x x' t e h = subst (λ a. Answers R x (called a x' t)) (sym e) (h refl)
-called_alike R a false x x' t e h = subst (λ a. Answers R (called false x t) (called a x' t)) (sym e) (same_answer tt)
+called_alike : (R : Option Value → Type 0) (a b : Bool) (x x' : ReachedOrHalted (Option Value)) (t : List Event) → a ≡ b → (b ≡ true → Answers R x x') → Answers R (run_if_arguments_fit b x t) (run_if_arguments_fit a x' t)
+called_alike R a true x x' t e h = subst (λ a. Answers R x (run_if_arguments_fit a x' t)) (sym e) (h refl)
+called_alike R a false x x' t e h = subst (λ a. Answers R (run_if_arguments_fit false x t) (run_if_arguments_fit a x' t)) (sym e) (same_answer tt)
 
 numbered_within : (fs : List Function) (g : ℕ) (f : Function) → function_numbered fs g ≡ Some f → g < length fs
 numbered_within [] g f e = absurd (none-some f e)
@@ -84,7 +86,7 @@ same_test a b c d f g = go (nat_eq c d) refl
     go false e = same_bytes_apart a b (λ h. eqb-false c d e (f h))
 
 -- the first values, where they make no event
-abbrev reached_firsts : Option (List (Option Value)) → List Event → Reached (List (Option Value))
+abbrev reached_firsts : Option (List (Option Value)) → List Event → ReachedOrHalted (List (Option Value))
 reached_firsts None t = Halts Stuck t
 reached_firsts (Some firsts) t = Gives firsts t
 
@@ -92,12 +94,12 @@ put_reached : (o : Option (List (Option Value))) (t : List Event) → put_first 
 put_reached None t = refl
 put_reached (Some firsts) t = refl
 
-followed_firsts : (o : Option Value) (os : Option (List (Option Value))) (t : List Event) (rest : List Event → Reached (List (Option Value))) → ((t : List Event) → rest t ≡ reached_firsts os t) → first_followed (reach o t) rest ≡ reached_firsts (with_first (option_map Some o) os) t
+followed_firsts : (o : Option Value) (os : Option (List (Option Value))) (t : List Event) (rest : List Event → ReachedOrHalted (List (Option Value))) → ((t : List Event) → rest t ≡ reached_firsts os t) → first_followed (reach o t) rest ≡ reached_firsts (with_first (option_map Some o) os) t
 followed_firsts None os t rest h = refl
 followed_firsts (Some v) None t rest h = ap (put_first (Some v)) (h t)
 followed_firsts (Some v) (Some firsts) t rest h = ap (put_first (Some v)) (h t)
 
-entered_alike : (R : Option Value → Type 0) (g g' : ℕ) (vs : List Value) (o : Option (List (Option Value))) (t : List Event) (body body' : List Event → Reached (Option Value)) → g' ≡ g → ((t : List Event) → Answers R (body t) (body' t)) → Answers R (entered g vs o t body) (entered_by g' vs (reached_firsts o t) body')
+entered_alike : (R : Option Value → Type 0) (g g' : ℕ) (vs : List Value) (o : Option (List (Option Value))) (t : List Event) (body body' : List Event → ReachedOrHalted (Option Value)) → g' ≡ g → ((t : List Event) → Answers R (body t) (body' t)) → Answers R (run_from_entry g vs o t body) (entered_by g' vs (reached_firsts o t) body')
 entered_alike R g g' vs None t body body' e h = same_answer tt
 entered_alike R g g' vs (Some firsts) t body body' e h =
     subst (λ g'. Answers R (body (Entry g vs firsts ∷ t)) (body' (Entry g' vs firsts ∷ t))) (sym e) (h (Entry g vs firsts ∷ t))
@@ -229,13 +231,13 @@ module _ (p : Module) (n : ModuleNames) (uses : Bytes → WordUse) (uses_fit : U
   first_names n f vs t =
       with_variables (variables_from f 0 f.function.first_values) (entries t) 0 (parameter_names n f vs)
 
-  abbrev text_call : List Naming → Naming → List Value → List Event → Reached (Option Value)
+  abbrev text_call : List Naming → Naming → List Value → List Event → ReachedOrHalted (Option Value)
   text_call fs f vs t =
-      called (nat_eq (length vs) (length (names_from f.names.argument 0 (argument_count f.function)))) (follow_body (words (call_of fs f vs t) (responses fs)) bound (length (form_functions fs)) (form_function f) vs (parameter_names n f vs) t) t
+      run_if_arguments_fit (nat_eq (length vs) (length (names_from f.names.argument 0 (argument_count f.function)))) (follow_body (words (call_of fs f vs t) (responses fs)) bound (length (form_functions fs)) (form_function f) vs (parameter_names n f vs) t) t
 
-  abbrev program_call : List Naming → Naming → List Value → List Event → Reached (Option Value)
+  abbrev program_call : List Naming → Naming → List Value → List Event → ReachedOrHalted (Option Value)
   program_call fs f vs t =
-      called (nat_eq (length vs) (argument_count f.function)) (run_body (call_of fs f vs t) bound (length (functions_of fs)) vs t) t
+      run_if_arguments_fit (nat_eq (length vs) (argument_count f.function)) (run_body (call_of fs f vs t) bound (length (functions_of fs)) vs t) t
 
   -- a word that is no function's name comes to its use
   by_use : (fs : List Naming) → AllFit p n fs → (word : Bytes) → ((g : ℕ) → g < length fs → n.function g ≢ word) → (vs : List Value) (t : List Event) → responses fs word vs t ≡ respond_by_use (uses word) w m word vs t
@@ -391,11 +393,11 @@ module _ (p : Module) (n : ModuleNames) (uses : Bytes → WordUse) (uses_fit : U
     abbrev spelled : Words
     spelled = words (call_of fs f vs t) (responses fs)
 
-    abbrev kept : Kept
+    abbrev kept : KeptValues
     kept = constants_kept f.function env m
 
     -- one first value, and those of the variables behind it
-    first_reached : IsTrue (has_types env.parts f.function.argument_types vs) → length vs ≡ argument_count f.function → (i : ℕ) (o : Option ℕ) → IsTrue (usable_if (before_local f.function i) (at_start f.function) o) → (names : Scope) → names ≡ names_before i → (os : Option (List (Option Value))) (rest : List Event → Reached (List (Option Value))) → ((t2 : List Event) → rest t2 ≡ reached_firsts os t2) → (t1 : List Event) → first_then spelled (value_if f (at_start f.function) o) names t1 rest ≡ reached_firsts (with_first (first_used (call_of fs f vs t) kept o) os) t1
+    first_reached : IsTrue (has_types env.parts f.function.argument_types vs) → length vs ≡ argument_count f.function → (i : ℕ) (o : Option ℕ) → IsTrue (usable_if (before_local f.function i) (at_start f.function) o) → (names : Scope) → names ≡ names_before i → (os : Option (List (Option Value))) (rest : List Event → ReachedOrHalted (List (Option Value))) → ((t2 : List Event) → rest t2 ≡ reached_firsts os t2) → (t1 : List Event) → first_then spelled (value_if f (at_start f.function) o) names t1 rest ≡ reached_firsts (with_first (first_used (call_of fs f vs t) kept o) os) t1
     first_reached k e i None u names q os rest r t1 = ap (put_first None) (r t1) ∙ put_reached os t1
     first_reached k e i (Some h) u names q os rest r t1 =
         let fit1 = starting_before p f i n (functions_of fs) start in
@@ -462,7 +464,7 @@ module _ (p : Module) (n : ModuleNames) (uses : Bytes → WordUse) (uses_fit : U
       let test = same_test (n.function g) own_name g (length (functions_of fs)) (λ e. one g (length fs) lt (omega arith) (e ∙ is_name) ∙ sym place) (λ e. ap n.function (e ∙ place) ∙ sym is_name) in
       pick_alike (Returns env.parts callee) (same_bytes (n.function g) own_name) (nat_eq g (length (functions_of fs))) (program_call fs f vs t) (text_call fs f vs t) (run_call env w m bound (functions_of fs) g vs t) (responses fs (n.function g) vs t) test (λ q. let same : f.function ≡ callee = same_Some f.function callee (ap (λ b. cond b (Some f.function) (function_numbered (functions_of fs) g)) (sym q) ∙ e) in subst (λ k. Answers (Returns env.parts k) (program_call fs f vs t) (text_call fs f vs t)) same (call_alike fs fewer fits.1 earlier f fits.0 typed.0 vs t (subst (λ k. IsTrue (has_types env.parts k.argument_types vs)) (sym same) h))) (λ q. earlier g callee (ap (λ b. cond b (Some f.function) (function_numbered (functions_of fs) g)) (sym q) ∙ e) vs h t)
 
-answers_same : {A : Type 0} (R : A → Type 0) (q q' : Reached A) → KeepsTypes q → Answers R q q' → q' ≡ q
+answers_same : {A : Type 0} (R : A → Type 0) (q q' : ReachedOrHalted A) → KeepsTypes q → Answers R q q' → q' ≡ q
 answers_same R q q' k (same_answer h) = refl
 answers_same R q q' k mistyped_answer = absurd k
 

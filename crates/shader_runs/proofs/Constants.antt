@@ -14,9 +14,11 @@ use Rattle.shader_runs.specs.Outcome.{Stuck, Gives, Halts, reach, unless}
 use Rattle.shader_runs.specs.Program.{ConstantTree, Module, constant_count, override_types}
 use Rattle.shader_runs.specs.ProgramRun.{also, operator_value, tree_value, constant_value}
 use Rattle.shader_runs.specs.Text.{Tree, TextModule}
-use Rattle.shader_runs.specs.TextRun.{Denoted, Words, Scope, as_value, word_answer, with_parameters}
+use Rattle.shader_runs.specs.TextRun.{Denotation, Words, Scope, as_value, word_answer}
+use Rattle.shader_runs.specs.TextRun.{with_parameters}
 use Rattle.shader_runs.specs.TextRun.{with_globals, no_names, names_function}
-use Rattle.shader_runs.specs.Constants.{known, found_with, found_after, all_found, environment_of}
+use Rattle.shader_runs.specs.Constants.{known_value, found_with, found_after, all_found}
+use Rattle.shader_runs.specs.Constants.{environment_of}
 use Rattle.shader_runs.specs.Constants.{is_declared, operate, initialised_name, with_constants}
 use Rattle.shader_runs.specs.Constants.{scope_with, initialiser_value, scope_after, module_scope}
 use Rattle.shader_runs.specs.Scope.{ModuleNames, Naming}
@@ -45,24 +47,24 @@ found_length value [] parts ts os le h = length-map os Some ∙ has_types_length
 found_length value (e ∷ es) parts [] os le h = absurd (omega (arith, le))
 found_length value (e ∷ es) parts (t ∷ ts) os le h = ap suc (found_length value es parts ts os (omega (arith, le)) h)
 
-found_here : (value : ConstantTree → Option Value) (es : List ConstantTree) (os : List Value) (i : ℕ) (e : ConstantTree) → slice_get es i ≡ Some e → known (map value es ++ map Some os) i ≡ value e
+found_here : (value : ConstantTree → Option Value) (es : List ConstantTree) (os : List Value) (i : ℕ) (e : ConstantTree) → slice_get es i ≡ Some e → known_value (map value es ++ map Some os) i ≡ value e
 found_here value [] os i e q = absurd (none-some e q)
 found_here value (d ∷ es) os zero e q = ap value (same_Some d e q)
 found_here value (d ∷ es) os (suc i) e q = found_here value es os i e q
 
-override_here : (value : ConstantTree → Option Value) (es : List ConstantTree) (parts : PartTypes) (ts : List ValueType) (os : List Value) (i : ℕ) → length es ≤ i → i < length ts → IsTrue (has_types parts (drop (length es) ts) os) → TypedValue parts (type_at ts i) (known (map value es ++ map Some os) i)
+override_here : (value : ConstantTree → Option Value) (es : List ConstantTree) (parts : PartTypes) (ts : List ValueType) (os : List Value) (i : ℕ) → length es ≤ i → i < length ts → IsTrue (has_types parts (drop (length es) ts) os) → TypedValue parts (type_at ts i) (known_value (map value es ++ map Some os) i)
 override_here value [] parts ts os i le lt h =
     subst (λ o. TypedValue parts (type_at ts i) o) (sym (known_some os i)) (has_type_at parts ts os h i lt)
 override_here value (e ∷ es) parts [] os i le lt h = absurd (omega (arith, lt))
 override_here value (e ∷ es) parts (t ∷ ts) os zero le lt h = absurd (omega (arith, le))
 override_here value (e ∷ es) parts (t ∷ ts) os (suc i) le lt h = override_here value es parts ts os i (omega (arith, le)) (omega (arith, lt)) h
 
-override_same : (value value' : ConstantTree → Option Value) (es : List ConstantTree) (os : List Value) (i : ℕ) → length es ≤ i → known (map value es ++ map Some os) i ≡ known (map value' es ++ map Some os) i
+override_same : (value value' : ConstantTree → Option Value) (es : List ConstantTree) (os : List Value) (i : ℕ) → length es ≤ i → known_value (map value es ++ map Some os) i ≡ known_value (map value' es ++ map Some os) i
 override_same value value' [] os i le = refl
 override_same value value' (e ∷ es) os zero le = absurd (omega (arith, le))
 override_same value value' (e ∷ es) os (suc i) le = override_same value value' es os i (omega (arith, le))
 
-all_there : (parts : PartTypes) (ts : List ValueType) (os : List (Option Value)) → length os ≡ length ts → ((i : ℕ) → i < length ts → TypedValue parts (type_at ts i) (known os i)) → (vs : List Value) × (os ≡ map Some vs) × IsTrue (has_types parts ts vs)
+all_there : (parts : PartTypes) (ts : List ValueType) (os : List (Option Value)) → length os ≡ length ts → ((i : ℕ) → i < length ts → TypedValue parts (type_at ts i) (known_value os i)) → (vs : List Value) × (os ≡ map Some vs) × IsTrue (has_types parts ts vs)
 all_there parts [] [] e each = ([], refl, refl)
 all_there parts [] (o ∷ os) e each = absurd (omega (arith, e))
 all_there parts (t ∷ ts) [] e each = absurd (omega (arith, e))
@@ -114,7 +116,7 @@ length-constants_from n j [] = refl
 length-constants_from n j (e ∷ es) = ap suc (length-constants_from n (suc j) es)
 
 -- named constants and overrides are names of which this is known
-constants_known : (n : ModuleNames) (value : ConstantTree → Option Value) (value' : Tree → Option Denoted) (es : List ConstantTree) (j b k count : ℕ) (os : List Value) (names : Scope) → b ≡ j + length es → count ≡ length es + k → ((i : ℕ) (e : ConstantTree) → slice_get es i ≡ Some e → value' (constant_form n e) ≡ as_denoted (value e)) → with_constants value' (constants_from n j es) (with_parameters (names_from n.constant b k) os names) ≡ with_known (names_from n.constant j count) (map value es ++ map Some os) names
+constants_known : (n : ModuleNames) (value : ConstantTree → Option Value) (value' : Tree → Option Denotation) (es : List ConstantTree) (j b k count : ℕ) (os : List Value) (names : Scope) → b ≡ j + length es → count ≡ length es + k → ((i : ℕ) (e : ConstantTree) → slice_get es i ≡ Some e → value' (constant_form n e) ≡ as_denoted (value e)) → with_constants value' (constants_from n j es) (with_parameters (names_from n.constant b k) os names) ≡ with_known (names_from n.constant j count) (map value es ++ map Some os) names
 constants_known n value value' [] j b k count os names eb ec each =
     let here : b ≡ j = omega (arith, eb) in
     let all : k ≡ count = omega (arith, ec) in
@@ -162,34 +164,34 @@ module _ (p : Module) (n : ModuleNames) (fits : ConstantsFit p n) (s : Settings)
   found_counted : (rounds : ℕ) → length (found_after p s m rounds) ≡ length p.constant_types
   found_counted zero = found_length (λ e. None) p.initialisers p.parts p.constant_types s.overrides fits.counted settings.overrides
   found_counted (suc r) =
-      found_length (tree_value (known (found_after p s m r)) m) p.initialisers p.parts p.constant_types s.overrides fits.counted settings.overrides
+      found_length (tree_value (known_value (found_after p s m r)) m) p.initialisers p.parts p.constant_types s.overrides fits.counted settings.overrides
 
   -- the overrides have their values from the start
-  override_typed : (rounds i : ℕ) → constant_count p ≤ i → i < length p.constant_types → TypedValue p.parts (type_at p.constant_types i) (known (found_after p s m rounds) i)
+  override_typed : (rounds i : ℕ) → constant_count p ≤ i → i < length p.constant_types → TypedValue p.parts (type_at p.constant_types i) (known_value (found_after p s m rounds) i)
   override_typed zero i le lt = override_here (λ e. None) p.initialisers p.parts p.constant_types s.overrides i le lt settings.overrides
   override_typed (suc r) i le lt =
-      override_here (tree_value (known (found_after p s m r)) m) p.initialisers p.parts p.constant_types s.overrides i le lt settings.overrides
+      override_here (tree_value (known_value (found_after p s m r)) m) p.initialisers p.parts p.constant_types s.overrides i le lt settings.overrides
 
-  override_first : (rounds i : ℕ) → constant_count p ≤ i → known (found_after p s m rounds) i ≡ known (found_after p s m 0) i
+  override_first : (rounds i : ℕ) → constant_count p ≤ i → known_value (found_after p s m rounds) i ≡ known_value (found_after p s m 0) i
   override_first zero i le = refl
   override_first (suc r) i le =
-      override_same (tree_value (known (found_after p s m r)) m) (λ e. None) p.initialisers s.overrides i le
+      override_same (tree_value (known_value (found_after p s m r)) m) (λ e. None) p.initialisers s.overrides i le
 
   -- a constant's value is found in the round behind its place
-  found_typed : (rounds i : ℕ) (e : ConstantTree) → slice_get p.initialisers i ≡ Some e → position i < rounds → TypedValue p.parts (type_at p.constant_types i) (known (found_after p s m rounds) i)
+  found_typed : (rounds i : ℕ) (e : ConstantTree) → slice_get p.initialisers i ≡ Some e → position i < rounds → TypedValue p.parts (type_at p.constant_types i) (known_value (found_after p s m rounds) i)
   found_typed zero i e q lt = absurd (omega (arith, lt))
   found_typed (suc r) i e q lt =
-      let before = known (found_after p s m r) in
+      let before = known_value (found_after p s m r) in
       let v = tree_typed p.parts p before m (MayName i) (λ k may. by_kind i k may (λ d at less. found_typed r k d at (omega (arith, lt, less))) (λ l. override_typed r k l may.0)) e (may_name i e q) (typed.initialisers i e q) in
       (v.0, found_here (tree_value before m) p.initialisers s.overrides i e q ∙ v.1, ap (λ k. has_type p.parts k v.0) (fits.initialisers i e q).type ∙ v.2)
 
   -- and stays
-  found_same : (rounds more i : ℕ) (e : ConstantTree) → slice_get p.initialisers i ≡ Some e → position i < rounds → position i < more → known (found_after p s m rounds) i ≡ known (found_after p s m more) i
+  found_same : (rounds more i : ℕ) (e : ConstantTree) → slice_get p.initialisers i ≡ Some e → position i < rounds → position i < more → known_value (found_after p s m rounds) i ≡ known_value (found_after p s m more) i
   found_same zero k i e q lt lt' = absurd (omega (arith, lt))
   found_same (suc r) zero i e q lt lt' = absurd (omega (arith, lt'))
   found_same (suc r) (suc r') i e q lt lt' =
-      let a = known (found_after p s m r) in
-      let b = known (found_after p s m r') in
+      let a = known_value (found_after p s m r) in
+      let b = known_value (found_after p s m r') in
       found_here (tree_value a m) p.initialisers s.overrides i e q
       ∙ tree_same a b m (MayName i) (λ k may. by_kind i k may (λ d at less. found_same r r' k d at (omega (arith, lt, less)) (omega (arith, lt', less))) (λ l. override_first r k l ∙ sym (override_first r' k l))) e (may_name i e q)
       ∙ sym (found_here (tree_value b m) p.initialisers s.overrides i e q)
@@ -200,7 +202,7 @@ module _ (p : Module) (n : ModuleNames) (fits : ConstantsFit p n) (s : Settings)
   abbrev all_rounds : List (Option Value)
   all_rounds = found_after p s m (constant_count p)
 
-  each_typed : (i : ℕ) → i < length p.constant_types → TypedValue p.parts (type_at p.constant_types i) (known all_rounds i)
+  each_typed : (i : ℕ) → i < length p.constant_types → TypedValue p.parts (type_at p.constant_types i) (known_value all_rounds i)
   each_typed i lt =
       by_place p.initialisers i (λ e q l. found_typed (constant_count p) i e q (position_small i e q)) (λ l. override_typed (constant_count p) i l lt)
 
@@ -222,16 +224,16 @@ module _ (p : Module) (n : ModuleNames) (fits : ConstantsFit p n) (s : Settings)
         globals = settings.globals;
       }
 
-  known_is : (i : ℕ) → known all_rounds i ≡ slice_get env.constants i
+  known_is : (i : ℕ) → known_value all_rounds i ≡ slice_get env.constants i
   known_is i =
-      ap (λ os. known os i) values.1 ∙ known_some values.0 i ∙ ap (λ vs. slice_get vs i) (sym constants_are)
+      ap (λ os. known_value os i) values.1 ∙ known_some values.0 i ∙ ap (λ vs. slice_get vs i) (sym constants_are)
 
   constant_is : (i : ℕ) (e : ConstantTree) → slice_get p.initialisers i ≡ Some e → slice_get env.constants i ≡ constant_value env m e
   constant_is i e q =
       let small = position_small i e q in
       sym (known_is i)
       ∙ found_same (constant_count p) (suc (constant_count p)) i e q small (omega (arith, small))
-      ∙ found_here (tree_value (known all_rounds) m) p.initialisers s.overrides i e q
+      ∙ found_here (tree_value (known_value all_rounds) m) p.initialisers s.overrides i e q
       ∙ (λ j. tree_value (λ k. known_is k j) m e)
 
   -- the computed constants solve the module's equations
@@ -242,7 +244,7 @@ module _ (p : Module) (n : ModuleNames) (fits : ConstantsFit p n) (s : Settings)
       behind : (rounds : ℕ) → rounds ≡ constant_count p → drop (constant_count p) values.0 ≡ s.overrides
       behind zero e = values_behind (λ e. None) p.initialisers s.overrides values.0 (sym values.1 ∙ ap (found_after p s m) (sym e))
       behind (suc r) e =
-          values_behind (tree_value (known (found_after p s m r)) m) p.initialisers s.overrides values.0 (sym values.1 ∙ ap (found_after p s m) (sym e))
+          values_behind (tree_value (known_value (found_after p s m r)) m) p.initialisers s.overrides values.0 (sym values.1 ∙ ap (found_after p s m) (sym e))
 
   -- and nothing else does
   module _ (other : Environment) (solves : IsSolution p s m other) where
@@ -279,7 +281,7 @@ module _ (p : Module) (n : ModuleNames) (fits : ConstantsFit p n) (s : Settings)
     abbrev outside : Scope
     outside = with_globals (globals_from n.global 0 p.global_types) s.globals 0 no_names
 
-    scope_known : (value : ConstantTree → Option Value) (value' : Tree → Option Denoted) → ((i : ℕ) (e : ConstantTree) → slice_get p.initialisers i ≡ Some e → value' (constant_form n e) ≡ as_denoted (value e)) → scope_with value' text s ≡ with_known names (found_with value p s) outside
+    scope_known : (value : ConstantTree → Option Value) (value' : Tree → Option Denotation) → ((i : ℕ) (e : ConstantTree) → slice_get p.initialisers i ≡ Some e → value' (constant_form n e) ≡ as_denoted (value e)) → scope_with value' text s ≡ with_known names (found_with value p s) outside
     scope_known value value' each =
         let parted : length p.constant_types ≡ constant_count p + length (override_types p) = sym (found_length value p.initialisers p.parts p.constant_types s.overrides fits.counted settings.overrides) ∙ counted value in
         constants_known n value value' p.initialisers 0 (constant_count p) (length (override_types p)) (length p.constant_types) s.overrides outside (omega arith) parted each
@@ -294,7 +296,7 @@ module _ (p : Module) (n : ModuleNames) (fits : ConstantsFit p n) (s : Settings)
       abbrev here : Scope
       here = with_known names found outside
 
-      constant_here : (i : ℕ) → i < length p.constant_types → here (n.constant i) ≡ as_denoted (known found i)
+      constant_here : (i : ℕ) → i < length p.constant_types → here (n.constant i) ≡ as_denoted (known_value found i)
       constant_here i lt =
           let at : i ≡ i + 0 = omega arith in
           ap (λ k. here (n.constant k)) at
@@ -321,18 +323,18 @@ module _ (p : Module) (n : ModuleNames) (fits : ConstantsFit p n) (s : Settings)
           given None = refl
           given (Some vs) = ap (λ b. as_value (cond b (Halts Stuck t) (Gives (Some (m (Spelled word) vs)) t))) tests
 
-      gives : (i : ℕ) (e : ConstantTree) → slice_get p.initialisers i ≡ Some e → initialiser_value l here (constant_form n e) ≡ as_denoted (tree_value (known found) m e)
+      gives : (i : ℕ) (e : ConstantTree) → slice_get p.initialisers i ≡ Some e → initialiser_value l here (constant_form n e) ≡ as_denoted (tree_value (known_value found) m e)
       gives i e q =
           let f = fits.initialisers i e q in
-          ap initialised_name (tree_gives l here n (known found) (λ k. k < length p.constant_types) constant_here (OperatesOutside p n) operates e f.words f.range [])
-          ∙ initialised_denoted (tree_value (known found) m e)
+          ap initialised_name (tree_gives l here n (known_value found) (λ k. k < length p.constant_types) constant_here (OperatesOutside p n) operates e f.words f.range [])
+          ∙ initialised_denoted (tree_value (known_value found) m e)
 
     -- each round of the text knows what the module's knows
     round_is : (rounds : ℕ) → scope_after l text s rounds ≡ with_known names (found_after p s m rounds) outside
     round_is zero = scope_known (λ e. None) (λ e. None) (λ i e q. refl)
     round_is (suc r) =
         let found = found_after p s m r in
-        scope_known (tree_value (known found) m) (initialiser_value l (scope_after l text s r)) (λ i e q. ap (λ scope. initialiser_value l scope (constant_form n e)) (round_is r) ∙ gives found (found_counted r) i e q)
+        scope_known (tree_value (known_value found) m) (initialiser_value l (scope_after l text s r)) (λ i e q. ap (λ scope. initialiser_value l scope (constant_form n e)) (round_is r) ∙ gives found (found_counted r) i e q)
 
     pub scope_is : module_scope text s w m n.is_request ≡ module_names_given p n env
     scope_is =

@@ -7,15 +7,17 @@ use Rattle.shader_runs.specs.Value.{ValueType, PointerType, has_type, has_types,
 use Rattle.shader_runs.specs.Value.{Whole, Pointer, Spelled, PartWord, IndexWord, ShortCircuit}
 use Rattle.shader_runs.specs.Value.{truth_in, integer_in, place_in, Place, type_of}
 use Rattle.shader_runs.specs.World.{Event, Ask, World, Meaning}
-use Rattle.shader_runs.specs.Outcome.{Reached, Gives, reach, unless}
+use Rattle.shader_runs.specs.Outcome.{ReachedOrHalted, Gives, reach, unless}
 use Rattle.shader_runs.specs.Program.{Module, Function, function_numbered, Expression}
-use Rattle.shader_runs.specs.ProgramRun.{Call, Kept, used_value, also, used_values, operator_value}
+use Rattle.shader_runs.specs.ProgramRun.{Call, KeptValues, used_value, also, used_values}
+use Rattle.shader_runs.specs.ProgramRun.{operator_value}
 use Rattle.shader_runs.specs.ProgramRun.{index_value_of, part_value, swizzle_value, decides}
 use Rattle.shader_runs.specs.ProgramRun.{undecided_value, combined_value, gathered_value}
 use Rattle.shader_runs.specs.ProgramRun.{index_value_by, part_value_by}
 use Rattle.shader_runs.specs.Text.{Index, PartOf, LogicalOf}
 use Rattle.shader_runs.specs.TextRun.{part_reached, index_reached, index_into, part_picked}
-use Rattle.shader_runs.specs.TextRun.{undecided_reached, logical_reached, Denoted, IsValue, IsPlace}
+use Rattle.shader_runs.specs.TextRun.{undecided_reached, logical_reached, Denotation, IsValue}
+use Rattle.shader_runs.specs.TextRun.{IsPlace}
 use Rattle.shader_runs.specs.TextRun.{Words, Scope, read_value, word_answer, as_value, dereference}
 use Rattle.shader_runs.specs.TextRun.{address_reached, put_before, followed_by, evaluate}
 use Rattle.shader_runs.specs.TextRun.{evaluate_all, value_of, AsksForEvent, Operates}
@@ -34,7 +36,7 @@ abbrev pub naming : Call → Names → Naming
 naming c n = record { function = c.function; names = n }
 
 abbrev pub Respond : Type 0
-Respond = Bytes → List Value → List Event → Reached (Option Value)
+Respond = Bytes → List Value → List Event → ReachedOrHalted (Option Value)
 
 abbrev pub words : Call → Respond → Words
 words c d = record { world = c.world; meaning = c.meaning; respond = d }
@@ -45,7 +47,7 @@ pub record Responds (p : Module) (c : Call) (n : Names) (d : Respond) : Type 0 w
   pub operators : (w : Bytes) → OperatesBy p (naming c n) w → (vs : List Value) (t : List Event) → d w vs t ≡ respond_by_use Operates c.world c.meaning w vs t
   pub calls : (g : ℕ) (callee : Function) → function_numbered c.callees g ≡ Some callee → (vs : List Value) → IsTrue (has_types c.environment.parts callee.argument_types vs) → (t : List Event) → Answers (Returns c.environment.parts callee) (c.calls g vs t) (d (n.outer.function g) vs t)
 
-abbrev pub denoted : Option Value → List Event → Reached Denoted
+abbrev pub denoted : Option Value → List Event → ReachedOrHalted Denotation
 denoted o t = reach (as_denoted o) t
 
 -- a plain form gives this value and makes no event
@@ -75,17 +77,17 @@ place_form_gives c d names (AsValue e) o m t =
     ap dereference (ap (read_value c.world) (m t) ∙ valued_denoted c.world o t) ∙ dereferenced_reached o t
 place_form_gives c d names (AsPlace e) o m t = m.2 t ∙ ap (λ o. placed o t) (sym m.1)
 
-abbrev pub AllMean : Call → Respond → Scope → Kept → (ℕ → Plain) → List ℕ → Type 0
+abbrev pub AllMean : Call → Respond → Scope → KeptValues → (ℕ → Plain) → List ℕ → Type 0
 AllMean c d names kept operand [] = Unit {0}
 AllMean c d names kept operand (x ∷ xs) =
     Means c d names (operand x) (used_value c kept x) × AllMean c d names kept operand xs
 
-pub followed_reached : (o : Option Value) (os : Option (List Value)) (t : List Event) (rest : List Event → Reached (List Value)) → ((t : List Event) → rest t ≡ reach os t) → followed_by (reach o t) rest ≡ reach (also o os) t
+pub followed_reached : (o : Option Value) (os : Option (List Value)) (t : List Event) (rest : List Event → ReachedOrHalted (List Value)) → ((t : List Event) → rest t ≡ reach os t) → followed_by (reach o t) rest ≡ reach (also o os) t
 followed_reached None os t rest h = refl
 followed_reached (Some v) None t rest h = ap (put_before v) (h t)
 followed_reached (Some v) (Some vs) t rest h = ap (put_before v) (h t)
 
-pub value_forms_give : (c : Call) (d : Respond) (names : Scope) (kept : Kept) (operand : ℕ → Plain) (xs : List ℕ) → AllMean c d names kept operand xs → (t : List Event) → evaluate_all (words c d) (value_forms operand xs) names t ≡ reach (used_values c kept xs) t
+pub value_forms_give : (c : Call) (d : Respond) (names : Scope) (kept : KeptValues) (operand : ℕ → Plain) (xs : List ℕ) → AllMean c d names kept operand xs → (t : List Event) → evaluate_all (words c d) (value_forms operand xs) names t ≡ reach (used_values c kept xs) t
 value_forms_give c d names kept operand [] m t = refl
 value_forms_give c d names kept operand (x ∷ xs) m t =
     let rest = evaluate_all (words c d) (value_forms operand xs) names in
@@ -103,7 +105,7 @@ operated p c n d r w f None t = refl
 operated p c n d r w f (Some vs) t = ap as_value (operator_responds p c n d r w f vs t)
 
 -- an operator's word on what its operands give
-pub applied_reached : (p : Module) (c : Call) (n : Names) (d : Respond) → Responds p c n d → (w : Bytes) → OperatesBy p (naming c n) w → (o : Option Denoted) → o ≡ None → (os : Option (List Value)) (t : List Event) → as_value (unless o t (word_answer (words c d) w (reach os t))) ≡ denoted (operator_value c.meaning (Spelled w) os) t
+pub applied_reached : (p : Module) (c : Call) (n : Names) (d : Respond) → Responds p c n d → (w : Bytes) → OperatesBy p (naming c n) w → (o : Option Denotation) → o ≡ None → (os : Option (List Value)) (t : List Event) → as_value (unless o t (word_answer (words c d) w (reach os t))) ≡ denoted (operator_value c.meaning (Spelled w) os) t
 applied_reached p c n d r w f o e os t =
     ap (λ o. as_value (unless o t (word_answer (words c d) w (reach os t)))) e ∙ operated p c n d r w f os t
 
@@ -161,21 +163,21 @@ index_value_is m x y n = ap (λ o. index_value_by m o x y) n
 pub part_value_is : (m : Meaning) (x : Selector) (b : Value) → place_in b ≡ None → part_value m x b ≡ Some (m (PartWord x) (b ∷ []))
 part_value_is m x b n = ap (λ o. part_value_by m x o b) n
 
-pub index_value : (m : Meaning) (x y v : Value) → place_in x ≡ None → index_value_of m x y ≡ Some v → (p : Reached Denoted) (rest : List Event → Reached Value) (t : List Event) → p ≡ Gives (IsValue x) t → rest t ≡ Gives y t → index_into m p rest ≡ Gives (IsValue v) t
+pub index_value : (m : Meaning) (x y v : Value) → place_in x ≡ None → index_value_of m x y ≡ Some v → (p : ReachedOrHalted Denotation) (rest : List Event → ReachedOrHalted Value) (t : List Event) → p ≡ Gives (IsValue x) t → rest t ≡ Gives y t → index_into m p rest ≡ Gives (IsValue v) t
 index_value m x y v n e p rest t q r =
     let same = same_Some (m IndexWord (x ∷ y ∷ [])) v (sym (index_value_is m x y n) ∙ e) in
     ap (λ p. index_into m p rest) q ∙ ap (λ o. unless o t (index_reached m x (rest t))) n ∙ ap (index_reached m x) r ∙ ap (λ v. Gives (IsValue v) t) same
 
-pub part_picked_value : (m : Meaning) (x : Selector) (b v : Value) → place_in b ≡ None → part_value m x b ≡ Some v → (p : Reached Denoted) (t : List Event) → p ≡ Gives (IsValue b) t → part_picked m x p ≡ Gives (IsValue v) t
+pub part_picked_value : (m : Meaning) (x : Selector) (b v : Value) → place_in b ≡ None → part_value m x b ≡ Some v → (p : ReachedOrHalted Denotation) (t : List Event) → p ≡ Gives (IsValue b) t → part_picked m x p ≡ Gives (IsValue v) t
 part_picked_value m x b v n e p t q =
     let same = same_Some (m (PartWord x) (b ∷ [])) v (sym (part_value_is m x b n) ∙ e) in
     ap (part_picked m x) q ∙ ap (λ o. unless o t (Gives (IsValue (m (PartWord x) (b ∷ []))) t)) n ∙ ap (λ v. Gives (IsValue v) t) same
 
 -- the two sides of `&&` and `||`
-pub logical_reached_value : (m : Meaning) (j : ShortCircuit) (l r : Value) (p : Reached Value) (rest : List Event → Reached Value) (t : List Event) → p ≡ Gives l t → rest t ≡ Gives r t → logical_reached m j p rest ≡ Gives (IsValue (cond (decides j l) l (undecided_value m j l r))) t
+pub logical_reached_value : (m : Meaning) (j : ShortCircuit) (l r : Value) (p : ReachedOrHalted Value) (rest : List Event → ReachedOrHalted Value) (t : List Event) → p ≡ Gives l t → rest t ≡ Gives r t → logical_reached m j p rest ≡ Gives (IsValue (cond (decides j l) l (undecided_value m j l r))) t
 logical_reached_value m j l r p rest t e q = ap (λ p. logical_reached m j p rest) e ∙ go (decides j l)
   where
-    go : (b : Bool) → elim b as (λ _. Reached Denoted) [ true ↦ Gives (IsValue l) t | false ↦ undecided_reached m j l (rest t) ] ≡ Gives (IsValue (cond b l (undecided_value m j l r))) t
+    go : (b : Bool) → elim b as (λ _. ReachedOrHalted Denotation) [ true ↦ Gives (IsValue l) t | false ↦ undecided_reached m j l (rest t) ] ≡ Gives (IsValue (cond b l (undecided_value m j l r))) t
     go true = refl
     go false = ap (undecided_reached m j l) q
 

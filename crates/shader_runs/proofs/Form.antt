@@ -14,7 +14,8 @@ use Rattle.shader_runs.specs.Program.{Local, Global, Load, Operator, Access, Acc
 use Rattle.shader_runs.specs.Program.{Swizzle, Request, Result, argument_count, local_count}
 use Rattle.shader_runs.specs.Program.{local_pointer, expression_of, handle_type, operands_of}
 use Rattle.shader_runs.specs.Program.{Module}
-use Rattle.shader_runs.specs.ProgramRun.{Call, Kept, constant_value, constant_values, global_value}
+use Rattle.shader_runs.specs.ProgramRun.{Call, KeptValues, constant_value, constant_values}
+use Rattle.shader_runs.specs.ProgramRun.{global_value}
 use Rattle.shader_runs.specs.ProgramRun.{used_value_as, used_value, also, used_values}
 use Rattle.shader_runs.specs.ProgramRun.{joined_values, operator_value, combined_value}
 use Rattle.shader_runs.specs.ProgramRun.{gathered_value, computed_value}
@@ -25,7 +26,7 @@ use Rattle.shader_runs.specs.Scope.{Standing, Absent, Barred, Everywhere, Inline
 use Rattle.shader_runs.specs.Scope.{Names, usable, usable_as, usable_all, is_pure, is_present}
 use Rattle.shader_runs.specs.Form.{Plain, AsValue, AsPlace, value_form, place_form}
 use Rattle.shader_runs.specs.Form.{value_forms_then, constant_form, constant_forms, global_form}
-use Rattle.shader_runs.specs.Form.{own_form, standing_form, written_below, written}
+use Rattle.shader_runs.specs.Form.{own_form, standing_form, written_below, written_form}
 use Rattle.shader_runs.specs.Premises.{FixedName, FixedKey, NumberedKey, GivenKey, IsFixedName}
 use Rattle.shader_runs.specs.Premises.{IsNoName, ConstantWords, ConstantsWords, WordFits, AllBelow}
 use Rattle.shader_runs.specs.Premises.{constant_type, constant_types_of, ConstantInRange}
@@ -150,10 +151,10 @@ module _ (p : Module) (c : Call) (arguments : IsTrue (has_types c.environment.pa
   used_typed k (Some _) l m o st v u = v u
 
 -- each handle in scope has a value of its type
-abbrev pub UsesTyped : Call → Handles → Kept → Type 0
+abbrev pub UsesTyped : Call → Handles → KeptValues → Type 0
 UsesTyped c s kept = (h : ℕ) → IsTrue (usable c.function s h) → TypedValue c.environment.parts (handle_type c.function h) (used_value c kept h)
 
-module _ (p : Module) (c : Call) (s : Handles) (kept : Kept) (each : UsesTyped c s kept) where
+module _ (p : Module) (c : Call) (s : Handles) (kept : KeptValues) (each : UsesTyped c s kept) where
   pub all_typed : (xs : List ℕ) → IsTrue (usable_all c.function s xs) → (vs : List Value) × (used_values c kept xs ≡ Some vs) × IsTrue (has_types c.environment.parts (handle_types c.function xs) vs)
   all_typed [] u = ([], refl, refl)
   all_typed (x ∷ xs) u =
@@ -176,7 +177,7 @@ module _ (p : Module) (c : Call) (s : Handles) (kept : Kept) (each : UsesTyped c
       let b = constants_typed p c.environment environment c.meaning es i k in
       (a.0 ++ b.0, ap (λ o. joined_values o (constant_values c.environment c.meaning es)) a.1 ∙ ap (joined_values (Some a.0)) b.1)
 
-module _ (p : Module) (c : Call) (n : Names) (d : Respond) (given : Given p c n d) (s : Handles) (names : Scope) (kept : Kept) (r : Related c n s names kept) where
+module _ (p : Module) (c : Call) (n : Names) (d : Respond) (given : Given p c n d) (s : Handles) (names : Scope) (kept : KeptValues) (r : Related c n s names kept) where
   typed_value_as : (k : ValueType) (e : Option Expression) → LeafFits p c.function k e → LeafTyped c.environment.parts p c.meaning e → (o : Option Value) (st : Standing) → Stands c s names kept k e o st → IsTrue (usable_as c.function e st) → TypedValue c.environment.parts k (used_value_as c e o)
   typed_value_as k e l m o (Named x) q u = q.0
   typed_value_as k e l m o Inline q u = used_typed p c given.arguments given.environment k e l m o Inline (λ i. q.1) u
@@ -393,16 +394,16 @@ module _ (p : Module) (c : Call) (n : Names) (d : Respond) (given : Given p c n 
       go (Some x) e u = slice_get_within c.function.expressions h x e
 
   -- a handle in scope, wherever it is written
-  pub written_means : (h : ℕ) → IsTrue (usable c.function s h) → Means c d names (written (naming c n) s h) (used_value c kept h)
+  pub written_means : (h : ℕ) → IsTrue (usable c.function s h) → Means c d names (written_form (naming c n) s h) (used_value c kept h)
   written_means h u = written_below_means (length c.function.expressions) h (usable_within h u) u
 
-  pub all_here : (xs : List ℕ) → IsTrue (usable_all c.function s xs) → AllMean c d names kept (written (naming c n) s) xs
+  pub all_here : (xs : List ℕ) → IsTrue (usable_all c.function s xs) → AllMean c d names kept (written_form (naming c n) s) xs
   all_here [] u = tt
   all_here (x ∷ xs) u =
       (written_means x (and_left (usable c.function s x) (usable_all c.function s xs) u), all_here xs (and_right (usable c.function s x) (usable_all c.function s xs) u))
 
-  pub value_here : (h : ℕ) → IsTrue (usable c.function s h) → (t : List Event) → value_of (words c d) (value_form (written (naming c n) s h)) names t ≡ reach (used_value c kept h) t
-  value_here h u = value_form_gives c d names (written (naming c n) s h) (used_value c kept h) (written_means h u)
+  pub value_here : (h : ℕ) → IsTrue (usable c.function s h) → (t : List Event) → value_of (words c d) (value_form (written_form (naming c n) s h)) names t ≡ reach (used_value c kept h) t
+  value_here h u = value_form_gives c d names (written_form (naming c n) s h) (used_value c kept h) (written_means h u)
 
-  pub place_here : (h : ℕ) → IsTrue (usable c.function s h) → (t : List Event) → evaluate (words c d) (place_form (written (naming c n) s h)) names t ≡ placed (used_value c kept h) t
-  place_here h u = place_form_gives c d names (written (naming c n) s h) (used_value c kept h) (written_means h u)
+  pub place_here : (h : ℕ) → IsTrue (usable c.function s h) → (t : List Event) → evaluate (words c d) (place_form (written_form (naming c n) s h)) names t ≡ placed (used_value c kept h) t
+  place_here h u = place_form_gives c d names (written_form (naming c n) s h) (used_value c kept h) (written_means h u)

@@ -14,7 +14,8 @@ use Rattle.shader_runs.specs.Scope.{Handles, Naming, bound_name, given_after, gi
 use Rattle.shader_runs.specs.Scope.{given_by_all, after_one, after, after_all}
 use Rattle.shader_runs.specs.Text.{Tree, Lines}
 use Rattle.shader_runs.specs.TextRun.{some_continue, some_group_continues}
-use Rattle.shader_runs.specs.Form.{value_form, own_form, written, let_if, lets, perform_each, form}
+use Rattle.shader_runs.specs.Form.{value_form, own_form, written_form, let_if, lets, perform_each}
+use Rattle.shader_runs.specs.Form.{form}
 use Rattle.shader_runs.specs.Form.{form_all, form_cases}
 use Rattle.shader_runs.specs.Premises.{FallsFrom, IsRegular, AreRegular, CasesAreRegular}
 use Rattle.shader_runs.specs.Resolution.{LetTarget, Lookup, lets_behind_all, lets_behind_groups}
@@ -89,7 +90,7 @@ module _ (f : Naming) where
       by (binds f.function h) (λ l1. lets_counted (given_after f.function h k) l1 hs (after_one f k h s) tail)
     where
       e : Tree
-      e = value_form (own_form f (written f s) (handle_type f.function h) (expression_of f.function h))
+      e = value_form (own_form f (written_form f s) (handle_type f.function h) (expression_of f.function h))
 
       rest : Lines
       rest = lets f (given_after f.function h k) hs (after_one f k h s) tail
@@ -141,7 +142,7 @@ module _ (f : Naming) where
       by (binds f.function h) (λ l1 names1. lets_leave (given_after f.function h k) l1 hs (after_one f k h s) tail names1)
     where
       e : Tree
-      e = value_form (own_form f (written f s) (handle_type f.function h) (expression_of f.function h))
+      e = value_form (own_form f (written_form f s) (handle_type f.function h) (expression_of f.function h))
 
       rest : Lines
       rest = lets f (given_after f.function h k) hs (after_one f k h s) tail

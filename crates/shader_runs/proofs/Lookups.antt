@@ -15,11 +15,14 @@ use Rattle.shader_runs.specs.Program.{expression_of, handle_type, operands_of, i
 use Rattle.shader_runs.specs.Program.{from, holds_continue, Module}
 use Rattle.shader_runs.specs.Scope.{Named, Handles, Naming, at_start, start_standing, bound_name}
 use Rattle.shader_runs.specs.Scope.{is_present, usable_as, usable_if, usable_all, is_pure}
-use Rattle.shader_runs.specs.Scope.{all_constant, constant_test, is_constant_below, unbound}
-use Rattle.shader_runs.specs.Scope.{emitted, given_after, given_after_all, given_by, given_by_all}
+use Rattle.shader_runs.specs.Scope.{all_constant, constant_test, is_constant_below}
+use Rattle.shader_runs.specs.Scope.{standing_without_name}
+use Rattle.shader_runs.specs.Scope.{with_emitted_handle, given_after, given_after_all, given_by}
+use Rattle.shader_runs.specs.Scope.{given_by_all}
 use Rattle.shader_runs.specs.Scope.{after_one, after_emit, after_result, after, after_all}
 use Rattle.shader_runs.specs.Scope.{forgotten_if, before_local}
-use Rattle.shader_runs.specs.Form.{constant_form, constant_forms, written, value_if, names_from}
+use Rattle.shader_runs.specs.Form.{constant_form, constant_forms, written_form, value_if}
+use Rattle.shader_runs.specs.Form.{names_from}
 use Rattle.shader_runs.specs.Premises.{FixedName, ArgumentName, LocalName, ConstantName, GlobalName}
 use Rattle.shader_runs.specs.Premises.{NameKey, FixedKey, NumberedKey, GivenKey, fixed_name}
 use Rattle.shader_runs.specs.Premises.{name_at, IsFixedName, IsName, IsNoName, StandsFree}
@@ -222,7 +225,7 @@ module _ (p : Module) (f : Naming) (distinct : AreDistinct p f) where
       pub first_resolves : (o : Option ℕ) → IsTrue (usable_if (before_local f.function declared) (at_start f.function) o) → tree_targets_if names (value_if f (at_start f.function) o) ≡ map Some (value_targets_if f.function (at_start f.function) no_numbers o)
       first_resolves None is = refl
       first_resolves (Some h) is =
-          value_targets_of names (written f (at_start f.function) h) ∙ first_below (length f.function.expressions) h is
+          value_targets_of names (written_form f (at_start f.function) h) ∙ first_below (length f.function.expressions) h is
 
   -- what is known at a point of the body
   pub record InScope (k : ℕ) (s : Handles) (numbers : LetNumbers) (names : Lookup) : Type 0 where
@@ -251,10 +254,10 @@ module _ (p : Module) (f : Naming) (distinct : AreDistinct p f) where
       new_let false le =
           lets_known (NumberedKey h) tt k h l s numbers names scope.sources le (λ j other e. other (sym (numbered_same h j e))) (λ j lt e. numbered_given h j e) scope.lets
 
-      lets_by_binding : (b o u : Bool) → LetsKnown (emitted b o u (bound_name f k h) s h) (cond b (update numbers h l) numbers) (cond b (bind names (bound_name f k h) (Some (LetTarget l))) names)
+      lets_by_binding : (b o u : Bool) → LetsKnown (with_emitted_handle b o u (bound_name f k h) s h) (cond b (update numbers h l) numbers) (cond b (bind names (bound_name f k h) (Some (LetTarget l))) names)
       lets_by_binding true o u = new_let (is_given f.function h) le
       lets_by_binding false true u = λ j x.
-          update_cases (λ z. z ≡ Named x → names x ≡ Some (LetTarget (numbers j))) s h (unbound u (s h)) j
+          update_cases (λ z. z ≡ Named x → names x ≡ Some (LetTarget (numbers j))) s h (standing_without_name u (s h)) j
           (λ same e. scope.lets j x (ap s same ∙ unbound_named u (s h) x e)) (λ other e. scope.lets j x e)
       lets_by_binding false false u = scope.lets
 

@@ -8,7 +8,7 @@ use Rattle.shader_runs.specs.Value.{GlobalRoot, LocalRoot, ValueType, BooleanTyp
 use Rattle.shader_runs.specs.Value.{PointerType, OtherType, Value}
 use Rattle.shader_runs.specs.World.{GlobalValue, Stored, Held, bind, Environment}
 use Rattle.shader_runs.specs.Program.{local_pointer, Module}
-use Rattle.shader_runs.specs.TextRun.{names_function, Denoted, IsValue, IsPlace, Scope}
+use Rattle.shader_runs.specs.TextRun.{names_function, Denotation, IsValue, IsPlace, Scope}
 use Rattle.shader_runs.specs.TextRun.{with_parameters, with_variables, with_globals, global_denoted}
 use Rattle.shader_runs.specs.TextRun.{no_names}
 use Rattle.shader_runs.specs.Scope.{Naming, ModuleNames}
@@ -19,7 +19,7 @@ use Rattle.shader_runs.proofs.Update.{and_left, and_right, same_bytes_true, same
 use Rattle.shader_runs.proofs.Update.{bind_same, bind_other}
 use Rattle.shader_runs.proofs.Relation.{as_denoted, stored_denoted, global_as}
 use Rattle.std.proofs.lemmas.List.{length-map}
-use Rattle.shader_runs.specs.Constants.{known, global_values}
+use Rattle.shader_runs.specs.Constants.{known_value, global_values}
 use Rattle.std.proofs.lemmas.Option.{none-some, same_Some}
 
 -- none of these names is x
@@ -42,7 +42,7 @@ known_other name x (suc n) j f [] names = refl
 known_other name x (suc n) j f (o ∷ os) names =
     bind_other (with_known (names_from name (suc j) n) os names) (name j) (as_denoted o) x (λ e. f j (omega arith) (omega arith) (sym e)) ∙ known_other name x n (suc j) (λ i le lt. f i (omega arith) (omega arith)) os names
 
-pub known_at : (name : ℕ → Bytes) (n j : ℕ) → AllDifferent name j n → (os : List (Option Value)) (names : Scope) → length os ≡ n → (i : ℕ) → i < n → with_known (names_from name j n) os names (name (i + j)) ≡ as_denoted (known os i)
+pub known_at : (name : ℕ → Bytes) (n j : ℕ) → AllDifferent name j n → (os : List (Option Value)) (names : Scope) → length os ≡ n → (i : ℕ) → i < n → with_known (names_from name j n) os names (name (i + j)) ≡ as_denoted (known_value os i)
 known_at name zero j one os names e i lt = absurd (omega arith)
 known_at name (suc n) j one [] names e i lt = absurd (omega arith)
 known_at name (suc n) j one (o ∷ os) names e zero lt =
@@ -63,7 +63,7 @@ parameters_known [] vs names = refl
 parameters_known (x ∷ xs) [] names = refl
 parameters_known (x ∷ xs) (v ∷ vs) names = ap (λ f. bind f x (Some (IsValue v))) (parameters_known xs vs names)
 
-pub known_some : (vs : List Value) (i : ℕ) → known (map Some vs) i ≡ slice_get vs i
+pub known_some : (vs : List Value) (i : ℕ) → known_value (map Some vs) i ≡ slice_get vs i
 known_some [] i = refl
 known_some (v ∷ vs) zero = refl
 known_some (v ∷ vs) (suc i) = known_some vs i
@@ -79,7 +79,7 @@ parameter_at name n j one vs names e i lt =
     ∙ ap as_denoted (known_some vs i)
 
 -- the place of a function's variable
-abbrev pub variable_place : Naming → (entries index : ℕ) → Option Denoted
+abbrev pub variable_place : Naming → (entries index : ℕ) → Option Denotation
 variable_place f k i = Some (IsPlace (Rooted (LocalRoot (local_pointer f.function i) k i)))
 
 pub variable_other : (f : Naming) (x : Bytes) (os : List (Option ℕ)) (j k : ℕ) → NotAmong f.names.local_ j (length os) x → (names : Scope) → with_variables (variables_from f j os) k j names x ≡ names x

@@ -6,7 +6,8 @@ use Rattle.std.specs.Prelude.{IsTrue}
 use Rattle.std.proofs.Math.Nat.{eq-or-lt_of_le}
 use Rattle.shader_runs.specs.Value.{BooleanType, has_types, Value}
 use Rattle.shader_runs.specs.World.{Event, World, Meaning, Environment, Settings}
-use Rattle.shader_runs.specs.Outcome.{Stuck, Unreturned, OutOfTurns, Discarded, Mistyped, Reached}
+use Rattle.shader_runs.specs.Outcome.{Stuck, Unreturned, OutOfTurns, Discarded, Mistyped}
+use Rattle.shader_runs.specs.Outcome.{ReachedOrHalted}
 use Rattle.shader_runs.specs.Outcome.{Gives, Halts}
 use Rattle.shader_runs.specs.Program.{Function, function_numbered, Module}
 use Rattle.shader_runs.specs.ProgramRun.{run_call}
@@ -38,7 +39,7 @@ diagonal p i = chain p i i
 
 module _ (p : Process) where
   -- the run from a start, by the answers' types
-  abbrev after_turns : ℕ → Types → Reached Pause
+  abbrev after_turns : ℕ → Types → ReachedOrHalted Pause
   after_turns n a = perform (world_of a) n p []
 
   completed_fine : (n : ℕ) (a : Types) → mistakes (after_turns n (process_makes n p [] a).completes.after) ≡ 0
@@ -62,7 +63,7 @@ module _ (p : Process) where
   module _ (settle : EventsSettle) where
     -- where the types are right with j + 1 turns, the first mistake with one turn more stands
     -- behind j + 1 events
-    late_mistake : (j : ℕ) (a : Types) (now finally : Reached Pause) → Completes (after_turns (suc (suc j))) [] a now finally → mistakes (after_turns (suc j) a) ≡ 0 → mistakes now ≡ 1 → suc j < events_made now
+    late_mistake : (j : ℕ) (a : Types) (now finally : ReachedOrHalted Pause) → Completes (after_turns (suc (suc j))) [] a now finally → mistakes (after_turns (suc j) a) ≡ 0 → mistakes now ≡ 1 → suc j < events_made now
     late_mistake j a now finally k f c = go (cut_cases (after_turns (suc j) a) now cutting)
       where
         cutting : Cut (after_turns (suc j) a) now
@@ -116,11 +117,11 @@ module _ (p : Process) where
         let fine : mistakes (after_turns n (chain p late)) ≡ 0 = fine_below (chain p late) n (suc late) (omega arith) (chain_fine late) in
         ap mistakes (k.completes.local_now (diagonal p) (λ i lt. refl) ∙ sym like) ∙ fine
 
-call_events : (q : Reached Pause) → events_made (call_outcome q) ≡ events_made q
+call_events : (q : ReachedOrHalted Pause) → events_made (call_outcome q) ≡ events_made q
 call_events (Gives x e) = refl
 call_events (Halts x e) = refl
 
-call_mistakes : (q : Reached Pause) → mistakes (call_outcome q) ≡ mistakes q
+call_mistakes : (q : ReachedOrHalted Pause) → mistakes (call_outcome q) ≡ mistakes q
 call_mistakes (Gives x e) = refl
 call_mistakes (Halts Stuck e) = refl
 call_mistakes (Halts Unreturned e) = refl
@@ -128,7 +129,7 @@ call_mistakes (Halts OutOfTurns e) = refl
 call_mistakes (Halts Discarded e) = refl
 call_mistakes (Halts Mistyped e) = refl
 
-keeps_types : (q : Reached (Option Value)) → mistakes q ≡ 0 → KeepsTypes q
+keeps_types : (q : ReachedOrHalted (Option Value)) → mistakes q ≡ 0 → KeepsTypes q
 keeps_types (Gives v e) h = tt
 keeps_types (Halts Stuck e) h = tt
 keeps_types (Halts Unreturned e) h = tt
@@ -156,7 +157,7 @@ module _ (p : Module) (n : ModuleNames) (fs : List Naming) (fits : ModuleFits p 
   abbrev process : Process
   process = call_process env m p.functions g vs
 
-  abbrev followed : ℕ → Types → Reached (Option Value)
+  abbrev followed : ℕ → Types → ReachedOrHalted (Option Value)
   followed j a =
       follow_module (form_module p n fs) settings (world_of a) m n.is_request j (n.function g) vs []
 

@@ -6,14 +6,14 @@ use Rattle.std.specs.Prelude.{IsTrue}
 use Rattle.shader_runs.specs.Value.{Bytes, Value, Truth, Whole}
 use Rattle.shader_runs.specs.World.{Event, Ask}
 use Rattle.shader_runs.specs.Outcome.{Stop, Outcome, Done, Continued, Broke, Returned, Stopped}
-use Rattle.shader_runs.specs.Outcome.{Reached, Gives, Halts, Next, and_then, and_continue}
+use Rattle.shader_runs.specs.Outcome.{ReachedOrHalted, Gives, Halts, Next, and_then, and_continue}
 use Rattle.shader_runs.specs.Outcome.{after_switch, branch_by, with_integer, closed_outcome}
 use Rattle.shader_runs.specs.Outcome.{closed_if, or_stuck, reach, unless}
 use Rattle.shader_runs.specs.Program.{expression_of, handle_type, Label, Numbered, Statement, Emit}
 use Rattle.shader_runs.specs.Program.{Store, Block, If, Switch, Loop, Break, Continue, Return, Kill}
 use Rattle.shader_runs.specs.Program.{Barrier, Act, Statements, end, then, Cases, no_case, case}
 use Rattle.shader_runs.specs.Program.{Module, binds, from, holds_continue, any_continue}
-use Rattle.shader_runs.specs.ProgramRun.{Call, Kept, used_value, emit, emit_as, barrier_words}
+use Rattle.shader_runs.specs.ProgramRun.{Call, KeptValues, used_value, emit, emit_as, barrier_words}
 use Rattle.shader_runs.specs.ProgramRun.{ask_each, same_label, label_if, run, run_all}
 use Rattle.shader_runs.specs.Text.{Tree, Line, Let, Braces, IfElse, SwitchOn, LoopOf, Lines, last}
 use Rattle.shader_runs.specs.Text.{before, Groups}
@@ -22,7 +22,8 @@ use Rattle.shader_runs.specs.TextRun.{among, group_has, follow, follow_all, foll
 use Rattle.shader_runs.specs.Scope.{usable, Handles, Names, bound_name, after_one, given_after}
 use Rattle.shader_runs.specs.Scope.{given_after_all, after_emit, given_by, given_by_all, after}
 use Rattle.shader_runs.specs.Scope.{after_all, forgotten_if}
-use Rattle.shader_runs.specs.Form.{written, value_at, value_if, value_form, own_form, let_if, lets}
+use Rattle.shader_runs.specs.Form.{written_form, value_at, value_if, value_form, own_form, let_if}
+use Rattle.shader_runs.specs.Form.{lets}
 use Rattle.shader_runs.specs.Form.{perform_each, form, form_all, form_cases}
 use Rattle.shader_runs.specs.Premises.{EachAsks, FallsFrom}
 use Rattle.shader_runs.specs.Passes.{Region, Point, here, behind, inside, after_turns, InTurn}
@@ -116,12 +117,12 @@ closed_done s s1 t (Returned v e) q = absurd (not_returned v s1 e t q)
 closed_done s s1 t (Stopped x e) q = absurd (not_stopped x s1 e t q)
 
 -- the same behind a value
-closed_value_again : {S : Type 0} (b : Bool) (s : S) (r : Reached Value) (g : Value → List Event → Outcome S) → closed_if b s (and_then (with_value r (λ v t. closed_outcome s (g v t))) (λ s t. Done s t)) ≡ with_value r (λ v t. closed_outcome s (g v t))
+closed_value_again : {S : Type 0} (b : Bool) (s : S) (r : ReachedOrHalted Value) (g : Value → List Event → Outcome S) → closed_if b s (and_then (with_value r (λ v t. closed_outcome s (g v t))) (λ s t. Done s t)) ≡ with_value r (λ v t. closed_outcome s (g v t))
 closed_value_again true s (Halts x t) g = refl
 closed_value_again false s (Halts x t) g = refl
 closed_value_again b s (Gives v t) g = closed_again b s (g v t)
 
-closed_value_done : {S : Type 0} (s s1 : S) (t : List Event) (r : Reached Value) (g : Value → List Event → Outcome S) → with_value r (λ v t. closed_outcome s (g v t)) ≡ Done s1 t → s1 ≡ s
+closed_value_done : {S : Type 0} (s s1 : S) (t : List Event) (r : ReachedOrHalted Value) (g : Value → List Event → Outcome S) → with_value r (λ v t. closed_outcome s (g v t)) ≡ Done s1 t → s1 ≡ s
 closed_value_done s s1 t (Halts x e) g q = absurd (not_stopped x s1 e t q)
 closed_value_done s s1 t (Gives v e) g q = closed_done s s1 t (g v e) q
 
@@ -138,17 +139,17 @@ module _ (p : Module) (c : Call) (n : Names) (d : Respond) (given : Given p c n 
       (q : Point) (names2 : Scope) (t2 : List Event) → Text tail q names1 t1 names2 t2 → Text ls (way q) names t names2 t2
 
   -- the text's run is behind a statement
-  abbrev Behind : ℕ → Statement → Handles → Scope → List Event → Kept → List Event → Type 0
+  abbrev Behind : ℕ → Statement → Handles → Scope → List Event → KeptValues → List Event → Type 0
   Behind k st s names t kept1 t1 =
       (names1 : Scope) × Related c n (after (naming c n) k st s) names1 kept1 × ((tail : Lines) → Leads (form (naming c n) k st s tail) (behind_lines (line_count c.function st)) names t tail names1 t1)
 
   -- the outcome of a statement's own lines
-  own_lines : (st : Statement) (k : ℕ) (s : Handles) (names : Scope) (kept kept1 : Kept) (t t1 : List Event) → Related c n s names kept → Fits p c n k st s → run c bound st kept t ≡ Done kept1 t1 → (names1 : Scope) × (follow_all (words c d) bound (form (naming c n) k st s last) names t ≡ Done names1 t1) × (Related c n (forgotten_if (holds_continue st) s (after (naming c n) k st s)) names1 kept1 × Agree s kept kept1)
+  own_lines : (st : Statement) (k : ℕ) (s : Handles) (names : Scope) (kept kept1 : KeptValues) (t t1 : List Event) → Related c n s names kept → Fits p c n k st s → run c bound st kept t ≡ Done kept1 t1 → (names1 : Scope) × (follow_all (words c d) bound (form (naming c n) k st s last) names t ≡ Done names1 t1) × (Related c n (forgotten_if (holds_continue st) s (after (naming c n) k st s)) names1 kept1 × Agree s kept kept1)
   own_lines st k s names kept kept1 t t1 r m e =
       both_done (same_one p c n d given bound st k s names kept t false (after (naming c n) k st s) (λ s t. Done s t) last r m (λ kept1 names1 t1 r1 a1. done (r1, a1))) kept1 t1 (ap (λ o. and_then o (λ s t. Done s t)) e)
 
   -- a line that gives a name or nothing
-  one_line : (x : Line) (s1 : Handles) (names : Scope) (kept1 : Kept) (t t1 : List Event) → has_continue x ≡ false → (names1 : Scope) × (follow_all (words c d) bound (before x last) names t ≡ Done names1 t1) × Related c n s1 names1 kept1 → (names1 : Scope) × Related c n s1 names1 kept1 × ((tail : Lines) → Leads (before x tail) (λ q. behind q) names t tail names1 t1)
+  one_line : (x : Line) (s1 : Handles) (names : Scope) (kept1 : KeptValues) (t t1 : List Event) → has_continue x ≡ false → (names1 : Scope) × (follow_all (words c d) bound (before x last) names t ≡ Done names1 t1) × Related c n s1 names1 kept1 → (names1 : Scope) × Related c n s1 names1 kept1 × ((tail : Lines) → Leads (before x tail) (λ q. behind q) names t tail names1 t1)
   one_line x s1 names kept1 t t1 none w =
       let whole = and_then (follow (words c d) bound x names t) (λ s t. Done s t) in
       let there : closed_if false names whole ≡ Done w.0 t1 = subst (λ b. closed_if b names whole ≡ Done w.0 t1) none w.1 in
@@ -161,7 +162,7 @@ module _ (p : Module) (c : Call) (n : Names) (d : Respond) (given : Given p c n 
       (closed_if (has_continue x) names (and_then (follow (words c d) bound x names t) (λ s t. Done s t)) ≡ follow (words c d) bound x names t)
       × ((names1 : Scope) (t1 : List Event) → follow (words c d) bound x names t ≡ Done names1 t1 → names1 ≡ names)
 
-  closes : (x : Line) (names : Scope) (t : List Event) (r : Reached Value) (g : Value → List Event → Outcome Scope) → follow (words c d) bound x names t ≡ with_value r (λ v t. closed_outcome names (g v t)) → Closes x names t
+  closes : (x : Line) (names : Scope) (t : List Event) (r : ReachedOrHalted Value) (g : Value → List Event → Outcome Scope) → follow (words c d) bound x names t ≡ with_value r (λ v t. closed_outcome names (g v t)) → Closes x names t
   closes x names t r g e =
       subst (λ o. (closed_if (has_continue x) names (and_then o (λ s t. Done s t)) ≡ o) × ((names1 : Scope) (t1 : List Event) → o ≡ Done names1 t1 → names1 ≡ names)) (sym e) (closed_value_again (has_continue x) names r g, λ names1 t1. closed_value_done names names1 t1 r g)
 
@@ -178,15 +179,15 @@ module _ (p : Module) (c : Call) (n : Names) (d : Respond) (given : Given p c n 
   switch_closes e gs names t =
       closes (SwitchOn e gs) names t (value_of (words c d) e names t) (λ v t1. with_integer v t1 (λ z. after_switch (follow_groups (words c d) bound gs (label_if (group_has (Numbered z) gs) z) names t1))) refl
 
-  closing_line : (x : Line) (s : Handles) (names : Scope) (kept kept1 : Kept) (t t1 : List Event) → Closes x names t → Related c n s names kept → (names1 : Scope) × (follow_all (words c d) bound (before x last) names t ≡ Done names1 t1) × Agree s kept kept1 → (names1 : Scope) × Related c n s names1 kept1 × ((tail : Lines) → Leads (before x tail) (λ q. behind q) names t tail names1 t1)
+  closing_line : (x : Line) (s : Handles) (names : Scope) (kept kept1 : KeptValues) (t t1 : List Event) → Closes x names t → Related c n s names kept → (names1 : Scope) × (follow_all (words c d) bound (before x last) names t ≡ Done names1 t1) × Agree s kept kept1 → (names1 : Scope) × Related c n s names1 kept1 × ((tail : Lines) → Leads (before x tail) (λ q. behind q) names t tail names1 t1)
   closing_line x s names kept kept1 t t1 z r w =
       let own : follow (words c d) bound x names t ≡ Done w.0 t1 = sym z.0 ∙ w.1 in
       (w.0, subst (λ l. Related c n s l kept1) (sym (z.1 w.0 t1 own)) (related_agree c n s names kept kept1 w.2 r), λ tail q names2 t2 h. goes_behind_line own h)
 
   -- a line for each handle that is bound
-  emits_one : (k h : ℕ) (s : Handles) (names : Scope) (kept kept1 : Kept) (t t1 : List Event) → Related c n s names kept → MayEmitAll c n k (h ∷ []) s → emit c (h ∷ []) kept t ≡ Done kept1 t1 → (names1 : Scope) × Related c n (after_one (naming c n) k h s) names1 kept1 × ((tail : Lines) → Leads (lets (naming c n) k (h ∷ []) s tail) (behind_lines (let_count c.function (h ∷ []))) names t tail names1 t1)
+  emits_one : (k h : ℕ) (s : Handles) (names : Scope) (kept kept1 : KeptValues) (t t1 : List Event) → Related c n s names kept → MayEmitAll c n k (h ∷ []) s → emit c (h ∷ []) kept t ≡ Done kept1 t1 → (names1 : Scope) × Related c n (after_one (naming c n) k h s) names1 kept1 × ((tail : Lines) → Leads (lets (naming c n) k (h ∷ []) s tail) (behind_lines (let_count c.function (h ∷ []))) names t tail names1 t1)
   emits_one k h s names kept kept1 t t1 r m e =
-      let f = λ (kept1 : Kept) (t1 : List Event). Done kept1 t1 in
+      let f = λ (kept1 : KeptValues) (t1 : List Event). Done kept1 t1 in
       let s1 = after_one (naming c n) k h s in
       let w = both_done (emit_alike p c n d given (λ o. Unit {0}) (λ k l. Related c n s1 l k) (λ k l. Unit {0}) (λ k l. Unit {0}) bound f last k (h ∷ []) s names kept t r m (λ kept1 names1 t1 r1 a1. done r1)) kept1 t1 (ap (λ o. and_then o f) e) in
       (w.0, w.2, λ tail. go (binds c.function h) tail w.0 w.1)
@@ -195,14 +196,14 @@ module _ (p : Module) (c : Call) (n : Names) (d : Respond) (given : Given p c n 
       x = bound_name (naming c n) k h
 
       own : Tree
-      own = value_form (own_form (naming c n) (written (naming c n) s) (handle_type c.function h) (expression_of c.function h))
+      own = value_form (own_form (naming c n) (written_form (naming c n) s) (handle_type c.function h) (expression_of c.function h))
 
       go : (b : Bool) (tail : Lines) (names1 : Scope) → follow_all (words c d) bound (let_if b x own last) names t ≡ Done names1 t1 → Leads (let_if b x own tail) (behind_lines (cond b 1 0)) names t tail names1 t1
       go true tail names1 e q names2 t2 h = goes_behind_line (sym (then_done (follow (words c d) bound (Let x own) names t)) ∙ e) h
       go false tail names1 e q names2 t2 h =
           subst (λ l. Text tail q l t names2 t2) (sym (same_state names names1 t t1 e)) (subst (λ e. Text tail q names1 e names2 t2) (sym (same_events names names1 t t1 e)) h)
 
-  emits_all : (k : ℕ) (hs : List ℕ) (s : Handles) (names : Scope) (kept kept1 : Kept) (t t1 : List Event) → Related c n s names kept → MayEmitAll c n k hs s → emit c hs kept t ≡ Done kept1 t1 → (names1 : Scope) × Related c n (after_emit (naming c n) k hs s) names1 kept1 × ((tail : Lines) → Leads (lets (naming c n) k hs s tail) (behind_lines (let_count c.function hs)) names t tail names1 t1)
+  emits_all : (k : ℕ) (hs : List ℕ) (s : Handles) (names : Scope) (kept kept1 : KeptValues) (t t1 : List Event) → Related c n s names kept → MayEmitAll c n k hs s → emit c hs kept t ≡ Done kept1 t1 → (names1 : Scope) × Related c n (after_emit (naming c n) k hs s) names1 kept1 × ((tail : Lines) → Leads (lets (naming c n) k hs s tail) (behind_lines (let_count c.function hs)) names t tail names1 t1)
   emits_all k [] s names kept kept1 t t1 r m e =
       (names, subst (λ k. Related c n s names k) (same_state kept kept1 t t1 e) r, λ tail q names2 t2 h. subst (λ e. Text tail q names e names2 t2) (sym (same_events kept kept1 t t1 e)) h)
   emits_all k (h ∷ hs) s names kept kept1 t t1 r m e =
@@ -214,7 +215,7 @@ module _ (p : Module) (c : Call) (n : Names) (d : Respond) (given : Given p c n 
       (rest.0, rest.1, λ tail q names2 t2 there. subst (λ q. Text (lets (naming c n) k (h ∷ hs) s tail) q names t names2 t2) (one_more_line (binds c.function h) (let_count c.function hs) q) (one.2 (lets (naming c n) k1 hs s1 tail) (behind_lines (let_count c.function hs) q) names2 t2 (rest.2 tail q names2 t2 there)))
 
   -- a line for each word of a barrier
-  asks_all : (ws : List Bytes) (s : Handles) (names : Scope) (kept kept1 : Kept) (t t1 : List Event) → Related c n s names kept → EachAsks p (naming c n) ws → ask_each ws kept t ≡ Done kept1 t1 → (kept1 ≡ kept) × ((tail : Lines) → Leads (perform_each ws tail) (behind_lines (length ws)) names t tail names t1)
+  asks_all : (ws : List Bytes) (s : Handles) (names : Scope) (kept kept1 : KeptValues) (t t1 : List Event) → Related c n s names kept → EachAsks p (naming c n) ws → ask_each ws kept t ≡ Done kept1 t1 → (kept1 ≡ kept) × ((tail : Lines) → Leads (perform_each ws tail) (behind_lines (length ws)) names t tail names t1)
   asks_all [] s names kept kept1 t t1 r m e =
       (sym (same_state kept kept1 t t1 e), λ tail q names2 t2 h. subst (λ e. Text tail q names e names2 t2) (sym (same_events kept kept1 t t1 e)) h)
   asks_all (w ∷ ws) s names kept kept1 t t1 r m e =
@@ -223,7 +224,7 @@ module _ (p : Module) (c : Call) (n : Names) (d : Respond) (given : Given p c n 
       (rest.0, λ tail q names2 t2 h. goes_behind_line (ap (λ q. perform_outcome names q) asked) (rest.1 tail q names2 t2 h))
 
   -- the text's run gets behind each statement that the module's run gets behind
-  goes_on : (st : Statement) (k : ℕ) (s : Handles) (names : Scope) (kept kept1 : Kept) (t t1 : List Event) → Related c n s names kept → Fits p c n k st s → run c bound st kept t ≡ Done kept1 t1 → Behind k st s names t kept1 t1
+  goes_on : (st : Statement) (k : ℕ) (s : Handles) (names : Scope) (kept kept1 : KeptValues) (t t1 : List Event) → Related c n s names kept → Fits p c n k st s → run c bound st kept t ≡ Done kept1 t1 → Behind k st s names t kept1 t1
   goes_on (Emit first count) k s names kept kept1 t t1 r m e = emits_all k (from first count) s names kept kept1 t t1 r m e
   goes_on (Barrier bits) k s names kept kept1 t t1 r m e =
       let w = asks_all (barrier_words bits) s names kept kept1 t t1 r m e in
@@ -265,7 +266,7 @@ module _ (p : Module) (c : Call) (n : Names) (d : Respond) (given : Given p c n 
       form_all (naming c n) (given_in c.function st g k) (statements_in st g) (handles_in (naming c n) k st g s)
 
   -- the text's run is in front of a region
-  abbrev Enters : ℕ → Statement → Region → Handles → Scope → List Event → Kept → List Event → Type 0
+  abbrev Enters : ℕ → Statement → Region → Handles → Scope → List Event → KeptValues → List Event → Type 0
   Enters k st g s names t kept1 t1 =
       (names1 : Scope) × Related c n (handles_in (naming c n) k st g s) names1 kept1 × FitsAll p c n (given_in c.function st g k) (statements_in st g) (handles_in (naming c n) k st g s) × ((tail : Lines) (q : Point) (names2 : Scope) (t2 : List Event) → Text (Written_in k st g s) q names1 t1 names2 t2 → Text (form (naming c n) k st s tail) (inside (region_in_text st g) q) names t names2 t2)
 
@@ -279,7 +280,7 @@ module _ (p : Module) (c : Call) (n : Names) (d : Respond) (given : Given p c n 
       go (goes_inside_line {x = x} {ls = rest} a b) e = absurd (some_line x rest e)
 
   -- the value of a handle in scope, by the text
-  value_there : (s : Handles) (names : Scope) (kept : Kept) (t : List Event) (h : ℕ) (v : Value) → Related c n s names kept → IsTrue (usable c.function s h) → used_value c kept h ≡ Some v → value_of (words c d) (value_at (naming c n) s h) names t ≡ Gives v t
+  value_there : (s : Handles) (names : Scope) (kept : KeptValues) (t : List Event) (h : ℕ) (v : Value) → Related c n s names kept → IsTrue (usable c.function s h) → used_value c kept h ≡ Some v → value_of (words c d) (value_at (naming c n) s h) names t ≡ Gives v t
   value_there s names kept t h v r u e = value_here p c n d given s names kept r h u t ∙ ap (λ o. reach o t) e
 
   -- the labels that wait in front of a case, and its own
@@ -315,11 +316,11 @@ module _ (p : Module) (c : Call) (n : Names) (d : Respond) (given : Given p c n 
   found_here l (then st ss) true cs k labels s x e m = absurd m.0
 
   -- a case that falls through is empty
-  nothing_done : (b : Statements) (cs : Cases) (kept kept1 : Kept) (t t1 : List Event) → FallsFrom true b cs → run_all c bound b kept t ≡ Done kept1 t1 → (kept1 ≡ kept) × (t1 ≡ t)
+  nothing_done : (b : Statements) (cs : Cases) (kept kept1 : KeptValues) (t t1 : List Event) → FallsFrom true b cs → run_all c bound b kept t ≡ Done kept1 t1 → (kept1 ≡ kept) × (t1 ≡ t)
   nothing_done end cs kept kept1 t t1 m e = (sym (same_state kept kept1 t t1 e), sym (same_events kept kept1 t t1 e))
   nothing_done (then st ss) cs kept kept1 t t1 m e = absurd m
 
-  falls_to : {cs : Cases} {i : ℕ} {kept kept1 : Kept} {t t1 : List Event} → FallsTo c bound cs i kept t kept1 t1 → (k : ℕ) (labels : List Label) (s : Handles) (x : Label) → Awaited x labels cs → FitsCases p c n k cs s → Found k labels cs s x i × (kept1 ≡ kept) × (t1 ≡ t)
+  falls_to : {cs : Cases} {i : ℕ} {kept kept1 : KeptValues} {t t1 : List Event} → FallsTo c bound cs i kept t kept1 t1 → (k : ℕ) (labels : List Label) (s : Handles) (x : Label) → Awaited x labels cs → FitsCases p c n k cs s → Found k labels cs s x i × (kept1 ≡ kept) × (t1 ≡ t)
   falls_to (this_case {l = l} {b = b} {falls = falls} {cs = cs}) k labels s x e m =
       (found_here l b falls cs k labels s x e m, refl, refl)
   falls_to (next_case {l = l} {b = b} {cs = cs} {kept = kept} {kept1 = kept1} {t = t} {t1 = t1} q rest) k labels s x e m =
@@ -327,7 +328,7 @@ module _ (p : Module) (c : Call) (n : Names) (d : Respond) (given : Given p c n 
       let w = falls_to rest (given_by_all c.function b k) (labels ++ l ∷ []) s x (awaited_more x (labels ++ l ∷ []) b cs m.0 e) m.2 in
       (w.0, w.1 ∙ first.0, w.2 ∙ first.1)
 
-  comes_to : {x : Label} {cs : Cases} {i : ℕ} {kept kept1 : Kept} {t t1 : List Event} → ComesToCase c bound x cs i kept t kept1 t1 → (k : ℕ) (labels : List Label) (s : Handles) → among x labels ≡ false → FitsCases p c n k cs s → Found k labels cs s x i × (kept1 ≡ kept) × (t1 ≡ t)
+  comes_to : {x : Label} {cs : Cases} {i : ℕ} {kept kept1 : KeptValues} {t t1 : List Event} → ComesToCase c bound x cs i kept t kept1 t1 → (k : ℕ) (labels : List Label) (s : Handles) → among x labels ≡ false → FitsCases p c n k cs s → Found k labels cs s x i × (kept1 ≡ kept) × (t1 ≡ t)
   comes_to {x} (own_case {l = l} q rest) k labels s e m =
       falls_to rest k labels s x (among_append x labels l ∙ or_right (among x labels) (same_label x l) q) m
   comes_to {x} (other_case {l = l} {b = b} {falls = false} q rest) k labels s e m =
@@ -363,7 +364,7 @@ module _ (p : Module) (c : Call) (n : Names) (d : Respond) (given : Given p c n 
     Turn = text_turn (words c d) bound Body_lines Continuing_lines (value_if (naming c n) S2 e)
 
     -- turns that are done
-    turns_go : (j : ℕ) (names : Scope) (kept kept1 : Kept) (t t1 : List Event) → Related c n s names kept → after_turns (module_turn c bound b b2 e) j kept t ≡ Done kept1 t1 → (names1 : Scope) × (after_turns Turn j names t ≡ Done names1 t1) × Related c n s names1 kept1
+    turns_go : (j : ℕ) (names : Scope) (kept kept1 : KeptValues) (t t1 : List Event) → Related c n s names kept → after_turns (module_turn c bound b b2 e) j kept t ≡ Done kept1 t1 → (names1 : Scope) × (after_turns Turn j names t ≡ Done names1 t1) × Related c n s names1 kept1
     turns_go zero names kept kept1 t t1 r q =
         (names, ap (λ e. Done names e) (same_events kept kept1 t t1 q), subst (λ k. Related c n s names k) (same_state kept kept1 t t1 q) r)
     turns_go (suc j) names kept kept1 t t1 r q =
@@ -374,19 +375,19 @@ module _ (p : Module) (c : Call) (n : Names) (d : Respond) (given : Given p c n 
         (rest.0, one_more_turn Turn j names one.0 t parts.1 (Done rest.0 t1) one.1 rest.1, rest.2)
 
     -- the end of the body, or a `continue`
-    body_goes : (names : Scope) (kept kept1 : Kept) (t t1 : List Event) → Related c n s names kept → and_continue (run_all c bound b kept t) (λ s t. Done s t) ≡ Done kept1 t1 → (names1 : Scope) × (and_continue (follow_all (words c d) bound Body_lines names t) (λ s t. Done s t) ≡ Done names1 t1) × Related c n S1 names1 kept1
+    body_goes : (names : Scope) (kept kept1 : KeptValues) (t t1 : List Event) → Related c n s names kept → and_continue (run_all c bound b kept t) (λ s t. Done s t) ≡ Done kept1 t1 → (names1 : Scope) × (and_continue (follow_all (words c d) bound Body_lines names t) (λ s t. Done s t) ≡ Done names1 t1) × Related c n S1 names1 kept1
     body_goes names kept kept1 t t1 r q =
         let same = same_all p c n d given bound b k s names kept t r m.0 in
         let both = weaker {P' = λ k l. Related c n S1 l k} {Q' = λ k l. Related c n S1 l k} (λ k l a. a.0) (λ k l a. a.0) (λ k l a. a) same in
         both_done (continue_alike {P' = λ k l. Related c n S1 l k} {Q' = λ k l. Unit {0}} (λ k l t a. done a) both) kept1 t1 q
 
     -- the end of `continuing`
-    continuing_goes : (names : Scope) (kept kept1 : Kept) (t t1 : List Event) → Related c n S1 names kept → run_all c bound b2 kept t ≡ Done kept1 t1 → (names1 : Scope) × (follow_all (words c d) bound Continuing_lines names t ≡ Done names1 t1) × Related c n S2 names1 kept1
+    continuing_goes : (names : Scope) (kept kept1 : KeptValues) (t t1 : List Event) → Related c n S1 names kept → run_all c bound b2 kept t ≡ Done kept1 t1 → (names1 : Scope) × (follow_all (words c d) bound Continuing_lines names t ≡ Done names1 t1) × Related c n S2 names1 kept1
     continuing_goes names kept kept1 t t1 r q =
         let w = both_done (same_all p c n d given bound b2 K1 S1 names kept t r m.1) kept1 t1 q in
         (w.0, w.1, w.2.0)
 
-    in_turn : {g : Region} {kept kept1 : Kept} {t t1 : List Event} → InTurn bound (run_all c bound b) (run_all c bound b2) (module_turn c bound b b2 e) g kept t kept1 t1 → (names : Scope) → Related c n s names kept → (names1 : Scope) × InTurn bound (follow_all (words c d) bound Body_lines) (follow_all (words c d) bound Continuing_lines) Turn g names t names1 t1 × Related c n (handles_in (naming c n) k (Loop b b2 e) g s) names1 kept1 × FitsAll p c n (given_in c.function (Loop b b2 e) g k) (statements_in (Loop b b2 e) g) (handles_in (naming c n) k (Loop b b2 e) g s) × (Written_in k (Loop b b2 e) g s ≡ lines_in (LoopOf Body_lines Continuing_lines (value_if (naming c n) S2 e)) g)
+    in_turn : {g : Region} {kept kept1 : KeptValues} {t t1 : List Event} → InTurn bound (run_all c bound b) (run_all c bound b2) (module_turn c bound b b2 e) g kept t kept1 t1 → (names : Scope) → Related c n s names kept → (names1 : Scope) × InTurn bound (follow_all (words c d) bound Body_lines) (follow_all (words c d) bound Continuing_lines) Turn g names t names1 t1 × Related c n (handles_in (naming c n) k (Loop b b2 e) g s) names1 kept1 × FitsAll p c n (given_in c.function (Loop b b2 e) g k) (statements_in (Loop b b2 e) g) (handles_in (naming c n) k (Loop b b2 e) g s) × (Written_in k (Loop b b2 e) g s ≡ lines_in (LoopOf Body_lines Continuing_lines (value_if (naming c n) S2 e)) g)
     in_turn {kept} {kept1} {t} {t1} (to_body {j = j} lt q) names r =
         let w = turns_go j names kept kept1 t t1 r q in
         (w.0, to_body lt w.1, w.2, m.0, refl)
@@ -400,7 +401,7 @@ module _ (p : Module) (c : Call) (n : Names) (d : Respond) (given : Given p c n 
         (w1.0, to_break_if w.1 w1.1, w1.2, tt, refl)
 
   -- the text's run comes to each region that the module's run comes to
-  enters : {st : Statement} {g : Region} {kept kept1 : Kept} {t t1 : List Event} → Comes c bound st g kept t kept1 t1 → (k : ℕ) (s : Handles) (names : Scope) → Related c n s names kept → Fits p c n k st s → Enters k st g s names t kept1 t1
+  enters : {st : Statement} {g : Region} {kept kept1 : KeptValues} {t t1 : List Event} → Comes c bound st g kept t kept1 t1 → (k : ℕ) (s : Handles) (names : Scope) → Related c n s names kept → Fits p c n k st s → Enters k st g s names t kept1 t1
   enters into_block k s names r m =
       (names, r, m, λ tail q names2 t2 h. goes_inside_line into_braces h)
   enters (into_accept {h = x} {kept = kept} {t = t} e) k s names r m =
@@ -416,7 +417,7 @@ module _ (p : Module) (c : Call) (n : Names) (d : Respond) (given : Given p c n 
       (w.0, w.2, w.3, λ tail q names2 t2 h. goes_inside_line (into_loop_line w.1) (subst (λ ls. Text ls q w.0 t1 names2 t2) w.4 h))
 
   -- some first handles of an Emit
-  emits_some : (i count first k : ℕ) (s : Handles) (names : Scope) (kept kept1 : Kept) (t t1 : List Event) (tail : Lines) → i ≤ count → Related c n s names kept → MayEmitAll c n k (from first count) s → emit c (from first i) kept t ≡ Done kept1 t1 → (names1 : Scope) × Text (lets (naming c n) k (from first count) s tail) (behind_lines (let_count c.function (from first i)) here) names t names1 t1 × Related c n (after_emit (naming c n) k (from first i) s) names1 kept1
+  emits_some : (i count first k : ℕ) (s : Handles) (names : Scope) (kept kept1 : KeptValues) (t t1 : List Event) (tail : Lines) → i ≤ count → Related c n s names kept → MayEmitAll c n k (from first count) s → emit c (from first i) kept t ≡ Done kept1 t1 → (names1 : Scope) × Text (lets (naming c n) k (from first count) s tail) (behind_lines (let_count c.function (from first i)) here) names t names1 t1 × Related c n (after_emit (naming c n) k (from first i) s) names1 kept1
   emits_some i count first k s names kept kept1 t t1 tail le r m e =
       let hs = from (first + i) (count - i) in
       let split = from_split i count first le in
@@ -434,9 +435,9 @@ module _ (p : Module) (c : Call) (n : Names) (d : Respond) (given : Given p c n 
       lets_append : (xs ys : List ℕ) (k : ℕ) (s : Handles) (tail : Lines) → lets (naming c n) k (xs ++ ys) s tail ≡ lets (naming c n) k xs s (lets (naming c n) (given_after_all c.function xs k) ys (after_emit (naming c n) k xs s) tail)
       lets_append [] ys k s tail = refl
       lets_append (x ∷ xs) ys k s tail =
-          ap (let_if (binds c.function x) (bound_name (naming c n) k x) (value_form (own_form (naming c n) (written (naming c n) s) (handle_type c.function x) (expression_of c.function x)))) (lets_append xs ys (given_after c.function x k) (after_one (naming c n) k x s) tail)
+          ap (let_if (binds c.function x) (bound_name (naming c n) k x) (value_form (own_form (naming c n) (written_form (naming c n) s) (handle_type c.function x) (expression_of c.function x)))) (lets_append xs ys (given_after c.function x k) (after_one (naming c n) k x s) tail)
 
-  pub passes : {ss : Statements} {q : Point} {kept kept1 : Kept} {t t1 : List Event} → Passes c bound ss q kept t kept1 t1 → (k : ℕ) (s : Handles) (names : Scope) → Related c n s names kept → FitsAll p c n k ss s → (names1 : Scope) × Text (form_all (naming c n) k ss s) (point_in_text c.function ss q) names t names1 t1 × Related c n (handles_at (naming c n) k ss q s) names1 kept1
+  pub passes : {ss : Statements} {q : Point} {kept kept1 : KeptValues} {t t1 : List Event} → Passes c bound ss q kept t kept1 t1 → (k : ℕ) (s : Handles) (names : Scope) → Related c n s names kept → FitsAll p c n k ss s → (names1 : Scope) × Text (form_all (naming c n) k ss s) (point_in_text c.function ss q) names t names1 t1 × Related c n (handles_at (naming c n) k ss q s) names1 kept1
   passes is_here k s names r m = (names, is_here_in_text, r)
   passes (goes_behind {st = st} {ss = ss} {q = q} {kept = kept} {kept1 = kept1} {t = t} {t1 = t1} {t2 = t2} e rest) k s names r m =
       let k1 = given_by c.function st k in

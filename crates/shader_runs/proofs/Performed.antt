@@ -6,7 +6,8 @@ use Rattle.shader_runs.specs.Value.{Bytes, PartTypes, ValueType, has_type, Value
 use Rattle.shader_runs.specs.Value.{integer_in, place_in}
 use Rattle.shader_runs.specs.World.{Event, Entry, Ask, Read, Write, entries, World, Meaning}
 use Rattle.shader_runs.specs.World.{Environment, update}
-use Rattle.shader_runs.specs.Outcome.{Outcome, Done, Continued, Broke, Returned, Stopped, Reached}
+use Rattle.shader_runs.specs.Outcome.{Outcome, Done, Continued, Broke, Returned, Stopped}
+use Rattle.shader_runs.specs.Outcome.{ReachedOrHalted}
 use Rattle.shader_runs.specs.Outcome.{Gives, Halts, answer, Next, and_then, and_continue, within}
 use Rattle.shader_runs.specs.Outcome.{turn, and_again, turns, after_switch, branch_by, with_integer}
 use Rattle.shader_runs.specs.Outcome.{or_stuck}
@@ -17,14 +18,16 @@ use Rattle.shader_runs.specs.Program.{Break, Continue, Return, Kill, Barrier, Ac
 use Rattle.shader_runs.specs.Program.{then, Cases, no_case, case, Function, argument_count}
 use Rattle.shader_runs.specs.Program.{expression_of, handle_type, operands_of, is_counted, is_asked}
 use Rattle.shader_runs.specs.Program.{from}
-use Rattle.shader_runs.specs.ProgramRun.{Call, Kept, constant_values, used_value, used_value_as}
+use Rattle.shader_runs.specs.ProgramRun.{Call, KeptValues, constant_values, used_value}
+use Rattle.shader_runs.specs.ProgramRun.{used_value_as}
 use Rattle.shader_runs.specs.ProgramRun.{also, used_values, gathered_value, computed_value}
 use Rattle.shader_runs.specs.ProgramRun.{joined_values, if_typed, keep_typed, after_load}
 use Rattle.shader_runs.specs.ProgramRun.{after_request, if_counted, emit_as, emit, leave}
 use Rattle.shader_runs.specs.ProgramRun.{return_outcome, action_answer, with_result, barrier_words}
 use Rattle.shader_runs.specs.ProgramRun.{ask_each, same_label, has_label, label_if, run, run_all}
 use Rattle.shader_runs.specs.ProgramRun.{run_cases, run_on, constants_kept, with_first, first_used}
-use Rattle.shader_runs.specs.ProgramRun.{first_used_all, entered, run_body, called, run_call}
+use Rattle.shader_runs.specs.ProgramRun.{first_used_all, run_from_entry, run_body}
+use Rattle.shader_runs.specs.ProgramRun.{run_if_arguments_fit, run_call}
 use Rattle.shader_runs.proofs.Process.{Pause, DoneWith, ContinuedWith, BrokeWith, ReturnedWith}
 use Rattle.shader_runs.proofs.Process.{Process, gives, stuck, tells, looks, sequence, answered}
 use Rattle.shader_runs.proofs.Process.{resumed, again, rounds, perform, then_on, continue_on}
@@ -36,116 +39,116 @@ use Rattle.shader_runs.proofs.Process.{statement_process, list_process, cases_pr
 use Rattle.shader_runs.proofs.Process.{body_process, call_in, call_alone, call_process}
 
 -- what a performed process is as an outcome, and as what a call gives
-abbrev outcome : Reached Pause → Outcome Kept
+abbrev outcome : ReachedOrHalted Pause → Outcome KeptValues
 outcome (Gives (DoneWith s) t) = Done s t
 outcome (Gives (ContinuedWith s) t) = Continued s t
 outcome (Gives (BrokeWith s) t) = Broke s t
 outcome (Gives (ReturnedWith v) t) = Returned v t
 outcome (Halts x t) = Stopped x t
 
-abbrev pub call_outcome : Reached Pause → Reached (Option Value)
+abbrev pub call_outcome : ReachedOrHalted Pause → ReachedOrHalted (Option Value)
 call_outcome (Gives x t) = Gives (given_back x) t
 call_outcome (Halts x t) = Halts x t
 
 module _ (w : World) (n : ℕ) where
-  abbrev IsPerformed : (List Event → Outcome Kept) → Process → Type 0
+  abbrev IsPerformed : (List Event → Outcome KeptValues) → Process → Type 0
   IsPerformed f p = (t : List Event) → f t ≡ outcome (perform w n p t)
 
-  abbrev NextPerformed : Next Kept → (Kept → Process) → Type 0
-  NextPerformed f next = (s : Kept) → IsPerformed (f s) (next s)
+  abbrev NextPerformed : Next KeptValues → (KeptValues → Process) → Type 0
+  NextPerformed f next = (s : KeptValues) → IsPerformed (f s) (next s)
 
-  then_performed : (o : Outcome Kept) (p : Process) (t : List Event) (f : Next Kept) (next : Kept → Process) → o ≡ outcome (perform w n p t) → NextPerformed f next → and_then o f ≡ outcome (perform w n (sequence p (then_on next)) t)
+  then_performed : (o : Outcome KeptValues) (p : Process) (t : List Event) (f : Next KeptValues) (next : KeptValues → Process) → o ≡ outcome (perform w n p t) → NextPerformed f next → and_then o f ≡ outcome (perform w n (sequence p (then_on next)) t)
   then_performed o p t f next e h = ap (λ o. and_then o f) e ∙ go (perform w n p t)
     where
-      go : (q : Reached Pause) → and_then (outcome q) f ≡ outcome (resumed q (λ x e. perform w n (then_on next x) e))
+      go : (q : ReachedOrHalted Pause) → and_then (outcome q) f ≡ outcome (resumed q (λ x e. perform w n (then_on next x) e))
       go (Gives (DoneWith s) e) = h s e
       go (Gives (ContinuedWith s) e) = refl
       go (Gives (BrokeWith s) e) = refl
       go (Gives (ReturnedWith v) e) = refl
       go (Halts x e) = refl
 
-  continue_performed : (o : Outcome Kept) (p : Process) (t : List Event) (f : Next Kept) (next : Kept → Process) → o ≡ outcome (perform w n p t) → NextPerformed f next → and_continue o f ≡ outcome (perform w n (sequence p (continue_on next)) t)
+  continue_performed : (o : Outcome KeptValues) (p : Process) (t : List Event) (f : Next KeptValues) (next : KeptValues → Process) → o ≡ outcome (perform w n p t) → NextPerformed f next → and_continue o f ≡ outcome (perform w n (sequence p (continue_on next)) t)
   continue_performed o p t f next e h = ap (λ o. and_continue o f) e ∙ go (perform w n p t)
     where
-      go : (q : Reached Pause) → and_continue (outcome q) f ≡ outcome (resumed q (λ x e. perform w n (continue_on next x) e))
+      go : (q : ReachedOrHalted Pause) → and_continue (outcome q) f ≡ outcome (resumed q (λ x e. perform w n (continue_on next x) e))
       go (Gives (DoneWith s) e) = h s e
       go (Gives (ContinuedWith s) e) = h s e
       go (Gives (BrokeWith s) e) = refl
       go (Gives (ReturnedWith v) e) = refl
       go (Halts x e) = refl
 
-  within_performed : (o : Outcome Kept) (p : Process) (t : List Event) → o ≡ outcome (perform w n p t) → within o ≡ outcome (perform w n (sequence p inside) t)
+  within_performed : (o : Outcome KeptValues) (p : Process) (t : List Event) → o ≡ outcome (perform w n p t) → within o ≡ outcome (perform w n (sequence p inside) t)
   within_performed o p t e = ap within e ∙ go (perform w n p t)
     where
-      go : (q : Reached Pause) → within (outcome q) ≡ outcome (resumed q (λ x e. perform w n (inside x) e))
+      go : (q : ReachedOrHalted Pause) → within (outcome q) ≡ outcome (resumed q (λ x e. perform w n (inside x) e))
       go (Gives (DoneWith s) e) = refl
       go (Gives (ContinuedWith s) e) = refl
       go (Gives (BrokeWith s) e) = refl
       go (Gives (ReturnedWith v) e) = refl
       go (Halts x e) = refl
 
-  switch_performed : (o : Outcome Kept) (p : Process) (t : List Event) → o ≡ outcome (perform w n p t) → after_switch o ≡ outcome (perform w n (sequence p behind_switch) t)
+  switch_performed : (o : Outcome KeptValues) (p : Process) (t : List Event) → o ≡ outcome (perform w n p t) → after_switch o ≡ outcome (perform w n (sequence p behind_switch) t)
   switch_performed o p t e = ap after_switch e ∙ go (perform w n p t)
     where
-      go : (q : Reached Pause) → after_switch (outcome q) ≡ outcome (resumed q (λ x e. perform w n (behind_switch x) e))
+      go : (q : ReachedOrHalted Pause) → after_switch (outcome q) ≡ outcome (resumed q (λ x e. perform w n (behind_switch x) e))
       go (Gives (DoneWith s) e) = refl
       go (Gives (ContinuedWith s) e) = refl
       go (Gives (BrokeWith s) e) = refl
       go (Gives (ReturnedWith v) e) = refl
       go (Halts x e) = refl
 
-  turns_performed : (once : Next Kept) (next : Kept → Process) → NextPerformed once next → (j : ℕ) (s : Kept) (t : List Event) → turns j once s t ≡ outcome (rounds j (λ s e. perform w n (next s) e) s t)
+  turns_performed : (once : Next KeptValues) (next : KeptValues → Process) → NextPerformed once next → (j : ℕ) (s : KeptValues) (t : List Event) → turns j once s t ≡ outcome (rounds j (λ s e. perform w n (next s) e) s t)
   turns_performed once next h zero s t = refl
   turns_performed once next h (suc j) s t =
       ap (λ o. and_again o (turns j once)) (h s t) ∙ go (perform w n (next s) t) (turns_performed once next h j)
     where
-      go : (q : Reached Pause) → ((s : Kept) (t : List Event) → turns j once s t ≡ outcome (rounds j (λ s e. perform w n (next s) e) s t)) → and_again (outcome q) (turns j once) ≡ outcome (resumed q (again (rounds j (λ s e. perform w n (next s) e))))
+      go : (q : ReachedOrHalted Pause) → ((s : KeptValues) (t : List Event) → turns j once s t ≡ outcome (rounds j (λ s e. perform w n (next s) e) s t)) → and_again (outcome q) (turns j once) ≡ outcome (resumed q (again (rounds j (λ s e. perform w n (next s) e))))
       go (Gives (DoneWith s) e) rest = rest s e
       go (Gives (ContinuedWith s) e) rest = refl
       go (Gives (BrokeWith s) e) rest = refl
       go (Gives (ReturnedWith v) e) rest = refl
       go (Halts x e) rest = refl
 
-  there_performed : {A : Type 0} (o o' : Option A) (t : List Event) (go : A → Outcome Kept) (p : A → Process) → o ≡ o' → ((a : A) → go a ≡ outcome (perform w n (p a) t)) → or_stuck o t go ≡ outcome (perform w n (on_there o' p) t)
+  there_performed : {A : Type 0} (o o' : Option A) (t : List Event) (go : A → Outcome KeptValues) (p : A → Process) → o ≡ o' → ((a : A) → go a ≡ outcome (perform w n (p a) t)) → or_stuck o t go ≡ outcome (perform w n (on_there o' p) t)
   there_performed {A} o o' t go p e h = ap (λ o. or_stuck o t go) e ∙ at o'
     where
       at : (o : Option A) → or_stuck o t go ≡ outcome (perform w n (on_there o p) t)
       at None = refl
       at (Some a) = h a
 
-  if_performed : (b : Bool) (t : List Event) (o o' : Outcome Kept) (p q : Process) → o ≡ outcome (perform w n p t) → o' ≡ outcome (perform w n q t) → cond b o o' ≡ outcome (perform w n (if_true b p q) t)
+  if_performed : (b : Bool) (t : List Event) (o o' : Outcome KeptValues) (p q : Process) → o ≡ outcome (perform w n p t) → o' ≡ outcome (perform w n q t) → cond b o o' ≡ outcome (perform w n (if_true b p q) t)
   if_performed true t o o' p q h k = h
   if_performed false t o o' p q h k = k
 
-  chosen_performed : (v : Value) (t : List Event) (a b : Outcome Kept) (p q : Process) → a ≡ outcome (perform w n p t) → b ≡ outcome (perform w n q t) → branch_by v t a b ≡ outcome (perform w n (on_truth v p q) t)
+  chosen_performed : (v : Value) (t : List Event) (a b : Outcome KeptValues) (p q : Process) → a ≡ outcome (perform w n p t) → b ≡ outcome (perform w n q t) → branch_by v t a b ≡ outcome (perform w n (on_truth v p q) t)
   chosen_performed v t a b p q h k =
       there_performed (truth_in v) (truth_in v) t _ (λ y. if_true y p q) refl (λ y. if_performed y t a b p q h k)
 
-  keeping_performed : (parts : PartTypes) (k : ValueType) (h : ℕ) (r : Event) (kept : Kept) (t : List Event) → keep_typed parts k h (w t r) kept (r ∷ t) ≡ outcome (perform w n (keeping parts k h r kept) t)
+  keeping_performed : (parts : PartTypes) (k : ValueType) (h : ℕ) (r : Event) (kept : KeptValues) (t : List Event) → keep_typed parts k h (w t r) kept (r ∷ t) ≡ outcome (perform w n (keeping parts k h r kept) t)
   keeping_performed parts k h r kept t = go (has_type parts k (w t r))
     where
       go : (b : Bool) → if_typed b (r ∷ t) (Done (update kept h (Some (w t r))) (r ∷ t)) ≡ outcome (answered b (r ∷ t) (Gives (DoneWith (update kept h (Some (w t r)))) (r ∷ t)))
       go true = refl
       go false = refl
 
-  load_performed : (parts : PartTypes) (k : ValueType) (h : ℕ) (kept : Kept) (t : List Event) (o : Option Value) → after_load parts k w h o kept t ≡ outcome (perform w n (load_process parts k h kept o) t)
+  load_performed : (parts : PartTypes) (k : ValueType) (h : ℕ) (kept : KeptValues) (t : List Event) (o : Option Value) → after_load parts k w h o kept t ≡ outcome (perform w n (load_process parts k h kept o) t)
   load_performed parts k h kept t None = refl
   load_performed parts k h kept t (Some v) =
       there_performed (place_in v) (place_in v) t _ (λ p. keeping parts k h (Read p) kept) refl (λ p. keeping_performed parts k h (Read p) kept t)
 
-  ask_performed : (parts : PartTypes) (k : ValueType) (h : ℕ) (word : Bytes) (kept : Kept) (t : List Event) (o : Option (List Value)) → after_request parts k w h word o kept t ≡ outcome (perform w n (ask_process parts k h word kept o) t)
+  ask_performed : (parts : PartTypes) (k : ValueType) (h : ℕ) (word : Bytes) (kept : KeptValues) (t : List Event) (o : Option (List Value)) → after_request parts k w h word o kept t ≡ outcome (perform w n (ask_process parts k h word kept o) t)
   ask_performed parts k h word kept t None = refl
   ask_performed parts k h word kept t (Some vs) = keeping_performed parts k h (Ask word vs) kept t
 
-  counted_performed : (b : Bool) (f : Next Kept) (kept : Kept) (t : List Event) (p : Process) → f kept t ≡ outcome (perform w n p t) → if_counted b f kept t ≡ outcome (perform w n (if_true b p (gives (DoneWith kept))) t)
+  counted_performed : (b : Bool) (f : Next KeptValues) (kept : KeptValues) (t : List Event) (p : Process) → f kept t ≡ outcome (perform w n p t) → if_counted b f kept t ≡ outcome (perform w n (if_true b p (gives (DoneWith kept))) t)
   counted_performed true f kept t p h = h
   counted_performed false f kept t p h = refl
 
-  asks_performed : (words : List Bytes) (kept : Kept) (t : List Event) → ask_each words kept t ≡ outcome (perform w n (asks_process words kept) t)
+  asks_performed : (words : List Bytes) (kept : KeptValues) (t : List Event) → ask_each words kept t ≡ outcome (perform w n (asks_process words kept) t)
   asks_performed [] kept t = refl
   asks_performed (word ∷ words) kept t = asks_performed words kept (Ask word [] ∷ t)
 
-  module _ (f : Function) (fs : List Function) (env : Environment) (m : Meaning) (vs : List Value) (frame : ℕ) (calls : ℕ → List Value → List Event → Reached (Option Value)) (callees : ℕ → List Value → Process) (calls_performed : (g : ℕ) (us : List Value) (t : List Event) → calls g us t ≡ call_outcome (perform w n (callees g us) t)) where
+  module _ (f : Function) (fs : List Function) (env : Environment) (m : Meaning) (vs : List Value) (frame : ℕ) (calls : ℕ → List Value → List Event → ReachedOrHalted (Option Value)) (callees : ℕ → List Value → Process) (calls_performed : (g : ℕ) (us : List Value) (t : List Event) → calls g us t ≡ call_outcome (perform w n (callees g us) t)) where
     abbrev c : Call
     c = call_in f fs env m vs frame w calls
 
@@ -157,18 +160,18 @@ module _ (w : World) (n : ℕ) where
     used_as_alone (Some (Constant e)) o = refl
     used_as_alone (Some _) o = refl
 
-    used_alone : (kept : Kept) (h : ℕ) → used_value c kept h ≡ used_value alone kept h
+    used_alone : (kept : KeptValues) (h : ℕ) → used_value c kept h ≡ used_value alone kept h
     used_alone kept h = used_as_alone (expression_of f h) (kept h)
 
-    used_all_alone : (kept : Kept) (xs : List ℕ) → used_values c kept xs ≡ used_values alone kept xs
+    used_all_alone : (kept : KeptValues) (xs : List ℕ) → used_values c kept xs ≡ used_values alone kept xs
     used_all_alone kept [] = refl
     used_all_alone kept (x ∷ xs) = ap₂ also (used_alone kept x) (used_all_alone kept xs)
 
-    computed_performed : (h : ℕ) (e : Option Expression) (kept : Kept) (t : List Event) → Done (update kept h (computed_value c kept e)) t ≡ Done (update kept h (computed_value alone kept e)) t
+    computed_performed : (h : ℕ) (e : Option Expression) (kept : KeptValues) (t : List Event) → Done (update kept h (computed_value c kept e)) t ≡ Done (update kept h (computed_value alone kept e)) t
     computed_performed h e kept t =
         ap (λ o. Done (update kept h (gathered_value m e o)) t) (used_all_alone kept (operands_of e))
 
-    one_performed : (h : ℕ) (e : Option Expression) (kept : Kept) (t : List Event) → emit_as c h e kept t ≡ outcome (perform w n (emit_one alone callees h e kept) t)
+    one_performed : (h : ℕ) (e : Option Expression) (kept : KeptValues) (t : List Event) → emit_as c h e kept t ≡ outcome (perform w n (emit_one alone callees h e kept) t)
     one_performed h (Some (Load p)) kept t =
         counted_performed (is_counted f 1 h) (after_load env.parts (handle_type f h) w h (used_value c kept p)) kept t (load_process env.parts (handle_type f h) h kept (used_value alone kept p)) (ap (λ o. after_load env.parts (handle_type f h) w h o kept t) (used_alone kept p) ∙ load_performed env.parts (handle_type f h) h kept t (used_value alone kept p))
     one_performed h (Some (Request a word xs es)) kept t =
@@ -186,7 +189,7 @@ module _ (w : World) (n : ℕ) where
     emit_performed (h ∷ hs) kept t =
         then_performed (emit_as c h (expression_of f h) kept t) (emit_one alone callees h (expression_of f h) kept) t (emit c hs) (emit_process alone callees hs) (one_performed h (expression_of f h) kept t) (emit_performed hs)
 
-    act_performed : (a : Action) (r : Option ℕ) (kept : Kept) (us : List Value) (t : List Event) → with_result env.parts f a r kept (action_answer c a us t) ≡ outcome (perform w n (act_process alone callees a r kept us) t)
+    act_performed : (a : Action) (r : Option ℕ) (kept : KeptValues) (us : List Value) (t : List Event) → with_result env.parts f a r kept (action_answer c a us t) ≡ outcome (perform w n (act_process alone callees a r kept us) t)
     act_performed (Asked word) None kept us t = refl
     act_performed (Asked word) (Some h) kept us t = keeping_performed env.parts (handle_type f h) h (Ask word us) kept t
     act_performed (Called g) r kept us t =
@@ -201,7 +204,7 @@ module _ (w : World) (n : ℕ) where
         halted None x e = refl
         halted (Some h) x e = refl
 
-        go : (r : Option ℕ) (q : Reached Pause) → with_result env.parts f (Called g) r kept (call_outcome q) ≡ outcome (resumed q (λ x e. perform w n (result_process r kept (given_back x)) e))
+        go : (r : Option ℕ) (q : ReachedOrHalted Pause) → with_result env.parts f (Called g) r kept (call_outcome q) ≡ outcome (resumed q (λ x e. perform w n (result_process r kept (given_back x)) e))
         go r (Gives x e) = given r (given_back x) e
         go r (Halts x e) = halted r x e
 
@@ -250,35 +253,35 @@ module _ (w : World) (n : ℕ) where
       on_performed (case l b falls ks) kept t =
           then_performed (run_all c n b kept t) (list_process alone callees b kept) t (λ s e. cond falls (run_on c n ks s e) (Done s e)) (λ s. if_true falls (on_process alone callees ks s) (gives (DoneWith s))) (list_performed b kept t) (λ s e. if_performed falls e (run_on c n ks s e) (Done s e) (on_process alone callees ks s) (gives (DoneWith s)) (on_performed ks s e) refl)
 
-    first_alone : (kept : Kept) (o : Option ℕ) → first_used c kept o ≡ first_used alone kept o
+    first_alone : (kept : KeptValues) (o : Option ℕ) → first_used c kept o ≡ first_used alone kept o
     first_alone kept None = refl
     first_alone kept (Some h) = ap (option_map Some) (used_alone kept h)
 
-    firsts_alone : (kept : Kept) (os : List (Option ℕ)) → first_used_all c kept os ≡ first_used_all alone kept os
+    firsts_alone : (kept : KeptValues) (os : List (Option ℕ)) → first_used_all c kept os ≡ first_used_all alone kept os
     firsts_alone kept [] = refl
     firsts_alone kept (o ∷ os) = ap₂ with_first (first_alone kept o) (firsts_alone kept os)
 
     body_performed : (g : ℕ) (t : List Event) → run_body c n g vs t ≡ call_outcome (perform w n (body_process alone callees g vs) t)
     body_performed g t =
-        ap (λ o. entered g vs o t (λ t1. answer (run_all c n f.body (constants_kept f env m) t1))) (firsts_alone (constants_kept f env m) f.first_values) ∙ go (first_used_all alone (constants_kept f env m) f.first_values)
+        ap (λ o. run_from_entry g vs o t (λ t1. answer (run_all c n f.body (constants_kept f env m) t1))) (firsts_alone (constants_kept f env m) f.first_values) ∙ go (first_used_all alone (constants_kept f env m) f.first_values)
       where
-        answers : (q : Reached Pause) → answer (outcome q) ≡ call_outcome (resumed q (λ x e. perform w n (answers_call x) e))
+        answers : (q : ReachedOrHalted Pause) → answer (outcome q) ≡ call_outcome (resumed q (λ x e. perform w n (answers_call x) e))
         answers (Gives (DoneWith s) e) = refl
         answers (Gives (ContinuedWith s) e) = refl
         answers (Gives (BrokeWith s) e) = refl
         answers (Gives (ReturnedWith v) e) = refl
         answers (Halts x e) = refl
 
-        go : (o : Option (List (Option Value))) → entered g vs o t (λ t1. answer (run_all c n f.body (constants_kept f env m) t1)) ≡ call_outcome (perform w n (entry_process g vs o (sequence (list_process alone callees f.body (constants_kept f env m)) answers_call)) t)
+        go : (o : Option (List (Option Value))) → run_from_entry g vs o t (λ t1. answer (run_all c n f.body (constants_kept f env m) t1)) ≡ call_outcome (perform w n (entry_process g vs o (sequence (list_process alone callees f.body (constants_kept f env m)) answers_call)) t)
         go None = refl
         go (Some firsts) =
             ap answer (list_performed f.body (constants_kept f env m) (Entry g vs firsts ∷ t)) ∙ answers (perform w n (list_process alone callees f.body (constants_kept f env m)) (Entry g vs firsts ∷ t))
 
-  picked_performed : (b : Bool) (t : List Event) (q q' : Reached (Option Value)) (p p' : Process) → q ≡ call_outcome (perform w n p t) → q' ≡ call_outcome (perform w n p' t) → cond b q q' ≡ call_outcome (perform w n (if_true b p p') t)
+  picked_performed : (b : Bool) (t : List Event) (q q' : ReachedOrHalted (Option Value)) (p p' : Process) → q ≡ call_outcome (perform w n p t) → q' ≡ call_outcome (perform w n p' t) → cond b q q' ≡ call_outcome (perform w n (if_true b p p') t)
   picked_performed true t q q' p p' h k = h
   picked_performed false t q q' p p' h k = k
 
-  called_performed : (b : Bool) (t : List Event) (q : Reached (Option Value)) (p : Process) → q ≡ call_outcome (perform w n p t) → called b q t ≡ call_outcome (perform w n (if_true b p stuck) t)
+  called_performed : (b : Bool) (t : List Event) (q : ReachedOrHalted (Option Value)) (p : Process) → q ≡ call_outcome (perform w n p t) → run_if_arguments_fit b q t ≡ call_outcome (perform w n (if_true b p stuck) t)
   called_performed true t q p h = h
   called_performed false t q p h = refl
 

@@ -6,11 +6,12 @@ use Rattle.shader_runs.specs.Value.{Bytes}
 use Rattle.shader_runs.specs.World.{Event}
 use Rattle.shader_runs.specs.Program.{Label, Statement, Emit, Barrier, Statements, Cases, no_case}
 use Rattle.shader_runs.specs.Program.{case, expression_of, handle_type, binds, from}
-use Rattle.shader_runs.specs.ProgramRun.{Call, Kept, barrier_words}
+use Rattle.shader_runs.specs.ProgramRun.{Call, KeptValues, barrier_words}
 use Rattle.shader_runs.specs.Text.{Tree, Lines}
 use Rattle.shader_runs.specs.Scope.{Handles, Naming, bound_name, after_one, given_after}
 use Rattle.shader_runs.specs.Scope.{given_after_all, after_emit, given_by, given_by_all, after}
-use Rattle.shader_runs.specs.Form.{written, value_form, own_form, let_if, lets, perform_each, form}
+use Rattle.shader_runs.specs.Form.{written_form, value_form, own_form, let_if, lets, perform_each}
+use Rattle.shader_runs.specs.Form.{form}
 use Rattle.shader_runs.specs.Form.{form_all, form_cases}
 use Rattle.shader_runs.specs.Passes.{Region, Point, here, inside, to_body, to_continuing}
 use Rattle.shader_runs.specs.Passes.{to_break_if, body_at, statements_in, statements_at, Comes}
@@ -42,7 +43,7 @@ module _ (f : Naming) where
   lets_behind (h ∷ hs) k s tail q =
       let k1 = given_after f.function h k in
       let s1 = after_one f k h s in
-      let_behind (binds f.function h) (bound_name f k h) (value_form (own_form f (written f s) (handle_type f.function h) (expression_of f.function h))) (lets f k1 hs s1 tail) (let_count f.function hs) q
+      let_behind (binds f.function h) (bound_name f k h) (value_form (own_form f (written_form f s) (handle_type f.function h) (expression_of f.function h))) (lets f k1 hs s1 tail) (let_count f.function hs) q
       ∙ lets_behind hs k1 s1 tail q
 
   -- behind some first handles of an Emit
@@ -53,7 +54,7 @@ module _ (f : Naming) where
       let s1 = after_one f k h s in
       let hs = xs ++ ys in
       let rest = lets f k1 hs s1 (form_all f (given_after_all f.function hs k1) ss (after_emit f k1 hs s1)) in
-      let_behind (binds f.function h) (bound_name f k h) (value_form (own_form f (written f s) (handle_type f.function h) (expression_of f.function h))) rest (let_count f.function xs) here
+      let_behind (binds f.function h) (bound_name f k h) (value_form (own_form f (written_form f s) (handle_type f.function h) (expression_of f.function h))) rest (let_count f.function xs) here
       ∙ some_behind xs ys k1 s1 ss
 
   performs_behind : (ws : List Bytes) (tail : Lines) (q : Point) → lines_behind (perform_each ws tail) (behind_lines (length ws) q) ≡ lines_behind tail q
@@ -74,7 +75,7 @@ module _ (f : Naming) where
       case_lines cs i (given_by_all f.function b k) (labels ++ l ∷ []) s e
 
   module _ (c : Call) (n : ℕ) where
-    inside_form : {st : Statement} {g : Region} {kept kept1 : Kept} {t t1 : List Event} → Comes c n st g kept t kept1 t1 → (k : ℕ) (s : Handles) (tail : Lines) (q : Point) → region_falls st g ≡ false → lines_behind (form f k st s tail) (inside (region_in_text st g) q) ≡ lines_behind (form_all f (given_in f.function st g k) (statements_in st g) (handles_in f k st g s)) q
+    inside_form : {st : Statement} {g : Region} {kept kept1 : KeptValues} {t t1 : List Event} → Comes c n st g kept t kept1 t1 → (k : ℕ) (s : Handles) (tail : Lines) (q : Point) → region_falls st g ≡ false → lines_behind (form f k st s tail) (inside (region_in_text st g) q) ≡ lines_behind (form_all f (given_in f.function st g k) (statements_in st g) (handles_in f k st g s)) q
     inside_form into_block k s tail q e = refl
     inside_form (into_accept v) k s tail q e = refl
     inside_form (into_reject v) k s tail q e = refl
@@ -84,7 +85,7 @@ module _ (f : Naming) where
     inside_form (into_loop (to_continuing turn there)) k s tail q e = refl
     inside_form (into_loop (to_break_if turn there)) k s tail q e = refl
 
-    pub lines_there : {ss : Statements} {q : Point} {kept kept1 : Kept} {t t1 : List Event} → Passes c n ss q kept t kept1 t1 → (k : ℕ) (s : Handles) → falls_at ss q ≡ false → lines_behind (form_all f k ss s) (point_in_text f.function ss q) ≡ form_all f (given_at f.function k ss q) (statements_at ss q) (handles_at f k ss q s)
+    pub lines_there : {ss : Statements} {q : Point} {kept kept1 : KeptValues} {t t1 : List Event} → Passes c n ss q kept t kept1 t1 → (k : ℕ) (s : Handles) → falls_at ss q ≡ false → lines_behind (form_all f k ss s) (point_in_text f.function ss q) ≡ form_all f (given_at f.function k ss q) (statements_at ss q) (handles_at f k ss q s)
     lines_there is_here k s e = refl
     lines_there (goes_behind {st = st} {ss = ss} {q = q} done rest) k s e =
         let k1 = given_by f.function st k in

@@ -4,7 +4,7 @@ use Rattle.std.proofs.Common.{arith}
 use Rattle.shader_runs.specs.Value.{PartTypes}
 use Rattle.shader_runs.specs.World.{Meaning, Environment}
 use Rattle.shader_runs.specs.Program.{expression_of, handle_type, Module}
-use Rattle.shader_runs.specs.ProgramRun.{Call, Kept}
+use Rattle.shader_runs.specs.ProgramRun.{Call, KeptValues}
 use Rattle.shader_runs.specs.TextRun.{Scope, word_use}
 use Rattle.shader_runs.specs.Scope.{Handles, ModuleNames, Names, Naming, at_start}
 use Rattle.shader_runs.specs.Form.{form_functions, functions_of, form_all}
@@ -25,7 +25,7 @@ use Rattle.shader_runs.proofs.Constants.{environment_fits}
 use Rattle.shader_runs.specs.Passes.{TextPasses, point_in_text}
 use Rattle.shader_runs.specs.Outcome.{reach}
 
-facts_hold : (p : Module) (c : Call) (n : Names) (d : Respond) → Given p c n d → (s : Handles) (names : Scope) (kept : Kept) → Related c n s names kept → FactsHold c (words c d) (naming c n) s kept names
+facts_hold : (p : Module) (c : Call) (n : Names) (d : Respond) → Given p c n d → (s : Handles) (names : Scope) (kept : KeptValues) → Related c n s names kept → FactsHold c (words c d) (naming c n) s kept names
 facts_hold p c n d given s names kept r =
     record {
       named = λ h x e. let q = subst (λ st. Stands c s names kept (handle_type c.function h) (expression_of c.function h) (kept h) st) e (r.standing h) in (q.0.0, q.0.1, q.1 ∙ ap as_denoted q.0.1);

@@ -7,7 +7,8 @@ use Rattle.shader_runs.specs.Value.{integer_in, place_in}
 use Rattle.shader_runs.specs.World.{Event, Entry, Ask, Read, Write, Discard, entries, World}
 use Rattle.shader_runs.specs.World.{Meaning, Environment, update}
 use Rattle.shader_runs.specs.Outcome.{Stuck, Unreturned, OutOfTurns, Discarded, Mistyped, Outcome}
-use Rattle.shader_runs.specs.Outcome.{Done, Continued, Broke, Returned, Stopped, Reached, Gives}
+use Rattle.shader_runs.specs.Outcome.{Done, Continued, Broke, Returned, Stopped, ReachedOrHalted}
+use Rattle.shader_runs.specs.Outcome.{Gives}
 use Rattle.shader_runs.specs.Outcome.{Halts}
 use Rattle.shader_runs.specs.Program.{Expression, Load, Operator, Access, AccessIndex, Logical}
 use Rattle.shader_runs.specs.Program.{Swizzle, Request, Action, Asked, Called, Label, Numbered}
@@ -15,7 +16,7 @@ use Rattle.shader_runs.specs.Program.{Statement, Emit, Store, Block, If, Switch,
 use Rattle.shader_runs.specs.Program.{Continue, Return, Kill, Barrier, Act, Statements, end, then}
 use Rattle.shader_runs.specs.Program.{Cases, no_case, case, Function, argument_count, expression_of}
 use Rattle.shader_runs.specs.Program.{handle_type, is_counted, is_asked, from}
-use Rattle.shader_runs.specs.ProgramRun.{Call, Kept, constant_values, used_value, used_values}
+use Rattle.shader_runs.specs.ProgramRun.{Call, KeptValues, constant_values, used_value, used_values}
 use Rattle.shader_runs.specs.ProgramRun.{computed_value, joined_values, barrier_words, same_label}
 use Rattle.shader_runs.specs.ProgramRun.{has_label, label_if, constants_kept, first_used_all}
 
@@ -26,15 +27,15 @@ events_of (Broke s t) = t
 events_of (Returned v t) = t
 events_of (Stopped x t) = t
 
-abbrev pub reached_events : {A : Type 0} → Reached A → List Event
+abbrev pub reached_events : {A : Type 0} → ReachedOrHalted A → List Event
 reached_events (Gives a t) = t
 reached_events (Halts x t) = t
 
 -- how a process leaves what follows it
 pub data Pause : Type 0 where
-  DoneWith : Kept → Pause
-  ContinuedWith : Kept → Pause
-  BrokeWith : Kept → Pause
+  DoneWith : KeptValues → Pause
+  ContinuedWith : KeptValues → Pause
+  BrokeWith : KeptValues → Pause
   ReturnedWith : Option Value → Pause
 
 -- gives a pause, is stuck, lacks a result or discards; tells an event; wants an answer of a type to
@@ -49,28 +50,28 @@ pub data Process : Type 0 where
   wants : PartTypes → ValueType → Event → (Value → Process) → Process
   looks : (ℕ → Process) → Process
   sequence : Process → (Pause → Process) → Process
-  repeats : (Kept → Process) → Kept → Process
+  repeats : (KeptValues → Process) → KeptValues → Process
 
 -- a process in a world, with at most n turns of each loop
-abbrev pub answered : Bool → List Event → Reached Pause → Reached Pause
+abbrev pub answered : Bool → List Event → ReachedOrHalted Pause → ReachedOrHalted Pause
 answered true t q = q
 answered false t q = Halts Mistyped t
 
-abbrev pub resumed : Reached Pause → (Pause → List Event → Reached Pause) → Reached Pause
+abbrev pub resumed : ReachedOrHalted Pause → (Pause → List Event → ReachedOrHalted Pause) → ReachedOrHalted Pause
 resumed (Gives x t) next = next x t
 resumed (Halts x t) next = Halts x t
 
-abbrev pub again : (Kept → List Event → Reached Pause) → Pause → List Event → Reached Pause
+abbrev pub again : (KeptValues → List Event → ReachedOrHalted Pause) → Pause → List Event → ReachedOrHalted Pause
 again next (DoneWith s) t = next s t
 again next (ContinuedWith s) t = Halts Stuck t
 again next (BrokeWith s) t = Gives (DoneWith s) t
 again next (ReturnedWith v) t = Gives (ReturnedWith v) t
 
-abbrev pub rounds : ℕ → (Kept → List Event → Reached Pause) → Kept → List Event → Reached Pause
+abbrev pub rounds : ℕ → (KeptValues → List Event → ReachedOrHalted Pause) → KeptValues → List Event → ReachedOrHalted Pause
 rounds zero once s t = Halts OutOfTurns t
 rounds (suc n) once s t = resumed (once s t) (again (rounds n once))
 
-abbrev pub perform : World → ℕ → Process → List Event → Reached Pause
+abbrev pub perform : World → ℕ → Process → List Event → ReachedOrHalted Pause
 perform w n (gives x) t = Gives x t
 perform w n stuck t = Halts Stuck t
 perform w n unreturned t = Halts Unreturned t
@@ -82,13 +83,13 @@ perform w n (sequence p next) t = resumed (perform w n p t) (λ x e. perform w n
 perform w n (repeats once s) t = rounds n (λ s e. perform w n (once s) e) s t
 
 -- what a list or a loop's body leaves to what follows it
-abbrev pub then_on : (Kept → Process) → Pause → Process
+abbrev pub then_on : (KeptValues → Process) → Pause → Process
 then_on next (DoneWith s) = next s
 then_on next (ContinuedWith s) = gives (ContinuedWith s)
 then_on next (BrokeWith s) = gives (BrokeWith s)
 then_on next (ReturnedWith v) = gives (ReturnedWith v)
 
-abbrev pub continue_on : (Kept → Process) → Pause → Process
+abbrev pub continue_on : (KeptValues → Process) → Pause → Process
 continue_on next (DoneWith s) = next s
 continue_on next (ContinuedWith s) = next s
 continue_on next (BrokeWith s) = gives (BrokeWith s)
@@ -118,18 +119,18 @@ if_true false p q = q
 abbrev pub on_truth : Value → (accept reject : Process) → Process
 on_truth v a b = on_there (truth_in v) (λ y. if_true y a b)
 
-abbrev pub keeping : PartTypes → ValueType → ℕ → Event → Kept → Process
+abbrev pub keeping : PartTypes → ValueType → ℕ → Event → KeptValues → Process
 keeping parts k h r kept = wants parts k r (λ v. gives (DoneWith (update kept h (Some v))))
 
-abbrev pub load_process : PartTypes → ValueType → ℕ → Kept → Option Value → Process
+abbrev pub load_process : PartTypes → ValueType → ℕ → KeptValues → Option Value → Process
 load_process parts k h kept None = gives (DoneWith (update kept h None))
 load_process parts k h kept (Some v) = on_there (place_in v) (λ p. keeping parts k h (Read p) kept)
 
-abbrev pub ask_process : PartTypes → ValueType → ℕ → Bytes → Kept → Option (List Value) → Process
+abbrev pub ask_process : PartTypes → ValueType → ℕ → Bytes → KeptValues → Option (List Value) → Process
 ask_process parts k h word kept None = gives (DoneWith (update kept h None))
 ask_process parts k h word kept (Some vs) = keeping parts k h (Ask word vs) kept
 
-abbrev pub asks_process : List Bytes → Kept → Process
+abbrev pub asks_process : List Bytes → KeptValues → Process
 asks_process [] kept = gives (DoneWith kept)
 asks_process (word ∷ words) kept = tells (Ask word []) (asks_process words kept)
 
@@ -138,7 +139,7 @@ abbrev pub given_back : Pause → Option Value
 given_back (ReturnedWith v) = v
 given_back _ = None
 
-abbrev pub result_process : Option ℕ → Kept → Option Value → Process
+abbrev pub result_process : Option ℕ → KeptValues → Option Value → Process
 result_process None kept v = gives (DoneWith kept)
 result_process (Some h) kept None = unreturned
 result_process (Some h) kept (Some v) = gives (DoneWith (update kept h (Some v)))
@@ -155,7 +156,7 @@ entry_process g vs (Some firsts) p = tells (Entry g vs firsts) p
 
 -- no process looks at the world and the callees of its call
 module _ (c : Call) (calls : ℕ → List Value → Process) where
-  abbrev pub emit_one : ℕ → Option Expression → Kept → Process
+  abbrev pub emit_one : ℕ → Option Expression → KeptValues → Process
   emit_one h (Some (Load p)) kept =
       if_true (is_counted c.function 1 h) (load_process c.environment.parts (handle_type c.function h) h kept (used_value c kept p)) (gives (DoneWith kept))
   emit_one h (Some (Request a w xs es)) kept =
@@ -167,26 +168,26 @@ module _ (c : Call) (calls : ℕ → List Value → Process) where
   emit_one h (Some (Swizzle l r)) kept = gives (DoneWith (update kept h (computed_value c kept (Some (Swizzle l r)))))
   emit_one h _ kept = gives (DoneWith kept)
 
-  abbrev pub emit_process : List ℕ → Kept → Process
+  abbrev pub emit_process : List ℕ → KeptValues → Process
   emit_process [] kept = gives (DoneWith kept)
   emit_process (h ∷ hs) kept = sequence (emit_one h (expression_of c.function h) kept) (then_on (emit_process hs))
 
-  abbrev pub act_process : Action → Option ℕ → Kept → List Value → Process
+  abbrev pub act_process : Action → Option ℕ → KeptValues → List Value → Process
   act_process (Asked word) None kept vs = tells (Ask word vs) (gives (DoneWith kept))
   act_process (Asked word) (Some h) kept vs = keeping c.environment.parts (handle_type c.function h) h (Ask word vs) kept
   act_process (Called g) r kept vs = sequence (calls g vs) (λ x. result_process r kept (given_back x))
 
-  abbrev pub leave_process : Option ℕ → Kept → Process
+  abbrev pub leave_process : Option ℕ → KeptValues → Process
   leave_process None kept = gives (DoneWith kept)
   leave_process (Some h) kept =
       on_there (used_value c kept h) (λ v. on_truth v (gives (BrokeWith kept)) (gives (DoneWith kept)))
 
-  abbrev pub return_process : Option ℕ → Kept → Process
+  abbrev pub return_process : Option ℕ → KeptValues → Process
   return_process None kept = gives (ReturnedWith None)
   return_process (Some h) kept = on_there (used_value c kept h) (λ v. gives (ReturnedWith (Some v)))
 
   abbrev mutual
-    pub statement_process : Statement → Kept → Process
+    pub statement_process : Statement → KeptValues → Process
     statement_process (Emit first count) kept = emit_process (from first count) kept
     statement_process (Store p v) kept =
         on_there (option_and_then place_in (used_value c kept p)) (λ place. on_there (used_value c kept v) (λ value. tells (Write place value) (gives (DoneWith kept))))
@@ -204,16 +205,16 @@ module _ (c : Call) (calls : ℕ → List Value → Process) where
     statement_process (Barrier bits) kept = asks_process (barrier_words bits) kept
     statement_process (Act a xs r) kept = on_there (used_values c kept xs) (act_process a r kept)
 
-    pub list_process : Statements → Kept → Process
+    pub list_process : Statements → KeptValues → Process
     list_process end kept = gives (DoneWith kept)
     list_process (then s ss) kept = sequence (statement_process s kept) (then_on (list_process ss))
 
-    pub cases_process : Cases → Label → Kept → Process
+    pub cases_process : Cases → Label → KeptValues → Process
     cases_process no_case x kept = gives (DoneWith kept)
     cases_process (case l b falls ks) x kept =
         if_true (same_label x l) (sequence (list_process b kept) (then_on (λ s. if_true falls (on_process ks s) (gives (DoneWith s))))) (cases_process ks x kept)
 
-    pub on_process : Cases → Kept → Process
+    pub on_process : Cases → KeptValues → Process
     on_process no_case kept = gives (DoneWith kept)
     on_process (case l b falls ks) kept =
         sequence (list_process b kept) (then_on (λ s. if_true falls (on_process ks s) (gives (DoneWith s))))
@@ -224,7 +225,7 @@ module _ (c : Call) (calls : ℕ → List Value → Process) where
       entry_process g vs (first_used_all c kept c.function.first_values) (sequence (list_process c.function.body kept) answers_call)
 
 -- a call in a world, or in none
-abbrev pub call_in : Function → List Function → Environment → Meaning → List Value → ℕ → World → (ℕ → List Value → List Event → Reached (Option Value)) → Call
+abbrev pub call_in : Function → List Function → Environment → Meaning → List Value → ℕ → World → (ℕ → List Value → List Event → ReachedOrHalted (Option Value)) → Call
 call_in f fs env m vs frame w calls =
     record { function = f; callees = fs; environment = env; world = w; meaning = m; arguments = vs; frame = frame; calls = calls }
 

@@ -10,10 +10,11 @@ use Rattle.shader_runs.specs.Value.{Bytes, PartTypes, Place, ValueType, has_type
 use Rattle.shader_runs.specs.Value.{Pointer}
 use Rattle.shader_runs.specs.World.{Event, Entry, Ask, Read, World, Meaning, Environment, update}
 use Rattle.shader_runs.specs.Outcome.{Stop, Outcome, Done, Continued, Broke, Returned, Stopped}
-use Rattle.shader_runs.specs.Outcome.{Reached, Gives, Halts, answer, Next, and_then, and_continue}
+use Rattle.shader_runs.specs.Outcome.{ReachedOrHalted, Gives, Halts, answer, Next, and_then}
+use Rattle.shader_runs.specs.Outcome.{and_continue}
 use Rattle.shader_runs.specs.Outcome.{within, and_again, turn, turns, after_switch, branch_by}
 use Rattle.shader_runs.specs.Outcome.{with_integer, or_stuck}
-use Rattle.shader_runs.specs.Program.{Asking, ConstantTrees, Expression, Local, Load, Operator}
+use Rattle.shader_runs.specs.Program.{AskingRule, ConstantTrees, Expression, Local, Load, Operator}
 use Rattle.shader_runs.specs.Program.{Access, AccessIndex, Logical, Swizzle, Request, Action, Asked}
 use Rattle.shader_runs.specs.Program.{Called, Label, Numbered, Statement, Emit, Store, Block, If}
 use Rattle.shader_runs.specs.Program.{Switch, Loop, Break, Continue, Return, Kill, Barrier, Act}
@@ -22,19 +23,21 @@ use Rattle.shader_runs.specs.Program.{argument_count, local_count, function_numb
 use Rattle.shader_runs.specs.Program.{handle_type, operands_of, is_counted, is_asked, binds_as}
 use Rattle.shader_runs.specs.Program.{from, holds_continue, any_continue, some_case_continues}
 use Rattle.shader_runs.specs.Program.{Module}
-use Rattle.shader_runs.specs.ProgramRun.{Call, Kept, constant_values, used_value, used_values}
+use Rattle.shader_runs.specs.ProgramRun.{Call, KeptValues, constant_values, used_value, used_values}
 use Rattle.shader_runs.specs.ProgramRun.{joined_values, computed_value, if_typed, after_load}
 use Rattle.shader_runs.specs.ProgramRun.{after_request, if_counted, emit_as, emit, with_pointer}
 use Rattle.shader_runs.specs.ProgramRun.{leave, return_outcome, action_answer, with_result}
 use Rattle.shader_runs.specs.ProgramRun.{barrier_words, ask_each, same_label, has_label, label_if}
 use Rattle.shader_runs.specs.ProgramRun.{run, run_all, run_cases, run_on, constants_kept}
-use Rattle.shader_runs.specs.ProgramRun.{with_first, first_used_all, entered, run_body, called}
+use Rattle.shader_runs.specs.ProgramRun.{with_first, first_used_all, run_from_entry, run_body}
+use Rattle.shader_runs.specs.ProgramRun.{run_if_arguments_fit}
 use Rattle.shader_runs.specs.ProgramRun.{run_call}
 use Rattle.shader_runs.specs.TextRun.{Scope, no_names}
 use Rattle.shader_runs.specs.Scope.{Standing, Absent, Barred, Everywhere, Inline, Named, Handles}
 use Rattle.shader_runs.specs.Scope.{ModuleNames, Names, Naming, bound_name, is_present, is_new}
 use Rattle.shader_runs.specs.Scope.{is_pure, is_emittable, before_local, usable, usable_as}
-use Rattle.shader_runs.specs.Scope.{usable_all, usable_if, unbound, emitted, after_one, given_after}
+use Rattle.shader_runs.specs.Scope.{usable_all, usable_if, standing_without_name}
+use Rattle.shader_runs.specs.Scope.{with_emitted_handle, after_one, given_after}
 use Rattle.shader_runs.specs.Scope.{given_by, given_by_all, after_emit, after_result, after}
 use Rattle.shader_runs.specs.Scope.{after_all, forgotten_handles, forgotten_one, forgotten_if}
 use Rattle.shader_runs.specs.Scope.{start_standing, at_start, first_values_fit, fits_all}
@@ -74,7 +77,7 @@ pub data Proceeds {S : Type 0} (R : Option Value → Type 0) (P Q B : S → Type
   stops : {x : Stop} {t : List Event} → NotStuck x → Proceeds R P Q B (Stopped x t)
 
 -- the same of a call
-abbrev pub Answered : (Option Value → Type 0) → Reached (Option Value) → Type 0
+abbrev pub Answered : (Option Value → Type 0) → ReachedOrHalted (Option Value) → Type 0
 Answered R (Gives v t) = R v
 Answered R (Halts x t) = NotStuck x
 
@@ -176,17 +179,17 @@ pub record Sound (p : Module) (c : Call) : Type 0 where
   pub calls : (g : ℕ) (callee : Function) → function_numbered c.callees g ≡ Some callee → (vs : List Value) → IsTrue (has_types c.environment.parts callee.argument_types vs) → (t : List Event) → Answered (Returns c.environment.parts callee) (c.calls g vs t)
 
 -- each handle in scope has a value of its type
-abbrev pub Typed : Call → Handles → Kept → Type 0
+abbrev pub Typed : Call → Handles → KeptValues → Type 0
 Typed c s kept = (h : ℕ) → IsTrue (is_present (s h)) → TypedValue c.environment.parts (handle_type c.function h) (kept h)
 
 -- a constant tree that wasn't emitted has its operands in scope
 abbrev pub Rooted : Call → Handles → Type 0
 Rooted c s = (h : ℕ) → s h ≡ Everywhere → IsTrue (usable_all c.function s (operands_of (expression_of c.function h)))
 
-typed_less : (c : Call) (s s2 : Handles) (kept : Kept) → Extends s s2 → Typed c s2 kept → Typed c s kept
+typed_less : (c : Call) (s s2 : Handles) (kept : KeptValues) → Extends s s2 → Typed c s2 kept → Typed c s kept
 typed_less c s s2 kept x y h p = y h (x h p)
 
-typed_update : (c : Call) (s : Handles) (kept : Kept) (h : ℕ) (st : Standing) (o : Option Value) → (IsTrue (is_present st) → TypedValue c.environment.parts (handle_type c.function h) o) → Typed c s kept → Typed c (update s h st) (update kept h o)
+typed_update : (c : Call) (s : Handles) (kept : KeptValues) (h : ℕ) (st : Standing) (o : Option Value) → (IsTrue (is_present st) → TypedValue c.environment.parts (handle_type c.function h) o) → Typed c s kept → Typed c (update s h st) (update kept h o)
 typed_update c s kept h st o v y k = go (nat_eq k h) refl
   where
     go : (b : Bool) → nat_eq k h ≡ b → IsTrue (is_present (cond b st (s k))) → TypedValue c.environment.parts (handle_type c.function k) (cond b o (kept k))
@@ -200,13 +203,13 @@ forgotten_present Inline now p = p
 forgotten_present (Named x) now p = p
 forgotten_present Everywhere now p = refl
 
-typed_forgotten : (c : Call) (s now : Handles) (kept : Kept) → Typed c s kept → Typed c (forgotten_handles s now) kept
+typed_forgotten : (c : Call) (s now : Handles) (kept : KeptValues) → Typed c s kept → Typed c (forgotten_handles s now) kept
 typed_forgotten c s now kept y h p = y h (forgotten_present (s h) (now h) p)
 
 named_everywhere : (x : Bytes) → Named x ≡ Everywhere → ⊥
 named_everywhere x e = cc
 
-unbound_everywhere : (u : Bool) (st : Standing) → unbound u st ≡ Everywhere → st ≡ Everywhere
+unbound_everywhere : (u : Bool) (st : Standing) → standing_without_name u st ≡ Everywhere → st ≡ Everywhere
 unbound_everywhere true st e = absurd (inline e)
   where
     inline : Inline ≡ Everywhere → ⊥
@@ -233,9 +236,9 @@ module _ (c : Call) (n : Names) where
       is_counted_as : ℕ → Bool
       is_counted_as h = binds_as c.function h (expression_of c.function h)
 
-      go : (x : Bytes) (b o u : Bool) → Rooted c (emitted b o u x s h)
+      go : (x : Bytes) (b o u : Bool) → Rooted c (with_emitted_handle b o u x s h)
       go x true o u = rooted_update s h (Named x) (λ p. refl) (λ e. absurd (named_everywhere x e)) r
-      go x false true u = rooted_update s h (unbound u (s h)) (unbound_present u (s h)) (unbound_everywhere u (s h)) r
+      go x false true u = rooted_update s h (standing_without_name u (s h)) (unbound_present u (s h)) (unbound_everywhere u (s h)) r
       go x false false u = r
 
   rooted_emit : (k : ℕ) (hs : List ℕ) (s : Handles) → Rooted c s → Rooted c (after_emit (naming c n) k hs s)
@@ -262,7 +265,7 @@ module _ (c : Call) (n : Names) where
       rooted_if (holds_continue st) s (after_all (naming c n) k1 ss s1) r (rooted_all k1 ss s1 (rooted_after k st s r))
 
 -- a handle that is emitted again was in scope everywhere
-new_everywhere : (st : Standing) → IsTrue (is_new st) → IsTrue (is_present (unbound false st)) → st ≡ Everywhere
+new_everywhere : (st : Standing) → IsTrue (is_new st) → IsTrue (is_present (standing_without_name false st)) → st ≡ Everywhere
 new_everywhere Everywhere i p = refl
 new_everywhere Absent i p = absurd (true≢false (sym p))
 new_everywhere Barred i p = absurd (true≢false (sym p))
@@ -270,27 +273,27 @@ new_everywhere Inline i p = absurd (true≢false (sym i))
 new_everywhere (Named x) i p = absurd (true≢false (sym i))
 
 module _ (p : Module) (c : Call) (n : Names) (sound : Sound p c) where
-  uses : (s : Handles) (kept : Kept) → Typed c s kept → UsesTyped c s kept
+  uses : (s : Handles) (kept : KeptValues) → Typed c s kept → UsesTyped c s kept
   uses s kept y h u =
       used_typed p c sound.arguments sound.environment (handle_type c.function h) (expression_of c.function h) (sound.leaves h) (sound.typed.constants h) (kept h) (s h) (y h) u
 
   -- what a run from an Emit is, where it leaves this scope
-  abbrev Emits : Handles → Outcome Kept → Type 0
+  abbrev Emits : Handles → Outcome KeptValues → Type 0
   Emits s = Proceeds (Returns c.environment.parts c.function) (Typed c s) (λ k. ⊥) (λ k. ⊥)
 
-  module _ (s : Handles) (kept : Kept) (t : List Event) (r : Rooted c s) (y : Typed c s kept) (h : ℕ) (x : Bytes) (new : IsTrue (is_new (s h))) where
+  module _ (s : Handles) (kept : KeptValues) (t : List Event) (r : Rooted c s) (y : Typed c s kept) (h : ℕ) (x : Bytes) (new : IsTrue (is_new (s h))) where
     -- an answer is kept under a name
     answer_kept : (v : Value) (e : Event) → Emits (update s h (Named x)) (if_typed (has_type c.environment.parts (handle_type c.function h) v) (e ∷ t) (Done (update kept h (Some v)) (e ∷ t)))
     answer_kept v e =
         typed_proceeds (has_type c.environment.parts (handle_type c.function h) v) (e ∷ t) (Done (update kept h (Some v)) (e ∷ t)) (λ z. done (typed_update c s kept h (Named x) (Some v) (λ i. (v, refl, z)) y))
 
-    emit_load : (b u : Bool) (q : ℕ) → IsPointer (handle_type c.function q) → MayBind c n b s x (Some (Load q)) → Emits (emitted b false u x s h) (if_counted b (after_load c.environment.parts (handle_type c.function h) c.world h (used_value c kept q)) kept t)
+    emit_load : (b u : Bool) (q : ℕ) → IsPointer (handle_type c.function q) → MayBind c n b s x (Some (Load q)) → Emits (with_emitted_handle b false u x s h) (if_counted b (after_load c.environment.parts (handle_type c.function h) c.world h (used_value c kept q)) kept t)
     emit_load true u q l m =
         let place = pointer_there c.environment.parts (handle_type c.function q) l (used_value c kept q) (uses s kept y q (and_left (usable c.function s q) true m.0)) in
         subst (λ o. Emits (update s h (Named x)) (after_load c.environment.parts (handle_type c.function h) c.world h o kept t)) (sym place.1) (answer_kept (c.world t (Read place.0)) (Read place.0))
     emit_load false u q l m = done y
 
-    emit_request : (b u : Bool) (a : Asking) (w : Bytes) (xs : List ℕ) (es : ConstantTrees) → ConstantsInRange p es → ConstantsTyped c.environment.parts p c.meaning es → MayBind c n b s x (Some (Request a w xs es)) → Emits (emitted b false u x s h) (if_counted b (after_request c.environment.parts (handle_type c.function h) c.world h w (joined_values (used_values c kept xs) (constant_values c.environment c.meaning es))) kept t)
+    emit_request : (b u : Bool) (a : AskingRule) (w : Bytes) (xs : List ℕ) (es : ConstantTrees) → ConstantsInRange p es → ConstantsTyped c.environment.parts p c.meaning es → MayBind c n b s x (Some (Request a w xs es)) → Emits (with_emitted_handle b false u x s h) (if_counted b (after_request c.environment.parts (handle_type c.function h) c.world h w (joined_values (used_values c kept xs) (constant_values c.environment c.meaning es))) kept t)
     emit_request true u a w xs es i k m =
         let vs = request_there p c s kept (uses s kept y) sound.environment xs es i k m.0 in
         subst (λ os. Emits (update s h (Named x)) (after_request c.environment.parts (handle_type c.function h) c.world h w os kept t)) (sym vs.1) (answer_kept (c.world t (Ask w vs.0)) (Ask w vs.0))
@@ -300,20 +303,20 @@ module _ (p : Module) (c : Call) (n : Names) (sound : Sound p c) where
     value e q =
         subst (λ e. IsTrue (is_pure e) → IsTrue (usable_all c.function s (operands_of e)) → TypedValue c.environment.parts (handle_type c.function h) (computed_value c kept e)) q (operator_typed p c s kept (uses s kept y) sound.typed h)
 
-    emit_pure : (b : Bool) (e : Option Expression) → expression_of c.function h ≡ e → IsTrue (is_pure e) → MayBind c n b s x e → Emits (emitted b true (usable_all c.function s (operands_of e)) x s h) (Done (update kept h (computed_value c kept e)) t)
+    emit_pure : (b : Bool) (e : Option Expression) → expression_of c.function h ≡ e → IsTrue (is_pure e) → MayBind c n b s x e → Emits (with_emitted_handle b true (usable_all c.function s (operands_of e)) x s h) (Done (update kept h (computed_value c kept e)) t)
     emit_pure true e q z m = done (typed_update c s kept h (Named x) (computed_value c kept e) (λ i. value e q z m.0) y)
     emit_pure false e q z m = go (usable_all c.function s (operands_of e)) refl
       where
-        operands_here : IsTrue (is_present (unbound false (s h))) → IsTrue (usable_all c.function s (operands_of e))
+        operands_here : IsTrue (is_present (standing_without_name false (s h))) → IsTrue (usable_all c.function s (operands_of e))
         operands_here i =
             subst (λ e. IsTrue (usable_all c.function s (operands_of e))) q (r h (new_everywhere (s h) new i))
 
-        go : (u : Bool) → usable_all c.function s (operands_of e) ≡ u → Emits (update s h (unbound u (s h))) (Done (update kept h (computed_value c kept e)) t)
+        go : (u : Bool) → usable_all c.function s (operands_of e) ≡ u → Emits (update s h (standing_without_name u (s h))) (Done (update kept h (computed_value c kept e)) t)
         go true k = done (typed_update c s kept h Inline (computed_value c kept e) (λ i. value e q z k) y)
         go false k =
-            done (typed_update c s kept h (unbound false (s h)) (computed_value c kept e) (λ i. value e q z (operands_here i)) y)
+            done (typed_update c s kept h (standing_without_name false (s h)) (computed_value c kept e) (λ i. value e q z (operands_here i)) y)
 
-    emit_as_proceeds : (e : Option Expression) → expression_of c.function h ≡ e → LoadFits c.function e → LeafFits p c.function (handle_type c.function h) e → LeafTyped c.environment.parts p c.meaning e → IsTrue (is_emittable e) → MayBind c n (binds_as c.function h e) s x e → Emits (emitted (binds_as c.function h e) (is_pure e) (usable_all c.function s (operands_of e)) x s h) (emit_as c h e kept t)
+    emit_as_proceeds : (e : Option Expression) → expression_of c.function h ≡ e → LoadFits c.function e → LeafFits p c.function (handle_type c.function h) e → LeafTyped c.environment.parts p c.meaning e → IsTrue (is_emittable e) → MayBind c n (binds_as c.function h e) s x e → Emits (with_emitted_handle (binds_as c.function h e) (is_pure e) (usable_all c.function s (operands_of e)) x s h) (emit_as c h e kept t)
     emit_as_proceeds (Some (Load q)) e l i k z m = emit_load (is_counted c.function 1 h) (usable_all c.function s (q ∷ [])) q l m
     emit_as_proceeds (Some (Request a w xs es)) e l i k z m = emit_request (is_asked c.function h a) (usable_all c.function s xs) a w xs es i k m
     emit_as_proceeds (Some (Operator w xs)) e l i k z m = emit_pure _ (Some (Operator w xs)) e refl m
@@ -324,7 +327,7 @@ module _ (p : Module) (c : Call) (n : Names) (sound : Sound p c) where
     emit_as_proceeds (Some _) e l i k z m = absurd (true≢false (sym z))
     emit_as_proceeds None e l i k z m = absurd (true≢false (sym z))
 
-  emit_proceeds : (k : ℕ) (hs : List ℕ) (s : Handles) (kept : Kept) (t : List Event) → Rooted c s → Typed c s kept → MayEmitAll c n k hs s → Emits (after_emit (naming c n) k hs s) (emit c hs kept t)
+  emit_proceeds : (k : ℕ) (hs : List ℕ) (s : Handles) (kept : KeptValues) (t : List Event) → Rooted c s → Typed c s kept → MayEmitAll c n k hs s → Emits (after_emit (naming c n) k hs s) (emit c hs kept t)
   emit_proceeds k [] s kept t r y m = done y
   emit_proceeds k (h ∷ hs) s kept t r y m =
       let e = expression_of c.function h in
@@ -335,51 +338,51 @@ module _ (p : Module) (c : Call) (n : Names) (sound : Sound p c) where
 module _ (p : Module) (c : Call) (n : Names) (sound : Sound p c) (bound : ℕ) where
   -- what a run from the scope s is, which leaves the scope s2: held tells whether it holds a
   -- `continue`, and breaks and continues whether one may stand here
-  abbrev Runs : (s s2 at_continue : Handles) → (breaks continues held : Bool) → Outcome Kept → Type 0
+  abbrev Runs : (s s2 at_continue : Handles) → (breaks continues held : Bool) → Outcome KeptValues → Type 0
   Runs s s2 at_continue breaks continues held =
       Proceeds (Returns c.environment.parts c.function) (Typed c s2) (λ k. Typed c at_continue k × IsTrue held × IsTrue continues) (λ k. Typed c s k × IsTrue breaks)
 
   -- a statement, and a list
-  abbrev Line : Handles → Handles → (breaks continues held : Bool) → Outcome Kept → Type 0
+  abbrev Line : Handles → Handles → (breaks continues held : Bool) → Outcome KeptValues → Type 0
   Line s s2 = Runs s s2 s
 
-  abbrev Body : Handles → Handles → (breaks continues held : Bool) → Outcome Kept → Type 0
+  abbrev Body : Handles → Handles → (breaks continues held : Bool) → Outcome KeptValues → Type 0
   Body s s2 = Runs s s2 s2
 
   -- a statement and what follows it
-  row : (s s1 s2 : Handles) (breaks continues held held2 : Bool) → Extends s s1 → Extends s1 s2 → (o : Outcome Kept) (f : Next Kept) → Line s s1 breaks continues held o → ((kept : Kept) (t : List Event) → Typed c s1 kept → Body s1 s2 breaks continues held2 (f kept t)) → Body s (forgotten_if held s s2) breaks continues (held || held2) (and_then o f)
+  row : (s s1 s2 : Handles) (breaks continues held held2 : Bool) → Extends s s1 → Extends s1 s2 → (o : Outcome KeptValues) (f : Next KeptValues) → Line s s1 breaks continues held o → ((kept : KeptValues) (t : List Event) → Typed c s1 kept → Body s1 s2 breaks continues held2 (f kept t)) → Body s (forgotten_if held s s2) breaks continues (held || held2) (and_then o f)
   row s s1 s2 breaks continues true held2 x x2 o f line next =
       weaker (λ k y. back k y) (λ k q. (q.0, refl, q.1)) (λ k b. b) (then_proceeds {P = Typed c s1} {Q = λ k. Typed c (forgotten_handles s s2) k × IsTrue continues} {B = λ k. Typed c s k × IsTrue breaks} (λ k t y. weaker (λ k y. y) (λ k q. (back k q.0, q.2)) (λ k b. (typed_less c s s1 k x b.0, b.1)) (next k t y)) (weaker (λ k y. y) (λ k q. (typed_forgotten c s s2 k q.0, q.2)) (λ k b. b) line))
     where
-      back : (k : Kept) → Typed c s2 k → Typed c (forgotten_handles s s2) k
+      back : (k : KeptValues) → Typed c s2 k → Typed c (forgotten_handles s s2) k
       back k y = typed_forgotten c s s2 k (typed_less c s s2 k (extends_trans s s1 s2 x x2) y)
   row s s1 s2 breaks continues false held2 x x2 o f line next =
       then_proceeds {P = Typed c s1} (λ k t y. weaker (λ k y. y) (λ k q. q) (λ k b. (typed_less c s s1 k x b.0, b.1)) (next k t y)) (weaker (λ k y. y) (λ k q. absurd (true≢false (sym q.1))) (λ k b. b) line)
 
-  leave_proceeds : (s s2 : Handles) → Extends s s2 → (e : Option ℕ) → IsTrue (usable_if c.function s2 e) → BreakIfFits c.function e → (kept : Kept) (t : List Event) → Typed c s2 kept → Proceeds (Returns c.environment.parts c.function) (Typed c s) (λ k. ⊥) (Typed c s) (leave c e kept t)
+  leave_proceeds : (s s2 : Handles) → Extends s s2 → (e : Option ℕ) → IsTrue (usable_if c.function s2 e) → BreakIfFits c.function e → (kept : KeptValues) (t : List Event) → Typed c s2 kept → Proceeds (Returns c.environment.parts c.function) (Typed c s) (λ k. ⊥) (Typed c s) (leave c e kept t)
   leave_proceeds s s2 x None u w kept t y = done (typed_less c s s2 kept x y)
   leave_proceeds s s2 x (Some h) u w kept t y =
       let k = handle_type c.function h in
       used_proceeds c.environment.parts k (used_value c kept h) t _ (uses p c n sound s2 kept y h u) (λ v z. chosen_proceeds c.environment.parts k w v z t (broke (typed_less c s s2 kept x y)) (done (typed_less c s s2 kept x y)))
 
   -- a loop: each turn starts in the loop's own scope
-  loop_proceeds : (s s1 s2 : Handles) (hb hd breaks continues : Bool) (body continuing : Next Kept) (e : Option ℕ) → Extends s s1 → Extends s1 s2 → IsTrue (usable_if c.function s2 e) → BreakIfFits c.function e → ((kept : Kept) (t : List Event) → Typed c s kept → Body s s1 true true hb (body kept t)) → ((kept : Kept) (t : List Event) → Typed c s1 kept → Body s1 s2 false false hd (continuing kept t)) → (kept : Kept) (t : List Event) → Typed c s kept → Line s s breaks continues false (turns bound (turn body continuing (leave c e)) kept t)
+  loop_proceeds : (s s1 s2 : Handles) (hb hd breaks continues : Bool) (body continuing : Next KeptValues) (e : Option ℕ) → Extends s s1 → Extends s1 s2 → IsTrue (usable_if c.function s2 e) → BreakIfFits c.function e → ((kept : KeptValues) (t : List Event) → Typed c s kept → Body s s1 true true hb (body kept t)) → ((kept : KeptValues) (t : List Event) → Typed c s1 kept → Body s1 s2 false false hd (continuing kept t)) → (kept : KeptValues) (t : List Event) → Typed c s kept → Line s s breaks continues false (turns bound (turn body continuing (leave c e)) kept t)
   loop_proceeds s s1 s2 hb hd breaks continues body continuing e x x2 u w in_body in_continuing kept t y = turns_proceed {I = Typed c s} once bound kept t y
     where
-      tail : (kept : Kept) (t : List Event) → Typed c s1 kept → Proceeds (Returns c.environment.parts c.function) (Typed c s) (λ k. ⊥) (Typed c s) (and_then (within (continuing kept t)) (leave c e))
+      tail : (kept : KeptValues) (t : List Event) → Typed c s1 kept → Proceeds (Returns c.environment.parts c.function) (Typed c s) (λ k. ⊥) (Typed c s) (and_then (within (continuing kept t)) (leave c e))
       tail kept t y =
           then_proceeds {P = Typed c s2} (λ k t y. leave_proceeds s s2 (extends_trans s s1 s2 x x2) e u w k t y) (within_proceeds (λ k q. true≢false (sym q.2)) (λ k b. true≢false (sym b.1)) (in_continuing kept t y))
 
-      once : (kept : Kept) (t : List Event) → Typed c s kept → Proceeds (Returns c.environment.parts c.function) (Typed c s) (λ k. ⊥) (Typed c s) (turn body continuing (leave c e) kept t)
+      once : (kept : KeptValues) (t : List Event) → Typed c s kept → Proceeds (Returns c.environment.parts c.function) (Typed c s) (λ k. ⊥) (Typed c s) (turn body continuing (leave c e) kept t)
       once kept t y =
           continue_proceeds {P = Typed c s1} tail (weaker (λ k y. y) (λ k q. q.0) (λ k b. b.0) (in_body kept t y))
 
-  return_proceeds : (s : Handles) (breaks continues : Bool) (e : Option ℕ) → IsTrue (usable_if c.function s e) → ReturnFits c.function e → (kept : Kept) (t : List Event) → Typed c s kept → Line s s breaks continues false (return_outcome c e kept t)
+  return_proceeds : (s : Handles) (breaks continues : Bool) (e : Option ℕ) → IsTrue (usable_if c.function s e) → ReturnFits c.function e → (kept : KeptValues) (t : List Event) → Typed c s kept → Line s s breaks continues false (return_outcome c e kept t)
   return_proceeds s breaks continues None u w kept t y = returns tt
   return_proceeds s breaks continues (Some h) u w kept t y =
       used_proceeds c.environment.parts (handle_type c.function h) (used_value c kept h) t _ (uses p c n sound s kept y h u) (λ v z. returns (subst (λ k. ResultTyped c.environment.parts (Some v) k) (sym w) z))
 
-  asks_proceed : (s : Handles) (breaks continues : Bool) (ws : List Bytes) (kept : Kept) (t : List Event) → Typed c s kept → Line s s breaks continues false (ask_each ws kept t)
+  asks_proceed : (s : Handles) (breaks continues : Bool) (ws : List Bytes) (kept : KeptValues) (t : List Event) → Typed c s kept → Line s s breaks continues false (ask_each ws kept t)
   asks_proceed s breaks continues [] kept t y = done y
   asks_proceed s breaks continues (w ∷ ws) kept t y = asks_proceed s breaks continues ws kept (Ask w [] ∷ t) y
 
@@ -392,7 +395,7 @@ module _ (p : Module) (c : Call) (n : Names) (sound : Sound p c) (bound : ℕ) w
       go None e w = absurd w
       go (Some callee) e w = sound.calls g callee e vs (subst (λ ts. IsTrue (has_types c.environment.parts ts vs)) w.0 z) t
 
-  result_proceeds : (s : Handles) (breaks continues : Bool) (a : Action) (xs : List ℕ) (r : Option ℕ) → ActionFits p c.callees (naming c n) a xs r → (kept : Kept) → Typed c s kept → (q : Reached (Option Value)) → Answered (ActionReturns c a) q → Line s (after_result n r s) breaks continues false (with_result c.environment.parts c.function a r kept q)
+  result_proceeds : (s : Handles) (breaks continues : Bool) (a : Action) (xs : List ℕ) (r : Option ℕ) → ActionFits p c.callees (naming c n) a xs r → (kept : KeptValues) → Typed c s kept → (q : ReachedOrHalted (Option Value)) → Answered (ActionReturns c a) q → Line s (after_result n r s) breaks continues false (with_result c.environment.parts c.function a r kept q)
   result_proceeds s breaks continues a xs None m kept y (Gives v t) k = done y
   result_proceeds s breaks continues a xs None m kept y (Halts x t) k = stops k
   result_proceeds s breaks continues a xs (Some h) m kept y (Gives None t) k = stops tt
@@ -402,48 +405,48 @@ module _ (p : Module) (c : Call) (n : Names) (sound : Sound p c) (bound : ℕ) w
       done (typed_update c s kept h (Named (n.numbered h)) (Some v) (λ i. (v, refl, called_typed c.environment.parts c.function (function_numbered c.callees g) xs h v m.2 k)) y)
   result_proceeds s breaks continues a xs (Some h) m kept y (Halts x t) k = stops k
 
-  act_proceeds : (s : Handles) (breaks continues : Bool) (a : Action) (xs : List ℕ) (r : Option ℕ) → IsTrue (usable_all c.function s xs) → ActionFits p c.callees (naming c n) a xs r → (kept : Kept) (t : List Event) → Typed c s kept → Line s (after_result n r s) breaks continues false (or_stuck (used_values c kept xs) t (λ vs. with_result c.environment.parts c.function a r kept (action_answer c a vs t)))
+  act_proceeds : (s : Handles) (breaks continues : Bool) (a : Action) (xs : List ℕ) (r : Option ℕ) → IsTrue (usable_all c.function s xs) → ActionFits p c.callees (naming c n) a xs r → (kept : KeptValues) (t : List Event) → Typed c s kept → Line s (after_result n r s) breaks continues false (or_stuck (used_values c kept xs) t (λ vs. with_result c.environment.parts c.function a r kept (action_answer c a vs t)))
   act_proceeds s breaks continues a xs r u m kept t y =
       let vs = all_typed p c s kept (uses p c n sound s kept y) xs u in
       subst (λ o. Line s (after_result n r s) breaks continues false (or_stuck o t (λ vs. with_result c.environment.parts c.function a r kept (action_answer c a vs t)))) (sym vs.1) (result_proceeds s breaks continues a xs r m kept y (action_answer c a vs.0 t) (acted_proceeds a xs r m vs.0 vs.2 t))
 
-  store_proceeds : (s : Handles) (breaks continues : Bool) (q v : ℕ) → IsTrue (usable c.function s q) → IsTrue (usable c.function s v) → IsPointer (handle_type c.function q) → (kept : Kept) (t : List Event) → Typed c s kept → Line s s breaks continues false (run c bound (Store q v) kept t)
+  store_proceeds : (s : Handles) (breaks continues : Bool) (q v : ℕ) → IsTrue (usable c.function s q) → IsTrue (usable c.function s v) → IsPointer (handle_type c.function q) → (kept : KeptValues) (t : List Event) → Typed c s kept → Line s s breaks continues false (run c bound (Store q v) kept t)
   store_proceeds s breaks continues q v u z w kept t y =
       pointer_proceeds c.environment.parts (handle_type c.function q) w (used_value c kept q) t _ (uses p c n sound s kept y q u) (λ place. used_proceeds c.environment.parts (handle_type c.function v) (used_value c kept v) t _ (uses p c n sound s kept y v z) (λ value i. done y))
 
   -- what holds behind a block
-  block_proceeds : (s s1 : Handles) (breaks continues held : Bool) → Extends s s1 → (o : Outcome Kept) → Body s s1 breaks continues held o → Line s s breaks continues held o
+  block_proceeds : (s s1 : Handles) (breaks continues held : Bool) → Extends s s1 → (o : Outcome KeptValues) → Body s s1 breaks continues held o → Line s s breaks continues held o
   block_proceeds s s1 breaks continues held x o b =
       weaker (λ k y. typed_less c s s1 k x y) (λ k q. (typed_less c s s1 k x q.0, q.1, q.2)) (λ k b. b) b
 
-  if_proceeds : (s s1 s2 : Handles) (breaks continues ha hb : Bool) (h : ℕ) → IsTrue (usable c.function s h) → IsBoolean (handle_type c.function h) → Extends s s1 → Extends s s2 → (a b : Outcome Kept) (kept : Kept) (t : List Event) → Typed c s kept → Body s s1 breaks continues ha a → Body s s2 breaks continues hb b → Line s s breaks continues (ha || hb) (or_stuck (used_value c kept h) t (λ v. branch_by v t a b))
+  if_proceeds : (s s1 s2 : Handles) (breaks continues ha hb : Bool) (h : ℕ) → IsTrue (usable c.function s h) → IsBoolean (handle_type c.function h) → Extends s s1 → Extends s s2 → (a b : Outcome KeptValues) (kept : KeptValues) (t : List Event) → Typed c s kept → Body s s1 breaks continues ha a → Body s s2 breaks continues hb b → Line s s breaks continues (ha || hb) (or_stuck (used_value c kept h) t (λ v. branch_by v t a b))
   if_proceeds s s1 s2 breaks continues ha hb h u w x1 x2 a b kept t y in_a in_b =
       used_proceeds c.environment.parts (handle_type c.function h) (used_value c kept h) t _ (uses p c n sound s kept y h u) (λ v z. chosen_proceeds c.environment.parts (handle_type c.function h) w v z t (weaker (λ k y. y) (λ k q. (q.0, or_left ha hb q.1, q.2)) (λ k b. b) (block_proceeds s s1 breaks continues ha x1 a in_a)) (weaker (λ k y. y) (λ k q. (q.0, or_right ha hb q.1, q.2)) (λ k b. b) (block_proceeds s s2 breaks continues hb x2 b in_b)))
 
   -- a case, which a `break` ends
-  abbrev In_case : Handles → (continues held : Bool) → Outcome Kept → Type 0
+  abbrev In_case : Handles → (continues held : Bool) → Outcome KeptValues → Type 0
   In_case s continues held =
       Proceeds (Returns c.environment.parts c.function) (Typed c s) (λ k. Typed c s k × IsTrue held × IsTrue continues) (Typed c s)
 
-  switch_line : (s : Handles) (breaks continues held : Bool) (h : ℕ) (cs : Cases) → IsTrue (usable c.function s h) → IsInteger (handle_type c.function h) → (kept : Kept) (t : List Event) → Typed c s kept → ((x : Label) → In_case s continues held (run_cases c bound cs x kept t)) → Line s s breaks continues held (run c bound (Switch h cs) kept t)
+  switch_line : (s : Handles) (breaks continues held : Bool) (h : ℕ) (cs : Cases) → IsTrue (usable c.function s h) → IsInteger (handle_type c.function h) → (kept : KeptValues) (t : List Event) → Typed c s kept → ((x : Label) → In_case s continues held (run_cases c bound cs x kept t)) → Line s s breaks continues held (run c bound (Switch h cs) kept t)
   switch_line s breaks continues held h cs u w kept t y each =
       used_proceeds c.environment.parts (handle_type c.function h) (used_value c kept h) t _ (uses p c n sound s kept y h u) (λ v i. integer_proceeds c.environment.parts (handle_type c.function h) w v i t _ (λ z. switch_proceeds (each (label_if (has_label (Numbered z) cs) z))))
 
   -- a case and those that it falls through to
-  case_proceeds : (s s1 : Handles) (continues held held2 falls : Bool) → Extends s s1 → (o : Outcome Kept) (on : Next Kept) → Body s s1 true continues held o → ((kept : Kept) (t : List Event) → Typed c s kept → In_case s continues held2 (on kept t)) → In_case s continues (held || held2) (and_then o (λ kept1 t1. cond falls (on kept1 t1) (Done kept1 t1)))
+  case_proceeds : (s s1 : Handles) (continues held held2 falls : Bool) → Extends s s1 → (o : Outcome KeptValues) (on : Next KeptValues) → Body s s1 true continues held o → ((kept : KeptValues) (t : List Event) → Typed c s kept → In_case s continues held2 (on kept t)) → In_case s continues (held || held2) (and_then o (λ kept1 t1. cond falls (on kept1 t1) (Done kept1 t1)))
   case_proceeds s s1 continues held held2 falls x o on body next =
       then_proceeds {P = Typed c s1} (λ k t y. go falls k t (typed_less c s s1 k x y)) (weaker (λ k y. y) (λ k q. (typed_less c s s1 k x q.0, or_left held held2 q.1, q.2)) (λ k b. b.0) body)
     where
-      go : (b : Bool) (k : Kept) (t : List Event) → Typed c s k → In_case s continues (held || held2) (cond b (on k t) (Done k t))
+      go : (b : Bool) (k : KeptValues) (t : List Event) → Typed c s k → In_case s continues (held || held2) (cond b (on k t) (Done k t))
       go true k t y = weaker (λ k y. y) (λ k q. (q.0, or_right held held2 q.1, q.2)) (λ k b. b) (next k t y)
       go false k t y = done y
 
-  picked_proceeds : (s : Handles) (continues held : Bool) (b : Bool) (o o2 : Outcome Kept) → In_case s continues held o → In_case s continues held o2 → In_case s continues held (cond b o o2)
+  picked_proceeds : (s : Handles) (continues held : Bool) (b : Bool) (o o2 : Outcome KeptValues) → In_case s continues held o → In_case s continues held o2 → In_case s continues held (cond b o o2)
   picked_proceeds s continues held true o o2 x x2 = x
   picked_proceeds s continues held false o o2 x x2 = x2
 
   mutual
-    line_proceeds : (st : Statement) (k : ℕ) (s : Handles) (breaks continues : Bool) → Rooted c s → Fits p c n k st s → IsWellFormed c.function breaks continues st → (kept : Kept) (t : List Event) → Typed c s kept → Line s (after (naming c n) k st s) breaks continues (holds_continue st) (run c bound st kept t)
+    line_proceeds : (st : Statement) (k : ℕ) (s : Handles) (breaks continues : Bool) → Rooted c s → Fits p c n k st s → IsWellFormed c.function breaks continues st → (kept : KeptValues) (t : List Event) → Typed c s kept → Line s (after (naming c n) k st s) breaks continues (holds_continue st) (run c bound st kept t)
     line_proceeds (Emit first count) k s breaks continues r m w kept t y =
         weaker (λ k y. y) (λ k q. absurd q) (λ k b. absurd b) (emit_proceeds p c n sound k (from first count) s kept t r y m)
     line_proceeds (Store q v) k s breaks continues r m w kept t y = store_proceeds s breaks continues q v m.0 m.1 w kept t y
@@ -465,7 +468,7 @@ module _ (p : Module) (c : Call) (n : Names) (sound : Sound p c) (bound : ℕ) w
     line_proceeds (Barrier bits) k s breaks continues r m w kept t y = asks_proceed s breaks continues (barrier_words bits) kept t y
     line_proceeds (Act a xs result) k s breaks continues r m w kept t y = act_proceeds s breaks continues a xs result m.0 m.1 kept t y
 
-    pub body_proceeds : (ss : Statements) (k : ℕ) (s : Handles) (breaks continues : Bool) → Rooted c s → FitsAll p c n k ss s → AreWellFormed c.function breaks continues ss → (kept : Kept) (t : List Event) → Typed c s kept → Body s (after_all (naming c n) k ss s) breaks continues (any_continue ss) (run_all c bound ss kept t)
+    pub body_proceeds : (ss : Statements) (k : ℕ) (s : Handles) (breaks continues : Bool) → Rooted c s → FitsAll p c n k ss s → AreWellFormed c.function breaks continues ss → (kept : KeptValues) (t : List Event) → Typed c s kept → Body s (after_all (naming c n) k ss s) breaks continues (any_continue ss) (run_all c bound ss kept t)
     body_proceeds end k s breaks continues r m w kept t y = done y
     body_proceeds (then st ss) k s breaks continues r m w kept t y =
         let k1 = given_by c.function st k in
@@ -473,25 +476,25 @@ module _ (p : Module) (c : Call) (n : Names) (sound : Sound p c) (bound : ℕ) w
         row s s1 (after_all (naming c n) k1 ss s1) breaks continues (holds_continue st) (any_continue ss) (extends_after c n k st s) (extends_all c n k1 ss s1) _ (run_all c bound ss) (line_proceeds st k s breaks continues r m.0 w.0 kept t y) (λ kept t y. body_proceeds ss k1 s1 breaks continues (rooted_after c n k st s r) m.1 w.1 kept t y)
 
     -- from the case with this label on
-    cases_proceed : (cs : Cases) (k : ℕ) (s : Handles) (continues : Bool) → Rooted c s → FitsCases p c n k cs s → CasesAreWellFormed c.function continues cs → (x : Label) (kept : Kept) (t : List Event) → Typed c s kept → In_case s continues (some_case_continues cs) (run_cases c bound cs x kept t)
+    cases_proceed : (cs : Cases) (k : ℕ) (s : Handles) (continues : Bool) → Rooted c s → FitsCases p c n k cs s → CasesAreWellFormed c.function continues cs → (x : Label) (kept : KeptValues) (t : List Event) → Typed c s kept → In_case s continues (some_case_continues cs) (run_cases c bound cs x kept t)
     cases_proceed no_case k s continues r m w x kept t y = done y
     cases_proceed (case l b falls cs) k s continues r m w x kept t y =
         let k1 = given_by_all c.function b k in
         picked_proceeds s continues (any_continue b || some_case_continues cs) (same_label x l) _ _ (case_proceeds s (after_all (naming c n) k b s) continues (any_continue b) (some_case_continues cs) falls (extends_all c n k b s) _ (run_on c bound cs) (body_proceeds b k s true continues r m.1 w.0 kept t y) (λ kept t y. on_proceeds cs k1 s continues r m.2 w.1 kept t y)) (weaker (λ k y. y) (λ k q. (q.0, or_right (any_continue b) (some_case_continues cs) q.1, q.2)) (λ k b. b) (cases_proceed cs k1 s continues r m.2 w.1 x kept t y))
 
     -- on from a case that fell through
-    on_proceeds : (cs : Cases) (k : ℕ) (s : Handles) (continues : Bool) → Rooted c s → FitsCases p c n k cs s → CasesAreWellFormed c.function continues cs → (kept : Kept) (t : List Event) → Typed c s kept → In_case s continues (some_case_continues cs) (run_on c bound cs kept t)
+    on_proceeds : (cs : Cases) (k : ℕ) (s : Handles) (continues : Bool) → Rooted c s → FitsCases p c n k cs s → CasesAreWellFormed c.function continues cs → (kept : KeptValues) (t : List Event) → Typed c s kept → In_case s continues (some_case_continues cs) (run_on c bound cs kept t)
     on_proceeds no_case k s continues r m w kept t y = done y
     on_proceeds (case l b falls cs) k s continues r m w kept t y =
         let k1 = given_by_all c.function b k in
         case_proceeds s (after_all (naming c n) k b s) continues (any_continue b) (some_case_continues cs) falls (extends_all c n k b s) _ (run_on c bound cs) (body_proceeds b k s true continues r m.1 w.0 kept t y) (λ kept t y. on_proceeds cs k1 s continues r m.2 w.1 kept t y)
 
 -- what the start of a body owes to its run, by what is known of a standing at the start
-start_value : (c : Call) (s : Handles) (names : Scope) (kept : Kept) (k : ValueType) (e : Option Expression) (o : Option Value) (b : Bool) → Stands c s names kept k e o (start_standing b) → IsTrue (is_present (start_standing b)) → TypedValue c.environment.parts k o
+start_value : (c : Call) (s : Handles) (names : Scope) (kept : KeptValues) (k : ValueType) (e : Option Expression) (o : Option Value) (b : Bool) → Stands c s names kept k e o (start_standing b) → IsTrue (is_present (start_standing b)) → TypedValue c.environment.parts k o
 start_value c s names kept k e o true d i = d.1
 start_value c s names kept k e o false d i = absurd (true≢false (sym i))
 
-start_operands : (c : Call) (s : Handles) (names : Scope) (kept : Kept) (k : ValueType) (e : Option Expression) (o : Option Value) (b : Bool) → Stands c s names kept k e o (start_standing b) → start_standing b ≡ Everywhere → IsTrue (usable_all c.function s (operands_of e))
+start_operands : (c : Call) (s : Handles) (names : Scope) (kept : KeptValues) (k : ValueType) (e : Option Expression) (o : Option Value) (b : Bool) → Stands c s names kept k e o (start_standing b) → start_standing b ≡ Everywhere → IsTrue (usable_all c.function s (operands_of e))
 start_operands c s names kept k e o true d i = d.0
 start_operands c s names kept k e o false d i = absurd (absent i)
   where
@@ -520,7 +523,7 @@ module _ (p : Module) (n : ModuleNames) (env : Environment) (environment : Envir
     abbrev start : Handles
     start = at_start f.function
 
-    abbrev kept : Kept
+    abbrev kept : KeptValues
     kept = constants_kept f.function env m
 
     sound : Sound p c
@@ -556,7 +559,7 @@ module _ (p : Module) (n : ModuleNames) (env : Environment) (environment : Envir
         let rest = firsts_there (suc i) os (and_right here more u) in
         (Some v.0 ∷ rest.0, ap (λ o. with_first (option_map Some o) (first_used_all c kept os)) v.1 ∙ ap (with_first (Some (Some v.0))) rest.1)
 
-    own_proceeds : (g : ℕ) → Answered (Returns env.parts f.function) (called (nat_eq (length vs) (argument_count f.function)) (run_body c bound g vs t) t)
+    own_proceeds : (g : ℕ) → Answered (Returns env.parts f.function) (run_if_arguments_fit (nat_eq (length vs) (argument_count f.function)) (run_body c bound g vs t) t)
     own_proceeds g =
         let count = eq-eqb (length vs) (argument_count f.function) (has_types_length env.parts f.function.argument_types vs arguments) in
         let firsts_fit = first_values_fit f.function 0 f.function.first_values in
@@ -564,16 +567,16 @@ module _ (p : Module) (n : ModuleNames) (env : Environment) (environment : Envir
         let firsts = firsts_there 0 f.function.first_values (and_left firsts_fit body_fits fit.scope) in
         let checked = all_fresh p c f.names environment fit.distinct f.function.body 0 start (omega arith) (start_sources p c f.names environment fit.distinct) fit.regular (and_right firsts_fit body_fits fit.scope) in
         let body = λ (t1 : List Event). answer (run_all c bound f.function.body kept t1) in
-        subst (λ b. Answered (Returns env.parts f.function) (called b (run_body c bound g vs t) t)) (sym count) (subst (λ o. Answered (Returns env.parts f.function) (entered g vs o t body)) (sym firsts.1) (answer_proceeds tt (λ k q. true≢false (sym q.2)) (λ k b. true≢false (sym b.1)) (body_proceeds p c f.names sound bound f.function.body 0 start false false start_rooted checked well.body kept (Entry g vs firsts.0 ∷ t) start_typed)))
+        subst (λ b. Answered (Returns env.parts f.function) (run_if_arguments_fit b (run_body c bound g vs t) t)) (sym count) (subst (λ o. Answered (Returns env.parts f.function) (run_from_entry g vs o t body)) (sym firsts.1) (answer_proceeds tt (λ k q. true≢false (sym q.2)) (λ k b. true≢false (sym b.1)) (body_proceeds p c f.names sound bound f.function.body 0 start false false start_rooted checked well.body kept (Entry g vs firsts.0 ∷ t) start_typed)))
 
   calls_proceed : (fs : List Naming) → AllFit p n fs → AllTypedIn env.parts p m (functions_of fs) → AllWellFormed (functions_of fs) → Calls_proceed fs
   calls_proceed [] fits typed well g callee e vs h t = absurd (none-some callee e)
   calls_proceed (f ∷ fs) fits typed well g callee e vs h t =
       go (nat_eq g (length (functions_of fs))) e (calls_proceed fs fits.1 typed.1 well.1)
     where
-      own_call : Reached (Option Value)
+      own_call : ReachedOrHalted (Option Value)
       own_call =
-          called (nat_eq (length vs) (argument_count f.function)) (run_body (call_of env w m bound f fs vs t) bound (length (functions_of fs)) vs t) t
+          run_if_arguments_fit (nat_eq (length vs) (argument_count f.function)) (run_body (call_of env w m bound f fs vs t) bound (length (functions_of fs)) vs t) t
 
       go : (b : Bool) → cond b (Some f.function) (function_numbered (functions_of fs) g) ≡ Some callee → Calls_proceed fs → Answered (Returns env.parts callee) (cond b own_call (run_call env w m bound (functions_of fs) g vs t))
       go true e earlier =
@@ -582,7 +585,7 @@ module _ (p : Module) (n : ModuleNames) (env : Environment) (environment : Envir
           subst (λ k. Answered (Returns env.parts k) own_call) same (own_proceeds fs earlier f fits.0 typed.0 well.0 vs typed_here t (length (functions_of fs)))
       go false e earlier = earlier g callee e vs h t
 
-not_stuck : (R : Option Value → Type 0) (q : Reached (Option Value)) → Answered R q → IsNotStuck q
+not_stuck : (R : Option Value → Type 0) (q : ReachedOrHalted (Option Value)) → Answered R q → IsNotStuck q
 not_stuck R (Gives v t) k = tt
 not_stuck R (Halts x t) k = k
 

@@ -8,9 +8,10 @@ use Rattle.shader_runs.specs.World.{GlobalValue, Stored, Held}
 use Rattle.shader_runs.specs.Program.{Expression, Constant, Argument, Local, Global, Function}
 use Rattle.shader_runs.specs.Program.{argument_count, local_count, local_pointer, expression_of}
 use Rattle.shader_runs.specs.Program.{handle_type, operands_of}
-use Rattle.shader_runs.specs.ProgramRun.{Call, Kept, used_value_as, used_value, also, used_values}
+use Rattle.shader_runs.specs.ProgramRun.{Call, KeptValues, used_value_as, used_value, also}
+use Rattle.shader_runs.specs.ProgramRun.{used_values}
 use Rattle.shader_runs.specs.ProgramRun.{gathered_value, computed_value}
-use Rattle.shader_runs.specs.TextRun.{Denoted, IsValue, IsPlace, Scope}
+use Rattle.shader_runs.specs.TextRun.{Denotation, IsValue, IsPlace, Scope}
 use Rattle.shader_runs.specs.Scope.{Standing, Absent, Barred, Everywhere, Inline, Named, Handles}
 use Rattle.shader_runs.specs.Scope.{Names, usable, usable_as, usable_all, is_present, is_new}
 use Rattle.shader_runs.specs.Scope.{forgotten_handles, forgotten_one, given_by_all}
@@ -31,14 +32,14 @@ ResultTyped parts (Some v) (Some k) = IsTrue (has_type parts k v)
 abbrev pub Returns : PartTypes → Function → Option Value → Type 0
 Returns parts f o = ResultTyped parts o f.result
 
-abbrev pub as_denoted : Option Value → Option Denoted
+abbrev pub as_denoted : Option Value → Option Denotation
 as_denoted o = option_map IsValue o
 
-abbrev pub stored_denoted : ℕ → GlobalValue → Denoted
+abbrev pub stored_denoted : ℕ → GlobalValue → Denotation
 stored_denoted i (Stored pointer) = IsPlace (Rooted (GlobalRoot pointer i))
 stored_denoted i (Held v) = IsValue v
 
-abbrev pub global_as : ℕ → Option GlobalValue → Option Denoted
+abbrev pub global_as : ℕ → Option GlobalValue → Option Denotation
 global_as i None = None
 global_as i (Some g) = Some (stored_denoted i g)
 
@@ -50,7 +51,7 @@ IsHere c (ConstantName i) = i < length c.environment.constants
 IsHere c (GlobalName i) = i < length c.environment.globals
 
 -- and what they stand for
-abbrev pub fixed_denoted : Call → FixedName → Option Denoted
+abbrev pub fixed_denoted : Call → FixedName → Option Denotation
 fixed_denoted c (ArgumentName i) = as_denoted (slice_get c.arguments i)
 fixed_denoted c (LocalName i) = Some (IsPlace (Rooted (LocalRoot (local_pointer c.function i) c.frame i)))
 fixed_denoted c (ConstantName i) = as_denoted (slice_get c.environment.constants i)
@@ -63,14 +64,14 @@ pub record NoName (c : Call) (n : Names) (w : Bytes) : Type 0 where
   pub given : (k : ℕ) → k < given_by_all c.function c.function.body 0 → n.given k ≢ w
 
 -- what is known of a handle with this expression and this kept value
-abbrev pub Stands : Call → Handles → Scope → Kept → ValueType → Option Expression → Option Value → Standing → Type 0
+abbrev pub Stands : Call → Handles → Scope → KeptValues → ValueType → Option Expression → Option Value → Standing → Type 0
 Stands c s names kept y e o Absent = Unit {0}
 Stands c s names kept y e o Barred = Unit {0}
 Stands c s names kept y e o Inline = IsTrue (usable_all c.function s (operands_of e)) × TypedValue c.environment.parts y o × (o ≡ computed_value c kept e)
 Stands c s names kept y e o Everywhere = IsTrue (usable_all c.function s (operands_of e)) × TypedValue c.environment.parts y o × (o ≡ computed_value c kept e)
 Stands c s names kept y e o (Named x) = TypedValue c.environment.parts y (used_value_as c e o) × (names x ≡ as_denoted (used_value_as c e o))
 
-pub record Related (c : Call) (n : Names) (s : Handles) (names : Scope) (kept : Kept) : Type 0 where
+pub record Related (c : Call) (n : Names) (s : Handles) (names : Scope) (kept : KeptValues) : Type 0 where
   pub standing : (h : ℕ) → Stands c s names kept (handle_type c.function h) (expression_of c.function h) (kept h) (s h)
   pub fixed : (x : FixedName) → IsHere c x → names (fixed_name n x) ≡ fixed_denoted c x
   pub words : (w : Bytes) → NoName c n w → names w ≡ None
@@ -80,19 +81,19 @@ abbrev pub Extends : Handles → Handles → Type 0
 Extends s s' = (h : ℕ) → IsTrue (is_present (s h)) → IsTrue (is_present (s' h))
 
 -- the same values are kept for the handles in scope
-abbrev pub Agree : Handles → Kept → Kept → Type 0
+abbrev pub Agree : Handles → KeptValues → KeptValues → Type 0
 Agree s kept kept' = (h : ℕ) → IsTrue (is_present (s h)) → kept' h ≡ kept h
 
 pub extends_refl : (s : Handles) → Extends s s
 extends_refl s h p = p
 
-pub agree_refl : (s : Handles) (kept : Kept) → Agree s kept kept
+pub agree_refl : (s : Handles) (kept : KeptValues) → Agree s kept kept
 agree_refl s kept h p = refl
 
 pub extends_trans : (s s1 s2 : Handles) → Extends s s1 → Extends s1 s2 → Extends s s2
 extends_trans s s1 s2 a b h p = b h (a h p)
 
-pub agree_trans : (s s1 : Handles) (k k1 k2 : Kept) → Extends s s1 → Agree s k k1 → Agree s1 k1 k2 → Agree s k k2
+pub agree_trans : (s s1 : Handles) (k k1 k2 : KeptValues) → Extends s s1 → Agree s k k1 → Agree s1 k1 k2 → Agree s k k2
 agree_trans s s1 k k1 k2 x a b h p = b h (x h p) ∙ a h p
 
 used_agree_as : (c : Call) (e : Option Expression) (st : Standing) (o o' : Option Value) → IsTrue (usable_as c.function e st) → (IsTrue (is_present st) → o' ≡ o) → used_value_as c e o' ≡ used_value_as c e o
@@ -103,18 +104,18 @@ used_agree_as c (Some (Global i)) st o o' u a = refl
 used_agree_as c None st o o' u a = refl
 used_agree_as c _ st o o' u a = a u
 
-pub used_agree : (c : Call) (s : Handles) (kept kept' : Kept) → Agree s kept kept' → (x : ℕ) → IsTrue (usable c.function s x) → used_value c kept' x ≡ used_value c kept x
+pub used_agree : (c : Call) (s : Handles) (kept kept' : KeptValues) → Agree s kept kept' → (x : ℕ) → IsTrue (usable c.function s x) → used_value c kept' x ≡ used_value c kept x
 used_agree c s kept kept' a x u =
     used_agree_as c (expression_of c.function x) (s x) (kept x) (kept' x) u (a x)
 
-pub used_all_agree : (c : Call) (s : Handles) (kept kept' : Kept) → Agree s kept kept' → (xs : List ℕ) → IsTrue (usable_all c.function s xs) → used_values c kept' xs ≡ used_values c kept xs
+pub used_all_agree : (c : Call) (s : Handles) (kept kept' : KeptValues) → Agree s kept kept' → (xs : List ℕ) → IsTrue (usable_all c.function s xs) → used_values c kept' xs ≡ used_values c kept xs
 used_all_agree c s kept kept' a [] u = refl
 used_all_agree c s kept kept' a (x ∷ xs) u =
     let h = used_agree c s kept kept' a x (and_left (usable c.function s x) (usable_all c.function s xs) u) in
     let t = used_all_agree c s kept kept' a xs (and_right (usable c.function s x) (usable_all c.function s xs) u) in
     ap (λ v. also v (used_values c kept' xs)) h ∙ ap (also (used_value c kept x)) t
 
-pub computed_agree : (c : Call) (s : Handles) (kept kept' : Kept) → Agree s kept kept' → (e : Option Expression) → IsTrue (usable_all c.function s (operands_of e)) → computed_value c kept' e ≡ computed_value c kept e
+pub computed_agree : (c : Call) (s : Handles) (kept kept' : KeptValues) → Agree s kept kept' → (e : Option Expression) → IsTrue (usable_all c.function s (operands_of e)) → computed_value c kept' e ≡ computed_value c kept e
 computed_agree c s kept kept' a e u = ap (gathered_value c.meaning e) (used_all_agree c s kept kept' a (operands_of e) u)
 
 usable_more_as : (f : Function) (e : Option Expression) (st st' : Standing) → (IsTrue (is_present st) → IsTrue (is_present st')) → IsTrue (usable_as f e st) → IsTrue (usable_as f e st')
@@ -136,7 +137,7 @@ KeepsName names names' (Named x) = names' x ≡ names x
 KeepsName names names' _ = Unit {0}
 
 -- what is known of a handle stays known
-pub stands_on : (c : Call) (s s' : Handles) (names names' : Scope) (kept kept' : Kept) → Extends s s' → Agree s kept kept' → (y : ValueType) (e : Option Expression) (o o' : Option Value) (st : Standing) → (IsTrue (is_present st) → o' ≡ o) → KeepsName names names' st → Stands c s names kept y e o st → Stands c s' names' kept' y e o' st
+pub stands_on : (c : Call) (s s' : Handles) (names names' : Scope) (kept kept' : KeptValues) → Extends s s' → Agree s kept kept' → (y : ValueType) (e : Option Expression) (o o' : Option Value) (st : Standing) → (IsTrue (is_present st) → o' ≡ o) → KeepsName names names' st → Stands c s names kept y e o st → Stands c s' names' kept' y e o' st
 stands_on c s s' names names' kept kept' x a y e o o' Absent w n d = tt
 stands_on c s s' names names' kept kept' x a y e o o' Barred w n d = tt
 stands_on c s s' names names' kept kept' x a y e o o' Inline w n d =
@@ -157,7 +158,7 @@ keeps_all names Inline = tt
 keeps_all names (Named x) = refl
 
 -- other values for handles out of scope
-pub related_agree : (c : Call) (n : Names) (s : Handles) (names : Scope) (kept kept' : Kept) → Agree s kept kept' → Related c n s names kept → Related c n s names kept'
+pub related_agree : (c : Call) (n : Names) (s : Handles) (names : Scope) (kept kept' : KeptValues) → Agree s kept kept' → Related c n s names kept → Related c n s names kept'
 related_agree c n s names kept kept' a r =
     record {
       standing = λ h. stands_on c s s names names kept kept' (extends_refl s) a (handle_type c.function h) (expression_of c.function h) (kept h) (kept' h) (s h) (a h) (keeps_all names (s h)) (r.standing h);
@@ -179,7 +180,7 @@ present_forgotten Everywhere now = go (is_new now)
 pub extends_forgotten : (s now : Handles) → Extends s (forgotten_handles s now)
 extends_forgotten s now h p = present_forgotten (s h) (now h) ∙ p
 
-stands_forgotten : (c : Call) (s : Handles) (names : Scope) (kept : Kept) (y : ValueType) (e : Option Expression) (o : Option Value) (st now : Standing) → Stands c s names kept y e o st → Stands c s names kept y e o (forgotten_one st now)
+stands_forgotten : (c : Call) (s : Handles) (names : Scope) (kept : KeptValues) (y : ValueType) (e : Option Expression) (o : Option Value) (st now : Standing) → Stands c s names kept y e o st → Stands c s names kept y e o (forgotten_one st now)
 stands_forgotten c s names kept y e o Absent now d = d
 stands_forgotten c s names kept y e o Barred now d = d
 stands_forgotten c s names kept y e o Inline now d = d
@@ -191,7 +192,7 @@ stands_forgotten c s names kept y e o Everywhere now d = go (is_new now)
     go false = d
 
 -- a constant tree that was emitted meanwhile
-pub related_forgotten : (c : Call) (n : Names) (s now : Handles) (names : Scope) (kept : Kept) → Related c n s names kept → Related c n (forgotten_handles s now) names kept
+pub related_forgotten : (c : Call) (n : Names) (s now : Handles) (names : Scope) (kept : KeptValues) → Related c n s names kept → Related c n (forgotten_handles s now) names kept
 related_forgotten c n s now names kept r =
     record {
       standing = λ h. let y = handle_type c.function h in let e = expression_of c.function h in let st = forgotten_one (s h) (now h) in stands_on c s (forgotten_handles s now) names names kept kept (extends_forgotten s now) (agree_refl s kept) y e (kept h) (kept h) st (λ p. refl) (keeps_all names st) (stands_forgotten c s names kept y e (kept h) (s h) (now h) (r.standing h));

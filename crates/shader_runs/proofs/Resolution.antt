@@ -19,7 +19,8 @@ use Rattle.shader_runs.specs.Scope.{given_after, given_after_all, given_by, give
 use Rattle.shader_runs.specs.Scope.{given_by_cases, after_one, after, after_all, before_local}
 use Rattle.shader_runs.specs.Scope.{first_values_fit, fits_all, fits_function}
 use Rattle.shader_runs.specs.Text.{Tree, Lines, before}
-use Rattle.shader_runs.specs.Form.{value_form, value_forms, own_form, written, value_if, let_if}
+use Rattle.shader_runs.specs.Form.{value_form, value_forms, own_form, written_form, value_if}
+use Rattle.shader_runs.specs.Form.{let_if}
 use Rattle.shader_runs.specs.Form.{lets, word_of, act_line, perform_each, form, form_all}
 use Rattle.shader_runs.specs.Form.{form_cases, names_from, variables_from, constants_from}
 use Rattle.shader_runs.specs.Form.{globals_from, functions_of, form_function, form_functions}
@@ -82,7 +83,7 @@ module _ (p : Module) (f : Naming) (distinct : AreDistinct p f) where
         (lets_resolve (given_after f.function h k) (lets_after f.function h l) hs (after_one f k h s) (numbers_after f.function l h numbers) (names_after f k l h names) tail le (scope_one p f distinct k l h s numbers names here scope))
       where
         e : Tree
-        e = value_form (own_form f (written f s) (handle_type f.function h) (expression_of f.function h))
+        e = value_form (own_form f (written_form f s) (handle_type f.function h) (expression_of f.function h))
 
         own : List Target
         own = own_targets (value_targets f.function s numbers) (expression_of f.function h)
@@ -165,8 +166,8 @@ module _ (p : Module) (f : Naming) (distinct : AreDistinct p f) where
         line_resolves k l (Act a xs r) s numbers names tail le regular scope =
             by r (both (action_targets a) (operands_targets (value_targets f.function s numbers) xs) (action_resolves names scope.items a xs r within earlier regular.0) (values_resolve f names s numbers scope.lets (all_named names scope.items) xs))
           where
-            by : (r : Option ℕ) → word_target (names (word_of f.names a)) ++ trees_targets names (value_forms (written f s) xs) ≡ map Some (action_targets a ++ operands_targets (value_targets f.function s numbers) xs)
-                → lines_targets l names (before (act_line f.names r (word_of f.names a) (value_forms (written f s) xs)) tail) ≡ map Some (action_targets a ++ operands_targets (value_targets f.function s numbers) xs) ++ lines_targets (lets_after_result r l) (names_after_result f l r names) tail
+            by : (r : Option ℕ) → word_target (names (word_of f.names a)) ++ trees_targets names (value_forms (written_form f s) xs) ≡ map Some (action_targets a ++ operands_targets (value_targets f.function s numbers) xs)
+                → lines_targets l names (before (act_line f.names r (word_of f.names a) (value_forms (written_form f s) xs)) tail) ≡ map Some (action_targets a ++ operands_targets (value_targets f.function s numbers) xs) ++ lines_targets (lets_after_result r l) (names_after_result f l r names) tail
             by None one = ap (λ ts. ts ++ lines_targets l names tail) one
             by (Some h) one = ap (λ ts. ts ++ lines_targets (suc l) (bind names (f.names.numbered h) (Some (LetTarget l))) tail) one
 

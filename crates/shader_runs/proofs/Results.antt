@@ -6,7 +6,8 @@ use Rattle.std.specs.Prelude.{IsTrue, ℤ, is_some}
 use Rattle.shader_runs.specs.Value.{PartTypes, Bytes, ValueType, has_type, Value, truth_in}
 use Rattle.shader_runs.specs.Value.{integer_in, place_in}
 use Rattle.shader_runs.specs.World.{Event, Entry, Ask, Read, World, Meaning, Environment, update}
-use Rattle.shader_runs.specs.Outcome.{Outcome, Done, Continued, Broke, Returned, Stopped, Reached}
+use Rattle.shader_runs.specs.Outcome.{Outcome, Done, Continued, Broke, Returned, Stopped}
+use Rattle.shader_runs.specs.Outcome.{ReachedOrHalted}
 use Rattle.shader_runs.specs.Outcome.{Gives, Halts, answer, Next, and_then, and_continue, within}
 use Rattle.shader_runs.specs.Outcome.{and_again, turn, turns, after_switch, branch_by, or_stuck}
 use Rattle.shader_runs.specs.Program.{Expression, Load, Request, Action, Asked, Called, Label}
@@ -15,12 +16,13 @@ use Rattle.shader_runs.specs.Program.{Loop, Break, Continue, Return, Kill, Barri
 use Rattle.shader_runs.specs.Program.{end, then, Cases, no_case, case, Function, argument_count}
 use Rattle.shader_runs.specs.Program.{function_numbered, expression_of, handle_type, is_counted}
 use Rattle.shader_runs.specs.Program.{is_asked, from, Module}
-use Rattle.shader_runs.specs.ProgramRun.{Call, Kept, constant_values, used_value, used_values}
+use Rattle.shader_runs.specs.ProgramRun.{Call, KeptValues, constant_values, used_value, used_values}
 use Rattle.shader_runs.specs.ProgramRun.{joined_values, if_typed, after_load, after_request}
 use Rattle.shader_runs.specs.ProgramRun.{if_counted, emit_as, emit, leave, action_answer}
 use Rattle.shader_runs.specs.ProgramRun.{with_result, barrier_words, ask_each, same_label}
 use Rattle.shader_runs.specs.ProgramRun.{has_label, label_if, run, run_all, run_cases, run_on}
-use Rattle.shader_runs.specs.ProgramRun.{constants_kept, first_used_all, entered, run_body, called}
+use Rattle.shader_runs.specs.ProgramRun.{constants_kept, first_used_all, run_from_entry, run_body}
+use Rattle.shader_runs.specs.ProgramRun.{run_if_arguments_fit}
 use Rattle.shader_runs.specs.ProgramRun.{run_call}
 use Rattle.shader_runs.specs.Scope.{ModuleNames, Naming}
 use Rattle.shader_runs.specs.Form.{functions_of}
@@ -134,7 +136,7 @@ module _ (k : Option ValueType) where
   typed_leads false t s = tt
 
   -- an Emit is done, or ends by an answer of a wrong type or a value that is no pointer
-  emit_as_leads : (c : Call) (h : ℕ) (e : Option Expression) (kept : Kept) (t : List Event) → Leads k true false (emit_as c h e kept t)
+  emit_as_leads : (c : Call) (h : ℕ) (e : Option Expression) (kept : KeptValues) (t : List Event) → Leads k true false (emit_as c h e kept t)
   emit_as_leads c h (Some (Load p)) kept t = go (is_counted c.function 1 h) (used_value c kept p)
     where
       go : (b : Bool) (o : Option Value) → Leads k true false (if_counted b (after_load c.environment.parts (handle_type c.function h) c.world h o) kept t)
@@ -152,22 +154,22 @@ module _ (k : Option ValueType) where
   emit_as_leads c h (Some _) kept t = refl
   emit_as_leads c h None kept t = refl
 
-  emit_leads : (c : Call) (hs : List ℕ) (kept : Kept) (t : List Event) → Leads k true false (emit c hs kept t)
+  emit_leads : (c : Call) (hs : List ℕ) (kept : KeptValues) (t : List Event) → Leads k true false (emit c hs kept t)
   emit_leads c [] kept t = refl
   emit_leads c (h ∷ hs) kept t =
       then_leads true true false false (emit_as c h (expression_of c.function h) kept t) (emit c hs) (emit_as_leads c h (expression_of c.function h) kept t) (emit_leads c hs)
 
-  asks_lead : (ws : List Bytes) (kept : Kept) (t : List Event) → Leads k true false (ask_each ws kept t)
+  asks_lead : (ws : List Bytes) (kept : KeptValues) (t : List Event) → Leads k true false (ask_each ws kept t)
   asks_lead [] kept t = refl
   asks_lead (w ∷ ws) kept t = asks_lead ws kept (Ask w [] ∷ t)
 
-  leave_leads : (c : Call) (b : Bool) (e : Option ℕ) → (kept : Kept) (t : List Event) → Leads k true (b || is_some e) (leave c e kept t)
+  leave_leads : (c : Call) (b : Bool) (e : Option ℕ) → (kept : KeptValues) (t : List Event) → Leads k true (b || is_some e) (leave c e kept t)
   leave_leads c b None kept t = refl
   leave_leads c b (Some h) kept t =
       there_leads true (b || true) (used_value c kept h) t (λ v. branch_by v t (Broke kept t) (Done kept t)) (λ v. chosen_leads true (b || true) v t (Broke kept t) (Done kept t) (or_right b true refl) refl)
 
 -- a call that wants a result gets one
-result_leads : (parts : PartTypes) (k : Option ValueType) (f : Function) (callee : Option ValueType) (a : Action) (r : Option ℕ) (kept : Kept) (q : Reached (Option Value)) → ((h : ℕ) → r ≡ Some h → (z : ValueType) × (callee ≡ Some z)) → IsComplete callee q → Leads k true false (with_result parts f a r kept q)
+result_leads : (parts : PartTypes) (k : Option ValueType) (f : Function) (callee : Option ValueType) (a : Action) (r : Option ℕ) (kept : KeptValues) (q : ReachedOrHalted (Option Value)) → ((h : ℕ) → r ≡ Some h → (z : ValueType) × (callee ≡ Some z)) → IsComplete callee q → Leads k true false (with_result parts f a r kept q)
 result_leads parts k f callee a None kept (Gives v t) w l = refl
 result_leads parts k f callee a None kept (Halts x t) w l = l
 result_leads parts k f callee a (Some h) kept (Gives None t) w l =
@@ -189,7 +191,7 @@ falls_to_case true end (case l b falls cs) w h = tt
 falls_to_case true (then s ss) cs w h = absurd w
 
 module _ (p : Module) (c : Call) (f : Naming) (complete : (g : ℕ) (callee : Function) → function_numbered c.callees g ≡ Some callee → (vs : List Value) (t : List Event) → IsComplete callee.result (c.calls g vs t)) (k : Option ValueType) (bound : ℕ) where
-  act_leads : (a : Action) (xs : List ℕ) (r : Option ℕ) → ActionFits p c.callees f a xs r → (kept : Kept) (t : List Event) (o : Option (List Value)) → Leads k true false (or_stuck o t (λ vs. with_result c.environment.parts c.function a r kept (action_answer c a vs t)))
+  act_leads : (a : Action) (xs : List ℕ) (r : Option ℕ) → ActionFits p c.callees f a xs r → (kept : KeptValues) (t : List Event) (o : Option (List Value)) → Leads k true false (or_stuck o t (λ vs. with_result c.environment.parts c.function a r kept (action_answer c a vs t)))
   act_leads a xs r m kept t None = tt
   act_leads (Asked w) xs None m kept t (Some vs) = refl
   act_leads (Asked w) xs (Some h) m kept t (Some vs) = typed_leads k (has_type c.environment.parts (handle_type c.function h) (c.world t (Ask w vs))) (Ask w vs ∷ t) (update kept h (Some (c.world t (Ask w vs))))
@@ -212,16 +214,16 @@ module _ (p : Module) (c : Call) (f : Naming) (complete : (g : ℕ) (callee : Fu
   ends_later b falls cs h =
       or_right (any_break b) ((not falls && may_end_all b) || some_case_ends cs) (or_right (not falls && may_end_all b) (some_case_ends cs) h)
 
-  case_leads : (b : Statements) (falls : Bool) (cs : Cases) (on : Next Kept) (kept : Kept) (t : List Event) → Leads k (may_end_all b) (any_break b) (run_all c bound b kept t) → (IsTrue falls → (kept : Kept) (t : List Event) → Leads k (some_case_ends cs) (some_case_ends cs) (on kept t)) → Leads k (Ends b falls cs) (Ends b falls cs) (and_then (run_all c bound b kept t) (λ kept1 t1. cond falls (on kept1 t1) (Done kept1 t1)))
+  case_leads : (b : Statements) (falls : Bool) (cs : Cases) (on : Next KeptValues) (kept : KeptValues) (t : List Event) → Leads k (may_end_all b) (any_break b) (run_all c bound b kept t) → (IsTrue falls → (kept : KeptValues) (t : List Event) → Leads k (some_case_ends cs) (some_case_ends cs) (on kept t)) → Leads k (Ends b falls cs) (Ends b falls cs) (and_then (run_all c bound b kept t) (λ kept1 t1. cond falls (on kept1 t1) (Done kept1 t1)))
   case_leads b falls cs on kept t l next = go (run_all c bound b kept t) l
     where
-      on_from : (z : Bool) → falls ≡ z → IsTrue (may_end_all b) → (kept : Kept) (t : List Event) → Leads k (Ends b falls cs) (Ends b falls cs) (cond z (on kept t) (Done kept t))
+      on_from : (z : Bool) → falls ≡ z → IsTrue (may_end_all b) → (kept : KeptValues) (t : List Event) → Leads k (Ends b falls cs) (Ends b falls cs) (cond z (on kept t) (Done kept t))
       on_from true q e kept t =
           more k (some_case_ends cs) (Ends b falls cs) (some_case_ends cs) (Ends b falls cs) (on kept t) (ends_later b falls cs) (ends_later b falls cs) (next q kept t)
       on_from false q e kept t =
           or_right (any_break b) ((not falls && may_end_all b) || some_case_ends cs) (or_left (not falls && may_end_all b) (some_case_ends cs) (and_both (not falls) (may_end_all b) (ap not q) e))
 
-      go : (o : Outcome Kept) → Leads k (may_end_all b) (any_break b) o → Leads k (Ends b falls cs) (Ends b falls cs) (and_then o (λ kept1 t1. cond falls (on kept1 t1) (Done kept1 t1)))
+      go : (o : Outcome KeptValues) → Leads k (may_end_all b) (any_break b) o → Leads k (Ends b falls cs) (Ends b falls cs) (and_then o (λ kept1 t1. cond falls (on kept1 t1) (Done kept1 t1)))
       go (Done kept t) l = on_from falls refl l kept t
       go (Continued kept t) l = tt
       go (Broke kept t) l = or_left (any_break b) ((not falls && may_end_all b) || some_case_ends cs) l
@@ -229,17 +231,17 @@ module _ (p : Module) (c : Call) (f : Naming) (complete : (g : ℕ) (callee : Fu
       go (Stopped x t) l = l
 
   -- a case by its label, and the later ones
-  picked_leads : (z there ends later : Bool) (o o2 : Outcome Kept) → (IsTrue later → IsTrue ends) → Leads k ends ends o → Leads k (not there || later) later o2 → Leads k (not (z || there) || ends) ends (cond z o o2)
+  picked_leads : (z there ends later : Bool) (o o2 : Outcome KeptValues) → (IsTrue later → IsTrue ends) → Leads k ends ends o → Leads k (not there || later) later o2 → Leads k (not (z || there) || ends) ends (cond z o o2)
   picked_leads true there ends later o o2 up l l2 = l
   picked_leads false there ends later o o2 up l l2 =
       more k (not there || later) (not there || ends) later ends o2 (λ h. or_either (not there) later (not there || ends) (λ n. or_left (not there) ends n) (λ n. or_right (not there) ends (up n)) h) up l2
 
-  if_leads : (ea eb ba bb : Bool) (v : Value) (t : List Event) (a b : Outcome Kept) → Leads k ea ba a → Leads k eb bb b → Leads k (ea || eb) (ba || bb) (branch_by v t a b)
+  if_leads : (ea eb ba bb : Bool) (v : Value) (t : List Event) (a b : Outcome KeptValues) → Leads k ea ba a → Leads k eb bb b → Leads k (ea || eb) (ba || bb) (branch_by v t a b)
   if_leads ea eb ba bb v t a b l l2 =
       chosen_leads k (ea || eb) (ba || bb) v t a b (more k ea (ea || eb) ba (ba || bb) a (λ h. or_left ea eb h) (λ h. or_left ba bb h) l) (more k eb (ea || eb) bb (ba || bb) b (λ h. or_right ea eb h) (λ h. or_right ba bb h) l2)
 
   -- an integer goes to its own case or to the default
-  one_label : (cs : Cases) → ((x : Label) (kept : Kept) (t : List Event) → Leads k (not (has_label x cs) || some_case_ends cs) (some_case_ends cs) (run_cases c bound cs x kept t)) → (z : ℤ) (kept : Kept) (t : List Event) → Leads k (may_end (Switch 0 cs)) false (after_switch (run_cases c bound cs (label_if (has_label (Numbered z) cs) z) kept t))
+  one_label : (cs : Cases) → ((x : Label) (kept : KeptValues) (t : List Event) → Leads k (not (has_label x cs) || some_case_ends cs) (some_case_ends cs) (run_cases c bound cs x kept t)) → (z : ℤ) (kept : KeptValues) (t : List Event) → Leads k (may_end (Switch 0 cs)) false (after_switch (run_cases c bound cs (label_if (has_label (Numbered z) cs) z) kept t))
   one_label cs each z kept t = go (has_label (Numbered z) cs) refl
     where
       go : (b : Bool) → has_label (Numbered z) cs ≡ b → Leads k (may_end (Switch 0 cs)) false (after_switch (run_cases c bound cs (label_if b z) kept t))
@@ -251,7 +253,7 @@ module _ (p : Module) (c : Call) (f : Naming) (complete : (g : ℕ) (callee : Fu
           switch_leads k (may_end (Switch 0 cs)) (some_case_ends cs) (run_cases c bound cs Default kept t) (λ h. or_right (not (has_label Default cs)) (some_case_ends cs) h) (each Default kept t)
 
   mutual
-    line_leads : (st : Statement) → IsRegular p c.callees f st → Where k (has_values st) → (kept : Kept) (t : List Event) → Leads k (may_end st) (holds_break st) (run c bound st kept t)
+    line_leads : (st : Statement) → IsRegular p c.callees f st → Where k (has_values st) → (kept : KeptValues) (t : List Event) → Leads k (may_end st) (holds_break st) (run c bound st kept t)
     line_leads (Emit first count) m w kept t = emit_leads k c (from first count) kept t
     line_leads (Store q v) m w kept t =
         there_leads k true false (option_and_then place_in (used_value c kept q)) t _ (λ place. there_leads k true false (used_value c kept v) t _ (λ value. refl))
@@ -271,19 +273,19 @@ module _ (p : Module) (c : Call) (f : Naming) (complete : (g : ℕ) (callee : Fu
     line_leads (Barrier bits) m w kept t = asks_lead k (barrier_words bits) kept t
     line_leads (Act a xs r) m w kept t = act_leads a xs r m.0 kept t (used_values c kept xs)
 
-    body_leads : (ss : Statements) → AreRegular p c.callees f ss → Where k (all_have_values ss) → (kept : Kept) (t : List Event) → Leads k (may_end_all ss) (any_break ss) (run_all c bound ss kept t)
+    body_leads : (ss : Statements) → AreRegular p c.callees f ss → Where k (all_have_values ss) → (kept : KeptValues) (t : List Event) → Leads k (may_end_all ss) (any_break ss) (run_all c bound ss kept t)
     body_leads end m w kept t = refl
     body_leads (then st ss) m w kept t =
         then_leads k (may_end st) (may_end_all ss) (holds_break st) (any_break ss) (run c bound st kept t) (run_all c bound ss) (line_leads st m.0 (where_left k (has_values st) (all_have_values ss) w) kept t) (λ kept t. body_leads ss m.1 (where_right k (has_values st) (all_have_values ss) w) kept t)
 
-    cases_lead : (cs : Cases) → CasesAreRegular p c.callees f cs → Where k (cases_have_values cs) → (x : Label) (kept : Kept) (t : List Event) → Leads k (not (has_label x cs) || some_case_ends cs) (some_case_ends cs) (run_cases c bound cs x kept t)
+    cases_lead : (cs : Cases) → CasesAreRegular p c.callees f cs → Where k (cases_have_values cs) → (x : Label) (kept : KeptValues) (t : List Event) → Leads k (not (has_label x cs) || some_case_ends cs) (some_case_ends cs) (run_cases c bound cs x kept t)
     cases_lead no_case m w x kept t = refl
     cases_lead (case l b falls cs) m w x kept t =
         let body = body_leads b m.1 (where_left k (all_have_values b) (cases_have_values cs) w) kept t in
         let later = where_right k (all_have_values b) (cases_have_values cs) w in
         picked_leads (same_label x l) (has_label x cs) (Ends b falls cs) (some_case_ends cs) _ _ (ends_later b falls cs) (case_leads b falls cs (run_on c bound cs) kept t body (λ q kept t. on_lead cs (falls_to_case falls b cs m.0 q) m.2 later kept t)) (cases_lead cs m.2 later x kept t)
 
-    on_lead : (cs : Cases) → IsCase cs → CasesAreRegular p c.callees f cs → Where k (cases_have_values cs) → (kept : Kept) (t : List Event) → Leads k (some_case_ends cs) (some_case_ends cs) (run_on c bound cs kept t)
+    on_lead : (cs : Cases) → IsCase cs → CasesAreRegular p c.callees f cs → Where k (cases_have_values cs) → (kept : KeptValues) (t : List Event) → Leads k (some_case_ends cs) (some_case_ends cs) (run_on c bound cs kept t)
     on_lead no_case i m w kept t = absurd i
     on_lead (case l b falls cs) i m w kept t =
         let body = body_leads b m.1 (where_left k (all_have_values b) (cases_have_values cs) w) kept t in
@@ -291,7 +293,7 @@ module _ (p : Module) (c : Call) (f : Naming) (complete : (g : ℕ) (callee : Fu
         case_leads b falls cs (run_on c bound cs) kept t body (λ q kept t. on_lead cs (falls_to_case falls b cs m.0 q) m.2 later kept t)
 
 -- a body's end, where it is reached, gives nothing
-answer_complete : (k : Option ValueType) (e b : Bool) (o : Outcome Kept) → (IsTrue e → IsGiven k None) → Leads k e b o → IsComplete k (answer o)
+answer_complete : (k : Option ValueType) (e b : Bool) (o : Outcome KeptValues) → (IsTrue e → IsGiven k None) → Leads k e b o → IsComplete k (answer o)
 answer_complete k e b (Done s t) f l = f l
 answer_complete k e b (Continued s t) f l = tt
 answer_complete k e b (Broke s t) f l = tt
@@ -318,10 +320,10 @@ module _ (p : Module) (n : ModuleNames) (env : Environment) (w : World) (m : Mea
       c : Call
       c = call_of env w m bound f fs vs t
 
-      kept : Kept
+      kept : KeptValues
       kept = constants_kept f.function env m
 
-      go : (o : Option (List (Option Value))) → IsComplete f.function.result (entered g vs o t (λ t1. answer (run_all c bound f.function.body kept t1)))
+      go : (o : Option (List (Option Value))) → IsComplete f.function.result (run_from_entry g vs o t (λ t1. answer (run_all c bound f.function.body kept t1)))
       go None = tt
       go (Some firsts) =
           let k = f.function.result in
@@ -334,8 +336,8 @@ module _ (p : Module) (n : ModuleNames) (env : Environment) (w : World) (m : Mea
   calls_complete (f ∷ fs) fits gives g callee e vs t =
       go (nat_eq g (length (functions_of fs))) e (calls_complete fs fits.1 gives.1)
     where
-      own_call : Bool → Reached (Option Value)
-      own_call b = called b (run_body (call_of env w m bound f fs vs t) bound (length (functions_of fs)) vs t) t
+      own_call : Bool → ReachedOrHalted (Option Value)
+      own_call b = run_if_arguments_fit b (run_body (call_of env w m bound f fs vs t) bound (length (functions_of fs)) vs t) t
 
       own : Calls_complete fs → (b : Bool) → IsComplete f.function.result (own_call b)
       own earlier true = body_complete fs earlier f fits.0.regular gives.0 vs t (length (functions_of fs))

@@ -13,7 +13,8 @@ use Rattle.shader_runs.specs.ProgramRun.{Call, barrier_words, same_label, has_la
 use Rattle.shader_runs.specs.Scope.{Named, Handles, Names, Naming, bound_name, after_one}
 use Rattle.shader_runs.specs.Scope.{given_after, given_by, given_by_all, after, after_all}
 use Rattle.shader_runs.specs.Scope.{forgotten_if}
-use Rattle.shader_runs.specs.Form.{value_form, own_form, written, let_if, lets, perform_each, form}
+use Rattle.shader_runs.specs.Form.{value_form, own_form, written_form, let_if, lets, perform_each}
+use Rattle.shader_runs.specs.Form.{form}
 use Rattle.shader_runs.specs.Form.{form_all, form_cases}
 use Rattle.shader_runs.specs.Premises.{FallsFrom}
 use Rattle.shader_runs.proofs.Relation.{Extends, extends_refl, extends_trans, extends_forgotten}
@@ -29,7 +30,7 @@ pub lets_continue : (f : Naming) (k : ℕ) (hs : List ℕ) (s : Handles) (tail :
 lets_continue f k [] s tail = refl
 lets_continue f k (h ∷ hs) s tail =
     let rest = lets f (given_after f.function h k) hs (after_one f k h s) tail in
-    let_continue (binds f.function h) (bound_name f k h) (value_form (own_form f (written f s) (handle_type f.function h) (expression_of f.function h))) rest
+    let_continue (binds f.function h) (bound_name f k h) (value_form (own_form f (written_form f s) (handle_type f.function h) (expression_of f.function h))) rest
     ∙ lets_continue f (given_after f.function h k) hs (after_one f k h s) tail
 
 pub performs_continue : (ws : List Bytes) (tail : Lines) → some_continue (perform_each ws tail) ≡ some_continue tail

@@ -18,19 +18,21 @@ use Rattle.shader_runs.specs.Scope.{Standing, Absent, Barred, Everywhere, Inline
 use Rattle.shader_runs.specs.Scope.{Naming, before_local, bound_name, is_present, is_new, usable_as}
 use Rattle.shader_runs.specs.Scope.{usable, usable_all, usable_if, is_pure, all_constant}
 use Rattle.shader_runs.specs.Scope.{is_constant_leaf, constant_test, is_constant_below}
-use Rattle.shader_runs.specs.Scope.{start_standing, at_start, unbound, emitted, after_one}
+use Rattle.shader_runs.specs.Scope.{start_standing, at_start, standing_without_name}
+use Rattle.shader_runs.specs.Scope.{with_emitted_handle, after_one}
 use Rattle.shader_runs.specs.Scope.{given_after, given_by, given_by_all, after_emit, after}
 use Rattle.shader_runs.specs.Scope.{forgotten_handles, forgotten_one, forgotten_if, after_all}
 use Rattle.shader_runs.specs.Scope.{is_emittable, may_emit, may_emit_all, may_give, fits, fits_all}
 use Rattle.shader_runs.specs.Scope.{fits_cases, first_values_fit}
 use Rattle.shader_runs.specs.Premises.{AllBelow}
-use Rattle.shader_runs.specs.ScopeRules.{Given, Emitted, AsResult, handle_of, IsAmong}
+use Rattle.shader_runs.specs.ScopeRules.{GivenHandle, Emitted, AsResult, handle_of, IsAmong}
 use Rattle.shader_runs.specs.ScopeRules.{IsConstantTree, one_constant, over_constants}
 use Rattle.shader_runs.specs.ScopeRules.{AreConstantTrees, no_tree, and_tree, can_be_given, InScope}
 use Rattle.shader_runs.specs.ScopeRules.{constant_tree, argument, local, global, bound, written_out}
 use Rattle.shader_runs.specs.ScopeRules.{result, still, EachInScope, no_handle, and_handle}
 use Rattle.shader_runs.specs.ScopeRules.{InScopeIf, is_unwritten, with_one, with_emitted}
-use Rattle.shader_runs.specs.ScopeRules.{with_statement, with_statements, unskipped, Point}
+use Rattle.shader_runs.specs.ScopeRules.{with_statement, with_statements}
+use Rattle.shader_runs.specs.ScopeRules.{statements_before_continue, Point}
 use Rattle.shader_runs.specs.ScopeRules.{entry_point, behind_one, behind, behind_turn, WasGiven}
 use Rattle.shader_runs.specs.ScopeRules.{in_sight, as_a_tree, MayEmit, MayEmitEach, MayResult}
 use Rattle.shader_runs.specs.ScopeRules.{StatementHolds, StatementsHold, CasesHold, FirstValuesHold}
@@ -66,11 +68,11 @@ abbrev operands_at : Function → ℕ → List ℕ
 operands_at f h = operands_of (expression_of f h)
 
 -- what brings a handle into scope
-abbrev Brings : Function → List Given → Given → ℕ → Type 0
+abbrev Brings : Function → List GivenHandle → GivenHandle → ℕ → Type 0
 Brings f v (Emitted h) k = (h ≡ k) × (IsTrue (binds f k) ⊎ EachInScope f v (operands_at f k))
 Brings f v (AsResult h) k = (h ≡ k) × IsTrue (can_be_given (expression_of f k))
 
-brought : (f : Function) (g : Given) (v : List Given) (k : ℕ) →
+brought : (f : Function) (g : GivenHandle) (v : List GivenHandle) (k : ℕ) →
     InScope f (g ∷ v) k → InScope f v k ⊎ Brings f v g k
 brought f g v k (constant_tree t) = inl (constant_tree t)
 brought f g v k (argument i q l) = inl (argument i q l)
@@ -81,12 +83,12 @@ brought f g v k (written_out b p os) = inr (refl, inr os)
 brought f g v k (result m) = inr (refl, m)
 brought f g v k (still g0 d) = inl d
 
-brings_itself : (f : Function) (g : Given) (v : List Given) (k : ℕ) → Brings f v g k → handle_of g ≡ k
+brings_itself : (f : Function) (g : GivenHandle) (v : List GivenHandle) (k : ℕ) → Brings f v g k → handle_of g ≡ k
 brings_itself f (Emitted h) v k b = b.0
 brings_itself f (AsResult h) v k b = b.0
 
 -- another handle was in scope before
-older : (f : Function) (g : Given) (v : List Given) (k : ℕ) →
+older : (f : Function) (g : GivenHandle) (v : List GivenHandle) (k : ℕ) →
     (handle_of g ≡ k → ⊥) → InScope f (g ∷ v) k → InScope f v k
 older f g v k n d = ⊎_elim (λ d. d) (λ b. absurd (n (brings_itself f g v k b))) (brought f g v k d)
 
@@ -204,7 +206,7 @@ parts_of_tree : (f : Function) (h : ℕ) →
 parts_of_tree f h p (one_constant c q) = false_is_not_true (is_pure (expression_of f h)) (ap is_pure q) p
 parts_of_tree f h p (over_constants q ts) = ts
 
-each_tree_in_scope : (f : Function) (v : List Given) (xs : List ℕ) → AreConstantTrees f xs → EachInScope f v xs
+each_tree_in_scope : (f : Function) (v : List GivenHandle) (xs : List ℕ) → AreConstantTrees f xs → EachInScope f v xs
 each_tree_in_scope f v [] no_tree = no_handle
 each_tree_in_scope f v (x ∷ xs) (and_tree t ts) = and_handle (constant_tree t) (each_tree_in_scope f v xs ts)
 
@@ -215,7 +217,7 @@ record Tracks (f : Function) (at : Point) (s : Handles) : Type 0 where
   pub trees : (h : ℕ) → s h ≡ Everywhere → IsCompound f h
   pub passed : (h : ℕ) → IsAmong h at.visible → IsAmong h at.passed
 
-each_parts : (f : Function) (v : List Given) (x : ℕ) (xs : List ℕ) →
+each_parts : (f : Function) (v : List GivenHandle) (x : ℕ) (xs : List ℕ) →
     EachInScope f v (x ∷ xs) → InScope f v x × EachInScope f v xs
 each_parts f v x xs (and_handle d ds) = (d, ds)
 
@@ -232,14 +234,14 @@ if_used f at s t None = (λ u. tt, λ d. refl)
 if_used f at s t (Some h) = t.used h
 
 -- one more handle is given
-abbrev with_given : Given → Point → Point
+abbrev with_given : GivenHandle → Point → Point
 with_given g at = record { visible = g ∷ at.visible; passed = g ∷ at.passed }
 
-given_more : (f : Function) (g : Given) (at : Point) (h : ℕ) → WasGiven f at h → WasGiven f (with_given g at) h
+given_more : (f : Function) (g : GivenHandle) (at : Point) (h : ℕ) → WasGiven f at h → WasGiven f (with_given g at) h
 given_more f g at h (in_sight a) = in_sight (inr a)
 given_more f g at h (as_a_tree p t a) = as_a_tree p t (inr a)
 
-given_less : (f : Function) (g : Given) (at : Point) (h : ℕ) →
+given_less : (f : Function) (g : GivenHandle) (at : Point) (h : ℕ) →
     (handle_of g ≡ h → ⊥) → WasGiven f (with_given g at) h → WasGiven f at h
 given_less f g at h n (in_sight a) = in_sight (⊎_elim (λ e. absurd (n e)) (λ a. a) a)
 given_less f g at h n (as_a_tree p t a) = as_a_tree p t (⊎_elim (λ e. absurd (n e)) (λ a. a) a)
@@ -248,11 +250,11 @@ not_everywhere : (st : Standing) → is_new st ≡ false → st ≡ Everywhere �
 not_everywhere st n e = true≢false (sym (ap is_new e) ∙ n)
 
 -- this standing of a handle says what the rules do
-abbrev UsedAs : Function → List Given → ℕ → Standing → Type 0
+abbrev UsedAs : Function → List GivenHandle → ℕ → Standing → Type 0
 UsedAs f v h st = IsTrue (usable_as f (expression_of f h) st) ↔ InScope f v h
 
 -- one handle more is given, and has this standing
-module _ (f : Function) (g : Given) (st : Standing) (at : Point) (s : Handles)
+module _ (f : Function) (g : GivenHandle) (st : Standing) (at : Point) (s : Handles)
     (t : Tracks f at s) (here : UsedAs f (g ∷ at.visible) (handle_of g) st) (new : is_new st ≡ false) where
   abbrev GivenAs : ℕ → Standing → Type 0
   GivenAs k z = (is_new z ≡ false) ↔ WasGiven f (with_given g at) k
@@ -307,23 +309,23 @@ module _ (f : Function) (at : Point) (s : Handles) (h : ℕ) (t : Tracks f at s)
       barred u i = false_is_not_true (usable_all f s (operands_at f h)) u i
 
   inline_used : (u : Bool) → usable_all f s (operands_at f h) ≡ u →
-      (IsTrue (is_present (unbound u (s h))) ↔ InScope f (Emitted h ∷ at.visible) h)
+      (IsTrue (is_present (standing_without_name u (s h))) ↔ InScope f (Emitted h ∷ at.visible) h)
   inline_used true u = (λ i. written_out b p (each_operand.0 u), λ d. refl)
   inline_used false u = go (s h) refl
     where
       go : (st : Standing) → s h ≡ st →
-          (IsTrue (is_present (unbound false st)) ↔ InScope f (Emitted h ∷ at.visible) h)
+          (IsTrue (is_present (standing_without_name false st)) ↔ InScope f (Emitted h ∷ at.visible) h)
       go Absent q = (λ i. absurd (true≢false (sym i)), λ d. ap is_present (sym q) ∙ was_present u d)
       go Barred q = (λ i. absurd (true≢false (sym i)), λ d. ap is_present (sym q) ∙ was_present u d)
       go Everywhere q = (λ i. stays (ap is_present q), λ d. refl)
       go Inline q = (λ i. stays (ap is_present q), λ d. refl)
       go (Named x) q = (λ i. stays (ap is_present q), λ d. refl)
 
-  inline_given : (u : Bool) → usable_all f s (operands_at f h) ≡ u → is_new (unbound u (s h)) ≡ false
+  inline_given : (u : Bool) → usable_all f s (operands_at f h) ≡ u → is_new (standing_without_name u (s h)) ≡ false
   inline_given true u = refl
   inline_given false u = go (s h) refl
     where
-      go : (st : Standing) → s h ≡ st → is_new (unbound false st) ≡ false
+      go : (st : Standing) → s h ≡ st → is_new (standing_without_name false st) ≡ false
       go Absent q = refl
       go Barred q = refl
       go Everywhere q =
@@ -345,20 +347,20 @@ module _ (f : Function) (h : ℕ) (at : Point) (s : Handles) (t : Tracks f at s)
       record { visible = cond c at.visible (Emitted h ∷ at.visible); passed = cond c at.passed (Emitted h ∷ at.passed) }
 
   tracks_kind : (b o : Bool) → binds f h ≡ b → is_pure (expression_of f h) ≡ o →
-      Tracks f (WithOne (not (b || o))) (emitted b o Usable x s h)
+      Tracks f (WithOne (not (b || o))) (with_emitted_handle b o Usable x s h)
   tracks_kind true o b p =
       let present = usable_given f (expression_of f h) (Named x) (emittable_given (expression_of f h) m) in
       tracks_given f (Emitted h) (Named x) at s t (λ i. bound b, λ d. present) refl
   tracks_kind false true b p =
-      let same = usable_pure f (expression_of f h) (unbound Usable (s h)) p in
+      let same = usable_pure f (expression_of f h) (standing_without_name Usable (s h)) p in
       let here = inline_used f at s h t p b Usable refl in
       let new = inline_given f at s h t p b Usable refl in
-      tracks_given f (Emitted h) (unbound Usable (s h)) at s t (λ i. here.0 (sym same ∙ i), λ d. same ∙ here.1 d) new
+      tracks_given f (Emitted h) (standing_without_name Usable (s h)) at s t (λ i. here.0 (sym same ∙ i), λ d. same ∙ here.1 d) new
   tracks_kind false false b p = t
 
-  tracks_emitted : Tracks f (behind_one f h at) (emitted (binds f h) (is_pure (expression_of f h)) Usable x s h)
+  tracks_emitted : Tracks f (behind_one f h at) (with_emitted_handle (binds f h) (is_pure (expression_of f h)) Usable x s h)
   tracks_emitted =
-      subst (λ c. Tracks f (WithOne c) (emitted (binds f h) (is_pure (expression_of f h)) Usable x s h))
+      subst (λ c. Tracks f (WithOne c) (with_emitted_handle (binds f h) (is_pure (expression_of f h)) Usable x s h))
       (sym (unwritten_kind f h (expression_of f h) m))
       (tracks_kind (binds f h) (is_pure (expression_of f h)) refl refl)
 
@@ -443,7 +445,7 @@ tracks_after f k (Act a xs None) at s t i = t
 tracks_after f k _ at s t i = t
 
 -- what was given stays given
-among_emitted : (f : Function) (hs : List ℕ) (v : List Given) (k : ℕ) → IsAmong k v → IsAmong k (with_emitted f hs v)
+among_emitted : (f : Function) (hs : List ℕ) (v : List GivenHandle) (k : ℕ) → IsAmong k v → IsAmong k (with_emitted f hs v)
 among_emitted f [] v k a = a
 among_emitted f (h ∷ hs) v k a = among_emitted f hs (with_one f h v) k (one (is_unwritten f h (expression_of f h)))
   where
@@ -451,14 +453,14 @@ among_emitted f (h ∷ hs) v k a = among_emitted f hs (with_one f h v) k (one (i
     one true = a
     one false = inr a
 
-among_statement : (f : Function) (st : Statement) (v : List Given) (k : ℕ) →
+among_statement : (f : Function) (st : Statement) (v : List GivenHandle) (k : ℕ) →
     IsAmong k v → IsAmong k (with_statement f st v)
 among_statement f (Emit first count) v k a = among_emitted f (from first count) v k a
 among_statement f (Act b xs (Some h)) v k a = inr a
 among_statement f (Act b xs None) v k a = a
 among_statement f _ v k a = a
 
-among_statements : (f : Function) (ss : Statements) (v : List Given) (k : ℕ) →
+among_statements : (f : Function) (ss : Statements) (v : List GivenHandle) (k : ℕ) →
     IsAmong k v → IsAmong k (with_statements f ss v)
 among_statements f end v k a = a
 among_statements f (then st ss) v k a =
@@ -542,7 +544,7 @@ module _ (f : Function) (at later : Point) (s now : Handles) (t : Tracks f at s)
 abbrev behind_first : Function → Bool → Statement → Statements → Point → Point
 behind_first f b st ss at =
     record {
-      visible = with_statements f (cond b end (then st (unskipped ss))) at.visible;
+      visible = with_statements f (cond b end (then st (statements_before_continue ss))) at.visible;
       passed = with_statements f (then st ss) at.passed;
     }
 

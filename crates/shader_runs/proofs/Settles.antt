@@ -8,18 +8,19 @@ use Rattle.shader_runs.specs.Value.{Bytes, same_bytes, Place, Selector, Value, S
 use Rattle.shader_runs.specs.Value.{truth_in, integer_in, place_in, Part, At}
 use Rattle.shader_runs.specs.World.{Event, Entry, Write, entries, World, Meaning, bind}
 use Rattle.shader_runs.specs.Outcome.{OutOfTurns, Outcome, Done, Continued, Broke, Returned}
-use Rattle.shader_runs.specs.Outcome.{Stopped, Reached, Gives, Halts, answer, Next, and_then}
+use Rattle.shader_runs.specs.Outcome.{Stopped, ReachedOrHalted, Gives, Halts, answer, Next}
+use Rattle.shader_runs.specs.Outcome.{and_then}
 use Rattle.shader_runs.specs.Outcome.{and_continue, within, turn, and_again, turns, after_switch}
 use Rattle.shader_runs.specs.Outcome.{closed_outcome, closed_if, branch_by, with_integer, or_stuck}
 use Rattle.shader_runs.specs.Outcome.{reach, unless}
 use Rattle.shader_runs.specs.Program.{Label, Numbered}
-use Rattle.shader_runs.specs.ProgramRun.{called, decides, label_if}
+use Rattle.shader_runs.specs.ProgramRun.{run_if_arguments_fit, decides, label_if}
 use Rattle.shader_runs.specs.Text.{Tree, Name, LiteralOf, Apply, Deref, AddressOf, Index, PartOf}
 use Rattle.shader_runs.specs.Text.{LogicalOf, Trees, no_more, more, Line, Let, Assign, Braces}
 use Rattle.shader_runs.specs.Text.{IfElse, SwitchOn, LoopOf, BreakLine, ContinueLine, ReturnLine}
 use Rattle.shader_runs.specs.Text.{DiscardLine, Perform, Lines, last, before, Groups, no_group}
 use Rattle.shader_runs.specs.Text.{group, Variable, TextFunction}
-use Rattle.shader_runs.specs.TextRun.{Denoted, IsValue, IsPlace, Scope, Words, read_value}
+use Rattle.shader_runs.specs.TextRun.{Denotation, IsValue, IsPlace, Scope, Words, read_value}
 use Rattle.shader_runs.specs.TextRun.{put_before, followed_by, word_answer, word_reached, as_value}
 use Rattle.shader_runs.specs.TextRun.{dereference, address_reached, part_reached, index_reached}
 use Rattle.shader_runs.specs.TextRun.{index_into, part_picked, undecided_reached, logical_reached}
@@ -54,7 +55,7 @@ pub record Ends (X : Type 0) : Type 0 where
   pub events : X → List Event
   pub out : List Event → X
 
-abbrev pub reached_ends : {A : Type 0} → Ends (Reached A)
+abbrev pub reached_ends : {A : Type 0} → Ends (ReachedOrHalted A)
 reached_ends = record { events = reached_events; out = λ e. Halts OutOfTurns e }
 
 abbrev pub outcome_ends : {S : Type 0} → Ends (Outcome S)
@@ -82,7 +83,7 @@ silent zero once s t e = refl
 silent (suc n) once s t e = ap (λ o. and_again o (turns n once)) e ∙ silent n once s t e
 
 module _ (k : ℕ) where
-  abbrev pub SettlesReached : {A : Type 0} → List Event → Reached A → Reached A → Type 0
+  abbrev pub SettlesReached : {A : Type 0} → List Event → ReachedOrHalted A → ReachedOrHalted A → Type 0
   SettlesReached t q q' = Settles reached_ends k t q q'
 
   abbrev pub SettlesOutcome : {S : Type 0} → List Event → Outcome S → Outcome S → Type 0
@@ -200,22 +201,22 @@ module _ (k : ℕ) where
       go o o' p p' (same {q = q} l) rest = settled q p p' l rest
       go o o' p p' (out_of_turns h) rest = out_of_turns (omega (arith, h, lk))
 
-  valued_settles : {t : List Event} {q q' : Reached Denoted} (w : World) → SettlesReached t q q' → SettlesReached t (read_value w q) (read_value w q')
+  valued_settles : {t : List Event} {q q' : ReachedOrHalted Denotation} (w : World) → SettlesReached t q q' → SettlesReached t (read_value w q) (read_value w q')
   valued_settles w h = onward (read_value w) (read_value w) (λ e. refl) go h
     where
-      go : (q : Reached Denoted) → SettlesReached (reached_events q) (read_value w q) (read_value w q)
+      go : (q : ReachedOrHalted Denotation) → SettlesReached (reached_events q) (read_value w q) (read_value w q)
       go (Gives (IsValue v) e) = same here
       go (Gives (IsPlace p) e) = same (later here)
       go (Halts x e) = same here
 
-  followed_settles : {t : List Event} {q q' : Reached Value} (rest rest' : List Event → Reached (List Value)) → ((e : List Event) → SettlesReached e (rest e) (rest' e)) → SettlesReached t q q' → SettlesReached t (followed_by q rest) (followed_by q' rest')
+  followed_settles : {t : List Event} {q q' : ReachedOrHalted Value} (rest rest' : List Event → ReachedOrHalted (List Value)) → ((e : List Event) → SettlesReached e (rest e) (rest' e)) → SettlesReached t q q' → SettlesReached t (followed_by q rest) (followed_by q' rest')
   followed_settles rest rest' next h = onward (λ q. followed_by q rest) (λ q. followed_by q rest') (λ e. refl) go h
     where
-      put : (v : Value) (q : Reached (List Value)) → SettlesReached (reached_events q) (put_before v q) (put_before v q)
+      put : (v : Value) (q : ReachedOrHalted (List Value)) → SettlesReached (reached_events q) (put_before v q) (put_before v q)
       put v (Gives vs e) = same here
       put v (Halts x e) = same here
 
-      go : (q : Reached Value) → SettlesReached (reached_events q) (followed_by q rest) (followed_by q rest')
+      go : (q : ReachedOrHalted Value) → SettlesReached (reached_events q) (followed_by q rest) (followed_by q rest')
       go (Gives v e) = onward (put_before v) (put_before v) (λ e. refl) (put v) (next e)
       go (Halts x e) = same here
 
@@ -223,33 +224,33 @@ module _ (k : ℕ) where
   reach_settles None t = same here
   reach_settles (Some a) t = same here
 
-  unless_settles : {A B : Type 0} {q q' : Reached B} (o : Option A) (t : List Event) → SettlesReached t q q' → SettlesReached t (unless o t q) (unless o t q')
+  unless_settles : {A B : Type 0} {q q' : ReachedOrHalted B} (o : Option A) (t : List Event) → SettlesReached t q q' → SettlesReached t (unless o t q) (unless o t q')
   unless_settles None t h = h
   unless_settles (Some a) t h = same here
 
-  indexed_settles : {t : List Event} {q q' : Reached Denoted} (m : Meaning) (rest rest' : List Event → Reached Value) → ((e : List Event) → SettlesReached e (rest e) (rest' e)) → SettlesReached t q q' → SettlesReached t (index_into m q rest) (index_into m q' rest')
+  indexed_settles : {t : List Event} {q q' : ReachedOrHalted Denotation} (m : Meaning) (rest rest' : List Event → ReachedOrHalted Value) → ((e : List Event) → SettlesReached e (rest e) (rest' e)) → SettlesReached t q q' → SettlesReached t (index_into m q rest) (index_into m q' rest')
   indexed_settles m rest rest' next h = onward (λ q. index_into m q rest) (λ q. index_into m q rest') (λ e. refl) go h
     where
-      into_place : (p : Place) (q : Reached Value) → SettlesReached (reached_events q) (part_reached p q) (part_reached p q)
+      into_place : (p : Place) (q : ReachedOrHalted Value) → SettlesReached (reached_events q) (part_reached p q) (part_reached p q)
       into_place p (Gives v e) = reach_settles (option_map (λ z. IsPlace (Part p (At z))) (integer_in v)) e
       into_place p (Halts x e) = same here
 
-      into_value : (v : Value) (q : Reached Value) → SettlesReached (reached_events q) (index_reached m v q) (index_reached m v q)
+      into_value : (v : Value) (q : ReachedOrHalted Value) → SettlesReached (reached_events q) (index_reached m v q) (index_reached m v q)
       into_value v (Gives i e) = same here
       into_value v (Halts x e) = same here
 
       value_index : (v : Value) (e : List Event) → SettlesReached e (index_reached m v (rest e)) (index_reached m v (rest' e))
       value_index v e = onward (index_reached m v) (index_reached m v) (λ e. refl) (into_value v) (next e)
 
-      go : (q : Reached Denoted) → SettlesReached (reached_events q) (index_into m q rest) (index_into m q rest')
+      go : (q : ReachedOrHalted Denotation) → SettlesReached (reached_events q) (index_into m q rest) (index_into m q rest')
       go (Gives (IsPlace p) e) = onward (part_reached p) (part_reached p) (λ e. refl) (into_place p) (next e)
       go (Gives (IsValue v) e) = unless_settles (place_in v) e (value_index v e)
       go (Halts x e) = same here
 
-  logical_settles : {t : List Event} {q q' : Reached Value} (m : Meaning) (j : ShortCircuit) (rest rest' : List Event → Reached Value) → ((e : List Event) → SettlesReached e (rest e) (rest' e)) → SettlesReached t q q' → SettlesReached t (logical_reached m j q rest) (logical_reached m j q' rest')
+  logical_settles : {t : List Event} {q q' : ReachedOrHalted Value} (m : Meaning) (j : ShortCircuit) (rest rest' : List Event → ReachedOrHalted Value) → ((e : List Event) → SettlesReached e (rest e) (rest' e)) → SettlesReached t q q' → SettlesReached t (logical_reached m j q rest) (logical_reached m j q' rest')
   logical_settles m j rest rest' next h = onward (λ q. logical_reached m j q rest) (λ q. logical_reached m j q rest') (λ e. refl) go h
     where
-      right : (v : Value) (q : Reached Value) → SettlesReached (reached_events q) (undecided_reached m j v q) (undecided_reached m j v q)
+      right : (v : Value) (q : ReachedOrHalted Value) → SettlesReached (reached_events q) (undecided_reached m j v q) (undecided_reached m j v q)
       right v (Gives u e) = same here
       right v (Halts x e) = same here
 
@@ -257,21 +258,21 @@ module _ (k : ℕ) where
       by true v e = same here
       by false v e = onward (undecided_reached m j v) (undecided_reached m j v) (λ e. refl) (right v) (next e)
 
-      go : (q : Reached Value) → SettlesReached (reached_events q) (logical_reached m j q rest) (logical_reached m j q rest')
+      go : (q : ReachedOrHalted Value) → SettlesReached (reached_events q) (logical_reached m j q rest) (logical_reached m j q rest')
       go (Gives v e) = by (decides j v) v e
       go (Halts x e) = same here
 
-  with_value_settles : {S : Type 0} {t : List Event} {q q' : Reached Value} (f f' : Value → List Event → Outcome S) → ((v : Value) (e : List Event) → SettlesOutcome e (f v e) (f' v e)) → SettlesReached t q q' → SettlesOutcome t (with_value q f) (with_value q' f')
+  with_value_settles : {S : Type 0} {t : List Event} {q q' : ReachedOrHalted Value} (f f' : Value → List Event → Outcome S) → ((v : Value) (e : List Event) → SettlesOutcome e (f v e) (f' v e)) → SettlesReached t q q' → SettlesOutcome t (with_value q f) (with_value q' f')
   with_value_settles f f' next h = onward (λ q. with_value q f) (λ q. with_value q f') (λ e. refl) go h
     where
-      go : (q : Reached Value) → SettlesOutcome (reached_events q) (with_value q f) (with_value q f')
+      go : (q : ReachedOrHalted Value) → SettlesOutcome (reached_events q) (with_value q f) (with_value q f')
       go (Gives v e) = next v e
       go (Halts x e) = same here
 
-  with_place_settles : {S : Type 0} {t : List Event} {q q' : Reached Denoted} (f f' : Place → List Event → Outcome S) → ((p : Place) (e : List Event) → SettlesOutcome e (f p e) (f' p e)) → SettlesReached t q q' → SettlesOutcome t (with_place q f) (with_place q' f')
+  with_place_settles : {S : Type 0} {t : List Event} {q q' : ReachedOrHalted Denotation} (f f' : Place → List Event → Outcome S) → ((p : Place) (e : List Event) → SettlesOutcome e (f p e) (f' p e)) → SettlesReached t q q' → SettlesOutcome t (with_place q f) (with_place q' f')
   with_place_settles f f' next h = onward (λ q. with_place q f) (λ q. with_place q f') (λ e. refl) go h
     where
-      go : (q : Reached Denoted) → SettlesOutcome (reached_events q) (with_place q f) (with_place q f')
+      go : (q : ReachedOrHalted Denotation) → SettlesOutcome (reached_events q) (with_place q f) (with_place q f')
       go (Gives (IsPlace p) e) = next p e
       go (Gives (IsValue v) e) = same here
       go (Halts x e) = same here
@@ -286,35 +287,35 @@ module _ (k : ℕ) where
       go (Returned v e) = same here
       go (Stopped x e) = same here
 
-  module _ (w : World) (m : Meaning) (r r' : Bytes → List Value → List Event → Reached (Option Value)) (responds : (word : Bytes) (vs : List Value) (t : List Event) → SettlesReached t (r word vs t) (r' word vs t)) where
+  module _ (w : World) (m : Meaning) (r r' : Bytes → List Value → List Event → ReachedOrHalted (Option Value)) (responds : (word : Bytes) (vs : List Value) (t : List Event) → SettlesReached t (r word vs t) (r' word vs t)) where
     abbrev l : Words
     l = record { world = w; meaning = m; respond = r }
 
     abbrev l' : Words
     l' = record { world = w; meaning = m; respond = r' }
 
-    word_settles : (word : Bytes) (names : Scope) {t : List Event} {q q' : Reached (List Value)} → SettlesReached t q q' → SettlesReached t (word_reached l word names t q) (word_reached l' word names t q')
+    word_settles : (word : Bytes) (names : Scope) {t : List Event} {q q' : ReachedOrHalted (List Value)} → SettlesReached t q q' → SettlesReached t (word_reached l word names t q) (word_reached l' word names t q')
     word_settles word names {t = t} h = unless_settles (names word) t (onward (word_answer l word) (word_answer l' word) (λ e. refl) go h)
       where
-        go : (q : Reached (List Value)) → SettlesReached (reached_events q) (word_answer l word q) (word_answer l' word q)
+        go : (q : ReachedOrHalted (List Value)) → SettlesReached (reached_events q) (word_answer l word q) (word_answer l' word q)
         go (Gives vs e) = responds word vs e
         go (Halts x e) = same here
 
-    as_value_next : (q : Reached (Option Value)) → SettlesReached (reached_events q) (as_value q) (as_value q)
+    as_value_next : (q : ReachedOrHalted (Option Value)) → SettlesReached (reached_events q) (as_value q) (as_value q)
     as_value_next (Gives None e) = same here
     as_value_next (Gives (Some v) e) = same here
     as_value_next (Halts x e) = same here
 
-    dereferenced_next : (q : Reached Value) → SettlesReached (reached_events q) (dereference q) (dereference q)
+    dereferenced_next : (q : ReachedOrHalted Value) → SettlesReached (reached_events q) (dereference q) (dereference q)
     dereferenced_next (Gives v e) = reach_settles (option_map IsPlace (place_in v)) e
     dereferenced_next (Halts x e) = same here
 
-    addressed_next : (q : Reached Denoted) → SettlesReached (reached_events q) (address_reached q) (address_reached q)
+    addressed_next : (q : ReachedOrHalted Denotation) → SettlesReached (reached_events q) (address_reached q) (address_reached q)
     addressed_next (Gives (IsPlace p) e) = same here
     addressed_next (Gives (IsValue v) e) = same here
     addressed_next (Halts x e) = same here
 
-    picked_next : (x : Selector) (q : Reached Denoted) → SettlesReached (reached_events q) (part_picked m x q) (part_picked m x q)
+    picked_next : (x : Selector) (q : ReachedOrHalted Denotation) → SettlesReached (reached_events q) (part_picked m x q) (part_picked m x q)
     picked_next x (Gives (IsPlace p) e) = same here
     picked_next x (Gives (IsValue v) e) = unless_settles (place_in v) e (same here)
     picked_next x (Halts y e) = same here
@@ -343,7 +344,7 @@ module _ (k : ℕ) where
     value_settles : (a : Tree) (names : Scope) (t : List Event) → SettlesReached t (value_of l a names t) (value_of l' a names t)
     value_settles a names t = valued_settles w (tree_settles a names t)
 
-    performed_next : (names : Scope) (q : Reached (Option Value)) → SettlesOutcome (reached_events q) (perform_outcome names q) (perform_outcome names q)
+    performed_next : (names : Scope) (q : ReachedOrHalted (Option Value)) → SettlesOutcome (reached_events q) (perform_outcome names q) (perform_outcome names q)
     performed_next names (Gives v e) = same here
     performed_next names (Halts x e) = same here
 
@@ -388,21 +389,21 @@ module _ (k : ℕ) where
         groups_settle (group labels b gs) x names t =
             cond_settles (among x labels) (follow_all l k b names t) (follow_groups l k gs x names t) (follow_all l' n b names t) (follow_groups l' n gs x names t) (lines_settle b names t) (groups_settle gs x names t)
 
-    put_settles : {t : List Event} {q q' : Reached (List (Option Value))} (o : Option Value) → SettlesReached t q q' → SettlesReached t (put_first o q) (put_first o q')
+    put_settles : {t : List Event} {q q' : ReachedOrHalted (List (Option Value))} (o : Option Value) → SettlesReached t q q' → SettlesReached t (put_first o q) (put_first o q')
     put_settles o h = onward (put_first o) (put_first o) (λ e. refl) go h
       where
-        go : (q : Reached (List (Option Value))) → SettlesReached (reached_events q) (put_first o q) (put_first o q)
+        go : (q : ReachedOrHalted (List (Option Value))) → SettlesReached (reached_events q) (put_first o q) (put_first o q)
         go (Gives vs e) = same here
         go (Halts x e) = same here
 
-    first_settles : {t : List Event} {q q' : Reached Value} (rest rest' : List Event → Reached (List (Option Value))) → ((e : List Event) → SettlesReached e (rest e) (rest' e)) → SettlesReached t q q' → SettlesReached t (first_followed q rest) (first_followed q' rest')
+    first_settles : {t : List Event} {q q' : ReachedOrHalted Value} (rest rest' : List Event → ReachedOrHalted (List (Option Value))) → ((e : List Event) → SettlesReached e (rest e) (rest' e)) → SettlesReached t q q' → SettlesReached t (first_followed q rest) (first_followed q' rest')
     first_settles rest rest' next h = onward (λ q. first_followed q rest) (λ q. first_followed q rest') (λ e. refl) go h
       where
-        go : (q : Reached Value) → SettlesReached (reached_events q) (first_followed q rest) (first_followed q rest')
+        go : (q : ReachedOrHalted Value) → SettlesReached (reached_events q) (first_followed q rest) (first_followed q rest')
         go (Gives v e) = put_settles (Some v) (next e)
         go (Halts x e) = same here
 
-    first_then_settles : (o : Option Tree) (names : Scope) (t : List Event) (rest rest' : List Event → Reached (List (Option Value))) → ((e : List Event) → SettlesReached e (rest e) (rest' e)) → SettlesReached t (first_then l o names t rest) (first_then l' o names t rest')
+    first_then_settles : (o : Option Tree) (names : Scope) (t : List Event) (rest rest' : List Event → ReachedOrHalted (List (Option Value))) → ((e : List Event) → SettlesReached e (rest e) (rest' e)) → SettlesReached t (first_then l o names t rest) (first_then l' o names t rest')
     first_then_settles None names t rest rest' next = put_settles None (next t)
     first_then_settles (Some a) names t rest rest' next = first_settles rest rest' next (value_settles a names t)
 
@@ -418,11 +419,11 @@ module _ (k : ℕ) where
         inner : Scope
         inner = with_variables f.variables (entries t) 0 names
 
-        go : (q : Reached (List (Option Value))) → SettlesReached (reached_events q) (entered_by g vs q (λ t1. answer (follow_all l k f.lines inner t1))) (entered_by g vs q (λ t1. answer (follow_all l' n f.lines inner t1)))
+        go : (q : ReachedOrHalted (List (Option Value))) → SettlesReached (reached_events q) (entered_by g vs q (λ t1. answer (follow_all l k f.lines inner t1))) (entered_by g vs q (λ t1. answer (follow_all l' n f.lines inner t1)))
         go (Gives firsts e) = widen (later here) (answer_settles (lines_settle n less f.lines inner (Entry g vs firsts ∷ e)))
         go (Halts x e) = same here
 
-  called_settles : (b : Bool) (t : List Event) (q q' : Reached (Option Value)) → SettlesReached t q q' → SettlesReached t (called b q t) (called b q' t)
+  called_settles : (b : Bool) (t : List Event) (q q' : ReachedOrHalted (Option Value)) → SettlesReached t q q' → SettlesReached t (run_if_arguments_fit b q t) (run_if_arguments_fit b q' t)
   called_settles true t q q' h = h
   called_settles false t q q' h = same here
 
@@ -439,6 +440,6 @@ module _ (k : ℕ) where
       cond_settles (same_bytes word f.name) _ _ _ _ (called_settles (nat_eq (length vs) (length f.parameters)) t _ _ (body_settles w m (follow_call outer w m uses k fs) (follow_call outer w m uses n fs) callee n less (length fs) f vs (with_parameters f.parameters vs outer) t)) (callee word vs t)
 
   -- as many events with more turns, or k events
-  pub settled_events : {t : List Event} {q q' : Reached (Option Value)} → SettlesReached t q q' → (length (reached_events q) ≡ length (reached_events q')) ⊎ (k + length t ≤ length (reached_events q))
+  pub settled_events : {t : List Event} {q q' : ReachedOrHalted (Option Value)} → SettlesReached t q q' → (length (reached_events q) ≡ length (reached_events q')) ⊎ (k + length t ≤ length (reached_events q))
   settled_events (same l) = inl refl
   settled_events (out_of_turns h) = inr h

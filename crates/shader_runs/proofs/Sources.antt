@@ -8,7 +8,8 @@ use Rattle.shader_runs.specs.Program.{Statement, Emit, Block, If, Switch, Loop, 
 use Rattle.shader_runs.specs.Program.{end, then, Cases, no_case, case, expression_of, operands_of}
 use Rattle.shader_runs.specs.Program.{is_given, binds, from, holds_continue}
 use Rattle.shader_runs.specs.Scope.{Standing, Absent, Everywhere, Inline, Named, Handles, Naming}
-use Rattle.shader_runs.specs.Scope.{bound_name, usable_all, is_new, is_pure, unbound, emitted}
+use Rattle.shader_runs.specs.Scope.{bound_name, usable_all, is_new, is_pure, standing_without_name}
+use Rattle.shader_runs.specs.Scope.{with_emitted_handle}
 use Rattle.shader_runs.specs.Scope.{after_one, given_after, given_after_all, after_emit, given_by}
 use Rattle.shader_runs.specs.Scope.{given_by_all, given_by_cases, after_result, after, after_all}
 use Rattle.shader_runs.specs.Scope.{forgotten_one, forgotten_if, start_standing, at_start}
@@ -28,7 +29,7 @@ forgotten_named Everywhere now x e = by (is_new now) e
 forgotten_named _ now x e = e
 
 -- nor has one of a handle that is emitted and not bound
-pub unbound_named : (u : Bool) (st : Standing) (x : Bytes) → unbound u st ≡ Named x → st ≡ Named x
+pub unbound_named : (u : Bool) (st : Standing) (x : Bytes) → standing_without_name u st ≡ Named x → st ≡ Named x
 unbound_named true st x e = absurd (cc)
 unbound_named false Absent x e = absurd (cc)
 unbound_named false _ x e = e
@@ -117,9 +118,9 @@ module _ (f : Naming) where
       more : Sources (given_after f.function h k) s
       more = sources_more k (given_after f.function h k) s (given_after_more h k) d
 
-      by : (b o u : Bool) → Sources (given_after f.function h k) (emitted b o u (bound_name f k h) s h)
+      by : (b o u : Bool) → Sources (given_after f.function h k) (with_emitted_handle b o u (bound_name f k h) s h)
       by true o u = sources_update (given_after f.function h k) s h (Named (bound_name f k h)) (λ x e. subst (λ x. Source (given_after f.function h k) h x) (same_name (bound_name f k h) x e) (source_bound k h)) more
-      by false true u = sources_update (given_after f.function h k) s h (unbound u (s h)) (λ x e. more h x (unbound_named u (s h) x e)) more
+      by false true u = sources_update (given_after f.function h k) s h (standing_without_name u (s h)) (λ x e. more h x (unbound_named u (s h) x e)) more
       by false false u = more
 
   pub sources_emit : (k : ℕ) (hs : List ℕ) (s : Handles) → Sources k s → Sources (given_after_all f.function hs k) (after_emit f k hs s)

@@ -4,9 +4,9 @@ use Rattle.std.proofs.Common.{Option, Some, None, refl, sym, ap, ◌∙◌, subs
 use Rattle.shader_runs.specs.Value.{has_type, Value, Truth, has_types}
 use Rattle.shader_runs.specs.World.{Event, Entry, Discard, entries, World, Meaning, Environment}
 use Rattle.shader_runs.specs.World.{Settings}
-use Rattle.shader_runs.specs.Outcome.{Reached, Gives, Halts, turns}
+use Rattle.shader_runs.specs.Outcome.{ReachedOrHalted, Gives, Halts, turns}
 use Rattle.shader_runs.specs.Program.{Function, argument_count, Module, function_numbered}
-use Rattle.shader_runs.specs.ProgramRun.{Kept, constants_kept, first_used_all}
+use Rattle.shader_runs.specs.ProgramRun.{KeptValues, constants_kept, first_used_all}
 use Rattle.shader_runs.specs.Constants.{environment_of, run_module}
 use Rattle.std.specs.Prelude.{IsTrue}
 use Rattle.shader_runs.specs.Correct.{KeepsTypes, AlwaysKeepsTypes, HasTypedWorld}
@@ -38,24 +38,24 @@ start_kept s e t q = ap (λ o. or_start o e) q
 -- two worlds that answer alike behind the start s
 module _ (s : Start) (w w' : World) (same : (t : List Event) (r : Event) → start_of t ≡ Some s → w t r ≡ w' t r) where
   -- the same end, behind the same start
-  abbrev Kin : Reached Pause → Reached Pause → Type 0
+  abbrev Kin : ReachedOrHalted Pause → ReachedOrHalted Pause → Type 0
   Kin q q' = (q ≡ q') × (start_of (reached_events q) ≡ Some s)
 
-  abbrev KinNext : (Kept → List Event → Reached Pause) → (Kept → List Event → Reached Pause) → Type 0
-  KinNext f f' = (k : Kept) (t : List Event) → start_of t ≡ Some s → Kin (f k t) (f' k t)
+  abbrev KinNext : (KeptValues → List Event → ReachedOrHalted Pause) → (KeptValues → List Event → ReachedOrHalted Pause) → Type 0
+  KinNext f f' = (k : KeptValues) (t : List Event) → start_of t ≡ Some s → Kin (f k t) (f' k t)
 
-  resumed_kin : (q q' : Reached Pause) (f f' : Pause → List Event → Reached Pause) → Kin q q' → ((x : Pause) (t : List Event) → start_of t ≡ Some s → Kin (f x t) (f' x t)) → Kin (resumed q f) (resumed q' f')
+  resumed_kin : (q q' : ReachedOrHalted Pause) (f f' : Pause → List Event → ReachedOrHalted Pause) → Kin q q' → ((x : Pause) (t : List Event) → start_of t ≡ Some s → Kin (f x t) (f' x t)) → Kin (resumed q f) (resumed q' f')
   resumed_kin q q' f f' k next = subst (λ q'. Kin (resumed q f) (resumed q' f')) k.0 (go q k.1)
     where
-      go : (q : Reached Pause) → start_of (reached_events q) ≡ Some s → Kin (resumed q f) (resumed q f')
+      go : (q : ReachedOrHalted Pause) → start_of (reached_events q) ≡ Some s → Kin (resumed q f) (resumed q f')
       go (Gives x t) e = next x t e
       go (Halts x t) e = (refl, e)
 
-  answered_kin : (b : Bool) (t : List Event) (q q' : Reached Pause) → start_of t ≡ Some s → Kin q q' → Kin (answered b t q) (answered b t q')
+  answered_kin : (b : Bool) (t : List Event) (q q' : ReachedOrHalted Pause) → start_of t ≡ Some s → Kin q q' → Kin (answered b t q) (answered b t q')
   answered_kin true t q q' e k = k
   answered_kin false t q q' e k = (refl, e)
 
-  rounds_kin : (once once' : Kept → List Event → Reached Pause) → KinNext once once' → (n : ℕ) → KinNext (rounds n once) (rounds n once')
+  rounds_kin : (once once' : KeptValues → List Event → ReachedOrHalted Pause) → KinNext once once' → (n : ℕ) → KinNext (rounds n once) (rounds n once')
   rounds_kin once once' h zero k t e = (refl, e)
   rounds_kin once once' h (suc n) k t e =
       resumed_kin (once k t) (once' k t) (again (rounds n once)) (again (rounds n once')) (h k t e) (go (rounds_kin once once' h n))

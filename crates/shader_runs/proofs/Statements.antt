@@ -4,7 +4,8 @@ use Rattle.std.proofs.Common.{None, ◌||◌, refl, sym, ap, ap₂, ◌∙◌, s
 use Rattle.std.specs.Prelude.{IsTrue, ℤ}
 use Rattle.shader_runs.specs.Value.{Bytes, PartTypes, has_type, has_types, Value, integer_in}
 use Rattle.shader_runs.specs.World.{Event, Ask, update, bind}
-use Rattle.shader_runs.specs.Outcome.{Outcome, Next, Done, Continued, Returned, Reached, Gives}
+use Rattle.shader_runs.specs.Outcome.{Outcome, Next, Done, Continued, Returned, ReachedOrHalted}
+use Rattle.shader_runs.specs.Outcome.{Gives}
 use Rattle.shader_runs.specs.Outcome.{Halts, and_then, within, turn, turns, after_switch, branch_by}
 use Rattle.shader_runs.specs.Outcome.{with_integer, closed_outcome, closed_if, or_stuck, reach}
 use Rattle.shader_runs.specs.Outcome.{unless}
@@ -14,7 +15,8 @@ use Rattle.shader_runs.specs.Program.{Continue, Return, Kill, Barrier, Act, Stat
 use Rattle.shader_runs.specs.Program.{Cases, no_case, case, from, holds_continue, any_continue}
 use Rattle.shader_runs.specs.Program.{some_case_continues, expression_of, handle_type, BarrierBits}
 use Rattle.shader_runs.specs.Program.{Function, function_numbered, Module}
-use Rattle.shader_runs.specs.ProgramRun.{Call, Kept, combined_value, used_value, used_value_as}
+use Rattle.shader_runs.specs.ProgramRun.{Call, KeptValues, combined_value, used_value}
+use Rattle.shader_runs.specs.ProgramRun.{used_value_as}
 use Rattle.shader_runs.specs.ProgramRun.{used_values, action_answer, with_result, leave}
 use Rattle.shader_runs.specs.ProgramRun.{return_outcome, barrier_words, ask_each, same_label}
 use Rattle.shader_runs.specs.ProgramRun.{has_label, label_if, run, run_all, run_cases, run_on}
@@ -26,7 +28,8 @@ use Rattle.shader_runs.specs.TextRun.{follow_groups}
 use Rattle.shader_runs.specs.Scope.{usable_all, is_present, Named, Handles, Names, usable}
 use Rattle.shader_runs.specs.Scope.{usable_if, given_by, given_by_all, after, after_all}
 use Rattle.shader_runs.specs.Scope.{forgotten_if}
-use Rattle.shader_runs.specs.Form.{word_of, value_forms, written, value_at, value_if, perform_each}
+use Rattle.shader_runs.specs.Form.{word_of, value_forms, written_form, value_at, value_if}
+use Rattle.shader_runs.specs.Form.{perform_each}
 use Rattle.shader_runs.specs.Form.{form, form_all, form_cases}
 use Rattle.shader_runs.specs.Premises.{IsNoName, handle_types, CallFits, ActionFits, ReturnFits}
 use Rattle.shader_runs.specs.Premises.{IsResult, EachAsks}
@@ -48,21 +51,21 @@ use Rattle.shader_runs.proofs.Scope.{among_append, first_followed_by, has_all_ca
 use Rattle.shader_runs.proofs.Scope.{extends_all}
 
 -- both runs of a list from the scope s end alike, in the scope s2; held: it holds a `continue`
-abbrev pub Same : Call → Names → Handles → Kept → Handles → Bool → Outcome Kept → Outcome Scope → Type 0
+abbrev pub Same : Call → Names → Handles → KeptValues → Handles → Bool → Outcome KeptValues → Outcome Scope → Type 0
 Same c n s kept s2 held =
     Alike (Returns c.environment.parts c.function) (λ k l. Related c n s2 l k × Agree s kept k) (λ k l. Related c n s2 l k × Agree s kept k × IsTrue held) (λ k l. Agree s kept k)
 
 -- the same for one statement, which gives no name
-abbrev pub SameLine : Call → Names → Handles → Kept → Bool → Outcome Kept → Outcome Scope → Type 0
+abbrev pub SameLine : Call → Names → Handles → KeptValues → Bool → Outcome KeptValues → Outcome Scope → Type 0
 SameLine c n s kept held =
     Alike (Returns c.environment.parts c.function) (λ k l. Related c n s l k × Agree s kept k) (λ k l. Agree s kept k × IsTrue held) (λ k l. Agree s kept k)
 
 -- the same for the body of a case, whose names are forgotten
-abbrev pub SameBody : Call → Handles → Kept → Bool → Outcome Kept → Outcome Scope → Type 0
+abbrev pub SameBody : Call → Handles → KeptValues → Bool → Outcome KeptValues → Outcome Scope → Type 0
 SameBody c s kept held = Alike (Returns c.environment.parts c.function) (λ k l. Agree s kept k) (λ k l. Agree s kept k × IsTrue held) (λ k l. Agree s kept k)
 
 -- a statement and what follows it
-row : (c : Call) (n : Names) (s : Handles) (names : Scope) (kept : Kept) → Related c n s names kept → (held held2 : Bool) (s2 : Handles) (o : Outcome Kept) (o' : Outcome Scope) (f : Next Kept) (g : Next Scope) → SameLine c n s kept held o o' → ((kept1 : Kept) (names1 : Scope) (t : List Event) → Related c n s names1 kept1 → Agree s kept kept1 → Same c n s kept s2 held2 (f kept1 t) (g names1 t)) → Same c n s kept (forgotten_if held s s2) (held || held2) (and_then o f) (closed_if held names (and_then o' g))
+row : (c : Call) (n : Names) (s : Handles) (names : Scope) (kept : KeptValues) → Related c n s names kept → (held held2 : Bool) (s2 : Handles) (o : Outcome KeptValues) (o' : Outcome Scope) (f : Next KeptValues) (g : Next Scope) → SameLine c n s kept held o o' → ((kept1 : KeptValues) (names1 : Scope) (t : List Event) → Related c n s names1 kept1 → Agree s kept kept1 → Same c n s kept s2 held2 (f kept1 t) (g names1 t)) → Same c n s kept (forgotten_if held s s2) (held || held2) (and_then o f) (closed_if held names (and_then o' g))
 row c n s names kept r true held2 s2 o o' f g line next =
     closed_alike {P = λ k l. Agree s kept k} {Q = λ k l. Agree s kept k} {B = λ k l. Agree s kept k} names (λ k l a. (related_forgotten c n s s2 names k (related_agree c n s names kept k a r), a)) (λ k l a. (related_forgotten c n s s2 names k (related_agree c n s names kept k a r), a, refl)) (λ k l a. a) (then_alike {P = λ k l. Related c n s l k × Agree s kept k} (λ k l t p. weaker (λ k l p. p.1) (λ k l p. p.1) (λ k l b. b) (next k l t p.0 p.1)) (weaker (λ k l p. p) (λ k l q. q.0) (λ k l b. b) line))
 row c n s names kept r false held2 s2 o o' f g line next =
@@ -78,16 +81,16 @@ or_right false b e = e
 
 module _ (p : Module) (c : Call) (n : Names) (d : Respond) (given : Given p c n d) (bound : ℕ) where
   -- a block leaves the scope as it was
-  block_line : (s s1 : Handles) (names : Scope) (kept : Kept) (held : Bool) (o : Outcome Kept) (o' : Outcome Scope) → Related c n s names kept → Same c n s kept s1 held o o' → SameLine c n s kept held o (closed_outcome names o')
+  block_line : (s s1 : Handles) (names : Scope) (kept : KeptValues) (held : Bool) (o : Outcome KeptValues) (o' : Outcome Scope) → Related c n s names kept → Same c n s kept s1 held o o' → SameLine c n s kept held o (closed_outcome names o')
   block_line s s1 names kept held o o' r same =
       closed_alike names (λ k l p. (related_agree c n s names kept k p.1 r, p.1)) (λ k l q. (q.1, q.2)) (λ k l b. b) same
 
-  leave_alike : (s s2 : Handles) (kept0 : Kept) (e : Option ℕ) → IsTrue (usable_if c.function s2 e) → (kept : Kept) (names : Scope) (t : List Event) → Related c n s2 names kept → Agree s kept0 kept → Alike (Returns c.environment.parts c.function) (λ k l. Agree s kept0 k) (λ k l. Agree s kept0 k) (λ k l. Agree s kept0 k) (leave c e kept t) (break_line (words c d) (value_if (naming c n) s2 e) names t)
+  leave_alike : (s s2 : Handles) (kept0 : KeptValues) (e : Option ℕ) → IsTrue (usable_if c.function s2 e) → (kept : KeptValues) (names : Scope) (t : List Event) → Related c n s2 names kept → Agree s kept0 kept → Alike (Returns c.environment.parts c.function) (λ k l. Agree s kept0 k) (λ k l. Agree s kept0 k) (λ k l. Agree s kept0 k) (leave c e kept t) (break_line (words c d) (value_if (naming c n) s2 e) names t)
   leave_alike s s2 kept0 None u kept names t r a = done a
   leave_alike s s2 kept0 (Some h) u kept names t r a =
       used_alike _ _ (used_value c kept h) t (value_of (words c d) (value_at (naming c n) s2 h) names t) (value_here p c n d given s2 names kept r h u t) (λ v. chosen_alike v t (broke a) (done a))
 
-  return_alike : (s : Handles) (names : Scope) (kept : Kept) (t : List Event) (e : Option ℕ) → IsTrue (usable_if c.function s e) → ReturnFits c.function e → Related c n s names kept → SameLine c n s kept false (return_outcome c e kept t) (return_line (words c d) (value_if (naming c n) s e) names t)
+  return_alike : (s : Handles) (names : Scope) (kept : KeptValues) (t : List Event) (e : Option ℕ) → IsTrue (usable_if c.function s e) → ReturnFits c.function e → Related c n s names kept → SameLine c n s kept false (return_outcome c e kept t) (return_line (words c d) (value_if (naming c n) s e) names t)
   return_alike s names kept t None u w r = returned_alike tt
   return_alike s names kept t (Some h) u w r =
       let v = typed_value p c n d given s names kept r h u in
@@ -96,28 +99,28 @@ module _ (p : Module) (c : Call) (n : Names) (d : Respond) (given : Given p c n 
       subst (λ o. SameLine c n s kept false (or_stuck o t (λ v. Returned (Some v) t)) (return_line (words c d) (value_if (naming c n) s (Some h)) names t)) (sym v.1) (subst (λ q. SameLine c n s kept false (Returned (Some v.0) t) (with_value q (λ v t1. Returned (Some v) t1))) (sym there) (returned_alike typed))
 
   -- a choice, where each branch is alike
-  if_line : (s sa sb : Handles) (names : Scope) (kept : Kept) (t : List Event) (h : ℕ) (ha hb : Bool) (a b : Outcome Kept) (a' b' : List Event → Outcome Scope) → Related c n s names kept → IsTrue (usable c.function s h) → Same c n s kept sa ha a (a' t) → Same c n s kept sb hb b (b' t) → SameLine c n s kept (ha || hb) (or_stuck (used_value c kept h) t (λ v. branch_by v t a b)) (with_value (value_of (words c d) (value_at (naming c n) s h) names t) (λ v t1. closed_outcome names (branch_by v t1 (a' t1) (b' t1))))
+  if_line : (s sa sb : Handles) (names : Scope) (kept : KeptValues) (t : List Event) (h : ℕ) (ha hb : Bool) (a b : Outcome KeptValues) (a' b' : List Event → Outcome Scope) → Related c n s names kept → IsTrue (usable c.function s h) → Same c n s kept sa ha a (a' t) → Same c n s kept sb hb b (b' t) → SameLine c n s kept (ha || hb) (or_stuck (used_value c kept h) t (λ v. branch_by v t a b)) (with_value (value_of (words c d) (value_at (naming c n) s h) names t) (λ v t1. closed_outcome names (branch_by v t1 (a' t1) (b' t1))))
   if_line s sa sb names kept t h ha hb a b a' b' r u same_a same_b =
       used_alike _ _ (used_value c kept h) t (value_of (words c d) (value_at (naming c n) s h) names t) (value_here p c n d given s names kept r h u t) (λ v. closed_alike names (λ k l p. (related_agree c n s names kept k p r, p)) (λ k l q. q) (λ k l b. b) (chosen_alike {P = λ k l. Agree s kept k} {Q = λ k l. Agree s kept k × IsTrue (ha || hb)} {B = λ k l. Agree s kept k} v t (weaker (λ k l p. p.1) (λ k l q. (q.1, or_left ha hb q.2)) (λ k l b. b) same_a) (weaker (λ k l p. p.1) (λ k l q. (q.1, or_right ha hb q.2)) (λ k l b. b) same_b)))
 
   -- a loop, of which each turn starts in the loop's own scope
-  module _ (s s1 s2 : Handles) (hb hd : Bool) (body continuing : Next Kept) (body' continuing' : Next Scope) (e : Option ℕ) (x : Extends s s1) (u : IsTrue (usable_if c.function s2 e)) (same_b : (kept : Kept) (names : Scope) (t : List Event) → Related c n s names kept → Same c n s kept s1 hb (body kept t) (body' names t)) (same_d : (kept : Kept) (names : Scope) (t : List Event) → Related c n s1 names kept → Same c n s1 kept s2 hd (continuing kept t) (continuing' names t)) where
-    tail_alike : (k1 k2 : Kept) (l2 : Scope) (t2 : List Event) → Related c n s1 l2 k2 → Agree s k1 k2 → Alike (Returns c.environment.parts c.function) (λ k l. Agree s k1 k) (λ k l. Agree s k1 k) (λ k l. Agree s k1 k) (and_then (within (continuing k2 t2)) (leave c e)) (and_then (within (continuing' l2 t2)) (break_line (words c d) (value_if (naming c n) s2 e)))
+  module _ (s s1 s2 : Handles) (hb hd : Bool) (body continuing : Next KeptValues) (body' continuing' : Next Scope) (e : Option ℕ) (x : Extends s s1) (u : IsTrue (usable_if c.function s2 e)) (same_b : (kept : KeptValues) (names : Scope) (t : List Event) → Related c n s names kept → Same c n s kept s1 hb (body kept t) (body' names t)) (same_d : (kept : KeptValues) (names : Scope) (t : List Event) → Related c n s1 names kept → Same c n s1 kept s2 hd (continuing kept t) (continuing' names t)) where
+    tail_alike : (k1 k2 : KeptValues) (l2 : Scope) (t2 : List Event) → Related c n s1 l2 k2 → Agree s k1 k2 → Alike (Returns c.environment.parts c.function) (λ k l. Agree s k1 k) (λ k l. Agree s k1 k) (λ k l. Agree s k1 k) (and_then (within (continuing k2 t2)) (leave c e)) (and_then (within (continuing' l2 t2)) (break_line (words c d) (value_if (naming c n) s2 e)))
     tail_alike k1 k2 l2 t2 r2 a =
         then_alike {P = λ k l. Related c n s2 l k × Agree s1 k2 k} (λ k l t p. leave_alike s s2 k1 e u k l t p.0 (agree_trans s s1 k1 k2 k x a p.1)) (within_alike (same_d k2 l2 t2 r2))
 
-    turn_alike : (k1 : Kept) (l1 : Scope) (t1 : List Event) → Related c n s l1 k1 → Alike (Returns c.environment.parts c.function) (λ k l. Agree s k1 k) (λ k l. Agree s k1 k) (λ k l. Agree s k1 k) (turn body continuing (leave c e) k1 t1) (turn body' continuing' (break_line (words c d) (value_if (naming c n) s2 e)) l1 t1)
+    turn_alike : (k1 : KeptValues) (l1 : Scope) (t1 : List Event) → Related c n s l1 k1 → Alike (Returns c.environment.parts c.function) (λ k l. Agree s k1 k) (λ k l. Agree s k1 k) (λ k l. Agree s k1 k) (turn body continuing (leave c e) k1 t1) (turn body' continuing' (break_line (words c d) (value_if (naming c n) s2 e)) l1 t1)
     turn_alike k1 l1 t1 r1 =
         continue_alike {P = λ k l. Related c n s1 l k × Agree s k1 k} (λ k l t p. tail_alike k1 k l t p.0 p.1) (weaker (λ k l p. p) (λ k l q. (q.0, q.1)) (λ k l b. b) (same_b k1 l1 t1 r1))
 
-    pub turns_keep : (kept : Kept) → Steps (Returns c.environment.parts c.function) (λ k l. Related c n s l k × Agree s kept k) (λ k l. Related c n s l k × Agree s kept k) (λ k l. Related c n s l k × Agree s kept k) (λ k l. Related c n s l k × Agree s kept k) (turn body continuing (leave c e)) (λ names1 t1. closed_outcome names1 (turn body' continuing' (break_line (words c d) (value_if (naming c n) s2 e)) names1 t1))
+    pub turns_keep : (kept : KeptValues) → Steps (Returns c.environment.parts c.function) (λ k l. Related c n s l k × Agree s kept k) (λ k l. Related c n s l k × Agree s kept k) (λ k l. Related c n s l k × Agree s kept k) (λ k l. Related c n s l k × Agree s kept k) (turn body continuing (leave c e)) (λ names1 t1. closed_outcome names1 (turn body' continuing' (break_line (words c d) (value_if (naming c n) s2 e)) names1 t1))
     turns_keep kept k1 l1 t1 i =
         closed_alike l1 (λ k l a. kept_on k a) (λ k l a. kept_on k a) (λ k l a. kept_on k a) (turn_alike k1 l1 t1 i.0)
       where
-        kept_on : (k : Kept) → Agree s k1 k → Related c n s l1 k × Agree s kept k
+        kept_on : (k : KeptValues) → Agree s k1 k → Related c n s l1 k × Agree s kept k
         kept_on k a = (related_agree c n s l1 k1 k a i.0, agree_trans s s kept k1 k (extends_refl s) i.1 a)
 
-    loop_line : (names : Scope) (kept : Kept) (t : List Event) → Related c n s names kept → SameLine c n s kept false (turns bound (turn body continuing (leave c e)) kept t) (turns bound (λ names1 t1. closed_outcome names1 (turn body' continuing' (break_line (words c d) (value_if (naming c n) s2 e)) names1 t1)) names t)
+    loop_line : (names : Scope) (kept : KeptValues) (t : List Event) → Related c n s names kept → SameLine c n s kept false (turns bound (turn body continuing (leave c e)) kept t) (turns bound (λ names1 t1. closed_outcome names1 (turn body' continuing' (break_line (words c d) (value_if (naming c n) s2 e)) names1 t1)) names t)
     loop_line names kept t r =
         turns_alike {I = λ k l. Related c n s l k × Agree s kept k} {P = λ k l. Related c n s l k × Agree s kept k} (turns_keep kept) bound kept names t (r, agree_refl s kept)
 
@@ -152,7 +155,7 @@ module _ (p : Module) (c : Call) (n : Names) (d : Respond) (given : Given p c n 
   -- what is to be shown of a statement and what follows it
   abbrev Row : ℕ → Statement → Handles → Type 0
   Row k st s =
-      (names : Scope) (kept : Kept) (t : List Event) (held2 : Bool) (s2 : Handles) (f : Next Kept) (tail : Lines) → Related c n s names kept → Fits p c n k st s → ((kept1 : Kept) (names1 : Scope) (t1 : List Event) → Related c n (after (naming c n) k st s) names1 kept1 → Agree s kept kept1 → Same c n s kept s2 held2 (f kept1 t1) (Follow tail names1 t1)) → Same c n s kept (forgotten_if (holds_continue st) s s2) (holds_continue st || held2) (and_then (run c bound st kept t) f) (Follow (form (naming c n) k st s tail) names t)
+      (names : Scope) (kept : KeptValues) (t : List Event) (held2 : Bool) (s2 : Handles) (f : Next KeptValues) (tail : Lines) → Related c n s names kept → Fits p c n k st s → ((kept1 : KeptValues) (names1 : Scope) (t1 : List Event) → Related c n (after (naming c n) k st s) names1 kept1 → Agree s kept kept1 → Same c n s kept s2 held2 (f kept1 t1) (Follow tail names1 t1)) → Same c n s kept (forgotten_if (holds_continue st) s s2) (holds_continue st || held2) (and_then (run c bound st kept t) f) (Follow (form (naming c n) k st s tail) names t)
 
   emit_row : (k first count : ℕ) (s : Handles) → Row k (Emit first count) s
   emit_row k first count s names kept t held2 s2 f tail r m next =
@@ -165,7 +168,7 @@ module _ (p : Module) (c : Call) (n : Names) (d : Respond) (given : Given p c n 
   -- what is to be shown of a list
   abbrev List_row : ℕ → Statements → Handles → Type 0
   List_row k ss s =
-      (names : Scope) (kept : Kept) (t : List Event) → Related c n s names kept → FitsAll p c n k ss s → Same c n s kept (after_all (naming c n) k ss s) (any_continue ss) (run_all c bound ss kept t) (Follow (form_all (naming c n) k ss s) names t)
+      (names : Scope) (kept : KeptValues) (t : List Event) → Related c n s names kept → FitsAll p c n k ss s → Same c n s kept (after_all (naming c n) k ss s) (any_continue ss) (run_all c bound ss kept t) (Follow (form_all (naming c n) k ss s) names t)
 
   block_row : (k : ℕ) (b : Statements) (s : Handles) → List_row k b s → Row k (Block b) s
   block_row k b s same names kept t held2 s2 f tail r m next =
@@ -204,7 +207,7 @@ module _ (p : Module) (c : Call) (n : Names) (d : Respond) (given : Given p c n 
   kill_row k s names kept t held2 s2 f tail r m next = row c n s names kept r false held2 s2 _ _ f (Follow tail) stopped next
 
   -- a barrier, a line for each set bit
-  asks_alike : (s s2 : Handles) (names : Scope) (kept : Kept) → Related c n s names kept → (held2 : Bool) (f : Next Kept) (tail : Lines) (ws : List Bytes) → EachAsks p (naming c n) ws → ((t1 : List Event) → Same c n s kept s2 held2 (f kept t1) (Follow tail names t1)) → (t : List Event) → Same c n s kept s2 held2 (and_then (ask_each ws kept t) f) (Follow (perform_each ws tail) names t)
+  asks_alike : (s s2 : Handles) (names : Scope) (kept : KeptValues) → Related c n s names kept → (held2 : Bool) (f : Next KeptValues) (tail : Lines) (ws : List Bytes) → EachAsks p (naming c n) ws → ((t1 : List Event) → Same c n s kept s2 held2 (f kept t1) (Follow tail names t1)) → (t : List Event) → Same c n s kept s2 held2 (and_then (ask_each ws kept t) f) (Follow (perform_each ws tail) names t)
   asks_alike s s2 names kept r held2 f tail [] m next t = next t
   asks_alike s s2 names kept r held2 f tail (w ∷ ws) m next t =
       let rest = Follow (perform_each ws tail) in
@@ -214,7 +217,7 @@ module _ (p : Module) (c : Call) (n : Names) (d : Respond) (given : Given p c n 
   barrier_row k bits s names kept t held2 s2 f tail r m next =
       asks_alike s s2 names kept r held2 f tail (barrier_words bits) m (λ t1. next kept names t1 r (agree_refl s kept)) t
 
-  as_answer : (q q' : Reached (Option Value)) → q' ≡ q → HoldsOf (λ o. Unit {0}) q → Answers (λ o. Unit {0}) q q'
+  as_answer : (q q' : ReachedOrHalted (Option Value)) → q' ≡ q → HoldsOf (λ o. Unit {0}) q → Answers (λ o. Unit {0}) q q'
   as_answer q q' e h = subst (λ x. Answers (λ o. Unit {0}) q x) (sym e) (same_answer h)
 
   -- an action's word does the same in the text
@@ -230,42 +233,42 @@ module _ (p : Module) (c : Call) (n : Names) (d : Respond) (given : Given p c n 
   not_hidden (Asked w) xs result m = m.1.1
   not_hidden (Called g) xs result m = m.1
 
-  responded_written : (s : Handles) (names : Scope) (kept : Kept) → Related c n s names kept → (a : Action) (xs : List ℕ) (result : Option ℕ) → ActionFits p c.callees (naming c n) a xs result → IsTrue (usable_all c.function s xs) → (vs : List Value) → used_values c kept xs ≡ Some vs → IsTrue (has_types c.environment.parts (handle_types c.function xs) vs) → (t : List Event) → Answers (ActionReturns c a) (action_answer c a vs t) (word_reached (words c d) (word_of n a) names t (evaluate_all (words c d) (value_forms (written (naming c n) s) xs) names t))
+  responded_written : (s : Handles) (names : Scope) (kept : KeptValues) → Related c n s names kept → (a : Action) (xs : List ℕ) (result : Option ℕ) → ActionFits p c.callees (naming c n) a xs result → IsTrue (usable_all c.function s xs) → (vs : List Value) → used_values c kept xs ≡ Some vs → IsTrue (has_types c.environment.parts (handle_types c.function xs) vs) → (t : List Event) → Answers (ActionReturns c a) (action_answer c a vs t) (word_reached (words c d) (word_of n a) names t (evaluate_all (words c d) (value_forms (written_form (naming c n) s) xs) names t))
   responded_written s names kept r a xs result m u vs e h t =
-      let there = value_forms_give c d names kept (written (naming c n) s) xs (all_here p c n d given s names kept r xs u) t ∙ ap (λ os. reach os t) e in
+      let there = value_forms_give c d names kept (written_form (naming c n) s) xs (all_here p c n d given s names kept r xs u) t ∙ ap (λ os. reach os t) e in
       subst (λ q. Answers (ActionReturns c a) (action_answer c a vs t) (word_reached (words c d) (word_of n a) names t q)) (sym there) (subst (λ o. Answers (ActionReturns c a) (action_answer c a vs t) (unless o t (d (word_of n a) vs t))) (sym (free p c n d given s names kept r (word_of n a) (not_hidden a xs result m))) (action_responds a xs result m vs h t))
 
-  performed_same : (s : Handles) (names : Scope) (kept : Kept) (a : Action) (q : Reached (Option Value)) → Related c n s names kept → SameLine c n s kept false (with_result c.environment.parts c.function a None kept q) (perform_outcome names q)
+  performed_same : (s : Handles) (names : Scope) (kept : KeptValues) (a : Action) (q : ReachedOrHalted (Option Value)) → Related c n s names kept → SameLine c n s kept false (with_result c.environment.parts c.function a None kept q) (perform_outcome names q)
   performed_same s names kept a (Gives v t) r = done (r, agree_refl s kept)
   performed_same s names kept a (Halts x t) r = stopped
 
-  performed_alike : (s : Handles) (names : Scope) (kept : Kept) (a : Action) (q q' : Reached (Option Value)) → Answers (ActionReturns c a) q q' → Related c n s names kept → SameLine c n s kept false (with_result c.environment.parts c.function a None kept q) (perform_outcome names q')
+  performed_alike : (s : Handles) (names : Scope) (kept : KeptValues) (a : Action) (q q' : ReachedOrHalted (Option Value)) → Answers (ActionReturns c a) q q' → Related c n s names kept → SameLine c n s kept false (with_result c.environment.parts c.function a None kept q) (perform_outcome names q')
   performed_alike s names kept a q q' (same_answer h) r = performed_same s names kept a q r
   performed_alike s names kept a q q' mistyped_answer r = mistyped
 
   perform_row : (k : ℕ) (a : Action) (xs : List ℕ) (s : Handles) → Row k (Act a xs None) s
   perform_row k a xs s names kept t held2 s2 f tail r m next =
       let v = values_here p c n d given s names kept r xs m.0 in
-      let q' = word_reached (words c d) (word_of n a) names t (evaluate_all (words c d) (value_forms (written (naming c n) s) xs) names t) in
+      let q' = word_reached (words c d) (word_of n a) names t (evaluate_all (words c d) (value_forms (written_form (naming c n) s) xs) names t) in
       row c n s names kept r false held2 s2 _ _ f (Follow tail) (subst (λ os. SameLine c n s kept false (or_stuck os t (λ vs. with_result c.environment.parts c.function a None kept (action_answer c a vs t))) (perform_outcome names q')) (sym v.1) (performed_alike s names kept a (action_answer c a v.0 t) q' (responded_written s names kept r a xs None m.1 m.0 v.0 v.1 v.2 t) r)) next
 
-  abbrev bound_to : Scope → Bytes → Next Scope → Reached (Option Value) → Outcome Scope
+  abbrev bound_to : Scope → Bytes → Next Scope → ReachedOrHalted (Option Value) → Outcome Scope
   bound_to names x g q =
       and_then (with_value (read_value c.world (as_value q)) (λ v t1. Done (bind names x (Some (IsValue v))) t1)) g
 
-  abbrev ResultNext : Handles → Kept → Handles → Bool → ℕ → Next Kept → Next Scope → Type 0
+  abbrev ResultNext : Handles → KeptValues → Handles → Bool → ℕ → Next KeptValues → Next Scope → Type 0
   ResultNext s kept s2 held2 h f g =
-      (kept1 : Kept) (names1 : Scope) (t1 : List Event) → Related c n (update s h (Named (n.numbered h))) names1 kept1 → Agree s kept kept1 → Same c n s kept s2 held2 (f kept1 t1) (g names1 t1)
+      (kept1 : KeptValues) (names1 : Scope) (t1 : List Event) → Related c n (update s h (Named (n.numbered h))) names1 kept1 → Agree s kept kept1 → Same c n s kept s2 held2 (f kept1 t1) (g names1 t1)
 
   -- a result that is kept
-  result_kept : (s s2 : Handles) (names : Scope) (kept : Kept) (held2 : Bool) (h : ℕ) (f : Next Kept) (g : Next Scope) → Related c n s names kept → MayResult c n h s → ResultNext s kept s2 held2 h f g → (v : Value) (t : List Event) → IsTrue (has_type c.environment.parts (handle_type c.function h) v) → Same c n s kept s2 held2 (f (update kept h (Some v)) t) (g (bind names (n.numbered h) (Some (IsValue v))) t)
+  result_kept : (s s2 : Handles) (names : Scope) (kept : KeptValues) (held2 : Bool) (h : ℕ) (f : Next KeptValues) (g : Next Scope) → Related c n s names kept → MayResult c n h s → ResultNext s kept s2 held2 h f g → (v : Value) (t : List Event) → IsTrue (has_type c.environment.parts (handle_type c.function h) v) → Same c n s kept s2 held2 (f (update kept h (Some v)) t) (g (bind names (n.numbered h) (Some (IsValue v))) t)
   result_kept s s2 names kept held2 h f g r m next v t y =
       next (update kept h (Some v)) (bind names (n.numbered h) (Some (IsValue v))) t (bind_related c n s names kept h (n.numbered h) v r (λ p. absurd (not_there p)) (λ o. result_used c (expression_of c.function h) o m.kind) m.fresh y) (agree_update s kept h (Some v) (λ p. absurd (not_there p)))
     where
       not_there : IsTrue (is_present (s h)) → ⊥
       not_there = new_event c s names kept (handle_type c.function h) (expression_of c.function h) (kept h) (result_combined c (expression_of c.function h) m.kind) (s h) m.new (r.standing h)
 
-  result_same : (s s2 : Handles) (names : Scope) (kept : Kept) (held2 : Bool) (a : Action) (xs : List ℕ) (h : ℕ) (f : Next Kept) (g : Next Scope) → Related c n s names kept → ActionFits p c.callees (naming c n) a xs (Some h) → MayResult c n h s → ResultNext s kept s2 held2 h f g → (q : Reached (Option Value)) → HoldsOf (ActionReturns c a) q → Same c n s kept s2 held2 (and_then (with_result c.environment.parts c.function a (Some h) kept q) f) (bound_to names (n.numbered h) g q)
+  result_same : (s s2 : Handles) (names : Scope) (kept : KeptValues) (held2 : Bool) (a : Action) (xs : List ℕ) (h : ℕ) (f : Next KeptValues) (g : Next Scope) → Related c n s names kept → ActionFits p c.callees (naming c n) a xs (Some h) → MayResult c n h s → ResultNext s kept s2 held2 h f g → (q : ReachedOrHalted (Option Value)) → HoldsOf (ActionReturns c a) q → Same c n s kept s2 held2 (and_then (with_result c.environment.parts c.function a (Some h) kept q) f) (bound_to names (n.numbered h) g q)
   result_same s s2 names kept held2 a xs h f g r w m next (Gives None t) q = stopped
   result_same s s2 names kept held2 (Asked word) xs h f g r w m next (Gives (Some v) t) q =
       typed_alike (has_type c.environment.parts (handle_type c.function h) v) t (Done (update kept h (Some v)) t) f (λ y. result_kept s s2 names kept held2 h f g r m next v t y)
@@ -273,36 +276,36 @@ module _ (p : Module) (c : Call) (n : Names) (d : Respond) (given : Given p c n 
       result_kept s s2 names kept held2 h f g r m next v t (called_typed c.environment.parts c.function (function_numbered c.callees callee) xs h v w.2 q)
   result_same s s2 names kept held2 a xs h f g r w m next (Halts x t) q = stopped
 
-  result_alike : (s s2 : Handles) (names : Scope) (kept : Kept) (held2 : Bool) (a : Action) (xs : List ℕ) (h : ℕ) (f : Next Kept) (g : Next Scope) → Related c n s names kept → ActionFits p c.callees (naming c n) a xs (Some h) → MayResult c n h s → ResultNext s kept s2 held2 h f g → (q q' : Reached (Option Value)) → Answers (ActionReturns c a) q q' → Same c n s kept s2 held2 (and_then (with_result c.environment.parts c.function a (Some h) kept q) f) (bound_to names (n.numbered h) g q')
+  result_alike : (s s2 : Handles) (names : Scope) (kept : KeptValues) (held2 : Bool) (a : Action) (xs : List ℕ) (h : ℕ) (f : Next KeptValues) (g : Next Scope) → Related c n s names kept → ActionFits p c.callees (naming c n) a xs (Some h) → MayResult c n h s → ResultNext s kept s2 held2 h f g → (q q' : ReachedOrHalted (Option Value)) → Answers (ActionReturns c a) q q' → Same c n s kept s2 held2 (and_then (with_result c.environment.parts c.function a (Some h) kept q) f) (bound_to names (n.numbered h) g q')
   result_alike s s2 names kept held2 a xs h f g r w m next q q' (same_answer y) = result_same s s2 names kept held2 a xs h f g r w m next q y
   result_alike s s2 names kept held2 a xs h f g r w m next q q' mistyped_answer = mistyped
 
   result_row : (k : ℕ) (a : Action) (xs : List ℕ) (h : ℕ) (s : Handles) → Row k (Act a xs (Some h)) s
   result_row k a xs h s names kept t held2 s2 f tail r m next =
       let v = values_here p c n d given s names kept r xs m.0 in
-      let q' = word_reached (words c d) (word_of n a) names t (evaluate_all (words c d) (value_forms (written (naming c n) s) xs) names t) in
+      let q' = word_reached (words c d) (word_of n a) names t (evaluate_all (words c d) (value_forms (written_form (naming c n) s) xs) names t) in
       subst (λ os. Same c n s kept s2 held2 (and_then (or_stuck os t (λ vs. with_result c.environment.parts c.function a (Some h) kept (action_answer c a vs t))) f) (bound_to names (n.numbered h) (Follow tail) q')) (sym v.1) (result_alike s s2 names kept held2 a xs h f (Follow tail) r m.1 m.2 next (action_answer c a v.0 t) q' (responded_written s names kept r a xs (Some h) m.1 m.0 v.0 v.1 v.2 t))
 
   -- what is to be shown of the cases of a switch, behind waiting labels: entered, or on the way to
   -- the label x
   pub record Cases_row (k : ℕ) (cs : Cases) (s : Handles) : Type 0 where
-    pub entered : (labels : List Label) → IsFollowed labels cs → (x : Label) → IsTrue (among x labels) → (names : Scope) (kept : Kept) (t : List Event) → Related c n s names kept → FitsCases p c n k cs s → SameBody c s kept (some_case_continues cs) (run_on c bound cs kept t) (follow_groups (words c d) bound (form_cases (naming c n) k labels cs s) x names t)
-    pub searching : (labels : List Label) → IsFollowed labels cs → (x : Label) → among x labels ≡ false → (names : Scope) (kept : Kept) (t : List Event) → Related c n s names kept → FitsCases p c n k cs s → SameBody c s kept (some_case_continues cs) (run_cases c bound cs x kept t) (follow_groups (words c d) bound (form_cases (naming c n) k labels cs s) x names t)
+    pub entered : (labels : List Label) → IsFollowed labels cs → (x : Label) → IsTrue (among x labels) → (names : Scope) (kept : KeptValues) (t : List Event) → Related c n s names kept → FitsCases p c n k cs s → SameBody c s kept (some_case_continues cs) (run_on c bound cs kept t) (follow_groups (words c d) bound (form_cases (naming c n) k labels cs s) x names t)
+    pub searching : (labels : List Label) → IsFollowed labels cs → (x : Label) → among x labels ≡ false → (names : Scope) (kept : KeptValues) (t : List Event) → Related c n s names kept → FitsCases p c n k cs s → SameBody c s kept (some_case_continues cs) (run_cases c bound cs x kept t) (follow_groups (words c d) bound (form_cases (naming c n) k labels cs s) x names t)
 
   no_cases : (k : ℕ) (s : Handles) → Cases_row k no_case s
   no_cases k s = record { entered = in_none; searching = by_none }
     where
-      in_none : (labels : List Label) → IsFollowed labels no_case → (x : Label) → IsTrue (among x labels) → (names : Scope) (kept : Kept) (t : List Event) → Related c n s names kept → FitsCases p c n k no_case s → SameBody c s kept false (run_on c bound no_case kept t) (follow_groups (words c d) bound (form_cases (naming c n) k labels no_case s) x names t)
+      in_none : (labels : List Label) → IsFollowed labels no_case → (x : Label) → IsTrue (among x labels) → (names : Scope) (kept : KeptValues) (t : List Event) → Related c n s names kept → FitsCases p c n k no_case s → SameBody c s kept false (run_on c bound no_case kept t) (follow_groups (words c d) bound (form_cases (naming c n) k labels no_case s) x names t)
       in_none labels w x e names kept t r m = done (agree_refl s kept)
 
-      by_none : (labels : List Label) → IsFollowed labels no_case → (x : Label) → among x labels ≡ false → (names : Scope) (kept : Kept) (t : List Event) → Related c n s names kept → FitsCases p c n k no_case s → SameBody c s kept false (run_cases c bound no_case x kept t) (follow_groups (words c d) bound (form_cases (naming c n) k labels no_case s) x names t)
+      by_none : (labels : List Label) → IsFollowed labels no_case → (x : Label) → among x labels ≡ false → (names : Scope) (kept : KeptValues) (t : List Event) → Related c n s names kept → FitsCases p c n k no_case s → SameBody c s kept false (run_cases c bound no_case x kept t) (follow_groups (words c d) bound (form_cases (naming c n) k labels no_case s) x names t)
       by_none labels w x e names kept t r m = done (agree_refl s kept)
 
   module _ (k : ℕ) (l : Label) (b : Statements) (cs : Cases) (s : Handles) (same : List_row k b s) (rest : Cases_row (given_by_all c.function b k) cs s) where
     abbrev Groups_at : List Label → Bool → Label → Next Scope
     Groups_at labels falls x = follow_groups (words c d) bound (form_cases (naming c n) k labels (case l b falls cs) s) x
 
-    abbrev On_from : Bool → Next Kept
+    abbrev On_from : Bool → Next KeptValues
     On_from falls kept t =
         and_then (run_all c bound b kept t) (λ kept1 t1. cond falls (run_on c bound cs kept1 t1) (Done kept1 t1))
 
@@ -310,10 +313,10 @@ module _ (p : Module) (c : Call) (n : Names) (d : Respond) (given : Given p c n 
     held_more falls h = or_left (any_continue b) (some_case_continues cs) h
 
     -- a case that stays
-    body_alone : (names : Scope) (kept : Kept) (t : List Event) → Related c n s names kept → FitsAll p c n k b s → SameBody c s kept (any_continue b || some_case_continues cs) (On_from false kept t) (Follow (form_all (naming c n) k b s) names t)
+    body_alone : (names : Scope) (kept : KeptValues) (t : List Event) → Related c n s names kept → FitsAll p c n k b s → SameBody c s kept (any_continue b || some_case_continues cs) (On_from false kept t) (Follow (form_all (naming c n) k b s) names t)
     body_alone names kept t r m = stays (same names kept t r m)
       where
-        stays : {o : Outcome Kept} {o' : Outcome Scope} → Same c n s kept (after_all (naming c n) k b s) (any_continue b) o o' → SameBody c s kept (any_continue b || some_case_continues cs) (and_then o (λ kept1 t1. Done kept1 t1)) o'
+        stays : {o : Outcome KeptValues} {o' : Outcome Scope} → Same c n s kept (after_all (naming c n) k b s) (any_continue b) o o' → SameBody c s kept (any_continue b || some_case_continues cs) (and_then o (λ kept1 t1. Done kept1 t1)) o'
         stays (done h) = done h.1
         stays (continued h) = continued (h.1, or_left (any_continue b) (some_case_continues cs) h.2)
         stays (broke h) = broke h
@@ -321,7 +324,7 @@ module _ (p : Module) (c : Call) (n : Names) (d : Respond) (given : Given p c n 
         stays stopped = stopped
         stays mistyped = mistyped
 
-    more_held : {o : Outcome Kept} {o' : Outcome Scope} (kept : Kept) → SameBody c s kept (some_case_continues cs) o o' → SameBody c s kept (any_continue b || some_case_continues cs) o o'
+    more_held : {o : Outcome KeptValues} {o' : Outcome Scope} (kept : KeptValues) → SameBody c s kept (some_case_continues cs) o o' → SameBody c s kept (any_continue b || some_case_continues cs) o o'
     more_held kept a =
         weaker (λ k l p. p) (λ k l q. (q.0, or_right (any_continue b) (some_case_continues cs) q.1)) (λ k l b. b) a
 
@@ -329,13 +332,13 @@ module _ (p : Module) (c : Call) (n : Names) (d : Respond) (given : Given p c n 
     is_among labels x e = among_append x labels l ∙ e
 
     -- the case with this label, or one that waiting labels came to
-    pub here_stays : (labels : List Label) (x : Label) → IsTrue (among x (labels ++ l ∷ [])) → (names : Scope) (kept : Kept) (t : List Event) → Related c n s names kept → FitsCases p c n k (case l b false cs) s → SameBody c s kept (any_continue b || some_case_continues cs) (On_from false kept t) (Groups_at labels false x names t)
+    pub here_stays : (labels : List Label) (x : Label) → IsTrue (among x (labels ++ l ∷ [])) → (names : Scope) (kept : KeptValues) (t : List Event) → Related c n s names kept → FitsCases p c n k (case l b false cs) s → SameBody c s kept (any_continue b || some_case_continues cs) (On_from false kept t) (Groups_at labels false x names t)
     here_stays labels x e names kept t r m =
         let others = follow_groups (words c d) bound (form_cases (naming c n) (given_by_all c.function b k) [] cs s) x names t in
         subst (λ z. SameBody c s kept (any_continue b || some_case_continues cs) (On_from false kept t) (cond z (Follow (form_all (naming c n) k b s) names t) others)) (sym e) (body_alone names kept t r m.1)
 
     -- another case
-    pub past_stays : (labels : List Label) (x : Label) → among x (labels ++ l ∷ []) ≡ false → (names : Scope) (kept : Kept) (t : List Event) → Related c n s names kept → FitsCases p c n k (case l b false cs) s → SameBody c s kept (any_continue b || some_case_continues cs) (run_cases c bound cs x kept t) (Groups_at labels false x names t)
+    pub past_stays : (labels : List Label) (x : Label) → among x (labels ++ l ∷ []) ≡ false → (names : Scope) (kept : KeptValues) (t : List Event) → Related c n s names kept → FitsCases p c n k (case l b false cs) s → SameBody c s kept (any_continue b || some_case_continues cs) (run_cases c bound cs x kept t) (Groups_at labels false x names t)
     past_stays labels x e names kept t r m =
         let others = follow_groups (words c d) bound (form_cases (naming c n) (given_by_all c.function b k) [] cs s) x names t in
         subst (λ z. SameBody c s kept (any_continue b || some_case_continues cs) (run_cases c bound cs x kept t) (cond z (Follow (form_all (naming c n) k b s) names t) others)) (sym e) (more_held kept (rest.searching [] (first_followed_by cs) x refl names kept t r m.2))
@@ -344,7 +347,7 @@ module _ (p : Module) (c : Call) (n : Names) (d : Respond) (given : Given p c n 
   or_second a b e = ap (λ z. z || b) e
 
   -- by the case's own label
-  by_label : (a : Bool) {o1 o2 : Outcome Kept} {o' : Outcome Scope} (s : Handles) (kept : Kept) (held : Bool) → (a ≡ true → SameBody c s kept held o1 o') → (a ≡ false → SameBody c s kept held o2 o') → SameBody c s kept held (cond a o1 o2) o'
+  by_label : (a : Bool) {o1 o2 : Outcome KeptValues} {o' : Outcome Scope} (s : Handles) (kept : KeptValues) (held : Bool) → (a ≡ true → SameBody c s kept held o1 o') → (a ≡ false → SameBody c s kept held o2 o') → SameBody c s kept held (cond a o1 o2) o'
   by_label true s kept held f g = f refl
   by_label false s kept held f g = g refl
 
@@ -365,7 +368,7 @@ module _ (p : Module) (c : Call) (n : Names) (d : Respond) (given : Given p c n 
         searching = λ labels w x e names kept t r m. absurd m.0;
       }
 
-  switch_line : (k h : ℕ) (cs : Cases) (s : Handles) → Cases_row k cs s → (names : Scope) (kept : Kept) (t : List Event) → Related c n s names kept → IsTrue (usable c.function s h) → FitsCases p c n k cs s → SameLine c n s kept (some_case_continues cs) (or_stuck (used_value c kept h) t (λ v. with_integer v t (λ z. after_switch (run_cases c bound cs (label_if (has_label (Numbered z) cs) z) kept t)))) (with_value (value_of (words c d) (value_at (naming c n) s h) names t) (λ v t1. closed_outcome names (with_integer v t1 (λ z. after_switch (follow_groups (words c d) bound (form_cases (naming c n) k [] cs s) (label_if (group_has (Numbered z) (form_cases (naming c n) k [] cs s)) z) names t1)))))
+  switch_line : (k h : ℕ) (cs : Cases) (s : Handles) → Cases_row k cs s → (names : Scope) (kept : KeptValues) (t : List Event) → Related c n s names kept → IsTrue (usable c.function s h) → FitsCases p c n k cs s → SameLine c n s kept (some_case_continues cs) (or_stuck (used_value c kept h) t (λ v. with_integer v t (λ z. after_switch (run_cases c bound cs (label_if (has_label (Numbered z) cs) z) kept t)))) (with_value (value_of (words c d) (value_at (naming c n) s h) names t) (λ v t1. closed_outcome names (with_integer v t1 (λ z. after_switch (follow_groups (words c d) bound (form_cases (naming c n) k [] cs s) (label_if (group_has (Numbered z) (form_cases (naming c n) k [] cs s)) z) names t1)))))
   switch_line k h cs s cases names kept t r u m =
       used_alike _ _ (used_value c kept h) t (value_of (words c d) (value_at (naming c n) s h) names t) (value_here p c n d given s names kept r h u t) (λ v. closed_alike {P = λ k l. Agree s kept k} {Q = λ k l. Agree s kept k × IsTrue (some_case_continues cs)} {B = λ k l. Agree s kept k} names (λ k l a. (related_agree c n s names kept k a r, a)) (λ k l q. q) (λ k l b. b) (there_alike (integer_in v) t _ _ one_label))
     where

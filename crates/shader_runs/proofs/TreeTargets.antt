@@ -13,7 +13,7 @@ use Rattle.shader_runs.specs.Text.{Tree, Trees}
 use Rattle.shader_runs.specs.Form.{Plain, AsValue, AsPlace, value_form, place_form, value_forms}
 use Rattle.shader_runs.specs.Form.{value_forms_then, access_form, part_form, constant_form}
 use Rattle.shader_runs.specs.Form.{constant_forms, global_form, own_form, standing_form}
-use Rattle.shader_runs.specs.Form.{written_below, written, value_at, value_if}
+use Rattle.shader_runs.specs.Form.{written_below, written_form, value_at, value_if}
 use Rattle.shader_runs.specs.Premises.{EachWord, EachWordOf, EachLeaf, EachLeafOf, IsLiteral}
 use Rattle.shader_runs.specs.Resolution.{Target, ConstantTarget, GlobalTarget, ArgumentTarget}
 use Rattle.shader_runs.specs.Resolution.{LocalTarget, LetTarget, Lookup, word_target, tree_targets}
@@ -145,23 +145,23 @@ module _ (f : Naming) (names : Lookup) where
       below_resolves (suc n) h = one_below n h (all h) (each_of (Below n) (below_resolves n) (operands_of (expression_of f.function h)))
 
       pub value_resolves : (h : ℕ) → tree_targets names (value_at f s h) ≡ map Some (value_targets f.function s numbers h)
-      value_resolves h = value_targets_of names (written f s h) ∙ below_resolves (length f.function.expressions) h
+      value_resolves h = value_targets_of names (written_form f s h) ∙ below_resolves (length f.function.expressions) h
 
-      pub place_resolves : (h : ℕ) → tree_targets names (place_form (written f s h)) ≡ map Some (value_targets f.function s numbers h)
-      place_resolves h = place_targets_of names (written f s h) ∙ below_resolves (length f.function.expressions) h
+      pub place_resolves : (h : ℕ) → tree_targets names (place_form (written_form f s h)) ≡ map Some (value_targets f.function s numbers h)
+      place_resolves h = place_targets_of names (written_form f s h) ∙ below_resolves (length f.function.expressions) h
 
       pub value_if_resolves : (v : Option ℕ) → tree_targets_if names (value_if f s v) ≡ map Some (value_targets_if f.function s numbers v)
       value_if_resolves None = refl
       value_if_resolves (Some h) = value_resolves h
 
-      pub values_resolve : (xs : List ℕ) → trees_targets names (value_forms (written f s) xs) ≡ map Some (operands_targets (value_targets f.function s numbers) xs)
+      pub values_resolve : (xs : List ℕ) → trees_targets names (value_forms (written_form f s) xs) ≡ map Some (operands_targets (value_targets f.function s numbers) xs)
       values_resolve xs =
-          operands_resolve (written f s) (value_targets f.function s numbers) xs
-          (each_of (λ x. plain_targets names (written f s x) ≡ map Some (value_targets f.function s numbers x)) (below_resolves (length f.function.expressions)) xs)
+          operands_resolve (written_form f s) (value_targets f.function s numbers) xs
+          (each_of (λ x. plain_targets names (written_form f s x) ≡ map Some (value_targets f.function s numbers x)) (below_resolves (length f.function.expressions)) xs)
 
       -- what a `let` binds
-      pub let_resolves : (h : ℕ) → tree_targets names (value_form (own_form f (written f s) (handle_type f.function h) (expression_of f.function h))) ≡ map Some (own_targets (value_targets f.function s numbers) (expression_of f.function h))
+      pub let_resolves : (h : ℕ) → tree_targets names (value_form (own_form f (written_form f s) (handle_type f.function h) (expression_of f.function h))) ≡ map Some (own_targets (value_targets f.function s numbers) (expression_of f.function h))
       let_resolves h =
-          value_targets_of names (own_form f (written f s) (handle_type f.function h) (expression_of f.function h))
-          ∙ own_resolves (written f s) (value_targets f.function s numbers) (handle_type f.function h) (expression_of f.function h) (all h)
-          (each_of (λ x. plain_targets names (written f s x) ≡ map Some (value_targets f.function s numbers x)) (below_resolves (length f.function.expressions)) (operands_of (expression_of f.function h)))
+          value_targets_of names (own_form f (written_form f s) (handle_type f.function h) (expression_of f.function h))
+          ∙ own_resolves (written_form f s) (value_targets f.function s numbers) (handle_type f.function h) (expression_of f.function h) (all h)
+          (each_of (λ x. plain_targets names (written_form f s x) ≡ map Some (value_targets f.function s numbers x)) (below_resolves (length f.function.expressions)) (operands_of (expression_of f.function h)))

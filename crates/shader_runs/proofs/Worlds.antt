@@ -5,8 +5,8 @@ use Rattle.std.proofs.Common.{refl, ap, ◌∙◌, arith, ◌+◌}
 use Rattle.shader_runs.specs.Value.{PartTypes, ValueType, has_type, Value}
 use Rattle.shader_runs.specs.World.{Event, Discard, entries, World, update}
 use Rattle.shader_runs.specs.Outcome.{Stop, Stuck, Unreturned, OutOfTurns, Discarded, Mistyped}
-use Rattle.shader_runs.specs.Outcome.{Reached, Gives, Halts}
-use Rattle.shader_runs.specs.ProgramRun.{Kept}
+use Rattle.shader_runs.specs.Outcome.{ReachedOrHalted, Gives, Halts}
+use Rattle.shader_runs.specs.ProgramRun.{KeptValues}
 use Rattle.shader_runs.proofs.Update.{update_cases}
 use Rattle.shader_runs.proofs.Process.{reached_events, Pause, DoneWith, ContinuedWith, BrokeWith}
 use Rattle.shader_runs.proofs.Process.{ReturnedWith, Process, gives, stuck, unreturned, discards}
@@ -22,17 +22,17 @@ abbrev pub world_of : Types → World
 world_of a t r = default_value (a (length t))
 
 -- a run that stopped at an answer of a wrong type made one mistake
-abbrev pub mistakes : {A : Type 0} → Reached A → ℕ
+abbrev pub mistakes : {A : Type 0} → ReachedOrHalted A → ℕ
 mistakes (Gives x t) = 0
 mistakes (Halts Mistyped t) = 1
 mistakes (Halts _ t) = 0
 
-abbrev pub events_made : {A : Type 0} → Reached A → ℕ
+abbrev pub events_made : {A : Type 0} → ReachedOrHalted A → ℕ
 events_made q = length (reached_events q)
 
 -- a run by the answers' types. With those given it ends as `now`, with others it ends as `finally`,
 -- without a mistake; only the types from the mistake on are changed
-pub record Completes (R : Types → Reached Pause) (t : List Event) (a : Types) (now finally : Reached Pause) : Type 0 where
+pub record Completes (R : Types → ReachedOrHalted Pause) (t : List Event) (a : Types) (now finally : ReachedOrHalted Pause) : Type 0 where
   pub local_now : (b : Types) → ((i : ℕ) → i < events_made now → b i ≡ a i) → R b ≡ now
   pub grown : length t + mistakes now ≤ events_made now
   pub after : Types
@@ -41,15 +41,15 @@ pub record Completes (R : Types → Reached Pause) (t : List Event) (a : Types) 
   pub agrees : (i : ℕ) → (mistakes now ≡ 1 → suc i < events_made now) → after i ≡ a i
   pub further : events_made now ≤ events_made finally
 
-pub record Completed (R : Types → Reached Pause) (t : List Event) (a : Types) : Type 0 where
-  pub now : Reached Pause
-  pub finally : Reached Pause
+pub record Completed (R : Types → ReachedOrHalted Pause) (t : List Event) (a : Types) : Type 0 where
+  pub now : ReachedOrHalted Pause
+  pub finally : ReachedOrHalted Pause
   pub completes : Completes R t a now finally
 
-abbrev pub Makes : List Event → (Types → Reached Pause) → Type 0
+abbrev pub Makes : List Event → (Types → ReachedOrHalted Pause) → Type 0
 Makes t R = (a : Types) → Completed R t a
 
-constant_makes : (t : List Event) (q : Reached Pause) → mistakes q ≡ 0 → length t ≤ events_made q → Makes t (λ b. q)
+constant_makes : (t : List Event) (q : ReachedOrHalted Pause) → mistakes q ≡ 0 → length t ≤ events_made q → Makes t (λ b. q)
 constant_makes t q f l a =
     record {
       now = q;
@@ -67,7 +67,7 @@ constant_makes t q f l a =
     }
 
 -- behind one more event
-later_makes : (e : Event) (t : List Event) (R : Types → Reached Pause) → Makes (e ∷ t) R → Makes t R
+later_makes : (e : Event) (t : List Event) (R : Types → ReachedOrHalted Pause) → Makes (e ∷ t) R → Makes t R
 later_makes e t R make a =
     let k = make a in
     let m = k.completes in
@@ -87,13 +87,13 @@ later_makes e t R make a =
     }
 
 -- a run and what goes on from how it ends
-resumed_makes : (t : List Event) (R : Types → Reached Pause) (H : Types → Pause → List Event → Reached Pause) → Makes t R → ((x : Pause) (e : List Event) → Makes e (λ b. H b x e)) → Makes t (λ b. resumed (R b) (H b))
+resumed_makes : (t : List Event) (R : Types → ReachedOrHalted Pause) (H : Types → Pause → List Event → ReachedOrHalted Pause) → Makes t R → ((x : Pause) (e : List Event) → Makes e (λ b. H b x e)) → Makes t (λ b. resumed (R b) (H b))
 resumed_makes t R H make next a = go (make a).now (make a).finally (make a).completes
   where
-    goes_on : (b : Types) (q : Reached Pause) → R b ≡ q → resumed (R b) (H b) ≡ resumed q (H b)
+    goes_on : (b : Types) (q : ReachedOrHalted Pause) → R b ≡ q → resumed (R b) (H b) ≡ resumed q (H b)
     goes_on b q e = ap (λ q. resumed q (H b)) e
 
-    halts : (x : Stop) (e : List Event) (finally : Reached Pause) → (let q : Reached Pause = Halts x e in mistakes q ≡ 0) → Completes R t a (Halts x e) finally → Completed (λ b. resumed (R b) (H b)) t a
+    halts : (x : Stop) (e : List Event) (finally : ReachedOrHalted Pause) → (let q : ReachedOrHalted Pause = Halts x e in mistakes q ≡ 0) → Completes R t a (Halts x e) finally → Completed (λ b. resumed (R b) (H b)) t a
     halts x e finally f k =
         record {
           now = Halts x e;
@@ -110,7 +110,7 @@ resumed_makes t R H make next a = go (make a).now (make a).finally (make a).comp
               };
         }
 
-    go : (now finally : Reached Pause) → Completes R t a now finally → Completed (λ b. resumed (R b) (H b)) t a
+    go : (now finally : ReachedOrHalted Pause) → Completes R t a now finally → Completed (λ b. resumed (R b) (H b)) t a
     go (Gives x e) finally k =
         let l = next x e a in
         let m = l.completes in
@@ -166,19 +166,19 @@ resumed_makes t R H make next a = go (make a).now (make a).finally (make a).comp
         }
 
 -- at most n rounds
-pub rounds_make : (once : Types → Kept → List Event → Reached Pause) → ((s : Kept) (e : List Event) → Makes e (λ b. once b s e)) → (n : ℕ) (s : Kept) (t : List Event) → Makes t (λ b. rounds n (once b) s t)
+pub rounds_make : (once : Types → KeptValues → List Event → ReachedOrHalted Pause) → ((s : KeptValues) (e : List Event) → Makes e (λ b. once b s e)) → (n : ℕ) (s : KeptValues) (t : List Event) → Makes t (λ b. rounds n (once b) s t)
 rounds_make once make zero s t = constant_makes t (Halts OutOfTurns t) refl (omega arith)
 rounds_make once make (suc n) s t =
     resumed_makes t (λ b. once b s t) (λ b. again (rounds n (once b))) (make s t) (go (rounds_make once make n))
   where
-    go : ((s : Kept) (e : List Event) → Makes e (λ b. rounds n (once b) s e)) → (x : Pause) (e : List Event) → Makes e (λ b. again (rounds n (once b)) x e)
+    go : ((s : KeptValues) (e : List Event) → Makes e (λ b. rounds n (once b) s e)) → (x : Pause) (e : List Event) → Makes e (λ b. again (rounds n (once b)) x e)
     go rest (DoneWith s) e = rest s e
     go rest (ContinuedWith s) e = constant_makes e (Halts Stuck e) refl (omega arith)
     go rest (BrokeWith s) e = constant_makes e (Gives (DoneWith s) e) refl (omega arith)
     go rest (ReturnedWith v) e = constant_makes e (Gives (ReturnedWith v) e) refl (omega arith)
 
 -- a request: where the given type isn't the wanted one, the wanted one is put in
-wants_makes : (parts : PartTypes) (k : ValueType) (r : Event) (F : Types → Value → Reached Pause) (t : List Event) → ((v : Value) → Makes (r ∷ t) (λ b. F b v)) → Makes t (λ b. answered (has_type parts k (world_of b t r)) (r ∷ t) (F b (world_of b t r)))
+wants_makes : (parts : PartTypes) (k : ValueType) (r : Event) (F : Types → Value → ReachedOrHalted Pause) (t : List Event) → ((v : Value) → Makes (r ∷ t) (λ b. F b v)) → Makes t (λ b. answered (has_type parts k (world_of b t r)) (r ∷ t) (F b (world_of b t r)))
 wants_makes parts k r F t make a = go (has_type parts k (default_value (a (length t)))) refl
   where
     at : (y : ValueType) (x : Bool) → has_type parts k (default_value y) ≡ x → (b : Types) → b (length t) ≡ y → answered (has_type parts k (world_of b t r)) (r ∷ t) (F b (world_of b t r)) ≡ answered x (r ∷ t) (F b (default_value y))

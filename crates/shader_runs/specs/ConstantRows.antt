@@ -7,7 +7,7 @@ use Rattle.std.specs.Prelude.{codes}
 use Rattle.shader_runs.specs.Value.{Bytes, same_bytes, OtherType, PointerType, Value, Whole, Opaque}
 use Rattle.shader_runs.specs.Value.{Spelled}
 use Rattle.shader_runs.specs.World.{Entry, Meaning, Settings}
-use Rattle.shader_runs.specs.Outcome.{Reached, Gives, Halts, Stuck}
+use Rattle.shader_runs.specs.Outcome.{ReachedOrHalted, Gives, Halts, Stuck}
 use Rattle.shader_runs.specs.Program.{ConstantTree, Fixed, NamedConstant, Constructed, no_constant}
 use Rattle.shader_runs.specs.Program.{constant, Constant, Return, end, then, Function, Module}
 use Rattle.shader_runs.specs.Text.{Tree, Name, LiteralOf, Apply, no_more, more, ReturnLine, last}
@@ -118,21 +118,21 @@ abbrev pub with_override : ℕ → Settings
 with_override b = record { overrides = number b ∷ []; globals = None ∷ [] }
 
 -- what the module does
-abbrev pub run_pair : ℕ → Reached (Option Value)
+abbrev pub run_pair : ℕ → ReachedOrHalted (Option Value)
 run_pair b = run_module pair_module (with_override b) row_world pair_meaning 1 0 [] []
 
 -- what the text with this initialiser does
-abbrev pub follow_pair : Tree → ℕ → Reached (Option Value)
+abbrev pub follow_pair : Tree → ℕ → ReachedOrHalted (Option Value)
 follow_pair initialiser b =
     follow_module (pair_text initialiser) (with_override b) row_world pair_meaning row_asks 1
     (codes "f") [] []
 
 -- a pair is returned, and nothing is read
-abbrev pub returns_pair : ℕ → ℕ → Reached (Option Value)
+abbrev pub returns_pair : ℕ → ℕ → ReachedOrHalted (Option Value)
 returns_pair a b = Gives (Some (pair a b)) (Entry 0 [] [] ∷ [])
 
 -- no value is there
-abbrev pub without_value : Reached (Option Value)
+abbrev pub without_value : ReachedOrHalted (Option Value)
 without_value = Halts Stuck (Entry 0 [] [] ∷ [])
 
 -- the module's text, what both do, and what other texts do: another initialiser gives another

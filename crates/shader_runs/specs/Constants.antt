@@ -11,16 +11,16 @@ use Rattle.std.specs.List.{list_any}
 use Rattle.shader_runs.specs.Value.{Bytes, same_bytes, ValueType, pointer_spelling, Value, Spelled}
 use Rattle.shader_runs.specs.World.{Event, World, Meaning, GlobalValue, Stored, Held, Settings}
 use Rattle.shader_runs.specs.World.{Environment, bind}
-use Rattle.shader_runs.specs.Outcome.{Stuck, Reached, Gives, Halts}
+use Rattle.shader_runs.specs.Outcome.{Stuck, ReachedOrHalted, Gives, Halts}
 use Rattle.shader_runs.specs.Program.{ConstantTree, Module, constant_count}
 use Rattle.shader_runs.specs.ProgramRun.{also, tree_value, run_call}
 use Rattle.shader_runs.specs.Text.{Tree, TextConstant, TextModule}
-use Rattle.shader_runs.specs.TextRun.{Denoted, IsValue, Scope, Words, evaluate, with_parameters}
+use Rattle.shader_runs.specs.TextRun.{Denotation, IsValue, Scope, Words, evaluate, with_parameters}
 use Rattle.shader_runs.specs.TextRun.{with_globals, no_names, names_function, word_use, follow_call}
 
 -- what is known of an item
-abbrev pub known : List (Option Value) → ℕ → Option Value
-known found i = get_or found i None
+abbrev pub known_value : List (Option Value) → ℕ → Option Value
+known_value found i = get_or found i None
 
 -- the values of the initialisers, where they have one, and behind them those of the overrides
 abbrev pub found_with : (ConstantTree → Option Value) → Module → Settings → List (Option Value)
@@ -30,7 +30,7 @@ found_with value p s = map value p.initialisers ++ map Some s.overrides
 -- initialisers over what the one before it found
 abbrev pub found_after : Module → Settings → Meaning → (rounds : ℕ) → List (Option Value)
 found_after p s m zero = found_with (λ e. None) p s
-found_after p s m (suc n) = found_with (tree_value (known (found_after p s m n)) m) p s
+found_after p s m (suc n) = found_with (tree_value (known_value (found_after p s m n)) m) p s
 
 -- all values, if they are there
 abbrev pub all_found : List (Option Value) → Option (List Value)
@@ -62,7 +62,7 @@ environment_of p s m =
 -- the run of a function of the module
 abbrev pub run_module :
     Module → Settings → World → Meaning → (turns function : ℕ) → List Value → List Event →
-    Reached (Option Value)
+    ReachedOrHalted (Option Value)
 run_module p s w m n g vs t = run_call (environment_of p s m) w m n p.functions g vs t
 
 -- the word is a constant's or a function's name in the text
@@ -72,30 +72,31 @@ is_declared text word =
 
 -- a word in an initialiser is an operator: no function is called there, and nothing is asked
 abbrev pub operate :
-    TextModule → Meaning → (Bytes → Bool) → Bytes → List Value → List Event → Reached (Option Value)
+    TextModule → Meaning → (Bytes → Bool) → Bytes → List Value → List Event →
+    ReachedOrHalted (Option Value)
 operate text m is_request word vs t =
     let refused = is_declared text word || is_request word in
     cond refused (Halts Stuck t) (Gives (Some (m (Spelled word) vs)) t)
 
 -- an initialiser gives a value, and makes no event
-abbrev pub initialised_name : Reached Denoted → Option Denoted
+abbrev pub initialised_name : ReachedOrHalted Denotation → Option Denotation
 initialised_name (Gives (IsValue v) []) = Some (IsValue v)
 initialised_name _ = None
 
 -- named constants, each with what its initialiser gives
-abbrev pub with_constants : (Tree → Option Denoted) → List TextConstant → Scope → Scope
+abbrev pub with_constants : (Tree → Option Denotation) → List TextConstant → Scope → Scope
 with_constants value [] names = names
 with_constants value (x ∷ xs) names =
     bind (with_constants value xs names) x.name (value x.initialiser)
 
 -- the module-level names: the named constants, the overrides and the variables
-abbrev pub scope_with : (Tree → Option Denoted) → TextModule → Settings → Scope
+abbrev pub scope_with : (Tree → Option Denotation) → TextModule → Settings → Scope
 scope_with value text s =
     let variables = with_globals text.globals s.globals 0 no_names in
     with_constants value text.constants (with_parameters text.overrides s.overrides variables)
 
 -- what an initialiser gives where these names are in scope
-abbrev pub initialiser_value : Words → Scope → Tree → Option Denoted
+abbrev pub initialiser_value : Words → Scope → Tree → Option Denotation
 initialiser_value l names e = initialised_name (evaluate l e names [])
 
 -- the names after so many rounds: at first no named constant has a value, and each round evaluates
@@ -114,7 +115,7 @@ module_scope text s w m is_request =
 abbrev pub follow_module :
     TextModule → Settings → World → Meaning → (is_request : Bytes → Bool) → (turns : ℕ) →
     (name : Bytes) →
-    List Value → List Event → Reached (Option Value)
+    List Value → List Event → ReachedOrHalted (Option Value)
 follow_module text s w m is_request n word vs t =
     let uses = word_use text.functions is_request in
     follow_call (module_scope text s w m is_request) w m uses n text.functions word vs t

@@ -6,7 +6,7 @@
 use Rattle.std.specs.Prelude.{◌≡◌, ℕ, List, [], Some, IsTrue, slice_get, drop}
 use Rattle.shader_runs.specs.Value.{Value, has_types}
 use Rattle.shader_runs.specs.World.{World, Meaning, Event, Settings, Environment}
-use Rattle.shader_runs.specs.Outcome.{Mistyped, Reached, Gives, Halts}
+use Rattle.shader_runs.specs.Outcome.{Mistyped, ReachedOrHalted, Gives, Halts}
 use Rattle.shader_runs.specs.Program.{Function, function_numbered, Module, ConstantTree}
 use Rattle.shader_runs.specs.Program.{constant_count}
 use Rattle.shader_runs.specs.ProgramRun.{constant_value}
@@ -18,7 +18,7 @@ use Rattle.shader_runs.specs.Premises.{IsTyped, AllFit, ConstantsFit, SettingsFi
 use Rattle.shader_runs.specs.Premises.{ModuleNamesAreDistinct}
 
 -- each answer of the world that the run asks for has its type
-abbrev pub KeepsTypes : {A : Type 0} → Reached A → Type 0
+abbrev pub KeepsTypes : {A : Type 0} → ReachedOrHalted A → Type 0
 KeepsTypes (Gives a t) = Unit {0}
 KeepsTypes (Halts Mistyped t) = ⊥
 KeepsTypes (Halts x t) = Unit {0}

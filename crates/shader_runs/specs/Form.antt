@@ -112,12 +112,12 @@ written_below f s (suc n) h =
     (own_form f (written_below f s n) (handle_type f.function h) (expression_of f.function h))
 
 -- a handle's form: its name where it is bound, else its expression over its operands' forms
-abbrev pub written : Naming → Handles → ℕ → Plain
-written f s h = written_below f s (length f.function.expressions) h
+abbrev pub written_form : Naming → Handles → ℕ → Plain
+written_form f s h = written_below f s (length f.function.expressions) h
 
 -- a handle in a value's position
 abbrev pub value_at : Naming → Handles → ℕ → Tree
-value_at f s h = value_form (written f s h)
+value_at f s h = value_form (written_form f s h)
 
 -- a value, if one is wanted
 abbrev pub value_if : Naming → Handles → Option ℕ → Option Tree
@@ -134,7 +134,8 @@ abbrev pub lets : Naming → ℕ → List ℕ → Handles → Lines → Lines
 lets f k [] s tail = tail
 lets f k (h ∷ hs) s tail =
     let_if (binds f.function h) (bound_name f k h)
-    (value_form (own_form f (written f s) (handle_type f.function h) (expression_of f.function h)))
+    (value_form
+    (own_form f (written_form f s) (handle_type f.function h) (expression_of f.function h)))
     (lets f (given_after f.function h k) hs (after_one f k h s) tail)
 
 -- what an action's line calls
@@ -157,7 +158,8 @@ abbrev mutual
   -- names have been given, s are the handles in scope
   pub form : Naming → ℕ → Statement → Handles → Lines → Lines
   form f k (Emit first count) s tail = lets f k (from first count) s tail
-  form f k (Store p v) s tail = before (Assign (place_form (written f s p)) (value_at f s v)) tail
+  form f k (Store p v) s tail =
+      before (Assign (place_form (written_form f s p)) (value_at f s v)) tail
   form f k (Block b) s tail = before (Braces (form_all f k b s)) tail
   form f k (If c a b) s tail =
       before (IfElse (value_at f s c) (form_all f k a s)
@@ -175,7 +177,7 @@ abbrev mutual
   form f k Kill s tail = before DiscardLine tail
   form f k (Barrier bits) s tail = perform_each (barrier_words bits) tail
   form f k (Act a xs r) s tail =
-      before (act_line f.names r (word_of f.names a) (value_forms (written f s) xs)) tail
+      before (act_line f.names r (word_of f.names a) (value_forms (written_form f s) xs)) tail
 
   pub form_all : Naming → ℕ → Statements → Handles → Lines
   form_all f k end s = last

@@ -105,22 +105,22 @@ abbrev pub with_integer : {S : Type 0} → Value → List Event → (ℤ → Out
 with_integer v t go = or_stuck (integer_in v) t go
 
 -- what is reached after more events, or why nothing is
-pub data Reached (A : Type 0) : Type 0 where
-  Gives : A → List Event → Reached A
-  Halts : Stop → List Event → Reached A
+pub data ReachedOrHalted (A : Type 0) : Type 0 where
+  Gives : A → List Event → ReachedOrHalted A
+  Halts : Stop → List Event → ReachedOrHalted A
 
 -- what is there, or a run that is stuck
-abbrev pub reach : {A : Type 0} → Option A → List Event → Reached A
+abbrev pub reach : {A : Type 0} → Option A → List Event → ReachedOrHalted A
 reach None t = Halts Stuck t
 reach (Some a) t = Gives a t
 
 -- what goes on, unless something is there: then the run is stuck
-abbrev pub unless : {A B : Type 0} → Option A → List Event → Reached B → Reached B
+abbrev pub unless : {A B : Type 0} → Option A → List Event → ReachedOrHalted B → ReachedOrHalted B
 unless None t q = q
 unless (Some a) t q = Halts Stuck t
 
 -- how a call ends, by how its body does
-abbrev pub answer : {S : Type 0} → Outcome S → Reached (Option Value)
+abbrev pub answer : {S : Type 0} → Outcome S → ReachedOrHalted (Option Value)
 answer (Done s t) = Gives None t
 answer (Continued s t) = Halts Stuck t
 answer (Broke s t) = Halts Stuck t

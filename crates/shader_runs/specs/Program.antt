@@ -23,9 +23,9 @@ mutual
 
 -- a read of the kinds that are written by their count
 -- alone, or an image operation, which is always written
-pub data Asking : Type 0 where
-  WhenCounted : Asking
-  Always : Asking
+pub data AskingRule : Type 0 where
+  WhenCounted : AskingRule
+  Always : AskingRule
 
 -- a request's last operands may be constants, which are
 -- written out and not by a handle: a level of zero, an offset
@@ -40,7 +40,8 @@ pub data Expression : Type 0 where
   AccessIndex : Selector → (base : ℕ) → Expression
   Swizzle : (letters : Bytes) → (vector : ℕ) → Expression
   Logical : ShortCircuit → (left right : ℕ) → Expression
-  Request : Asking → (word : Bytes) → (operands : List ℕ) → (constants : ConstantTrees) → Expression
+  Request : AskingRule → (word : Bytes) → (operands : List ℕ) → (constants : ConstantTrees) →
+      Expression
   Result : Expression
 
 -- a statement that makes events with operands and may give a result
@@ -146,7 +147,7 @@ abbrev pub greatest_count : ℕ
 greatest_count = 2 ^ 64 - 1
 
 -- a read is written where it counts or has a name, an image operation always
-abbrev pub is_asked : Function → ℕ → Asking → Bool
+abbrev pub is_asked : Function → ℕ → AskingRule → Bool
 is_asked f h WhenCounted = is_counted f 1 h
 is_asked f h Always = true
 

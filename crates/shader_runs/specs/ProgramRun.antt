@@ -16,7 +16,8 @@ use Rattle.shader_runs.specs.Value.{short_circuit_word, is_decided}
 use Rattle.shader_runs.specs.World.{Event, Entry, Ask, Read, Write, Discard, entries, World}
 use Rattle.shader_runs.specs.World.{Meaning, GlobalValue, Stored, Held, Environment, update}
 use Rattle.shader_runs.specs.Outcome.{Stuck, Discarded, Mistyped, Outcome, Done, Continued, Broke}
-use Rattle.shader_runs.specs.Outcome.{or_stuck, Returned, Stopped, Reached, Gives, Halts, answer}
+use Rattle.shader_runs.specs.Outcome.{or_stuck, Returned, Stopped, ReachedOrHalted, Gives, Halts}
+use Rattle.shader_runs.specs.Outcome.{answer}
 use Rattle.shader_runs.specs.Outcome.{Next, and_then, turn, turns, after_switch, branch_by}
 use Rattle.shader_runs.specs.Outcome.{with_integer, Unreturned}
 use Rattle.shader_runs.specs.Program.{ConstantTree, Fixed, NamedConstant, Constructed}
@@ -40,11 +41,11 @@ pub record Call : Type 0 where
   pub meaning : Meaning
   pub arguments : List Value
   pub frame : ℕ
-  pub calls : ℕ → List Value → List Event → Reached (Option Value)
+  pub calls : ℕ → List Value → List Event → ReachedOrHalted (Option Value)
 
 -- the value kept for each handle
-abbrev pub Kept : Type 0
-Kept = ℕ → Option Value
+abbrev pub KeptValues : Type 0
+KeptValues = ℕ → Option Value
 
 -- one more value, if all are there
 abbrev pub also : Option Value → Option (List Value) → Option (List Value)
@@ -92,11 +93,11 @@ used_value_as c None kept = None
 used_value_as c _ kept = kept
 
 -- what a use of this handle takes
-abbrev pub used_value : Call → Kept → ℕ → Option Value
+abbrev pub used_value : Call → KeptValues → ℕ → Option Value
 used_value c kept h = used_value_as c (expression_of c.function h) (kept h)
 
 -- what uses of these handles take
-abbrev pub used_values : Call → Kept → List ℕ → Option (List Value)
+abbrev pub used_values : Call → KeptValues → List ℕ → Option (List Value)
 used_values c kept [] = Some []
 used_values c kept (x ∷ xs) = also (used_value c kept x) (used_values c kept xs)
 
@@ -164,7 +165,7 @@ abbrev pub gathered_value : Meaning → Option Expression → Option (List Value
 gathered_value m e vs = option_and_then (combined_value m e) vs
 
 -- an expression's value now, over the kept values
-abbrev pub computed_value : Call → Kept → Option Expression → Option Value
+abbrev pub computed_value : Call → KeptValues → Option Expression → Option Value
 computed_value c kept e = gathered_value c.meaning e (used_values c kept (operands_of e))
 
 -- an answer of another type than the module's
@@ -173,11 +174,11 @@ if_typed true t o = o
 if_typed false t o = Stopped Mistyped t
 
 -- an answer is kept, if it has its type
-abbrev pub keep_typed : PartTypes → ValueType → ℕ → Value → Next Kept
+abbrev pub keep_typed : PartTypes → ValueType → ℕ → Value → Next KeptValues
 keep_typed parts k h v kept t = if_typed (has_type parts k v) t (Done (update kept h (Some v)) t)
 
 -- a handle without its pointer's value gets none
-abbrev pub after_load : PartTypes → ValueType → World → ℕ → Option Value → Next Kept
+abbrev pub after_load : PartTypes → ValueType → World → ℕ → Option Value → Next KeptValues
 after_load parts k w h None kept t = Done (update kept h None) t
 after_load parts k w h (Some v) kept t =
     or_stuck (place_in v) t (λ p. keep_typed parts k h (w t (Read p)) kept (Read p ∷ t))
@@ -190,18 +191,18 @@ joined_values (Some vs) (Some us) = Some (vs ++ us)
 
 -- a handle without its operands' values gets none
 abbrev pub after_request :
-    PartTypes → ValueType → World → ℕ → Bytes → Option (List Value) → Next Kept
+    PartTypes → ValueType → World → ℕ → Bytes → Option (List Value) → Next KeptValues
 after_request parts k w h word None kept t = Done (update kept h None) t
 after_request parts k w h word (Some vs) kept t =
     keep_typed parts k h (w t (Ask word vs)) kept (Ask word vs ∷ t)
 
 -- what isn't written is no event
-abbrev pub if_counted : Bool → Next Kept → Next Kept
+abbrev pub if_counted : Bool → Next KeptValues → Next KeptValues
 if_counted true next kept t = next kept t
 if_counted false next kept t = Done kept t
 
 -- an emitted expression: an event is asked for, an operator computed
-abbrev pub emit_as : Call → ℕ → Option Expression → Next Kept
+abbrev pub emit_as : Call → ℕ → Option Expression → Next KeptValues
 emit_as c h (Some (Load p)) kept t =
     let parts = c.environment.parts in
     let loads = after_load parts (handle_type c.function h) c.world h (used_value c kept p) in
@@ -225,7 +226,7 @@ emit_as c h (Some (Swizzle w v)) kept t =
 emit_as c h _ kept t = Done kept t
 
 -- handles are emitted in order
-abbrev pub emit : Call → List ℕ → Next Kept
+abbrev pub emit : Call → List ℕ → Next KeptValues
 emit c [] kept t = Done kept t
 emit c (h ∷ hs) kept t = and_then (emit_as c h (expression_of c.function h) kept t) (emit c hs)
 
@@ -234,24 +235,25 @@ abbrev pub with_pointer : {S : Type 0} → Option Value → List Event → (Plac
 with_pointer o t go = or_stuck (option_and_then place_in o) t go
 
 -- after `continuing`: Broke where the loop is left
-abbrev pub leave : Call → Option ℕ → Next Kept
+abbrev pub leave : Call → Option ℕ → Next KeptValues
 leave c None kept t = Done kept t
 leave c (Some h) kept t =
     or_stuck (used_value c kept h) t (λ v. branch_by v t (Broke kept t) (Done kept t))
 
 -- what is returned
-abbrev pub return_outcome : Call → Option ℕ → Next Kept
+abbrev pub return_outcome : Call → Option ℕ → Next KeptValues
 return_outcome c None kept t = Returned None t
 return_outcome c (Some h) kept t = or_stuck (used_value c kept h) t (λ v. Returned (Some v) t)
 
 -- what an action does with its operands' values
-abbrev pub action_answer : Call → Action → List Value → List Event → Reached (Option Value)
+abbrev pub action_answer : Call → Action → List Value → List Event → ReachedOrHalted (Option Value)
 action_answer c (Asked w) vs t = Gives (Some (c.world t (Ask w vs))) (Ask w vs ∷ t)
 action_answer c (Called g) vs t = c.calls g vs t
 
 -- an action's result is kept where one is wanted
 abbrev pub with_result :
-    PartTypes → Function → Action → Option ℕ → Kept → Reached (Option Value) → Outcome Kept
+    PartTypes → Function → Action → Option ℕ → KeptValues → ReachedOrHalted (Option Value) →
+    Outcome KeptValues
 with_result parts f a None kept (Gives v t) = Done kept t
 with_result parts f a None kept (Halts x t) = Stopped x t
 with_result parts f a (Some h) kept (Gives None t) = Stopped Unreturned t
@@ -274,7 +276,7 @@ barrier_words bits =
     (word_if bits.texture (codes "textureBarrier") [])))
 
 -- one event for each word
-abbrev pub ask_each : List Bytes → Next Kept
+abbrev pub ask_each : List Bytes → Next KeptValues
 ask_each [] kept t = Done kept t
 ask_each (w ∷ ws) kept t = ask_each ws kept (Ask w [] ∷ t)
 
@@ -296,7 +298,7 @@ label_if false z = Default
 
 abbrev mutual
   -- each loop makes at most n turns
-  pub run : Call → ℕ → Statement → Next Kept
+  pub run : Call → ℕ → Statement → Next KeptValues
   run c n (Emit first count) kept t = emit c (from first count) kept t
   run c n (Store p v) kept t =
       with_pointer (used_value c kept p) t
@@ -318,21 +320,21 @@ abbrev mutual
       or_stuck (used_values c kept xs) t
       (λ vs. with_result c.environment.parts c.function a r kept (action_answer c a vs t))
 
-  pub run_all : Call → ℕ → Statements → Next Kept
+  pub run_all : Call → ℕ → Statements → Next KeptValues
   run_all c n end kept t = Done kept t
   run_all c n (then s ss) kept t = and_then (run c n s kept t) (run_all c n ss)
 
   -- from the case with this label on
-  pub run_cases : Call → ℕ → Cases → Label → Next Kept
+  pub run_cases : Call → ℕ → Cases → Label → Next KeptValues
   run_cases c n no_case x kept t = Done kept t
   run_cases c n (case l b falls cs) x kept t =
-      let falling = λ (kept1 : Kept) (t1 : List Event).
+      let falling = λ (kept1 : KeptValues) (t1 : List Event).
       cond falls (run_on c n cs kept1 t1) (Done kept1 t1) in
       let own = and_then (run_all c n b kept t) falling in
       cond (same_label x l) own (run_cases c n cs x kept t)
 
   -- on from a case that fell through
-  pub run_on : Call → ℕ → Cases → Next Kept
+  pub run_on : Call → ℕ → Cases → Next KeptValues
   run_on c n no_case kept t = Done kept t
   run_on c n (case l b falls cs) kept t =
       and_then (run_all c n b kept t)
@@ -354,12 +356,12 @@ abbrev pub constant_as :
 constant_as env m value e = or_constant env m e (gathered_value m e (all_of value (operands_of e)))
 
 -- the values of constant trees up to a bound on their handles
-abbrev pub constant_below : Function → Environment → Meaning → ℕ → Kept
+abbrev pub constant_below : Function → Environment → Meaning → ℕ → KeptValues
 constant_below f env m zero h = None
 constant_below f env m (suc n) h = constant_as env m (constant_below f env m n) (expression_of f h)
 
 -- the values of constant trees are there from the start
-abbrev pub constants_kept : Function → Environment → Meaning → Kept
+abbrev pub constants_kept : Function → Environment → Meaning → KeptValues
 constants_kept f env m = constant_below f env m (length f.expressions)
 
 -- one more first value
@@ -370,37 +372,38 @@ with_first (Some v) None = None
 with_first (Some v) (Some firsts) = Some (v ∷ firsts)
 
 -- a local has no first value, or that of its initialiser
-abbrev pub first_used : Call → Kept → Option ℕ → Option (Option Value)
+abbrev pub first_used : Call → KeptValues → Option ℕ → Option (Option Value)
 first_used c kept None = Some None
 first_used c kept (Some h) = option_map Some (used_value c kept h)
 
 -- the first values of all locals
-abbrev pub first_used_all : Call → Kept → List (Option ℕ) → Option (List (Option Value))
+abbrev pub first_used_all : Call → KeptValues → List (Option ℕ) → Option (List (Option Value))
 first_used_all c kept [] = Some []
 first_used_all c kept (o ∷ os) = with_first (first_used c kept o) (first_used_all c kept os)
 
 -- a body's run behind the entry, with the first values of the locals
-abbrev pub entered : ℕ → List Value → Option (List (Option Value)) → List Event →
-    (List Event → Reached (Option Value)) → Reached (Option Value)
-entered g vs None t body = Halts Stuck t
-entered g vs (Some firsts) t body = body (Entry g vs firsts ∷ t)
+abbrev pub run_from_entry : ℕ → List Value → Option (List (Option Value)) → List Event →
+    (List Event → ReachedOrHalted (Option Value)) → ReachedOrHalted (Option Value)
+run_from_entry g vs None t body = Halts Stuck t
+run_from_entry g vs (Some firsts) t body = body (Entry g vs firsts ∷ t)
 
 -- a body, from the first values of its locals on
-abbrev pub run_body : Call → ℕ → ℕ → List Value → List Event → Reached (Option Value)
+abbrev pub run_body : Call → ℕ → ℕ → List Value → List Event → ReachedOrHalted (Option Value)
 run_body c n g vs t =
     let kept = constants_kept c.function c.environment c.meaning in
-    entered g vs (first_used_all c kept c.function.first_values) t
+    run_from_entry g vs (first_used_all c kept c.function.first_values) t
     (λ t1. answer (run_all c n c.function.body kept t1))
 
 -- a call with another number of arguments is stuck
-abbrev pub called : Bool → Reached (Option Value) → List Event → Reached (Option Value)
-called true a t = a
-called false a t = Halts Stuck t
+abbrev pub run_if_arguments_fit : Bool → ReachedOrHalted (Option Value) → List Event →
+    ReachedOrHalted (Option Value)
+run_if_arguments_fit true a t = a
+run_if_arguments_fit false a t = Halts Stuck t
 
 -- a call of one of these functions, the last one
 -- first: its number is that of the functions behind it
 abbrev pub run_call : Environment → World → Meaning → ℕ → List Function → ℕ → List Value →
-    List Event → Reached (Option Value)
+    List Event → ReachedOrHalted (Option Value)
 run_call env w m n [] g vs t = Halts Stuck t
 run_call env w m n (f ∷ fs) g vs t =
     let c : Call = record {
@@ -413,6 +416,8 @@ run_call env w m n (f ∷ fs) g vs t =
       frame = entries t;
       calls = run_call env w m n fs;
     } in
-    let own = called (nat_eq (length vs) (argument_count f)) (run_body c n (length fs) vs t) t in
+    let own =
+    run_if_arguments_fit (nat_eq (length vs) (argument_count f))
+    (run_body c n (length fs) vs t) t in
     let other = run_call env w m n fs g vs t in
     cond (nat_eq g (length fs)) own other

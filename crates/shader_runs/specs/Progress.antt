@@ -7,7 +7,7 @@ use Rattle.std.specs.Prelude.{◌≡◌, ℕ, Bool, true, false, List, [], ◌�
 use Rattle.shader_runs.specs.Value.{ValueType, BooleanType, IntegerType, PointerType, Value}
 use Rattle.shader_runs.specs.Value.{has_types}
 use Rattle.shader_runs.specs.World.{World, Meaning, Event, Settings}
-use Rattle.shader_runs.specs.Outcome.{Stop, Stuck, Reached, Gives, Halts}
+use Rattle.shader_runs.specs.Outcome.{Stop, Stuck, ReachedOrHalted, Gives, Halts}
 use Rattle.shader_runs.specs.Program.{Expression, Load, Statement, Store, Block, If, Switch, Loop}
 use Rattle.shader_runs.specs.Program.{Break, Continue, Statements, end, then, Cases, no_case, case}
 use Rattle.shader_runs.specs.Program.{Function, function_numbered, expression_of, handle_type}
@@ -88,7 +88,7 @@ NotStuck _ = Unit {0}
 
 -- a call returns, or it ends by a discard, out of turns, for want of a callee's result or at an
 -- answer of a wrong type
-abbrev pub IsNotStuck : Reached (Option Value) → Type 0
+abbrev pub IsNotStuck : ReachedOrHalted (Option Value) → Type 0
 IsNotStuck (Gives v t) = Unit {0}
 IsNotStuck (Halts x t) = NotStuck x
 

@@ -59,8 +59,8 @@ atomic_text load =
     ∷ return_of (sum_of (named_by 2) (named_by 3)) ∷ [])) ∷ []
 
 -- its events up to the addition
-abbrev pub counted : List Event
-counted =
+abbrev pub atomic_events : List Event
+atomic_events =
     Ask (codes "atomicAdd") (Pointer counter_place ∷ number 5 ∷ [])
     ∷ Ask (codes "atomicStore") (Pointer counter_place ∷ number 5 ∷ [])
     ∷ start_events 0 [] []
@@ -70,7 +70,7 @@ abbrev pub AtomicRow : Type 0
 AtomicRow =
     let text = atomic_text (call_of (codes "atomicLoad") (pointer_of (codes "counter") ∷ [])) in
     let loading = Ask (codes "atomicLoad") (Pointer counter_place ∷ []) in
-    IsWorked atomic_example text 0 3 [] (Gives (Some (number 15)) (loading ∷ counted))
+    IsWorked atomic_example text 0 3 [] (Gives (Some (number 15)) (loading ∷ atomic_events))
 
 -- ---- images
 
@@ -140,8 +140,8 @@ abbrev pub sample_values : List Value
 sample_values = coordinate ∷ number 1 ∷ []
 
 -- its events, with these operands behind the layer
-abbrev pub sampling : List Value → List Event
-sampling behind =
+abbrev pub sampling_events : List Value → List Event
+sampling_events behind =
     let image = Opaque layers_type 400 in
     let filtering = Opaque sampler_type 2 in
     let operands = image ∷ filtering ∷ coordinate ∷ number 1 ∷ behind in
@@ -151,7 +151,7 @@ sampling behind =
 abbrev pub SampleRow : Type 0
 SampleRow =
     let text = sample_text (LiteralOf level_zero ∷ Name (codes "OFFSET") ∷ []) in
-    let events = sampling (level_zero ∷ pair 30 ∷ []) in
+    let events = sampling_events (level_zero ∷ pair 30 ∷ []) in
     IsWorked sample_example text 0 3 sample_values (Gives (Some (texel 431)) events)
 
 -- a texel of one of many images, whose index is a sum

@@ -7,7 +7,7 @@ use Rattle.std.specs.Prelude.{◌≡◌, ℕ, Bool, true, false, not, is_some, L
 use Rattle.std.specs.Prelude.{None, ◌&&◌, ◌||◌, IsTrue}
 use Rattle.shader_runs.specs.Value.{ValueType, Value}
 use Rattle.shader_runs.specs.World.{World, Meaning, Event, Settings}
-use Rattle.shader_runs.specs.Outcome.{Stop, Unreturned, Reached, Gives, Halts}
+use Rattle.shader_runs.specs.Outcome.{Stop, Unreturned, ReachedOrHalted, Gives, Halts}
 use Rattle.shader_runs.specs.Program.{Default, Statement, Block, If, Switch, Loop, Break, Continue}
 use Rattle.shader_runs.specs.Program.{Return, Kill, Statements, end, then, Cases, no_case, case}
 use Rattle.shader_runs.specs.Program.{Function, function_numbered, Module}
@@ -90,7 +90,7 @@ NotUnreturned Unreturned = ⊥
 NotUnreturned _ = Unit {0}
 
 -- a call gives its function's result, and inside it no result is missing
-abbrev pub IsComplete : Option ValueType → Reached (Option Value) → Type 0
+abbrev pub IsComplete : Option ValueType → ReachedOrHalted (Option Value) → Type 0
 IsComplete k (Gives v t) = IsGiven k v
 IsComplete k (Halts x t) = NotUnreturned x
 

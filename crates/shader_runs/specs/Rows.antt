@@ -8,7 +8,7 @@ use Rattle.shader_runs.specs.Value.{Bytes, PartTypes, same_bytes, MemberNamed, E
 use Rattle.shader_runs.specs.Value.{At, Field, Rooted, GlobalRoot, LocalRoot, Part, Place}
 use Rattle.shader_runs.specs.Value.{ValueType, BooleanType, PointerType, Value, Truth, Pointer}
 use Rattle.shader_runs.specs.World.{Event, Entry, Ask, Read, Write, Settings}
-use Rattle.shader_runs.specs.Outcome.{Reached, Gives, Halts, Stuck, Unreturned, OutOfTurns}
+use Rattle.shader_runs.specs.Outcome.{ReachedOrHalted, Gives, Halts, Stuck, Unreturned, OutOfTurns}
 use Rattle.shader_runs.specs.Program.{BarrierBits, Fixed, NamedConstant, Module, Expression}
 use Rattle.shader_runs.specs.Program.{Constant, Argument, Local, Global, Load, Operator, Access}
 use Rattle.shader_runs.specs.Program.{AccessIndex, Result, Called, Numbered, Default, Statements}
@@ -401,11 +401,11 @@ pub record AreStuck : Type 0 where
   pub number_as_pointer : IsStuck (then (Store 0 0) end)
 
 -- a body that returns, and one that breaks
-abbrev pub returning : Statements
-returning = then (Return (Some 0)) end
+abbrev pub returning_body : Statements
+returning_body = then (Return (Some 0)) end
 
-abbrev pub breaking : Statements
-breaking = then (If 0 (then Break end) end) end
+abbrev pub breaking_body : Statements
+breaking_body = then (If 0 (then Break end) end) end
 
 -- whether a run may come to the end of a body of one statement
 abbrev pub ends_behind : Statement → Bool
@@ -413,17 +413,18 @@ ends_behind st = may_end_all (then st end)
 
 -- the first case is empty or returns, and the default returns
 abbrev pub with_default : Statement
-with_default = Switch 0 (case (Numbered (pos 1)) end true (case Default returning false no_case))
+with_default =
+    Switch 0 (case (Numbered (pos 1)) end true (case Default returning_body false no_case))
 
 abbrev pub without_default : Statement
-without_default = Switch 0 (case (Numbered (pos 1)) returning false no_case)
+without_default = Switch 0 (case (Numbered (pos 1)) returning_body false no_case)
 
 -- where a run may come to the end of a body
 pub record EndsAreTold : Type 0 where
-  pub both_return : ends_behind (If 0 returning returning) ≡ false
-  pub one_returns : ends_behind (If 0 returning end) ≡ true
+  pub both_return : ends_behind (If 0 returning_body returning_body) ≡ false
+  pub one_returns : ends_behind (If 0 returning_body end) ≡ true
   pub loop_without_break : ends_behind (Loop end end None) ≡ false
-  pub loop_with_break : ends_behind (Loop breaking end None) ≡ true
+  pub loop_with_break : ends_behind (Loop breaking_body end None) ≡ true
   pub loop_with_break_if : ends_behind (Loop end end (Some 0)) ≡ true
   pub with_default : ends_behind with_default ≡ false
   pub without_default : ends_behind without_default ≡ true
@@ -470,7 +471,7 @@ loop_text =
     text_of (codes "l") (c_name ∷ []) [] (lines (LoopOf last last (Some (Name c_name)) ∷ []))
 
 -- it runs so where the condition has this value
-abbrev pub LoopRuns : Bool → (List Event → Reached (Option Value)) → Type 0
+abbrev pub LoopRuns : Bool → (List Event → ReachedOrHalted (Option Value)) → Type 0
 LoopRuns b result =
     let vs = Truth b ∷ [] in
     IsShownAlone (only (codes "l") (c_name ∷ []) [] loop_function) loop_text vs (
@@ -618,7 +619,7 @@ abbrev pub x_place : Place
 x_place = Part (Rooted (GlobalRoot private_vector 0)) (At (pos 0))
 
 -- what both runs give
-abbrev pub places_result : Reached (Option Value)
+abbrev pub places_result : ReachedOrHalted (Option Value)
 places_result =
     let entry = entered_with (number 0 ∷ []) [] in
     Gives (Some (number 5)) (Read x_place ∷ Write x_place (number 5) ∷ entry)
@@ -675,7 +676,7 @@ pub record AreRefused : Type 0 where
 -- ---- what other writers would give for these functions, and what it does
 
 -- stuck behind the entry
-abbrev pub stuck_behind_entry : List Value → Reached (Option Value)
+abbrev pub stuck_behind_entry : List Value → ReachedOrHalted (Option Value)
 stuck_behind_entry vs = Halts Stuck (entered_with vs [])
 
 -- what [store] reads is written out behind the store

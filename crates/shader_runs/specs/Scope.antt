@@ -134,22 +134,23 @@ abbrev pub at_start : Function → Handles
 at_start f = start_below f (length f.expressions)
 
 -- an operator that no name binds is written where it is used, if its operands are in scope here
-abbrev pub unbound : Bool → Standing → Standing
-unbound true s = Inline
-unbound false Absent = Barred
-unbound false s = s
+abbrev pub standing_without_name : Bool → Standing → Standing
+standing_without_name true s = Inline
+standing_without_name false Absent = Barred
+standing_without_name false s = s
 
 -- a read that isn't bound is never in scope
-abbrev pub emitted : (is_bound is_operator has_operands : Bool) → Bytes → Handles → ℕ → Handles
-emitted true o u x s h = update s h (Named x)
-emitted false true u x s h = update s h (unbound u (s h))
-emitted false false u x s h = s
+abbrev pub with_emitted_handle : (is_bound is_operator has_operands : Bool) → Bytes → Handles → ℕ →
+    Handles
+with_emitted_handle true o u x s h = update s h (Named x)
+with_emitted_handle false true u x s h = update s h (standing_without_name u (s h))
+with_emitted_handle false false u x s h = s
 
 -- the handles in scope after one is emitted, k names having been given
 abbrev pub after_one : Naming → ℕ → ℕ → Handles → Handles
 after_one f k h s =
     let e = expression_of f.function h in
-    emitted (binds f.function h) (is_pure e) (usable_all f.function s (operands_of e))
+    with_emitted_handle (binds f.function h) (is_pure e) (usable_all f.function s (operands_of e))
     (bound_name f k h) s h
 
 -- how many names are given after a handle

@@ -15,17 +15,17 @@ use Rattle.shader_runs.specs.Scope.{Naming, is_pure, is_emittable, before_local,
 use Rattle.shader_runs.specs.Premises.{AllBelow}
 
 -- a handle that a statement gave, by an Emit or as its result
-pub data Given : Type 0 where
-  Emitted : (handle : ℕ) → Given
-  AsResult : (handle : ℕ) → Given
+pub data GivenHandle : Type 0 where
+  Emitted : (handle : ℕ) → GivenHandle
+  AsResult : (handle : ℕ) → GivenHandle
 
 -- the handle that was given
-abbrev pub handle_of : Given → ℕ
+abbrev pub handle_of : GivenHandle → ℕ
 handle_of (Emitted h) = h
 handle_of (AsResult h) = h
 
 -- the handle is one of those that were given
-abbrev pub IsAmong : ℕ → List Given → Type 0
+abbrev pub IsAmong : ℕ → List GivenHandle → Type 0
 IsAmong h [] = ⊥
 IsAmong h (g ∷ gs) = (handle_of g ≡ h) ⊎ IsAmong h gs
 
@@ -50,35 +50,37 @@ can_be_given e = is_emittable e
 
 mutual
   -- the handle is in scope, so that it may be used, where these were given, the latest first
-  pub data InScope (f : Function) : List Given → ℕ → Type 0 where
+  pub data InScope (f : Function) : List GivenHandle → ℕ → Type 0 where
     -- everywhere: constant trees, and each argument, local and global
-    constant_tree : {given : List Given} {h : ℕ} → IsConstantTree f h → InScope f given h
-    argument : {given : List Given} {h : ℕ} (i : ℕ) →
+    constant_tree : {given : List GivenHandle} {h : ℕ} → IsConstantTree f h → InScope f given h
+    argument : {given : List GivenHandle} {h : ℕ} (i : ℕ) →
         expression_of f h ≡ Some (Argument i) → i < argument_count f → InScope f given h
-    local : {given : List Given} {h : ℕ} (i : ℕ) →
+    local : {given : List GivenHandle} {h : ℕ} (i : ℕ) →
         expression_of f h ≡ Some (Local i) → i < local_count f → InScope f given h
-    global : {given : List Given} {h : ℕ} (i : ℕ) →
+    global : {given : List GivenHandle} {h : ℕ} (i : ℕ) →
         expression_of f h ≡ Some (Global i) → InScope f given h
     -- behind its Emit, if a `let` binds it
-    bound : {given : List Given} {h : ℕ} → IsTrue (binds f h) → InScope f (Emitted h ∷ given) h
+    bound : {given : List GivenHandle} {h : ℕ} → IsTrue (binds f h) →
+        InScope f (Emitted h ∷ given) h
     -- behind its Emit, if it is an operator that no `let` binds and its operands were in scope
     -- there: it is written out where it is used
-    written_out : {given : List Given} {h : ℕ} →
+    written_out : {given : List GivenHandle} {h : ℕ} →
         IsFalse (binds f h) → IsTrue (is_pure (expression_of f h)) →
         EachInScope f given (operands_of (expression_of f h)) → InScope f (Emitted h ∷ given) h
     -- behind the statement whose result it is
-    result : {given : List Given} {h : ℕ} →
+    result : {given : List GivenHandle} {h : ℕ} →
         IsTrue (can_be_given (expression_of f h)) → InScope f (AsResult h ∷ given) h
     -- and it stays in scope as more is given
-    still : {given : List Given} {h : ℕ} (g : Given) → InScope f given h → InScope f (g ∷ given) h
+    still : {given : List GivenHandle} {h : ℕ} (g : GivenHandle) → InScope f given h →
+        InScope f (g ∷ given) h
 
-  pub data EachInScope (f : Function) : List Given → List ℕ → Type 0 where
-    no_handle : {given : List Given} → EachInScope f given []
-    and_handle : {given : List Given} {h : ℕ} {hs : List ℕ} →
+  pub data EachInScope (f : Function) : List GivenHandle → List ℕ → Type 0 where
+    no_handle : {given : List GivenHandle} → EachInScope f given []
+    and_handle : {given : List GivenHandle} {h : ℕ} {hs : List ℕ} →
         InScope f given h → EachInScope f given hs → EachInScope f given (h ∷ hs)
 
 -- the handle is in scope, if one is wanted
-abbrev pub InScopeIf : Function → List Given → Option ℕ → Type 0
+abbrev pub InScopeIf : Function → List GivenHandle → Option ℕ → Type 0
 InScopeIf f given None = Unit {0}
 InScopeIf f given (Some h) = InScope f given h
 
@@ -90,38 +92,39 @@ is_unwritten f h (Some (Request a w xs es)) = not (is_asked f h a)
 is_unwritten f h _ = false
 
 -- what was given, one emitted handle later
-abbrev pub with_one : Function → ℕ → List Given → List Given
+abbrev pub with_one : Function → ℕ → List GivenHandle → List GivenHandle
 with_one f h given = cond (is_unwritten f h (expression_of f h)) given (Emitted h ∷ given)
 
 -- all of an Emit's handles later
-abbrev pub with_emitted : Function → List ℕ → List Given → List Given
+abbrev pub with_emitted : Function → List ℕ → List GivenHandle → List GivenHandle
 with_emitted f [] given = given
 with_emitted f (h ∷ hs) given = with_emitted f hs (with_one f h given)
 
 -- a statement later. What is given in a block inside it is given to the end of that block only
-abbrev pub with_statement : Function → Statement → List Given → List Given
+abbrev pub with_statement : Function → Statement → List GivenHandle → List GivenHandle
 with_statement f (Emit first count) given = with_emitted f (from first count) given
 with_statement f (Act a xs (Some h)) given = AsResult h ∷ given
 with_statement f _ given = given
 
 -- a list of statements later
-abbrev pub with_statements : Function → Statements → List Given → List Given
+abbrev pub with_statements : Function → Statements → List GivenHandle → List GivenHandle
 with_statements f end given = given
 with_statements f (then st ss) given = with_statements f ss (with_statement f st given)
 
 -- the statements of a list before its first that holds
 -- a `continue` of this loop: no `continue` skips them
-abbrev pub unskipped : Statements → Statements
-unskipped end = end
-unskipped (then st ss) = cond (holds_continue st) end (then st (unskipped ss))
+abbrev pub statements_before_continue : Statements → Statements
+statements_before_continue end = end
+statements_before_continue (then st ss) =
+    cond (holds_continue st) end (then st (statements_before_continue ss))
 
 -- a point of a function: what was given before it in its block and the enclosing
 -- ones, the latest first. visible: with what a loop's body gave before a
 -- `continue` can skip it, if the point is in `continuing`. passed: with all that
 -- the body's own list gave, since the body encloses its `continuing`
 pub record Point : Type 0 where
-  pub visible : List Given
-  pub passed : List Given
+  pub visible : List GivenHandle
+  pub passed : List GivenHandle
 
 -- where a function starts
 abbrev pub entry_point : Point
@@ -140,7 +143,7 @@ behind f st at =
 abbrev pub behind_turn : Function → Statements → Point → Point
 behind_turn f ss at =
     record {
-      visible = with_statements f (unskipped ss) at.visible;
+      visible = with_statements f (statements_before_continue ss) at.visible;
       passed = with_statements f ss at.passed;
     }
 

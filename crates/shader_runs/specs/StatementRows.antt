@@ -23,9 +23,9 @@ use Rattle.shader_runs.specs.WorkedModules.{texel, pair_type, pair, named_functi
 use Rattle.shader_runs.specs.WorkedModules.{functions_alone, module_of, outer_of, namings_of}
 use Rattle.shader_runs.specs.WorkedModules.{follow_example, run_example, IsWritten, IsWorked}
 use Rattle.shader_runs.specs.WorkedModules.{start_events, CallEnd}
-use Rattle.shader_runs.specs.RequestRows.{counter_place, atomic_example, atomic_text, counted}
+use Rattle.shader_runs.specs.RequestRows.{counter_place, atomic_example, atomic_text, atomic_events}
 use Rattle.shader_runs.specs.RequestRows.{AtomicRow, level_zero, sample_example, sample_text}
-use Rattle.shader_runs.specs.RequestRows.{sample_values, sampling, SampleRow, TexelRow}
+use Rattle.shader_runs.specs.RequestRows.{sample_values, sampling_events, SampleRow, TexelRow}
 use Rattle.shader_runs.specs.RequestRows.{UnusedRequestsRow, EdgeRow, TogetherRow}
 use Rattle.shader_runs.specs.WorkedFunctions.{i32, local_i32, i32_pointer, number, literal}
 use Rattle.shader_runs.specs.WorkedFunctions.{LabelledBody, named_by, sum_of, product_of, text_of}
@@ -471,11 +471,11 @@ pub record StatementsAreToldApart : Type 0 where
   -- an atomic that is read like any other variable
   pub plain_read :
       follow_example atomic_example (atomic_text (Name (codes "counter"))) 0 3 []
-      ≡ Gives (Some (number 15)) (Read counter_place ∷ counted)
+      ≡ Gives (Some (number 15)) (Read counter_place ∷ atomic_events)
   -- a sampling without its offset
   pub no_offset :
       follow_example sample_example (sample_text (LiteralOf level_zero ∷ [])) 0 3 sample_values
-      ≡ Gives (Some (texel 400)) (sampling (level_zero ∷ []))
+      ≡ Gives (Some (texel 400)) (sampling_events (level_zero ∷ []))
   pub read_on_the_right : ReadOnTheRight
   -- a name of a block is used behind it
   pub name_behind_block :

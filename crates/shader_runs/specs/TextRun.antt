@@ -13,11 +13,13 @@ use Rattle.shader_runs.specs.Value.{Spelled, PartWord, IndexWord, ShortCircuit}
 use Rattle.shader_runs.specs.World.{Event, Entry, Ask, Read, Write, Discard, entries, World}
 use Rattle.shader_runs.specs.World.{Meaning, bind}
 use Rattle.shader_runs.specs.Outcome.{Stuck, Unreturned, Discarded, Outcome, Done, Continued, Broke}
-use Rattle.shader_runs.specs.Outcome.{reach, unless, Returned, Stopped, Reached, Gives, Halts}
+use Rattle.shader_runs.specs.Outcome.{reach, unless, Returned, Stopped, ReachedOrHalted, Gives}
+use Rattle.shader_runs.specs.Outcome.{Halts}
 use Rattle.shader_runs.specs.Outcome.{answer, Next, and_then, turn, turns, after_switch, branch_by}
 use Rattle.shader_runs.specs.Outcome.{with_integer, closed_outcome, closed_if}
 use Rattle.shader_runs.specs.Program.{Label, Numbered}
-use Rattle.shader_runs.specs.ProgramRun.{called, decides, undecided_value, same_label, label_if}
+use Rattle.shader_runs.specs.ProgramRun.{run_if_arguments_fit, decides, undecided_value, same_label}
+use Rattle.shader_runs.specs.ProgramRun.{label_if}
 use Rattle.shader_runs.specs.Text.{Tree, Name, LiteralOf, Apply, Deref, AddressOf, Index, PartOf}
 use Rattle.shader_runs.specs.Text.{LogicalOf, Trees, no_more, more, Line, Let, Assign, Braces}
 use Rattle.shader_runs.specs.Text.{IfElse, SwitchOn, LoopOf, BreakLine, ContinueLine, ReturnLine}
@@ -26,100 +28,107 @@ use Rattle.shader_runs.specs.Text.{group, Variable, ModuleVariable, TextFunction
 
 -- what an expression stands for: a value, or a
 -- reference, the place of a variable or of a part of one
-pub data Denoted : Type 0 where
-  IsValue : Value → Denoted
-  IsPlace : Place → Denoted
+pub data Denotation : Type 0 where
+  IsValue : Value → Denotation
+  IsPlace : Place → Denotation
 
 -- what each name stands for
 abbrev pub Scope : Type 0
-Scope = Bytes → Option Denoted
+Scope = Bytes → Option Denotation
 
 -- what a word with operands does: a function's name, a word that asks for an event, or an operator
 pub record Words : Type 0 where
   pub world : World
   pub meaning : Meaning
-  pub respond : Bytes → List Value → List Event → Reached (Option Value)
+  pub respond : Bytes → List Value → List Event → ReachedOrHalted (Option Value)
 
 -- a reference where a value is wanted is read
-abbrev pub read_value : World → Reached Denoted → Reached Value
+abbrev pub read_value : World → ReachedOrHalted Denotation → ReachedOrHalted Value
 read_value w (Gives (IsValue v) t) = Gives v t
 read_value w (Gives (IsPlace p) t) = Gives (w t (Read p)) (Read p ∷ t)
 read_value w (Halts x t) = Halts x t
 
 -- one more value
-abbrev pub put_before : Value → Reached (List Value) → Reached (List Value)
+abbrev pub put_before : Value → ReachedOrHalted (List Value) → ReachedOrHalted (List Value)
 put_before v (Halts x t) = Halts x t
 put_before v (Gives vs t) = Gives (v ∷ vs) t
 
 -- operands are evaluated in their order
-abbrev pub followed_by : Reached Value → (List Event → Reached (List Value)) → Reached (List Value)
+abbrev pub followed_by : ReachedOrHalted Value → (List Event → ReachedOrHalted (List Value)) →
+    ReachedOrHalted (List Value)
 followed_by (Halts x t) rest = Halts x t
 followed_by (Gives v t) rest = put_before v (rest t)
 
 -- a word with its operands
-abbrev pub word_answer : Words → Bytes → Reached (List Value) → Reached (Option Value)
+abbrev pub word_answer : Words → Bytes → ReachedOrHalted (List Value) →
+    ReachedOrHalted (Option Value)
 word_answer l w (Halts x t) = Halts x t
 word_answer l w (Gives vs t) = l.respond w vs t
 
 -- a word where it stands. A variable's name hides a function or an operator of that name
 abbrev pub word_reached :
-    Words → Bytes → Scope → List Event → Reached (List Value) → Reached (Option Value)
+    Words → Bytes → Scope → List Event → ReachedOrHalted (List Value) →
+    ReachedOrHalted (Option Value)
 word_reached l word names t vs = unless (names word) t (word_answer l word vs)
 
 -- a value is wanted: operators and requests give one, and so does a function that returns one
-abbrev pub as_value : Reached (Option Value) → Reached Denoted
+abbrev pub as_value : ReachedOrHalted (Option Value) → ReachedOrHalted Denotation
 as_value (Halts x t) = Halts x t
 as_value (Gives None t) = Halts Unreturned t
 as_value (Gives (Some v) t) = Gives (IsValue v) t
 
 -- `*` makes a reference of a pointer
-abbrev pub dereference : Reached Value → Reached Denoted
+abbrev pub dereference : ReachedOrHalted Value → ReachedOrHalted Denotation
 dereference (Halts x t) = Halts x t
 dereference (Gives v t) = reach (option_map IsPlace (place_in v)) t
 
 -- `&` makes a pointer of a reference
-abbrev pub address_reached : Reached Denoted → Reached Denoted
+abbrev pub address_reached : ReachedOrHalted Denotation → ReachedOrHalted Denotation
 address_reached (Halts x t) = Halts x t
 address_reached (Gives (IsPlace p) t) = Gives (IsValue (Pointer p)) t
 address_reached (Gives (IsValue v) t) = Halts Stuck t
 
 -- an integer leads to an element
-abbrev pub part_reached : Place → Reached Value → Reached Denoted
+abbrev pub part_reached : Place → ReachedOrHalted Value → ReachedOrHalted Denotation
 part_reached p (Halts x t) = Halts x t
 part_reached p (Gives v t) = reach (option_map (λ z. IsPlace (Part p (At z))) (integer_in v)) t
 
 -- an index into a value
-abbrev pub index_reached : Meaning → Value → Reached Value → Reached Denoted
+abbrev pub index_reached : Meaning → Value → ReachedOrHalted Value → ReachedOrHalted Denotation
 index_reached m v (Halts x t) = Halts x t
 index_reached m v (Gives i t) = Gives (IsValue (m IndexWord (v ∷ i ∷ []))) t
 
 -- an index; a pointer has none
-abbrev pub index_into : Meaning → Reached Denoted → (List Event → Reached Value) → Reached Denoted
+abbrev pub index_into : Meaning → ReachedOrHalted Denotation →
+    (List Event → ReachedOrHalted Value) → ReachedOrHalted Denotation
 index_into m (Halts x t) rest = Halts x t
 index_into m (Gives (IsPlace p) t) rest = part_reached p (rest t)
 index_into m (Gives (IsValue v) t) rest = unless (place_in v) t (index_reached m v (rest t))
 
 -- a member or an element; a pointer has none
-abbrev pub part_picked : Meaning → Selector → Reached Denoted → Reached Denoted
+abbrev pub part_picked : Meaning → Selector → ReachedOrHalted Denotation →
+    ReachedOrHalted Denotation
 part_picked m x (Halts y t) = Halts y t
 part_picked m x (Gives (IsPlace p) t) = Gives (IsPlace (Part p (step_of x))) t
 part_picked m x (Gives (IsValue v) t) =
     unless (place_in v) t (Gives (IsValue (m (PartWord x) (v ∷ []))) t)
 
 -- the right side was evaluated
-abbrev pub undecided_reached : Meaning → ShortCircuit → Value → Reached Value → Reached Denoted
+abbrev pub undecided_reached : Meaning → ShortCircuit → Value → ReachedOrHalted Value →
+    ReachedOrHalted Denotation
 undecided_reached m j l (Halts x t) = Halts x t
 undecided_reached m j l (Gives r t) = Gives (IsValue (undecided_value m j l r)) t
 
 -- the right side is evaluated only where it decides
 abbrev pub logical_reached :
-    Meaning → ShortCircuit → Reached Value → (List Event → Reached Value) → Reached Denoted
+    Meaning → ShortCircuit → ReachedOrHalted Value → (List Event → ReachedOrHalted Value) →
+    ReachedOrHalted Denotation
 logical_reached m j (Halts x t) rest = Halts x t
 logical_reached m j (Gives l t) rest =
     elim (decides j l) [ true ↦ Gives (IsValue l) t | false ↦ undecided_reached m j l (rest t) ]
 
 abbrev mutual
-  pub evaluate : Words → Tree → Scope → List Event → Reached Denoted
+  pub evaluate : Words → Tree → Scope → List Event → ReachedOrHalted Denotation
   evaluate l (Name x) names t = reach (names x) t
   evaluate l (LiteralOf v) names t = Gives (IsValue v) t
   evaluate l (Apply word es) names t =
@@ -133,29 +142,30 @@ abbrev mutual
       logical_reached l.meaning j (read_value l.world (evaluate l a names t))
       (λ t1. read_value l.world (evaluate l b names t1))
 
-  pub evaluate_all : Words → Trees → Scope → List Event → Reached (List Value)
+  pub evaluate_all : Words → Trees → Scope → List Event → ReachedOrHalted (List Value)
   evaluate_all l no_more names t = Gives [] t
   evaluate_all l (more e es) names t =
       followed_by (read_value l.world (evaluate l e names t)) (evaluate_all l es names)
 
 -- a tree in a value's position
-abbrev pub value_of : Words → Tree → Scope → List Event → Reached Value
+abbrev pub value_of : Words → Tree → Scope → List Event → ReachedOrHalted Value
 value_of l e names t = read_value l.world (evaluate l e names t)
 
 -- goes on with a value
-abbrev pub with_value : {S : Type 0} → Reached Value → (Value → List Event → Outcome S) → Outcome S
+abbrev pub with_value : {S : Type 0} → ReachedOrHalted Value → (Value → List Event → Outcome S) →
+    Outcome S
 with_value (Halts x t) go = Stopped x t
 with_value (Gives v t) go = go v t
 
 -- goes on with a reference
 abbrev pub with_place :
-    {S : Type 0} → Reached Denoted → (Place → List Event → Outcome S) → Outcome S
+    {S : Type 0} → ReachedOrHalted Denotation → (Place → List Event → Outcome S) → Outcome S
 with_place (Halts x t) go = Stopped x t
 with_place (Gives (IsValue v) t) go = Stopped Stuck t
 with_place (Gives (IsPlace p) t) go = go p t
 
 -- a call whose result is not wanted
-abbrev pub perform_outcome : Scope → Reached (Option Value) → Outcome Scope
+abbrev pub perform_outcome : Scope → ReachedOrHalted (Option Value) → Outcome Scope
 perform_outcome names (Halts x t) = Stopped x t
 perform_outcome names (Gives v t) = Done names t
 
@@ -259,7 +269,7 @@ with_variables (x ∷ xs) k i names = with_variables xs k (suc i) (with_variable
 
 -- what a module-level variable's name stands for: the
 -- value that is held, or a place of the declared type
-abbrev pub global_denoted : (pointer : Bytes) → ℕ → Option Value → Denoted
+abbrev pub global_denoted : (pointer : Bytes) → ℕ → Option Value → Denotation
 global_denoted pointer i None = IsPlace (Rooted (GlobalRoot pointer i))
 global_denoted pointer i (Some v) = IsValue v
 
@@ -284,7 +294,7 @@ pub data WordUse : Type 0 where
 -- what a word does that is the name of no function which
 -- stands before. A function behind can't be called
 abbrev pub respond_by_use :
-    WordUse → World → Meaning → Bytes → List Value → List Event → Reached (Option Value)
+    WordUse → World → Meaning → Bytes → List Value → List Event → ReachedOrHalted (Option Value)
 respond_by_use NamesFunction w m word vs t = Halts Stuck t
 respond_by_use AsksForEvent w m word vs t = Gives (Some (w t (Ask word vs))) (Ask word vs ∷ t)
 respond_by_use Operates w m word vs t = Gives (Some (m (Spelled word) vs)) t
@@ -300,39 +310,42 @@ word_use fs is_request word =
     cond (names_function fs word) NamesFunction (cond (is_request word) AsksForEvent Operates)
 
 -- one more first value
-abbrev pub put_first : Option Value → Reached (List (Option Value)) → Reached (List (Option Value))
+abbrev pub put_first : Option Value → ReachedOrHalted (List (Option Value)) →
+    ReachedOrHalted (List (Option Value))
 put_first v (Halts x t) = Halts x t
 put_first v (Gives vs t) = Gives (v ∷ vs) t
 
 -- first values are evaluated in their order
 abbrev pub first_followed :
-    Reached Value → (List Event → Reached (List (Option Value))) → Reached (List (Option Value))
+    ReachedOrHalted Value → (List Event → ReachedOrHalted (List (Option Value))) →
+    ReachedOrHalted (List (Option Value))
 first_followed (Halts x t) rest = Halts x t
 first_followed (Gives v t) rest = put_first (Some v) (rest t)
 
 -- a variable's first value, if it has one, and those of the variables behind it
 abbrev pub first_then : Words → Option Tree → Scope → List Event →
-    (List Event → Reached (List (Option Value))) → Reached (List (Option Value))
+    (List Event → ReachedOrHalted (List (Option Value))) → ReachedOrHalted (List (Option Value))
 first_then l None names t rest = put_first None (rest t)
 first_then l (Some e) names t rest = first_followed (value_of l e names t) rest
 
 -- the first values of a function's variables, in their order: each is evaluated where the variables
 -- before it are in scope
 abbrev pub first_of_each :
-    Words → List Variable → (entries index : ℕ) → Scope → List Event → Reached (List (Option Value))
+    Words → List Variable → (entries index : ℕ) → Scope → List Event →
+    ReachedOrHalted (List (Option Value))
 first_of_each l [] k i names t = Gives [] t
 first_of_each l (x ∷ xs) k i names t =
     first_then l x.first_value names t (first_of_each l xs k (suc i) (with_variable x k i names))
 
 -- the entry, with the first values
-abbrev pub entered_by : ℕ → List Value → Reached (List (Option Value)) →
-    (List Event → Reached (Option Value)) → Reached (Option Value)
+abbrev pub entered_by : ℕ → List Value → ReachedOrHalted (List (Option Value)) →
+    (List Event → ReachedOrHalted (Option Value)) → ReachedOrHalted (Option Value)
 entered_by g vs (Halts x t) body = Halts x t
 entered_by g vs (Gives firsts t) body = body (Entry g vs firsts ∷ t)
 
 -- a body, from the first values of its variables on, in the scope of its parameters
 abbrev pub follow_body :
-    Words → ℕ → ℕ → TextFunction → List Value → Scope → List Event → Reached (Option Value)
+    Words → ℕ → ℕ → TextFunction → List Value → Scope → List Event → ReachedOrHalted (Option Value)
 follow_body l n g f vs names t =
     entered_by g vs (first_of_each l f.variables (entries t) 0 names t)
     (λ t1. answer (follow_all l n f.lines (with_variables f.variables (entries t) 0 names) t1))
@@ -340,12 +353,12 @@ follow_body l n g f vs names t =
 -- a word among these functions, the last one first; uses
 -- tells what a word is that names none of these functions
 abbrev pub follow_call : Scope → World → Meaning → (uses : Bytes → WordUse) → ℕ →
-    List TextFunction → Bytes → List Value → List Event → Reached (Option Value)
+    List TextFunction → Bytes → List Value → List Event → ReachedOrHalted (Option Value)
 follow_call outer w m uses n [] word vs t = respond_by_use (uses word) w m word vs t
 follow_call outer w m uses n (f ∷ fs) word vs t =
     let l : Words = record { world = w; meaning = m; respond = follow_call outer w m uses n fs } in
     let scope = with_parameters f.parameters vs outer in
     let body = follow_body l n (length fs) f vs scope t in
-    let own = called (nat_eq (length vs) (length f.parameters)) body t in
+    let own = run_if_arguments_fit (nat_eq (length vs) (length f.parameters)) body t in
     let other = follow_call outer w m uses n fs word vs t in
     cond (same_bytes word f.name) own other

@@ -11,7 +11,7 @@ use Rattle.shader_runs.specs.Value.{GlobalRoot, LocalRoot, Part, Place, ValueTyp
 use Rattle.shader_runs.specs.Value.{PointerType, Value, Truth, Whole, Spelled}
 use Rattle.shader_runs.specs.World.{Event, Entry, Ask, Read, Write, Discard, World, Meaning}
 use Rattle.shader_runs.specs.World.{Settings}
-use Rattle.shader_runs.specs.Outcome.{Reached}
+use Rattle.shader_runs.specs.Outcome.{ReachedOrHalted}
 use Rattle.shader_runs.specs.Program.{Fixed, Module, Expression, Constant, Statements, end, then}
 use Rattle.shader_runs.specs.Program.{no_case, case, Function, Label, Statement, Cases}
 use Rattle.shader_runs.specs.Text.{Tree, Name, LiteralOf, Apply, AddressOf, no_more, more, Let}
@@ -241,18 +241,18 @@ all_fit [] = true
 all_fit (f ∷ fs) = fits_function f && all_fit fs
 
 -- the run of this text, from a function by its name
-abbrev pub follow_text : Settings → TextModule → Bytes → List Value → Reached (Option Value)
+abbrev pub follow_text : Settings → TextModule → Bytes → List Value → ReachedOrHalted (Option Value)
 follow_text settings text name vs =
     follow_module text settings row_world row_meaning row_asks 3 name vs []
 
 -- the run of functions alone
-abbrev pub follow_row : List TextFunction → Bytes → List Value → Reached (Option Value)
+abbrev pub follow_row : List TextFunction → Bytes → List Value → ReachedOrHalted (Option Value)
 follow_row texts =
     follow_text nothing (record { constants = []; overrides = []; globals = []; functions = texts })
 
 -- a module's functions, last first, with their texts, and how the last one runs
 pub record IsShown (fs : List Naming) (texts : List TextFunction) (g : ℕ) (name : Bytes)
-    (vs : List Value) (result : Reached (Option Value)) : Type 0 where
+    (vs : List Value) (result : ReachedOrHalted (Option Value)) : Type 0 where
   pub fits : IsTrue (all_fit fs)
   pub text : form_functions fs ≡ texts
   pub module_run :
@@ -261,9 +261,10 @@ pub record IsShown (fs : List Naming) (texts : List TextFunction) (g : ℕ) (nam
   pub text_run : follow_row texts name vs ≡ result
 
 -- the same of a function alone
-abbrev pub IsShownAlone : Naming → TextFunction → List Value → Reached (Option Value) → Type 0
+abbrev pub IsShownAlone : Naming → TextFunction → List Value → ReachedOrHalted (Option Value) →
+    Type 0
 IsShownAlone f text vs result = IsShown (f ∷ []) (text ∷ []) 0 text.name vs result
 
 -- a text alone runs so
-abbrev pub Follows : TextFunction → List Value → Reached (Option Value) → Type 0
+abbrev pub Follows : TextFunction → List Value → ReachedOrHalted (Option Value) → Type 0
 Follows text vs result = follow_row (text ∷ []) text.name vs ≡ result

@@ -11,7 +11,7 @@ use Rattle.shader_runs.specs.Value.{PointerType, OtherType, pointer_spelling, Va
 use Rattle.shader_runs.specs.Value.{Opaque, Spelled, PartWord, IndexWord, MemberNamed}
 use Rattle.shader_runs.specs.World.{Event, Entry, Ask, Read, Write, Discard, entries, World}
 use Rattle.shader_runs.specs.World.{Meaning, Settings}
-use Rattle.shader_runs.specs.Outcome.{Reached}
+use Rattle.shader_runs.specs.Outcome.{ReachedOrHalted}
 use Rattle.shader_runs.specs.Program.{Fixed, Module, Function}
 use Rattle.shader_runs.specs.Text.{LiteralOf, TextFunction, TextModule}
 use Rattle.shader_runs.specs.Constants.{run_module, follow_module}
@@ -27,8 +27,8 @@ is_one_of [] word = false
 is_one_of (w ∷ ws) word = same_bytes w word || is_one_of ws word
 
 -- the words that ask for events
-abbrev pub asking : Bytes → Bool
-asking =
+abbrev pub asks_for_events : Bytes → Bool
+asks_for_events =
     is_one_of (
     codes "atomicLoad" ∷ codes "atomicStore" ∷ codes "atomicAdd"
     ∷ codes "textureSampleLevel" ∷ codes "textureLoad" ∷ codes "textureStore" ∷ codes "dpdx"
@@ -191,7 +191,7 @@ outer_of e =
       constant = λ i. get_or (map (λ c. c.name) e.constants) i [];
       global = λ i. get_or (map (λ x. x.name) e.variables) i [];
       function = λ g. get_or (reverse (map (λ f. f.name) e.functions)) g [];
-      is_request = asking;
+      is_request = asks_for_events;
     }
 
 -- each function with its names and with how many stand before it
@@ -227,7 +227,7 @@ text_with e texts =
 
 -- what a call reaches
 abbrev pub CallEnd : Type 0
-CallEnd = Reached (Option Value)
+CallEnd = ReachedOrHalted (Option Value)
 
 -- the module's run of the function of this number, with at most n turns of each loop
 abbrev pub run_example : Example → (g n : ℕ) → List Value → CallEnd
@@ -239,7 +239,7 @@ abbrev pub follow_example : Example → List TextFunction → (g n : ℕ) → Li
 follow_example e texts g n vs =
     let text = text_with e texts in
     let name = (outer_of e).function g in
-    follow_module text (settings_of e) memory_world memory_meaning asking n name vs []
+    follow_module text (settings_of e) memory_world memory_meaning asks_for_events n name vs []
 
 -- these functions are what is written for the module, which passes the check of scope
 pub record IsWritten (e : Example) (texts : List TextFunction) : Type 0 where

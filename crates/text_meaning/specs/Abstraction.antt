@@ -29,7 +29,7 @@ use Rattle.shader_runs.specs.Text.{Braces, IfElse, SwitchOn, LoopOf, BreakLine, 
 use Rattle.shader_runs.specs.Text.{ReturnLine, DiscardLine, Perform, Lines, last, before, Groups}
 use Rattle.shader_runs.specs.Text.{no_group, group, Variable, ModuleVariable, TextFunction}
 use Rattle.shader_runs.specs.Text.{TextModule, TextConstant}
-use Rattle.text_meaning.specs.Literals.{value_read, signed}
+use Rattle.text_meaning.specs.Literals.{value_read, integer_of_sign}
 
 -- `&&` and `||` decide by their left side alone where they can; any other operator is a word with
 -- two operands
@@ -67,7 +67,7 @@ abbrev mutual
 
 abbrev pub label_read : tree.Label → Label
 label_read DefaultLabel = Default
-label_read (SignedLabel negative n) = Numbered (signed negative n)
+label_read (SignedLabel negative n) = Numbered (integer_of_sign negative n)
 label_read (UnsignedLabel n) = Numbered (pos n)
 
 abbrev pub labels_read : tree.Labels → List Label

@@ -7,7 +7,7 @@ use Rattle.wgsl_text.specs.Functions.{Parameter, Result, NoResult, ResultOf, Fun
 use Rattle.wgsl_text.specs.Declarations.{Struct, NamedConstant, Override, Global, Program}
 
 -- what passes in or out of a function: the attributes that bind it, and its type's spelling
-pub record Passed : Type 0 where
+pub record PassedValue : Type 0 where
   pub attributes : List Attribute
   pub type : List ℕ
 
@@ -16,8 +16,8 @@ pub record Passed : Type 0 where
 -- with.
 pub record FunctionInterface : Type 0 where
   pub name : List ℕ
-  pub arguments : List Passed
-  pub result : Option Passed
+  pub arguments : List PassedValue
+  pub result : Option PassedValue
   pub locals : List (List ℕ)
 
 -- So far a module has nothing but functions in its interface, and what else a text declares is told
@@ -31,10 +31,10 @@ pub record Interface : Type 0 where
   pub functions : List FunctionInterface
   pub entry_points : List EntryPoint
 
-abbrev pub parameter_read : Parameter → Passed
+abbrev pub parameter_read : Parameter → PassedValue
 parameter_read p = record { attributes = p.attributes; type = type_layout p.type }
 
-abbrev pub result_read : Result → Option Passed
+abbrev pub result_read : Result → Option PassedValue
 result_read NoResult = None
 result_read (ResultOf attributes type) =
     Some (record { attributes = attributes; type = type_layout type })

@@ -7,9 +7,9 @@ use Rattle.wgsl_text.specs.Literals.{LeastInteger, LeastLong}
 use Rattle.shader_runs.specs.Value.{Value, Truth as TruthValue, Whole}
 
 -- the integer of a sign and a number
-abbrev pub signed : Bool → ℕ → ℤ
-signed true (suc n) = negsuc n
-signed _ n = pos n
+abbrev pub integer_of_sign : Bool → ℕ → ℤ
+integer_of_sign true (suc n) = negsuc n
+integer_of_sign _ n = pos n
 
 -- the type that a suffix stands for; a number without one has no type of its own
 abbrev pub suffix_type : Suffix → List ℕ
@@ -22,8 +22,8 @@ suffix_type NoSuffix = []
 -- the value of a literal of the text
 abbrev pub value_read : Literal → Value
 value_read (Truth b) = TruthValue b
-value_read (Suffixed negative n suffix) = Whole (suffix_type suffix) (signed negative n)
-value_read (SignedShort negative n) = Whole (codes "i16") (signed negative n)
+value_read (Suffixed negative n suffix) = Whole (suffix_type suffix) (integer_of_sign negative n)
+value_read (SignedShort negative n) = Whole (codes "i16") (integer_of_sign negative n)
 value_read (UnsignedShort n) = Whole (codes "u16") (pos n)
 value_read LeastInteger = Whole (codes "i32") (negsuc 2147483647)
 value_read LeastLong = Whole (codes "i64") (negsuc 9223372036854775807)

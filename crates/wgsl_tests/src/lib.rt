@@ -1,6 +1,6 @@
 //! Tests that need a crate of their own, so that what they test is proved once and its edits wait
-//! for no test: names, spellings of types, and which expressions are in scope where; beside them a
-//! context and a sink as a user would write them.
+//! for no test: names, spellings of types, which expressions are in scope where, and whether what
+//! modules name is there; beside them a context and a sink as a user would write them.
 #![tactic(auto)]
 
 pub mod limited;
@@ -11,6 +11,8 @@ pub use numbered::NumberedTypes;
 
 #[cfg(test)]
 mod names;
+#[cfg(test)]
+mod ranges;
 #[cfg(test)]
 mod scopes;
 #[cfg(test)]

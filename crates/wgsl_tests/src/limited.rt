@@ -21,9 +21,9 @@ pub struct Limited {
 
 impl Model for Limited {
     ghost use Rattle.std.specs.Prelude.{string_bytes};
-    ghost use Rattle.wgsl_tests.specs.Limited.{Held};
+    ghost use Rattle.wgsl_tests.specs.Limited.{HeldText};
 
-    ghost Value = { Held };
+    ghost Value = { HeldText };
 
     ghost view = { λ s.
         record { text = string_bytes s.text; limit = s.limit; failures = s.failures } };

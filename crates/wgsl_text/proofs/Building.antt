@@ -70,7 +70,7 @@ pointer_to_is a t known is =
     record { part = (and_from (stands_in address_space_words a) (is_type t) known is.whole, (table_word address_space_words a address_spaces_free known, (is.part, tt))); whole = refl }
 
 pub words_are_types : WordsAreTypes
-words_are_types = record { plain = plain_is; struct_name = name_is; of_scalar = of_scalar_word_is; dynamic = dynamic_is; sized = sized_is; pointer = pointer_to_is }
+words_are_types = record { plain = plain_is; struct_name = name_is; of_scalar = of_scalar_word_is; dynamic_array = dynamic_is; sized_array = sized_is; pointer = pointer_to_is }
 
 operands_are : (es : List Expression) → Each IsExpression es → IsArguments (operands es)
 operands_are [] is = tt

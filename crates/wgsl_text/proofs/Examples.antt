@@ -5,7 +5,7 @@ use Rattle.wgsl_text.specs.Words.{is_reserved, is_builtin}
 use Rattle.wgsl_text.specs.Declarations.{no_declarations, IsProgram}
 use Rattle.wgsl_text.specs.Examples.{WorkedPrograms, identity, negative, same_labels, type_label}
 use Rattle.wgsl_text.specs.Examples.{hostile_labels, store, store_explicit, unused_read, late_use}
-use Rattle.wgsl_text.specs.Examples.{inlined, used_twice, select_call, named_expression}
+use Rattle.wgsl_text.specs.Examples.{inlined_program, used_twice, select_call, named_expression}
 use Rattle.wgsl_text.specs.Examples.{idle_literal, sample_at_zero, pointer, negate, modf_members}
 use Rattle.wgsl_text.specs.Examples.{siblings, named_siblings, switch_joined, switch_default_first}
 use Rattle.wgsl_text.specs.Examples.{loop_break_if, loop_tail, loop_folded, barriers}
@@ -56,7 +56,7 @@ late_use_form : IsProgram late_use
 unfolding is_reserved is_builtin
 late_use_form = search rules
 
-inlined_form : IsProgram inlined
+inlined_form : IsProgram inlined_program
 unfolding is_reserved is_builtin
 inlined_form = search rules
 

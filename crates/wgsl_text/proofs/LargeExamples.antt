@@ -5,8 +5,8 @@ use Rattle.wgsl_text.specs.Words.{is_reserved, is_builtin, IsIdentifier}
 use Rattle.wgsl_text.specs.Types.{Template, NoParts, TypePart, IsType}
 use Rattle.wgsl_text.specs.Expressions.{IsExpression}
 use Rattle.wgsl_text.specs.Declarations.{IsProgram}
-use Rattle.wgsl_text.specs.WorkedTrees.{named}
-use Rattle.wgsl_text.specs.LargeExamples.{deep, doubled, double, LargePrograms}
+use Rattle.wgsl_text.specs.WorkedTrees.{named_type}
+use Rattle.wgsl_text.specs.LargeExamples.{deep, doubled_operand, double, LargePrograms}
 
 deep_form : IsProgram deep
 unfolding is_reserved is_builtin
@@ -20,7 +20,7 @@ is_x : IsIdentifier (codes "x")
 unfolding is_reserved is_builtin
 is_x = search rules
 
-doubled_form : (n : ℕ) → IsExpression (doubled n)
+doubled_form : (n : ℕ) → IsExpression (doubled_operand n)
 doubled_form zero = (is_t, is_x)
 doubled_form (suc n) = (is_t, (doubled_form n, doubled_form n))
 
@@ -28,11 +28,11 @@ is_d : IsIdentifier (codes "d")
 unfolding is_reserved is_builtin
 is_d = search rules
 
-is_vector : IsType (Template (codes "vec4") (TypePart (named "i32") NoParts))
+is_vector : IsType (Template (codes "vec4") (TypePart (named_type "i32") NoParts))
 unfolding is_reserved is_builtin
 is_vector = search rules
 
-is_integer : IsType (named "i32")
+is_integer : IsType (named_type "i32")
 unfolding is_reserved is_builtin
 is_integer = search rules
 

@@ -14,10 +14,10 @@ use Rattle.wgsl_text.specs.Functions.{NoResult}
 use Rattle.wgsl_text.specs.Declarations.{Program, no_declarations}
 use Rattle.wgsl_text.proofs.Declarations.{newest_first, newest_twice}
 use Rattle.wgsl_text.specs.Words.{is_reserved, is_builtin}
-use Rattle.wgsl_text.specs.WorkedTrees.{named, name, call, parameter, function, of_functions}
+use Rattle.wgsl_text.specs.WorkedTrees.{named_type, name, call, parameter, function, of_functions}
 use Rattle.wgsl_text.specs.WorkedTrees.{member, struct}
 use Rattle.wgsl_text.specs.Reading.{ReadsType, ReadsExpression, Reads}
-use Rattle.wgsl_text.specs.Refused.{Refused, IsNoExpression}
+use Rattle.wgsl_text.specs.Refused.{RefusedTexts, IsNoExpression}
 use Rattle.wgsl_text.proofs.Machine.{State, Want, WantType, Got, GotType, Bottom, InProgram}
 use Rattle.wgsl_text.proofs.Reading.{read, type_read, expression_read, program_read, same_type}
 use Rattle.wgsl_text.proofs.Reading.{same_expression, same_program}
@@ -104,20 +104,20 @@ builtin_name = found_expression _ (Name (codes "f32")) refl (λ r. false≢true 
 
 -- a struct of one member with these attributes
 abbrev of_member : List Attribute → Program
-of_member attributes = record no_declarations { structs = struct "S" (member attributes "a" (named "f32") ∷ []) ∷ [] }
+of_member attributes = record no_declarations { structs = struct "S" (member attributes "a" (named_type "f32") ∷ []) ∷ [] }
 
 abbrev reserved_parameter_tree : Program
-reserved_parameter_tree = of_functions (function "f" (parameter "self" (named "i32") ∷ []) NoResult [] [] ∷ [])
+reserved_parameter_tree = of_functions (function "f" (parameter "self" (named_type "i32") ∷ []) NoResult [] [] ∷ [])
 
 abbrev unknown_builtin_value_tree : Program
-unknown_builtin_value_tree = of_functions (function "f" (record { attributes = Worded Builtin (codes "colour") ∷ []; name = codes "x"; type = named "i32" } ∷ []) NoResult [] [] ∷ [])
+unknown_builtin_value_tree = of_functions (function "f" (record { attributes = Worded Builtin (codes "colour") ∷ []; name = codes "x"; type = named_type "i32" } ∷ []) NoResult [] [] ∷ [])
 
 abbrev stage_without_size_tree : Program
 stage_without_size_tree = record no_declarations {
   entry_points = record { stage = Plain Compute ∷ []; function = function "main" [] NoResult [] [] } ∷ [];
 }
 
-pub refused : Refused
+pub refused : RefusedTexts
 unfolding is_reserved is_builtin
 refused = record {
   member_of_unary = member_of_unary;

@@ -3,7 +3,7 @@ use Rattle.std.proofs.Common.{refl}
 use Rattle.std.specs.Fmt.{digits}
 use Rattle.wgsl_text.specs.Words.{is_reserved}
 use Rattle.wgsl_text.specs.Spelled.{SpelledTypes, SpelledCalls, SpelledMarks, SpelledAttributes}
-use Rattle.wgsl_text.specs.Spelled.{Spelled}
+use Rattle.wgsl_text.specs.Spelled.{SpelledPieces}
 
 types : SpelledTypes
 unfolding is_reserved
@@ -31,7 +31,7 @@ marks = record { keywords_in_order = refl; brackets = refl; separators = refl; o
 
 attributes : SpelledAttributes
 unfolding digits
-attributes = record { plain = refl; numbered = refl; worded = refl; interpolated = refl; workgroup_size = refl }
+attributes = record { plain_attributes = refl; numbered_attributes = refl; worded_attributes = refl; interpolated_attributes = refl; workgroup_size = refl }
 
-pub spelled : Spelled
+pub spelled : SpelledPieces
 spelled = record { types = types; calls = calls; marks = marks; attributes = attributes }

@@ -22,9 +22,10 @@ pub record WordsAreTypes : Type 0 where
   pub of_scalar : (w s : List ℕ) → rule_among type_templates w ≡ TakesScalar →
       IsTrue (stands_in scalar_words s) → IsType (Template w (TypePart (Named s) NoParts))
   -- an array of as many elements as are bound, and of n
-  pub dynamic : (w : List ℕ) (t : TypeSpecifier) → rule_among type_templates w ≡ TakesElements →
+  pub dynamic_array : (w : List ℕ) (t : TypeSpecifier) → rule_among type_templates w ≡
+      TakesElements →
       IsType t → IsType (Template w (TypePart t NoParts))
-  pub sized : (w : List ℕ) (t : TypeSpecifier) (n : ℕ) →
+  pub sized_array : (w : List ℕ) (t : TypeSpecifier) (n : ℕ) →
       rule_among type_templates w ≡ TakesElements → IsType t → IsPlainNumber n →
       IsType (Template w (TypePart t (SizePart n NoParts)))
   pub pointer : (space : List ℕ) (t : TypeSpecifier) →

@@ -12,15 +12,18 @@ use Rattle.wgsl_text.specs.Attributes.{Vertex, Fragment, Compute, Location, Id, 
 use Rattle.wgsl_text.specs.Attributes.{Size, Builtin, Interpolate, Plain, Numbered, WorkgroupSize}
 use Rattle.wgsl_text.specs.Functions.{NoResult, ResultOf}
 use Rattle.wgsl_text.specs.Declarations.{Program, no_declarations}
-use Rattle.wgsl_text.specs.WorkedTrees.{IsText, lines, named, template_of, sized, name, names}
-use Rattle.wgsl_text.specs.WorkedTrees.{integer, unsigned, call, member_of, bound, typed}
+use Rattle.wgsl_text.specs.WorkedTrees.{IsText, lines, named_type, template_of, sized_template}
+use Rattle.wgsl_text.specs.WorkedTrees.{name, names}
+use Rattle.wgsl_text.specs.WorkedTrees.{integer, unsigned, call, member_of, let_statement}
+use Rattle.wgsl_text.specs.WorkedTrees.{typed_let_statement}
 use Rattle.wgsl_text.specs.WorkedTrees.{statements, parameter, bound_parameter, gives, local}
-use Rattle.wgsl_text.specs.WorkedTrees.{function, worded, member, struct, constant, override, space}
+use Rattle.wgsl_text.specs.WorkedTrees.{function, worded_attribute, member, struct, constant}
+use Rattle.wgsl_text.specs.WorkedTrees.{override, space}
 use Rattle.wgsl_text.specs.WorkedTrees.{space_and_access, global, entry_point, of_functions}
 
 abbrev pub identity : Program
 identity = of_functions (
-    function "f" (parameter "x" (named "i32") ∷ []) (gives "i32") [] (
+    function "f" (parameter "x" (named_type "i32") ∷ []) (gives "i32") [] (
     ReturnValue (name "x") ∷ []) ∷ [])
 
 abbrev pub identity_text : List ℕ
@@ -32,7 +35,7 @@ identity_text = lines (
 
 abbrev pub negative : Program
 negative = of_functions (
-    function "r" (parameter "b" (named "bool") ∷ []) (gives "i64") [] (
+    function "r" (parameter "b" (named_type "bool") ∷ []) (gives "i64") [] (
     ReturnValue (Constant (Suffixed true 7 SuffixLi)) ∷ []) ∷ [])
 
 abbrev pub negative_text : List ℕ
@@ -44,7 +47,7 @@ negative_text = lines (
 
 abbrev pub same_labels : Program
 same_labels = of_functions (
-    function "f" (parameter "x" (named "i32") ∷ parameter "x_1" (named "i32") ∷ [])
+    function "f" (parameter "x" (named_type "i32") ∷ parameter "x_1" (named_type "i32") ∷ [])
     (gives "i32") [] (
     ReturnValue (name "x_1") ∷ []) ∷ [])
 
@@ -57,7 +60,7 @@ same_labels_text = lines (
 
 abbrev pub type_label : Program
 type_label = of_functions (
-    function "type_1" (parameter "x" (named "i32") ∷ []) (gives "i32") [] (
+    function "type_1" (parameter "x" (named_type "i32") ∷ []) (gives "i32") [] (
     ReturnValue (name "x") ∷ []) ∷ [])
 
 abbrev pub type_label_text : List ℕ
@@ -69,7 +72,7 @@ type_label_text = lines (
 
 abbrev pub hostile_labels : Program
 hostile_labels = of_functions (
-    function "gen__naga" (parameter "u00e9_" (named "i32") ∷ []) (gives "i32") [] (
+    function "gen__naga" (parameter "u00e9_" (named_type "i32") ∷ []) (gives "i32") [] (
     ReturnValue (name "u00e9_") ∷ []) ∷ [])
 
 abbrev pub hostile_labels_text : List ℕ
@@ -81,8 +84,8 @@ hostile_labels_text = lines (
 
 abbrev pub store : Program
 store = of_functions (
-    function "g" [] (gives "i32") (local "a" (named "i32") (Some (integer 1)) ∷ []) (
-    bound "_e2" (name "a") ∷
+    function "g" [] (gives "i32") (local "a" (named_type "i32") (Some (integer 1)) ∷ []) (
+    let_statement "_e2" (name "a") ∷
     Assign (name "a") (integer 2) ∷
     ReturnValue (name "_e2") ∷ []) ∷ [])
 
@@ -99,8 +102,8 @@ store_text = lines (
 
 abbrev pub store_explicit : Program
 store_explicit = of_functions (
-    function "g" [] (gives "i32") (local "a" (named "i32") (Some (integer 1)) ∷ []) (
-    typed "_e2" (named "i32") (name "a") ∷
+    function "g" [] (gives "i32") (local "a" (named_type "i32") (Some (integer 1)) ∷ []) (
+    typed_let_statement "_e2" (named_type "i32") (name "a") ∷
     Assign (name "a") (integer 2) ∷
     ReturnValue (name "_e2") ∷ []) ∷ [])
 
@@ -117,7 +120,7 @@ store_explicit_text = lines (
 
 abbrev pub unused_read : Program
 unused_read = of_functions (
-    function "g" [] (gives "i32") (local "a" (named "i32") (Some (integer 1)) ∷ []) (
+    function "g" [] (gives "i32") (local "a" (named_type "i32") (Some (integer 1)) ∷ []) (
     Assign (name "a") (integer 2) ∷
     ReturnValue (integer 2) ∷ []) ∷ [])
 
@@ -133,8 +136,8 @@ unused_read_text = lines (
 
 abbrev pub late_use : Program
 late_use = of_functions (
-    function "p" [] (gives "i32") (local "a" (named "i32") (Some (integer 1)) ∷ []) (
-    bound "_e2" (name "a") ∷
+    function "p" [] (gives "i32") (local "a" (named_type "i32") (Some (integer 1)) ∷ []) (
+    let_statement "_e2" (name "a") ∷
     Assign (name "a") (integer 2) ∷
     ReturnValue (Binary (name "_e2") Add (integer 1)) ∷ []) ∷ [])
 
@@ -149,12 +152,12 @@ late_use_text = lines (
     "}" ∷
     "" ∷ [])
 
-abbrev pub inlined : Program
-inlined = of_functions (
-    function "q" (parameter "x" (named "i32") ∷ []) (gives "i32")
-    (local "a" (named "i32") None ∷ []) (
+abbrev pub inlined_program : Program
+inlined_program = of_functions (
+    function "q" (parameter "x" (named_type "i32") ∷ []) (gives "i32")
+    (local "a" (named_type "i32") None ∷ []) (
     Assign (name "a") (Binary (name "x") Add (name "x")) ∷
-    bound "_e3" (name "a") ∷
+    let_statement "_e3" (name "a") ∷
     ReturnValue (name "_e3") ∷ []) ∷ [])
 
 abbrev pub inlined_text : List ℕ
@@ -170,11 +173,11 @@ inlined_text = lines (
 
 abbrev pub used_twice : Program
 used_twice = of_functions (
-    function "q" (parameter "x" (named "i32") ∷ []) (gives "i32")
-    (local "a" (named "i32") None ∷ []) (
-    bound "_e2" (Binary (name "x") Add (name "x")) ∷
+    function "q" (parameter "x" (named_type "i32") ∷ []) (gives "i32")
+    (local "a" (named_type "i32") None ∷ []) (
+    let_statement "_e2" (Binary (name "x") Add (name "x")) ∷
     Assign (name "a") (name "_e2") ∷
-    bound "_e3" (name "a") ∷
+    let_statement "_e3" (name "a") ∷
     ReturnValue (Binary (name "_e2") Multiply (name "_e3")) ∷ []) ∷ [])
 
 abbrev pub used_twice_text : List ℕ
@@ -191,8 +194,8 @@ used_twice_text = lines (
 
 abbrev pub select_call : Program
 select_call = of_functions (
-    function "sel" (parameter "c" (named "bool") ∷ parameter "a" (named "i32") ∷
-    parameter "b" (named "i32") ∷ []) (gives "i32") [] (
+    function "sel" (parameter "c" (named_type "bool") ∷ parameter "a" (named_type "i32") ∷
+    parameter "b" (named_type "i32") ∷ []) (gives "i32") [] (
     ReturnValue (call "select" (names ("b" ∷ "a" ∷ "c" ∷ []))) ∷ []) ∷ [])
 
 abbrev pub select_call_text : List ℕ
@@ -204,8 +207,8 @@ select_call_text = lines (
 
 abbrev pub named_expression : Program
 named_expression = of_functions (
-    function "e" (parameter "x" (named "i32") ∷ []) (gives "i32") [] (
-    bound "x_1" (Binary (name "x") Add (name "x")) ∷
+    function "e" (parameter "x" (named_type "i32") ∷ []) (gives "i32") [] (
+    let_statement "x_1" (Binary (name "x") Add (name "x")) ∷
     ReturnValue (name "x_1") ∷ []) ∷ [])
 
 abbrev pub named_expression_text : List ℕ
@@ -231,9 +234,9 @@ idle_literal_text = lines (
 abbrev pub sample_at_zero : Program
 sample_at_zero = of_functions (
     function "sp" (parameter "t" (template_of "texture_2d" ("f32" ∷ [])) ∷
-    parameter "s" (named "sampler") ∷ parameter "p" (template_of "vec2" ("f32" ∷ [])) ∷ [])
+    parameter "s" (named_type "sampler") ∷ parameter "p" (template_of "vec2" ("f32" ∷ [])) ∷ [])
     (ResultOf [] (template_of "vec4" ("f32" ∷ []))) [] (
-    bound "_e3" (call "textureSampleLevel"
+    let_statement "_e3" (call "textureSampleLevel"
     (Argument (name "t") (Argument (name "s") (Argument (name "p") (ZeroArgument NoArguments))))) ∷
     ReturnValue (name "_e3") ∷ []) ∷ [])
 
@@ -247,8 +250,8 @@ sample_at_zero_text = lines (
 
 abbrev pub pointer : Program
 pointer = of_functions (
-    function "h" [] NoResult (local "arr" (sized "array" (named "i32") 4) None ∷ []) (
-    bound "p" (AddressOf (IndexAt (name "arr") 0)) ∷
+    function "h" [] NoResult (local "arr" (sized_template "array" (named_type "i32") 4) None ∷ []) (
+    let_statement "p" (AddressOf (IndexAt (name "arr") 0)) ∷
     Assign (Dereference (name "p")) (integer 2) ∷ []) ∷ [])
 
 abbrev pub pointer_text : List ℕ
@@ -275,8 +278,8 @@ negate_text = lines (
 
 abbrev pub modf_members : Program
 modf_members = of_functions (
-    function "m" (parameter "x" (named "f32") ∷ []) (gives "f32") [] (
-    bound "_e1" (call "modf" (names ("x" ∷ []))) ∷
+    function "m" (parameter "x" (named_type "f32") ∷ []) (gives "f32") [] (
+    let_statement "_e1" (call "modf" (names ("x" ∷ []))) ∷
     ReturnValue
     (Binary (member_of (name "_e1") "fract") Add (member_of (name "_e1") "whole")) ∷ []) ∷ [])
 
@@ -290,12 +293,12 @@ modf_members_text = lines (
 
 abbrev pub siblings : Program
 siblings = of_functions (
-    function "k" (parameter "c" (named "bool") ∷ parameter "x" (named "i32") ∷ [])
+    function "k" (parameter "c" (named_type "bool") ∷ parameter "x" (named_type "i32") ∷ [])
     (gives "i32") [] (
     If (name "c") (statements (
-    bound "_e2" (Binary (name "x") Add (name "x")) ∷
+    let_statement "_e2" (Binary (name "x") Add (name "x")) ∷
     ReturnValue (name "_e2") ∷ [])) (statements (
-    bound "_e2" (Binary (name "x") Add (name "x")) ∷
+    let_statement "_e2" (Binary (name "x") Add (name "x")) ∷
     ReturnValue (name "_e2") ∷ [])) ∷ []) ∷ [])
 
 abbrev pub siblings_text : List ℕ
@@ -313,12 +316,12 @@ siblings_text = lines (
 
 abbrev pub named_siblings : Program
 named_siblings = of_functions (
-    function "k" (parameter "c" (named "bool") ∷ parameter "x" (named "i32") ∷ [])
+    function "k" (parameter "c" (named_type "bool") ∷ parameter "x" (named_type "i32") ∷ [])
     (gives "i32") [] (
     If (name "c") (statements (
-    bound "y" (Binary (name "x") Add (name "x")) ∷
+    let_statement "y" (Binary (name "x") Add (name "x")) ∷
     ReturnValue (name "y") ∷ [])) (statements (
-    bound "y_1" (Binary (name "x") Add (name "x")) ∷
+    let_statement "y_1" (Binary (name "x") Add (name "x")) ∷
     ReturnValue (name "y_1") ∷ [])) ∷ []) ∷ [])
 
 abbrev pub named_siblings_text : List ℕ
@@ -336,7 +339,7 @@ named_siblings_text = lines (
 
 abbrev pub switch_joined : Program
 switch_joined = of_functions (
-    function "s" (parameter "x" (named "i32") ∷ []) NoResult [] (
+    function "s" (parameter "x" (named_type "i32") ∷ []) NoResult [] (
     Switch (name "x") (Case (MoreLabels (SignedLabel false 1)
     (MoreLabels (SignedLabel false 2) (LastLabel DefaultLabel))) NoStatements NoCases) ∷ []) ∷ [])
 
@@ -352,7 +355,7 @@ switch_joined_text = lines (
 
 abbrev pub switch_default_first : Program
 switch_default_first = of_functions (
-    function "dflt" (parameter "x" (named "i32") ∷ []) NoResult [] (
+    function "dflt" (parameter "x" (named_type "i32") ∷ []) NoResult [] (
     Switch (name "x") (Case (MoreLabels DefaultLabel (LastLabel (SignedLabel false 3))) NoStatements
     NoCases) ∷ []) ∷ [])
 
@@ -368,7 +371,7 @@ switch_default_first_text = lines (
 
 abbrev pub loop_break_if : Program
 loop_break_if = of_functions (
-    function "l" (parameter "c" (named "bool") ∷ []) NoResult [] (
+    function "l" (parameter "c" (named_type "bool") ∷ []) NoResult [] (
     LoopBreakIf NoStatements NoStatements (name "c") ∷ []) ∷ [])
 
 abbrev pub loop_break_if_text : List ℕ
@@ -384,9 +387,10 @@ loop_break_if_text = lines (
 
 abbrev pub loop_tail : Program
 loop_tail = of_functions (
-    function "lp" (parameter "x" (named "i32") ∷ []) NoResult (local "a" (named "i32") None ∷ []) (
+    function "lp" (parameter "x" (named_type "i32") ∷ []) NoResult
+    (local "a" (named_type "i32") None ∷ []) (
     LoopBreakIf (statements (
-    bound "_e2" (Binary (name "x") Add (name "x")) ∷
+    let_statement "_e2" (Binary (name "x") Add (name "x")) ∷
     Assign (name "a") (name "_e2") ∷ [])) (statements (
     Assign (name "a") (name "_e2") ∷ [])) (Constant (Truth true)) ∷ []) ∷ [])
 
@@ -408,11 +412,12 @@ loop_tail_text = lines (
 
 abbrev pub loop_folded : Program
 loop_folded = of_functions (
-    function "cf" (parameter "c" (named "bool") ∷ []) NoResult (local "a" (named "i32") None ∷ []) (
+    function "cf" (parameter "c" (named_type "bool") ∷ []) NoResult
+    (local "a" (named_type "i32") None ∷ []) (
     LoopBreakIf (statements (
     If (name "c") (statements (
     Continue ∷ [])) NoStatements ∷
-    bound "_e3" (Binary (integer 1) Add (integer 1)) ∷
+    let_statement "_e3" (Binary (integer 1) Add (integer 1)) ∷
     Assign (name "a") (name "_e3") ∷ [])) (statements (
     Assign (name "a") (Binary (integer 1) Add (integer 1)) ∷ [])) (name "c") ∷ []) ∷ [])
 
@@ -438,10 +443,10 @@ loop_folded_text = lines (
 abbrev pub barriers : Program
 barriers = of_functions (
     function "b" [] NoResult [] (
-    CallStatement (named "storageBarrier") NoArguments ∷
-    CallStatement (named "workgroupBarrier") NoArguments ∷
-    CallStatement (named "subgroupBarrier") NoArguments ∷
-    CallStatement (named "textureBarrier") NoArguments ∷ []) ∷ [])
+    CallStatement (named_type "storageBarrier") NoArguments ∷
+    CallStatement (named_type "workgroupBarrier") NoArguments ∷
+    CallStatement (named_type "subgroupBarrier") NoArguments ∷
+    CallStatement (named_type "textureBarrier") NoArguments ∷ []) ∷ [])
 
 abbrev pub barriers_text : List ℕ
 barriers_text = lines (
@@ -456,11 +461,11 @@ barriers_text = lines (
 abbrev pub call_of_function : Program
 call_of_function = of_functions (
     function "inc" (parameter "p" (template_of "ptr" ("function" ∷ "i32" ∷ [])) ∷ []) NoResult [] (
-    bound "_e2" (Dereference (name "p")) ∷
+    let_statement "_e2" (Dereference (name "p")) ∷
     Assign (Dereference (name "p")) (Binary (name "_e2") Add (integer 1)) ∷ []) ∷
-    function "run" [] (gives "i32") (local "a" (named "i32") None ∷ []) (
-    CallStatement (named "inc") (operands (AddressOf (name "a") ∷ [])) ∷
-    bound "_e1" (name "a") ∷
+    function "run" [] (gives "i32") (local "a" (named_type "i32") None ∷ []) (
+    CallStatement (named_type "inc") (operands (AddressOf (name "a") ∷ [])) ∷
+    let_statement "_e1" (name "a") ∷
     ReturnValue (name "_e1") ∷ []) ∷ [])
 
 abbrev pub call_of_function_text : List ℕ
@@ -496,8 +501,8 @@ abbrev pub struct_names : Program
 struct_names = record no_declarations {
   structs =
       struct "S" (
-      member [] "fract" (named "i32") ∷
-      member [] "fn_" (named "i32") ∷ []) ∷ [];
+      member [] "fract" (named_type "i32") ∷
+      member [] "fn_" (named_type "i32") ∷ []) ∷ [];
 }
 
 abbrev pub struct_names_text : List ℕ
@@ -510,7 +515,7 @@ struct_names_text = lines (
 
 abbrev pub override_with_id : Program
 override_with_id = record no_declarations {
-  overrides = override (Numbered Id 3 ∷ []) "override_type" (named "u32") None ∷ [];
+  overrides = override (Numbered Id 3 ∷ []) "override_type" (named_type "u32") None ∷ [];
 }
 
 abbrev pub override_with_id_text : List ℕ
@@ -535,7 +540,8 @@ abbrev pub vertex_output : Program
 vertex_output = record no_declarations {
   structs =
       struct "VertexOutput" (
-      member (worded Builtin "position" ∷ []) "pos" (template_of "vec4" ("f32" ∷ [])) ∷ []) ∷ [];
+      member (worded_attribute Builtin "position" ∷ []) "pos" (template_of "vec4" ("f32" ∷ [])) ∷
+      []) ∷ [];
   entry_points =
       entry_point (Plain Vertex ∷ []) (function "main" [] (gives "VertexOutput") [] (
       ReturnValue (call "VertexOutput" NoArguments) ∷ [])) ∷ [];
@@ -564,7 +570,7 @@ enable_f16_text = lines (
 
 abbrev pub named_constant : Program
 named_constant = record no_declarations {
-  constants = constant "N" (named "i32") (integer 7) ∷ [];
+  constants = constant "N" (named_type "i32") (integer 7) ∷ [];
 }
 
 abbrev pub named_constant_text : List ℕ
@@ -576,8 +582,9 @@ abbrev pub flat_input : Program
 flat_input = record no_declarations {
   entry_points =
       entry_point (Plain Fragment ∷ [])
-      (function "main" (bound_parameter (Numbered Location 0 ∷ worded Interpolate "flat" ∷ []) "i"
-      (named "u32") ∷ []) NoResult [] []) ∷ [];
+      (function "main"
+      (bound_parameter (Numbered Location 0 ∷ worded_attribute Interpolate "flat" ∷ []) "i"
+      (named_type "u32") ∷ []) NoResult [] []) ∷ [];
 }
 
 abbrev pub flat_input_text : List ℕ
@@ -591,7 +598,7 @@ atomic_add = record no_declarations {
   globals = global [] (space "workgroup") "c" (template_of "atomic" ("u32" ∷ [])) None ∷ [];
   entry_points =
       entry_point (Plain Compute ∷ WorkgroupSize 1 1 1 ∷ []) (function "main" [] NoResult [] (
-      bound "_e2"
+      let_statement "_e2"
       (call "atomicAdd" (operands (AddressOf (name "c") ∷ unsigned 1 ∷ []))) ∷ [])) ∷ [];
 }
 
@@ -608,9 +615,9 @@ abbrev pub natural_offsets : Program
 natural_offsets = record no_declarations {
   structs =
       struct "P" (
-      member [] "a" (named "f32") ∷
+      member [] "a" (named_type "f32") ∷
       member [] "b" (template_of "vec3" ("f32" ∷ [])) ∷
-      member [] "c" (named "f32") ∷ []) ∷ [];
+      member [] "c" (named_type "f32") ∷ []) ∷ [];
 }
 
 abbrev pub natural_offsets_text : List ℕ
@@ -626,8 +633,8 @@ abbrev pub gap_by_size : Program
 gap_by_size = record no_declarations {
   structs =
       struct "Q" (
-      member (Numbered Size 16 ∷ []) "a" (named "u32") ∷
-      member [] "b" (named "u32") ∷ []) ∷ [];
+      member (Numbered Size 16 ∷ []) "a" (named_type "u32") ∷
+      member [] "b" (named_type "u32") ∷ []) ∷ [];
 }
 
 abbrev pub gap_by_size_text : List ℕ
@@ -642,9 +649,9 @@ abbrev pub stride_by_size : Program
 stride_by_size = record no_declarations {
   structs =
       struct "I" (
-      member (Numbered Size 16 ∷ []) "a" (named "u32") ∷ []) ∷
+      member (Numbered Size 16 ∷ []) "a" (named_type "u32") ∷ []) ∷
       struct "O" (
-      member [] "v" (sized "array" (named "I") 2) ∷ []) ∷ [];
+      member [] "v" (sized_template "array" (named_type "I") 2) ∷ []) ∷ [];
 }
 
 abbrev pub stride_by_size_text : List ℕ
@@ -670,7 +677,7 @@ pub record WorkedPrograms : Type 0 where
   pub store_explicit : IsText store_explicit store_explicit_text
   pub unused_read : IsText unused_read unused_read_text
   pub late_use : IsText late_use late_use_text
-  pub inlined : IsText inlined inlined_text
+  pub inlined : IsText inlined_program inlined_text
   pub used_twice : IsText used_twice used_twice_text
   pub select_call : IsText select_call select_call_text
   pub named_expression : IsText named_expression named_expression_text

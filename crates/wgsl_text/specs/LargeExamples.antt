@@ -7,12 +7,12 @@ use Rattle.wgsl_text.specs.Expressions.{Add, Expression, Binary, Index}
 use Rattle.wgsl_text.specs.Statements.{ReturnValue, Block, Statements, NoStatements, Then}
 use Rattle.wgsl_text.specs.Functions.{NoResult, ResultOf}
 use Rattle.wgsl_text.specs.Declarations.{Program}
-use Rattle.wgsl_text.specs.WorkedTrees.{IsText, named, name, parameter, function, of_functions}
+use Rattle.wgsl_text.specs.WorkedTrees.{IsText, named_type, name, parameter, function, of_functions}
 
 -- blocks, each inside the one before
-abbrev pub nested : ℕ → Statements
-nested zero = NoStatements
-nested (suc n) = Then (Block (nested n)) NoStatements
+abbrev pub nested_blocks : ℕ → Statements
+nested_blocks zero = NoStatements
+nested_blocks (suc n) = Then (Block (nested_blocks n)) NoStatements
 
 abbrev pub deep : Program
 deep =
@@ -21,7 +21,7 @@ deep =
       parameters = [];
       result = NoResult;
       locals = [];
-      body = nested 32;
+      body = nested_blocks 32;
     } ∷ [])
 
 -- their lines, from a level on
@@ -35,15 +35,15 @@ abbrev pub deep_text : List ℕ
 deep_text = codes "fn deep() {\n" ++ (nested_text 32 1 ++ codes "}\n\n")
 
 -- an operand that is used twice at each level
-abbrev pub doubled : ℕ → Expression
-doubled zero = Index (name "t") (name "x")
-doubled (suc n) = Index (name "t") (Binary (doubled n) Add (doubled n))
+abbrev pub doubled_operand : ℕ → Expression
+doubled_operand zero = Index (name "t") (name "x")
+doubled_operand (suc n) = Index (name "t") (Binary (doubled_operand n) Add (doubled_operand n))
 
 abbrev pub double : Program
 double = of_functions (
-    function "d" (parameter "t" (Template (codes "vec4") (TypePart (named "i32") NoParts)) ∷
-    parameter "x" (named "i32") ∷ []) (ResultOf [] (named "i32")) [] (
-    ReturnValue (doubled 12) ∷ []) ∷ [])
+    function "d" (parameter "t" (Template (codes "vec4") (TypePart (named_type "i32") NoParts)) ∷
+    parameter "x" (named_type "i32") ∷ []) (ResultOf [] (named_type "i32")) [] (
+    ReturnValue (doubled_operand 12) ∷ []) ∷ [])
 
 abbrev pub doubled_text : ℕ → List ℕ
 doubled_text zero = codes "t[x]"

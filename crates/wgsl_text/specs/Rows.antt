@@ -26,9 +26,12 @@ use Rattle.wgsl_text.specs.Attributes.{Numbered, WorkgroupSize}
 use Rattle.wgsl_text.specs.Functions.{NoResult, ResultOf}
 use Rattle.wgsl_text.specs.Declarations.{NoSpace, Program, no_declarations}
 use Rattle.wgsl_text.specs.Reading.{type_layout, expression_layout}
-use Rattle.wgsl_text.specs.WorkedTrees.{lines, names, template_of, named, template, sized}
-use Rattle.wgsl_text.specs.WorkedTrees.{member_of, bound, typed, bound_parameter, worded}
-use Rattle.wgsl_text.specs.WorkedTrees.{interpolated, member, struct, constant, override, space}
+use Rattle.wgsl_text.specs.WorkedTrees.{lines, names, template_of, named_type, template}
+use Rattle.wgsl_text.specs.WorkedTrees.{sized_template}
+use Rattle.wgsl_text.specs.WorkedTrees.{member_of, let_statement, typed_let_statement}
+use Rattle.wgsl_text.specs.WorkedTrees.{bound_parameter, worded_attribute}
+use Rattle.wgsl_text.specs.WorkedTrees.{interpolated_attribute, member, struct, constant, override}
+use Rattle.wgsl_text.specs.WorkedTrees.{space}
 use Rattle.wgsl_text.specs.WorkedTrees.{global, entry_point, name, integer, unsigned, call}
 use Rattle.wgsl_text.specs.WorkedTrees.{statements, parameter, local, function, of_functions}
 use Rattle.wgsl_text.specs.WorkedTrees.{IsText}
@@ -45,15 +48,16 @@ pub record IsExpressionText (e : Expression) (spelling : String) : Type 0 where
 
 -- each row of types
 pub record TypeRows : Type 0 where
-  pub scalar : IsTypeText (named "i16") "i16"
+  pub scalar : IsTypeText (named_type "i16") "i16"
   pub vector : IsTypeText (template_of "vec4" ("u32" ∷ [])) "vec4<u32>"
   pub matrix : IsTypeText (template_of "mat3x2" ("f32" ∷ [])) "mat3x2<f32>"
   pub atomic : IsTypeText (template_of "atomic" ("i64" ∷ [])) "atomic<i64>"
-  pub array_of_number : IsTypeText (sized "array" (named "i32") 4) "array<i32, 4>"
+  pub array_of_number : IsTypeText (sized_template "array" (named_type "i32") 4) "array<i32, 4>"
   pub array_of_override : IsTypeText (template_of "array" ("i32" ∷ "N" ∷ [])) "array<i32, N>"
   pub dynamic_array : IsTypeText (template_of "array" ("u32" ∷ [])) "array<u32>"
   pub binding_array_of_number :
-      IsTypeText (sized "binding_array" (named "sampler") 8) "binding_array<sampler, 8>"
+      IsTypeText (sized_template "binding_array" (named_type "sampler") 8)
+      "binding_array<sampler, 8>"
   pub binding_array_of_override :
       IsTypeText (template_of "binding_array" ("S" ∷ "N" ∷ [])) "binding_array<S, N>"
   pub dynamic_binding_array : IsTypeText
@@ -63,33 +67,34 @@ pub record TypeRows : Type 0 where
   pub pointer_with_access : IsTypeText (template_of "ptr" ("storage" ∷ "i32" ∷ "read_write" ∷ []))
       "ptr<storage, i32, read_write>"
   pub pointer_to_array : IsTypeText
-      (template "ptr" (named "storage" ∷ template_of "array" ("u32" ∷ []) ∷ []))
+      (template "ptr" (named_type "storage" ∷ template_of "array" ("u32" ∷ []) ∷ []))
       "ptr<storage, array<u32>>"
   pub value_pointer_to_vector : IsTypeText
-      (template "ptr" (named "function" ∷ template_of "vec3" ("i32" ∷ []) ∷ []))
+      (template "ptr" (named_type "function" ∷ template_of "vec3" ("i32" ∷ []) ∷ []))
       "ptr<function, vec3<i32>>"
   pub value_pointer_to_scalar :
       IsTypeText (template_of "ptr" ("storage" ∷ "u32" ∷ "atomic" ∷ [])) "ptr<storage, u32, atomic>"
-  pub struct_name : IsTypeText (named "VertexOutput") "VertexOutput"
-  pub sampler : IsTypeText (named "sampler") "sampler"
-  pub comparison_sampler : IsTypeText (named "sampler_comparison") "sampler_comparison"
+  pub struct_name : IsTypeText (named_type "VertexOutput") "VertexOutput"
+  pub sampler : IsTypeText (named_type "sampler") "sampler"
+  pub comparison_sampler : IsTypeText (named_type "sampler_comparison") "sampler_comparison"
   pub sampled_image : IsTypeText (template_of "texture_2d" ("f32" ∷ [])) "texture_2d<f32>"
   pub multisampled_image : IsTypeText (template_of "texture_multisampled_2d_array" ("i32" ∷ []))
       "texture_multisampled_2d_array<i32>"
-  pub depth_image : IsTypeText (named "texture_depth_cube_array") "texture_depth_cube_array"
+  pub depth_image : IsTypeText (named_type "texture_depth_cube_array") "texture_depth_cube_array"
   pub multisampled_depth_image :
-      IsTypeText (named "texture_depth_multisampled_2d") "texture_depth_multisampled_2d"
+      IsTypeText (named_type "texture_depth_multisampled_2d") "texture_depth_multisampled_2d"
   pub storage_image : IsTypeText (template_of "texture_storage_2d" ("rgba8unorm" ∷ "write" ∷ []))
       "texture_storage_2d<rgba8unorm,write>"
   pub storage_image_array : IsTypeText
       (template_of "texture_storage_1d_array" ("r64uint" ∷ "atomic" ∷ []))
       "texture_storage_1d_array<r64uint,atomic>"
-  pub external_image : IsTypeText (named "texture_external") "texture_external"
-  pub acceleration_structure : IsTypeText (named "acceleration_structure") "acceleration_structure"
+  pub external_image : IsTypeText (named_type "texture_external") "texture_external"
+  pub acceleration_structure : IsTypeText (named_type "acceleration_structure")
+      "acceleration_structure"
   pub acceleration_structure_with_vertices : IsTypeText
       (template_of "acceleration_structure" ("vertex_return" ∷ []))
       "acceleration_structure<vertex_return>"
-  pub ray_query : IsTypeText (named "ray_query") "ray_query"
+  pub ray_query : IsTypeText (named_type "ray_query") "ray_query"
   pub ray_query_with_vertices :
       IsTypeText (template_of "ray_query" ("vertex_return" ∷ [])) "ray_query<vertex_return>"
   pub cooperative_matrix :
@@ -111,7 +116,8 @@ pub record OperatorRows : Type 0 where
   pub inlined_constant : IsExpressionText (integer 7) "7i"
   pub variable : IsExpressionText (name "override_type") "override_type"
   pub zero_value :
-      IsExpressionText (Call (sized "array" (named "i32") 4) NoArguments) "array<i32, 4>()"
+      IsExpressionText (Call (sized_template "array" (named_type "i32") 4) NoArguments)
+      "array<i32, 4>()"
   pub composed : IsExpressionText (Call (template_of "vec2" ("f32" ∷ [])) (names ("x" ∷ "y" ∷ [])))
       "vec2<f32>(x, y)"
   pub composed_struct : IsExpressionText (call "S" (names ("a" ∷ "b" ∷ []))) "S(a, b)"
@@ -229,26 +235,30 @@ pub record AccessRows : Type 0 where
 abbrev pub every_statement : Program
 every_statement = of_functions (
     function "rows"
-    (parameter "x" (named "i32") ∷ parameter "c" (named "bool") ∷ parameter "p" (template "ptr"
-    (named "storage" ∷ template_of "atomic" ("u32" ∷ []) ∷ named "read_write" ∷ [])) ∷ []) NoResult
+    (parameter "x" (named_type "i32") ∷ parameter "c" (named_type "bool") ∷
+    parameter "p" (template "ptr"
+    (named_type "storage" ∷ template_of "atomic" ("u32" ∷ []) ∷ named_type "read_write" ∷ [])) ∷ [])
+    NoResult
     (local "m" (template_of "mat2x2" ("f32" ∷ [])) (Some
-    (Call (template_of "mat2x2" ("f32" ∷ [])) NoArguments)) ∷ local "u" (named "u32") None ∷ []) (
-    typed "_e1" (template_of "vec2" ("f32" ∷ [])) (IndexAt (name "m") 0) ∷
+    (Call (template_of "mat2x2" ("f32" ∷ [])) NoArguments)) ∷
+    local "u" (named_type "u32") None ∷ []) (
+    typed_let_statement "_e1" (template_of "vec2" ("f32" ∷ [])) (IndexAt (name "m") 0) ∷
     Assign (member_of (IndexAt (name "m") 0) "x") (member_of (name "_e1") "y") ∷
     Assign (name "u") (unsigned 1) ∷
     If (name "c") (statements (
     Discard ∷ [])) NoStatements ∷
     Block (statements (
     Block NoStatements ∷ [])) ∷
-    CallStatement (named "atomicStore") (operands (name "p" ∷ unsigned 5 ∷ [])) ∷
-    bound "_e2"
+    CallStatement (named_type "atomicStore") (operands (name "p" ∷ unsigned 5 ∷ [])) ∷
+    let_statement "_e2"
     (call "atomicCompareExchangeWeak" (operands (name "p" ∷ unsigned 1 ∷ unsigned 2 ∷ []))) ∷
-    CallStatement (named "atomicMax") (operands (name "p" ∷ unsigned 7 ∷ [])) ∷
-    bound "_e3" (call "inc" (names ("x" ∷ "x" ∷ []))) ∷
-    CallStatement (named "textureAtomicMin") (operands (name "t" ∷ name "v" ∷ unsigned 1 ∷ [])) ∷
-    CallStatement (named "textureStore")
+    CallStatement (named_type "atomicMax") (operands (name "p" ∷ unsigned 7 ∷ [])) ∷
+    let_statement "_e3" (call "inc" (names ("x" ∷ "x" ∷ []))) ∷
+    CallStatement (named_type "textureAtomicMin")
+    (operands (name "t" ∷ name "v" ∷ unsigned 1 ∷ [])) ∷
+    CallStatement (named_type "textureStore")
     (operands (name "t" ∷ name "v" ∷ integer 2 ∷ name "w" ∷ [])) ∷
-    bound "_e4" (call "workgroupUniformLoad" (operands (AddressOf (name "wg") ∷ []))) ∷
+    let_statement "_e4" (call "workgroupUniformLoad" (operands (AddressOf (name "wg") ∷ []))) ∷
     Switch (name "u") (Case (LastLabel (UnsignedLabel 1)) (statements (
     Break ∷ [])) (Case (MoreLabels (UnsignedLabel 2) (LastLabel (UnsignedLabel 3))) (statements (
     Return ∷ [])) (Case (LastLabel DefaultLabel) NoStatements NoCases))) ∷
@@ -258,16 +268,17 @@ every_statement = of_functions (
     Break ∷ [])) (statements (
     Assign (name "u") (unsigned 2) ∷ [])) ∷
     Loop NoStatements NoStatements ∷
-    bound "_e5" (call "subgroupBallot" NoArguments) ∷
-    bound "_e6" (call "subgroupBallot" (names ("c" ∷ []))) ∷
-    bound "_e7" (call "subgroupExclusiveAdd" (names ("x" ∷ []))) ∷
-    bound "_e8" (call "subgroupBroadcastFirst" (names ("x" ∷ []))) ∷
-    bound "_e9" (call "subgroupShuffle" (names ("x" ∷ "u" ∷ []))) ∷
-    bound "_e10" (call "quadSwapX" (names ("x" ∷ []))) ∷
-    CallStatement (named "coopStore") (operands (name "a" ∷ AddressOf (name "b") ∷ name "n" ∷ [])) ∷
-    CallStatement (named "coopStoreT")
+    let_statement "_e5" (call "subgroupBallot" NoArguments) ∷
+    let_statement "_e6" (call "subgroupBallot" (names ("c" ∷ []))) ∷
+    let_statement "_e7" (call "subgroupExclusiveAdd" (names ("x" ∷ []))) ∷
+    let_statement "_e8" (call "subgroupBroadcastFirst" (names ("x" ∷ []))) ∷
+    let_statement "_e9" (call "subgroupShuffle" (names ("x" ∷ "u" ∷ []))) ∷
+    let_statement "_e10" (call "quadSwapX" (names ("x" ∷ []))) ∷
+    CallStatement (named_type "coopStore")
     (operands (name "a" ∷ AddressOf (name "b") ∷ name "n" ∷ [])) ∷
-    CallStatement (named "traceRay")
+    CallStatement (named_type "coopStoreT")
+    (operands (name "a" ∷ AddressOf (name "b") ∷ name "n" ∷ [])) ∷
+    CallStatement (named_type "traceRay")
     (operands (name "s" ∷ name "d" ∷ AddressOf (name "payload") ∷ [])) ∷
     Return ∷ []) ∷ [])
 
@@ -338,35 +349,40 @@ every_declaration = record no_declarations {
       codes "dual_source_blending" ∷ [];
   structs =
       struct "Input" (
-      member (worded Builtin "position" ∷ Plain Invariant ∷ []) "pos"
+      member (worded_attribute Builtin "position" ∷ Plain Invariant ∷ []) "pos"
       (template_of "vec4" ("f32" ∷ [])) ∷
-      member (Numbered Location 1 ∷ interpolated "perspective" "centroid" ∷ []) "a" (named "f32") ∷
+      member (Numbered Location 1 ∷ interpolated_attribute "perspective" "centroid" ∷ []) "a"
+      (named_type "f32") ∷
       member (Numbered Location 0 ∷ Numbered BlendSource 1 ∷ Plain PerPrimitive ∷ []) "b"
-      (named "f32") ∷
-      member (Numbered Size 32 ∷ Numbered Align 16 ∷ []) "c" (named "f32") ∷ []) ∷ [];
+      (named_type "f32") ∷
+      member (Numbered Size 32 ∷ Numbered Align 16 ∷ []) "c" (named_type "f32") ∷ []) ∷ [];
   constants =
-      constant "N" (named "i32") (integer 7) ∷
+      constant "N" (named_type "i32") (integer 7) ∷
       constant "M" (template_of "vec2" ("f32" ∷ []))
       (Call (template_of "vec2" ("f32" ∷ [])) NoArguments) ∷ [];
   overrides =
-      override (Numbered Id 3 ∷ []) "gain" (named "f32") (Some (integer 1)) ∷
-      override [] "plain" (named "bool") None ∷ [];
+      override (Numbered Id 3 ∷ []) "gain" (named_type "f32") (Some (integer 1)) ∷
+      override [] "plain" (named_type "bool") None ∷ [];
   globals =
       global (Numbered Group 0 ∷ Numbered Binding 0 ∷ []) NoSpace "image"
       (template_of "texture_storage_2d" ("rgba8unorm" ∷ "write" ∷ [])) None ∷
       global (Numbered Group 0 ∷ Numbered Binding 1 ∷ Plain Coherent ∷ Plain Volatile ∷ [])
       (space "storage") "buf" (template_of "array" ("u32" ∷ [])) None ∷
-      global (Plain Coherent ∷ []) (space "uniform") "block" (named "Input") None ∷
-      global [] (space "private") "counter" (named "i32") (Some (integer 1)) ∷ [];
+      global (Plain Coherent ∷ []) (space "uniform") "block" (named_type "Input") None ∷
+      global [] (space "private") "counter" (named_type "i32") (Some (integer 1)) ∷ [];
   functions =
-      function "f" (bound_parameter (worded Builtin "vertex_index" ∷ []) "i" (named "u32") ∷ [])
-      (ResultOf (Numbered Location 0 ∷ []) (named "f32")) [] (
+      function "f"
+      (bound_parameter (worded_attribute Builtin "vertex_index" ∷ []) "i"
+      (named_type "u32") ∷ [])
+      (ResultOf (Numbered Location 0 ∷ []) (named_type "f32")) [] (
       ReturnValue (integer 1) ∷ []) ∷
       function "g" [] NoResult [] [] ∷ [];
   entry_points =
-      entry_point (Plain Vertex ∷ []) (function "vs" (parameter "v" (named "Input") ∷
-      bound_parameter (Numbered Location 0 ∷ worded Interpolate "linear" ∷ []) "x" (named "f32") ∷
-      []) (ResultOf (worded Builtin "position" ∷ []) (template_of "vec4" ("f32" ∷ []))) [] (
+      entry_point (Plain Vertex ∷ []) (function "vs" (parameter "v" (named_type "Input") ∷
+      bound_parameter (Numbered Location 0 ∷ worded_attribute Interpolate "linear" ∷ []) "x"
+      (named_type "f32") ∷
+      []) (ResultOf (worded_attribute Builtin "position" ∷ [])
+      (template_of "vec4" ("f32" ∷ []))) [] (
       ReturnValue (Call (template_of "vec4" ("f32" ∷ [])) NoArguments) ∷ [])) ∷
       entry_point (Plain Fragment ∷ [])
       (function "fs" [] (ResultOf (Numbered Location 0 ∷ []) (template_of "vec4" ("f32" ∷ []))) [] (
@@ -421,23 +437,25 @@ every_stage = record no_declarations {
       codes "wgpu_mesh_shader" ∷
       codes "wgpu_ray_tracing_pipeline" ∷ [];
   globals =
-      global [] (space "workgroup") "out" (named "u32") None ∷
-      global [] (space "task_payload") "load" (named "u32") None ∷
-      global [] (space "ray_payload") "ray" (named "u32") None ∷
-      global [] (space "incoming_ray_payload") "hit" (named "u32") None ∷
-      global [] (space "immediate") "scale" (named "f32") None ∷ [];
+      global [] (space "workgroup") "out" (named_type "u32") None ∷
+      global [] (space "task_payload") "load" (named_type "u32") None ∷
+      global [] (space "ray_payload") "ray" (named_type "u32") None ∷
+      global [] (space "incoming_ray_payload") "hit" (named_type "u32") None ∷
+      global [] (space "immediate") "scale" (named_type "f32") None ∷ [];
   entry_points =
-      entry_point (worded Mesh "out" ∷ WorkgroupSize 1 1 1 ∷ []) (function "ms" [] NoResult [] []) ∷
-      entry_point (worded Mesh "out" ∷ WorkgroupSize 1 1 1 ∷ worded Payload "load" ∷ [])
+      entry_point (worded_attribute Mesh "out" ∷ WorkgroupSize 1 1 1 ∷ [])
+      (function "ms" [] NoResult [] []) ∷
+      entry_point
+      (worded_attribute Mesh "out" ∷ WorkgroupSize 1 1 1 ∷ worded_attribute Payload "load" ∷ [])
       (function "mp" [] NoResult [] []) ∷
-      entry_point (Plain Task ∷ worded Payload "load" ∷ WorkgroupSize 1 1 1 ∷ [])
+      entry_point (Plain Task ∷ worded_attribute Payload "load" ∷ WorkgroupSize 1 1 1 ∷ [])
       (function "ts" [] NoResult [] []) ∷
       entry_point (Plain RayGeneration ∷ []) (function "rg" [] NoResult [] []) ∷
-      entry_point (Plain AnyHit ∷ worded IncomingPayload "hit" ∷ [])
+      entry_point (Plain AnyHit ∷ worded_attribute IncomingPayload "hit" ∷ [])
       (function "ah" [] NoResult [] []) ∷
-      entry_point (Plain ClosestHit ∷ worded IncomingPayload "hit" ∷ [])
+      entry_point (Plain ClosestHit ∷ worded_attribute IncomingPayload "hit" ∷ [])
       (function "ch" [] NoResult [] []) ∷
-      entry_point (Plain Miss ∷ worded IncomingPayload "hit" ∷ [])
+      entry_point (Plain Miss ∷ worded_attribute IncomingPayload "hit" ∷ [])
       (function "mi" [] NoResult [] []) ∷ [];
 }
 

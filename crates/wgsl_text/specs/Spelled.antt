@@ -87,23 +87,24 @@ pub record SpelledMarks : Type 0 where
 
 -- attributes
 pub record SpelledAttributes : Type 0 where
-  pub plain : text (attributes_pieces (map Plain (
+  pub plain_attributes : text (attributes_pieces (map Plain (
       Invariant ∷ PerPrimitive ∷ Coherent ∷ Volatile ∷ Vertex ∷ Fragment ∷ Compute ∷ Task ∷
       RayGeneration ∷ AnyHit ∷ ClosestHit ∷ Miss ∷ []))) ≡
       codes "@invariant @per_primitive @coherent @volatile @vertex @fragment @compute @task " ++
       codes "@ray_generation @any_hit @closest_hit @miss "
-  pub numbered : text (attributes_pieces (map (λ a. Numbered a 1) (
+  pub numbered_attributes : text (attributes_pieces (map (λ a. Numbered a 1) (
       Location ∷ BlendSource ∷ Id ∷ Group ∷ Binding ∷ Size ∷ Align ∷ []))) ≡
       codes "@location(1) @blend_src(1) @id(1) @group(1) @binding(1) @size(1) @align(1) "
-  pub worded : text (attributes_pieces (map (λ a. Worded a (codes "w")) (
+  pub worded_attributes : text (attributes_pieces (map (λ a. Worded a (codes "w")) (
       Builtin ∷ Interpolate ∷ Mesh ∷ Payload ∷ IncomingPayload ∷ []))) ≡
       codes "@builtin(w) @interpolate(w) @mesh(w) @payload(w) @incoming_payload(w) "
-  pub interpolated : text (attributes_pieces (Interpolated (codes "i") (codes "s") ∷ [])) ≡
+  pub interpolated_attributes : text
+      (attributes_pieces (Interpolated (codes "i") (codes "s") ∷ [])) ≡
       codes "@interpolate(i, s) "
   pub workgroup_size : text (attributes_pieces (WorkgroupSize 1 2 3 ∷ [])) ≡
       codes "@workgroup_size(1, 2, 3) "
 
-pub record Spelled : Type 0 where
+pub record SpelledPieces : Type 0 where
   pub types : SpelledTypes
   pub calls : SpelledCalls
   pub marks : SpelledMarks

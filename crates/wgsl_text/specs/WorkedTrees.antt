@@ -29,8 +29,8 @@ lines [] = []
 lines (line ∷ more) = codes line ++ (codes "\n" ++ lines more)
 
 -- short words for trees
-abbrev pub named : String → TypeSpecifier
-named w = Named (codes w)
+abbrev pub named_type : String → TypeSpecifier
+named_type w = Named (codes w)
 
 abbrev pub parts : List TypeSpecifier → TypeParts
 parts [] = NoParts
@@ -41,13 +41,13 @@ template w list = Template (codes w) (parts list)
 
 abbrev pub named_parts : List String → TypeParts
 named_parts [] = NoParts
-named_parts (w ∷ more) = TypePart (named w) (named_parts more)
+named_parts (w ∷ more) = TypePart (named_type w) (named_parts more)
 
 abbrev pub template_of : String → List String → TypeSpecifier
 template_of w words = Template (codes w) (named_parts words)
 
-abbrev pub sized : String → TypeSpecifier → ℕ → TypeSpecifier
-sized w t n = Template (codes w) (TypePart t (SizePart n NoParts))
+abbrev pub sized_template : String → TypeSpecifier → ℕ → TypeSpecifier
+sized_template w t n = Template (codes w) (TypePart t (SizePart n NoParts))
 
 abbrev pub name : String → Expression
 name w = Name (codes w)
@@ -68,11 +68,11 @@ call w arguments = Call (Named (codes w)) arguments
 abbrev pub member_of : Expression → String → Expression
 member_of e w = Member e (codes w)
 
-abbrev pub bound : String → Expression → Statement
-bound w e = Let (codes w) e
+abbrev pub let_statement : String → Expression → Statement
+let_statement w e = Let (codes w) e
 
-abbrev pub typed : String → TypeSpecifier → Expression → Statement
-typed w t e = TypedLet (codes w) t e
+abbrev pub typed_let_statement : String → TypeSpecifier → Expression → Statement
+typed_let_statement w t e = TypedLet (codes w) t e
 
 abbrev pub statements : List Statement → Statements
 statements [] = NoStatements
@@ -85,7 +85,7 @@ abbrev pub bound_parameter : List Attribute → String → TypeSpecifier → Par
 bound_parameter attributes w t = record { attributes = attributes; name = codes w; type = t }
 
 abbrev pub gives : String → Result
-gives w = ResultOf [] (named w)
+gives w = ResultOf [] (named_type w)
 
 abbrev pub local : String → TypeSpecifier → Option Expression → Local
 local w t value = record { name = codes w; type = t; value = value }
@@ -100,11 +100,11 @@ function w parameters result locals body =
       body = statements body;
     }
 
-abbrev pub worded : WordedAttribute → String → Attribute
-worded a w = Worded a (codes w)
+abbrev pub worded_attribute : WordedAttribute → String → Attribute
+worded_attribute a w = Worded a (codes w)
 
-abbrev pub interpolated : String → String → Attribute
-interpolated i s = Interpolated (codes i) (codes s)
+abbrev pub interpolated_attribute : String → String → Attribute
+interpolated_attribute i s = Interpolated (codes i) (codes s)
 
 abbrev pub member : List Attribute → String → TypeSpecifier → StructMember
 member attributes w t = record { attributes = attributes; name = codes w; type = t }

@@ -16,9 +16,9 @@ ghost use Rattle.wgsl_text.specs.Reading.{AreReadOnce, ReadsType, ReadsExpressio
 ghost use Rattle.wgsl_text.specs.Reading.{ReadsFunction, Reads, HasOneReading, type_layout};
 ghost use Rattle.wgsl_text.specs.Reading.{expression_layout, statement_layout, function_layout};
 ghost use Rattle.wgsl_text.specs.Reading.{layout};
-ghost use Rattle.wgsl_text.specs.Refused.{Refused};
+ghost use Rattle.wgsl_text.specs.Refused.{RefusedTexts};
 ghost use Rattle.wgsl_text.specs.Rows.{TypeRows, OperatorRows, AccessRows, LineRows};
-ghost use Rattle.wgsl_text.specs.Spelled.{Spelled};
+ghost use Rattle.wgsl_text.specs.Spelled.{SpelledPieces};
 ghost use Rattle.wgsl_text.specs.Spelling.{Spells, Begins};
 ghost use Rattle.wgsl_text.specs.Text.{text, tokens};
 ghost use Rattle.wgsl_text.specs.ValueWords.{ValueWords};
@@ -98,7 +98,7 @@ pub fn words_of_values()
 
 /// The words, keywords, signs, suffixes and attributes of the grammar, spelled out.
 pub fn words_are_spelled()
-    ensures { Spelled }
+    ensures { SpelledPieces }
 {}
 
 /// The texts of worked programs, byte for byte.
@@ -117,5 +117,5 @@ pub fn row_texts()
 
 /// Texts that are no type, no expression or no program.
 pub fn refused_texts()
-    ensures { Refused }
+    ensures { RefusedTexts }
 {}

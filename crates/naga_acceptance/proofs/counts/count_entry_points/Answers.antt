@@ -1,10 +1,10 @@
 use Rattle.std.proofs.Common.{◌≡◌, ◌≤◌, ap, ◌∙◌, arith, length, slice_get, slice_index_or, Some}
 use Rattle.std.proofs.lemmas.List.{set-get_or}
 use Rattle.std.proofs.lemmas.Option.{slice_get-get_or}
-use Rattle.naga_acceptance.specs.Counts.{counted, all_counted, functions_of}
+use Rattle.naga_acceptance.specs.Counts.{with_counts, all_with_counts, functions_of}
 use Rattle.naga_acceptance.proofs.Counting.{slice_get-functions_of, length-functions_of}
-use Rattle.naga_acceptance.proofs.Counting.{length-all_counted, get_or-all_counted}
-use Rattle.naga_acceptance.proofs.Counting.{get_or-all_counted_past}
+use Rattle.naga_acceptance.proofs.Counting.{length-all_with_counts, get_or-all_with_counts}
+use Rattle.naga_acceptance.proofs.Counting.{get_or-all_with_counts_past}
 use Rattle.naga_acceptance.proofs.Writing.{IsWritten-start, IsWritten-more, IsWritten-kept}
 use Rattle.naga_acceptance.proofs.Writing.{IsWritten-read}
 use Rattle.naga_acceptance.proofs.counts.count_entry_points.Goals as goal
@@ -12,7 +12,7 @@ use Rattle.naga_acceptance.proofs.counts.count_entry_points.Goals.{then-index-en
 use Rattle.naga_acceptance.proofs.counts.count_entry_points.Goals.{else-index-entry_points}
 
 pub loop-index-init : goal.loop-index-init
-loop-index-init c = IsWritten-start (all_counted (functions_of c.args.entry_points.now) c.args.infos.now) c.args.infos.now (length-all_counted (functions_of c.args.entry_points.now) c.args.infos.now)
+loop-index-init c = IsWritten-start (all_with_counts (functions_of c.args.entry_points.now) c.args.infos.now) c.args.infos.now (length-all_with_counts (functions_of c.args.entry_points.now) c.args.infos.now)
 
 pub loop-index-preserved : goal.loop-index-preserved
 loop-index-preserved c =
@@ -20,12 +20,12 @@ loop-index-preserved c =
       | then-index-entry_points w ↦
           let here : slice_get (functions_of c.args.entry_points.now) c.loop-index.index ≡ Some (slice_index_or c.args.entry_points.now c.loop-index.index w.index-entry_points-index.result).function =
           slice_get-functions_of c.args.entry_points.now c.loop-index.index (slice_index_or c.args.entry_points.now c.loop-index.index w.index-entry_points-index.result) (slice_get-get_or c.args.entry_points.now c.loop-index.index w.index-entry_points-index.result w.if-index-entry_points.true)
-          in rw w.infos-is (IsWritten-more (all_counted (functions_of c.args.entry_points.now) c.args.infos.now) c.args.infos.now c.loop-index.infos c.loop-index.index _ c.loop-index-test.true c.loop-index.invariant
+          in rw w.infos-is (IsWritten-more (all_with_counts (functions_of c.args.entry_points.now) c.args.infos.now) c.args.infos.now c.loop-index.infos c.loop-index.index _ c.loop-index-test.true c.loop-index.invariant
           (w.count_function.ensures
-          ∙ ap (λ es. counted (slice_index_or c.args.entry_points.now c.loop-index.index w.index-entry_points-index.result).function es) (IsWritten-read (all_counted (functions_of c.args.entry_points.now) c.args.infos.now) c.args.infos.now c.loop-index.infos c.loop-index.index c.index-infos-index.result c.loop-index.invariant)
-          ∙ get_or-all_counted (functions_of c.args.entry_points.now) c.args.infos.now c.loop-index.index (slice_index_or c.args.entry_points.now c.loop-index.index w.index-entry_points-index.result).function c.index-infos-index.result _ here c.loop-index-test.true))
+          ∙ ap (λ es. with_counts (slice_index_or c.args.entry_points.now c.loop-index.index w.index-entry_points-index.result).function es) (IsWritten-read (all_with_counts (functions_of c.args.entry_points.now) c.args.infos.now) c.args.infos.now c.loop-index.infos c.loop-index.index c.index-infos-index.result c.loop-index.invariant)
+          ∙ get_or-all_with_counts (functions_of c.args.entry_points.now) c.args.infos.now c.loop-index.index (slice_index_or c.args.entry_points.now c.loop-index.index w.index-entry_points-index.result).function c.index-infos-index.result _ here c.loop-index-test.true))
       | else-index-entry_points w ↦
           let past : length (functions_of c.args.entry_points.now) ≤ c.loop-index.index = omega (arith, length-functions_of c.args.entry_points.now, w.if-index-entry_points.false)
-          in rw (w.infos-is, set-get_or) (IsWritten-kept (all_counted (functions_of c.args.entry_points.now) c.args.infos.now) c.args.infos.now c.loop-index.infos c.loop-index.index c.index-infos-index.result c.loop-index-test.true c.loop-index.invariant
-          (get_or-all_counted_past (functions_of c.args.entry_points.now) c.args.infos.now c.loop-index.index c.index-infos-index.result past))
+          in rw (w.infos-is, set-get_or) (IsWritten-kept (all_with_counts (functions_of c.args.entry_points.now) c.args.infos.now) c.args.infos.now c.loop-index.infos c.loop-index.index c.index-infos-index.result c.loop-index-test.true c.loop-index.invariant
+          (get_or-all_with_counts_past (functions_of c.args.entry_points.now) c.args.infos.now c.loop-index.index c.index-infos-index.result past))
     ]

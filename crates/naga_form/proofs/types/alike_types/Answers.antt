@@ -1,3 +1,4 @@
+use Rattle.naga_form.proofs.AlikeLaw.{alike_by_numbers}
 use Rattle.naga_form.proofs.Readable.{alike_itself, alike_back, alike_through, strides_are_alike}
 use Rattle.naga_form.proofs.types.alike_types.Goals as goal
 
@@ -7,4 +8,5 @@ returns c = record {
   back = alike_back;
   through = alike_through;
   stride = strides_are_alike;
+  numbers = alike_by_numbers;
 }

@@ -1,6 +1,6 @@
 use Rattle.std.proofs.Common.{rules, ◌+◌, ◌<◌, length, ◌-◌, ◌/◌, refl, sym, ap, ◌∙◌, arith, Less}
 use Rattle.std.proofs.Common.{Greater}
-use Rattle.naga_keywords.specs.SortedWords.{keys_of, read}
+use Rattle.naga_keywords.specs.SortedWords.{keys_of, comparison_key}
 use Rattle.naga_keywords.proofs.Halving.{HasProbesLeft, at_first, equal_at, everywhere, goes_before}
 use Rattle.naga_keywords.proofs.Halving.{goes_behind, keys_length, left_before, left_behind}
 use Rattle.naga_keywords.proofs.Halving.{middle_below, nowhere, one_probe, counted, order_at}
@@ -10,7 +10,7 @@ use Rattle.naga_keywords.proofs.sorted.search.Goals as goal
 pub loop-low-init : goal.loop-low-init
 loop-low-init c =
     let case = c.args.counter.now.case in
-    let w = read case c.args.counter.now.wanted.now in
+    let w = comparison_key case c.args.counter.now.wanted.now in
     let members = c.args.members.now in
     let n = length members in (
       everywhere (keys_of case members) w n (sym (keys_length case members)),

@@ -1,6 +1,6 @@
 use Rattle.std.proofs.Common.{◌∙◌, ap, arith, length}
 use Rattle.std.specs.FinSet as set
-use Rattle.naga_keywords.specs.SortedWords.{keys_of, read}
+use Rattle.naga_keywords.specs.SortedWords.{keys_of, comparison_key}
 use Rattle.naga_keywords.proofs.Halving.{keys_length}
 use Rattle.naga_keywords.proofs.SortedSets.{found_here, is_contained, len_is_length}
 use Rattle.naga_keywords.proofs.sorted.SortedWords.probe.Goals as goal
@@ -13,8 +13,8 @@ returns-clause-contains c =
     let found = c.search-found.result in
     let at = found_here found new.case c.deref.ensures.value new.wanted c.search-found.ensures.found in
     c.is_ok.ensures.value
-    ∙ is_contained case members (read case c.args.word.now) found at
-    ∙ ap (λ s. set.contains s.words (read s.case c.args.word.now)) c.self.view_is
+    ∙ is_contained case members (comparison_key case c.args.word.now) found at
+    ∙ ap (λ s. set.contains s.words (comparison_key s.case c.args.word.now)) c.self.view_is
 
 pub returns-clause-probes : goal.returns-clause-probes
 returns-clause-probes c k below =

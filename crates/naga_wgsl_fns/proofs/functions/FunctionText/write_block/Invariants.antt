@@ -1,14 +1,14 @@
 use Rattle.std.proofs.Common.{◌≡◌, drop, length, IsTrue}
 use Rattle.module_meaning.specs.Accepted.{block_fits}
 use Rattle.naga_ir.specs.StatementViews.{block_of}
-use Rattle.naga_words.specs.Output.{seen}
+use Rattle.naga_words.specs.Output.{output_view}
 use Rattle.naga_words.proofs.Writing.{Leaves}
 use Rattle.naga_wgsl_fns.specs.Statements.{block_text}
 use Rattle.naga_wgsl_fns.proofs.functions.FunctionText.write_block.Given as goal
 
 abbrev pub invariant-loop-statement : goal.invariant-loop-statement
 invariant-loop-statement g l = record {
-  leaves : Leaves (seen g.W.TextSink.text g.W.TextSink.failures l.initial.out) (seen g.W.TextSink.text g.W.TextSink.failures l.out) (block_text l.self l.initial.scope l.level.0 l.block)
+  leaves : Leaves (output_view g.W.TextSink.text g.W.TextSink.failures l.initial.out) (output_view g.W.TextSink.text g.W.TextSink.failures l.out) (block_text l.self l.initial.scope l.level.0 l.block)
       (block_text l.self l.scope l.level.0 (block_of (drop l.statement-index l.statement-items)));
   size : length l.scope ≡ length l.initial.scope;
   fits : IsTrue (block_fits l.self.shader.now.types l.self.info.now l.self.function.now.result (block_of (drop l.statement-index l.statement-items)));

@@ -2,7 +2,7 @@ use Rattle.std.proofs.Common.{◌≡◌, ◌-◌, length}
 use Rattle.naga_scope.specs.Standings.{handles_of}
 use Rattle.shader_runs.specs.Program.{from}
 use Rattle.shader_runs.specs.Scope.{after_emit}
-use Rattle.naga_words.specs.Output.{seen}
+use Rattle.naga_words.specs.Output.{output_view}
 use Rattle.naga_words.proofs.Writing.{Leaves}
 use Rattle.naga_wgsl_fns.specs.FunctionText.{naming}
 use Rattle.naga_wgsl_fns.specs.Statements.{lets_text}
@@ -10,7 +10,7 @@ use Rattle.naga_wgsl_fns.proofs.functions.FunctionText.write_emit.Given as goal
 
 abbrev pub invariant-loop-index : goal.invariant-loop-index
 invariant-loop-index g l = record {
-  leaves : Leaves (seen g.W.TextSink.text g.W.TextSink.failures l.initial.out) (seen g.W.TextSink.text g.W.TextSink.failures l.out) (lets_text l.self l.initial.scope l.level.0 (from l.fn.range.first (l.fn.range.end - l.fn.range.first)))
+  leaves : Leaves (output_view g.W.TextSink.text g.W.TextSink.failures l.initial.out) (output_view g.W.TextSink.text g.W.TextSink.failures l.out) (lets_text l.self l.initial.scope l.level.0 (from l.fn.range.first (l.fn.range.end - l.fn.range.first)))
       (lets_text l.self l.scope l.level.0 (from l.index (l.fn.range.end - l.index)));
   after : after_emit (naming l.self) 0 (from l.index (l.fn.range.end - l.index)) (handles_of l.scope) ≡ after_emit (naming l.self) 0 (from l.fn.range.first (l.fn.range.end - l.fn.range.first)) (handles_of l.initial.scope);
   size : length l.scope ≡ length l.initial.scope;

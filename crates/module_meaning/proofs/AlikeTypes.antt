@@ -1,0 +1,83 @@
+-- A type with a form is told apart from those without: its numbers begin with no blank.
+use Rattle.std.proofs.Common.{◌≡◌, ℕ, zero, suc, Bool, true, false, not, List, [], ◌∷◌, ◌++◌, refl, sym}
+use Rattle.std.proofs.Common.{ap, ◌∙◌, Option, Some, None, slice_get, get_or, true≢false}
+use Rattle.std.specs.Prelude.{if◌then◌else◌}
+use Rattle.std.specs.Option.{option_map, option_map_or, is_some, is_none}
+use Rattle.std.specs.Bool.{nat_eq}
+use Rattle.naga_ir.specs.declared.image.ImageClass.{ImageClass}
+use Rattle.naga_ir.specs.declared.image.ImageClass.TheVariants as class
+use Rattle.naga_ir.specs.declared.image.ImageDimension.{ImageDimension}
+use Rattle.naga_ir.specs.declared.types.AddressSpace.{AddressSpace}
+use Rattle.naga_ir.specs.declared.types.ArraySize.{ArraySize}
+use Rattle.naga_ir.specs.declared.types.Scalar.{Scalar}
+use Rattle.naga_ir.specs.declared.types.Type_.{Type_}
+use Rattle.naga_ir.specs.declared.types.TypeInner.{TypeInner}
+use Rattle.naga_ir.specs.declared.types.TypeInner.TheVariants as inner
+use Rattle.naga_ir.specs.declared.types.VectorSize.{VectorSize}
+use Rattle.naga_info.specs.declared.info.TypeResolution.{TypeResolution}
+use Rattle.naga_info.specs.declared.info.TypeResolution.TheVariants.{Handle, Value}
+use Rattle.naga_words.specs.Spelling.{is_struct}
+use Rattle.wgsl_words.specs.Words.{scalar_word, space_word}
+use Rattle.module_meaning.specs.TypeIdentity.{level, kind_number, truth_number, dimension_number}
+use Rattle.module_meaning.specs.AlikeTypes.{over_scalar, value_form, pointer_form, array_form}
+use Rattle.module_meaning.specs.AlikeTypes.{image_form, inner_form_by, named_form_by, found_form_by}
+use Rattle.module_meaning.specs.AlikeTypes.{form_within, handle_form, type_form, value_pointer_form}
+
+-- the numbers, if there are any, begin with no blank
+abbrev pub begins_plain : Option (List ℕ) → Bool
+begins_plain o = option_map_or (λ w. not (nat_eq (get_or w 0 0) 32)) o true
+
+if_plain : (b : Bool) (x y : Option (List ℕ)) → begins_plain x ≡ true → begins_plain y ≡ true → begins_plain (if b then x else y) ≡ true
+if_plain true x y p q = p
+if_plain false x y p q = q
+
+behind_plain : (tag first second : ℕ) (o : Option (List ℕ)) → not (nat_eq tag 32) ≡ true → begins_plain (option_map (λ it. level tag first second 0 0 0 ++ it) o) ≡ true
+behind_plain tag first second None p = refl
+behind_plain tag first second (Some it) p = p
+
+image_plain : (dim : ImageDimension) (arrayed : Bool) (c : ImageClass) → begins_plain (image_form dim arrayed c) ≡ true
+image_plain dim arrayed (class.Sampled kind multi) =
+    if_plain (is_some (scalar_word (record { kind = kind; width = 4 })))
+    (Some (level 9 (dimension_number dim) (truth_number arrayed) 0 (kind_number kind) (truth_number multi))) None refl refl
+image_plain dim arrayed _ = refl
+
+module _ (f : ℕ → Option (List ℕ)) where
+  scalar_plain : (tag : ℕ) (s : Scalar) (third fourth fifth : ℕ) → not (nat_eq tag 32) ≡ true → begins_plain (over_scalar tag s third fourth fifth) ≡ true
+  scalar_plain tag s third fourth fifth p = if_plain (is_some (scalar_word s)) (Some (level tag (kind_number s.kind) s.width third fourth fifth)) None p refl
+
+  inner_plain : (it : TypeInner) → begins_plain (inner_form_by f it) ≡ true
+  inner_plain (inner.Scalar s) = scalar_plain _ s _ _ _ refl
+  inner_plain (inner.Vector n s) = scalar_plain _ s _ _ _ refl
+  inner_plain (inner.Matrix columns rows s) = scalar_plain _ s _ _ _ refl
+  inner_plain (inner.CooperativeMatrix columns rows s role) = scalar_plain _ s _ _ _ refl
+  inner_plain (inner.Atomic s) = scalar_plain _ s _ _ _ refl
+  inner_plain (inner.Pointer base space) = behind_plain _ _ _ (f base) refl
+  inner_plain (inner.ValuePointer n s space) = if_plain (is_none (space_word space)) None (pointer_form space (value_form n s)) refl (behind_plain _ _ _ (value_form n s) refl)
+  inner_plain (inner.Array base n stride) = behind_plain _ _ _ (f base) refl
+  inner_plain (inner.BindingArray base n) = behind_plain _ _ _ (f base) refl
+  inner_plain (inner.Struct members span) = refl
+  inner_plain (inner.Image dim arrayed c) = image_plain dim arrayed c
+  inner_plain (inner.Sampler comparison) = refl
+  inner_plain (inner.AccelerationStructure vertex_return) = refl
+  inner_plain (inner.RayQuery vertex_return) = refl
+
+  found_plain : (h : ℕ) (o : Option Type_) → begins_plain (found_form_by f h o) ≡ true
+  found_plain h None = refl
+  found_plain h (Some t) = if_plain (is_struct t.inner) (Some (level 8 h 0 0 0 0)) (inner_form_by f t.inner) refl (inner_plain t.inner)
+
+handle_plain : (types : List Type_) (h : ℕ) → begins_plain (handle_form types h) ≡ true
+unfolding handle_form
+handle_plain types h = found_plain (form_within h types) h (slice_get types h)
+
+pub form_plain : (types : List Type_) (r : TypeResolution) → begins_plain (type_form types r) ≡ true
+form_plain types (Handle h) = handle_plain types h
+form_plain types (Value it) = inner_plain (handle_form types) it
+
+-- a struct at a handle has a form
+pub formless_at : (types : List Type_) (h : ℕ) (t : Type_) → slice_get types h ≡ Some t → handle_form types h ≡ None → is_struct t.inner ≡ false
+unfolding handle_form
+formless_at types h t is none = by _ (is_struct t.inner) (sym (ap (found_form_by (form_within h types) h) is) ∙ none)
+  where
+    by : (rest : Option (List ℕ)) (b : Bool) → (if b then Some (level 8 h 0 0 0 0) else rest) ≡ None → b ≡ false
+    by rest true e = absurd (cc)
+    by rest false e = refl

@@ -1,0 +1,268 @@
+-- The shapes of all expressions: their kinds and operands are those of the expressions, and those that
+-- are written so far have the shapes that they have in the program.
+--
+-- Throughout, a is what stands around expressions, d what the module declares too, es are the
+-- expressions of a function, e is one and h its handle, op is an operator over operands xs, and s is
+-- a statement.
+use Rattle.std.proofs.Common.{◌≡◌, ℕ, Bool, true, false, List, [], ◌∷◌, Option, Some, None, refl}
+use Rattle.std.proofs.Common.{ap, ◌∙◌}
+use Rattle.std.specs.Prelude.{IsTrue, if◌then◌else◌}
+use Rattle.std.specs.Option.{option_map_or, option_and_then, is_some, is_none}
+use Rattle.naga_ir.specs.Kinds.{kind_of}
+use Rattle.naga_ir.specs.Operands.{expression_operands}
+use Rattle.naga_ir.specs.StatementTree.{SimpleStatement, emit, store, return, simple}
+use Rattle.naga_ir.specs.declared.expression.Expression as ir
+use Rattle.naga_ir.specs.declared.expression.Expression.TheVariants as expression
+use Rattle.naga_ir.specs.declared.expression.ImageQuery.{ImageQuery}
+use Rattle.naga_ir.specs.declared.expression.ImageQuery.TheVariants as query
+use Rattle.naga_ir.specs.declared.kind.ExpressionKind.{ExpressionKind}
+use Rattle.naga_ir.specs.declared.kind.ExpressionKind.TheVariants as kind
+use Rattle.naga_ir.specs.declared.types.CooperativeRole.{CooperativeRole}
+use Rattle.naga_ir.specs.declared.types.CooperativeSize.{CooperativeSize}
+use Rattle.naga_ir.specs.declared.types.ScalarKind.{ScalarKind}
+use Rattle.naga_info.specs.declared.info.TypeResolution.{TypeResolution}
+use Rattle.module_meaning.specs.ExpressionOperators.{Surroundings, constructor, cast_to}
+use Rattle.module_meaning.specs.ExpressionOperators.{points_to_atomic, query_operator}
+use Rattle.module_meaning.specs.ExpressionShapes.{Declared, shape_of, applied_shape, applied_or}
+use Rattle.module_meaning.specs.ExpressionShapes.{asking, part_shape, part_selector, own_selector}
+use Rattle.module_meaning.specs.ExpressionShapes.{selector}
+use Rattle.module_meaning.specs.ExpressionOperators.{is_composite, has_parts, type_with}
+use Rattle.module_meaning.specs.ExpressionOperators.{type_known, part_operator}
+use Rattle.naga_info.specs.Resolution.{inner_of, handle_of}
+use Rattle.naga_ir.specs.declared.types.TypeInner.{TypeInner}
+use Rattle.naga_ir.specs.declared.types.TypeInner.TheVariants as inner
+use Rattle.module_meaning.specs.OperatorTable.{PartAt}
+use Rattle.module_meaning.specs.OperatorTable.{Operator as TableOperator, BinarySign, Construct}
+use Rattle.module_meaning.specs.OperatorTable.{AtomicLoad}
+use Rattle.module_meaning.specs.OperatorTable.{CooperativeLoad, WithoutForm, ValueOf, Cast}
+use Rattle.module_meaning.specs.OperatorTable.{MatrixLoad, asks, run_word}
+use Rattle.module_meaning.specs.Part.{expression_is_written, statement_is_written}
+use Rattle.module_meaning.specs.ShapeKinds.{shape_kind}
+use Rattle.module_meaning.specs.Shapes as so_far
+use Rattle.module_meaning.specs.StatementShapes.{simple_shape, store_shape}
+use Rattle.module_meaning.proofs.ShapeKinds.{operator_kind}
+use Rattle.module_meaning.proofs.Shapes.{operator_operands}
+use Rattle.shader_runs.specs.Program.{Load, Request, operands_of, no_constant}
+use Rattle.shader_runs.specs.Value.{Selector}
+
+-- ---- which operators ask
+pub constructor_asks : (a : Surroundings) (r : TypeResolution) (n : ℕ) →
+    asks (constructor a r n) ≡ false
+constructor_asks a r n = by (a.spelled r)
+  where
+    by : (o : Option (List ℕ)) →
+        asks (option_map_or (λ w. Construct w n) o (WithoutForm (ValueOf (a.numbers r) n))) ≡ false
+    by None = refl
+    by (Some w) = refl
+
+cast_among : (converts : Bool) (k : ScalarKind) (width : Option ℕ) (o : Option (List ℕ)) →
+    asks (option_map_or (cast_to converts) o (WithoutForm (Cast k width))) ≡ false
+cast_among converts k width None = refl
+cast_among true k width (Some w) = refl
+cast_among false k width (Some w) = refl
+
+load_among : (columns rows : CooperativeSize) (role : CooperativeRole) (row_major : Bool)
+    (o : Option (List ℕ)) →
+    asks
+    (option_map_or (CooperativeLoad row_major) o
+    (WithoutForm (MatrixLoad columns rows role row_major))) ≡
+    true
+load_among columns rows role row_major None = refl
+load_among columns rows role row_major (Some w) = refl
+
+query_asks : (q : ImageQuery) → asks (query_operator q) ≡ true
+query_asks (query.Size level) = refl
+query_asks _ = refl
+
+-- ---- kinds
+pure_kind : (op : TableOperator) (xs : List ℕ) → asks op ≡ false →
+    shape_kind (Some (applied_shape op xs)) ≡ kind.Pure
+pure_kind op xs none =
+    ap
+    (λ b. shape_kind (Some (if b then Request (asking op) (run_word op) xs no_constant
+    else so_far.operator_shape op xs))) none
+    ∙ operator_kind op xs
+
+request_kind : (op : TableOperator) (xs : List ℕ) → asks op ≡ true →
+    shape_kind (Some (applied_shape op xs)) ≡ kind.Request
+request_kind op xs it =
+    ap
+    (λ b. shape_kind (Some (if b then Request (asking op) (run_word op) xs no_constant
+    else so_far.operator_shape op xs))) it
+
+-- a load of an atomic asks for an event of its own
+abbrev pub kind_shaped : Surroundings → ir.Expression → ExpressionKind
+kind_shaped a (expression.Load pointer) =
+    if points_to_atomic a pointer then kind.Request else kind.Load
+kind_shaped a e = kind_of e
+
+-- the kind of what an expression evaluates is its own
+pub shape_kinds : (d : Declared) (es : List ir.Expression) (h : ℕ) (e : ir.Expression) →
+    shape_kind (Some (shape_of d es h e)) ≡ kind_shaped d.around e
+shape_kinds d es h (expression.Literal value) = refl
+shape_kinds d es h (expression.Constant handle) = refl
+shape_kinds d es h (expression.Override handle) = refl
+shape_kinds d es h (expression.ZeroValue ty) = refl
+shape_kinds d es h (expression.Compose ty components) =
+    pure_kind _ _ (constructor_asks d.around _ _)
+shape_kinds d es h (expression.AccessIndex base index) = by (part_selector d base index)
+  where
+    by : (s : Option Selector) → shape_kind (Some (part_shape base index s)) ≡ kind.Pure
+    by None = refl
+    by (Some s) = refl
+shape_kinds d es h (expression.Load pointer) = by (points_to_atomic d.around pointer)
+  where
+    by : (b : Bool) →
+        shape_kind
+        (Some (applied_or (Load pointer) (pointer ∷ []) (if b then Some AtomicLoad else None))) ≡
+        (if b then kind.Request else kind.Load)
+    by true = refl
+    by false = refl
+shape_kinds d es h (expression.ImageQuery image query) = request_kind _ _ (query_asks query)
+shape_kinds d es h (expression.Binary op left right) =
+    pure_kind (BinarySign op) (left ∷ right ∷ []) refl
+shape_kinds d es h (expression.As expr k convert) = pure_kind _ _ (cast_among _ k convert _)
+shape_kinds d es h (expression.CooperativeLoad columns rows role place) =
+    request_kind _ _ (load_among columns rows role place.row_major _)
+shape_kinds d es h _ = refl
+
+-- ---- operands
+applied_operands : (op : TableOperator) (xs : List ℕ) → operands_of (Some (applied_shape op xs)) ≡ xs
+applied_operands op xs = by (asks op)
+  where
+    by : (b : Bool) →
+        operands_of
+        (Some
+        (if b then Request (asking op) (run_word op) xs no_constant
+        else so_far.operator_shape op xs)) ≡
+        xs
+    by true = refl
+    by false = operator_operands op xs
+
+-- an image is not sampled with an offset, which may be written out
+abbrev pub has_no_offset : ir.Expression → Bool
+has_no_offset
+    (expression.ImageSample
+    image sampler gather coordinate array_index offset level depth_ref clamp) =
+    is_none offset
+has_no_offset e = true
+
+-- an expression without an offset evaluates over its own operands
+pub shape_operands : (d : Declared) (es : List ir.Expression) (h : ℕ) (e : ir.Expression) →
+    IsTrue (has_no_offset e) → operands_of (Some (shape_of d es h e)) ≡ expression_operands e
+shape_operands d es h (expression.Compose ty components) none = applied_operands _ components.items
+shape_operands d es h (expression.AccessIndex base index) none = by (part_selector d base index)
+  where
+    by : (s : Option Selector) → operands_of (Some (part_shape base index s)) ≡ base ∷ []
+    by None = refl
+    by (Some s) = refl
+shape_operands d es h (expression.Load pointer) none = by (points_to_atomic d.around pointer)
+  where
+    by : (b : Bool) →
+        operands_of
+        (Some (applied_or (Load pointer) (pointer ∷ []) (if b then Some AtomicLoad else None))) ≡
+        pointer ∷ []
+    by true = refl
+    by false = refl
+shape_operands d es h
+    (expression.ImageSample
+    image sampler gather coordinate array_index None level depth_ref clamp) none =
+    refl
+shape_operands d es h
+    (expression.ImageSample
+    image sampler gather coordinate array_index (Some offset) level depth_ref clamp) none =
+    absurd cc
+shape_operands d es h (expression.ImageQuery image query) none = applied_operands _ _
+shape_operands d es h (expression.Binary op left right) none =
+    applied_operands (BinarySign op) (left ∷ right ∷ [])
+shape_operands d es h (expression.As expr k convert) none = applied_operands _ (expr ∷ [])
+shape_operands d es h (expression.CooperativeLoad columns rows role place) none =
+    applied_operands _ _
+shape_operands d es h _ none = refl
+
+-- ---- parts
+own_there : (d : Declared) (w : Option ℕ) (it : TypeInner) (index : ℕ) →
+    is_some (own_selector d w it index) ≡ is_composite it
+own_there d w (inner.Vector size s) index = refl
+own_there d w _ index = refl
+
+there : (d : Declared) (w : Option ℕ) (it : TypeInner) (index : ℕ) →
+    is_some (selector d w it index) ≡ has_parts d.around.types it
+there d w (inner.Pointer base space) index = by (type_with d.around.types base)
+  where
+    by : (o : Option TypeInner) →
+        is_some (option_and_then (λ it. own_selector d (Some base) it index) o) ≡
+        option_map_or is_composite o false
+    by None = refl
+    by (Some it) = own_there d (Some base) it index
+there d w (inner.ValuePointer (Some size) s space) index = refl
+there d w (inner.ValuePointer None s space) index = refl
+there d w (inner.Vector size s) index = refl
+there d w _ index = refl
+
+there_if : (d : Declared) (w : Option ℕ) (index : ℕ) (o : Option TypeInner) →
+    is_some (option_and_then (λ it. selector d w it index) o) ≡
+    option_map_or (has_parts d.around.types) o false
+there_if d w index None = refl
+there_if d w index (Some it) = there d w it index
+
+-- there is a part just where no operator stands for it
+pub parts_agree : (d : Declared) (base index : ℕ) →
+    is_some (part_selector d base index) ≡ is_none (part_operator d.around base index)
+parts_agree d base index =
+    by (d.around.known base)
+    ∙ turned (option_map_or (has_parts d.around.types) (type_known d.around base) false)
+  where
+    by : (o : Option TypeResolution) →
+        is_some
+        (option_and_then
+        (λ r. option_and_then (λ it. selector d (handle_of r) it index)
+        (inner_of r d.around.types)) o) ≡
+        option_map_or (has_parts d.around.types)
+        (option_and_then (λ r. inner_of r d.around.types) o) false
+    by None = refl
+    by (Some r) = there_if d (handle_of r) index (inner_of r d.around.types)
+
+    turned : (b : Bool) → b ≡ is_none (if b then None else Some (WithoutForm (PartAt index)))
+    turned true = refl
+    turned false = refl
+
+-- ---- what is written so far
+-- a load is no load of an atomic
+abbrev pub loads_plainly : Surroundings → ir.Expression → Bool
+loads_plainly a (expression.Load pointer) = if points_to_atomic a pointer then false else true
+loads_plainly a e = true
+
+pub same_shape : (d : Declared) (es : List ir.Expression) (h : ℕ) (e : ir.Expression) →
+    IsTrue (expression_is_written e) → IsTrue (loads_plainly d.around e) →
+    shape_of d es h e ≡ so_far.expression_shape e
+same_shape d es h (expression.Literal value) written plain = refl
+same_shape d es h (expression.FunctionArgument number) written plain = refl
+same_shape d es h (expression.LocalVariable handle) written plain = refl
+same_shape d es h (expression.Load pointer) written plain =
+    by (points_to_atomic d.around pointer) plain
+  where
+    by : (b : Bool) → IsTrue (if b then false else true) →
+        applied_or (Load pointer) (pointer ∷ []) (if b then Some AtomicLoad else None) ≡ Load pointer
+    by true plain = absurd cc
+    by false plain = refl
+same_shape d es h (expression.Binary op left right) written plain = refl
+same_shape d es h _ written plain = absurd cc
+
+-- a store is no store to an atomic
+abbrev pub stores_plainly : Surroundings → SimpleStatement → Bool
+stores_plainly a (store pointer value) = if points_to_atomic a pointer then false else true
+stores_plainly a s = true
+
+pub same_statement : (a : Surroundings) (s : SimpleStatement) →
+    IsTrue (statement_is_written (simple s)) → IsTrue (stores_plainly a s) →
+    simple_shape a s ≡ so_far.simple_shape s
+same_statement a (emit first last) written plain = refl
+same_statement a (return value) written plain = refl
+same_statement a (store pointer value) written plain = by (points_to_atomic a pointer) plain
+  where
+    by : (b : Bool) → IsTrue (if b then false else true) →
+        store_shape b pointer value ≡ so_far.simple_shape (store pointer value)
+    by true plain = absurd cc
+    by false plain = refl
+same_statement a _ written plain = absurd cc

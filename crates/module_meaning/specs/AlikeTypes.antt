@@ -1,0 +1,164 @@
+-- Types are alike where WGSL spells them alike, each struct and each override standing for its
+-- handle. So arrays that differ in stride alone are alike, pointers to storage whose access has one
+-- word, and a pointer to a vector in memory and one to a vector of the module. A type without a form
+-- is a type of its own, alike only to what is the same by itself.
+--
+-- What tells a type is a list of numbers. That of a type with a form has a level, six numbers, for
+-- the type itself and behind it those of the type that it is over, where it is over one.
+--
+-- Throughout, types are a module's types, f tells the form of the type at a handle, h is a handle, t
+-- a type of the module, it a type by itself, s a scalar, r a type of an expression (a and b are
+-- two), o a type that may be missing, and tag says what the type is.
+use Rattle.std.specs.Prelude.{ℕ, zero, suc, Bool, false, List, ◌++◌}
+use Rattle.std.specs.Prelude.{Option, Some, None, if◌then◌else◌, slice_get, unwrap_or}
+use Rattle.std.specs.Option.{option_map, is_some, is_none}
+use Rattle.std.specs.Str.{bytes_eq}
+use denote.Enum.Declared.{tag_of}
+use Rattle.naga_ir.specs.contracts.image.StorageFormat.{the_type as formats}
+use Rattle.naga_ir.specs.declared.flags.StorageAccess.{StorageAccess}
+use Rattle.naga_ir.specs.declared.image.ImageClass.{ImageClass}
+use Rattle.naga_ir.specs.declared.image.ImageClass.TheVariants as class
+use Rattle.naga_ir.specs.declared.image.ImageDimension.{ImageDimension}
+use Rattle.naga_ir.specs.declared.types.AddressSpace.{AddressSpace}
+use Rattle.naga_ir.specs.declared.types.AddressSpace.TheVariants as space
+use Rattle.naga_ir.specs.declared.types.ArraySize.{ArraySize}
+use Rattle.naga_ir.specs.declared.types.Scalar.{Scalar}
+use Rattle.naga_ir.specs.declared.types.Type_.{Type_}
+use Rattle.naga_ir.specs.declared.types.TypeInner.{TypeInner}
+use Rattle.naga_ir.specs.declared.types.TypeInner.TheVariants as inner
+use Rattle.naga_ir.specs.declared.types.VectorSize.{VectorSize}
+use Rattle.naga_info.specs.declared.info.TypeResolution.{TypeResolution}
+use Rattle.naga_info.specs.declared.info.TypeResolution.TheVariants.{Handle, Value}
+use Rattle.naga_words.specs.Spelling.{is_struct}
+use Rattle.wgsl_words.specs.Words.{has, atomic_bit, load_bit, store_bit, scalar_word, space_word}
+use Rattle.module_meaning.specs.TypeIdentity.{level, length_kind, length_number}
+use Rattle.module_meaning.specs.TypeIdentity.{identity, word_of_unspelled_type, truth_number}
+use Rattle.module_meaning.specs.TypeIdentity.{kind_number}
+use Rattle.module_meaning.specs.TypeIdentity.{vector_number, cooperative_number, role_number}
+use Rattle.module_meaning.specs.TypeIdentity.{space_number, dimension_number}
+
+-- a type over a scalar, where WGSL has a word for this
+abbrev pub over_scalar : (tag : ℕ) → Scalar → (third fourth fifth : ℕ) → Option (List ℕ)
+over_scalar tag s third fourth fifth =
+    if is_some (scalar_word s)
+    then Some (level tag (kind_number s.kind) s.width third fourth fifth)
+    else None
+
+abbrev pub scalar_form : Scalar → Option (List ℕ)
+scalar_form s = over_scalar 0 s 0 0 0
+
+abbrev pub vector_form : VectorSize → Scalar → Option (List ℕ)
+vector_form n s = over_scalar 1 s (vector_number n) 0 0
+
+-- a vector, or a scalar by itself
+abbrev pub value_form : Option VectorSize → Scalar → Option (List ℕ)
+value_form None s = scalar_form s
+value_form (Some n) s = vector_form n s
+
+-- what may be done with a storage buffer, as its word tells: change in one step, write, or read
+abbrev pub buffer_access_number : StorageAccess → ℕ
+buffer_access_number access =
+    if has atomic_bit access then 2 else (if has store_bit access then 1 else 0)
+
+abbrev pub access_number : AddressSpace → ℕ
+access_number (space.Storage access) = buffer_access_number access
+access_number _ = 0
+
+-- a pointer
+abbrev pub pointer_form : AddressSpace → (pointee : Option (List ℕ)) → Option (List ℕ)
+pointer_form space pointee =
+    option_map (λ it. level 5 (space_number space) (access_number space) 0 0 0 ++ it) pointee
+
+-- a pointer to a value without a type in the module: it has a form in a space that has a word
+abbrev pub value_pointer_form : AddressSpace → (pointee : Option (List ℕ)) → Option (List ℕ)
+value_pointer_form space pointee =
+    if is_none (space_word space) then None else pointer_form space pointee
+
+-- an array, or a binding array: its length, an override by its handle, and its elements
+abbrev pub array_form : (tag : ℕ) → ArraySize → (element : Option (List ℕ)) → Option (List ℕ)
+array_form tag n element =
+    option_map (λ it. level tag (length_kind n) (length_number n) 0 0 0 ++ it) element
+
+-- what may be done with a storage image, as its word tells
+abbrev pub image_access_number : StorageAccess → ℕ
+image_access_number access =
+    if has atomic_bit access then 3 else (
+    if has load_bit access then (if has store_bit access then 2 else 1)
+    else 0)
+
+-- an image of this class; a sampled one has scalars of four bytes
+abbrev pub image_form : ImageDimension → (arrayed : Bool) → ImageClass → Option (List ℕ)
+image_form dim arrayed (class.Sampled kind multi) =
+    if is_some (scalar_word (record { kind = kind; width = 4 }))
+    then Some (level 9 (dimension_number dim) (truth_number arrayed) 0 (kind_number kind)
+    (truth_number multi))
+    else None
+image_form dim arrayed (class.Depth multi) =
+    Some (level 9 (dimension_number dim) (truth_number arrayed) 1 (truth_number multi) 0)
+image_form dim arrayed (class.Storage format access) =
+    Some (level 9 (dimension_number dim) (truth_number arrayed) 2 (tag_of formats format)
+    (image_access_number access))
+image_form dim arrayed class.External = Some (level 9 0 0 3 0 0)
+
+-- a type by itself, with the forms of the types that it is over; none where it has no form
+abbrev pub inner_form_by : (ℕ → Option (List ℕ)) → TypeInner → Option (List ℕ)
+inner_form_by f (inner.Scalar s) = scalar_form s
+inner_form_by f (inner.Vector n s) = vector_form n s
+inner_form_by f (inner.Matrix columns rows s) =
+    over_scalar 2 s (vector_number columns) (vector_number rows) 0
+inner_form_by f (inner.CooperativeMatrix columns rows s role) =
+    over_scalar 3 s (cooperative_number columns) (cooperative_number rows) (role_number role)
+inner_form_by f (inner.Atomic s) = over_scalar 4 s 0 0 0
+inner_form_by f (inner.Pointer base space) = pointer_form space (f base)
+inner_form_by f (inner.ValuePointer n s space) = value_pointer_form space (value_form n s)
+inner_form_by f (inner.Array base n stride) = array_form 6 n (f base)
+inner_form_by f (inner.BindingArray base n) = array_form 7 n (f base)
+inner_form_by f (inner.Struct members span) = None
+inner_form_by f (inner.Image dim arrayed class) = image_form dim arrayed class
+inner_form_by f (inner.Sampler comparison) = Some (level 10 (truth_number comparison) 0 0 0 0)
+inner_form_by f (inner.AccelerationStructure vertex_return) =
+    Some (level 11 (truth_number vertex_return) 0 0 0 0)
+inner_form_by f (inner.RayQuery vertex_return) = Some (level 12 (truth_number vertex_return) 0 0 0 0)
+
+-- the type at a handle: a struct by the handle
+abbrev pub named_form_by : (ℕ → Option (List ℕ)) → (handle : ℕ) → TypeInner → Option (List ℕ)
+named_form_by f h it = if is_struct it then Some (level 8 h 0 0 0 0) else inner_form_by f it
+
+abbrev pub found_form_by : (ℕ → Option (List ℕ)) → (handle : ℕ) → Option Type_ → Option (List ℕ)
+found_form_by f h None = None
+found_form_by f h (Some t) = named_form_by f h t.inner
+
+-- the type at a handle, at most so many levels deep
+abbrev pub form_within : ℕ → List Type_ → (handle : ℕ) → Option (List ℕ)
+form_within zero types h = None
+form_within (suc levels) types h =
+    found_form_by (form_within levels types) h (slice_get types h)
+
+-- the form of the type at a handle, which is over types that stand before it
+unfoldable pub handle_form : List Type_ → (handle : ℕ) → Option (List ℕ)
+handle_form types h = form_within (suc h) types h
+
+-- the form of a type by itself
+abbrev pub inner_form : List Type_ → TypeInner → Option (List ℕ)
+inner_form types it = inner_form_by (handle_form types) it
+
+-- the form of an expression's type
+abbrev pub type_form : List Type_ → TypeResolution → Option (List ℕ)
+type_form types (Handle h) = handle_form types h
+type_form types (Value it) = inner_form types it
+
+-- Does WGSL spell the type?
+abbrev pub has_form : List Type_ → TypeResolution → Bool
+has_form types r = is_some (type_form types r)
+
+-- what tells a type from those that are not alike to it
+abbrev pub type_identity : List Type_ → TypeResolution → List ℕ
+type_identity types r = unwrap_or (type_form types r) (word_of_unspelled_type (identity types r))
+
+abbrev pub are_alike : List Type_ → (a b : TypeResolution) → Bool
+are_alike types a b = bytes_eq (type_identity types a) (type_identity types b)
+
+-- both are there, and alike
+abbrev pub both_alike : List Type_ → (a b : Option TypeResolution) → Bool
+both_alike types (Some a) (Some b) = are_alike types a b
+both_alike types _ _ = false

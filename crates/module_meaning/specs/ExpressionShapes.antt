@@ -1,0 +1,223 @@
+-- What each expression evaluates, of all expressions.
+--
+-- Throughout, d is what stands around a function's expressions es, h a handle, e an expression, r
+-- what is known of its type, and t a tree of constants (ts are several).
+use Rattle.std.specs.Prelude.{ℕ, zero, suc, Bool, true, false, ◌||◌, List, [], ◌∷◌, ◌++◌, take}
+use Rattle.std.specs.Prelude.{length, slice_get, Option, Some, None, if◌then◌else◌, codes}
+use Rattle.std.specs.Prelude.{unwrap_or}
+use Rattle.std.specs.List.{flat_map}
+use Rattle.std.specs.Option.{option_map, option_map_or, option_and_then, is_some, option_to_list}
+use Rattle.naga_ir.specs.Operands.{expression_operands}
+use Rattle.naga_ir.specs.declared.expression.Expression as ir
+use Rattle.naga_ir.specs.declared.expression.Expression.TheVariants as expression
+use Rattle.naga_ir.specs.declared.expression.SampleLevel.{SampleLevel}
+use Rattle.naga_ir.specs.declared.expression.SampleLevel.TheVariants as level
+use Rattle.naga_ir.specs.declared.expression.SwizzleComponent.{SwizzleComponent}
+use Rattle.naga_ir.specs.declared.expression.SwizzleComponent.TheVariants as component
+use Rattle.naga_ir.specs.declared.types.TypeInner.{TypeInner}
+use Rattle.naga_ir.specs.declared.types.TypeInner.TheVariants as inner
+use Rattle.naga_info.specs.declared.info.TypeResolution.{TypeResolution}
+use Rattle.naga_info.specs.declared.info.TypeResolution.TheVariants.{Handle}
+use Rattle.naga_info.specs.Resolution.{inner_of, handle_of}
+use Rattle.module_meaning.specs.ExpressionOperators.{Surroundings, applied_operator, constructor}
+use Rattle.module_meaning.specs.ExpressionOperators.{type_with, load_operator}
+use Rattle.module_meaning.specs.Literals.{literal_value}
+use Rattle.module_meaning.specs.OperatorTable.{Operator as TableOperator, Splat, Sample, Gather}
+use Rattle.module_meaning.specs.OperatorTable.{Texel, ImageSize, CountOf, WithoutForm, PartAt, asks}
+use Rattle.module_meaning.specs.OperatorTable.{run_word}
+use Rattle.module_meaning.specs.Shapes.{operator_shape}
+use Rattle.module_meaning.specs.TypeIdentity.{vector_number}
+use Rattle.shader_runs.specs.Value.{Selector, MemberNamed, ElementAt, ValueType, Truth}
+use Rattle.shader_runs.specs.Value.{Opaque}
+use Rattle.shader_runs.specs.Program.{ConstantTree, Fixed, Constructed, ConstantTrees, no_constant}
+use Rattle.shader_runs.specs.Program.{constant, Expression, Constant, Argument, Local, Global, Load}
+use Rattle.shader_runs.specs.Program.{Access, AccessIndex, Swizzle, Request}
+use Rattle.shader_runs.specs.Program.{AskingRule, WhenCounted, Always, Result}
+
+-- what the shapes of a function's expressions ask of the module
+pub record Declared : Type 0 where
+  -- what stands around them
+  pub around : Surroundings
+  -- the type of the values of a type
+  pub value_type : TypeResolution → ValueType
+  -- a constant and an override as they are written: by name, or a constant without one by its value
+  pub constant_tree : ℕ → Option ConstantTree
+  pub override_tree : ℕ → ConstantTree
+  -- the name of a struct's member
+  pub member : (struct_handle index : ℕ) → List ℕ
+
+-- ---- trees of constants
+-- these trees in order
+abbrev pub trees : List ConstantTree → ConstantTrees
+trees [] = no_constant
+trees (t ∷ ts) = constant t (trees ts)
+
+-- a tree in front of others, where there are both
+abbrev pub tree_then : Option ConstantTree → Option (List ConstantTree) → Option (List ConstantTree)
+tree_then (Some t) (Some ts) = Some (t ∷ ts)
+tree_then _ _ = None
+
+-- the trees of these handles, where each has one
+abbrev pub trees_of : (ℕ → Option ConstantTree) → List ℕ → Option (List ConstantTree)
+trees_of tree_of [] = Some []
+trees_of tree_of (h ∷ hs) = tree_then (tree_of h) (trees_of tree_of hs)
+
+-- a value of a type from parts; the type is that known of the expression with this handle
+abbrev pub built : Declared → ℕ → TableOperator → List ConstantTree → Option ConstantTree
+built d h operator ts =
+    option_map (λ r. Constructed (run_word operator) (d.value_type r) (trees ts)) (d.around.known h)
+
+-- An expression that is written out as a constant, over the trees of its operands: a literal, a
+-- constant, an override, a zero value, a composition or a splat. All others have no such tree.
+abbrev pub tree_over :
+    Declared → (ℕ → Option ConstantTree) → ℕ → ir.Expression → Option ConstantTree
+tree_over d tree_of h (expression.Literal value) = Some (Fixed (literal_value value))
+tree_over d tree_of h (expression.Constant handle) = d.constant_tree handle
+tree_over d tree_of h (expression.Override handle) = Some (d.override_tree handle)
+tree_over d tree_of h (expression.ZeroValue ty) = built d h (constructor d.around (Handle ty) 0) []
+tree_over d tree_of h (expression.Compose ty components) =
+    option_and_then (built d h (constructor d.around (Handle ty) (length components.items)))
+    (trees_of tree_of components.items)
+tree_over d tree_of h (expression.Splat size value) =
+    option_and_then (λ t. built d h (Splat size) (t ∷ [])) (tree_of value)
+tree_over d tree_of h _ = None
+
+-- the tree of a handle, at most so many levels deep
+abbrev pub tree_within : (levels : ℕ) → Declared → List ir.Expression → ℕ → Option ConstantTree
+tree_within zero d es h = None
+tree_within (suc levels) d es h =
+    option_and_then (tree_over d (tree_within levels d es) h) (slice_get es h)
+
+-- the tree of a handle of these expressions, whose operands stand before it
+abbrev pub constant_tree : Declared → List ir.Expression → ℕ → Option ConstantTree
+constant_tree d es h = tree_within (suc h) d es h
+
+-- a constant; one without a tree, which stands in no accepted module, is `false`
+abbrev pub constant_shape : Option ConstantTree → Expression
+constant_shape t = Constant (unwrap_or t (Fixed (Truth false)))
+
+-- ---- operators
+-- it asks an image
+abbrev pub asks_an_image : TableOperator → Bool
+asks_an_image (Sample level compares clamped arrayed offset) = true
+asks_an_image (Gather component level compares clamped arrayed offset) = true
+asks_an_image (Texel arrayed texel) = true
+asks_an_image (ImageSize of_level) = true
+asks_an_image (CountOf what) = true
+asks_an_image _ = false
+
+-- Operations on images are always written; other requests, which read, only where they count.
+abbrev pub asking : TableOperator → AskingRule
+asking operator = if asks_an_image operator then Always else WhenCounted
+
+-- what an operator over operands evaluates: a request, where it asks for an event
+abbrev pub applied_shape : TableOperator → List ℕ → Expression
+applied_shape operator operands =
+    if asks operator then Request (asking operator) (run_word operator) operands no_constant
+    else operator_shape operator operands
+
+-- the same, where an operator is applied, and this where none is
+abbrev pub applied_or : (otherwise : Expression) → List ℕ → Option TableOperator → Expression
+applied_or otherwise operands (Some operator) = applied_shape operator operands
+applied_or otherwise operands None = otherwise
+
+-- ---- parts
+-- the letters of a vector's components, in order
+abbrev pub component_letters : List (List ℕ)
+component_letters = codes "x" ∷ codes "y" ∷ codes "z" ∷ codes "w" ∷ []
+
+abbrev pub letter : SwizzleComponent → List ℕ
+letter component.X = codes "x"
+letter component.Y = codes "y"
+letter component.Z = codes "z"
+letter component.W = codes "w"
+
+-- The part at an index of a type's values: a component by its letter, a member by its name, a
+-- column or an element by its number. `whole` is the type's handle, if it has one. Others have no
+-- parts.
+abbrev pub own_selector :
+    Declared → (whole : Option ℕ) → TypeInner → (index : ℕ) → Option Selector
+own_selector d whole (inner.Vector size s) index =
+    Some (option_map_or MemberNamed (slice_get component_letters index) (ElementAt index))
+own_selector d whole (inner.Matrix columns rows s) index = Some (ElementAt index)
+own_selector d whole (inner.Array base size stride) index = Some (ElementAt index)
+own_selector d whole (inner.BindingArray base size) index = Some (ElementAt index)
+own_selector d whole (inner.Struct members span) index =
+    Some (MemberNamed (option_map_or (λ h. d.member h index) whole []))
+own_selector d whole _ index = None
+
+-- the same, of a value or of what is behind a pointer
+abbrev pub selector : Declared → (whole : Option ℕ) → TypeInner → (index : ℕ) → Option Selector
+selector d whole (inner.Pointer base space) index =
+    option_and_then (λ it. own_selector d (Some base) it index) (type_with d.around.types base)
+selector d whole (inner.ValuePointer (Some size) s space) index = Some (ElementAt index)
+selector d whole it index = own_selector d whole it index
+
+-- the part at an index of the values of the expression with this handle
+abbrev pub part_selector : Declared → (base index : ℕ) → Option Selector
+part_selector d base index =
+    option_and_then
+    (λ r. option_and_then (λ it. selector d (handle_of r) it index) (inner_of r d.around.types))
+    (d.around.known base)
+
+-- a part; what has no parts has an operator of its own for them
+abbrev pub part_shape : (base index : ℕ) → Option Selector → Expression
+part_shape base index (Some s) = AccessIndex s base
+part_shape base index None = applied_shape (WithoutForm (PartAt index)) (base ∷ [])
+
+-- ---- images
+-- the number `0.0`
+abbrev pub zero_level : ConstantTree
+zero_level = Fixed (Opaque (codes "f32") 0)
+
+-- Level zero is written as a number where nothing is gathered, compared or clamped.
+abbrev pub written_zero : SampleLevel → (unwritten : Bool) → List ConstantTree
+written_zero level.Zero false = zero_level ∷ []
+written_zero _ unwritten = []
+
+-- an offset that is a constant is written out behind all operands; any other one is an operand
+abbrev pub offset_left : (written : Option ConstantTree) → (offset : Option ℕ) → Option ℕ
+offset_left None offset = offset
+offset_left (Some t) offset = None
+
+-- a request of these operands, and of a level and an offset that are written out
+abbrev pub sample_shape : (operands : List ℕ) → (levels : List ConstantTree) →
+    (offset : Option ConstantTree) → Option TableOperator → Expression
+sample_shape operands levels offset (Some operator) =
+    Request (asking operator) (run_word operator) operands (trees (levels ++ option_to_list offset))
+sample_shape operands levels offset None = Result
+
+-- ---- expressions
+-- What the expression with this handle evaluates, in a function with these expressions. What is
+-- neither listed here nor applies an operator is the result of a statement.
+abbrev pub shape_of : Declared → List ir.Expression → ℕ → ir.Expression → Expression
+shape_of d es h (expression.Literal value) = Constant (Fixed (literal_value value))
+shape_of d es h (expression.Constant handle) = constant_shape (d.constant_tree handle)
+shape_of d es h (expression.Override handle) = Constant (d.override_tree handle)
+shape_of d es h (expression.ZeroValue ty) =
+    constant_shape (built d h (constructor d.around (Handle ty) 0) [])
+shape_of d es h (expression.FunctionArgument number) = Argument number
+shape_of d es h (expression.GlobalVariable handle) = Global handle
+shape_of d es h (expression.LocalVariable handle) = Local handle
+shape_of d es h (expression.Access base index) = Access base index
+shape_of d es h (expression.AccessIndex base index) =
+    part_shape base index (part_selector d base index)
+shape_of d es h (expression.Swizzle size vector pattern) =
+    Swizzle (flat_map letter (take (vector_number size) pattern)) vector
+shape_of d es h (expression.Load pointer) =
+    applied_or (Load pointer) (pointer ∷ []) (load_operator d.around pointer)
+shape_of d es h
+    (expression.ImageSample
+    image sampler gather coordinate array_index offset level depth_ref clamp) =
+    let unwritten = is_some gather || (is_some depth_ref || clamp) in
+    let written = option_and_then (constant_tree d es) offset in
+    let left = offset_left written offset in
+    sample_shape
+    (expression_operands
+    (expression.ImageSample
+    image sampler gather coordinate array_index left level depth_ref clamp))
+    (written_zero level unwritten) written
+    (applied_operator d.around
+    (expression.ImageSample
+    image sampler gather coordinate array_index offset level depth_ref clamp))
+shape_of d es h e = applied_or Result (expression_operands e) (applied_operator d.around e)

@@ -1,0 +1,189 @@
+-- Which type each expression has by what it stands for: its declarations, and its operands' types.
+--
+-- Throughout, m is a module, types are its types, f is the function in which an expression stands
+-- (none for the module's own), known are the types of the expressions there, by handle, e is one of
+-- them, c a constant, o an override, g a global variable, a an argument, l a local, s a scalar, n
+-- how many components a vector has, r a type of an expression and it a type by itself.
+use Rattle.std.specs.Prelude.{ℕ, Bool, true, false, List, ◌==◌}
+use Rattle.std.specs.Prelude.{Option, Some, None, if◌then◌else◌, slice_get}
+use Rattle.std.specs.Option.{option_map, option_map_or, option_and_then}
+use Rattle.naga_ir.specs.declared.expression.Expression.{Expression}
+use Rattle.naga_ir.specs.declared.expression.Expression.TheVariants as expression
+use Rattle.naga_ir.specs.declared.expression.Literal.{Literal}
+use Rattle.naga_ir.specs.declared.expression.Literal.TheVariants as literal
+use Rattle.naga_ir.specs.declared.module.Function.{Function}
+use Rattle.naga_ir.specs.declared.module.Module.{Module}
+use Rattle.naga_ir.specs.declared.operators.BinaryOperator.{BinaryOperator}
+use Rattle.naga_ir.specs.declared.operators.BinaryOperator.TheVariants as binary
+use Rattle.naga_ir.specs.declared.types.AddressSpace.{AddressSpace}
+use Rattle.naga_ir.specs.declared.types.AddressSpace.TheVariants as space
+use Rattle.naga_ir.specs.declared.types.Scalar.{Scalar}
+use Rattle.naga_ir.specs.declared.types.ScalarKind.{ScalarKind}
+use Rattle.naga_ir.specs.declared.types.ScalarKind.TheVariants as kind
+use Rattle.naga_ir.specs.declared.types.Type_.{Type_}
+use Rattle.naga_ir.specs.declared.types.TypeInner.{TypeInner}
+use Rattle.naga_ir.specs.declared.types.TypeInner.TheVariants as inner
+use Rattle.naga_ir.specs.declared.types.VectorSize.{VectorSize}
+use Rattle.naga_info.specs.declared.info.TypeResolution.{TypeResolution}
+use Rattle.naga_info.specs.declared.info.TypeResolution.TheVariants.{Handle, Value}
+use Rattle.module_meaning.specs.AlikeTypes.{are_alike}
+use Rattle.module_meaning.specs.TypeParts.{known_inner, own_scalar, vector_scalar}
+use Rattle.module_meaning.specs.TypeParts.{part_type, pointee_type}
+
+-- what an expression's type may be: one like this; any; or none, as what it stands for gives none
+pub data WantedType : Type 0 where
+  LikeThis : TypeResolution → WantedType
+  Anything : WantedType
+  Nothing : WantedType
+
+-- this type, and none where there is none
+abbrev pub only : Option TypeResolution → WantedType
+only None = Nothing
+only (Some r) = LikeThis r
+
+-- this type, and any where there is none
+abbrev pub if_any : Option TypeResolution → WantedType
+if_any None = Anything
+if_any (Some r) = LikeThis r
+
+-- the scalar of a kind and a width in bytes
+abbrev pub scalar_of : ScalarKind → (width : ℕ) → Scalar
+scalar_of kind width = record { kind = kind; width = width }
+
+-- a literal's scalar
+abbrev pub literal_scalar : Literal → Scalar
+literal_scalar (literal.F64 bits) = scalar_of kind.Float 8
+literal_scalar (literal.F32 bits) = scalar_of kind.Float 4
+literal_scalar (literal.F16 bits) = scalar_of kind.Float 2
+literal_scalar (literal.U16 value) = scalar_of kind.Uint 2
+literal_scalar (literal.I16 value) = scalar_of kind.Sint 2
+literal_scalar (literal.U32 value) = scalar_of kind.Uint 4
+literal_scalar (literal.I32 value) = scalar_of kind.Sint 4
+literal_scalar (literal.U64 value) = scalar_of kind.Uint 8
+literal_scalar (literal.I64 value) = scalar_of kind.Sint 8
+literal_scalar (literal.Bool value) = scalar_of kind.Bool 1
+literal_scalar (literal.AbstractInt value) = scalar_of kind.AbstractInt 8
+literal_scalar (literal.AbstractFloat bits) = scalar_of kind.AbstractFloat 8
+
+-- a variable of the module by its space: itself among the resources, else a pointer to it
+abbrev pub variable_type : AddressSpace → (ty : ℕ) → TypeResolution
+variable_type space.Handle ty = Handle ty
+variable_type space ty = Value (inner.Pointer ty space)
+
+-- those of the declarations, by handle or number
+abbrev pub constant_type : Module → ℕ → Option TypeResolution
+constant_type m handle = option_map (λ c. Handle c.ty) (slice_get m.constants handle)
+
+abbrev pub override_type : Module → ℕ → Option TypeResolution
+override_type m handle = option_map (λ o. Handle o.ty) (slice_get m.overrides handle)
+
+abbrev pub global_type : Module → ℕ → Option TypeResolution
+global_type m handle =
+    option_map (λ g. variable_type g.space g.ty) (slice_get m.global_variables handle)
+
+abbrev pub result_type : Module → ℕ → Option TypeResolution
+result_type m handle =
+    option_and_then (λ f. option_map (λ r. Handle r.ty) f.result) (slice_get m.functions handle)
+
+abbrev pub argument_type : Option Function → (number : ℕ) → Option TypeResolution
+argument_type None number = None
+argument_type (Some f) number =
+    option_map (λ a. Handle a.ty) (slice_get f.arguments.items number)
+
+abbrev pub local_type : Option Function → ℕ → Option TypeResolution
+local_type None handle = None
+local_type (Some f) handle =
+    option_map (λ l. Value (inner.Pointer l.ty space.Function)) (slice_get f.local_variables handle)
+
+-- a vector of so many of these scalars
+abbrev pub vector_of : VectorSize → Scalar → TypeResolution
+vector_of n s = Value (inner.Vector n s)
+
+-- a vector over the scalar that the operand is
+abbrev pub splat_type : VectorSize → Option TypeInner → Option TypeResolution
+splat_type n value = option_map (vector_of n) (option_and_then own_scalar value)
+
+-- a vector over the scalar of the vector that the operand is
+abbrev pub swizzle_type : VectorSize → Option TypeInner → Option TypeResolution
+swizzle_type n vector = option_map (vector_of n) (option_and_then vector_scalar vector)
+
+-- Is the scalar `bool`?
+abbrev pub is_bool_of : ScalarKind → (width : ℕ) → Bool
+is_bool_of kind.Bool width = width == 1
+is_bool_of _ width = false
+
+abbrev pub is_bool : TypeInner → Bool
+is_bool (inner.Scalar s) = is_bool_of s.kind s.width
+is_bool _ = false
+
+-- `&&` and `||` by the operand before them: on `bool` they give `bool`
+abbrev pub logical_type : Option TypeInner → WantedType
+logical_type left =
+    if option_map_or is_bool left false
+    then LikeThis (Value (inner.Scalar (scalar_of kind.Bool 1)))
+    else Anything
+
+-- an operator between two operands; which types others give is not asked
+abbrev pub binary_type : BinaryOperator → (left : Option TypeInner) → WantedType
+binary_type binary.LogicalAnd left = logical_type left
+binary_type binary.LogicalOr left = logical_type left
+binary_type _ left = Anything
+
+-- one line for each kind of expression
+abbrev pub wanted_type : Module → Option Function → (known : List TypeResolution) → Expression →
+    WantedType
+wanted_type m f known (expression.Literal value) =
+    LikeThis (Value (inner.Scalar (literal_scalar value)))
+wanted_type m f known (expression.Constant handle) = only (constant_type m handle)
+wanted_type m f known (expression.Override handle) = only (override_type m handle)
+wanted_type m f known (expression.ZeroValue ty) = LikeThis (Handle ty)
+wanted_type m f known (expression.Compose ty components) = LikeThis (Handle ty)
+wanted_type m f known (expression.Access base index) =
+    only (option_and_then (λ it. part_type m.types it None) (known_inner m.types known base))
+wanted_type m f known (expression.AccessIndex base index) =
+    if_any (option_and_then (λ it. part_type m.types it (Some index))
+    (known_inner m.types known base))
+wanted_type m f known (expression.Splat n value) =
+    only (splat_type n (known_inner m.types known value))
+wanted_type m f known (expression.Swizzle n vector pattern) =
+    only (swizzle_type n (known_inner m.types known vector))
+wanted_type m f known (expression.FunctionArgument number) = only (argument_type f number)
+wanted_type m f known (expression.GlobalVariable handle) = only (global_type m handle)
+wanted_type m f known (expression.LocalVariable handle) = only (local_type f handle)
+wanted_type m f known (expression.Load pointer) =
+    only (option_and_then (pointee_type m.types) (known_inner m.types known pointer))
+wanted_type m f known
+    (expression.ImageSample image sampler gather coordinate array_index offset level depth clamp) =
+    Anything
+wanted_type m f known (expression.ImageLoad image coordinate array_index sample level) = Anything
+wanted_type m f known (expression.ImageQuery image query) = Anything
+wanted_type m f known (expression.Unary op operand) = Anything
+wanted_type m f known (expression.Binary op left right) =
+    binary_type op (known_inner m.types known left)
+wanted_type m f known (expression.Select condition accept reject) = Anything
+wanted_type m f known (expression.Derivative axis control operand) = Anything
+wanted_type m f known (expression.Relational fun argument) = Anything
+wanted_type m f known (expression.Math fun first second third fourth) = Anything
+wanted_type m f known (expression.As operand kind convert) = Anything
+wanted_type m f known (expression.CallResult function) = only (result_type m function)
+wanted_type m f known (expression.AtomicResult ty comparison) = LikeThis (Handle ty)
+wanted_type m f known (expression.WorkGroupUniformLoadResult ty) = LikeThis (Handle ty)
+wanted_type m f known (expression.ArrayLength array) = Anything
+wanted_type m f known expression.RayQueryProceedResult = Anything
+wanted_type m f known (expression.RayQueryGetIntersection query committed) = Anything
+wanted_type m f known (expression.RayQueryVertexPositions query committed) = Anything
+wanted_type m f known expression.SubgroupBallotResult = Anything
+wanted_type m f known (expression.SubgroupOperationResult ty) = LikeThis (Handle ty)
+wanted_type m f known (expression.CooperativeLoad columns rows role data_) = Anything
+wanted_type m f known (expression.CooperativeMultiplyAdd a b c) = Anything
+
+-- Is a type what is wanted?
+abbrev pub is_wanted : List Type_ → WantedType → TypeResolution → Bool
+is_wanted types (LikeThis r) own = are_alike types own r
+is_wanted types Anything own = true
+is_wanted types Nothing own = false
+
+-- Is what is known of an expression the type that it has?
+abbrev pub expression_type_fits : Module → Option Function → (known : List TypeResolution) →
+    Expression → (own : TypeResolution) → Bool
+expression_type_fits m f known e own = is_wanted m.types (wanted_type m f known e) own

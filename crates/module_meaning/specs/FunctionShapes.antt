@@ -1,0 +1,71 @@
+-- Functions as shapes, of all modules, with every expression and statement.
+--
+-- Throughout, m is a module, info what is known of it, f a function, es is what is known of its
+-- expressions, a what stands around them, d what the module declares too, h a handle and e an
+-- expression (xs are several).
+use Rattle.std.specs.Prelude.{ℕ, ◌+◌, List, [], ◌∷◌, map}
+use Rattle.std.specs.Option.{option_map}
+use Rattle.indexmap.specs.IndexMap.{keys}
+use Rattle.naga_ir.specs.StatementTree.{StatementTree, simple, block, branch, switch, loop}
+use Rattle.naga_ir.specs.StatementTree.{BlockTree, no_statements, statement, CaseTrees, no_cases}
+use Rattle.naga_ir.specs.StatementTree.{case as case_tree}
+use Rattle.naga_ir.specs.declared.expression.Expression as ir
+use Rattle.naga_ir.specs.declared.module.Function as ir_function
+use Rattle.naga_ir.specs.declared.module.Module as ir_module
+use Rattle.naga_ir.specs.declared.types.AddressSpace.TheVariants as space
+use Rattle.naga_ir.specs.declared.types.TypeInner.TheVariants as inner
+use Rattle.naga_info.specs.declared.info.ExpressionInfo.{ExpressionInfo}
+use Rattle.naga_info.specs.declared.info.ModuleInfo.{ModuleInfo}
+use Rattle.naga_info.specs.declared.info.TypeResolution.TheVariants.{Handle, Value}
+use Rattle.module_meaning.specs.ExpressionOperators.{Surroundings}
+use Rattle.module_meaning.specs.ExpressionShapes.{Declared, shape_of}
+use Rattle.module_meaning.specs.Shapes.{label_shape, given_from}
+use Rattle.module_meaning.specs.StatementShapes.{simple_shape}
+use Rattle.module_meaning.specs.Surroundings.{declared, types_known, type_of_values, word_of_values}
+use Rattle.shader_runs.specs.Program.{Expression, Statement, Block, If, Switch, Loop, Statements}
+use Rattle.shader_runs.specs.Program.{end, then, Cases, no_case, case, Function}
+
+abbrev mutual
+  -- what a statement does
+  pub statement_shape : Surroundings → StatementTree → Statement
+  statement_shape a (simple s) = simple_shape a s
+  statement_shape a (block b) = Block (statements_shape a b)
+  statement_shape a (branch condition accept reject) =
+      If condition (statements_shape a accept) (statements_shape a reject)
+  statement_shape a (switch selector cases) = Switch selector (cases_shape a cases)
+  statement_shape a (loop body continuing break_if) =
+      Loop (statements_shape a body) (statements_shape a continuing) break_if
+
+  pub statements_shape : Surroundings → BlockTree → Statements
+  statements_shape a no_statements = end
+  statements_shape a (statement s b) = then (statement_shape a s) (statements_shape a b)
+
+  pub cases_shape : Surroundings → CaseTrees → Cases
+  cases_shape a no_cases = no_case
+  cases_shape a (case_tree value body falls cases) =
+      case (label_shape value) (statements_shape a body) falls (cases_shape a cases)
+
+-- what these expressions evaluate, which stand in the function from this handle on; `all` are those
+-- of the function
+abbrev pub shapes_from :
+    Declared → (all : List ir.Expression) → ℕ → List ir.Expression → List Expression
+shapes_from d all h [] = []
+shapes_from d all h (e ∷ xs) = shape_of d all h e ∷ shapes_from d all (h + 1) xs
+
+-- a function, with what is known of its expressions
+abbrev pub function_shape :
+    ir_module.Module → ModuleInfo → ir_function.Function → List ExpressionInfo → Function
+function_shape m info f es =
+    let d = declared m info (types_known es) in
+    record {
+      argument_types = map (λ a. type_of_values m (Handle a.ty)) f.arguments.items;
+      result = option_map (λ r. type_of_values m (Handle r.ty)) f.result;
+      first_values = map (λ l. l.init) f.local_variables;
+      local_pointers = map (λ l. word_of_values m (Value (inner.Pointer l.ty space.Function)))
+          f.local_variables;
+      expressions = shapes_from d f.expressions 0 f.expressions;
+      types = map (λ e. type_of_values m e.ty) es;
+      counts = map (λ e. e.ref_count) es;
+      given_names = given_from (keys f.named_expressions) 0 f.expressions;
+      body = statements_shape d.around f.body;
+    }

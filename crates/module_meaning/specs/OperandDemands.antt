@@ -1,0 +1,120 @@
+-- What expressions ask of their operands' types, apart from giving a type of their own by them.
+--
+-- Throughout, types are a module's types, known are the types of the expressions of one function,
+-- of an entry point or of the module itself, by handle, it is a type by itself, s a scalar, n how
+-- many components a vector has, and letters are what a swizzle chooses.
+use Rattle.std.specs.Prelude.{ℕ, Bool, true, false, List, ◌&&◌, ◌||◌, ◌==◌, nat_lt, take}
+use Rattle.std.specs.List.{list_all}
+use Rattle.std.specs.Option.{option_map_or, is_some}
+use denote.Enum.Declared.{tag_of}
+use Rattle.naga_ir.specs.contracts.expression.SwizzleComponent.{the_type as components}
+use Rattle.naga_ir.specs.declared.expression.Expression.{Expression}
+use Rattle.naga_ir.specs.declared.expression.Expression.TheVariants as expression
+use Rattle.naga_ir.specs.declared.expression.SwizzleComponent.{SwizzleComponent}
+use Rattle.naga_ir.specs.declared.types.ScalarKind.{ScalarKind}
+use Rattle.naga_ir.specs.declared.types.ScalarKind.TheVariants as kind
+use Rattle.naga_ir.specs.declared.types.Type_.{Type_}
+use Rattle.naga_ir.specs.declared.types.TypeInner.{TypeInner}
+use Rattle.naga_ir.specs.declared.types.TypeInner.TheVariants as inner
+use Rattle.naga_ir.specs.declared.types.VectorSize.{VectorSize}
+use Rattle.naga_info.specs.declared.info.TypeResolution.{TypeResolution}
+use Rattle.module_meaning.specs.TypeIdentity.{vector_number}
+use Rattle.module_meaning.specs.TypeParts.{inner_at, known_inner, own_scalar, pointee_type}
+use Rattle.module_meaning.specs.TypeParts.{has_computed_parts, is_part_number}
+
+-- Is the scalar an integer: `i16`, `u16`, `i32`, `u32`, `i64` or `u64`?
+abbrev pub is_integer_width : ℕ → Bool
+is_integer_width width = width == 2 || (width == 4 || width == 8)
+
+abbrev pub is_integer_of : ScalarKind → (width : ℕ) → Bool
+is_integer_of kind.Sint width = is_integer_width width
+is_integer_of kind.Uint width = is_integer_width width
+is_integer_of _ width = false
+
+abbrev pub is_integer : TypeInner → Bool
+is_integer (inner.Scalar s) = is_integer_of s.kind s.width
+is_integer _ = false
+
+-- Does a type give something to load?
+abbrev pub is_pointer : List Type_ → TypeInner → Bool
+is_pointer types it = is_some (pointee_type types it)
+
+-- Is it a scalar or a vector?
+abbrev pub is_components : TypeInner → Bool
+is_components (inner.Scalar s) = true
+is_components (inner.Vector n s) = true
+is_components _ = false
+
+-- Is it a pointer to a scalar or a vector?
+abbrev pub points_to_components : List Type_ → TypeInner → Bool
+points_to_components types (inner.Pointer base space) =
+    option_map_or is_components (inner_at types base) false
+points_to_components types (inner.ValuePointer n s space) = true
+points_to_components types _ = false
+
+-- Has a vector of so many components all that are chosen first, as many as the swizzle has?
+abbrev pub letters_fit : (chosen : VectorSize) → List SwizzleComponent → VectorSize → Bool
+letters_fit chosen letters n =
+    list_all (λ letter. nat_lt (tag_of components letter) (vector_number n))
+    (take (vector_number chosen) letters)
+
+-- Is it a vector that has them?
+abbrev pub is_swizzled : (chosen : VectorSize) → List SwizzleComponent → TypeInner → Bool
+is_swizzled chosen letters (inner.Vector n s) = letters_fit chosen letters n
+is_swizzled chosen letters _ = false
+
+-- Is the type of the operand with this handle one that a demand takes?
+abbrev pub operand_is : List Type_ → (known : List TypeResolution) → (TypeInner → Bool) →
+    (operand : ℕ) → Bool
+operand_is types known demand operand =
+    option_map_or demand (known_inner types known operand) false
+
+-- one line for each kind of expression
+abbrev pub operands_fit : List Type_ → (known : List TypeResolution) → Expression → Bool
+operands_fit types known (expression.Literal value) = true
+operands_fit types known (expression.Constant handle) = true
+operands_fit types known (expression.Override handle) = true
+operands_fit types known (expression.ZeroValue ty) = true
+operands_fit types known (expression.Compose ty parts) = true
+operands_fit types known (expression.Access base index) =
+    operand_is types known (has_computed_parts types) base &&
+    operand_is types known is_integer index
+operands_fit types known (expression.AccessIndex base index) =
+    operand_is types known (λ it. is_part_number types it index) base
+operands_fit types known (expression.Splat n value) =
+    operand_is types known (λ it. is_some (own_scalar it)) value
+operands_fit types known (expression.Swizzle n vector pattern) =
+    operand_is types known (is_swizzled n pattern) vector
+operands_fit types known (expression.FunctionArgument number) = true
+operands_fit types known (expression.GlobalVariable handle) = true
+operands_fit types known (expression.LocalVariable handle) = true
+operands_fit types known (expression.Load pointer) =
+    operand_is types known (is_pointer types) pointer
+operands_fit types known
+    (expression.ImageSample image sampler gather coordinate array_index offset level depth clamp) =
+    true
+operands_fit types known (expression.ImageLoad image coordinate array_index sample level) = true
+operands_fit types known (expression.ImageQuery image query) = true
+operands_fit types known (expression.Unary op operand) = true
+operands_fit types known (expression.Binary op left right) = true
+operands_fit types known (expression.Select condition accept reject) = true
+operands_fit types known (expression.Derivative axis control operand) = true
+operands_fit types known (expression.Relational fun argument) = true
+operands_fit types known (expression.Math fun first second third fourth) = true
+operands_fit types known (expression.As operand kind convert) = true
+operands_fit types known (expression.CallResult function) = true
+operands_fit types known (expression.AtomicResult ty comparison) = true
+operands_fit types known (expression.WorkGroupUniformLoadResult ty) = true
+operands_fit types known (expression.ArrayLength array) = true
+operands_fit types known expression.RayQueryProceedResult = true
+operands_fit types known (expression.RayQueryGetIntersection query committed) = true
+operands_fit types known (expression.RayQueryVertexPositions query committed) = true
+operands_fit types known expression.SubgroupBallotResult = true
+operands_fit types known (expression.SubgroupOperationResult ty) = true
+operands_fit types known (expression.CooperativeLoad columns rows role data_) =
+    operand_is types known (points_to_components types) data_.pointer
+operands_fit types known (expression.CooperativeMultiplyAdd a b c) = true
+
+-- the same of all expressions that stand together
+abbrev pub are_operands_fit : List Type_ → (known : List TypeResolution) → List Expression → Bool
+are_operands_fit types known es = list_all (operands_fit types known) es

@@ -1,0 +1,108 @@
+-- What each statement without blocks does, of all such statements: those that ask for an event name
+-- the operator by its word, its operands in the order in which they are written, and their result.
+-- (`Shapes` has those that are written so far.)
+--
+-- Throughout, a is what stands around a function's expressions.
+use Rattle.std.specs.Prelude.{ℕ, Bool, ◌-◌, ◌==◌, Option, Some, None, if◌then◌else◌}
+use Rattle.std.specs.Int.Bits.{bit_and}
+use Rattle.std.specs.Option.{is_some}
+use Rattle.naga_ir.specs.Operands.{simple_operands}
+use Rattle.naga_ir.specs.StatementTree.{SimpleStatement, emit, break, continue, return, kill}
+use Rattle.naga_ir.specs.StatementTree.{control_barrier, memory_barrier, store, image_store, atomic}
+use Rattle.naga_ir.specs.StatementTree.{image_atomic, work_group_uniform_load, call, ray_query}
+use Rattle.naga_ir.specs.StatementTree.{subgroup_ballot, subgroup_gather}
+use Rattle.naga_ir.specs.StatementTree.{subgroup_collective_operation, cooperative_store}
+use Rattle.naga_ir.specs.StatementTree.{ray_pipeline_function}
+use Rattle.naga_ir.specs.declared.flags.Barrier.{Barrier as Flags}
+use Rattle.naga_ir.specs.declared.operators.AtomicFunction.{AtomicFunction}
+use Rattle.naga_ir.specs.declared.operators.AtomicFunction.TheVariants as function
+use Rattle.naga_ir.specs.declared.operators.GatherMode.{GatherMode}
+use Rattle.naga_ir.specs.declared.operators.GatherMode.TheVariants as mode
+use Rattle.module_meaning.specs.ExpressionOperators.{Surroundings, points_to_atomic}
+use Rattle.module_meaning.specs.OperatorTable.{Operator, run_word, TexelStore, TexelChange}
+use Rattle.module_meaning.specs.OperatorTable.{AtomicStore, AtomicChange, UniformLoad, RayStep}
+use Rattle.module_meaning.specs.OperatorTable.{Ballot, Collective, FromSubgroup, CooperativeStore}
+use Rattle.module_meaning.specs.OperatorTable.{TraceRay, Change, AddTo, SubtractFrom, AndWith}
+use Rattle.module_meaning.specs.OperatorTable.{OrWith, XorWith, MinimumOf, MaximumOf, Exchange}
+use Rattle.module_meaning.specs.OperatorTable.{CompareExchange, Source, First, Indexed, Shuffled}
+use Rattle.module_meaning.specs.OperatorTable.{ShuffledDown, ShuffledUp, ShuffledXor, QuadIndexed}
+use Rattle.module_meaning.specs.OperatorTable.{QuadSwapped}
+use Rattle.shader_runs.specs.Program.{Statement, Emit, Store, Break, Continue, Return, Kill}
+use Rattle.shader_runs.specs.Program.{Barrier, Act, Asked, Called, BarrierBits}
+
+-- how an atomic function changes what it finds
+abbrev pub change_of : AtomicFunction → Change
+change_of function.Add = AddTo
+change_of function.Subtract = SubtractFrom
+change_of function.And = AndWith
+change_of function.ExclusiveOr = XorWith
+change_of function.InclusiveOr = OrWith
+change_of function.Min = MinimumOf
+change_of function.Max = MaximumOf
+change_of (function.Exchange None) = Exchange
+change_of (function.Exchange (Some compare)) = CompareExchange
+
+-- from which invocation a value comes
+abbrev pub source_of : GatherMode → Source
+source_of mode.BroadcastFirst = First
+source_of (mode.Broadcast index) = Indexed
+source_of (mode.Shuffle index) = Shuffled
+source_of (mode.ShuffleDown delta) = ShuffledDown
+source_of (mode.ShuffleUp delta) = ShuffledUp
+source_of (mode.ShuffleXor mask) = ShuffledXor
+source_of (mode.QuadBroadcast index) = QuadIndexed
+source_of (mode.QuadSwap direction) = QuadSwapped direction
+
+-- the bit is set
+abbrev pub is_kept : (bit : ℕ) → Flags → Bool
+is_kept bit flags = bit_and flags.0 bit == bit
+
+-- a barrier keeps apart what its flags name, in the order of their bits
+abbrev pub barrier_bits : Flags → BarrierBits
+barrier_bits flags =
+    record {
+      storage = is_kept 1 flags;
+      work_group = is_kept 2 flags;
+      sub_group = is_kept 4 flags;
+      texture = is_kept 8 flags;
+    }
+
+-- the statement asks for this operator, and has this result
+abbrev pub asked : Operator → SimpleStatement → (outcome : Option ℕ) → Statement
+asked operator s outcome = Act (Asked (run_word operator)) (simple_operands s) outcome
+
+-- a store to an atomic asks for an event of its own, any other one is plain
+abbrev pub store_shape : (to_atomic : Bool) → (pointer value : ℕ) → Statement
+store_shape to_atomic pointer value =
+    if to_atomic then asked AtomicStore (store pointer value) None else Store pointer value
+
+abbrev pub simple_shape : Surroundings → SimpleStatement → Statement
+simple_shape a (emit first last) = Emit first (last - first)
+simple_shape a break = Break
+simple_shape a continue = Continue
+simple_shape a (return value) = Return value
+simple_shape a kill = Kill
+simple_shape a (control_barrier flags) = Barrier (barrier_bits flags)
+simple_shape a (memory_barrier flags) = Barrier (barrier_bits flags)
+simple_shape a (store pointer value) = store_shape (points_to_atomic a pointer) pointer value
+simple_shape a (image_store image coordinate array_index value) =
+    asked (TexelStore (is_some array_index)) (image_store image coordinate array_index value) None
+simple_shape a (atomic pointer fun value outcome) =
+    asked (AtomicChange (change_of fun)) (atomic pointer fun value outcome) outcome
+simple_shape a (image_atomic image coordinate array_index fun value) =
+    asked (TexelChange (change_of fun) (is_some array_index))
+    (image_atomic image coordinate array_index fun value) None
+simple_shape a (work_group_uniform_load pointer outcome) =
+    asked UniformLoad (work_group_uniform_load pointer outcome) (Some outcome)
+simple_shape a (call function arguments outcome) = Act (Called function) arguments outcome
+simple_shape a (ray_query query) = asked RayStep (ray_query query) None
+simple_shape a (subgroup_ballot outcome predicate) =
+    asked (Ballot (is_some predicate)) (subgroup_ballot outcome predicate) (Some outcome)
+simple_shape a (subgroup_gather mode argument outcome) =
+    asked (FromSubgroup (source_of mode)) (subgroup_gather mode argument outcome) (Some outcome)
+simple_shape a (subgroup_collective_operation op collective_op argument outcome) =
+    asked (Collective op collective_op)
+    (subgroup_collective_operation op collective_op argument outcome) (Some outcome)
+simple_shape a (cooperative_store target place) =
+    asked (CooperativeStore place.row_major) (cooperative_store target place) None
+simple_shape a (ray_pipeline_function fun) = asked TraceRay (ray_pipeline_function fun) None

@@ -1,0 +1,116 @@
+-- What stands around the expressions of a module: its types under their names, its constants and
+-- overrides, and what is known of the expressions.
+--
+-- Throughout, m is a module, h a handle, c a constant (cs are several), r a type, w a spelling, es
+-- is what is known of a function's expressions, and known the types of expressions by handle.
+use Rattle.std.specs.Prelude.{ℕ, zero, suc, List, [], ◌∷◌, ◌+◌, length, take, map, slice_get}
+use Rattle.std.specs.Prelude.{Option, Some, None, if◌then◌else◌, codes, unwrap_or}
+use Rattle.std.specs.Option.{option_map_or, option_and_then, is_some}
+use Rattle.std.specs.Str.{bytes_eq}
+use Rattle.naga_ir.specs.declared.module.Constant as ir_constant
+use Rattle.naga_ir.specs.declared.module.Module.{Module}
+use Rattle.naga_ir.specs.declared.types.TypeInner.{TypeInner}
+use Rattle.naga_ir.specs.declared.types.TypeInner.TheVariants as inner
+use Rattle.naga_info.specs.Resolution.{inner_of}
+use Rattle.naga_info.specs.declared.info.ExpressionInfo.{ExpressionInfo}
+use Rattle.naga_info.specs.declared.info.ModuleInfo.{ModuleInfo}
+use Rattle.naga_info.specs.declared.info.TypeResolution.{TypeResolution}
+use Rattle.naga_names.specs.declared.key.NameKey.TheVariants as key
+use Rattle.module_meaning.specs.ExpressionOperators.{Surroundings}
+use Rattle.module_meaning.specs.ExpressionShapes.{Declared, constant_tree}
+use Rattle.module_meaning.specs.Names.{module_names, name_in}
+use Rattle.module_meaning.specs.OperatorTable.{if_there}
+use Rattle.module_meaning.specs.TypeIdentity.{identity, identity_code, word_of_unspelled_type}
+use Rattle.module_meaning.specs.Types.{type_names, spelled_resolution, integer_words}
+use Rattle.wgsl_text.specs.Words.{stands_in}
+use Rattle.shader_runs.specs.Program.{ConstantTree, NamedConstant}
+use Rattle.shader_runs.specs.Value.{ValueType, BooleanType, IntegerType, PointerType, OtherType}
+
+-- ---- types
+-- types are spelled under the module's names; one without a form is told by what it is
+abbrev pub surroundings : Module → (known : ℕ → Option TypeResolution) → Surroundings
+surroundings m known =
+    record {
+      types = m.types;
+      spelled = spelled_resolution (type_names m);
+      numbers = λ r. identity_code (identity m.types r);
+      known = known;
+    }
+
+-- a scalar's values are truth values, integers or others
+abbrev pub scalar_values : (spelling : List ℕ) → ValueType
+scalar_values w =
+    if bytes_eq w (codes "bool") then BooleanType else (
+    if stands_in integer_words w then IntegerType w else OtherType w)
+
+-- the values of a type with this spelling are those of a scalar, places or others
+abbrev pub values_of : TypeInner → (spelling : List ℕ) → ValueType
+values_of (inner.Scalar s) w = scalar_values w
+values_of (inner.Pointer base space) w = PointerType w
+values_of (inner.ValuePointer size s space) w = PointerType w
+values_of _ w = OtherType w
+
+-- How a type is spelled under the module's names. One without a form has a word that no text has,
+-- and is told by it.
+abbrev pub word_of_values : Module → TypeResolution → List ℕ
+word_of_values m r =
+    unwrap_or (spelled_resolution (type_names m) r) (word_of_unspelled_type (identity m.types r))
+
+-- the type of the values of a type
+abbrev pub type_of_values : Module → TypeResolution → ValueType
+type_of_values m r =
+    let w = word_of_values m r in
+    option_map_or (λ it. values_of it w) (inner_of r m.types) (OtherType w)
+
+-- ---- constants and overrides
+-- how many of these constants have a name
+abbrev pub named_count : List ir_constant.Constant → ℕ
+named_count [] = 0
+named_count (c ∷ cs) = if_there (is_some c.name) + named_count cs
+
+-- the named constants are numbered in their order, and behind them the overrides
+abbrev pub constant_number : Module → ℕ → ℕ
+constant_number m h = named_count (take h m.constants)
+
+abbrev pub override_number : Module → ℕ → ℕ
+override_number m h = named_count m.constants + h
+
+-- what a module declares, its constants written so
+abbrev pub declared_over :
+    Module → (ℕ → Option ConstantTree) → (known : ℕ → Option TypeResolution) → Declared
+declared_over m constant_tree known =
+    record {
+      around = surroundings m known;
+      value_type = type_of_values m;
+      constant_tree = constant_tree;
+      override_tree = λ h. NamedConstant (override_number m h);
+      member = λ h index. name_in (module_names m) (key.StructMember h index);
+    }
+
+-- what is known of the global expressions
+abbrev pub global_types_known : ModuleInfo → ℕ → Option TypeResolution
+global_types_known info h = slice_get info.const_expression_types.items h
+
+-- A constant as it is written: by its number, or without a name by its initialiser, in which at
+-- most so many constants without names stand in each other.
+abbrev pub constant_within : (levels : ℕ) → Module → ModuleInfo → ℕ → Option ConstantTree
+constant_within zero m info h = None
+constant_within (suc levels) m info h =
+    let inside = declared_over m (constant_within levels m info) (global_types_known info) in
+    option_and_then
+    (λ c. if is_some c.name then Some (NamedConstant (constant_number m h))
+    else constant_tree inside m.global_expressions c.init)
+    (slice_get m.constants h)
+
+-- A constant as it is written. A global expression that names one stands behind its initialiser,
+-- so that no more constants stand in each other than there are global expressions.
+abbrev pub written_constant : Module → ModuleInfo → ℕ → Option ConstantTree
+written_constant m info h = constant_within (length m.global_expressions) m info h
+
+-- what a module declares, for the expressions of which this is known
+abbrev pub declared : Module → ModuleInfo → (known : ℕ → Option TypeResolution) → Declared
+declared m info known = declared_over m (written_constant m info) known
+
+-- what is known of a function's expressions
+abbrev pub types_known : List ExpressionInfo → ℕ → Option TypeResolution
+types_known es h = slice_get (map (λ e. e.ty) es) h

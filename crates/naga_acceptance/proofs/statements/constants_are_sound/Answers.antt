@@ -1,0 +1,10 @@
+use Rattle.std.proofs.Common.{ap, ◌∙◌}
+use Rattle.std.specs.List.{list_all}
+use Rattle.module_meaning.specs.Initialisers.{constant_is_sound}
+use Rattle.module_meaning.proofs.Fitting.{list_all-pairs}
+use Rattle.naga_acceptance.proofs.statements.constants_are_sound.Goals as goal
+
+pub loop-constant-init : goal.loop-constant-init
+loop-constant-init c =
+    ap (λ ps. list_all (λ p. constant_is_sound c.args.types.now c.args.known.now p.1) ps) (c.into_iter-constant-iterator.ensures.into_iter_gives ∙ c.iter-constant-items.ensures)
+    ∙ list_all-pairs (constant_is_sound c.args.types.now c.args.known.now) 0 c.args.constants.now

@@ -1,0 +1,10 @@
+use Rattle.std.proofs.Common.{ap, ◌∙◌}
+use Rattle.std.specs.List.{list_all}
+use Rattle.module_meaning.specs.Initialisers.{global_is_sound}
+use Rattle.module_meaning.proofs.Fitting.{list_all-pairs}
+use Rattle.naga_acceptance.proofs.statements.globals_are_sound.Goals as goal
+
+pub loop-global-init : goal.loop-global-init
+loop-global-init c =
+    ap (λ ps. list_all (λ p. global_is_sound c.args.types.now c.args.known.now p.1) ps) (c.into_iter-global-iterator.ensures.into_iter_gives ∙ c.iter-global-items.ensures)
+    ∙ list_all-pairs (global_is_sound c.args.types.now c.args.known.now) 0 c.args.globals.now

@@ -1,0 +1,31 @@
+-- What the code's short forms of types stand for.
+use Rattle.std.specs.Prelude.{List, map}
+use Rattle.naga_ir.specs.declared.types.TypeInner.TheVariants as inner
+use Rattle.naga_info.specs.declared.info.TypeResolution.{TypeResolution}
+use Rattle.naga_info.specs.declared.info.TypeResolution.TheVariants.{Handle, Value}
+use Rattle.naga_acceptance.specs.declared.parts.GivenType.{GivenType}
+use Rattle.naga_acceptance.specs.declared.parts.GivenType.TheVariants as given_type
+use Rattle.naga_acceptance.specs.declared.parts.Known.{Known}
+use Rattle.naga_acceptance.specs.declared.parts.Known.TheVariants as source
+use Rattle.naga_acceptance.specs.declared.expression_types.Wanted.{Wanted}
+use Rattle.naga_acceptance.specs.declared.expression_types.Wanted.TheVariants as code
+use Rattle.module_meaning.specs.ExpressionTypes.{WantedType, LikeThis, Anything, Nothing}
+
+-- a type that expressions are given
+abbrev pub given : GivenType → TypeResolution
+given (given_type.Handle handle) = Handle handle
+given (given_type.Scalar s) = Value (inner.Scalar s)
+given (given_type.Vector size s) = Value (inner.Vector size s)
+given (given_type.Pointer base space) = Value (inner.Pointer base space)
+given (given_type.ValuePointer size s space) = Value (inner.ValuePointer size s space)
+
+-- what an expression's type may be
+abbrev pub wanted : Wanted → WantedType
+wanted (code.LikeThis one) = LikeThis (given one)
+wanted code.Anything = Anything
+wanted code.Nothing = Nothing
+
+-- the types of expressions, by handle
+abbrev pub known_types : Known → List TypeResolution
+known_types (source.Function infos) = map (λ e. e.ty) infos.now
+known_types (source.Global types) = types.now

@@ -1,0 +1,299 @@
+//! Which type each expression has by what it stands for.
+
+ghost use Rattle.std.specs.Prelude.{◌≡◌, Option};
+ghost use Rattle.std.specs.Option.{option_and_then, option_copied, option_map};
+ghost use Rattle.naga_acceptance.specs.KnownTypes.{given, known_types, wanted};
+ghost use Rattle.module_meaning.specs.ExpressionTypes.{argument_type, binary_type, constant_type};
+ghost use Rattle.module_meaning.specs.ExpressionTypes.{global_type, if_any, is_bool};
+ghost use Rattle.module_meaning.specs.ExpressionTypes.{literal_scalar, local_type, logical_type};
+ghost use Rattle.module_meaning.specs.ExpressionTypes.{only, override_type, result_type};
+ghost use Rattle.module_meaning.specs.ExpressionTypes.{splat_type, swizzle_type, variable_type};
+ghost use Rattle.module_meaning.specs.ExpressionTypes.{wanted_type};
+ghost use Rattle.module_meaning.specs.TypeParts.{known_inner, part_type, pointee_type};
+
+use crate::parts::{
+    GivenType, Known, known_inner, own_scalar, part_type, pointee_type, vector_scalar,
+};
+use naga_ir::{
+    AddressSpace, BinaryOperator, Constant, Expression, Function, GlobalVariable, Handle, Literal,
+    LocalVariable, Module, Override, Scalar, ScalarKind, Type_, TypeInner, UniqueArena, VectorSize,
+};
+
+/// What an expression's type may be.
+#[derive(Debug, Clone, Copy, PartialEq, Eq)]
+pub enum Wanted {
+    /// One like this.
+    LikeThis(GivenType),
+    /// Any.
+    Anything,
+    /// None: what the expression stands for gives none.
+    Nothing,
+}
+
+fn only(ty: Option<GivenType>) -> Wanted
+    ensures { wanted result ≡ only (option_map given ty) }
+{
+    match ty {
+        Some(ty) => Wanted::LikeThis(ty),
+        None => Wanted::Nothing,
+    }
+}
+
+fn if_any(ty: Option<GivenType>) -> Wanted
+    ensures { wanted result ≡ if_any (option_map given ty) }
+{
+    match ty {
+        Some(ty) => Wanted::LikeThis(ty),
+        None => Wanted::Anything,
+    }
+}
+
+/// A literal's scalar.
+pub(crate) fn literal_scalar(literal: Literal) -> Scalar
+    ensures { result ≡ literal_scalar literal }
+{
+    match literal {
+        Literal::F64(_) => Scalar::F64,
+        Literal::F32(_) => Scalar::F32,
+        Literal::F16(_) => Scalar::F16,
+        Literal::U16(_) => Scalar::U16,
+        Literal::I16(_) => Scalar::I16,
+        Literal::U32(_) => Scalar::U32,
+        Literal::I32(_) => Scalar::I32,
+        Literal::U64(_) => Scalar::U64,
+        Literal::I64(_) => Scalar::I64,
+        Literal::Bool(_) => Scalar::BOOL,
+        Literal::AbstractInt(_) => Scalar {
+            kind: ScalarKind::AbstractInt,
+            width: 8,
+        },
+        Literal::AbstractFloat(_) => Scalar {
+            kind: ScalarKind::AbstractFloat,
+            width: 8,
+        },
+    }
+}
+
+fn variable_type(space: AddressSpace, ty: Handle<Type_>) -> GivenType
+    ensures { given result ≡ variable_type space ty }
+{
+    match space {
+        AddressSpace::Handle => GivenType::Handle(ty),
+        _ => GivenType::Pointer { base: ty, space },
+    }
+}
+
+fn constant_type(module: &Module, handle: Handle<Constant>) -> Option<GivenType>
+    ensures { option_map given result ≡ constant_type «module».now handle }
+{
+    if handle.index() < module.constants.len() {
+        Some(GivenType::Handle(module.constants[handle].ty))
+    } else {
+        None
+    }
+}
+
+fn override_type(module: &Module, handle: Handle<Override>) -> Option<GivenType>
+    ensures { option_map given result ≡ override_type «module».now handle }
+{
+    if handle.index() < module.overrides.len() {
+        Some(GivenType::Handle(module.overrides[handle].ty))
+    } else {
+        None
+    }
+}
+
+fn global_type(module: &Module, handle: Handle<GlobalVariable>) -> Option<GivenType>
+    ensures { option_map given result ≡ global_type «module».now handle }
+{
+    if handle.index() < module.global_variables.len() {
+        let variable = &module.global_variables[handle];
+        Some(variable_type(variable.space, variable.ty))
+    } else {
+        None
+    }
+}
+
+/// The type of what a function returns, if there is the function and it returns something.
+pub(crate) fn result_type(module: &Module, handle: Handle<Function>) -> Option<GivenType>
+    ensures { option_map given result ≡ result_type «module».now handle }
+{
+    if handle.index() < module.functions.len() {
+        match &module.functions[handle].result {
+            Some(answer) => Some(GivenType::Handle(answer.ty)),
+            None => None,
+        }
+    } else {
+        None
+    }
+}
+
+fn argument_type(function: Option<&Function>, number: u32) -> Option<GivenType>
+    ensures { option_map given result ≡ argument_type (option_copied function.entry) number }
+{
+    match function {
+        Some(function) => match function.arguments.get(number as usize) {
+            Some(argument) => Some(GivenType::Handle(argument.ty)),
+            None => None,
+        },
+        None => None,
+    }
+}
+
+fn local_type(function: Option<&Function>, handle: Handle<LocalVariable>) -> Option<GivenType>
+    ensures { option_map given result ≡ local_type (option_copied function.entry) handle }
+{
+    match function {
+        Some(function) if handle.index() < function.local_variables.len() => {
+            Some(GivenType::Pointer {
+                base: function.local_variables[handle].ty,
+                space: AddressSpace::Function,
+            })
+        }
+        _ => None,
+    }
+}
+
+fn splat_type(size: VectorSize, value: Option<&TypeInner>) -> Option<GivenType>
+    ensures { option_map given result ≡ splat_type size (option_copied value.entry) }
+{
+    match value {
+        Some(value) => match own_scalar(value) {
+            Some(scalar) => Some(GivenType::Vector { size, scalar }),
+            None => None,
+        },
+        None => None,
+    }
+}
+
+fn swizzle_type(size: VectorSize, vector: Option<&TypeInner>) -> Option<GivenType>
+    ensures { option_map given result ≡ swizzle_type size (option_copied vector.entry) }
+{
+    match vector {
+        Some(vector) => match vector_scalar(vector) {
+            Some(scalar) => Some(GivenType::Vector { size, scalar }),
+            None => None,
+        },
+        None => None,
+    }
+}
+
+/// Whether a type is `bool`.
+pub(crate) fn is_bool(inner: &TypeInner) -> bool
+    ensures { result ≡ is_bool inner.now }
+{
+    match inner {
+        TypeInner::Scalar(scalar) => match scalar.kind {
+            ScalarKind::Bool => scalar.width == 1,
+            _ => false,
+        },
+        _ => false,
+    }
+}
+
+fn logical_type(left: Option<&TypeInner>) -> Wanted
+    ensures { wanted result ≡ logical_type (option_copied left.entry) }
+{
+    match left {
+        Some(left) if is_bool(left) => Wanted::LikeThis(GivenType::Scalar(Scalar::BOOL)),
+        _ => Wanted::Anything,
+    }
+}
+
+fn binary_type(op: BinaryOperator, left: Option<&TypeInner>) -> Wanted
+    ensures { wanted result ≡ binary_type op (option_copied left.entry) }
+{
+    match op {
+        BinaryOperator::LogicalAnd | BinaryOperator::LogicalOr => logical_type(left),
+        _ => Wanted::Anything,
+    }
+}
+
+fn part_at(
+    types: &UniqueArena<Type_>,
+    known: Known<'_>,
+    base: Handle<Expression>,
+    index: Option<u32>,
+) -> Option<GivenType>
+    ensures { option_map given result ≡ option_and_then (λ it. part_type types.now it index)
+        (known_inner types.now (known_types known.entry) base) }
+{
+    match known_inner(types, known, base) {
+        Some(inner) => part_type(types, inner, index),
+        None => None,
+    }
+}
+
+fn pointee_at(
+    types: &UniqueArena<Type_>,
+    known: Known<'_>,
+    pointer: Handle<Expression>,
+) -> Option<GivenType>
+    ensures { option_map given result ≡ option_and_then (pointee_type types.now)
+        (known_inner types.now (known_types known.entry) pointer) }
+{
+    match known_inner(types, known, pointer) {
+        Some(inner) => pointee_type(types, inner),
+        None => None,
+    }
+}
+
+/// Which type an expression may have, by what it stands for. `function` is the one in which it
+/// stands (`None` for the module's own expressions, which name no arguments and locals), and `known`
+/// are the types of the expressions there.
+///
+/// - A literal has its scalar's type. A constant, an override, a zero value, a `Compose`, an
+///   argument, and a result that tells a type have that one; a `CallResult` has that of what the
+///   callee returns.
+/// - A local is a pointer to its type; a global is one in its space, or in the handle space of its
+///   type.
+/// - A `Splat` or a `Swizzle` is a vector of its size over its operand's scalar.
+/// - `Access` and `AccessIndex` have the type of the part, or are a pointer to it. Where there is no
+///   part, an `AccessIndex` may have any type.
+/// - A `Load` has the type of what it reads: of an atomic, its scalar's.
+/// - `&&` and `||` behind a `bool` are `bool`.
+/// - Others may have any type.
+///
+/// Where a declaration or an operand that is asked is not there, an expression can have no type.
+pub fn wanted_type(
+    module: &Module,
+    function: Option<&Function>,
+    known: Known<'_>,
+    expression: &Expression,
+) -> Wanted
+    ensures { wanted result ≡ wanted_type «module».now (option_copied function.entry)
+        (known_types known.entry) expression.now }
+{
+    let types = &module.types;
+    match expression {
+        Expression::Literal(literal) => {
+            Wanted::LikeThis(GivenType::Scalar(literal_scalar(*literal)))
+        }
+        Expression::Constant(handle) => only(constant_type(module, *handle)),
+        Expression::Override(handle) => only(override_type(module, *handle)),
+        Expression::ZeroValue(ty)
+        | Expression::Compose { ty, .. }
+        | Expression::AtomicResult { ty, .. }
+        | Expression::WorkGroupUniformLoadResult { ty }
+        | Expression::SubgroupOperationResult { ty } => { Wanted::LikeThis(GivenType::Handle(*ty)) }
+        Expression::Access { base, .. } => only(part_at(types, known, *base, None)),
+        Expression::AccessIndex { base, index } => {
+            if_any(part_at(types, known, *base, Some(*index)))
+        }
+        Expression::Splat { size, value } => {
+            only(splat_type(*size, known_inner(types, known, *value)))
+        }
+        Expression::Swizzle { size, vector, .. } => {
+            only(swizzle_type(*size, known_inner(types, known, *vector)))
+        }
+        Expression::FunctionArgument(number) => only(argument_type(function, *number)),
+        Expression::GlobalVariable(handle) => only(global_type(module, *handle)),
+        Expression::LocalVariable(handle) => only(local_type(function, *handle)),
+        Expression::Load { pointer } => only(pointee_at(types, known, *pointer)),
+        Expression::Binary { op, left, .. } => {
+            binary_type(*op, known_inner(types, known, *left))
+        }
+        Expression::CallResult(handle) => only(result_type(module, *handle)),
+        _ => Wanted::Anything,
+    }
+}

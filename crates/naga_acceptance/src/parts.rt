@@ -1,0 +1,321 @@
+//! What types are made of, and the types of parts, without memory.
+
+ghost use Rattle.std.specs.Prelude.{◌≡◌, slice_get};
+ghost use Rattle.std.specs.Option.{is_some, option_copied, option_map};
+ghost use Rattle.naga_acceptance.specs.KnownTypes.{given, known_types};
+ghost use Rattle.module_meaning.specs.TypeIdentity.{vector_number};
+ghost use Rattle.module_meaning.specs.TypeParts.{component_pointer, element_count};
+ghost use Rattle.module_meaning.specs.TypeParts.{has_computed_parts, inner_at, is_part_number};
+ghost use Rattle.module_meaning.specs.TypeParts.{known_inner, member_type, own_scalar, part_count};
+ghost use Rattle.module_meaning.specs.TypeParts.{part_type, pointed_part, pointee_type};
+ghost use Rattle.module_meaning.specs.TypeParts.{stored_type, value_part, value_part_count};
+ghost use Rattle.module_meaning.specs.TypeParts.{vector_scalar};
+ghost use Rattle.naga_info.specs.Resolution.{inner_of};
+
+use naga_info::{ExpressionInfo, TypeResolution};
+use naga_ir::{
+    AddressSpace, ArraySize, Expression, Handle, Scalar, StructMember, Type_, TypeInner,
+    UniqueArena, VectorSize,
+};
+
+/// A type that an expression is given by what it stands for. It takes no memory.
+#[derive(Debug, Clone, Copy, PartialEq, Eq)]
+pub enum GivenType {
+    /// One of the module's types.
+    Handle(Handle<Type_>),
+    /// A number or a truth value.
+    Scalar(Scalar),
+    /// Two to four scalars.
+    Vector {
+        /// How many.
+        size: VectorSize,
+        /// What they are.
+        scalar: Scalar,
+    },
+    /// A pointer to a value of a type of the module.
+    Pointer {
+        /// What it points to.
+        base: Handle<Type_>,
+        /// Where that lives.
+        space: AddressSpace,
+    },
+    /// A pointer to a scalar or a vector that has no type of its own in the module.
+    ValuePointer {
+        /// How many scalars; none for one scalar by itself.
+        size: Option<VectorSize>,
+        /// What they are.
+        scalar: Scalar,
+        /// Where they live.
+        space: AddressSpace,
+    },
+}
+
+/// The types of expressions that stand together, by handle.
+#[derive(Debug, Clone, Copy)]
+pub enum Known<'a> {
+    /// Those of a function or an entry point.
+    Function(&'a [ExpressionInfo]),
+    /// Those of the module itself.
+    Global(&'a [TypeResolution]),
+}
+
+/// The type of the module with this handle, if there is one.
+pub(crate) fn inner_at<'a>(
+    types: &'a UniqueArena<Type_>,
+    handle: Handle<Type_>,
+) -> Option<&'a TypeInner>
+    ensures { option_copied result ≡ inner_at types.now handle }
+{
+    if handle.index() < types.len() {
+        Some(&types[handle].inner)
+    } else {
+        None
+    }
+}
+
+/// What a type stands for, if its handle lies in the types.
+pub(crate) fn inner_of<'a>(
+    types: &'a UniqueArena<Type_>,
+    ty: &'a TypeResolution,
+) -> Option<&'a TypeInner>
+    ensures { option_copied result ≡ inner_of ty.now types.now }
+{
+    match ty {
+        TypeResolution::Handle(handle) => inner_at(types, *handle),
+        TypeResolution::Value(inner) => Some(inner),
+    }
+}
+
+/// The type of the expression with this handle, if it is known.
+pub(crate) fn known_inner<'a>(
+    types: &'a UniqueArena<Type_>,
+    known: Known<'a>,
+    handle: Handle<Expression>,
+) -> Option<&'a TypeInner>
+    ensures { option_copied result ≡ known_inner types.now (known_types known.entry) handle }
+{
+    match known {
+        Known::Function(infos) => match infos.get(handle.index()) {
+            Some(info) => inner_of(types, &info.ty),
+            None => None,
+        },
+        Known::Global(known) => match known.get(handle.index()) {
+            Some(ty) => inner_of(types, ty),
+            None => None,
+        },
+    }
+}
+
+fn member_type(members: &[StructMember], index: Option<u32>) -> Option<Handle<Type_>>
+    ensures { result ≡ member_type members.now index }
+{
+    match index {
+        Some(number) => match members.get(number as usize) {
+            Some(member) => Some(member.ty),
+            None => None,
+        },
+        None => None,
+    }
+}
+
+fn value_part(inner: &TypeInner, index: Option<u32>) -> Option<GivenType>
+    ensures { option_map given result ≡ value_part inner.now index }
+{
+    match inner {
+        TypeInner::Vector { scalar, .. } => Some(GivenType::Scalar(*scalar)),
+        TypeInner::Matrix { rows, scalar, .. } => Some(GivenType::Vector {
+            size: *rows,
+            scalar: *scalar,
+        }),
+        TypeInner::Array { base, .. } | TypeInner::BindingArray { base, .. } => {
+            Some(GivenType::Handle(*base))
+        }
+        TypeInner::Struct { members, .. } => match member_type(members, index) {
+            Some(ty) => Some(GivenType::Handle(ty)),
+            None => None,
+        },
+        _ => None,
+    }
+}
+
+fn pointed_part(space: AddressSpace, inner: &TypeInner, index: Option<u32>) -> Option<GivenType>
+    ensures { option_map given result ≡ pointed_part space inner.now index }
+{
+    match inner {
+        TypeInner::Vector { scalar, .. } => Some(GivenType::ValuePointer {
+            size: None,
+            scalar: *scalar,
+            space,
+        }),
+        TypeInner::Matrix { rows, scalar, .. } => Some(GivenType::ValuePointer {
+            size: Some(*rows),
+            scalar: *scalar,
+            space,
+        }),
+        TypeInner::Array { base, .. } | TypeInner::BindingArray { base, .. } => {
+            Some(GivenType::Pointer { base: *base, space })
+        }
+        TypeInner::Struct { members, .. } => match member_type(members, index) {
+            Some(base) => Some(GivenType::Pointer { base, space }),
+            None => None,
+        },
+        _ => None,
+    }
+}
+
+fn component_pointer(
+    size: Option<VectorSize>,
+    scalar: Scalar,
+    space: AddressSpace,
+) -> Option<GivenType>
+    ensures { option_map given result ≡ component_pointer size scalar space }
+{
+    match size {
+        Some(_) => Some(GivenType::ValuePointer {
+            size: None,
+            scalar,
+            space,
+        }),
+        None => None,
+    }
+}
+
+/// The part of a value at an index, which is computed (`None`) or known, or the pointer to the part
+/// of what it points to.
+pub(crate) fn part_type(
+    types: &UniqueArena<Type_>,
+    inner: &TypeInner,
+    index: Option<u32>,
+) -> Option<GivenType>
+    ensures { option_map given result ≡ part_type types.now inner.now index }
+{
+    match inner {
+        TypeInner::Pointer { base, space } => match inner_at(types, *base) {
+            Some(pointee) => pointed_part(*space, pointee, index),
+            None => None,
+        },
+        TypeInner::ValuePointer {
+            size,
+            scalar,
+            space,
+        } => component_pointer(*size, *scalar, *space),
+        _ => value_part(inner, index),
+    }
+}
+
+/// Whether it has parts at computed indexes.
+pub(crate) fn has_computed_parts(types: &UniqueArena<Type_>, inner: &TypeInner) -> bool
+    ensures { result ≡ has_computed_parts types.now inner.now }
+{
+    part_type(types, inner, None).is_some()
+}
+
+/// How many components a vector has, or columns or rows a matrix.
+pub(crate) fn vector_number(size: VectorSize) -> usize
+    ensures { result ≡ vector_number size }
+{
+    match size {
+        VectorSize::Bi => 2,
+        VectorSize::Tri => 3,
+        VectorSize::Quad => 4,
+    }
+}
+
+fn element_count(size: ArraySize) -> Option<usize>
+    ensures { result ≡ element_count size }
+{
+    match size {
+        ArraySize::Constant(number) => Some(number.get() as usize),
+        ArraySize::Pending(_) => None,
+        ArraySize::Dynamic => None,
+    }
+}
+
+fn value_part_count(inner: &TypeInner) -> Option<usize>
+    ensures { result ≡ value_part_count inner.now }
+{
+    match inner {
+        TypeInner::Vector { size, .. } => Some(vector_number(*size)),
+        TypeInner::Matrix { columns, .. } => Some(vector_number(*columns)),
+        TypeInner::Array { size, .. } | TypeInner::BindingArray { size, .. } => {
+            element_count(*size)
+        }
+        TypeInner::Struct { members, .. } => Some(members.len()),
+        _ => None,
+    }
+}
+
+fn part_count(types: &UniqueArena<Type_>, inner: &TypeInner) -> Option<usize>
+    ensures { result ≡ part_count types.now inner.now }
+{
+    match inner {
+        TypeInner::Pointer { base, .. } => match inner_at(types, *base) {
+            Some(pointee) => value_part_count(pointee),
+            None => None,
+        },
+        TypeInner::ValuePointer { size, .. } => match size {
+            Some(size) => Some(vector_number(*size)),
+            None => None,
+        },
+        _ => value_part_count(inner),
+    }
+}
+
+/// Whether a known index stays below the number of parts, where there is one.
+pub(crate) fn is_part_number(types: &UniqueArena<Type_>, inner: &TypeInner, number: u32) -> bool
+    ensures { result ≡ is_part_number types.now inner.now number }
+{
+    match part_count(types, inner) {
+        Some(count) => (number as usize) < count,
+        None => true,
+    }
+}
+
+fn stored_type(handle: Handle<Type_>, inner: &TypeInner) -> GivenType
+    ensures { given result ≡ stored_type handle inner.now }
+{
+    match inner {
+        TypeInner::Atomic(scalar) => GivenType::Scalar(*scalar),
+        _ => GivenType::Handle(handle),
+    }
+}
+
+/// What is read and written through a pointer: of an atomic, its scalar.
+pub(crate) fn pointee_type(types: &UniqueArena<Type_>, inner: &TypeInner) -> Option<GivenType>
+    ensures { option_map given result ≡ pointee_type types.now inner.now }
+{
+    match inner {
+        TypeInner::Pointer { base, .. } => match inner_at(types, *base) {
+            Some(pointee) => Some(stored_type(*base, pointee)),
+            None => None,
+        },
+        TypeInner::ValuePointer { size, scalar, .. } => Some(match size {
+            Some(size) => GivenType::Vector {
+                size: *size,
+                scalar: *scalar,
+            },
+            None => GivenType::Scalar(*scalar),
+        }),
+        _ => None,
+    }
+}
+
+/// The scalar that a type is, if it is one.
+pub(crate) fn own_scalar(inner: &TypeInner) -> Option<Scalar>
+    ensures { result ≡ own_scalar inner.now }
+{
+    match inner {
+        TypeInner::Scalar(scalar) => Some(*scalar),
+        _ => None,
+    }
+}
+
+/// The scalar of which a vector has several, if it is one.
+pub(crate) fn vector_scalar(inner: &TypeInner) -> Option<Scalar>
+    ensures { result ≡ vector_scalar inner.now }
+{
+    match inner {
+        TypeInner::Vector { scalar, .. } => Some(*scalar),
+        _ => None,
+    }
+}

@@ -1,0 +1,499 @@
+-- The numbers that tell a type with a form can be read off the tree that it is read as, where no
+-- type is a pointer in the space of handles.
+use Rattle.std.proofs.Common.{◌≡◌, ℕ, zero, suc, Bool, true, false, List, [], ◌∷◌, ◌++◌, map, refl}
+use Rattle.std.proofs.Common.{sym, ap, ◌∙◌, codes, Option, Some, None, slice_get, get_or}
+use Rattle.std.proofs.Common.{if◌then◌else◌, ◌==◌, true≢false, not}
+use Rattle.std.proofs.Common.{eqb-true}
+use Rattle.std.proofs.lemmas.Bool.{and_parts}
+use Rattle.std.proofs.lemmas.Option.{same_Some}
+use Rattle.std.specs.Int.NonZero.{non_zero_u32_get}
+use Rattle.std.specs.Option.{option_map, is_some}
+use Rattle.std.specs.Str.{bytes_eq}
+use denote.Enum.Declared.{tag_of}
+use Rattle.naga_ir.specs.contracts.image.StorageFormat.{the_type as format_names}
+use Rattle.naga_ir.specs.declared.image.StorageFormat.{StorageFormat}
+use Rattle.naga_ir.specs.declared.image.StorageFormat.TheVariants as format
+use Rattle.naga_ir.specs.declared.image.ImageClass.{ImageClass}
+use Rattle.naga_ir.specs.declared.image.ImageClass.TheVariants as class
+use Rattle.naga_ir.specs.declared.image.ImageDimension.{ImageDimension}
+use Rattle.naga_ir.specs.declared.image.ImageDimension.TheVariants.{D1, D2, D3, Cube}
+use Rattle.naga_ir.specs.declared.types.AddressSpace.{AddressSpace}
+use Rattle.naga_ir.specs.declared.types.AddressSpace.TheVariants as space
+use Rattle.naga_ir.specs.declared.types.ArraySize.{ArraySize}
+use Rattle.naga_ir.specs.declared.types.ArraySize.TheVariants as size
+use Rattle.naga_ir.specs.declared.types.CooperativeSize.{CooperativeSize}
+use Rattle.naga_ir.specs.declared.types.CooperativeSize.TheVariants.{Eight, Sixteen}
+use Rattle.naga_ir.specs.declared.types.CooperativeRole.{CooperativeRole}
+use Rattle.naga_ir.specs.declared.types.CooperativeRole.TheVariants.{A}
+use Rattle.naga_ir.specs.declared.types.Scalar.{Scalar}
+use Rattle.naga_ir.specs.declared.types.ScalarKind.{ScalarKind}
+use Rattle.naga_ir.specs.declared.types.ScalarKind.TheVariants as kind
+use Rattle.naga_ir.specs.declared.types.Type_.{Type_}
+use Rattle.naga_ir.specs.declared.types.TypeInner.{TypeInner}
+use Rattle.naga_ir.specs.declared.types.TypeInner.TheVariants as inner
+use Rattle.naga_ir.specs.declared.types.VectorSize.{VectorSize}
+use Rattle.naga_ir.specs.declared.types.VectorSize.TheVariants.{Bi, Tri, Quad}
+use Rattle.naga_info.specs.declared.info.TypeResolution.{TypeResolution}
+use Rattle.naga_info.specs.declared.info.TypeResolution.TheVariants.{Handle, Value}
+use Rattle.wgsl_text.specs.Types.{TypeSpecifier, TypeParts, Named, Template, NoParts, TypePart}
+use Rattle.wgsl_text.specs.Types.{SizePart, of_one, of_two, pointer_tree}
+use Rattle.wgsl_words.specs.Words.{scalar_word, scalar_word_of, space_word, space_access_word}
+use Rattle.wgsl_words.specs.Words.{image_access_word, format_word, role_word, has, atomic_bit}
+use Rattle.wgsl_words.specs.Words.{store_bit, load_bit}
+use Rattle.naga_words.specs.Words.{vector_word, matrix_word, cooperative_word, image_word}
+use Rattle.naga_words.specs.Words.{sampler_word}
+use Rattle.naga_words.specs.Spelling.{is_struct}
+use Rattle.module_meaning.specs.InfoSizes.{is_handle_pointer, is_handle_space, resolution_is_fit}
+use Rattle.module_meaning.specs.TypeIdentity.{level}
+use Rattle.module_meaning.specs.TypeIdentity.{kind_number, vector_number, cooperative_number}
+use Rattle.module_meaning.specs.TypeIdentity.{role_number, dimension_number, truth_number}
+use Rattle.module_meaning.proofs.TypeIdentity.{formats}
+use Rattle.module_meaning.specs.AlikeTypes.{value_form, scalar_form, pointer_form}
+use Rattle.module_meaning.specs.AlikeTypes.{value_pointer_form, array_form, image_form}
+use Rattle.module_meaning.specs.AlikeTypes.{inner_form_by, found_form_by, form_within, handle_form}
+use Rattle.module_meaning.specs.AlikeTypes.{type_form}
+use Rattle.naga_form.specs.TypeTrees.{scalar_tree, value_tree, pointer_tree_in, array_tree}
+use Rattle.naga_form.specs.TypeTrees.{value_pointer_tree_in, image_tree, ray_tree, inner_tree_by}
+use Rattle.naga_form.specs.TypeTrees.{found_tree_by, tree_within, type_tree, resolution_tree}
+use Rattle.naga_form.specs.Readable.{handle_names}
+
+-- ---- words without parts: types, and what else stands in a type
+abbrev first_row : {X : Type 0} → X → List (List ℕ × X) → List ℕ → X
+first_row {X = X} other [] w = other
+first_row {X = X} other (row ∷ rows) w = elim (bytes_eq w row.0) as (λ b. X) [ true ↦ row.1 | false ↦ first_row other rows w ]
+
+abbrev format_row : StorageFormat → List ℕ × List ℕ
+format_row f = (format_word f, level 23 (tag_of format_names f) 0 0 0 0)
+
+abbrev depth_row : (multi : Bool) → ImageDimension → (arrayed : Bool) → List ℕ × List ℕ
+depth_row multi dim arrayed = (image_word (codes "texture_depth_") multi dim arrayed, level 9 (dimension_number dim) (truth_number arrayed) 1 (truth_number multi) 0)
+
+abbrev word_rows : List (List ℕ × List ℕ)
+word_rows =
+    (codes "bool", level 0 3 1 0 0 0) ∷
+    (codes "i16", level 0 0 2 0 0 0) ∷
+    (codes "i32", level 0 0 4 0 0 0) ∷
+    (codes "i64", level 0 0 8 0 0 0) ∷
+    (codes "u16", level 0 1 2 0 0 0) ∷
+    (codes "u32", level 0 1 4 0 0 0) ∷
+    (codes "u64", level 0 1 8 0 0 0) ∷
+    (codes "f16", level 0 2 2 0 0 0) ∷
+    (codes "f32", level 0 2 4 0 0 0) ∷
+    (codes "f64", level 0 2 8 0 0 0) ∷
+    (codes "texture_external", level 9 0 0 3 0 0) ∷
+    (codes "sampler", level 10 0 0 0 0 0) ∷
+    (codes "sampler_comparison", level 10 1 0 0 0 0) ∷
+    (codes "acceleration_structure", level 11 0 0 0 0 0) ∷
+    (codes "ray_query", level 12 0 0 0 0 0) ∷
+    (codes "write", level 21 0 0 0 0 0) ∷
+    (codes "read", level 21 1 0 0 0 0) ∷
+    (codes "read_write", level 21 2 1 0 0 0) ∷
+    (codes "atomic", level 21 3 2 0 0 0) ∷
+    (codes "function", level 22 0 0 0 0 0) ∷
+    (codes "private", level 22 1 0 0 0 0) ∷
+    (codes "workgroup", level 22 2 0 0 0 0) ∷
+    (codes "uniform", level 22 3 0 0 0 0) ∷
+    (codes "storage", level 22 4 0 0 0 0) ∷
+    (codes "immediate", level 22 6 0 0 0 0) ∷
+    (codes "task_payload", level 22 7 0 0 0 0) ∷
+    (codes "ray_payload", level 22 8 0 0 0 0) ∷
+    (codes "incoming_ray_payload", level 22 9 0 0 0 0) ∷
+    depth_row false D1 false ∷
+    depth_row false D1 true ∷
+    depth_row false D2 false ∷
+    depth_row false D2 true ∷
+    depth_row false D3 false ∷
+    depth_row false D3 true ∷
+    depth_row false Cube false ∷
+    depth_row false Cube true ∷
+    depth_row true D1 false ∷
+    depth_row true D1 true ∷
+    depth_row true D2 false ∷
+    depth_row true D2 true ∷
+    depth_row true D3 false ∷
+    depth_row true D3 true ∷
+    depth_row true Cube false ∷
+    depth_row true Cube true ∷
+    map format_row formats
+
+-- the numbers of a word. A word of one number is a struct's, an override's or a role's
+pub word_numbers : List ℕ → List ℕ
+word_numbers [] = []
+word_numbers (h ∷ []) = level 8 h 0 0 0 0
+word_numbers (x ∷ y ∷ w) = first_row [] word_rows (x ∷ y ∷ w)
+
+-- ---- words with parts
+-- how the numbers of the parts make those of the whole
+pub data Filling : Type 0 where
+  NoTemplate PointerTo : Filling
+  OverScalar : (tag third fourth : ℕ) → Filling
+  OverRole : (columns rows : ℕ) → Filling
+  SampledImage : (dim arrayed multi : ℕ) → Filling
+  StorageImage : (dim arrayed : ℕ) → Filling
+  ArrayOf : (tag : ℕ) → Filling
+  WithReturn : (tag : ℕ) → Filling
+
+abbrev vector_row : VectorSize → List ℕ × Filling
+vector_row n = (vector_word n, OverScalar 1 (vector_number n) 0)
+
+abbrev matrix_row : (columns rows : VectorSize) → List ℕ × Filling
+matrix_row c r = (matrix_word c r, OverScalar 2 (vector_number c) (vector_number r))
+
+abbrev cooperative_row : (columns rows : CooperativeSize) → List ℕ × Filling
+cooperative_row c r = (cooperative_word c r, OverRole (cooperative_number c) (cooperative_number r))
+
+abbrev sampled_row : (multi : Bool) → ImageDimension → (arrayed : Bool) → List ℕ × Filling
+sampled_row multi dim arrayed = (image_word (codes "texture_") multi dim arrayed, SampledImage (dimension_number dim) (truth_number arrayed) (truth_number multi))
+
+abbrev storage_row : ImageDimension → (arrayed : Bool) → List ℕ × Filling
+storage_row dim arrayed = (image_word (codes "texture_storage_") false dim arrayed, StorageImage (dimension_number dim) (truth_number arrayed))
+
+abbrev template_rows : List (List ℕ × Filling)
+template_rows =
+    vector_row Bi ∷
+    vector_row Tri ∷
+    vector_row Quad ∷
+    matrix_row Bi Bi ∷
+    matrix_row Bi Tri ∷
+    matrix_row Bi Quad ∷
+    matrix_row Tri Bi ∷
+    matrix_row Tri Tri ∷
+    matrix_row Tri Quad ∷
+    matrix_row Quad Bi ∷
+    matrix_row Quad Tri ∷
+    matrix_row Quad Quad ∷
+    cooperative_row Eight Eight ∷
+    cooperative_row Eight Sixteen ∷
+    cooperative_row Sixteen Eight ∷
+    cooperative_row Sixteen Sixteen ∷
+    (codes "atomic", OverScalar 4 0 0) ∷
+    (codes "ptr", PointerTo) ∷
+    (codes "array", ArrayOf 6) ∷
+    (codes "binding_array", ArrayOf 7) ∷
+    (codes "acceleration_structure", WithReturn 11) ∷
+    (codes "ray_query", WithReturn 12) ∷
+    sampled_row false D1 false ∷
+    sampled_row false D1 true ∷
+    sampled_row false D2 false ∷
+    sampled_row false D2 true ∷
+    sampled_row false D3 false ∷
+    sampled_row false D3 true ∷
+    sampled_row false Cube false ∷
+    sampled_row false Cube true ∷
+    sampled_row true D1 false ∷
+    sampled_row true D1 true ∷
+    sampled_row true D2 false ∷
+    sampled_row true D2 true ∷
+    sampled_row true D3 false ∷
+    sampled_row true D3 true ∷
+    sampled_row true Cube false ∷
+    sampled_row true Cube true ∷
+    storage_row D1 false ∷
+    storage_row D1 true ∷
+    storage_row D2 false ∷
+    storage_row D2 true ∷
+    storage_row D3 false ∷
+    storage_row D3 true ∷
+    storage_row Cube false ∷
+    storage_row Cube true ∷
+    []
+
+pub filling_of : List ℕ → Filling
+filling_of w = first_row NoTemplate template_rows w
+
+abbrev number_at : List (List ℕ) → (part place : ℕ) → ℕ
+number_at parts i j = get_or (get_or parts i []) j 0
+
+abbrev role_at : ℕ → ℕ
+role_at n = if n == 65 then 0 else (if n == 66 then 1 else 2)
+
+abbrev length_tag : ℕ → ℕ
+length_tag n = if n == 30 then 0 else (if n == 8 then 1 else 2)
+
+abbrev filled : Filling → (parts : List (List ℕ)) → List ℕ
+filled NoTemplate parts = []
+filled PointerTo parts = level 5 (number_at parts 0 1) (number_at parts 2 2) 0 0 0 ++ get_or parts 1 []
+filled (OverScalar tag third fourth) parts = level tag (number_at parts 0 1) (number_at parts 0 2) third fourth 0
+filled (OverRole c r) parts = level 3 (number_at parts 0 1) (number_at parts 0 2) c r (role_at (number_at parts 1 1))
+filled (SampledImage dim arrayed multi) parts = level 9 dim arrayed 0 (number_at parts 0 1) multi
+filled (StorageImage dim arrayed) parts = level 9 dim arrayed 2 (number_at parts 0 1) (number_at parts 1 1)
+filled (ArrayOf tag) parts = level tag (length_tag (number_at parts 1 0)) (number_at parts 1 1) 0 0 0 ++ get_or parts 0 []
+filled (WithReturn tag) parts = level tag 1 0 0 0 0
+
+abbrev mutual
+  pub tree_numbers : TypeSpecifier → List ℕ
+  tree_numbers (Named w) = word_numbers w
+  tree_numbers (Template w parts) = filled (filling_of w) (parts_numbers parts)
+
+  parts_numbers : TypeParts → List (List ℕ)
+  parts_numbers NoParts = []
+  parts_numbers (TypePart t more) = tree_numbers t ∷ parts_numbers more
+  parts_numbers (SizePart n more) = level 30 n 0 0 0 0 ∷ parts_numbers more
+
+pub no_numbers : tree_numbers (Named []) ≡ []
+unfolding word_numbers
+no_numbers = refl
+
+pub is_no : (b : Bool) → not b ≡ true → b ≡ false
+is_no true e = absurd (true≢false (sym e))
+is_no false e = refl
+
+-- ---- each word's row
+format_numbers : (f : StorageFormat) → word_numbers (format_word f) ≡ level 23 (tag_of format_names f) 0 0 0 0
+unfolding word_numbers
+format_numbers format.R8Unorm = refl
+format_numbers _ = refl
+
+vector_filling : (n : VectorSize) → filling_of (vector_word n) ≡ OverScalar 1 (vector_number n) 0
+unfolding filling_of
+vector_filling Bi = refl
+vector_filling _ = refl
+
+matrix_filling : (c r : VectorSize) → filling_of (matrix_word c r) ≡ OverScalar 2 (vector_number c) (vector_number r)
+unfolding filling_of
+matrix_filling Bi Bi = refl
+matrix_filling Bi Tri = refl
+matrix_filling Bi Quad = refl
+matrix_filling Tri Bi = refl
+matrix_filling Tri Tri = refl
+matrix_filling Tri Quad = refl
+matrix_filling Quad Bi = refl
+matrix_filling Quad Tri = refl
+matrix_filling Quad Quad = refl
+
+cooperative_filling : (c r : CooperativeSize) → filling_of (cooperative_word c r) ≡ OverRole (cooperative_number c) (cooperative_number r)
+unfolding filling_of
+cooperative_filling Eight Eight = refl
+cooperative_filling Eight Sixteen = refl
+cooperative_filling Sixteen Eight = refl
+cooperative_filling Sixteen Sixteen = refl
+
+sampled_filling : (multi : Bool) (dim : ImageDimension) (arrayed : Bool) → filling_of (image_word (codes "texture_") multi dim arrayed) ≡ SampledImage (dimension_number dim) (truth_number arrayed) (truth_number multi)
+unfolding filling_of
+sampled_filling false D1 false = refl
+sampled_filling false D1 true = refl
+sampled_filling false D2 false = refl
+sampled_filling false D2 true = refl
+sampled_filling false D3 false = refl
+sampled_filling false D3 true = refl
+sampled_filling false Cube false = refl
+sampled_filling false Cube true = refl
+sampled_filling true D1 false = refl
+sampled_filling true D1 true = refl
+sampled_filling true D2 false = refl
+sampled_filling true D2 true = refl
+sampled_filling true D3 false = refl
+sampled_filling true D3 true = refl
+sampled_filling true Cube false = refl
+sampled_filling true Cube true = refl
+
+storage_filling : (dim : ImageDimension) (arrayed : Bool) → filling_of (image_word (codes "texture_storage_") false dim arrayed) ≡ StorageImage (dimension_number dim) (truth_number arrayed)
+unfolding filling_of
+storage_filling D1 false = refl
+storage_filling D1 true = refl
+storage_filling D2 false = refl
+storage_filling D2 true = refl
+storage_filling D3 false = refl
+storage_filling D3 true = refl
+storage_filling Cube false = refl
+storage_filling Cube true = refl
+
+depth_numbers : (multi : Bool) (dim : ImageDimension) (arrayed : Bool) → word_numbers (image_word (codes "texture_depth_") multi dim arrayed) ≡ level 9 (dimension_number dim) (truth_number arrayed) 1 (truth_number multi) 0
+unfolding word_numbers
+depth_numbers false D1 false = refl
+depth_numbers false D1 true = refl
+depth_numbers false D2 false = refl
+depth_numbers false D2 true = refl
+depth_numbers false D3 false = refl
+depth_numbers false D3 true = refl
+depth_numbers false Cube false = refl
+depth_numbers false Cube true = refl
+depth_numbers true D1 false = refl
+depth_numbers true D1 true = refl
+depth_numbers true D2 false = refl
+depth_numbers true D2 true = refl
+depth_numbers true D3 false = refl
+depth_numbers true D3 true = refl
+depth_numbers true Cube false = refl
+depth_numbers true Cube true = refl
+
+role_numbers : (r : CooperativeRole) → role_at (get_or (word_numbers (role_word r)) 1 0) ≡ role_number r
+unfolding word_numbers
+role_numbers A = refl
+role_numbers _ = refl
+
+image_access_numbers : (a l s : Bool) → get_or (word_numbers (if a then codes "atomic" else (if l then (if s then codes "read_write" else codes "read") else codes "write"))) 1 0 ≡ (if a then 3 else (if l then (if s then 2 else 1) else 0))
+unfolding word_numbers
+image_access_numbers true l s = refl
+image_access_numbers false true true = refl
+image_access_numbers false true false = refl
+image_access_numbers false false s = refl
+
+-- a scalar of that kind and width
+abbrev IsScalarNumbers : (kind width : ℕ) → List ℕ → Type 0
+IsScalarNumbers k n w = word_numbers w ≡ level 0 k n 0 0 0
+
+scalar_choice : (k n m : ℕ) (u : List ℕ) (others : Option (List ℕ)) (w : List ℕ) → IsScalarNumbers k m u → (others ≡ Some w → IsScalarNumbers k n w) → (if n == m then Some u else others) ≡ Some w → IsScalarNumbers k n w
+scalar_choice k n m u others w one more e = by (n == m) refl e
+  where
+    by : (b : Bool) → (n == m) ≡ b → (if b then Some u else others) ≡ Some w → IsScalarNumbers k n w
+    by true at e =
+        let width : n ≡ m = eqb-true n m at in
+        let word : u ≡ w = same_Some u w e in
+        ap word_numbers (sym word) ∙ one ∙ ap (λ x. level 0 k x 0 0 0) (sym width)
+    by false at e = more e
+
+scalar_numbers : (k : ScalarKind) (n : ℕ) (w : List ℕ) → scalar_word_of k n ≡ Some w → IsScalarNumbers (kind_number k) n w
+unfolding word_numbers
+scalar_numbers kind.Bool n w e = scalar_choice 3 n 1 (codes "bool") None w refl (λ e. absurd (cc)) e
+scalar_numbers kind.Sint n w e = scalar_choice 0 n 2 (codes "i16") _ w refl (scalar_choice 0 n 4 (codes "i32") _ w refl (scalar_choice 0 n 8 (codes "i64") None w refl (λ e. absurd (cc)))) e
+scalar_numbers kind.Uint n w e = scalar_choice 1 n 2 (codes "u16") _ w refl (scalar_choice 1 n 4 (codes "u32") _ w refl (scalar_choice 1 n 8 (codes "u64") None w refl (λ e. absurd (cc)))) e
+scalar_numbers kind.Float n w e = scalar_choice 2 n 2 (codes "f16") _ w refl (scalar_choice 2 n 4 (codes "f32") _ w refl (scalar_choice 2 n 8 (codes "f64") None w refl (λ e. absurd (cc)))) e
+scalar_numbers kind.AbstractInt n w e = absurd (cc)
+scalar_numbers kind.AbstractFloat n w e = absurd (cc)
+
+-- ---- each type
+over_is_told : (word : Option (List ℕ)) (over : TypeSpecifier → TypeSpecifier) (it : List ℕ) → ((w : List ℕ) → word ≡ Some w → tree_numbers (over (Named w)) ≡ it) → (if is_some word then Some it else None) ≡ option_map tree_numbers (option_map over (option_map Named word))
+over_is_told None over it e = refl
+over_is_told (Some w) over it e = ap Some (sym (e w refl))
+
+scalar_is_told : (s : Scalar) → scalar_form s ≡ option_map tree_numbers (scalar_tree s)
+scalar_is_told s = by (scalar_word s) (scalar_numbers s.kind s.width)
+  where
+    by : (word : Option (List ℕ)) → ((w : List ℕ) → word ≡ Some w → IsScalarNumbers (kind_number s.kind) s.width w) → (if is_some word then Some (level 0 (kind_number s.kind) s.width 0 0 0) else None) ≡ option_map tree_numbers (option_map Named word)
+    by None e = refl
+    by (Some w) e = ap Some (sym (e w refl))
+
+-- a type over a scalar, by its word's row
+scalar_part : (word : List ℕ) (filling : Filling) → filling_of word ≡ filling → (s : Scalar) (w : List ℕ) → scalar_word s ≡ Some w → tree_numbers (of_one word (Named w)) ≡ filled filling (level 0 (kind_number s.kind) s.width 0 0 0 ∷ [])
+scalar_part word filling row s w e = λ i. filled (row i) (scalar_numbers s.kind s.width w e i ∷ [])
+
+value_is_told : (n : Option VectorSize) (s : Scalar) → value_form n s ≡ option_map tree_numbers (value_tree n s)
+value_is_told None s = scalar_is_told s
+value_is_told (Some n) s = over_is_told (scalar_word s) (of_one (vector_word n)) _ (scalar_part (vector_word n) _ (vector_filling n) s)
+
+buffer_is_told : (a s : Bool) (t : TypeSpecifier) → level 5 4 (if a then 2 else (if s then 1 else 0)) 0 0 0 ++ tree_numbers t ≡ tree_numbers (pointer_tree (codes "storage") (if a then Some (codes "atomic") else (if s then Some (codes "read_write") else None)) t)
+unfolding word_numbers filling_of
+buffer_is_told true s t = refl
+buffer_is_told false true t = refl
+buffer_is_told false false t = refl
+
+pointer_is_told : (at : AddressSpace) → is_handle_space at ≡ false → (p : Option (List ℕ)) (o : Option TypeSpecifier) → p ≡ option_map tree_numbers o → pointer_form at p ≡ option_map tree_numbers (pointer_tree_in (space_word at) (space_access_word at) o)
+unfolding word_numbers filling_of
+pointer_is_told at named p o e = ap (pointer_form at) e ∙ by o
+  where
+    nothing : (word access : Option (List ℕ)) → None ≡ option_map tree_numbers (pointer_tree_in word access None)
+    nothing None access = refl
+    nothing (Some word) access = refl
+
+    pointee : (at : AddressSpace) → is_handle_space at ≡ false → (t : TypeSpecifier) → pointer_form at (Some (tree_numbers t)) ≡ option_map tree_numbers (pointer_tree_in (space_word at) (space_access_word at) (Some t))
+    pointee (space.Storage access) named t = ap Some (buffer_is_told (has atomic_bit access) (has store_bit access) t)
+    pointee space.Handle named t = absurd (true≢false named)
+    pointee space.Function named t = refl
+    pointee space.Private named t = refl
+    pointee space.WorkGroup named t = refl
+    pointee space.Uniform named t = refl
+    pointee space.Immediate named t = refl
+    pointee space.TaskPayload named t = refl
+    pointee space.RayPayload named t = refl
+    pointee space.IncomingRayPayload named t = refl
+
+    by : (o : Option TypeSpecifier) → pointer_form at (option_map tree_numbers o) ≡ option_map tree_numbers (pointer_tree_in (space_word at) (space_access_word at) o)
+    by None = nothing (space_word at) (space_access_word at)
+    by (Some t) = pointee at named t
+
+value_pointer_is_told : (at : AddressSpace) (p : Option (List ℕ)) (o : Option TypeSpecifier) → p ≡ option_map tree_numbers o → value_pointer_form at p ≡ option_map tree_numbers (value_pointer_tree_in (space_word at) (space_access_word at) o)
+value_pointer_is_told space.Handle p o e = refl
+value_pointer_is_told space.Function p o e = pointer_is_told space.Function refl p o e
+value_pointer_is_told space.Private p o e = pointer_is_told space.Private refl p o e
+value_pointer_is_told space.WorkGroup p o e = pointer_is_told space.WorkGroup refl p o e
+value_pointer_is_told space.Uniform p o e = pointer_is_told space.Uniform refl p o e
+value_pointer_is_told (space.Storage access) p o e = pointer_is_told (space.Storage access) refl p o e
+value_pointer_is_told space.Immediate p o e = pointer_is_told space.Immediate refl p o e
+value_pointer_is_told space.TaskPayload p o e = pointer_is_told space.TaskPayload refl p o e
+value_pointer_is_told space.RayPayload p o e = pointer_is_told space.RayPayload refl p o e
+value_pointer_is_told space.IncomingRayPayload p o e = pointer_is_told space.IncomingRayPayload refl p o e
+
+array_is_told : (types : List Type_) (word : List ℕ) (tag : ℕ) → filling_of word ≡ ArrayOf tag → (n : ArraySize) (p : Option (List ℕ)) (o : Option TypeSpecifier) → p ≡ option_map tree_numbers o → array_form tag n p ≡ option_map tree_numbers (option_map (array_tree (handle_names types) word n) o)
+unfolding word_numbers
+array_is_told types word tag row n p o e = ap (array_form tag n) e ∙ by n o
+  where
+    by : (n : ArraySize) (o : Option TypeSpecifier) → array_form tag n (option_map tree_numbers o) ≡ option_map tree_numbers (option_map (array_tree (handle_names types) word n) o)
+    by (size.Constant number) None = refl
+    by (size.Pending handle) None = refl
+    by size.Dynamic None = refl
+    by (size.Constant number) (Some t) = λ i. Some (filled (sym row i) (parts_numbers (TypePart t (SizePart (non_zero_u32_get number) NoParts))))
+    by (size.Pending handle) (Some t) = λ i. Some (filled (sym row i) (parts_numbers (TypePart t (TypePart (Named (handle ∷ [])) NoParts))))
+    by size.Dynamic (Some t) = λ i. Some (filled (sym row i) (parts_numbers (TypePart t NoParts)))
+
+image_is_told : (dim : ImageDimension) (arrayed : Bool) (c : ImageClass) → image_form dim arrayed c ≡ option_map tree_numbers (image_tree dim arrayed c)
+unfolding word_numbers
+image_is_told dim arrayed (class.Sampled k multi) =
+    let s : Scalar = record { kind = k; width = 4 } in
+    let word = image_word (codes "texture_") multi dim arrayed in
+    over_is_told (scalar_word s) (of_one word) _ (scalar_part word _ (sampled_filling multi dim arrayed) s)
+image_is_told dim arrayed (class.Depth multi) = ap Some (sym (depth_numbers multi dim arrayed))
+image_is_told dim arrayed class.External = refl
+image_is_told dim arrayed (class.Storage f access) =
+    let access_told = image_access_numbers (has atomic_bit access) (has load_bit access) (has store_bit access) in
+    sym ((λ i. Some (filled (storage_filling dim arrayed i) (format_numbers f i ∷ word_numbers (image_access_word access) ∷ []))) ∙
+    ap (λ x. Some (level 9 (dimension_number dim) (truth_number arrayed) 2 (tag_of format_names f) x)) access_told)
+
+sampler_is_told : (b : Bool) → Some (level 10 (truth_number b) 0 0 0 0) ≡ Some (word_numbers (sampler_word b))
+unfolding word_numbers
+sampler_is_told true = refl
+sampler_is_told false = refl
+
+structure_is_told : (b : Bool) → Some (level 11 (truth_number b) 0 0 0 0) ≡ Some (tree_numbers (ray_tree (codes "acceleration_structure") b))
+unfolding word_numbers filling_of
+structure_is_told true = refl
+structure_is_told false = refl
+
+query_is_told : (b : Bool) → Some (level 12 (truth_number b) 0 0 0 0) ≡ Some (tree_numbers (ray_tree (codes "ray_query") b))
+unfolding word_numbers filling_of
+query_is_told true = refl
+query_is_told false = refl
+
+module _ (types : List Type_) where
+  inner_is_told : (f : ℕ → Option (List ℕ)) (g : ℕ → Option TypeSpecifier) → ((h : ℕ) → f h ≡ option_map tree_numbers (g h)) → (it : TypeInner) → is_handle_pointer it ≡ false → inner_form_by f it ≡ option_map tree_numbers (inner_tree_by (handle_names types) g it)
+  unfolding filling_of
+  inner_is_told f g same (inner.Scalar s) named = scalar_is_told s
+  inner_is_told f g same (inner.Vector n s) named = value_is_told (Some n) s
+  inner_is_told f g same (inner.Matrix c r s) named = over_is_told (scalar_word s) (of_one (matrix_word c r)) _ (scalar_part (matrix_word c r) _ (matrix_filling c r) s)
+  inner_is_told f g same (inner.CooperativeMatrix c r s role) named =
+      over_is_told (scalar_word s) (λ t. of_two (cooperative_word c r) t (Named (role_word role))) _
+      (λ w e. (λ i. filled (cooperative_filling c r i) (scalar_numbers s.kind s.width w e i ∷ word_numbers (role_word role) ∷ [])) ∙
+      ap (λ x. level 3 (kind_number s.kind) s.width (cooperative_number c) (cooperative_number r) x) (role_numbers role))
+  inner_is_told f g same (inner.Atomic s) named = over_is_told (scalar_word s) (of_one (codes "atomic")) _ (scalar_part (codes "atomic") _ refl s)
+  inner_is_told f g same (inner.Pointer base at) named = pointer_is_told at named (f base) (g base) (same base)
+  inner_is_told f g same (inner.ValuePointer n s at) named = value_pointer_is_told at (value_form n s) (value_tree n s) (value_is_told n s)
+  inner_is_told f g same (inner.Array base n stride) named = array_is_told types (codes "array") 6 refl n (f base) (g base) (same base)
+  inner_is_told f g same (inner.BindingArray base n) named = array_is_told types (codes "binding_array") 7 refl n (f base) (g base) (same base)
+  inner_is_told f g same (inner.Struct members span) named = refl
+  inner_is_told f g same (inner.Image dim arrayed c) named = image_is_told dim arrayed c
+  inner_is_told f g same (inner.Sampler comparison) named = sampler_is_told comparison
+  inner_is_told f g same (inner.AccelerationStructure b) named = structure_is_told b
+  inner_is_told f g same (inner.RayQuery b) named = query_is_told b
+
+  module _ (named : (h : ℕ) (t : Type_) → slice_get types h ≡ Some t → is_handle_pointer t.inner ≡ false) where
+    found_is_told : (f : ℕ → Option (List ℕ)) (g : ℕ → Option TypeSpecifier) → ((h : ℕ) → f h ≡ option_map tree_numbers (g h)) → (h : ℕ) (o : Option Type_) → slice_get types h ≡ o → found_form_by f h o ≡ option_map tree_numbers (found_tree_by (handle_names types) g h o)
+    unfolding word_numbers
+    found_is_told f g same h None at = refl
+    found_is_told f g same h (Some t) at = by (is_struct t.inner) _ _ (inner_is_told f g same t.inner (named h t at))
+      where
+        by : (b : Bool) (x : Option (List ℕ)) (y : Option TypeSpecifier) → x ≡ option_map tree_numbers y → (if b then Some (level 8 h 0 0 0 0) else x) ≡ option_map tree_numbers (if b then Some (Named (h ∷ [])) else y)
+        by true x y e = refl
+        by false x y e = e
+
+    within_is_told : (levels h : ℕ) → form_within levels types h ≡ option_map tree_numbers (tree_within levels (handle_names types) h)
+    within_is_told zero h = refl
+    within_is_told (suc levels) h = found_is_told (form_within levels types) (tree_within levels (handle_names types)) (within_is_told levels) h (slice_get types h) refl
+
+    handle_is_told : (h : ℕ) → handle_form types h ≡ option_map tree_numbers (type_tree (handle_names types) h)
+    unfolding type_tree handle_form
+    handle_is_told h = within_is_told (suc h) h
+
+    -- a type's numbers can be read off its tree
+    pub form_is_told : (r : TypeResolution) → resolution_is_fit r ≡ true → type_form types r ≡ option_map tree_numbers (resolution_tree (handle_names types) r)
+    form_is_told (Handle h) fit = handle_is_told h
+    form_is_told (Value it) fit = inner_is_told (handle_form types) (type_tree (handle_names types)) handle_is_told it (is_no (is_handle_pointer it) (and_parts _ _ fit).1)

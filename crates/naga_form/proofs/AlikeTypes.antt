@@ -1,0 +1,267 @@
+-- The numbers that tell a type with a form, and the tree that it is read as, tell the same: each can
+-- be read off the other. So types are alike by their numbers that are alike by their trees.
+use Rattle.std.proofs.Common.{◌≡◌, ℕ, zero, suc, Bool, true, false, List, [], ◌∷◌, refl}
+use Rattle.std.proofs.Common.{sym, ap, ◌∙◌, codes, Option, Some, None, slice_get, get_or}
+use Rattle.std.proofs.Common.{if◌then◌else◌}
+use Rattle.std.specs.Prelude.{unwrap_or}
+use Rattle.std.specs.Option.{option_map, is_some}
+use Rattle.naga_ir.specs.declared.image.StorageFormat.{StorageFormat}
+use Rattle.naga_ir.specs.declared.image.StorageFormat.TheVariants as format
+use Rattle.naga_ir.specs.declared.image.ImageClass.{ImageClass}
+use Rattle.naga_ir.specs.declared.image.ImageClass.TheVariants as class
+use Rattle.naga_ir.specs.declared.image.ImageDimension.{ImageDimension}
+use Rattle.naga_ir.specs.declared.types.AddressSpace.{AddressSpace}
+use Rattle.naga_ir.specs.declared.types.AddressSpace.TheVariants as space
+use Rattle.naga_ir.specs.declared.types.ArraySize.{ArraySize}
+use Rattle.naga_ir.specs.declared.types.ArraySize.TheVariants as size
+use Rattle.naga_ir.specs.declared.types.Scalar.{Scalar}
+use Rattle.naga_ir.specs.declared.types.Type_.{Type_}
+use Rattle.naga_ir.specs.declared.types.TypeInner.{TypeInner}
+use Rattle.naga_ir.specs.declared.types.TypeInner.TheVariants as inner
+use Rattle.naga_ir.specs.declared.types.VectorSize.{VectorSize}
+use Rattle.naga_info.specs.declared.info.TypeResolution.{TypeResolution}
+use Rattle.naga_info.specs.declared.info.TypeResolution.TheVariants.{Handle, Value}
+use Rattle.wgsl_text.specs.Types.{TypeSpecifier, Named, Template, NoParts, TypePart}
+use Rattle.wgsl_text.specs.Types.{SizePart, of_one, of_two, pointer_tree}
+use Rattle.wgsl_words.specs.Words.{scalar_word, scalar_word_of, space_word, space_access_word}
+use Rattle.wgsl_words.specs.Words.{format_word, role_word, has, atomic_bit}
+use Rattle.wgsl_words.specs.Words.{store_bit, load_bit}
+use Rattle.naga_words.specs.Words.{vector_word, matrix_word, cooperative_word, image_word}
+use Rattle.naga_words.specs.Words.{sampler_word}
+use Rattle.naga_words.specs.Spelling.{is_struct}
+use Rattle.module_meaning.specs.TypeIdentity.{level}
+use Rattle.module_meaning.specs.TypeIdentity.{kind_number}
+use Rattle.module_meaning.specs.TypeIdentity.{space_number}
+use Rattle.module_meaning.proofs.TypeIdentity.{truth_of, truth_told, kind_of, kind_told, vector_of}
+use Rattle.module_meaning.proofs.TypeIdentity.{vector_told, cooperative_of, cooperative_told}
+use Rattle.module_meaning.proofs.TypeIdentity.{role_of, role_told, dimension_of, dimension_told}
+use Rattle.module_meaning.proofs.TypeIdentity.{formats, format_told}
+use Rattle.module_meaning.specs.AlikeTypes.{over_scalar, value_form, access_number}
+use Rattle.module_meaning.specs.AlikeTypes.{pointer_form, value_pointer_form, array_form, image_form}
+use Rattle.module_meaning.specs.AlikeTypes.{inner_form_by}
+use Rattle.module_meaning.specs.AlikeTypes.{found_form_by, form_within, handle_form}
+use Rattle.module_meaning.specs.AlikeTypes.{type_form}
+use Rattle.naga_form.specs.TypeTrees.{value_tree, pointer_tree_in, array_tree}
+use Rattle.naga_form.specs.TypeTrees.{value_pointer_tree_in, image_tree, ray_tree, inner_tree_by}
+use Rattle.naga_form.specs.TypeTrees.{found_tree_by, tree_within, type_tree}
+use Rattle.naga_form.specs.TypeTrees.{resolution_tree}
+use Rattle.naga_form.specs.Readable.{handle_names}
+
+-- ---- from numbers to trees
+scalar_read : (kind width : ℕ) → TypeSpecifier
+scalar_read k n = Named (unwrap_or (scalar_word_of (kind_of k) n) [])
+
+abbrev space_read : ℕ → Option (List ℕ)
+space_read n =
+    get_or (Some (codes "function") ∷ Some (codes "private") ∷ Some (codes "workgroup") ∷ Some (codes "uniform") ∷ Some (codes "storage") ∷ None ∷
+    Some (codes "immediate") ∷ Some (codes "task_payload") ∷ Some (codes "ray_payload") ∷ Some (codes "incoming_ray_payload") ∷ []) n None
+
+abbrev buffer_access_read : ℕ → Option (List ℕ)
+buffer_access_read n = get_or (None ∷ Some (codes "read_write") ∷ Some (codes "atomic") ∷ []) n None
+
+abbrev pointer_read : Option (List ℕ) → (access : Option (List ℕ)) → TypeSpecifier → TypeSpecifier
+pointer_read None access pointee = pointee
+pointer_read (Some word) access pointee = pointer_tree word access pointee
+
+abbrev array_read : List ℕ → (length number : ℕ) → TypeSpecifier → TypeSpecifier
+array_read word l n element =
+    get_or (Template word (TypePart element (SizePart n NoParts)) ∷ of_two word element (Named (n ∷ [])) ∷ []) l (of_one word element)
+
+abbrev access_read : ℕ → List ℕ
+access_read n = get_or (codes "write" ∷ codes "read" ∷ codes "read_write" ∷ codes "atomic" ∷ []) n []
+
+abbrev format_read : ℕ → StorageFormat
+format_read n = get_or formats n format.R8Unorm
+
+image_read : ImageDimension → (arrayed : Bool) → (class first second : ℕ) → TypeSpecifier
+image_read dim arrayed c d e =
+    get_or (
+    of_one (image_word (codes "texture_") (truth_of e) dim arrayed) (scalar_read d 4) ∷
+    Named (image_word (codes "texture_depth_") (truth_of d) dim arrayed) ∷
+    of_two (image_word (codes "texture_storage_") false dim arrayed) (Named (format_word (format_read d))) (Named (access_read e)) ∷
+    []
+    ) c (Named (codes "texture_external"))
+
+-- a level, above what it is over
+pub level_read : (tag a b c d e : ℕ) → TypeSpecifier → TypeSpecifier
+level_read tag a b c d e more =
+    get_or (
+    scalar_read a b ∷
+    of_one (vector_word (vector_of c)) (scalar_read a b) ∷
+    of_one (matrix_word (vector_of c) (vector_of d)) (scalar_read a b) ∷
+    of_two (cooperative_word (cooperative_of c) (cooperative_of d)) (scalar_read a b) (Named (role_word (role_of e))) ∷
+    of_one (codes "atomic") (scalar_read a b) ∷
+    pointer_read (space_read a) (buffer_access_read b) more ∷
+    array_read (codes "array") a b more ∷
+    array_read (codes "binding_array") a b more ∷
+    Named (a ∷ []) ∷
+    image_read (dimension_of a) (truth_of b) c d e ∷
+    Named (sampler_word (truth_of a)) ∷
+    ray_tree (codes "acceleration_structure") (truth_of a) ∷
+    ray_tree (codes "ray_query") (truth_of a) ∷
+    []
+    ) tag (Named [])
+
+abbrev pub form_read : List ℕ → TypeSpecifier
+form_read (tag ∷ a ∷ b ∷ c ∷ d ∷ e ∷ more) = level_read tag a b c d e (form_read more)
+form_read _ = Named []
+
+-- no level begins with the number of a type without a form
+pub other_read : (code : List ℕ) → form_read (32 ∷ code) ≡ Named []
+unfolding level_read
+other_read [] = refl
+other_read (a ∷ []) = refl
+other_read (a ∷ b ∷ []) = refl
+other_read (a ∷ b ∷ c ∷ []) = refl
+other_read (a ∷ b ∷ c ∷ d ∷ []) = refl
+other_read (a ∷ b ∷ c ∷ d ∷ e ∷ more) = refl
+
+space_is_read : (at : AddressSpace) → space_read (space_number at) ≡ space_word at
+space_is_read space.Function = refl
+space_is_read _ = refl
+
+buffer_is_read : (a s : Bool) → buffer_access_read (if a then 2 else (if s then 1 else 0)) ≡ (if a then Some (codes "atomic") else (if s then Some (codes "read_write") else None))
+buffer_is_read true s = refl
+buffer_is_read false true = refl
+buffer_is_read false false = refl
+
+access_number_is_read : (at : AddressSpace) → buffer_access_read (access_number at) ≡ space_access_word at
+access_number_is_read (space.Storage access) = buffer_is_read (has atomic_bit access) (has store_bit access)
+access_number_is_read _ = refl
+
+image_access_is_read : (a l s : Bool) → access_read (if a then 3 else (if l then (if s then 2 else 1) else 0)) ≡ (if a then codes "atomic" else (if l then (if s then codes "read_write" else codes "read") else codes "write"))
+image_access_is_read true l s = refl
+image_access_is_read false true true = refl
+image_access_is_read false true false = refl
+image_access_is_read false false s = refl
+
+-- a scalar's word, and a type over the scalar
+scalar_is_read : (s : Scalar) → scalar_read (kind_number s.kind) s.width ≡ Named (unwrap_or (scalar_word s) [])
+unfolding scalar_read
+scalar_is_read s = λ i. Named (unwrap_or (scalar_word_of (kind_told s.kind i) s.width) [])
+
+over_is_read : (word : Option (List ℕ)) (over : TypeSpecifier → TypeSpecifier) (it : List ℕ) → form_read it ≡ over (Named (unwrap_or word [])) → option_map over (option_map Named word) ≡ option_map form_read (if is_some word then Some it else None)
+over_is_read None over it e = refl
+over_is_read (Some word) over it e = ap Some (sym e)
+
+scalar_form_is_read : (s : Scalar) → option_map Named (scalar_word s) ≡ option_map form_read (over_scalar 0 s 0 0 0)
+unfolding level_read
+scalar_form_is_read s = by (scalar_word s) (scalar_is_read s)
+  where
+    by : (word : Option (List ℕ)) → scalar_read (kind_number s.kind) s.width ≡ Named (unwrap_or word []) → option_map Named word ≡ option_map form_read (if is_some word then Some (level 0 (kind_number s.kind) s.width 0 0 0) else None)
+    by None e = refl
+    by (Some word) e = ap Some (sym e)
+
+value_form_is_read : (n : Option VectorSize) (s : Scalar) → value_tree n s ≡ option_map form_read (value_form n s)
+unfolding level_read
+value_form_is_read None s = scalar_form_is_read s
+value_form_is_read (Some n) s = over_is_read (scalar_word s) (of_one (vector_word n)) _ (λ i. of_one (vector_word (vector_told n i)) (scalar_is_read s i))
+
+pointer_is_read : (at : AddressSpace) (o : Option TypeSpecifier) (p : Option (List ℕ)) → o ≡ option_map form_read p → pointer_tree_in (space_word at) (space_access_word at) o ≡ option_map form_read (pointer_form at p)
+unfolding level_read
+pointer_is_read at o p e = ap (pointer_tree_in (space_word at) (space_access_word at)) e ∙ by p
+  where
+    chosen : (word access : Option (List ℕ)) (t : TypeSpecifier) → pointer_tree_in word access (Some t) ≡ Some (pointer_read word access t)
+    chosen None access t = refl
+    chosen (Some word) access t = refl
+
+    nothing : (word access : Option (List ℕ)) → pointer_tree_in word access None ≡ None
+    nothing None access = refl
+    nothing (Some word) access = refl
+
+    by : (p : Option (List ℕ)) → pointer_tree_in (space_word at) (space_access_word at) (option_map form_read p) ≡ option_map form_read (pointer_form at p)
+    by None = nothing (space_word at) (space_access_word at)
+    by (Some it) =
+        chosen (space_word at) (space_access_word at) (form_read it) ∙
+        (λ i. Some (pointer_read (sym (space_is_read at) i) (sym (access_number_is_read at) i) (form_read it)))
+
+value_pointer_is_read : (at : AddressSpace) (o : Option TypeSpecifier) (p : Option (List ℕ)) → o ≡ option_map form_read p → value_pointer_tree_in (space_word at) (space_access_word at) o ≡ option_map form_read (value_pointer_form at p)
+value_pointer_is_read space.Handle o p e = refl
+value_pointer_is_read space.Function o p e = pointer_is_read space.Function o p e
+value_pointer_is_read space.Private o p e = pointer_is_read space.Private o p e
+value_pointer_is_read space.WorkGroup o p e = pointer_is_read space.WorkGroup o p e
+value_pointer_is_read space.Uniform o p e = pointer_is_read space.Uniform o p e
+value_pointer_is_read (space.Storage access) o p e = pointer_is_read (space.Storage access) o p e
+value_pointer_is_read space.Immediate o p e = pointer_is_read space.Immediate o p e
+value_pointer_is_read space.TaskPayload o p e = pointer_is_read space.TaskPayload o p e
+value_pointer_is_read space.RayPayload o p e = pointer_is_read space.RayPayload o p e
+value_pointer_is_read space.IncomingRayPayload o p e = pointer_is_read space.IncomingRayPayload o p e
+
+array_is_read : (types : List Type_) (n : ArraySize) (o : Option TypeSpecifier) (p : Option (List ℕ)) → o ≡ option_map form_read p → option_map (array_tree (handle_names types) (codes "array") n) o ≡ option_map form_read (array_form 6 n p)
+unfolding level_read
+array_is_read types n o p e = ap (option_map (array_tree (handle_names types) (codes "array") n)) e ∙ by n p
+  where
+    by : (n : ArraySize) (p : Option (List ℕ)) → option_map (array_tree (handle_names types) (codes "array") n) (option_map form_read p) ≡ option_map form_read (array_form 6 n p)
+    by (size.Constant number) None = refl
+    by (size.Constant number) (Some it) = refl
+    by (size.Pending o) None = refl
+    by (size.Pending o) (Some it) = refl
+    by size.Dynamic None = refl
+    by size.Dynamic (Some it) = refl
+
+binding_array_is_read : (types : List Type_) (n : ArraySize) (o : Option TypeSpecifier) (p : Option (List ℕ)) → o ≡ option_map form_read p → option_map (array_tree (handle_names types) (codes "binding_array") n) o ≡ option_map form_read (array_form 7 n p)
+unfolding level_read
+binding_array_is_read types n o p e = ap (option_map (array_tree (handle_names types) (codes "binding_array") n)) e ∙ by n p
+  where
+    by : (n : ArraySize) (p : Option (List ℕ)) → option_map (array_tree (handle_names types) (codes "binding_array") n) (option_map form_read p) ≡ option_map form_read (array_form 7 n p)
+    by (size.Constant number) None = refl
+    by (size.Constant number) (Some it) = refl
+    by (size.Pending o) None = refl
+    by (size.Pending o) (Some it) = refl
+    by size.Dynamic None = refl
+    by size.Dynamic (Some it) = refl
+
+image_is_read : (dim : ImageDimension) (arrayed : Bool) (c : ImageClass) → image_tree dim arrayed c ≡ option_map form_read (image_form dim arrayed c)
+unfolding level_read image_read
+image_is_read dim arrayed (class.Sampled k multi) =
+    let s : Scalar = record { kind = k; width = 4 } in
+    over_is_read (scalar_word s) (of_one (image_word (codes "texture_") multi dim arrayed)) _
+    (λ i. of_one (image_word (codes "texture_") (truth_told multi i) (dimension_told dim i) (truth_told arrayed i)) (scalar_is_read s i))
+image_is_read dim arrayed (class.Depth multi) = λ i. Some (Named (image_word (codes "texture_depth_") (sym (truth_told multi) i) (sym (dimension_told dim) i) (sym (truth_told arrayed) i)))
+image_is_read dim arrayed class.External = refl
+image_is_read dim arrayed (class.Storage f access) =
+    let access_told = image_access_is_read (has atomic_bit access) (has load_bit access) (has store_bit access) in
+    λ i. Some (of_two (image_word (codes "texture_storage_") false (sym (dimension_told dim) i) (sym (truth_told arrayed) i)) (Named (format_word (sym (format_told f) i))) (Named (sym access_told i)))
+
+module _ (types : List Type_) where
+  inner_is_read : (f : ℕ → Option (List ℕ)) (g : ℕ → Option TypeSpecifier) → ((h : ℕ) → g h ≡ option_map form_read (f h)) → (it : TypeInner) → inner_tree_by (handle_names types) g it ≡ option_map form_read (inner_form_by f it)
+  unfolding level_read
+  inner_is_read f g same (inner.Scalar s) = scalar_form_is_read s
+  inner_is_read f g same (inner.Vector n s) = value_form_is_read (Some n) s
+  inner_is_read f g same (inner.Matrix columns rows s) =
+      over_is_read (scalar_word s) (of_one (matrix_word columns rows)) _ (λ i. of_one (matrix_word (vector_told columns i) (vector_told rows i)) (scalar_is_read s i))
+  inner_is_read f g same (inner.CooperativeMatrix columns rows s role) =
+      over_is_read (scalar_word s) (λ t. of_two (cooperative_word columns rows) t (Named (role_word role))) _
+      (λ i. of_two (cooperative_word (cooperative_told columns i) (cooperative_told rows i)) (scalar_is_read s i) (Named (role_word (role_told role i))))
+  inner_is_read f g same (inner.Atomic s) = over_is_read (scalar_word s) (of_one (codes "atomic")) _ (λ i. of_one (codes "atomic") (scalar_is_read s i))
+  inner_is_read f g same (inner.Pointer base at) = pointer_is_read at (g base) (f base) (same base)
+  inner_is_read f g same (inner.ValuePointer n s at) = value_pointer_is_read at (value_tree n s) (value_form n s) (value_form_is_read n s)
+  inner_is_read f g same (inner.Array base n stride) = array_is_read types n (g base) (f base) (same base)
+  inner_is_read f g same (inner.BindingArray base n) = binding_array_is_read types n (g base) (f base) (same base)
+  inner_is_read f g same (inner.Struct members span) = refl
+  inner_is_read f g same (inner.Image dim arrayed c) = image_is_read dim arrayed c
+  inner_is_read f g same (inner.Sampler comparison) = λ i. Some (Named (sampler_word (sym (truth_told comparison) i)))
+  inner_is_read f g same (inner.AccelerationStructure b) = λ i. Some (ray_tree (codes "acceleration_structure") (sym (truth_told b) i))
+  inner_is_read f g same (inner.RayQuery b) = λ i. Some (ray_tree (codes "ray_query") (sym (truth_told b) i))
+
+  found_is_read : (f : ℕ → Option (List ℕ)) (g : ℕ → Option TypeSpecifier) → ((h : ℕ) → g h ≡ option_map form_read (f h)) → (h : ℕ) (o : Option Type_) → found_tree_by (handle_names types) g h o ≡ option_map form_read (found_form_by f h o)
+  unfolding level_read
+  found_is_read f g same h None = refl
+  found_is_read f g same h (Some t) = by (is_struct t.inner) _ _ (inner_is_read f g same t.inner)
+    where
+      by : (b : Bool) (x : Option TypeSpecifier) (y : Option (List ℕ)) → x ≡ option_map form_read y → (if b then Some (Named (h ∷ [])) else x) ≡ option_map form_read (if b then Some (level 8 h 0 0 0 0) else y)
+      by true x y e = refl
+      by false x y e = e
+
+  within_is_read : (levels h : ℕ) → tree_within levels (handle_names types) h ≡ option_map form_read (form_within levels types h)
+  within_is_read zero h = refl
+  within_is_read (suc levels) h = found_is_read (form_within levels types) (tree_within levels (handle_names types)) (within_is_read levels) h (slice_get types h)
+
+  handle_is_read : (h : ℕ) → type_tree (handle_names types) h ≡ option_map form_read (handle_form types h)
+  unfolding type_tree handle_form
+  handle_is_read h = within_is_read (suc h) h
+
+  -- a type's tree can be read off its numbers
+  pub form_is_read : (r : TypeResolution) → resolution_tree (handle_names types) r ≡ option_map form_read (type_form types r)
+  form_is_read (Handle h) = handle_is_read h
+  form_is_read (Value it) = inner_is_read (handle_form types) (type_tree (handle_names types)) handle_is_read it

@@ -1,0 +1,83 @@
+//! Words of diagnostics.
+use naga_wgsl_out::diagnostics::{
+    DisplayWgslIdent, FilterableTriggeringRule, FromWgslIdent, Severity,
+    StandardFilterableTriggeringRule, ToWgslIdent,
+};
+use std::alloc::{AllocError, Global};
+use std::process::Abort;
+use std::test::Fail;
+
+const SEVERITIES: &[(&str, Option<Severity>)] = &[
+    ("off", Some(Severity::Off)),
+    ("info", Some(Severity::Info)),
+    ("warning", Some(Severity::Warning)),
+    ("error", Some(Severity::Error)),
+    ("Off", None),
+    ("", None),
+    ("off ", None),
+];
+
+#[test]
+fn severities_are_read(rt: HostRuntime) {
+    for (word, want) in SEVERITIES {
+        assert_eq!(rt; Severity::from_wgsl_ident(*word), *want, "for {word:?}");
+    }
+}
+
+#[test]
+fn rules_are_read_and_told(rt: HostRuntime) {
+    let rule = StandardFilterableTriggeringRule::DerivativeUniformity;
+    assert_eq!(rt; rule.to_wgsl_ident(), "derivative_uniformity");
+    for (word, want) in [
+        ("derivative_uniformity", Some(rule)),
+        ("Derivative_uniformity", None),
+        ("derivative.uniformity", None),
+        ("", None),
+    ] {
+        let read = StandardFilterableTriggeringRule::from_wgsl_ident(word);
+        assert_eq!(rt; read, want, "for {word:?}");
+    }
+}
+
+/// The rule is shown so.
+fn is_shown(
+    rt: &impl Abort,
+    alloc: Global,
+    rule: FilterableTriggeringRule,
+    want: &str,
+) -> Result<(), AllocError> {
+    let shown = rule.display_wgsl_ident().to_string(alloc)?;
+    assert_eq!(rt; shown.as_str(), want);
+    Ok(())
+}
+
+fn shown_in(rt: &impl Abort, alloc: Global) -> Result<(), AllocError> {
+    let known = StandardFilterableTriggeringRule::DerivativeUniformity;
+    is_shown(
+        rt,
+        alloc,
+        FilterableTriggeringRule::Standard(known),
+        "derivative_uniformity",
+    )?;
+    let unknown = String::from_str(alloc, "no rule")?;
+    is_shown(
+        rt,
+        alloc,
+        FilterableTriggeringRule::Unknown(unknown),
+        "no rule",
+    )?;
+    let tool = String::from_str(alloc, "a")?;
+    let rule = String::from_str(alloc, "b")?;
+    is_shown(
+        rt,
+        alloc,
+        FilterableTriggeringRule::User([tool, rule]),
+        "a.b",
+    )
+}
+
+#[test]
+fn rules_are_shown(rt: HostRuntime) -> Result<(), Fail> {
+    shown_in(&rt, rt.alloc())?;
+    Ok(())
+}

@@ -1,0 +1,39 @@
+//! The writer, and what is asked before it.
+use crate::texts::reads;
+use bitflags::Flags;
+use naga_wgsl_out::info::{accepts, count};
+use naga_wgsl_out::wgsl::{Error, Writer, WriterFlags, write_string};
+use sample_modules::{Row, Sample};
+use std::alloc::Global;
+use std::process::Abort;
+use std::test::Fail;
+
+const STORE: &str =
+    "fn g() -> i32 {\n    var a: i32 = 1i;\n\n    let _e2 = a;\n    a = 2i;\n    return _e2;\n}\n\n";
+
+const STORE_WITH_TYPES: &str =
+    "fn g() -> i32 {\n    var a: i32 = 1i;\n\n    let _e2: i32 = a;\n    a = 2i;\n    return _e2;\n}\n\n";
+
+fn writes(rt: &impl Abort, alloc: Global, sample: &mut Sample) -> Result<(), Error> {
+    Row::Store.build(sample)?;
+    count(&mut sample.info, &sample.module);
+    assert!(rt; accepts(&sample.module, &sample.info));
+    let text = write_string(alloc, &sample.module, &sample.info, WriterFlags::empty())?;
+    reads(rt, text.as_str(), STORE);
+    let mut writer = Writer::new(alloc, String::new(alloc), WriterFlags::EXPLICIT_TYPES);
+    let written = writer.write(&sample.module, &sample.info);
+    let text = writer.finish();
+    written?;
+    reads(rt, text.as_str(), STORE_WITH_TYPES);
+    assert_eq!(rt; WriterFlags::EXPLICIT_TYPES.bits(), 1);
+    Ok(())
+}
+
+#[test]
+fn a_module_is_written(rt: HostRuntime) -> Result<(), Fail> {
+    let mut sample = Sample::new(rt.alloc());
+    let written = writes(&rt, rt.alloc(), &mut sample);
+    drop(sample);
+    written?;
+    Ok(())
+}
