@@ -66,8 +66,7 @@ fn plain_data(rt: HostRuntime) -> Result<(), Fail> {
     Ok(())
 }
 
-/// A mark of nothing.
-#[derive(Debug, Clone, Copy, PartialEq, Eq, Hash)]
+/// A mark of nothing, and without a trait: those of its handles ask none of it.
 enum NoItem {}
 
 #[test]
