@@ -1,31 +1,34 @@
 -- A type with a form is told apart from those without: its numbers begin with no blank.
-use Rattle.std.proofs.Common.{◌≡◌, ℕ, zero, suc, Bool, true, false, not, List, [], ◌∷◌, ◌++◌, refl, sym}
-use Rattle.std.proofs.Common.{ap, ◌∙◌, Option, Some, None, slice_get, get_or, true≢false}
-use Rattle.std.specs.Prelude.{if◌then◌else◌}
+use Rattle.std.proofs.Common.{◌≡◌, ℕ, Bool, true, false, not, List, [], ◌∷◌, ◌++◌, refl, sym}
+use Rattle.std.proofs.Common.{ap, ◌∙◌, Option, Some, None, slice_get, true≢false}
+use Rattle.std.specs.Prelude.{if◌then◌else◌, unwrap_or}
 use Rattle.std.specs.Option.{option_map, option_map_or, is_some, is_none}
 use Rattle.std.specs.Bool.{nat_eq}
+use Rattle.std.specs.Str.{bytes_eq}
 use Rattle.naga_ir.specs.declared.image.ImageClass.{ImageClass}
 use Rattle.naga_ir.specs.declared.image.ImageClass.TheVariants as class
 use Rattle.naga_ir.specs.declared.image.ImageDimension.{ImageDimension}
-use Rattle.naga_ir.specs.declared.types.AddressSpace.{AddressSpace}
-use Rattle.naga_ir.specs.declared.types.ArraySize.{ArraySize}
 use Rattle.naga_ir.specs.declared.types.Scalar.{Scalar}
 use Rattle.naga_ir.specs.declared.types.Type_.{Type_}
 use Rattle.naga_ir.specs.declared.types.TypeInner.{TypeInner}
 use Rattle.naga_ir.specs.declared.types.TypeInner.TheVariants as inner
-use Rattle.naga_ir.specs.declared.types.VectorSize.{VectorSize}
 use Rattle.naga_info.specs.declared.info.TypeResolution.{TypeResolution}
 use Rattle.naga_info.specs.declared.info.TypeResolution.TheVariants.{Handle, Value}
 use Rattle.naga_words.specs.Spelling.{is_struct}
 use Rattle.wgsl_words.specs.Words.{scalar_word, space_word}
 use Rattle.module_meaning.specs.TypeIdentity.{level, kind_number, truth_number, dimension_number}
-use Rattle.module_meaning.specs.AlikeTypes.{over_scalar, value_form, pointer_form, array_form}
-use Rattle.module_meaning.specs.AlikeTypes.{image_form, inner_form_by, named_form_by, found_form_by}
-use Rattle.module_meaning.specs.AlikeTypes.{form_within, handle_form, type_form, value_pointer_form}
+use Rattle.module_meaning.specs.TypeIdentity.{identity, identity_code}
+use Rattle.module_meaning.specs.AlikeTypes.{over_scalar, value_form, pointer_form}
+use Rattle.module_meaning.specs.AlikeTypes.{image_form, inner_form_by, found_form_by}
+use Rattle.module_meaning.specs.AlikeTypes.{form_within, handle_form, type_form, type_identity}
 
--- the numbers, if there are any, begin with no blank
+-- there are numbers, and they begin with no blank
+abbrev pub is_plain : List ℕ → Bool
+is_plain [] = false
+is_plain (n ∷ w) = not (nat_eq n 32)
+
 abbrev pub begins_plain : Option (List ℕ) → Bool
-begins_plain o = option_map_or (λ w. not (nat_eq (get_or w 0 0) 32)) o true
+begins_plain o = option_map_or is_plain o true
 
 if_plain : (b : Bool) (x y : Option (List ℕ)) → begins_plain x ≡ true → begins_plain y ≡ true → begins_plain (if b then x else y) ≡ true
 if_plain true x y p q = p
@@ -81,3 +84,12 @@ formless_at types h t is none = by _ (is_struct t.inner) (sym (ap (found_form_by
     by : (rest : Option (List ℕ)) (b : Bool) → (if b then Some (level 8 h 0 0 0 0) else rest) ≡ None → b ≡ false
     by rest true e = absurd (cc)
     by rest false e = refl
+
+-- what tells a type is something
+by_form : (o : Option (List ℕ)) (code : List ℕ) → begins_plain o ≡ true → (bytes_eq [] (unwrap_or o (32 ∷ code)) ≡ false) × (bytes_eq (unwrap_or o (32 ∷ code)) [] ≡ false)
+by_form None code plain = (refl, refl)
+by_form (Some []) code plain = absurd (true≢false (sym plain))
+by_form (Some (n ∷ w)) code plain = (refl, refl)
+
+pub identity_some : (types : List Type_) (r : TypeResolution) → (bytes_eq [] (type_identity types r) ≡ false) × (bytes_eq (type_identity types r) [] ≡ false)
+identity_some types r = by_form (type_form types r) (identity_code (identity types r)) (form_plain types r)

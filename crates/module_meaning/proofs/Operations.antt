@@ -17,8 +17,8 @@ use Rattle.module_meaning.specs.Applications.{Application, application_of}
 use Rattle.module_meaning.specs.Operations.{Operation, are_alike, application_operations, agrees}
 use Rattle.module_meaning.specs.Operations.{all_agree, operation_of, expression_operations}
 use Rattle.module_meaning.specs.Operations.{function_operations, all_operations}
-use Rattle.module_meaning.specs.Accepted.{is_accepted}
-use Rattle.module_meaning.proofs.Accepted.{accepted_operators_agree, list_all_at, IsOperation}
+use Rattle.module_meaning.specs.FitsSoFar.{fits_so_far}
+use Rattle.module_meaning.proofs.FitsSoFar.{fits_operators_agree, list_all_at, IsOperation}
 
 -- ---- operations that agree
 
@@ -168,7 +168,7 @@ stands_applied types fs ess x =
 
 -- two operators of an accepted module that are spelled alike, over operands of types alike, in one
 -- function or two, have types alike
-pub accepted_operations_agree : (m : Module) (info : ModuleInfo) → is_accepted m info ≡ true →
+pub accepted_operations_agree : (m : Module) (info : ModuleInfo) → fits_so_far m info ≡ true →
     (a b : IsApplied m.types m.functions info.functions.items)
     → a.operation.word ≡ b.operation.word → a.operation.operand_words ≡ b.operation.operand_words →
     a.operation.answer_word ≡ b.operation.answer_word
@@ -176,6 +176,6 @@ accepted_operations_agree m info accepted a b word operands =
     let all = all_operations m.types m.functions info.functions.items
     in let one = stands_applied m.types m.functions info.functions.items a
     in let two = stands_applied m.types m.functions info.functions.items b
-    in all_agree_at all (accepted_operators_agree m info accepted) one.0 two.0
+    in all_agree_at all (fits_operators_agree m info accepted) one.0 two.0
     (operation_at m.types a.known a.handle a.applied a.operation)
     (operation_at m.types b.known b.handle b.applied b.operation) one.1 two.1 word operands

@@ -5,10 +5,11 @@ use Rattle.std.specs.List.{list_all}
 use Rattle.std.proofs.lemmas.Bool.{and_parts, and_from}
 use Rattle.naga_ir.specs.declared.module.Function.{Function}
 use Rattle.naga_ir.specs.declared.module.Module.{Module}
-use Rattle.module_meaning.specs.Accepted.{is_scalar_type, declares_functions}
+use Rattle.naga_info.specs.declared.info.ModuleInfo.{ModuleInfo}
+use Rattle.module_meaning.specs.Part.{is_scalar_type, declares_functions}
 use Rattle.module_meaning.specs.Part.{is_written_so_far, function_is_written, local_is_written}
 use Rattle.module_meaning.specs.Part.{names_nothing, is_unbound, expression_is_written}
-use Rattle.module_meaning.specs.Part.{block_is_written}
+use Rattle.module_meaning.specs.Part.{block_is_written, known_types_are_written}
 
 -- front ends name nothing in a function that is written, and the first values of its locals are
 -- written
@@ -22,16 +23,26 @@ written_parts f written =
     let behind = and_parts expressions (locals && body) bound.1 in
     (named.0, (and_parts locals body behind.1).0)
 
-pub functions_are_written : (m : Module) → IsTrue (is_written_so_far m) → IsTrue (list_all function_is_written m.functions)
+-- all that a module's being written so far says
+pub written_so_far_parts : (m : Module) (info : ModuleInfo) → IsTrue (is_written_so_far m info)
+    → IsTrue (declares_functions m) × IsTrue (list_all is_scalar_type m.types)
+    × IsTrue (list_all function_is_written m.functions) × IsTrue (known_types_are_written m.types info)
 unfolding is_written_so_far
-functions_are_written m written =
+written_so_far_parts m info written =
     let types = list_all is_scalar_type m.types in
     let functions = list_all function_is_written m.functions in
-    (and_parts types functions (and_parts (declares_functions m) (types && functions) written).1).1
+    let known = known_types_are_written m.types info in
+    let one = and_parts (declares_functions m) (types && (functions && known)) written in
+    let two = and_parts types (functions && known) one.1 in
+    let three = and_parts functions known two.1 in
+    (one.0, two.0, three.0, three.1)
+
+pub functions_are_written : (m : Module) (info : ModuleInfo) → IsTrue (is_written_so_far m info) → IsTrue (list_all function_is_written m.functions)
+functions_are_written m info written = (written_so_far_parts m info written).2
 
 -- front ends name nothing in a module that is written so far
-pub functions_name_nothing : (m : Module) → IsTrue (is_written_so_far m) → IsTrue (list_all names_nothing m.functions)
-functions_name_nothing m written = by m.functions (functions_are_written m written)
+pub functions_name_nothing : (m : Module) (info : ModuleInfo) → IsTrue (is_written_so_far m info) → IsTrue (list_all names_nothing m.functions)
+functions_name_nothing m info written = by m.functions (functions_are_written m info written)
   where
     by : (fs : List Function) → IsTrue (list_all function_is_written fs) → IsTrue (list_all names_nothing fs)
     by [] all = all

@@ -2,12 +2,10 @@
 -- sentence alone, beside what keeps it. The types are i32, u32, bool, atomic<i32>, vec2<i32> and
 -- array<i32>; the expressions are a value of each of the first three, pointers to an i32, to the
 -- atomic, to the vector and to the array, and results.
-use Rattle.std.proofs.Common.{◌≡◌, ℕ, ℤ, pos, true, false, List, [], ◌∷◌, Option, Some, None, refl}
+use Rattle.std.proofs.Common.{◌≡◌, ℕ, pos, true, false, List, [], ◌∷◌, Option, Some, None, refl}
 use Rattle.naga_ir.specs.StatementTree.{StatementTree, simple, block, branch, switch, loop}
 use Rattle.naga_ir.specs.StatementTree.{BlockTree, no_statements, statement, CaseTrees, no_cases}
-use Rattle.naga_ir.specs.StatementTree.{case, break, continue, return, store, call}
-use Rattle.naga_ir.specs.StatementTree.{work_group_uniform_load, subgroup_ballot}
-use Rattle.naga_ir.specs.declared.expression.Expression.{Expression}
+use Rattle.naga_ir.specs.StatementTree.{case, break, continue}
 use Rattle.naga_ir.specs.declared.expression.Expression.TheVariants as expression
 use Rattle.naga_ir.specs.declared.module.Function.{Function}
 use Rattle.naga_ir.specs.declared.module.FunctionArgument.{FunctionArgument}

@@ -5,12 +5,12 @@
 --
 -- Throughout, types are the module's types, known are the types of the expressions of one function,
 -- of an entry point or of the module itself, by handle, e is one of these expressions (es are all),
--- f a function (fs are several), r a type, h a handle, m a module and info what is known of it; a
--- and b are two operators where they stand.
-use Rattle.std.specs.Prelude.{ℕ, Bool, List, [], ◌∷◌, ◌++◌, map, Option, Some, None}
-use Rattle.std.specs.Prelude.{if◌then◌else◌, slice_get, take}
+-- f a function (fs are several), r a type, h a handle, g a group of expressions that stand together,
+-- m a module and info what is known of it, or of its functions.
+use Rattle.std.specs.Prelude.{ℕ, suc, Bool, false, List, [], ◌∷◌, ◌++◌, map, Option}
+use Rattle.std.specs.Prelude.{Some, None, if◌then◌else◌, slice_get, nat_lt}
 use Rattle.std.specs.List.{flat_map, enumerate_from}
-use Rattle.std.specs.Option.{option_map_or, option_and_then, option_to_list}
+use Rattle.std.specs.Option.{option_map, option_map_or, option_to_list}
 use denote.Enum.Declared.{tag_of}
 use Rattle.naga_ir.specs.contracts.expression.SwizzleComponent.{the_type as components}
 use Rattle.naga_ir.specs.contracts.operators.BinaryOperator.{the_type as binary_operators}
@@ -27,7 +27,6 @@ use Rattle.naga_ir.specs.declared.types.ScalarKind.{ScalarKind}
 use Rattle.naga_ir.specs.declared.types.Type_.{Type_}
 use Rattle.naga_ir.specs.declared.types.TypeInner.{TypeInner}
 use Rattle.naga_ir.specs.declared.types.VectorSize.{VectorSize}
-use Rattle.naga_info.specs.Resolution.{inner_of}
 use Rattle.naga_info.specs.declared.info.ExpressionInfo.{ExpressionInfo}
 use Rattle.naga_info.specs.declared.info.ModuleInfo.{ModuleInfo}
 use Rattle.naga_info.specs.declared.info.TypeResolution.{TypeResolution}
@@ -35,30 +34,41 @@ use Rattle.naga_info.specs.declared.info.TypeResolution.TheVariants.{Handle, Val
 use Rattle.module_meaning.specs.AlikeTypes.{type_identity, has_form}
 use Rattle.module_meaning.specs.Operations.{Operation, all_agree}
 use Rattle.module_meaning.specs.Conversions.{conversion_target, keeps_bits}
-use Rattle.module_meaning.specs.TypeIdentity.{kind_number, truth_number, vector_number}
+use Rattle.module_meaning.specs.TypeIdentity.{kind_number, level, truth_number, vector_number}
+use Rattle.module_meaning.specs.TypeParts.{known_inner}
 
--- What tells an operator, as numbers that begin with a kind: those that WGSL spells alike are told
--- by the same numbers. The word of a constructor is its type, and so is that of a conversion; what
--- WGSL has no form for is an operator by itself, told by its fields.
+-- What tells an operator, as numbers: those that WGSL spells alike are told by the same numbers. The
+-- word of a constructor is its type, and so is that of a conversion, with whether this keeps bits;
+-- all others have a kind and up to five numbers. What WGSL has no form for is an operator by itself,
+-- told by its fields.
+abbrev pub typed_key : List Type_ → (bits : Bool) → TypeResolution → List ℕ
+typed_key types bits r = 0 ∷ truth_number bits ∷ type_identity types r
+
+abbrev pub word_key : (kind first second third fourth fifth : ℕ) → List ℕ
+word_key kind first second third fourth fifth = 1 ∷ level kind first second third fourth fifth
+
+abbrev pub one_key : (kind first : ℕ) → List ℕ
+one_key kind first = word_key kind first 0 0 0 0
+
 abbrev pub constructor_key : List Type_ → (ty : ℕ) → List ℕ
 constructor_key types ty =
-    if has_form types (Handle ty) then 0 ∷ type_identity types (Handle ty) else 1 ∷ ty ∷ []
+    if has_form types (Handle ty) then typed_key types false (Handle ty) else one_key 0 ty
 
 -- a width that may be left out
-abbrev pub width_key : Option ℕ → List ℕ
-width_key None = 0 ∷ []
-width_key (Some width) = 1 ∷ width ∷ []
+abbrev pub width_number : Option ℕ → ℕ
+width_number None = 0
+width_number (Some width) = suc width
 
 -- a conversion without a form
 abbrev pub formless_key : ScalarKind → (convert : Option ℕ) → List ℕ
-formless_key kind convert = 2 ∷ kind_number kind ∷ width_key convert
+formless_key kind convert = word_key 1 (kind_number kind) (width_number convert) 0 0 0
 
 -- a conversion to this type: a constructor, or a bit cast
 abbrev pub target_key :
     List Type_ → ScalarKind → (convert : Option ℕ) → (bits : Bool) → TypeInner → List ℕ
 target_key types kind convert bits target =
     if has_form types (Value target)
-    then (if bits then 3 else 0) ∷ type_identity types (Value target)
+    then typed_key types bits (Value target)
     else formless_key kind convert
 
 -- a conversion of an operand of this type
@@ -69,34 +79,42 @@ conversion_key types kind convert (Some operand) =
     option_map_or (target_key types kind convert (keeps_bits operand convert))
     (conversion_target operand kind convert) (formless_key kind convert)
 
--- the letters of a swizzle
-abbrev pub letters_key : VectorSize → List SwizzleComponent → List ℕ
-letters_key size pattern = map (tag_of components) (take (vector_number size) pattern)
+-- the letter at a place of a swizzle, of which so many are written
+abbrev pub letter_number : VectorSize → List SwizzleComponent → (place : ℕ) → ℕ
+letter_number size pattern place =
+    if nat_lt place (vector_number size)
+    then option_map_or (tag_of components) (slice_get pattern place) 0
+    else 0
+
+abbrev pub swizzle_key : VectorSize → List SwizzleComponent → List ℕ
+swizzle_key size pattern =
+    word_key 5 (vector_number size) (letter_number size pattern 0) (letter_number size pattern 1)
+    (letter_number size pattern 2) (letter_number size pattern 3)
 
 -- what tells the operator of an expression; leaves, results and what asks for an event have none
 abbrev pub operator_key : List Type_ → (known : List TypeResolution) → Expression → Option (List ℕ)
 operator_key types known (expression.Compose ty parts) = Some (constructor_key types ty)
 operator_key types known (expression.As operand kind convert) =
-    Some (conversion_key types kind convert
-    (option_and_then (λ r. inner_of r types) (slice_get known operand)))
-operator_key types known (expression.Splat size value) = Some (4 ∷ vector_number size ∷ [])
-operator_key types known (expression.Access base index) = Some (5 ∷ [])
-operator_key types known (expression.AccessIndex base index) = Some (6 ∷ index ∷ [])
-operator_key types known (expression.Swizzle size vector pattern) =
-    Some (7 ∷ letters_key size pattern)
-operator_key types known (expression.Unary op operand) = Some (8 ∷ tag_of unary_operators op ∷ [])
+    Some (conversion_key types kind convert (known_inner types known operand))
+operator_key types known (expression.Splat size value) = Some (one_key 2 (vector_number size))
+operator_key types known (expression.Access base index) = Some (one_key 3 0)
+operator_key types known (expression.AccessIndex base index) = Some (one_key 4 index)
+operator_key types known (expression.Swizzle size vector pattern) = Some (swizzle_key size pattern)
+operator_key types known (expression.Unary op operand) =
+    Some (one_key 6 (tag_of unary_operators op))
 operator_key types known (expression.Binary op left right) =
-    Some (9 ∷ tag_of binary_operators op ∷ [])
-operator_key types known (expression.Select condition accept reject) = Some (10 ∷ [])
-operator_key types known (expression.Relational fun argument) = Some (11 ∷ tag_of relations fun ∷ [])
+    Some (one_key 7 (tag_of binary_operators op))
+operator_key types known (expression.Select condition accept reject) = Some (one_key 8 0)
+operator_key types known (expression.Relational fun argument) =
+    Some (one_key 9 (tag_of relations fun))
 operator_key types known (expression.Math fun arg arg1 arg2 arg3) =
-    Some (12 ∷ tag_of math_functions fun ∷ [])
-operator_key types known (expression.ArrayLength array) = Some (13 ∷ [])
-operator_key types known (expression.CooperativeMultiplyAdd a b c) = Some (14 ∷ [])
+    Some (one_key 10 (tag_of math_functions fun))
+operator_key types known (expression.ArrayLength array) = Some (one_key 11 0)
+operator_key types known (expression.CooperativeMultiplyAdd a b c) = Some (one_key 12 0)
 operator_key types known (expression.RayQueryGetIntersection query committed) =
-    Some (15 ∷ truth_number committed ∷ [])
+    Some (one_key 13 (truth_number committed))
 operator_key types known (expression.RayQueryVertexPositions query committed) =
-    Some (16 ∷ truth_number committed ∷ [])
+    Some (one_key 14 (truth_number committed))
 operator_key types known (expression.Literal value) = None
 operator_key types known (expression.Constant handle) = None
 operator_key types known (expression.Override handle) = None
@@ -125,35 +143,49 @@ identity_at types known h = option_map_or (type_identity types) (slice_get known
 
 -- the expression with the handle `here` as a use of the operator, if it is one
 abbrev pub expression_use :
-    List Type_ → (known : List TypeResolution) → (here : ℕ) → Expression → List Operation
+    List Type_ → (known : List TypeResolution) → (here : ℕ) → Expression → Option Operation
 expression_use types known here e =
-    map (λ operator. record {
+    option_map (λ operator. record {
       operator = operator;
       operands = map (identity_at types known) (expression_operands e);
       answer = identity_at types known here;
-    }) (option_to_list (operator_key types known e))
+    }) (operator_key types known e)
 
--- the uses among the expressions of one function, entry point or module
-abbrev pub uses_of : List Type_ → List Expression → (known : List TypeResolution) → List Operation
-uses_of types es known =
-    flat_map (λ p. expression_use types known p.0 p.1) (enumerate_from 0 es)
+-- expressions that stand together, with their types by handle
+pub record Group : Type 0 where
+  pub expressions : List Expression
+  pub known : List TypeResolution
 
--- the types of a function's expressions
-abbrev pub types_known : List ExpressionInfo → List TypeResolution
-types_known infos = map (λ e. e.ty) infos
+-- the uses among these
+abbrev pub uses_of : List Type_ → Group → List Operation
+uses_of types g =
+    flat_map (λ p. option_to_list (expression_use types g.known p.0 p.1))
+    (enumerate_from 0 g.expressions)
 
--- the uses in functions, in order
-abbrev pub function_uses : List Type_ → List Function → List (List ExpressionInfo) → List Operation
-function_uses types (f ∷ fs) (info ∷ infos) =
-    uses_of types f.expressions (types_known info) ++ function_uses types fs infos
-function_uses types _ _ = []
+-- the expressions of a function
+abbrev pub function_group : Function → List ExpressionInfo → Group
+function_group f info = record { expressions = f.expressions; known = map (λ e. e.ty) info }
+
+-- those of several, in order
+abbrev pub function_groups : List Function → List (List ExpressionInfo) → List Group
+function_groups (f ∷ fs) (info ∷ infos) = function_group f info ∷ function_groups fs infos
+function_groups _ _ = []
+
+-- those of the entry points, and the module's own
+abbrev pub further_groups_of : Module → ModuleInfo → List Group
+further_groups_of m info =
+    function_groups (map (λ p. p.function) m.entry_points.items) info.entry_points.items
+    ++ record { expressions = m.global_expressions; known = info.const_expression_types.items }
+    ∷ []
+
+-- all expressions of a module
+abbrev pub groups_of : Module → ModuleInfo → List Group
+groups_of m info =
+    function_groups m.functions info.functions.items ++ further_groups_of m info
 
 -- all uses in the module
 abbrev pub module_uses : Module → ModuleInfo → List Operation
-module_uses m info =
-    function_uses m.types m.functions info.functions.items
-    ++ (function_uses m.types (map (λ p. p.function) m.entry_points.items) info.entry_points.items
-    ++ uses_of m.types m.global_expressions info.const_expression_types.items)
+module_uses m info = flat_map (uses_of m.types) (groups_of m info)
 
 -- any two agree
 abbrev pub module_operators_agree : Module → ModuleInfo → Bool

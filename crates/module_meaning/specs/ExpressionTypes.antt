@@ -3,9 +3,10 @@
 -- Throughout, m is a module, types are its types, f is the function in which an expression stands
 -- (none for the module's own), known are the types of the expressions there, by handle, e is one of
 -- them, c a constant, o an override, g a global variable, a an argument, l a local, s a scalar, n
--- how many components a vector has, r a type of an expression and it a type by itself.
+-- how many components a vector has, r a type of an expression, h a handle and it a type by itself.
 use Rattle.std.specs.Prelude.{ℕ, Bool, true, false, List, ◌==◌}
 use Rattle.std.specs.Prelude.{Option, Some, None, if◌then◌else◌, slice_get}
+use Rattle.std.specs.List.{list_all, enumerate_from}
 use Rattle.std.specs.Option.{option_map, option_map_or, option_and_then}
 use Rattle.naga_ir.specs.declared.expression.Expression.{Expression}
 use Rattle.naga_ir.specs.declared.expression.Expression.TheVariants as expression
@@ -28,7 +29,7 @@ use Rattle.naga_info.specs.declared.info.TypeResolution.{TypeResolution}
 use Rattle.naga_info.specs.declared.info.TypeResolution.TheVariants.{Handle, Value}
 use Rattle.module_meaning.specs.AlikeTypes.{are_alike}
 use Rattle.module_meaning.specs.TypeParts.{known_inner, own_scalar, vector_scalar}
-use Rattle.module_meaning.specs.TypeParts.{part_type, pointee_type}
+use Rattle.module_meaning.specs.TypeParts.{known_pointee, part_type}
 
 -- what an expression's type may be: one like this; any; or none, as what it stands for gives none
 pub data WantedType : Type 0 where
@@ -151,7 +152,7 @@ wanted_type m f known (expression.FunctionArgument number) = only (argument_type
 wanted_type m f known (expression.GlobalVariable handle) = only (global_type m handle)
 wanted_type m f known (expression.LocalVariable handle) = only (local_type f handle)
 wanted_type m f known (expression.Load pointer) =
-    only (option_and_then (pointee_type m.types) (known_inner m.types known pointer))
+    only (known_pointee m.types known pointer)
 wanted_type m f known
     (expression.ImageSample image sampler gather coordinate array_index offset level depth clamp) =
     Anything
@@ -187,3 +188,15 @@ is_wanted types Nothing own = false
 abbrev pub expression_type_fits : Module → Option Function → (known : List TypeResolution) →
     Expression → (own : TypeResolution) → Bool
 expression_type_fits m f known e own = is_wanted m.types (wanted_type m f known e) own
+
+-- the same of the expression with this handle
+abbrev pub has_its_type : Module → Option Function → (known : List TypeResolution) → (h : ℕ) →
+    Expression → Bool
+has_its_type m f known h e =
+    option_map_or (expression_type_fits m f known e) (slice_get known h) false
+
+-- the same of all expressions that stand together
+abbrev pub have_their_types : Module → Option Function → (known : List TypeResolution) →
+    List Expression → Bool
+have_their_types m f known es =
+    list_all (λ p. has_its_type m f known p.0 p.1) (enumerate_from 0 es)

@@ -8,6 +8,7 @@ pub mod ExpressionOperators
 pub mod ExpressionShapes
 pub mod ExpressionTypes
 pub mod Faithful
+pub mod FitsSoFar
 pub mod FunctionShapes
 pub mod InfoSizes
 pub mod Initialisers
@@ -24,6 +25,7 @@ pub mod Ranges
 pub mod Resolution
 pub mod ShapeKinds
 pub mod Shapes
+pub mod Soundness
 pub mod Spelled
 pub mod StatementShapes
 pub mod StatementsFit

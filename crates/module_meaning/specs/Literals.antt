@@ -1,5 +1,5 @@
--- The values of a module's literals.
-use Rattle.std.specs.Prelude.{ℕ, ℤ, pos, negsuc, List, ◌+◌, ◌*◌}
+-- The values of a module's literals, and which of them there are.
+use Rattle.std.specs.Prelude.{ℕ, ℤ, pos, negsuc, Bool, true, List, ◌+◌, ◌*◌, ◌^◌, nat_lt}
 use Rattle.std.specs.Prelude.{codes}
 use Rattle.naga_ir.specs.declared.expression.Literal as ir
 use Rattle.naga_ir.specs.declared.expression.Literal.TheVariants as literal
@@ -33,3 +33,23 @@ literal_value (literal.F32 bits) = Opaque (codes "f32") bits
 literal_value (literal.F16 bits) = Opaque (codes "f16") bits
 literal_value (literal.AbstractInt z) = Opaque (abstract_word kind.AbstractInt) (integer_payload z)
 literal_value (literal.AbstractFloat bits) = Opaque (abstract_word kind.AbstractFloat) bits
+
+-- an integer of so many bits with a sign, counted without it
+abbrev pub is_signed_within : ℕ → ℤ → Bool
+is_signed_within limit (pos n) = nat_lt n limit
+is_signed_within limit (negsuc n) = nat_lt n limit
+
+-- a literal's integer is one of its type, and its bits are as many as its type has
+abbrev pub literal_is_within : ir.Literal → Bool
+literal_is_within (literal.Bool value) = true
+literal_is_within (literal.I16 value) = is_signed_within (2 ^ 15) value
+literal_is_within (literal.U16 value) = nat_lt value (2 ^ 16)
+literal_is_within (literal.I32 value) = is_signed_within (2 ^ 31) value
+literal_is_within (literal.U32 value) = nat_lt value (2 ^ 32)
+literal_is_within (literal.I64 value) = is_signed_within (2 ^ 63) value
+literal_is_within (literal.U64 value) = nat_lt value (2 ^ 64)
+literal_is_within (literal.AbstractInt value) = is_signed_within (2 ^ 63) value
+literal_is_within (literal.F16 bits) = nat_lt bits (2 ^ 16)
+literal_is_within (literal.F32 bits) = nat_lt bits (2 ^ 32)
+literal_is_within (literal.F64 bits) = nat_lt bits (2 ^ 64)
+literal_is_within (literal.AbstractFloat bits) = nat_lt bits (2 ^ 64)

@@ -1,7 +1,8 @@
 -- What is written so far of the modules. Others are refused as not yet written.
 --
--- Throughout, m is a module, f a function, es are its expressions, e is one, h is a handle, l a
--- local, a an argument, r a result, s a statement, and b the rest of a block.
+-- Throughout, m is a module and info what is known of it, f a function, es are its expressions, e
+-- is one, k is what is known of one, h is a handle, l a local, a an argument, r a result, s a
+-- statement, t a type, and b the rest of a block.
 use Rattle.std.specs.Prelude.{Bool, true, false, ◌&&◌, List, length, ◌==◌, Option, Some, slice_get}
 use Rattle.std.specs.List.{list_all}
 use Rattle.std.specs.Option.{option_map_or, is_some, is_none}
@@ -14,9 +15,20 @@ use Rattle.naga_ir.specs.declared.expression.Expression.TheVariants.{LocalVariab
 use Rattle.naga_ir.specs.declared.module.Function.{Function}
 use Rattle.naga_ir.specs.declared.module.LocalVariable.{LocalVariable as Local}
 use Rattle.naga_ir.specs.declared.module.Module.{Module}
+use Rattle.naga_ir.specs.declared.types.Type_.{Type_}
+use Rattle.naga_info.specs.declared.info.ModuleInfo.{ModuleInfo}
 use Rattle.module_meaning.specs.Applications.{application_of, accepted_word}
-use Rattle.module_meaning.specs.Spelled.{literal_word}
-use Rattle.module_meaning.specs.Accepted.{declares_functions, is_scalar_type}
+use Rattle.module_meaning.specs.Spelled.{literal_word, spelling_of, word_of_type}
+
+-- nothing is declared but types and functions
+abbrev pub declares_functions : Module → Bool
+declares_functions m =
+    length m.constants == 0 && (length m.overrides == 0 && (length m.global_variables == 0 &&
+    (length m.global_expressions == 0 && length m.entry_points.items == 0)))
+
+-- the type is one of the scalar types that are told apart
+abbrev pub is_scalar_type : Type_ → Bool
+is_scalar_type t = is_some (word_of_type t.inner)
 
 -- a literal of one of the scalar types, an argument, a
 -- local, a load, or an operator that is accepted so far
@@ -63,8 +75,13 @@ function_is_written f =
     names_nothing f && (is_unbound f && (list_all expression_is_written f.expressions &&
     (list_all (local_is_written f.expressions) f.local_variables && block_is_written f.body)))
 
--- scalar types and such functions
-unfoldable pub is_written_so_far : Module → Bool
-is_written_so_far m =
-    declares_functions m &&
-    (list_all is_scalar_type m.types && list_all function_is_written m.functions)
+-- each type that is known of an expression of a function is spelled so far
+abbrev pub known_types_are_written : List Type_ → ModuleInfo → Bool
+known_types_are_written types info =
+    list_all (list_all (λ k. is_some (spelling_of types k.ty))) info.functions.items
+
+-- scalar types and such functions, of whose expressions such types are known, and pointers to them
+unfoldable pub is_written_so_far : Module → ModuleInfo → Bool
+is_written_so_far m info =
+    declares_functions m && (list_all is_scalar_type m.types &&
+    (list_all function_is_written m.functions && known_types_are_written m.types info))

@@ -2,17 +2,18 @@
 -- handles, `Emit` ranges and argument numbers lie in their arenas and lists; an expression's
 -- operands and a type's parts stand before it, and a callee before its caller; a global expression
 -- names no argument and no local, and stands behind the initialiser of each constant and override
--- that it names.
+-- that it names; and a literal's value is one of its type.
 --
 -- Throughout, m is a module, t is a type, h a handle, here the handle of what is looked at, e an
 -- expression, l a local, f a function, p an entry point, s a statement, b the rest of a block, k an
 -- item of a module or what is known of an expression. A name of several things, as types or
 -- expressions, is how many of them there are, and callees is how many functions may be called: those
 -- with smaller handles.
-use Rattle.std.specs.Prelude.{ℕ, Bool, true, ◌&&◌, List, length}
+use Rattle.std.specs.Prelude.{ℕ, Bool, true, ◌&&◌, List, length, Option}
 use Rattle.std.specs.Prelude.{nat_lt, nat_le, slice_get}
 use Rattle.std.specs.List.{list_all, enumerate_from}
 use Rattle.std.specs.Option.{option_map_or, option_map}
+use Rattle.indexmap.specs.IndexMap.{keys, values}
 use Rattle.naga_ir.specs.Operands.{expression_operands}
 use Rattle.naga_ir.specs.StatementTree.{SimpleStatement, emit, break, continue, return, kill}
 use Rattle.naga_ir.specs.StatementTree.{control_barrier, memory_barrier, store, image_store, atomic}
@@ -32,6 +33,7 @@ use Rattle.naga_ir.specs.declared.module.GlobalVariable.{GlobalVariable}
 use Rattle.naga_ir.specs.declared.module.LocalVariable.{LocalVariable}
 use Rattle.naga_ir.specs.declared.module.Module.{Module}
 use Rattle.naga_ir.specs.declared.module.Override.{Override}
+use Rattle.naga_ir.specs.declared.module.SpecialTypes.{SpecialTypes}
 use Rattle.naga_ir.specs.declared.operators.AtomicFunction.{AtomicFunction}
 use Rattle.naga_ir.specs.declared.operators.AtomicFunction.TheVariants as atomic_function
 use Rattle.naga_ir.specs.declared.operators.GatherMode.{GatherMode}
@@ -46,10 +48,14 @@ use Rattle.naga_info.specs.declared.info.ModuleInfo.{ModuleInfo}
 use Rattle.naga_info.specs.declared.info.TypeResolution.{TypeResolution}
 use Rattle.naga_info.specs.declared.info.TypeResolution.TheVariants.{Handle, Value}
 use Rattle.naga_words.specs.Spelling.{length_within}
-use Rattle.module_meaning.specs.Accepted.{is_below, names_fit, signature_fits, special_types_fit}
 use Rattle.module_meaning.specs.InfoSizes.{all_known, resolution_is_fit, sizes_fit, type_is_fit}
+use Rattle.module_meaning.specs.Literals.{literal_is_within}
 
 -- ---- lists
+
+-- an index, if there is one, lies below the bound
+abbrev pub is_below : ℕ → Option ℕ → Bool
+is_below bound handle = option_map_or (λ h. nat_lt h bound) handle true
 
 -- each item passes the test together with its handle
 abbrev pub all_placed : {X : Type 0} → (ℕ → X → Bool) → List X → Bool
@@ -121,9 +127,9 @@ local_in_range types expressions l = nat_lt l.ty types && is_below expressions l
 
 -- ---- expressions
 
--- what an expression names beside its operands is there
+-- what an expression names beside its operands is there, and a literal has a value of its type
 abbrev pub names_in_range : Module → (callees arguments locals : ℕ) → Expression → Bool
-names_in_range m callees arguments locals (expression.Literal value) = true
+names_in_range m callees arguments locals (expression.Literal value) = literal_is_within value
 names_in_range m callees arguments locals (expression.Constant h) = nat_lt h (length m.constants)
 names_in_range m callees arguments locals (expression.Override h) = nat_lt h (length m.overrides)
 names_in_range m callees arguments locals (expression.ZeroValue ty) = nat_lt ty (length m.types)
@@ -281,6 +287,16 @@ abbrev mutual
 
 -- ---- functions and entry points
 
+-- the types of the arguments and of the result lie in the types
+abbrev pub signature_fits : ℕ → Function → Bool
+signature_fits count f =
+    list_all (λ a. nat_lt a.ty count) f.arguments.items &&
+    is_below count (option_map (λ r. r.ty) f.result)
+
+-- front ends' names are given to expressions of the function
+abbrev pub names_fit : Function → Bool
+names_fit f = list_all (λ h. nat_lt h (length f.expressions)) (keys f.named_expressions)
+
 -- all expressions of a function that may call so many
 abbrev pub expressions_in_range : Module → (callees : ℕ) → Function → Bool
 expressions_in_range m callees f =
@@ -304,6 +320,13 @@ entry_point_in_range m p =
     function_in_range m (length m.functions) p.function))
 
 -- ---- modules
+
+-- the types that have a meaning of their own lie in the types
+abbrev pub special_types_fit : ℕ → SpecialTypes → Bool
+special_types_fit count s =
+    list_all (λ h. nat_lt h count) (values s.predeclared_types) &&
+    (is_below count s.external_texture_params &&
+    is_below count s.external_texture_transfer_function)
 
 -- what the module declares beside functions and entry points
 abbrev pub declarations_in_range : Module → Bool

@@ -3,15 +3,13 @@
 --
 -- Throughout, s is a scalar, w the width of one, t a type, es is what is known of a function's
 -- expressions, e what is known of one, and n a number; a and b are two spellings.
-use Rattle.std.specs.Prelude.{ℕ, ℤ, pos, negsuc, ◌^◌, nat_lt, Bool, true, false, List, ◌++◌, Option}
+use Rattle.std.specs.Prelude.{ℕ, Bool, false, List, ◌++◌, Option}
 use Rattle.std.specs.Prelude.{Some, None, ◌==◌, if◌then◌else◌, codes, slice_get}
 use Rattle.std.specs.Option.{option_map, option_and_then}
 use Rattle.std.specs.Str.{bytes_eq}
 use Rattle.naga_ir.specs.declared.expression.Literal.{Literal}
 use Rattle.naga_ir.specs.declared.expression.Literal.TheVariants.{U32, I32, U64, I64}
-use Rattle.naga_ir.specs.declared.expression.Literal.TheVariants.{Bool as BoolLiteral, I16, U16}
-use Rattle.naga_ir.specs.declared.expression.Literal.TheVariants.{F16, F32, F64}
-use Rattle.naga_ir.specs.declared.expression.Literal.TheVariants.{AbstractInt, AbstractFloat}
+use Rattle.naga_ir.specs.declared.expression.Literal.TheVariants.{Bool as BoolLiteral}
 use Rattle.naga_ir.specs.declared.types.AddressSpace.{AddressSpace}
 use Rattle.naga_ir.specs.declared.types.AddressSpace.TheVariants.{Function}
 use Rattle.naga_ir.specs.declared.types.Scalar.{Scalar}
@@ -100,23 +98,3 @@ literal_word (U32 value) = Some (codes "u32")
 literal_word (I64 value) = Some (codes "i64")
 literal_word (U64 value) = Some (codes "u64")
 literal_word _ = None
-
--- an integer of so many bits with a sign, counted without it
-abbrev pub is_signed_within : ℕ → ℤ → Bool
-is_signed_within limit (pos n) = nat_lt n limit
-is_signed_within limit (negsuc n) = nat_lt n limit
-
--- a literal's integer is one of its type, and its bits are as many as its type has
-abbrev pub literal_is_within : Literal → Bool
-literal_is_within (BoolLiteral value) = true
-literal_is_within (I16 value) = is_signed_within (2 ^ 15) value
-literal_is_within (U16 value) = nat_lt value (2 ^ 16)
-literal_is_within (I32 value) = is_signed_within (2 ^ 31) value
-literal_is_within (U32 value) = nat_lt value (2 ^ 32)
-literal_is_within (I64 value) = is_signed_within (2 ^ 63) value
-literal_is_within (U64 value) = nat_lt value (2 ^ 64)
-literal_is_within (AbstractInt value) = is_signed_within (2 ^ 63) value
-literal_is_within (F16 bits) = nat_lt bits (2 ^ 16)
-literal_is_within (F32 bits) = nat_lt bits (2 ^ 32)
-literal_is_within (F64 bits) = nat_lt bits (2 ^ 64)
-literal_is_within (AbstractFloat bits) = nat_lt bits (2 ^ 64)

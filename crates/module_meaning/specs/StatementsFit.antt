@@ -4,14 +4,14 @@
 -- is there is asked elsewhere; what is not there has no type here.
 --
 -- Throughout, types are the types of the module m, f is the function, known are the types of its
--- expressions by handle, and es all that is known of them; r is what is known of an expression,
--- wanted the type that is wanted, h a handle, x a value (xs are several), it a type by itself, a an
--- argument, s a scalar or a statement, v and w labels, cs the further cases and b the rest of a
--- block. A statement may leave the nearest loop or switch by `break` if it breaks, and go on with
--- the nearest loop's `continuing` if it continues.
-use Rattle.std.specs.Prelude.{ℕ, Bool, true, false, ◌&&◌, ◌||◌, ◌==◌, not, List, [], ◌∷◌, map}
+-- expressions by handle; r is what is known of an expression, wanted the type that is wanted, h a
+-- handle, x a value (xs are several), it a type by itself, a an argument, s a scalar or a statement,
+-- v and w labels, cs the further cases and b the rest of a block. A statement may leave the nearest
+-- loop or switch by `break` if it breaks, and go on with the nearest loop's `continuing` if it
+-- continues.
+use Rattle.std.specs.Prelude.{ℕ, Bool, true, false, ◌&&◌, ◌||◌, ◌==◌, not, List, [], ◌∷◌}
 use Rattle.std.specs.Prelude.{Option, Some, None, slice_get}
-use Rattle.std.specs.Option.{option_map_or, option_and_then, is_some}
+use Rattle.std.specs.Option.{option_map_or, is_some}
 use Rattle.std.specs.Ordering.{int_eq}
 use Rattle.naga_ir.specs.StatementTree.{SimpleStatement, emit, break, continue, return, kill}
 use Rattle.naga_ir.specs.StatementTree.{control_barrier, memory_barrier, store, image_store, atomic}
@@ -35,18 +35,14 @@ use Rattle.naga_ir.specs.declared.types.ScalarKind.TheVariants as kind
 use Rattle.naga_ir.specs.declared.types.Type_.{Type_}
 use Rattle.naga_ir.specs.declared.types.TypeInner.{TypeInner}
 use Rattle.naga_ir.specs.declared.types.TypeInner.TheVariants as inner
-use Rattle.naga_info.specs.declared.info.ExpressionInfo.{ExpressionInfo}
 use Rattle.naga_info.specs.declared.info.TypeResolution.{TypeResolution}
 use Rattle.naga_info.specs.declared.info.TypeResolution.TheVariants.{Handle}
 use Rattle.module_meaning.specs.AlikeTypes.{are_alike}
+use Rattle.module_meaning.specs.ExpressionTypes.{is_bool}
 use Rattle.module_meaning.specs.OperandDemands.{operand_is, points_to_components}
-use Rattle.module_meaning.specs.TypeParts.{inner_at, known_inner, pointee_type}
+use Rattle.module_meaning.specs.TypeParts.{inner_at, known_pointee}
 
 -- ---- what is known of values
-
--- what is known of the types of a function's expressions
-abbrev pub known_types : List ExpressionInfo → List TypeResolution
-known_types es = map (λ e. e.ty) es
 
 -- the expression's type is like the wanted one
 abbrev pub value_has_type :
@@ -54,26 +50,7 @@ abbrev pub value_has_type :
 value_has_type types known h wanted =
     option_map_or (λ r. are_alike types r wanted) (slice_get known h) false
 
--- what is read and written through a pointer
-abbrev pub known_pointee :
-    List Type_ → (known : List TypeResolution) → (pointer : ℕ) → Option TypeResolution
-known_pointee types known pointer =
-    option_and_then (pointee_type types) (known_inner types known pointer)
-
 -- ---- conditions
-
-abbrev pub is_truth : ScalarKind → Bool
-is_truth kind.Sint = false
-is_truth kind.Uint = false
-is_truth kind.Float = false
-is_truth kind.Bool = true
-is_truth kind.AbstractInt = false
-is_truth kind.AbstractFloat = false
-
--- the type is `bool`
-abbrev pub is_bool : TypeInner → Bool
-is_bool (inner.Scalar s) = is_truth s.kind && (s.width == 1)
-is_bool _ = false
 
 -- a condition is `bool`
 abbrev pub is_condition : List Type_ → (known : List TypeResolution) → (h : ℕ) → Bool

@@ -119,6 +119,12 @@ pointee_type types (inner.Pointer base space) = option_map (stored_type base) (i
 pointee_type types (inner.ValuePointer n s space) = Some (Value (components_type n s))
 pointee_type types _ = None
 
+-- what is read and written through the expression with this handle
+abbrev pub known_pointee :
+    List Type_ → (known : List TypeResolution) → (pointer : ℕ) → Option TypeResolution
+known_pointee types known pointer =
+    option_and_then (pointee_type types) (known_inner types known pointer)
+
 -- the scalar that a type is
 abbrev pub own_scalar : TypeInner → Option Scalar
 own_scalar (inner.Scalar s) = Some s

@@ -1,9 +1,12 @@
-pub mod Agreeing
+pub mod Agreement
 pub mod Counting
-pub mod Entering
-pub mod Numbering
+pub mod EarlierUses
+pub mod Groups
+pub mod Identities
+pub mod Mixing
 pub mod Pairing
 pub mod Passing
 pub mod Recounted
+pub mod Remembering
 pub mod Views
 pub mod Writing

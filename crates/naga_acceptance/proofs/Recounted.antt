@@ -1,148 +1,104 @@
--- Whether a module is accepted doesn't depend on the counts.
-use Rattle.std.proofs.Common.{◌≡◌, ℕ, zero, suc, ◌+◌, ◌&&◌, List, [], ◌∷◌, ◌++◌, length, Option}
-use Rattle.std.proofs.Common.{Some, None, refl, ap, ◌∙◌, nat_lt, nat_le, nat_eq, cond}
-use Rattle.std.specs.List.{list_all, flat_map, enumerate_from}
-use Rattle.std.specs.Option.{is_some}
-use Rattle.naga_ir.specs.StatementTree.{SimpleStatement, emit, return, store, StatementTree, simple}
-use Rattle.naga_ir.specs.StatementTree.{BlockTree, no_statements, statement}
-use Rattle.naga_ir.specs.declared.expression.Expression.{Expression}
-use Rattle.naga_ir.specs.declared.expression.Expression.TheVariants as expression
+-- Whether a module is accepted doesn't depend on the counts: it asks what is known of expressions for
+-- their types alone.
+use Rattle.std.proofs.Common.{◌≡◌, ℕ, suc, ◌+◌, Bool, ◌&&◌, List, [], ◌∷◌, ◌++◌, length, map}
+use Rattle.std.proofs.Common.{refl, ap, ◌∙◌, ◌==◌}
+use Rattle.std.specs.List.{list_all, flat_map, zip}
 use Rattle.naga_ir.specs.declared.module.Function.{Function}
-use Rattle.naga_ir.specs.declared.module.FunctionResult.{FunctionResult}
-use Rattle.naga_ir.specs.declared.module.LocalVariable.{LocalVariable as Local}
 use Rattle.naga_ir.specs.declared.module.Module.{Module}
-use Rattle.naga_ir.specs.declared.types.Type_.{Type_}
 use Rattle.naga_info.specs.declared.info.ExpressionInfo.{ExpressionInfo}
 use Rattle.naga_info.specs.declared.info.ModuleInfo.{ModuleInfo}
-use Rattle.module_meaning.specs.Spelled.{word_at, spelling_at, spelling_of, pointee_at, is_alike}
-use Rattle.module_meaning.specs.Applications.{Application, application_of, accepted_word}
-use Rattle.module_meaning.specs.Accepted.{declares_functions, is_scalar_type, special_types_fit}
-use Rattle.module_meaning.specs.Accepted.{signature_fits, names_fit, operand_fits, application_type}
-use Rattle.module_meaning.specs.Accepted.{expected_type, is_within, expressions_fit_from}
-use Rattle.module_meaning.specs.Accepted.{value_fits, local_fits, return_fits, simple_fits}
-use Rattle.module_meaning.specs.Accepted.{statement_fits, block_fits, function_fits, functions_fit}
+use Rattle.naga_info.specs.declared.info.TypeResolution.{TypeResolution}
 use Rattle.module_meaning.specs.Accepted.{is_accepted}
-use Rattle.module_meaning.specs.Operations.{spelling_then, spellings_at, operation_of}
-use Rattle.module_meaning.specs.Operations.{application_operations, expression_operations}
-use Rattle.module_meaning.specs.Operations.{all_operations, all_agree, operators_agree}
-use Rattle.naga_acceptance.specs.Counts.{with_counts_from, all_with_counts, use_count}
-use Rattle.naga_acceptance.specs.Counts.{operand_places}
+use Rattle.module_meaning.specs.AgreeingOperators.{function_groups}
+use Rattle.module_meaning.specs.AgreeingOperators.{module_operators_agree, uses_of}
+use Rattle.module_meaning.specs.InfoSizes.{all_known, all_paired, entry_point_size_fits}
+use Rattle.module_meaning.specs.InfoSizes.{function_size_fits, sizes_fit, type_is_fit}
+use Rattle.module_meaning.specs.Operations.{all_agree}
+use Rattle.module_meaning.specs.Ranges.{module_in_range, module_ranges_fit, resolution_fits}
+use Rattle.module_meaning.specs.Soundness.{declarations_are_sound, entry_point_is_sound}
+use Rattle.module_meaning.specs.Soundness.{function_is_sound, module_is_sound}
+use Rattle.module_meaning.specs.Soundness.{typed_function_is_sound}
+use Rattle.naga_acceptance.specs.Counts.{all_with_counts, functions_of, operand_places, use_count}
+use Rattle.naga_acceptance.specs.Counts.{with_counts, with_counts_from}
 
 -- the counts don't change the types, nor how many there are
+same_types : (c : ℕ → ℕ) (n : ℕ) (es : List ExpressionInfo) → map (λ e. e.ty) (with_counts_from c n es) ≡ map (λ e. e.ty) es
+same_types c n [] = refl
+same_types c n (e ∷ es) = ap (λ tys. e.ty ∷ tys) (same_types c (n + 1) es)
+
 same_length : (c : ℕ → ℕ) (n : ℕ) (es : List ExpressionInfo) → length (with_counts_from c n es) ≡ length es
 same_length c n [] = refl
 same_length c n (e ∷ es) = ap suc (same_length c (n + 1) es)
 
-same_spelling : (types : List Type_) (c : ℕ → ℕ) (n : ℕ) (es : List ExpressionInfo) (h : ℕ) → spelling_at types (with_counts_from c n es) h ≡ spelling_at types es h
-same_spelling types c n [] h = refl
-same_spelling types c n (e ∷ es) zero = refl
-same_spelling types c n (e ∷ es) (suc h) = same_spelling types c (n + 1) es h
+all_same_length : (fs : List Function) (ess : List (List ExpressionInfo)) → length (all_with_counts fs ess) ≡ length ess
+all_same_length [] ess = refl
+all_same_length (f ∷ fs) [] = refl
+all_same_length (f ∷ fs) (es ∷ ess) = ap suc (all_same_length fs ess)
 
-same_pointee : (types : List Type_) (c : ℕ → ℕ) (n : ℕ) (es : List ExpressionInfo) (h : ℕ) → pointee_at types (with_counts_from c n es) h ≡ pointee_at types es h
-same_pointee types c n [] h = refl
-same_pointee types c n (e ∷ es) zero = refl
-same_pointee types c n (e ∷ es) (suc h) = same_pointee types c (n + 1) es h
+-- ---- tests of what is known
+same_known : (test : TypeResolution → Bool) (c : ℕ → ℕ) (n : ℕ) (es : List ExpressionInfo) → list_all (λ k. test k.ty) (with_counts_from c n es) ≡ list_all (λ k. test k.ty) es
+same_known test c n [] = refl
+same_known test c n (e ∷ es) = ap (λ b. test e.ty && b) (same_known test c (n + 1) es)
 
-module _ (types : List Type_) (f : Function) (c : ℕ → ℕ) (es : List ExpressionInfo) where
-  abbrev now : List ExpressionInfo
-  now = with_counts_from c 0 es
+all_same_known : (test : TypeResolution → Bool) (fs : List Function) (ess : List (List ExpressionInfo)) → list_all (list_all (λ k. test k.ty)) (all_with_counts fs ess) ≡ list_all (list_all (λ k. test k.ty)) ess
+all_same_known test [] ess = refl
+all_same_known test (f ∷ fs) [] = refl
+all_same_known test (f ∷ fs) (es ∷ ess) = λ i. same_known test (use_count (operand_places f)) 0 es i && all_same_known test fs ess i
 
-  same_operands : (here : ℕ) (hs : List ℕ) →
-      list_all (operand_fits types now here) hs ≡ list_all (operand_fits types es here) hs
-  same_operands here [] = refl
-  same_operands here (h ∷ hs) =
-      λ i. (nat_lt h here && is_some (same_spelling types c 0 es h i)) && same_operands here hs i
+-- items side by side with what is known of functions, by a test that doesn't look at the counts
+module _ {X : Type 0} (test : X → List ExpressionInfo → Bool) (same : (x : X) (f : Function) (es : List ExpressionInfo) → test x (with_counts f es) ≡ test x es) where
+  same_zipped : (xs : List X) (fs : List Function) (ess : List (List ExpressionInfo)) → list_all (λ p. test p.0 p.1) (zip xs (all_with_counts fs ess)) ≡ list_all (λ p. test p.0 p.1) (zip xs ess)
+  same_zipped xs [] ess = refl
+  same_zipped xs (f ∷ fs) [] = refl
+  same_zipped [] (f ∷ fs) (es ∷ ess) = refl
+  same_zipped (x ∷ xs) (f ∷ fs) (es ∷ ess) = λ i. same x f es i && same_zipped xs fs ess i
 
-  same_application : (here : ℕ) (o : Option Application) →
-      application_type types now here o ≡ application_type types es here o
-  same_application here None = refl
-  same_application here (Some applied) =
-      λ i. cond
-      (is_some (accepted_word applied.operator) && same_operands here applied.operands i)
-      (same_spelling types c 0 es here i) None
+  same_paired : (xs : List X) (fs : List Function) (ess : List (List ExpressionInfo)) → all_paired test xs (all_with_counts fs ess) ≡ all_paired test xs ess
+  same_paired xs fs ess = λ i. (length xs == all_same_length fs ess i) && same_zipped xs fs ess i
 
-  same_expected : (here : ℕ) (e : Expression) → expected_type types f now here e ≡ expected_type types f es here e
-  same_expected here (expression.Load pointer) = λ i. cond (nat_lt pointer here) (same_pointee types c 0 es pointer i) None
-  same_expected here (expression.Literal value) = refl
-  same_expected here (expression.FunctionArgument number) = refl
-  same_expected here (expression.LocalVariable handle) = refl
-  same_expected here e = same_application here (application_of e)
+-- ---- operators
+same_groups : (fs gs : List Function) (ess : List (List ExpressionInfo)) → function_groups fs (all_with_counts gs ess) ≡ function_groups fs ess
+same_groups fs [] ess = refl
+same_groups fs (g ∷ gs) [] = refl
+same_groups [] (g ∷ gs) (es ∷ ess) = refl
+same_groups (f ∷ fs) (g ∷ gs) (es ∷ ess) =
+    λ i. record { expressions = f.expressions; known = same_types (use_count (operand_places g)) 0 es i } ∷ same_groups fs gs ess i
 
-  same_expressions : (here n : ℕ) (xs : List Expression) (ks : List ExpressionInfo) → expressions_fit_from types f now here xs (with_counts_from c n ks) ≡ expressions_fit_from types f es here xs ks
-  same_expressions here n [] [] = refl
-  same_expressions here n [] (k ∷ ks) = refl
-  same_expressions here n (x ∷ xs) [] = refl
-  same_expressions here n (x ∷ xs) (k ∷ ks) = λ i. (is_alike (spelling_of types k.ty) (same_expected here x i) && is_within x) && same_expressions (here + 1) (n + 1) xs ks i
+module _ (m : Module) (old new : ModuleInfo) (functions : new.functions.items ≡ all_with_counts m.functions old.functions.items)
+    (entries : new.entry_points.items ≡ all_with_counts (functions_of m.entry_points.items) old.entry_points.items) (types : new.const_expression_types ≡ old.const_expression_types) where
+  abbrev points : List Function
+  points = functions_of m.entry_points.items
 
-  same_value : (ty : ℕ) (v : Option ℕ) → value_fits types now ty v ≡ value_fits types es ty v
-  same_value ty None = refl
-  same_value ty (Some h) = ap (λ s. is_alike s (word_at types ty)) (same_spelling types c 0 es h)
+  same_sizes : sizes_fit m new ≡ sizes_fit m old
+  same_sizes = λ i.
+      (ap (all_paired function_size_fits m.functions) functions ∙ same_paired function_size_fits (λ f g es. ap (λ n. length f.expressions == n) (same_length _ 0 es)) m.functions m.functions old.functions.items) i &&
+      ((ap (all_paired entry_point_size_fits m.entry_points.items) entries ∙ same_paired entry_point_size_fits (λ p g es. ap (λ n. length p.function.expressions == n) (same_length _ 0 es)) m.entry_points.items points old.entry_points.items) i &&
+      (length m.global_expressions == length (types i).items))
 
-  same_locals : (ls : List Local) → list_all (local_fits types now) ls ≡ list_all (local_fits types es) ls
-  same_locals [] = refl
-  same_locals (l ∷ ls) = λ i. (nat_lt l.ty (length types) && same_value l.ty l.init i) && same_locals ls i
+  same_all_known : (test : TypeResolution → Bool) → all_known test new ≡ all_known test old
+  same_all_known test = λ i.
+      (ap (list_all (list_all (λ k. test k.ty))) functions ∙ all_same_known test m.functions old.functions.items) i &&
+      ((ap (list_all (list_all (λ k. test k.ty))) entries ∙ all_same_known test points old.entry_points.items) i &&
+      list_all test (types i).items)
 
-  same_return : (r : Option FunctionResult) (v : Option ℕ) → return_fits types now r v ≡ return_fits types es r v
-  same_return (Some r) (Some h) = same_value r.ty (Some h)
-  same_return (Some r) None = refl
-  same_return None (Some h) = refl
-  same_return None None = refl
+  same_ranges : module_ranges_fit m new ≡ module_ranges_fit m old
+  unfolding module_ranges_fit
+  same_ranges = λ i. same_sizes i && (list_all type_is_fit m.types && (module_in_range m && same_all_known (resolution_fits (length m.overrides) (length m.types)) i))
 
-  same_simple : (r : Option FunctionResult) (s : SimpleStatement) → simple_fits types now r s ≡ simple_fits types es r s
-  same_simple r (emit first last) = ap (λ n. nat_le first last && nat_le last n) (same_length c 0 es)
-  same_simple r (store pointer value) = λ i. is_alike (same_spelling types c 0 es value i) (same_pointee types c 0 es pointer i)
-  same_simple r (return value) = same_return r value
-  same_simple r _ = refl
+  same_soundness : module_is_sound m new ≡ module_is_sound m old
+  unfolding module_is_sound
+  same_soundness = λ i.
+      declarations_are_sound m (types i).items &&
+      ((ap (all_paired (function_is_sound m) m.functions) functions ∙ same_paired (function_is_sound m) (λ f g es. ap (typed_function_is_sound m f) (same_types _ 0 es)) m.functions m.functions old.functions.items) i &&
+      (ap (all_paired (entry_point_is_sound m) m.entry_points.items) entries ∙ same_paired (entry_point_is_sound m) (λ p g es. ap (typed_function_is_sound m p.function) (same_types _ 0 es)) m.entry_points.items points old.entry_points.items) i)
 
-  same_statement : (r : Option FunctionResult) (s : StatementTree) → statement_fits types now r s ≡ statement_fits types es r s
-  same_statement r (simple s) = same_simple r s
-  same_statement r _ = refl
+  same_agreement : module_operators_agree m new ≡ module_operators_agree m old
+  same_agreement = λ i.
+      all_agree (flat_map (uses_of m.types)
+      ((ap (function_groups m.functions) functions ∙ same_groups m.functions m.functions old.functions.items) i
+      ++ ((ap (function_groups points) entries ∙ same_groups points points old.entry_points.items) i
+      ++ record { expressions = m.global_expressions; known = (types i).items } ∷ [])))
 
-  same_block : (r : Option FunctionResult) (b : BlockTree) → block_fits types now r b ≡ block_fits types es r b
-  same_block r no_statements = refl
-  same_block r (statement s b) = λ i. same_statement r s i && same_block r b i
-
-  same_function : function_fits types f now ≡ function_fits types f es
-  same_function = λ i. signature_fits (length types) f && (names_fit f && (same_expressions 0 0 f.expressions es i && (same_locals f.local_variables i && same_block f.result f.body i)))
-
-same_spellings : (types : List Type_) (c : ℕ → ℕ) (es : List ExpressionInfo) (hs : List ℕ) →
-    spellings_at types (with_counts_from c 0 es) hs ≡ spellings_at types es hs
-same_spellings types c es [] = refl
-same_spellings types c es (h ∷ hs) =
-    λ i. spelling_then (same_spelling types c 0 es h i) (same_spellings types c es hs i)
-
-same_applied : (types : List Type_) (c : ℕ → ℕ) (es : List ExpressionInfo) (here : ℕ)
-    (o : Option Application) →
-    application_operations types (with_counts_from c 0 es) here o ≡
-    application_operations types es here o
-same_applied types c es here None = refl
-same_applied types c es here (Some applied) =
-    λ i. operation_of (accepted_word applied.operator)
-    (same_spellings types c es applied.operands i) (same_spelling types c 0 es here i)
-
-same_operations : (types : List Type_) (c : ℕ → ℕ) (es : List ExpressionInfo) (here : ℕ) (e : Expression) → expression_operations types (with_counts_from c 0 es) here e ≡ expression_operations types es here e
-same_operations types c es here e = same_applied types c es here (application_of e)
-
-same_operations_from : (types : List Type_) (c : ℕ → ℕ) (es : List ExpressionInfo) (ps : List (ℕ × Expression)) → flat_map (λ p. expression_operations types (with_counts_from c 0 es) p.0 p.1) ps ≡ flat_map (λ p. expression_operations types es p.0 p.1) ps
-same_operations_from types c es [] = refl
-same_operations_from types c es (p ∷ ps) = λ i. same_operations types c es p.0 p.1 i ++ same_operations_from types c es ps i
-
-same_all_operations : (types : List Type_) (fs : List Function) (ess : List (List ExpressionInfo)) → all_operations types fs (all_with_counts fs ess) ≡ all_operations types fs ess
-same_all_operations types [] [] = refl
-same_all_operations types [] (es ∷ ess) = refl
-same_all_operations types (f ∷ fs) [] = refl
-same_all_operations types (f ∷ fs) (es ∷ ess) = λ i. same_operations_from types (use_count (operand_places f)) es (enumerate_from 0 f.expressions) i ++ same_all_operations types fs ess i
-
-same_functions : (types : List Type_) (fs : List Function) (ess : List (List ExpressionInfo)) → functions_fit types fs (all_with_counts fs ess) ≡ functions_fit types fs ess
-same_functions types [] [] = refl
-same_functions types [] (es ∷ ess) = refl
-same_functions types (f ∷ fs) [] = refl
-same_functions types (f ∷ fs) (es ∷ ess) = λ i. same_function types f (use_count (operand_places f)) es i && same_functions types fs ess i
-
-pub same_acceptance : (m : Module) (old new : ModuleInfo) → new.functions.items ≡ all_with_counts m.functions old.functions.items → length new.entry_points.items ≡ length old.entry_points.items → new.const_expression_types ≡ old.const_expression_types → is_accepted m new ≡ is_accepted m old
-unfolding is_accepted
-same_acceptance m old new functions entries types = λ i.
-    declares_functions m && (list_all is_scalar_type m.types && (special_types_fit (length m.types) m.special_types &&
-    (nat_eq (entries i) 0 && (nat_eq (length (types i).items) 0 &&
-    ((ap (functions_fit m.types m.functions) functions ∙ same_functions m.types m.functions old.functions.items) i &&
-    (ap (operators_agree m.types m.functions) functions ∙ ap all_agree (same_all_operations m.types m.functions old.functions.items)) i)))))
+  pub same_acceptance : is_accepted m new ≡ is_accepted m old
+  unfolding is_accepted
+  same_acceptance = λ i. same_ranges i && (same_soundness i && same_agreement i)

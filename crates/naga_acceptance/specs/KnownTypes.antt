@@ -16,6 +16,7 @@ abbrev pub given : GivenType → TypeResolution
 given (given_type.Handle handle) = Handle handle
 given (given_type.Scalar s) = Value (inner.Scalar s)
 given (given_type.Vector size s) = Value (inner.Vector size s)
+given (given_type.Matrix columns rows s) = Value (inner.Matrix columns rows s)
 given (given_type.Pointer base space) = Value (inner.Pointer base space)
 given (given_type.ValuePointer size s space) = Value (inner.ValuePointer size s space)
 

@@ -1,6 +1,5 @@
 pub mod Counts
-pub mod Fitting
 pub mod KnownTypes
-pub mod Spelled
-pub mod Table
+pub mod OperatorKeys
+pub mod Uses
 pub mod Views

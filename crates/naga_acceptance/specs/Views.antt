@@ -1,30 +1,21 @@
 -- What the code's views of types stand for.
 --
--- Throughout, types are a module's types, f tells the form of the type at a handle, l is a level, o
--- what a type is over, and t the top of a type.
-use Rattle.std.specs.Prelude.{ℕ, suc, ◌+◌, Bool, List, [], ◌∷◌, ◌++◌, Option, Some, None}
-use Rattle.std.specs.Option.{option_map, option_and_then}
+-- Throughout, types are a module's types, l is a level, o what a type is over, and t the top of a
+-- type.
+use Rattle.std.specs.Prelude.{ℕ, suc, Bool, true, ◌&&◌, not, List, [], ◌∷◌, ◌++◌, Option, Some}
+use Rattle.std.specs.Prelude.{None, unwrap_or}
+use Rattle.std.specs.Bool.{nat_eq}
+use Rattle.std.specs.Option.{is_some, option_map}
 use Rattle.naga_ir.specs.declared.types.Type_.{Type_}
-use Rattle.naga_ir.specs.declared.types.TypeInner.TheVariants as inner
-use Rattle.naga_info.specs.declared.info.TypeResolution.{TypeResolution}
-use Rattle.naga_info.specs.declared.info.TypeResolution.TheVariants as resolution
-use Rattle.naga_acceptance.specs.declared.alike.Level.{Level}
+use Rattle.naga_acceptance.specs.declared.type_numbers.Level.{Level}
 use Rattle.naga_acceptance.specs.declared.alike.Over.{Over}
-use Rattle.naga_acceptance.specs.declared.alike.Over.TheVariants.{Nothing, Type_ as TypeAt, Value}
+use Rattle.naga_acceptance.specs.declared.alike.Over.TheVariants.{Nothing, Type_ as TypeAt}
+use Rattle.naga_acceptance.specs.declared.alike.Over.TheVariants.{Value as ValueOver}
 use Rattle.naga_acceptance.specs.declared.alike.Top.{Top}
-use Rattle.naga_acceptance.specs.declared.alike.TypeView.{TypeView}
-use Rattle.naga_acceptance.specs.declared.alike.TypeView.TheVariants as view
+use Rattle.naga_acceptance.specs.declared.alike.Identity.{Identity}
+use Rattle.naga_acceptance.specs.declared.alike.Identity.TheVariants.{Formed, Formless}
 use Rattle.module_meaning.specs.AlikeTypes.{form_within, handle_form, value_form}
 use Rattle.module_meaning.specs.TypeIdentity.{level}
-
--- the type that a view is of
-abbrev pub viewed : TypeView → TypeResolution
-viewed (view.Handle h) = resolution.Handle h
-viewed (view.Inner it) = resolution.Value it.now
-viewed (view.Scalar s) = resolution.Value (inner.Scalar s)
-viewed (view.Vector size s) = resolution.Value (inner.Vector size s)
-viewed (view.Pointer base space) = resolution.Value (inner.Pointer base space)
-viewed (view.ValuePointer size s space) = resolution.Value (inner.ValuePointer size s space)
 
 -- the six numbers of a level
 abbrev pub numbers : Level → List ℕ
@@ -34,7 +25,7 @@ numbers l = level l.tag l.first l.second l.third l.fourth l.fifth
 abbrev pub over_form : List Type_ → Over → Option (List ℕ)
 over_form types Nothing = Some []
 over_form types (TypeAt handle deeper) = form_within (suc deeper) types handle
-over_form types (Value size s) = value_form size s
+over_form types (ValueOver size s) = value_form size s
 
 -- the form of a type by its top, where it has one
 abbrev pub top_form : List Type_ → Option Top → Option (List ℕ)
@@ -65,3 +56,13 @@ next_form over form = form
 abbrev pub formless_code : Option (List ℕ) → List ℕ
 formless_code None = 0 ∷ []
 formless_code (Some code) = 2 ∷ code
+
+-- what tells a type: its form, or what it is
+abbrev pub told : List Type_ → Identity → List ℕ
+told types (Formed top) = unwrap_or (top_form types (Some top)) []
+told types (Formless level) = 32 ∷ formless_code (option_map numbers level)
+
+-- what it is over has a form, and it is told apart from what has none
+abbrev pub is_whole : List Type_ → Identity → Bool
+is_whole types (Formed top) = is_some (over_form types top.over) && not (nat_eq top.level.tag 32)
+is_whole types (Formless level) = true

@@ -1,93 +1,41 @@
 //! Whether two types are alike: whether WGSL spells them alike, each struct and each override
 //! standing for its handle. A type without a form is alike only to itself.
 
-ghost use Rattle.std.specs.Prelude.{◌≡◌, ◌≤◌, ◌&&◌, ◌++◌, ℕ, suc, List, [], Bool, true, unwrap_or, Some, None};
+ghost use Rattle.std.specs.Prelude.{◌≡◌, ◌≤◌, ◌&&◌, ◌++◌, ℕ, suc, List, [], true, unwrap_or, Some};
+ghost use Rattle.std.specs.Prelude.{None};
 ghost use Rattle.std.specs.Option.{IfSome, is_some, option_and_then, option_map};
 ghost use Rattle.std.specs.Str.{bytes_eq};
-ghost use Rattle.module_meaning.specs.AlikeTypes.{access_number, are_alike, array_form};
-ghost use Rattle.module_meaning.specs.AlikeTypes.{buffer_access_number, form_within, has_form};
-ghost use Rattle.module_meaning.specs.AlikeTypes.{image_access_number, image_form, inner_form_by};
-ghost use Rattle.module_meaning.specs.AlikeTypes.{over_scalar, pointer_form, type_form, value_form};
+ghost use Rattle.module_meaning.specs.AlikeTypes.{form_within, handle_form, has_form, image_form};
+ghost use Rattle.module_meaning.specs.AlikeTypes.{access_number, inner_form_by, over_scalar};
+ghost use Rattle.module_meaning.specs.AlikeTypes.{type_form, type_identity, value_form};
 ghost use Rattle.module_meaning.specs.AlikeTypes.{value_pointer_form};
-ghost use Rattle.module_meaning.specs.TypeIdentity.{components_number, cooperative_number};
-ghost use Rattle.module_meaning.specs.TypeIdentity.{dimension_number, identity, identity_code};
-ghost use Rattle.module_meaning.specs.TypeIdentity.{image_code, inner_code, space_bits};
-ghost use Rattle.module_meaning.specs.TypeIdentity.{kind_number, role_number, space_number};
-ghost use Rattle.module_meaning.specs.TypeIdentity.{length_kind, length_number, level};
-ghost use Rattle.module_meaning.specs.TypeIdentity.{truth_number, vector_number};
-ghost use Rattle.naga_acceptance.specs.Views.{bases, depth, formless_code, next_form, numbers};
-ghost use Rattle.naga_acceptance.specs.Views.{over_form, rank, top_form, viewed};
+ghost use Rattle.module_meaning.specs.TypeIdentity.{identity, identity_code, image_code};
+ghost use Rattle.module_meaning.specs.TypeIdentity.{inner_code, length_kind, length_number, level};
+ghost use Rattle.module_meaning.specs.TypeIdentity.{space_number};
+ghost use Rattle.naga_acceptance.specs.KnownTypes.{given};
+ghost use Rattle.naga_acceptance.specs.Views.{bases, depth, formless_code, is_whole, next_form};
+ghost use Rattle.naga_acceptance.specs.Views.{numbers, over_form, rank, told, top_form};
 ghost use Rattle.naga_acceptance.specs.declared.alike.Over.TheVariants.{Nothing};
+ghost use Rattle.naga_info.specs.declared.info.TypeResolution.TheVariants.{Handle};
 ghost use Rattle.naga_ir.specs.declared.types.Type_ as ir_type;
 ghost use Rattle.wgsl_words.specs.Words.{scalar_word};
 
+use crate::parts::{GivenType, vector_number};
+use crate::type_numbers::{
+    Level, access_number, components_number, cooperative_number, dimension_number,
+    image_access_number, is_same_level, kind_number, length_kind, length_number, level_of,
+    level_of_scalar, role_number, space_bits, space_number, truth_number,
+};
 use bitflags::Flags;
 use naga_info::TypeResolution;
 use naga_ir::{
-    AddressSpace, ArraySize, CooperativeRole, CooperativeSize, Handle, ImageClass, ImageDimension,
-    Scalar, ScalarKind, StorageAccess, Type_, TypeInner, UniqueArena, VectorSize,
+    AddressSpace, ArraySize, Handle, ImageClass, ImageDimension, Scalar, ScalarKind, Type_,
+    TypeInner, UniqueArena, VectorSize,
 };
-
-/// A type: one of the module's, one by itself, or one that is computed, which takes no memory.
-#[derive(Debug, Clone, Copy)]
-pub(crate) enum TypeView<'a> {
-    /// The type with this handle.
-    Handle(Handle<Type_>),
-    /// A type by itself.
-    Inner(&'a TypeInner),
-    /// A scalar.
-    Scalar(Scalar),
-    /// A vector.
-    Vector {
-        /// How many components.
-        size: VectorSize,
-        /// What they are.
-        scalar: Scalar,
-    },
-    /// A pointer to a type of the module.
-    Pointer {
-        /// What it points to.
-        base: Handle<Type_>,
-        /// Where that lives.
-        space: AddressSpace,
-    },
-    /// A pointer to a scalar or a vector.
-    ValuePointer {
-        /// How many components; none for a scalar.
-        size: Option<VectorSize>,
-        /// What they are.
-        scalar: Scalar,
-        /// Where they live.
-        space: AddressSpace,
-    },
-}
-
-impl<'a> TypeView<'a> {
-    /// The type of an expression.
-    pub(crate) fn of(ty: &'a TypeResolution) -> Self
-        ensures { viewed result ≡ ty.now }
-    {
-        match ty {
-            TypeResolution::Handle(handle) => TypeView::Handle(*handle),
-            TypeResolution::Value(inner) => TypeView::Inner(inner),
-        }
-    }
-}
-
-/// What a type is, apart from what it is over: its kind, and what it is made of.
-#[derive(Debug, Clone, Copy)]
-struct Level {
-    tag: usize,
-    first: usize,
-    second: usize,
-    third: usize,
-    fourth: usize,
-    fifth: usize,
-}
 
 /// What a type is over.
 #[derive(Debug, Clone, Copy)]
-enum Over {
+pub(crate) enum Over {
     /// Nothing that has a form of its own.
     Nothing,
     /// A type of the module, of which no more than `deeper` further levels are looked at.
@@ -104,124 +52,18 @@ enum Over {
 
 /// A type with a form, if what it is over has one.
 #[derive(Debug, Clone, Copy)]
-struct Top {
-    level: Level,
-    over: Over,
+pub(crate) struct Top {
+    pub(crate) level: Level,
+    pub(crate) over: Over,
 }
 
-fn kind_number(kind: ScalarKind) -> usize
-    ensures { result ≡ kind_number kind }
-{
-    match kind {
-        ScalarKind::Sint => 0,
-        ScalarKind::Uint => 1,
-        ScalarKind::Float => 2,
-        ScalarKind::Bool => 3,
-        ScalarKind::AbstractInt => 4,
-        ScalarKind::AbstractFloat => 5,
-    }
-}
-
-fn vector_number(size: VectorSize) -> usize
-    ensures { result ≡ vector_number size }
-{
-    match size {
-        VectorSize::Bi => 2,
-        VectorSize::Tri => 3,
-        VectorSize::Quad => 4,
-    }
-}
-
-fn cooperative_number(size: CooperativeSize) -> usize
-    ensures { result ≡ cooperative_number size }
-{
-    match size {
-        CooperativeSize::Eight => 8,
-        CooperativeSize::Sixteen => 16,
-    }
-}
-
-fn role_number(role: CooperativeRole) -> usize
-    ensures { result ≡ role_number role }
-{
-    match role {
-        CooperativeRole::A => 0,
-        CooperativeRole::B => 1,
-        CooperativeRole::C => 2,
-    }
-}
-
-fn space_number(space: AddressSpace) -> usize
-    ensures { result ≡ space_number space }
-{
-    match space {
-        AddressSpace::Function => 0,
-        AddressSpace::Private => 1,
-        AddressSpace::WorkGroup => 2,
-        AddressSpace::Uniform => 3,
-        AddressSpace::Storage { .. } => 4,
-        AddressSpace::Handle => 5,
-        AddressSpace::Immediate => 6,
-        AddressSpace::TaskPayload => 7,
-        AddressSpace::RayPayload => 8,
-        AddressSpace::IncomingRayPayload => 9,
-    }
-}
-
-fn dimension_number(dim: ImageDimension) -> usize
-    ensures { result ≡ dimension_number dim }
-{
-    match dim {
-        ImageDimension::D1 => 1,
-        ImageDimension::D2 => 2,
-        ImageDimension::D3 => 3,
-        ImageDimension::Cube => 4,
-    }
-}
-
-fn truth_number(flag: bool) -> usize
-    ensures { result ≡ truth_number flag }
-{
-    if flag { 1 } else { 0 }
-}
-
-/// What may be done with a storage buffer, as its word tells.
-fn buffer_access_number(access: StorageAccess) -> usize
-    ensures { result ≡ buffer_access_number access }
-{
-    if access.contains(StorageAccess::ATOMIC) {
-        2
-    } else if access.contains(StorageAccess::STORE) {
-        1
-    } else {
-        0
-    }
-}
-
-fn access_number(space: AddressSpace) -> usize
-    ensures { result ≡ access_number space }
-{
-    match space {
-        AddressSpace::Storage { access } => buffer_access_number(access),
-        _ => 0,
-    }
-}
-
-/// What may be done with a storage image, as its word tells.
-fn image_access_number(access: StorageAccess) -> usize
-    ensures { result ≡ image_access_number access }
-{
-    if access.contains(StorageAccess::ATOMIC) {
-        3
-    } else if access.contains(StorageAccess::LOAD) {
-        if access.contains(StorageAccess::STORE) {
-            2
-        } else {
-            1
-        }
-    } else {
-        0
-    }
+/// What tells a type.
+#[derive(Debug, Clone, Copy)]
+pub(crate) enum Identity {
+    /// Its form.
+    Formed(Top),
+    /// What it is, where WGSL has no form for it: the type by itself, or nothing.
+    Formless(Option<Level>),
 }
 
 /// Whether WGSL has a word for the scalar.
@@ -234,60 +76,6 @@ fn has_scalar_word(scalar: Scalar) -> bool
             scalar.width == 2 || scalar.width == 4 || scalar.width == 8
         }
         ScalarKind::AbstractInt | ScalarKind::AbstractFloat => false,
-    }
-}
-
-fn level_of(
-    tag: usize,
-    first: usize,
-    second: usize,
-    third: usize,
-    fourth: usize,
-    fifth: usize,
-) -> Level
-    ensures { numbers result ≡ level tag first second third fourth fifth }
-{
-    Level {
-        tag,
-        first,
-        second,
-        third,
-        fourth,
-        fifth,
-    }
-}
-
-fn level_of_scalar(tag: usize, scalar: Scalar, third: usize, fourth: usize, fifth: usize) -> Level
-    ensures { numbers result
-        ≡ level tag (kind_number scalar.kind) scalar.width third fourth fifth }
-{
-    level_of(
-        tag,
-        kind_number(scalar.kind),
-        scalar.width as usize,
-        third,
-        fourth,
-        fifth,
-    )
-}
-
-/// How many components, where one stands by itself.
-fn components_number(size: Option<VectorSize>) -> usize
-    ensures { result ≡ components_number size }
-{
-    match size {
-        Some(size) => vector_number(size),
-        None => 1,
-    }
-}
-
-/// What may be done with the memory of the space, as bits.
-fn space_bits(space: AddressSpace) -> usize
-    ensures { result ≡ space_bits space }
-{
-    match space {
-        AddressSpace::Storage { access } => access.bits() as usize,
-        _ => 0,
     }
 }
 
@@ -355,26 +143,6 @@ fn pointer_level(space: AddressSpace) -> Level
     ensures { numbers result ≡ level 5 (space_number space) (access_number space) 0 0 0 }
 {
     level_of(5, space_number(space), access_number(space), 0, 0, 0)
-}
-
-fn length_kind(size: &ArraySize) -> usize
-    ensures { result ≡ length_kind size.now }
-{
-    match size {
-        ArraySize::Constant(_) => 0,
-        ArraySize::Pending(_) => 1,
-        ArraySize::Dynamic => 2,
-    }
-}
-
-fn length_number(size: &ArraySize) -> usize
-    ensures { result ≡ length_number size.now }
-{
-    match size {
-        ArraySize::Constant(length) => length.get() as usize,
-        ArraySize::Pending(handle) => handle.index(),
-        ArraySize::Dynamic => 0,
-    }
 }
 
 fn array_level(tag: usize, size: &ArraySize) -> Level
@@ -522,22 +290,36 @@ fn type_top(types: &UniqueArena<Type_>, handle: Handle<Type_>, deeper: usize) ->
 }
 
 #[tactic(auto, unfolding(module_meaning::specs::AlikeTypes::handle_form))]
-fn view_top(types: &UniqueArena<Type_>, view: &TypeView<'_>) -> Option<Top>
-    ensures { top_form types.now result ≡ type_form types.now (viewed view.now) }
+fn given_top(types: &UniqueArena<Type_>, ty: &GivenType) -> Option<Top>
+    ensures { top_form types.now result ≡ type_form types.now (given ty.now) }
 {
-    match *view {
-        TypeView::Handle(handle) => type_top(types, handle, handle.index()),
-        TypeView::Inner(inner) => inner_top(inner, None),
-        TypeView::Scalar(scalar) => value_top(None, scalar),
-        TypeView::Vector { size, scalar } => value_top(Some(size), scalar),
-        TypeView::Pointer { base, space } => {
+    match *ty {
+        GivenType::Handle(handle) => type_top(types, handle, handle.index()),
+        GivenType::Scalar(scalar) => value_top(None, scalar),
+        GivenType::Vector { size, scalar } => value_top(Some(size), scalar),
+        GivenType::Matrix {
+            columns,
+            rows,
+            scalar,
+        } => over_scalar(2, scalar, vector_number(columns), vector_number(rows), 0),
+        GivenType::Pointer { base, space } => {
             level_over(pointer_level(space), over_base(base, None))
         }
-        TypeView::ValuePointer {
+        GivenType::ValuePointer {
             size,
             scalar,
             space,
         } => value_pointer_top(size, scalar, space),
+    }
+}
+
+#[tactic(auto, unfolding(module_meaning::specs::AlikeTypes::handle_form))]
+fn resolution_top(types: &UniqueArena<Type_>, ty: &TypeResolution) -> Option<Top>
+    ensures { top_form types.now result ≡ type_form types.now ty.now }
+{
+    match ty {
+        TypeResolution::Handle(handle) => type_top(types, *handle, handle.index()),
+        TypeResolution::Value(inner) => inner_top(inner, None),
     }
 }
 
@@ -568,14 +350,14 @@ fn top_has_form(types: &UniqueArena<Type_>, top: Option<Top>) -> bool
 }
 
 /// Whether WGSL spells the type.
-pub(crate) fn has_form(types: &UniqueArena<Type_>, view: &TypeView<'_>) -> bool
-    ensures { result ≡ has_form types.now (viewed view.now) }
+pub(crate) fn has_form(types: &UniqueArena<Type_>, ty: &GivenType) -> bool
+    ensures { result ≡ has_form types.now (given ty.now) }
 {
-    top_has_form(types, view_top(types, view))
+    top_has_form(types, given_top(types, ty))
 }
 
 /// What `over` is, if it is something that has a level.
-fn next(types: &UniqueArena<Type_>, over: Over) -> Option<Top>
+pub(crate) fn next(types: &UniqueArena<Type_>, over: Over) -> Option<Top>
     ensures form { next_form over (top_form types.now result) ≡ over_form types.now over }
     ensures rank { IfSome result (λ top. suc (rank top.over) ≤ rank over) }
 {
@@ -584,17 +366,6 @@ fn next(types: &UniqueArena<Type_>, over: Over) -> Option<Top>
         Over::Value { size, scalar } => value_top(size, scalar),
         Over::Type_ { handle, deeper } => type_top(types, handle, deeper),
     }
-}
-
-fn is_same_level(a: &Level, b: &Level) -> bool
-    ensures { result ≡ bytes_eq (numbers a.now) (numbers b.now) }
-{
-    a.tag == b.tag
-        && a.first == b.first
-        && a.second == b.second
-        && a.third == b.third
-        && a.fourth == b.fourth
-        && a.fifth == b.fifth
 }
 
 /// Whether what two types are over, which has a form, has the same levels.
@@ -625,12 +396,12 @@ fn is_over_same(types: &UniqueArena<Type_>, a: Over, b: Over) -> bool
     }
 }
 
-/// The top of a type, if the type has a form.
-fn formed_top(types: &UniqueArena<Type_>, view: &TypeView<'_>) -> Option<Top>
-    ensures form { top_form types.now result ≡ type_form types.now (viewed view.now) }
+/// The top, if what it is over has a form.
+fn formed(types: &UniqueArena<Type_>, top: Option<Top>) -> Option<Top>
+    ensures form { top_form types.now result ≡ top_form types.now top }
     ensures over { IfSome result (λ top. is_some (over_form types.now top.over) ≡ true) }
 {
-    match view_top(types, view) {
+    match top {
         Some(top) if over_has_form(types, top.over) => Some(top),
         _ => None,
     }
@@ -749,28 +520,48 @@ fn own_image_level(dim: ImageDimension, arrayed: bool, class: ImageClass) -> Lev
     }
 }
 
-/// The numbers of a type without a form, if there is such a type.
-fn formless_level(types: &UniqueArena<Type_>, view: &TypeView<'_>) -> Option<Level>
-    ensures { type_form types.now (viewed view.now) ≡ None →
-        formless_code (option_map numbers result) ≡ identity_code (identity types.now (viewed view.now)) }
+/// The numbers of a type of the module without a form, if there is such a type.
+fn formless_level_at(types: &UniqueArena<Type_>, handle: Handle<Type_>) -> Option<Level>
+    ensures { handle_form types.now handle ≡ None → formless_code (option_map numbers result)
+        ≡ identity_code (identity types.now (Handle handle)) }
 {
-    match *view {
-        TypeView::Handle(handle) => {
-            if handle.index() < types.len() {
-                Some(own_level(&types[handle].inner))
-            } else {
-                None
-            }
-        }
-        TypeView::Inner(inner) => match inner {
+    if handle.index() < types.len() {
+        Some(own_level(&types[handle].inner))
+    } else {
+        None
+    }
+}
+
+fn resolution_formless_level(types: &UniqueArena<Type_>, ty: &TypeResolution) -> Option<Level>
+    ensures { type_form types.now ty.now ≡ None → formless_code (option_map numbers result)
+        ≡ identity_code (identity types.now ty.now) }
+{
+    match ty {
+        TypeResolution::Handle(handle) => formless_level_at(types, *handle),
+        TypeResolution::Value(inner) => match inner {
             TypeInner::Struct { .. } => None,
             _ => Some(own_level(inner)),
         },
-        TypeView::Scalar(scalar) => Some(level_of_scalar(0, scalar, 0, 0, 0)),
-        TypeView::Vector { size, scalar } => {
+    }
+}
+
+fn given_formless_level(types: &UniqueArena<Type_>, ty: &GivenType) -> Option<Level>
+    ensures { type_form types.now (given ty.now) ≡ None →
+        formless_code (option_map numbers result)
+        ≡ identity_code (identity types.now (given ty.now)) }
+{
+    match *ty {
+        GivenType::Handle(handle) => formless_level_at(types, handle),
+        GivenType::Scalar(scalar) => Some(level_of_scalar(0, scalar, 0, 0, 0)),
+        GivenType::Vector { size, scalar } => {
             Some(level_of_scalar(1, scalar, vector_number(size), 0, 0))
         }
-        TypeView::Pointer { base, space } => {
+        GivenType::Matrix {
+            columns,
+            rows,
+            scalar,
+        } => Some(level_of_scalar(2, scalar, vector_number(columns), vector_number(rows), 0)),
+        GivenType::Pointer { base, space } => {
             Some(level_of(
                 5,
                 base.index(),
@@ -780,7 +571,7 @@ fn formless_level(types: &UniqueArena<Type_>, view: &TypeView<'_>) -> Option<Lev
                 0,
             ))
         }
-        TypeView::ValuePointer {
+        GivenType::ValuePointer {
             size,
             scalar,
             space,
@@ -794,36 +585,51 @@ fn formless_level(types: &UniqueArena<Type_>, view: &TypeView<'_>) -> Option<Lev
     }
 }
 
-/// Whether two types are alike.
-pub(crate) fn are_alike(types: &UniqueArena<Type_>, a: &TypeView<'_>, b: &TypeView<'_>) -> bool
-    ensures { result ≡ are_alike types.now (viewed a.now) (viewed b.now) }
+/// What tells a known type.
+pub(crate) fn identity_of(types: &UniqueArena<Type_>, ty: &TypeResolution) -> Identity
+    ensures told { told types.now result ≡ type_identity types.now ty.now }
+    ensures whole { is_whole types.now result ≡ true }
 {
-    match formed_top(types, a) {
-        Some(x) => match formed_top(types, b) {
-            Some(y) => is_same_level(&x.level, &y.level) && is_over_same(types, x.over, y.over),
-            None => false,
-        },
-        None => match formed_top(types, b) {
-            Some(_) => false,
-            None => is_same_formless(types, a, b),
-        },
+    match formed(types, resolution_top(types, ty)) {
+        Some(top) => Identity::Formed(top),
+        None => Identity::Formless(resolution_formless_level(types, ty)),
+    }
+}
+
+/// What tells a type that is given.
+pub(crate) fn given_identity(types: &UniqueArena<Type_>, ty: &GivenType) -> Identity
+    ensures told { told types.now result ≡ type_identity types.now (given ty.now) }
+    ensures whole { is_whole types.now result ≡ true }
+{
+    match formed(types, given_top(types, ty)) {
+        Some(top) => Identity::Formed(top),
+        None => Identity::Formless(given_formless_level(types, ty)),
     }
 }
 
 /// Whether two types without a form are told by the same.
-fn is_same_formless(types: &UniqueArena<Type_>, a: &TypeView<'_>, b: &TypeView<'_>) -> bool
-    requires a { type_form types.now (viewed a.now) ≡ None }
-    requires b { type_form types.now (viewed b.now) ≡ None }
-    ensures { result ≡ are_alike types.now (viewed a.now) (viewed b.now) }
+fn is_same_formless(a: Option<Level>, b: Option<Level>) -> bool
+    ensures { result ≡ bytes_eq (formless_code (option_map numbers a))
+        (formless_code (option_map numbers b)) }
 {
-    match formless_level(types, a) {
-        Some(x) => match formless_level(types, b) {
-            Some(y) => is_same_level(&x, &y),
-            None => false,
-        },
-        None => match formless_level(types, b) {
-            Some(_) => false,
-            None => true,
-        },
+    match (a, b) {
+        (Some(a), Some(b)) => is_same_level(&a, &b),
+        (None, None) => true,
+        _ => false,
+    }
+}
+
+/// Whether two types are told by the same.
+pub(crate) fn are_alike(types: &UniqueArena<Type_>, a: Identity, b: Identity) -> bool
+    requires a { is_whole types.now a ≡ true }
+    requires b { is_whole types.now b ≡ true }
+    ensures { result ≡ bytes_eq (told types.now a) (told types.now b) }
+{
+    match (a, b) {
+        (Identity::Formed(x), Identity::Formed(y)) => {
+            is_same_level(&x.level, &y.level) && is_over_same(types, x.over, y.over)
+        }
+        (Identity::Formless(x), Identity::Formless(y)) => is_same_formless(x, y),
+        _ => false,
     }
 }

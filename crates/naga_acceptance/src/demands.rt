@@ -88,7 +88,8 @@ fn access_fits(
     base: Handle<Expression>,
     index: Handle<Expression>,
 ) -> bool
-    ensures { result ≡ (operand_is types.now (known_types known.entry) (has_computed_parts types.now) base
+    ensures { result
+        ≡ (operand_is types.now (known_types known.entry) (has_computed_parts types.now) base
         && operand_is types.now (known_types known.entry) is_integer index) }
 {
     let (Some(base), Some(index)) = (

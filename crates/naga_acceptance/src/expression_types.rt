@@ -4,19 +4,24 @@ ghost use Rattle.std.specs.Prelude.{◌≡◌, Option};
 ghost use Rattle.std.specs.Option.{option_and_then, option_copied, option_map};
 ghost use Rattle.naga_acceptance.specs.KnownTypes.{given, known_types, wanted};
 ghost use Rattle.module_meaning.specs.ExpressionTypes.{argument_type, binary_type, constant_type};
-ghost use Rattle.module_meaning.specs.ExpressionTypes.{global_type, if_any, is_bool};
+ghost use Rattle.module_meaning.specs.ExpressionTypes.{global_type, has_its_type};
+ghost use Rattle.module_meaning.specs.ExpressionTypes.{have_their_types, if_any, is_bool};
+ghost use Rattle.module_meaning.specs.ExpressionTypes.{is_wanted};
 ghost use Rattle.module_meaning.specs.ExpressionTypes.{literal_scalar, local_type, logical_type};
 ghost use Rattle.module_meaning.specs.ExpressionTypes.{only, override_type, result_type};
 ghost use Rattle.module_meaning.specs.ExpressionTypes.{splat_type, swizzle_type, variable_type};
 ghost use Rattle.module_meaning.specs.ExpressionTypes.{wanted_type};
-ghost use Rattle.module_meaning.specs.TypeParts.{known_inner, part_type, pointee_type};
+ghost use Rattle.module_meaning.specs.TypeParts.{known_inner, known_pointee, part_type};
 
+use crate::alike::{are_alike, given_identity, identity_of};
 use crate::parts::{
-    GivenType, Known, known_inner, own_scalar, part_type, pointee_type, vector_scalar,
+    GivenType, Known, known_inner, known_type, own_scalar, part_type, pointee_type, vector_scalar,
 };
+use naga_info::TypeResolution;
 use naga_ir::{
-    AddressSpace, BinaryOperator, Constant, Expression, Function, GlobalVariable, Handle, Literal,
-    LocalVariable, Module, Override, Scalar, ScalarKind, Type_, TypeInner, UniqueArena, VectorSize,
+    AddressSpace, Arena, BinaryOperator, Constant, Expression, Function, GlobalVariable, Handle,
+    Literal, LocalVariable, Module, Override, Scalar, ScalarKind, Type_, TypeInner, UniqueArena,
+    VectorSize,
 };
 
 /// What an expression's type may be.
@@ -224,13 +229,14 @@ fn part_at(
     }
 }
 
-fn pointee_at(
+/// What is read and written through the pointer with this handle, if it is a pointer.
+pub(crate) fn pointee_at(
     types: &UniqueArena<Type_>,
     known: Known<'_>,
     pointer: Handle<Expression>,
 ) -> Option<GivenType>
-    ensures { option_map given result ≡ option_and_then (pointee_type types.now)
-        (known_inner types.now (known_types known.entry) pointer) }
+    ensures { option_map given result
+        ≡ known_pointee types.now (known_types known.entry) pointer }
 {
     match known_inner(types, known, pointer) {
         Some(inner) => pointee_type(types, inner),
@@ -296,4 +302,59 @@ pub fn wanted_type(
         Expression::CallResult(handle) => only(result_type(module, *handle)),
         _ => Wanted::Anything,
     }
+}
+
+/// Whether a type is what is wanted.
+fn is_wanted(types: &UniqueArena<Type_>, demand: Wanted, own: &TypeResolution) -> bool
+    ensures { result ≡ is_wanted types.now (wanted demand) own.now }
+{
+    match demand {
+        Wanted::LikeThis(ty) => {
+            are_alike(types, identity_of(types, own), given_identity(types, &ty))
+        }
+        Wanted::Anything => true,
+        Wanted::Nothing => false,
+    }
+}
+
+/// Whether the type that is known of the expression with this handle is one that it may have.
+pub(crate) fn has_its_type(
+    module: &Module,
+    function: Option<&Function>,
+    known: Known<'_>,
+    handle: Handle<Expression>,
+    expression: &Expression,
+) -> bool
+    ensures { result ≡ has_its_type «module».now (option_copied function.entry)
+        (known_types known.entry) handle expression.now }
+{
+    match known_type(known, handle) {
+        Some(own) => {
+            is_wanted(
+                &module.types,
+                wanted_type(module, function, known, expression),
+                own,
+            )
+        }
+        None => false,
+    }
+}
+
+/// Whether all expressions that stand together have types that they may have ([`wanted_type`]): the
+/// types of each are known, and like what it stands for. It takes no memory.
+pub fn have_their_types(
+    module: &Module,
+    function: Option<&Function>,
+    known: Known<'_>,
+    expressions: &Arena<Expression>,
+) -> bool
+    ensures { result ≡ have_their_types «module».now (option_copied function.entry)
+        (known_types known.entry) expressions.now }
+{
+    for (handle, expression) in expressions.iter() {
+        if !has_its_type(module, function, known, handle, expression) {
+            return false;
+        }
+    }
+    true
 }

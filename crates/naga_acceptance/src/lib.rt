@@ -5,18 +5,22 @@
 #![tactic(auto)]
 
 pub mod acceptance;
+pub mod agreeing;
 mod alike;
 pub mod counts;
 pub mod demands;
 pub mod expression_types;
-mod operations;
+pub mod initialisers;
+mod operator_keys;
 pub mod part;
 pub mod parts;
 pub mod ranges;
-pub mod spelling;
+pub mod soundness;
 pub mod statements;
+mod type_hash;
+mod type_numbers;
+mod uses;
 
 pub use acceptance::accepts;
 pub use counts::count;
 pub use part::is_written_so_far;
-pub use spelling::scalar_word;

@@ -7,29 +7,137 @@ ghost use Rattle.naga_ir.specs.StatementViews.{tree_of};
 ghost use Rattle.module_meaning.specs.Part.{block_is_written, expression_is_written};
 ghost use Rattle.module_meaning.specs.Part.{function_is_written, is_literal, is_unbound};
 ghost use Rattle.module_meaning.specs.Part.{is_written_so_far, local_is_written};
-ghost use Rattle.module_meaning.specs.Part.{names_nothing, statement_is_written};
+ghost use Rattle.module_meaning.specs.Part.{declares_functions, is_scalar_type};
+ghost use Rattle.module_meaning.specs.Part.{known_types_are_written, names_nothing};
+ghost use Rattle.module_meaning.specs.Part.{statement_is_written};
 ghost use Rattle.module_meaning.specs.Applications.{accepted_word};
 ghost use Rattle.module_meaning.specs.OperatorTable.{BinarySign};
-ghost use Rattle.module_meaning.specs.Spelled.{literal_word};
+ghost use Rattle.module_meaning.specs.Spelled.{literal_word, scalar_word, spelling, spelling_of};
+ghost use Rattle.module_meaning.specs.Spelled.{word_at, word_of_type};
 
-use crate::acceptance::{declares_functions, types_are_scalar};
+use crate::parts::{inner_at, inner_of};
+use naga_info::{ExpressionInfo, FunctionInfo, ModuleInfo, TypeResolution};
 use naga_ir::{
-    Arena, BinaryOperator, Block, Expression, Function, FunctionArgument, Handle, Literal,
-    LocalVariable, Module, Statement,
+    AddressSpace, Arena, BinaryOperator, Block, Expression, Function, FunctionArgument, Handle,
+    Literal, LocalVariable, Module, Scalar, ScalarKind, Statement, Type_, TypeInner, UniqueArena,
 };
 
 /// Whether the module holds nothing but what is written so far: the types `bool`, `i32`, `u32`,
 /// `i64` and `u64`, and functions without names of their expressions, whose arguments and result
 /// are bound to nothing, whose locals have a literal as first value or none, whose expressions are
 /// arguments, locals, literals of these types, loads, sums, differences and products, and whose
-/// statements are `Emit`s, `Store`s and `Return`s.
+/// statements are `Emit`s, `Store`s and `Return`s. And whether nothing else is known of these
+/// expressions' types than such a type, or a pointer to a local of one.
 #[tactic(auto, unfolding(module_meaning::specs::Part::is_written_so_far))]
-pub fn is_written_so_far(module: &Module) -> bool
-    ensures { result ≡ is_written_so_far «module».now }
+pub fn is_written_so_far(module: &Module, info: &ModuleInfo) -> bool
+    ensures { result ≡ is_written_so_far «module».now info.now }
 {
     declares_functions(module)
         && types_are_scalar(&module.types)
         && functions_are_written(&module.functions)
+        && known_types_are_written(&module.types, info)
+}
+
+fn declares_functions(module: &Module) -> bool
+    ensures { result ≡ declares_functions «module».now }
+{
+    module.constants.is_empty()
+        && module.overrides.is_empty()
+        && module.global_variables.is_empty()
+        && module.global_expressions.is_empty()
+        && module.entry_points.is_empty()
+}
+
+/// Whether a scalar type is one of those that are written so far.
+fn has_word(scalar: Scalar) -> bool
+    ensures { result ≡ is_some (scalar_word scalar) }
+{
+    match scalar.kind {
+        ScalarKind::Bool => scalar.width == 1,
+        ScalarKind::Sint | ScalarKind::Uint => scalar.width == 4 || scalar.width == 8,
+        _ => false,
+    }
+}
+
+fn is_scalar(inner: &TypeInner) -> bool
+    ensures { result ≡ is_some (word_of_type inner.now) }
+{
+    match inner {
+        TypeInner::Scalar(scalar) => has_word(*scalar),
+        _ => false,
+    }
+}
+
+fn types_are_scalar(types: &UniqueArena<Type_>) -> bool
+    ensures { result ≡ list_all is_scalar_type types.now }
+{
+    for (_, ty) in types.iter() {
+        if !is_scalar(&ty.inner) {
+            return false;
+        }
+    }
+    true
+}
+
+fn is_scalar_at(types: &UniqueArena<Type_>, handle: Handle<Type_>) -> bool
+    ensures { result ≡ is_some (word_at types.now handle) }
+{
+    match inner_at(types, handle) {
+        Some(inner) => is_scalar(inner),
+        None => false,
+    }
+}
+
+/// Whether a type is such a scalar, or a pointer to a local of one.
+fn is_spelled(types: &UniqueArena<Type_>, inner: &TypeInner) -> bool
+    ensures { result ≡ is_some (spelling types.now inner.now) }
+{
+    match inner {
+        TypeInner::Scalar(scalar) => has_word(*scalar),
+        TypeInner::Pointer {
+            base,
+            space: AddressSpace::Function,
+        } => is_scalar_at(types, *base),
+        _ => false,
+    }
+}
+
+fn type_is_written(types: &UniqueArena<Type_>, ty: &TypeResolution) -> bool
+    ensures { result ≡ is_some (spelling_of types.now ty.now) }
+{
+    match inner_of(types, ty) {
+        Some(inner) => is_spelled(types, inner),
+        None => false,
+    }
+}
+
+fn expression_types_are_written(types: &UniqueArena<Type_>, infos: &[ExpressionInfo]) -> bool
+    ensures { result ≡ list_all (λ k. is_some (spelling_of types.now k.ty)) infos.now }
+{
+    for info in infos {
+        if !type_is_written(types, &info.ty) {
+            return false;
+        }
+    }
+    true
+}
+
+fn function_types_are_written(types: &UniqueArena<Type_>, infos: &[FunctionInfo]) -> bool
+    ensures { result ≡ list_all (list_all (λ k. is_some (spelling_of types.now k.ty))) infos.now }
+{
+    for info in infos {
+        if !expression_types_are_written(types, info.expressions.as_slice()) {
+            return false;
+        }
+    }
+    true
+}
+
+/// Whether each type that is known of an expression of a function is one of those.
+fn known_types_are_written(types: &UniqueArena<Type_>, info: &ModuleInfo) -> bool
+    ensures { result ≡ known_types_are_written types.now info.now }
+{
+    function_types_are_written(types, info.functions.as_slice())
 }
 
 fn functions_are_written(functions: &Arena<Function>) -> bool

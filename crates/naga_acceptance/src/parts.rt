@@ -32,6 +32,15 @@ pub enum GivenType {
         /// What they are.
         scalar: Scalar,
     },
+    /// Columns of scalars.
+    Matrix {
+        /// How many columns.
+        columns: VectorSize,
+        /// How many scalars each of them has.
+        rows: VectorSize,
+        /// What they are.
+        scalar: Scalar,
+    },
     /// A pointer to a value of a type of the module.
     Pointer {
         /// What it points to.
@@ -86,7 +95,23 @@ pub(crate) fn inner_of<'a>(
     }
 }
 
-/// The type of the expression with this handle, if it is known.
+/// What is known of the type of the expression with this handle, if something is.
+pub(crate) fn known_type<'a>(
+    known: Known<'a>,
+    handle: Handle<Expression>,
+) -> Option<&'a TypeResolution>
+    ensures { option_copied result ≡ slice_get (known_types known.entry) handle }
+{
+    match known {
+        Known::Function(infos) => match infos.get(handle.index()) {
+            Some(info) => Some(&info.ty),
+            None => None,
+        },
+        Known::Global(known) => known.get(handle.index()),
+    }
+}
+
+/// The type of the expression with this handle, by itself, if it is known.
 pub(crate) fn known_inner<'a>(
     types: &'a UniqueArena<Type_>,
     known: Known<'a>,
@@ -94,15 +119,9 @@ pub(crate) fn known_inner<'a>(
 ) -> Option<&'a TypeInner>
     ensures { option_copied result ≡ known_inner types.now (known_types known.entry) handle }
 {
-    match known {
-        Known::Function(infos) => match infos.get(handle.index()) {
-            Some(info) => inner_of(types, &info.ty),
-            None => None,
-        },
-        Known::Global(known) => match known.get(handle.index()) {
-            Some(ty) => inner_of(types, ty),
-            None => None,
-        },
+    match known_type(known, handle) {
+        Some(ty) => inner_of(types, ty),
+        None => None,
     }
 }
 

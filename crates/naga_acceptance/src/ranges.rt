@@ -1,29 +1,41 @@
 //! Whether all that a module and what is known of it name is there, and stands where it may be
 //! named.
 
-ghost use Rattle.std.specs.Prelude.{◌≡◌, length};
+ghost use Rattle.std.specs.Prelude.{◌≡◌, length, nat_lt};
 ghost use Rattle.std.specs.List.{list_all};
+ghost use Rattle.indexmap.specs.IndexMap.{values};
 ghost use Rattle.module_meaning.specs.InfoSizes.{all_known};
 ghost use Rattle.module_meaning.specs.Ranges.{all_placed, constant_in_range, declarations_in_range};
 ghost use Rattle.module_meaning.specs.Ranges.{entry_point_in_range, function_in_range};
-ghost use Rattle.module_meaning.specs.Ranges.{global_in_range, local_in_range, module_in_range};
-ghost use Rattle.module_meaning.specs.Ranges.{module_ranges_fit, override_in_range};
-ghost use Rattle.module_meaning.specs.Ranges.{resolution_fits};
+ghost use Rattle.module_meaning.specs.Ranges.{global_in_range, is_below, local_in_range};
+ghost use Rattle.module_meaning.specs.Ranges.{module_in_range, module_ranges_fit, names_fit};
+ghost use Rattle.module_meaning.specs.Ranges.{override_in_range, resolution_fits, signature_fits};
+ghost use Rattle.module_meaning.specs.Ranges.{special_types_fit};
 
 pub(crate) mod expressions;
 pub(crate) mod sizes;
 pub(crate) mod statements;
 pub(crate) mod types;
 
-use crate::acceptance::{is_below, names_fit, signature_fits, special_types_fit};
 use crate::ranges::expressions::{expressions_in_range, global_expressions_in_range};
 use crate::ranges::sizes::{resolution_is_fit, sizes_fit, types_are_fit};
 use crate::ranges::statements::block_in_range;
 use crate::ranges::types::{resolution_in_range, types_in_range};
 use naga_info::{ExpressionInfo, FunctionInfo, ModuleInfo, TypeResolution};
 use naga_ir::{
-    Arena, Constant, EntryPoint, Function, GlobalVariable, LocalVariable, Module, Override,
+    Arena, Constant, EntryPoint, Function, FunctionArgument, GlobalVariable, LocalVariable, Module,
+    Override, Place, SpecialTypes,
 };
+
+/// Whether the handle, if there is one, lies below the bound.
+pub(crate) fn is_below<M>(bound: usize, handle: Option<Place<M>>) -> bool
+    ensures { result ≡ is_below bound handle }
+{
+    match handle {
+        Some(handle) => handle.index() < bound,
+        None => true,
+    }
+}
 
 fn constant_in_range(types: usize, expressions: usize, constant: &Constant) -> bool
     ensures { result ≡ constant_in_range types expressions constant.now }
@@ -76,6 +88,24 @@ fn globals_in_range(types: usize, expressions: usize, globals: &Arena<GlobalVari
     true
 }
 
+fn special_types_fit(type_count: usize, special_types: &SpecialTypes) -> bool
+    ensures { result ≡ special_types_fit type_count special_types.now }
+{
+    predeclared_types_fit(type_count, special_types)
+        && is_below(type_count, special_types.external_texture_params)
+        && is_below(type_count, special_types.external_texture_transfer_function)
+}
+
+fn predeclared_types_fit(type_count: usize, special_types: &SpecialTypes) -> bool
+    ensures { result ≡ list_all (λ h. nat_lt h type_count)
+        (values special_types.now.predeclared_types) }
+{
+    special_types
+        .predeclared_types
+        .values()
+        .all(|handle| handle.index() < type_count)
+}
+
 /// Whether all that the module declares beside functions and entry points names what is there.
 fn declarations_in_range(module: &Module) -> bool
     ensures { result ≡ declarations_in_range «module».now }
@@ -105,6 +135,34 @@ fn locals_in_range(types: usize, expressions: usize, locals: &Arena<LocalVariabl
         }
     }
     true
+}
+
+fn signature_fits(type_count: usize, function: &Function) -> bool
+    ensures { result ≡ signature_fits type_count function.now }
+{
+    arguments_fit(type_count, &function.arguments)
+        && match &function.result {
+            Some(answer) => answer.ty.index() < type_count,
+            None => true,
+        }
+}
+
+fn arguments_fit(type_count: usize, arguments: &[FunctionArgument]) -> bool
+    ensures { result ≡ list_all (λ a. nat_lt a.ty type_count) arguments.now }
+{
+    arguments
+        .iter()
+        .all(|argument| argument.ty.index() < type_count)
+}
+
+fn names_fit(function: &Function) -> bool
+    ensures { result ≡ names_fit function.now }
+{
+    let count = function.expressions.len();
+    function
+        .named_expressions
+        .keys()
+        .all(|handle| handle.index() < count)
 }
 
 /// Whether all that a function names is there, where it may call the first `callees` functions.

@@ -1,142 +1,54 @@
-//! Whether the statements of a function get what they want, and initialisers have their items'
-//! types.
+//! Whether the statements of a function get what they want.
 
-ghost use Rattle.std.specs.Prelude.{◌≡◌, Bool, slice_get, Some, false, true};
-ghost use Rattle.std.specs.List.{list_all};
+ghost use Rattle.std.specs.Prelude.{◌≡◌, slice_get, false, true};
 ghost use Rattle.std.specs.Option.{option_map};
-ghost use Rattle.naga_acceptance.specs.Views.{viewed};
-ghost use Rattle.naga_info.specs.declared.info.TypeResolution.TheVariants.{Value};
+ghost use Rattle.naga_acceptance.specs.KnownTypes.{given, known_types};
 ghost use Rattle.naga_ir.specs.StatementViews.{cases_of, tree_of};
-ghost use Rattle.module_meaning.specs.Initialisers.{constant_is_sound, global_is_sound};
-ghost use Rattle.module_meaning.specs.Initialisers.{initialiser_fits, initialisers_fit};
-ghost use Rattle.module_meaning.specs.Initialisers.{local_is_sound, locals_are_sound};
-ghost use Rattle.module_meaning.specs.Initialisers.{override_is_sound};
-ghost use Rattle.module_meaning.specs.OperandDemands.{is_components, operand_is};
-ghost use Rattle.module_meaning.specs.OperandDemands.{points_to_components};
+ghost use Rattle.module_meaning.specs.OperandDemands.{operand_is, points_to_components};
 ghost use Rattle.module_meaning.specs.StatementsFit.{are_passed, block_is_sound, body_is_sound};
-ghost use Rattle.module_meaning.specs.StatementsFit.{calls, cases_are_sound, has_label};
-ghost use Rattle.module_meaning.specs.StatementsFit.{is_answered, is_atomic, is_atomic_result};
-ghost use Rattle.module_meaning.specs.StatementsFit.{is_ballot_result, is_bool, is_call};
-ghost use Rattle.module_meaning.specs.StatementsFit.{is_condition, is_result, is_result_if};
-ghost use Rattle.module_meaning.specs.StatementsFit.{is_result_of, is_returned, is_same_label};
-ghost use Rattle.module_meaning.specs.StatementsFit.{is_selection, is_stored, is_subgroup_result};
-ghost use Rattle.module_meaning.specs.StatementsFit.{is_uniform_load_result, known_pointee};
-ghost use Rattle.module_meaning.specs.StatementsFit.{known_types, label_is_of, labels_are_of};
-ghost use Rattle.module_meaning.specs.StatementsFit.{labels_differ, labels_fit, last_falls_through};
-ghost use Rattle.module_meaning.specs.StatementsFit.{points_to_atomic, selection_fits, selects};
-ghost use Rattle.module_meaning.specs.StatementsFit.{statement_is_sound, value_has_type};
-ghost use Rattle.module_meaning.specs.TypeParts.{components_type, inner_at, known_inner};
-ghost use Rattle.module_meaning.specs.TypeParts.{pointee_type, stored_type};
+ghost use Rattle.module_meaning.specs.StatementsFit.{cases_are_sound, has_label, is_answered};
+ghost use Rattle.module_meaning.specs.StatementsFit.{is_atomic, is_atomic_result};
+ghost use Rattle.module_meaning.specs.StatementsFit.{is_ballot_result, is_call, is_condition};
+ghost use Rattle.module_meaning.specs.StatementsFit.{is_result, is_result_if, is_result_of};
+ghost use Rattle.module_meaning.specs.StatementsFit.{is_returned, is_same_label, is_selection};
+ghost use Rattle.module_meaning.specs.StatementsFit.{is_stored, is_subgroup_result};
+ghost use Rattle.module_meaning.specs.StatementsFit.{is_uniform_load_result, label_is_of};
+ghost use Rattle.module_meaning.specs.StatementsFit.{labels_are_of, labels_differ, labels_fit};
+ghost use Rattle.module_meaning.specs.StatementsFit.{last_falls_through, points_to_atomic};
+ghost use Rattle.module_meaning.specs.StatementsFit.{selection_fits, selects, statement_is_sound};
+ghost use Rattle.module_meaning.specs.StatementsFit.{value_has_type};
 
-use crate::alike::{TypeView, are_alike};
-use naga_info::{ExpressionInfo, TypeResolution};
+use crate::alike::{are_alike, given_identity, identity_of};
+use crate::demands::points_to_components;
+use crate::expression_types::{is_bool, pointee_at};
+use crate::parts::{GivenType, Known, inner_at, known_inner, known_type};
 use naga_ir::{
-    Arena, Block, Constant, Expression, Function, FunctionArgument, FunctionResult, GlobalVariable,
-    Handle, LocalVariable, Module, Override, Scalar, ScalarKind, Statement, SwitchCase,
-    SwitchValue, Type_, TypeInner, UniqueArena, VectorSize,
+    Block, Expression, Function, FunctionArgument, FunctionResult, Handle, Module, Scalar,
+    ScalarKind, Statement, SwitchCase, SwitchValue, Type_, TypeInner, UniqueArena,
 };
 
 // ---- what is known of values
 
-/// What is known of the type of the expression with this handle, if there is such an expression.
-fn known_type(infos: &[ExpressionInfo], handle: Handle<Expression>) -> Option<&TypeResolution>
-    ensures { option_map (λ r. r.now) result ≡ slice_get (known_types infos.now) handle }
-{
-    match infos.get(handle.index()) {
-        Some(info) => Some(&info.ty),
-        None => None,
-    }
-}
-
-/// The type of the module with this handle, by itself.
-fn inner_at(types: &UniqueArena<Type_>, ty: Handle<Type_>) -> Option<&TypeInner>
-    ensures { option_map (λ it. it.now) result ≡ inner_at types.now ty }
-{
-    if ty.index() < types.len() {
-        Some(&types[ty].inner)
-    } else {
-        None
-    }
-}
-
-/// The type of the expression with this handle, by itself.
-fn known_inner<'a>(
-    types: &'a UniqueArena<Type_>,
-    infos: &'a [ExpressionInfo],
-    handle: Handle<Expression>,
-) -> Option<&'a TypeInner>
-    ensures { option_map (λ it. it.now) result ≡ known_inner types.now (known_types infos.now) handle }
-{
-    match known_type(infos, handle) {
-        Some(TypeResolution::Handle(ty)) => inner_at(types, *ty),
-        Some(TypeResolution::Value(inner)) => Some(inner),
-        None => None,
-    }
-}
-
-fn value_has_type(
+/// Whether the value is of a type like the wanted one.
+pub(crate) fn value_has_type(
     types: &UniqueArena<Type_>,
-    infos: &[ExpressionInfo],
+    known: Known<'_>,
     value: Handle<Expression>,
-    wanted: &TypeView<'_>,
+    wanted: GivenType,
 ) -> bool
-    ensures { result ≡ value_has_type types.now (known_types infos.now) value (viewed wanted.now) }
+    ensures { result ≡ value_has_type types.now (known_types known.entry) value (given wanted) }
 {
-    match known_type(infos, value) {
-        Some(known) => are_alike(types, &TypeView::of(known), wanted),
+    match known_type(known, value) {
+        Some(ty) => are_alike(
+            types,
+            identity_of(types, ty),
+            given_identity(types, &wanted),
+        ),
         None => false,
     }
 }
 
 // ---- pointers
-
-fn components_type<'a>(size: Option<VectorSize>, scalar: Scalar) -> TypeView<'a>
-    ensures { viewed result ≡ Value (components_type size scalar) }
-{
-    match size {
-        Some(size) => TypeView::Vector { size, scalar },
-        None => TypeView::Scalar(scalar),
-    }
-}
-
-/// What is read and written where a value of this type lies, which has this handle.
-fn stored_type<'a>(handle: Handle<Type_>, inner: &TypeInner) -> TypeView<'a>
-    ensures { viewed result ≡ stored_type handle inner.now }
-{
-    match inner {
-        TypeInner::Atomic(scalar) => TypeView::Scalar(*scalar),
-        _ => TypeView::Handle(handle),
-    }
-}
-
-/// What is read and written through a pointer of this type, if it is a pointer.
-fn pointee_type<'a>(types: &'a UniqueArena<Type_>, inner: &TypeInner) -> Option<TypeView<'a>>
-    ensures { option_map viewed result ≡ pointee_type types.now inner.now }
-{
-    match inner {
-        TypeInner::Pointer { base, .. } => match inner_at(types, *base) {
-            Some(inner) => Some(stored_type(*base, inner)),
-            None => None,
-        },
-        TypeInner::ValuePointer { size, scalar, .. } => Some(components_type(*size, *scalar)),
-        _ => None,
-    }
-}
-
-/// What is read and written through the pointer with this handle, if it is a pointer.
-fn known_pointee<'a>(
-    types: &'a UniqueArena<Type_>,
-    infos: &'a [ExpressionInfo],
-    pointer: Handle<Expression>,
-) -> Option<TypeView<'a>>
-    ensures { option_map viewed result
-        ≡ known_pointee types.now (known_types infos.now) pointer }
-{
-    match known_inner(types, infos, pointer) {
-        Some(inner) => pointee_type(types, inner),
-        None => None,
-    }
-}
 
 fn is_atomic(inner: &TypeInner) -> bool
     ensures { result ≡ is_atomic inner.now }
@@ -162,51 +74,28 @@ fn points_to_atomic(types: &UniqueArena<Type_>, inner: &TypeInner) -> bool
 /// Whether the expression is a pointer to an atomic.
 fn is_atomic_pointer(
     types: &UniqueArena<Type_>,
-    infos: &[ExpressionInfo],
+    known: Known<'_>,
     pointer: Handle<Expression>,
 ) -> bool
     ensures { result
-        ≡ operand_is types.now (known_types infos.now) (points_to_atomic types.now) pointer }
+        ≡ operand_is types.now (known_types known.entry) (points_to_atomic types.now) pointer }
 {
-    match known_inner(types, infos, pointer) {
+    match known_inner(types, known, pointer) {
         Some(inner) => points_to_atomic(types, inner),
         None => false,
-    }
-}
-
-/// Whether the type is a scalar or a vector.
-fn is_components(inner: &TypeInner) -> bool
-    ensures { result ≡ is_components inner.now }
-{
-    match inner {
-        TypeInner::Scalar(_) | TypeInner::Vector { .. } => true,
-        _ => false,
-    }
-}
-
-fn points_to_components(types: &UniqueArena<Type_>, inner: &TypeInner) -> bool
-    ensures { result ≡ points_to_components types.now inner.now }
-{
-    match inner {
-        TypeInner::Pointer { base, .. } => match inner_at(types, *base) {
-            Some(inner) => is_components(inner),
-            None => false,
-        },
-        TypeInner::ValuePointer { .. } => true,
-        _ => false,
     }
 }
 
 /// Whether the expression is a pointer to a scalar or a vector.
 fn is_components_pointer(
     types: &UniqueArena<Type_>,
-    infos: &[ExpressionInfo],
+    known: Known<'_>,
     pointer: Handle<Expression>,
 ) -> bool
     ensures { result
-        ≡ operand_is types.now (known_types infos.now) (points_to_components types.now) pointer }
+        ≡ operand_is types.now (known_types known.entry) (points_to_components types.now) pointer }
 {
-    match known_inner(types, infos, pointer) {
+    match known_inner(types, known, pointer) {
         Some(inner) => points_to_components(types, inner),
         None => false,
     }
@@ -214,27 +103,15 @@ fn is_components_pointer(
 
 // ---- conditions and switches
 
-fn is_bool(inner: &TypeInner) -> bool
-    ensures { result ≡ is_bool inner.now }
-{
-    match inner {
-        TypeInner::Scalar(scalar) => match scalar.kind {
-            ScalarKind::Bool => scalar.width == 1,
-            _ => false,
-        },
-        _ => false,
-    }
-}
-
 /// Whether a condition is `bool`.
 pub(crate) fn is_condition(
     types: &UniqueArena<Type_>,
-    infos: &[ExpressionInfo],
+    known: Known<'_>,
     condition: Handle<Expression>,
 ) -> bool
-    ensures { result ≡ is_condition types.now (known_types infos.now) condition }
+    ensures { result ≡ is_condition types.now (known_types known.entry) condition }
 {
-    match known_inner(types, infos, condition) {
+    match known_inner(types, known, condition) {
         Some(inner) => is_bool(inner),
         None => false,
     }
@@ -340,14 +217,14 @@ fn selection_fits(cases: &[SwitchCase], inner: &TypeInner) -> bool
 /// Whether a selector is `i32` or `u32`, and the labels of its cases fit.
 pub(crate) fn is_selection(
     types: &UniqueArena<Type_>,
-    infos: &[ExpressionInfo],
+    known: Known<'_>,
     selector: Handle<Expression>,
     cases: &[SwitchCase],
 ) -> bool
     ensures { result
-        ≡ is_selection types.now (known_types infos.now) selector (cases_of cases.now) }
+        ≡ is_selection types.now (known_types known.entry) selector (cases_of cases.now) }
 {
-    match known_inner(types, infos, selector) {
+    match known_inner(types, known, selector) {
         Some(inner) => selection_fits(cases, inner),
         None => false,
     }
@@ -358,14 +235,14 @@ pub(crate) fn is_selection(
 /// Whether the value is of the type of what is written through the pointer.
 pub(crate) fn is_stored(
     types: &UniqueArena<Type_>,
-    infos: &[ExpressionInfo],
+    known: Known<'_>,
     pointer: Handle<Expression>,
     value: Handle<Expression>,
 ) -> bool
-    ensures { result ≡ is_stored types.now (known_types infos.now) pointer value }
+    ensures { result ≡ is_stored types.now (known_types known.entry) pointer value }
 {
-    match known_pointee(types, infos, pointer) {
-        Some(wanted) => value_has_type(types, infos, value, &wanted),
+    match pointee_at(types, known, pointer) {
+        Some(wanted) => value_has_type(types, known, value, wanted),
         None => false,
     }
 }
@@ -373,18 +250,18 @@ pub(crate) fn is_stored(
 /// Whether what is returned is of the result's type, and nothing where there is no result.
 pub(crate) fn is_returned(
     types: &UniqueArena<Type_>,
-    infos: &[ExpressionInfo],
+    known: Known<'_>,
     answer: &Option<FunctionResult>,
     value: Option<Handle<Expression>>,
 ) -> bool
-    ensures { result ≡ is_returned types.now (known_types infos.now) answer.now value }
+    ensures { result ≡ is_returned types.now (known_types known.entry) answer.now value }
 {
     match (answer, value) {
         (Some(answer), Some(value)) => value_has_type(
             types,
-            infos,
+            known,
             value,
-            &TypeView::Handle(answer.ty),
+            GivenType::Handle(answer.ty),
         ),
         (None, None) => true,
         (Some(_), None) => false,
@@ -395,19 +272,19 @@ pub(crate) fn is_returned(
 /// Whether as many values as arguments are passed, each of its argument's type.
 pub(crate) fn are_passed(
     types: &UniqueArena<Type_>,
-    infos: &[ExpressionInfo],
+    known: Known<'_>,
     arguments: &[FunctionArgument],
     values: &[Handle<Expression>],
 ) -> bool
     ensures { result
-        ≡ are_passed types.now (known_types infos.now) arguments.now values.now }
+        ≡ are_passed types.now (known_types known.entry) arguments.now values.now }
 {
     if arguments.len() != values.len() {
         return false;
     }
     for index in 0..values.len() {
-        let wanted = TypeView::Handle(arguments[index].ty);
-        if !value_has_type(types, infos, values[index], &wanted) {
+        let wanted = GivenType::Handle(arguments[index].ty);
+        if !value_has_type(types, known, values[index], wanted) {
             return false;
         }
     }
@@ -506,19 +383,19 @@ fn is_answered(
 pub(crate) fn is_call(
     module: &Module,
     function: &Function,
-    infos: &[ExpressionInfo],
+    known: Known<'_>,
     callee_handle: Handle<Function>,
     arguments: &[Handle<Expression>],
     outcome: Option<Handle<Expression>>,
 ) -> bool
-    ensures { result ≡ is_call «module».now function.now (known_types infos.now) callee_handle
+    ensures { result ≡ is_call «module».now function.now (known_types known.entry) callee_handle
         arguments.now outcome }
 {
     if callee_handle.index() >= module.functions.len() {
         return false;
     }
     let callee = &module.functions[callee_handle];
-    are_passed(&module.types, infos, &callee.arguments, arguments)
+    are_passed(&module.types, known, &callee.arguments, arguments)
         && is_answered(callee, callee_handle, function, outcome)
 }
 
@@ -530,12 +407,12 @@ pub(crate) fn is_call(
 pub(crate) fn statement_is_sound(
     module: &Module,
     function: &Function,
-    infos: &[ExpressionInfo],
+    known: Known<'_>,
     breaks: bool,
     continues: bool,
     statement: &Statement,
 ) -> bool
-    ensures { result ≡ statement_is_sound «module».now function.now (known_types infos.now) breaks
+    ensures { result ≡ statement_is_sound «module».now function.now (known_types known.entry) breaks
         continues (tree_of statement.now) }
 {
     let types = &module.types;
@@ -549,36 +426,36 @@ pub(crate) fn statement_is_sound(
         | Statement::RayQuery { .. }
         | Statement::RayPipelineFunction(_) => true,
         Statement::Block(block) => block_is_sound(
-            module, function, infos, breaks, continues, block,
+            module, function, known, breaks, continues, block,
         ),
         Statement::If {
             condition,
             accept,
             reject,
-        } => is_condition(types, infos, *condition)
-            && block_is_sound(module, function, infos, breaks, continues, accept)
-            && block_is_sound(module, function, infos, breaks, continues, reject),
-        Statement::Switch { selector, cases } => is_selection(types, infos, *selector, cases)
-            && cases_are_sound(module, function, infos, true, continues, cases),
+        } => is_condition(types, known, *condition)
+            && block_is_sound(module, function, known, breaks, continues, accept)
+            && block_is_sound(module, function, known, breaks, continues, reject),
+        Statement::Switch { selector, cases } => is_selection(types, known, *selector, cases)
+            && cases_are_sound(module, function, known, true, continues, cases),
         Statement::Loop {
             body,
             continuing,
             break_if,
-        } => block_is_sound(module, function, infos, true, true, body)
-            && block_is_sound(module, function, infos, false, false, continuing)
+        } => block_is_sound(module, function, known, true, true, body)
+            && block_is_sound(module, function, known, false, false, continuing)
             && match break_if {
-                Some(condition) => is_condition(types, infos, *condition),
+                Some(condition) => is_condition(types, known, *condition),
                 None => true,
             },
         Statement::Break => breaks,
         Statement::Continue => continues,
-        Statement::Return { value } => is_returned(types, infos, &function.result, *value),
-        Statement::Store { pointer, value } => is_stored(types, infos, *pointer, *value),
+        Statement::Return { value } => is_returned(types, known, &function.result, *value),
+        Statement::Store { pointer, value } => is_stored(types, known, *pointer, *value),
         Statement::Atomic {
             pointer,
             result: outcome,
             ..
-        } => is_atomic_pointer(types, infos, *pointer) && is_atomic_result_if(function, *outcome),
+        } => is_atomic_pointer(types, known, *pointer) && is_atomic_result_if(function, *outcome),
         Statement::WorkGroupUniformLoad {
             result: outcome,
             ..
@@ -587,7 +464,7 @@ pub(crate) fn statement_is_sound(
             function: callee,
             arguments,
             result: outcome,
-        } => is_call(module, function, infos, *callee, arguments, *outcome),
+        } => is_call(module, function, known, *callee, arguments, *outcome),
         Statement::SubgroupBallot {
             result: outcome,
             ..
@@ -602,7 +479,7 @@ pub(crate) fn statement_is_sound(
         } => is_subgroup_result(function, *outcome),
         Statement::CooperativeStore { data_, .. } => is_components_pointer(
             types,
-            infos,
+            known,
             data_.pointer,
         ),
     }
@@ -612,16 +489,16 @@ pub(crate) fn statement_is_sound(
 fn block_is_sound(
     module: &Module,
     function: &Function,
-    infos: &[ExpressionInfo],
+    known: Known<'_>,
     breaks: bool,
     continues: bool,
     block: &Block,
 ) -> bool
-    ensures { result ≡ block_is_sound «module».now function.now (known_types infos.now) breaks
+    ensures { result ≡ block_is_sound «module».now function.now (known_types known.entry) breaks
         continues «block».now }
 {
     for statement in block.as_slice() {
-        if !statement_is_sound(module, function, infos, breaks, continues, statement) {
+        if !statement_is_sound(module, function, known, breaks, continues, statement) {
             return false;
         }
     }
@@ -632,23 +509,23 @@ fn block_is_sound(
 fn cases_are_sound(
     module: &Module,
     function: &Function,
-    infos: &[ExpressionInfo],
+    known: Known<'_>,
     breaks: bool,
     continues: bool,
     cases: &[SwitchCase],
 ) -> bool
-    ensures { result ≡ cases_are_sound «module».now function.now (known_types infos.now) breaks
+    ensures { result ≡ cases_are_sound «module».now function.now (known_types known.entry) breaks
         continues (cases_of cases.now) }
 {
     for case in cases {
-        if !block_is_sound(module, function, infos, breaks, continues, &case.body) {
+        if !block_is_sound(module, function, known, breaks, continues, &case.body) {
             return false;
         }
     }
     true
 }
 
-/// Whether the statements of a function get what they want, `infos` being what is known of its
+/// Whether the statements of a function get what they want, `known` being the types of its
 /// expressions. What names nothing that is there is answered `false` where a type or a result is
 /// asked of it. It goes as deep as blocks are nested, and takes no memory.
 ///
@@ -662,145 +539,8 @@ fn cases_are_sound(
 /// - An atomic's pointer points at an atomic, and a cooperative store's at a scalar or a vector.
 /// - The result of a statement is of its kind, and that of a call is one of the same callee, which
 ///   has a result.
-pub fn body_is_sound(module: &Module, function: &Function, infos: &[ExpressionInfo]) -> bool
-    ensures { result ≡ body_is_sound «module».now function.now (known_types infos.now) }
+pub fn body_is_sound(module: &Module, function: &Function, known: Known<'_>) -> bool
+    ensures { result ≡ body_is_sound «module».now function.now (known_types known.entry) }
 {
-    block_is_sound(module, function, infos, false, false, &function.body)
-}
-
-// ---- initialisers
-
-/// Whether the first value of a function's variable has its type.
-pub(crate) fn local_is_sound(
-    types: &UniqueArena<Type_>,
-    infos: &[ExpressionInfo],
-    local: &LocalVariable,
-) -> bool
-    ensures { result ≡ local_is_sound types.now (known_types infos.now) local.now }
-{
-    match local.init {
-        Some(value) => value_has_type(types, infos, value, &TypeView::Handle(local.ty)),
-        None => true,
-    }
-}
-
-/// Whether the first values of a function's variables have their types, `infos` being what is known
-/// of the function's expressions.
-pub fn locals_are_sound(
-    types: &UniqueArena<Type_>,
-    infos: &[ExpressionInfo],
-    locals: &Arena<LocalVariable>,
-) -> bool
-    ensures { result ≡ locals_are_sound types.now (known_types infos.now) locals.now }
-{
-    for (_, local) in locals.iter() {
-        if !local_is_sound(types, infos, local) {
-            return false;
-        }
-    }
-    true
-}
-
-/// Whether the initialiser, among the module's expressions, has the item's type.
-fn initialiser_fits(
-    types: &UniqueArena<Type_>,
-    known: &[TypeResolution],
-    ty: Handle<Type_>,
-    value: Option<Handle<Expression>>,
-) -> bool
-    ensures { result ≡ initialiser_fits types.now known.now ty value }
-{
-    match value {
-        Some(value) => match known.get(value.index()) {
-            Some(known) => are_alike(types, &TypeView::of(known), &TypeView::Handle(ty)),
-            None => false,
-        },
-        None => true,
-    }
-}
-
-pub(crate) fn constant_is_sound(
-    types: &UniqueArena<Type_>,
-    known: &[TypeResolution],
-    constant: &Constant,
-) -> bool
-    ensures { result ≡ constant_is_sound types.now known.now constant.now }
-{
-    initialiser_fits(types, known, constant.ty, Some(constant.init))
-}
-
-pub(crate) fn override_is_sound(
-    types: &UniqueArena<Type_>,
-    known: &[TypeResolution],
-    item: &Override,
-) -> bool
-    ensures { result ≡ override_is_sound types.now known.now item.now }
-{
-    initialiser_fits(types, known, item.ty, item.init)
-}
-
-pub(crate) fn global_is_sound(
-    types: &UniqueArena<Type_>,
-    known: &[TypeResolution],
-    global: &GlobalVariable,
-) -> bool
-    ensures { result ≡ global_is_sound types.now known.now global.now }
-{
-    initialiser_fits(types, known, global.ty, global.init)
-}
-
-fn constants_are_sound(
-    types: &UniqueArena<Type_>,
-    known: &[TypeResolution],
-    constants: &Arena<Constant>,
-) -> bool
-    ensures { result ≡ list_all (constant_is_sound types.now known.now) constants.now }
-{
-    for (_, constant) in constants.iter() {
-        if !constant_is_sound(types, known, constant) {
-            return false;
-        }
-    }
-    true
-}
-
-fn overrides_are_sound(
-    types: &UniqueArena<Type_>,
-    known: &[TypeResolution],
-    overrides: &Arena<Override>,
-) -> bool
-    ensures { result ≡ list_all (override_is_sound types.now known.now) overrides.now }
-{
-    for (_, item) in overrides.iter() {
-        if !override_is_sound(types, known, item) {
-            return false;
-        }
-    }
-    true
-}
-
-fn globals_are_sound(
-    types: &UniqueArena<Type_>,
-    known: &[TypeResolution],
-    globals: &Arena<GlobalVariable>,
-) -> bool
-    ensures { result ≡ list_all (global_is_sound types.now known.now) globals.now }
-{
-    for (_, global) in globals.iter() {
-        if !global_is_sound(types, known, global) {
-            return false;
-        }
-    }
-    true
-}
-
-/// Whether the initialisers of a module's constants, overrides and variables have their types,
-/// `known` being the types of the module's expressions.
-pub fn initialisers_fit(module: &Module, known: &[TypeResolution]) -> bool
-    ensures { result ≡ initialisers_fit «module».now known.now }
-{
-    let types = &module.types;
-    constants_are_sound(types, known, &module.constants)
-        && overrides_are_sound(types, known, &module.overrides)
-        && globals_are_sound(types, known, &module.global_variables)
+    block_is_sound(module, function, known, false, false, &function.body)
 }

@@ -20,10 +20,11 @@ use Rattle.naga_ir.specs.declared.module.LocalVariable.{LocalVariable}
 use Rattle.naga_ir.specs.declared.types.Type_.{Type_}
 use Rattle.naga_info.specs.declared.info.ExpressionInfo.{ExpressionInfo}
 use Rattle.std.specs.List.{list_all}
-use Rattle.module_meaning.specs.Accepted.{is_scalar_type, local_fits, function_fits}
+use Rattle.module_meaning.specs.FitsSoFar.{local_fits, function_fits}
+use Rattle.module_meaning.specs.Part.{is_scalar_type}
 use Rattle.module_meaning.specs.Spelled.{word_at, local_pointer}
-use Rattle.module_meaning.proofs.Accepted.{list_all_at, scalar_types_word_at, function_fits_locals}
-use Rattle.module_meaning.proofs.Accepted.{local_fits_parts}
+use Rattle.module_meaning.proofs.FitsSoFar.{list_all_at, scalar_types_word_at, function_fits_locals}
+use Rattle.module_meaning.proofs.FitsSoFar.{local_fits_parts}
 use Rattle.naga_names.specs.Keys.{NameMap}
 use Rattle.wgsl_text.specs.Token.{GreaterThan, mark}
 use Rattle.wgsl_text.specs.Types.{TypeSpecifier, Named, type_pieces}

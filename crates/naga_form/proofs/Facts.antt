@@ -9,9 +9,9 @@ use Rattle.naga_ir.specs.declared.types.Type_.{Type_}
 use Rattle.naga_info.proofs.Options.{then_some}
 use Rattle.naga_info.specs.declared.info.ExpressionInfo.{ExpressionInfo}
 use Rattle.module_meaning.specs.Spelled.{word_at, spelling_of, spelling_at}
-use Rattle.module_meaning.specs.Accepted.{expression_fits, expressions_fit, return_fits}
-use Rattle.module_meaning.proofs.Accepted.{alike_word, expressions_fit_length}
-use Rattle.module_meaning.proofs.Accepted.{expressions_fit_known}
+use Rattle.module_meaning.specs.FitsSoFar.{expression_fits, expressions_fit, return_fits}
+use Rattle.module_meaning.proofs.FitsSoFar.{alike_word, expressions_fit_length}
+use Rattle.module_meaning.proofs.FitsSoFar.{expressions_fit_known}
 
 -- an expression of an accepted function, and what is known of it
 pub record IsKnown (types : List Type_) (f : Function) (es : List ExpressionInfo) (h : ℕ) (e : Expression) : Type 0 where

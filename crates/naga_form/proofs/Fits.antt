@@ -22,7 +22,7 @@ use Rattle.module_meaning.specs.OperatorTable.{Operator, BinarySign, operator_wo
 use Rattle.module_meaning.specs.Spelled.{word_at, spelling_of, local_pointer, literal_word}
 use Rattle.module_meaning.specs.Spelled.{spelling_at}
 use Rattle.module_meaning.proofs.Shapes.{application_any, operator_any, operator_operands}
-use Rattle.module_meaning.specs.Accepted.{statement_fits, return_fits, block_fits, function_fits}
+use Rattle.module_meaning.specs.FitsSoFar.{statement_fits, return_fits, block_fits, function_fits}
 use Rattle.module_meaning.specs.Part.{names_nothing}
 use Rattle.naga_names.specs.Reset.{LabelledItem, labelled_items, labels_of}
 use Rattle.shader_runs.specs.Value.{ValueType, BooleanType, PointerType, type_at}
@@ -43,9 +43,9 @@ use Rattle.naga_form.proofs.Names.{numbered_distinct, name_is, item_is_identifie
 use Rattle.naga_form.proofs.Names.{item_not_numbered, items_tell, function_item, argument_item}
 use Rattle.naga_form.proofs.Names.{function_there, argument_there}
 use Rattle.naga_names.proofs.Refusal.{element}
-use Rattle.module_meaning.proofs.Accepted.{function_fits_expressions, function_fits_block}
-use Rattle.module_meaning.proofs.Accepted.{function_fits_word_at, local_word_at, load_word_at}
-use Rattle.module_meaning.proofs.Accepted.{applied_at}
+use Rattle.module_meaning.proofs.FitsSoFar.{function_fits_expressions, function_fits_block}
+use Rattle.module_meaning.proofs.FitsSoFar.{function_fits_word_at, local_word_at, load_word_at}
+use Rattle.module_meaning.proofs.FitsSoFar.{applied_at}
 use Rattle.module_meaning.specs.Names.{argument_name, numbered_name, wgsl_names, module_names}
 use Rattle.module_meaning.specs.Names.{name_in, function_name, local_name, numbered_text}
 use Rattle.module_meaning.specs.Names.{NamesAreCounted}

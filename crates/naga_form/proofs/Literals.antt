@@ -8,7 +8,8 @@ use Rattle.std.proofs.lemmas.Bool.{false≢true, eqb-true, ltb-true, eqb-false}
 use Rattle.naga_ir.specs.declared.expression.Literal.{Literal}
 use Rattle.naga_ir.specs.declared.expression.Literal as ir_literal
 use Rattle.naga_ir.specs.declared.expression.Literal.TheVariants as literal
-use Rattle.module_meaning.specs.Spelled.{literal_word, literal_is_within}
+use Rattle.module_meaning.specs.Literals.{literal_is_within}
+use Rattle.module_meaning.specs.Spelled.{literal_word}
 use Rattle.wgsl_text.specs.Literals.{Suffixed, LeastInteger, LeastLong, IsLiteral}
 use Rattle.wgsl_text.specs.Token.{SuffixI, SuffixLi}
 use Rattle.shader_runs.specs.Value.{Whole, Value, Truth, Opaque}

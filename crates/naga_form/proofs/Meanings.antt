@@ -20,11 +20,11 @@ use Rattle.naga_info.specs.declared.info.ExpressionInfo.{ExpressionInfo}
 use Rattle.naga_info.specs.declared.info.ModuleInfo.{ModuleInfo}
 use Rattle.std.proofs.lemmas.Option.{same_Some}
 use Rattle.module_meaning.specs.Spelled.{spelling_at, local_pointer}
-use Rattle.module_meaning.specs.Accepted.{is_accepted, function_fits, functions_fit, statement_fits}
-use Rattle.module_meaning.specs.Accepted.{block_fits}
+use Rattle.module_meaning.specs.FitsSoFar.{fits_so_far, function_fits, functions_fit, statement_fits}
+use Rattle.module_meaning.specs.FitsSoFar.{block_fits}
 use Rattle.naga_form.specs.Declarations.{written_program}
-use Rattle.module_meaning.proofs.Accepted.{accepted_parts, function_fits_block, load_word_at}
-use Rattle.module_meaning.proofs.Accepted.{IsOperation, applied_at, store_fits_word}
+use Rattle.module_meaning.proofs.FitsSoFar.{fits_parts, function_fits_block, load_word_at}
+use Rattle.module_meaning.proofs.FitsSoFar.{IsOperation, applied_at, store_fits_word}
 use Rattle.module_meaning.proofs.Operations.{IsApplied, accepted_operations_agree}
 use Rattle.module_meaning.proofs.Shapes.{accepted_is, accepted_shape, application_any, operator_any}
 use Rattle.module_meaning.specs.Applications.{Application, application_of}
@@ -367,7 +367,7 @@ all_well_formed types p (f ∷ fs) (es ∷ ess) fit behind all =
     all_well_formed types p fs ess (and_right (function_fits types f es) (functions_fit types fs ess) fit) (function_shape types f es ∷ behind) (here, all)
 
 -- ---- an accepted module
-module _ (m : Module) (info : ModuleInfo) (accepted : IsTrue (is_accepted m info)) where
+module _ (m : Module) (info : ModuleInfo) (accepted : IsTrue (fits_so_far m info)) where
   abbrev shape : shapes.Module
   shape = program_shape m info
 
@@ -377,7 +377,7 @@ module _ (m : Module) (info : ModuleInfo) (accepted : IsTrue (is_accepted m info
   found_shape : (place : ℕ) (f : shapes.Function) → slice_get shape.functions place ≡ Some f → IsFitting m.types m.functions ess f
   found_shape place f there =
       let found = in_reversed (function_shapes m.types m.functions ess) place f there in
-      fitting_at m.types m.functions ess (accepted_parts m info accepted).5 found.0 f found.1
+      fitting_at m.types m.functions ess (fits_parts m info accepted).5 found.0 f found.1
 
   operator_of : (x : Signature) → IsSpelled shape x → IsOperator m.types m.functions ess x
   operator_of x (in_initialiser i e there among) = absurd (cc)
@@ -419,11 +419,11 @@ module _ (m : Module) (info : ModuleInfo) (accepted : IsTrue (is_accepted m info
 
   pub has_world : HasTypedWorld m info
   has_world settings fit meaning typed =
-      steady_world shape settings meaning (λ w j n g vs. steady_calls m.types (environment_of shape settings meaning) w meaning shape.functions (all_are_written m.types m.functions ess (accepted_parts m info accepted).5 [] tt) j n g vs [])
+      steady_world shape settings meaning (λ w j n g vs. steady_calls m.types (environment_of shape settings meaning) w meaning shape.functions (all_are_written m.types m.functions ess (fits_parts m info accepted).5 [] tt) j n g vs [])
 
   pub never_stuck : (explicit : Bool) → IsTrue (nothing_named m) → ScopesHold m info → NamesAreCounted m → IsNeverStuck m info (written_program m info explicit)
   never_stuck explicit unnamed scope counted settings fit meaning typed g f found arguments typed_arguments world turns past =
-      let well = all_well_formed m.types shape m.functions ess (accepted_parts m info accepted).5 [] tt in
+      let well = all_well_formed m.types shape m.functions ess (fits_parts m info accepted).5 [] tt in
       subst (λ (text : TextModule). IsNotStuck (run_module shape settings world meaning turns g arguments past) × (KeepsTypes (run_module shape settings world meaning turns g arguments past) → IsNotStuck (follow_module text settings world meaning is_request turns (function_name (module_names m) g) arguments past)))
       (sym (program_reads m info explicit accepted))
       (runs_are_not_stuck shape (outer_names (module_names m)) (namings (module_names m) m info) (module_fits m info accepted unnamed ((scopes_are_checked m info accepted).1 scope) counted) well settings fit meaning typed g f found arguments typed_arguments world turns past)

@@ -20,15 +20,18 @@ use Rattle.naga_ir.specs.declared.module.Module.{Module}
 use Rattle.naga_ir.specs.declared.types.Type_.{Type_}
 use Rattle.naga_info.specs.declared.info.ExpressionInfo.{ExpressionInfo}
 use Rattle.naga_info.specs.declared.info.ModuleInfo.{ModuleInfo}
-use Rattle.module_meaning.specs.Spelled.{word_at, literal_word, literal_is_within, spelling_of}
+use Rattle.module_meaning.specs.Literals.{literal_is_within}
+use Rattle.module_meaning.specs.Spelled.{word_at, literal_word, spelling_of}
 use Rattle.module_meaning.specs.Spelled.{is_alike}
 use Rattle.module_meaning.specs.Part.{names_nothing}
-use Rattle.module_meaning.specs.Accepted.{is_scalar_type, local_fits, function_fits, is_accepted}
-use Rattle.module_meaning.specs.Accepted.{functions_fit, is_below, statement_fits, block_fits}
-use Rattle.module_meaning.proofs.Accepted.{accepted_parts, expressions_fit_known}
-use Rattle.module_meaning.proofs.Accepted.{function_fits_parts, function_fits_expressions}
-use Rattle.module_meaning.proofs.Accepted.{function_fits_block, function_fits_word_at}
-use Rattle.module_meaning.proofs.Accepted.{local_fits_parts, local_word_at}
+use Rattle.module_meaning.specs.FitsSoFar.{local_fits, function_fits, fits_so_far}
+use Rattle.module_meaning.specs.Part.{is_scalar_type}
+use Rattle.module_meaning.specs.FitsSoFar.{functions_fit, statement_fits, block_fits}
+use Rattle.module_meaning.specs.Ranges.{is_below}
+use Rattle.module_meaning.proofs.FitsSoFar.{fits_parts, expressions_fit_known}
+use Rattle.module_meaning.proofs.FitsSoFar.{function_fits_parts, function_fits_expressions}
+use Rattle.module_meaning.proofs.FitsSoFar.{function_fits_block, function_fits_word_at}
+use Rattle.module_meaning.proofs.FitsSoFar.{local_fits_parts, local_word_at}
 use Rattle.wgsl_text.specs.Words.{stands_in, is_builtin, IsIdentifier, is_letter, is_word_byte}
 use Rattle.wgsl_text.specs.Words.{all_word_bytes, is_reserved}
 use Rattle.wgsl_text.specs.Declarations.{IsProgram}
@@ -446,9 +449,9 @@ functions_are explicit m g (f ∷ fs) (es ∷ ess) there fits unnamed few scalar
       functions_are explicit m (g + 1) fs ess (further m.functions g f fs there) (and_right (function_fits m.types f es) (functions_fit m.types fs ess) fits) (and_right (names_nothing f) (list_all names_nothing fs) unnamed) (and_right (counted f) (list_all counted fs) few) scalars,
     )
 
-pub is_program : (m : Module) (info : ModuleInfo) (explicit : Bool) → IsTrue (is_accepted m info) → IsTrue (nothing_named m) → IsTrue (handles_are_counted m) → IsProgram (written_program m info explicit)
+pub is_program : (m : Module) (info : ModuleInfo) (explicit : Bool) → IsTrue (fits_so_far m info) → IsTrue (nothing_named m) → IsTrue (handles_are_counted m) → IsProgram (written_program m info explicit)
 is_program m info explicit accepted unnamed few =
-    let parts = accepted_parts m info accepted in
+    let parts = fits_parts m info accepted in
     record {
       enables = tt;
       structs = tt;

@@ -12,10 +12,10 @@ use Rattle.naga_ir.specs.declared.types.Type_.{Type_}
 use Rattle.naga_info.specs.declared.info.ExpressionInfo.{ExpressionInfo}
 use Rattle.naga_info.specs.declared.info.ModuleInfo.{ModuleInfo}
 use Rattle.naga_info.proofs.Options.{then_some}
-use Rattle.module_meaning.specs.Accepted.{function_fits, is_accepted, functions_fit}
+use Rattle.module_meaning.specs.FitsSoFar.{function_fits, fits_so_far, functions_fit}
 use Rattle.module_meaning.specs.Spelled.{word_at}
-use Rattle.module_meaning.proofs.Accepted.{accepted_functions_fit, function_fits_word_at}
-use Rattle.module_meaning.proofs.Accepted.{local_word_at}
+use Rattle.module_meaning.proofs.FitsSoFar.{fits_functions_fit, function_fits_word_at}
+use Rattle.module_meaning.proofs.FitsSoFar.{local_word_at}
 use Rattle.naga_names.specs.Keys.{NameMap}
 use Rattle.shader_runs.specs.Program.{expression_of}
 use Rattle.shader_runs.specs.Scope.{Naming}
@@ -65,10 +65,10 @@ leaves_stand names types g (f ∷ fs) (es ∷ ess) fit behind all =
     let here = leaves_are_own types f es (and_left (function_fits types f es) (functions_fit types fs ess) fit) in
     leaves_stand names types (g + 1) fs ess (and_right (function_fits types f es) (functions_fit types fs ess) fit) (function_naming names types g f es ∷ behind) (here, all)
 
-pub resolves : (m : Module) (info : ModuleInfo) (explicit : Bool) → IsTrue (is_accepted m info) → IsTrue (nothing_named m) → ScopesHold m info → NamesAreCounted m → ResolvesAs m info (written_program m info explicit)
+pub resolves : (m : Module) (info : ModuleInfo) (explicit : Bool) → IsTrue (fits_so_far m info) → IsTrue (nothing_named m) → ScopesHold m info → NamesAreCounted m → ResolvesAs m info (written_program m info explicit)
 resolves m info explicit accepted unnamed scope counted =
     let names = module_names m in
     ap text_targets (program_reads m info explicit accepted)
     ∙ resolves_as_meant (program_shape m info) (outer_names names) (namings names m info)
     (module_fits m info accepted unnamed ((scopes_are_checked m info accepted).1 scope) counted)
-    (leaves_stand names m.types 0 m.functions info.functions.items (accepted_functions_fit m info accepted) [] tt)
+    (leaves_stand names m.types 0 m.functions info.functions.items (fits_functions_fit m info accepted) [] tt)

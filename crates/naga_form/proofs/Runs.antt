@@ -11,7 +11,8 @@ use Rattle.naga_ir.specs.declared.module.Function as ir_function
 use Rattle.naga_ir.specs.declared.module.Module.{Module}
 use Rattle.naga_ir.specs.declared.types.Type_.{Type_}
 use Rattle.module_meaning.specs.Part.{names_nothing}
-use Rattle.module_meaning.specs.Accepted.{is_scalar_type, is_accepted, function_fits, functions_fit}
+use Rattle.module_meaning.specs.FitsSoFar.{fits_so_far, function_fits, functions_fit}
+use Rattle.module_meaning.specs.Part.{is_scalar_type}
 use Rattle.naga_info.specs.declared.info.ExpressionInfo.{ExpressionInfo}
 use Rattle.naga_info.specs.declared.info.ModuleInfo.{ModuleInfo}
 use Rattle.std.specs.Option.{option_map_or, is_some}
@@ -24,7 +25,7 @@ use Rattle.naga_form.specs.Declarations.{written_program}
 use Rattle.naga_form.proofs.Abstraction.{locals_spelled, function_reads}
 use Rattle.naga_form.proofs.Names.{items_tell, function_item, function_there}
 use Rattle.naga_names.proofs.Refusal.{element}
-use Rattle.module_meaning.proofs.Accepted.{accepted_parts, function_fits_word_at}
+use Rattle.module_meaning.proofs.FitsSoFar.{fits_parts, function_fits_word_at}
 use Rattle.naga_form.specs.Literals.{LiteralsAreWritten, literal_is_written}
 use Rattle.naga_names.specs.Keys.{NameMap}
 use Rattle.naga_names.specs.declared.key.NameKey.TheVariants as key
@@ -92,9 +93,9 @@ all_reversed test [] behind all = refl
 all_reversed test (x ∷ xs) behind all = and_from (test x) (list_all test xs) (and_left (test x) (list_all test behind) (behind_all test xs (x ∷ behind) all)) (all_reversed test xs (x ∷ behind) all)
 
 -- the square: what is written of the module is read as its program of shapes is written
-pub program_reads : (m : Module) (info : ModuleInfo) (explicit : Bool) → IsTrue (is_accepted m info) → program_read (written_program m info explicit) ≡ form_module (program_shape m info) (outer_names (module_names m)) (namings (module_names m) m info)
+pub program_reads : (m : Module) (info : ModuleInfo) (explicit : Bool) → IsTrue (fits_so_far m info) → program_read (written_program m info explicit) ≡ form_module (program_shape m info) (outer_names (module_names m)) (namings (module_names m) m info)
 program_reads m info explicit accepted =
-    let parts = accepted_parts m info accepted in
+    let parts = fits_parts m info accepted in
     let listed = namings_from (module_names m) 0 (function_shapes m.types m.functions info.functions.items) in
     let each = functions_read explicit (module_names m) m.types parts.1 0 m.functions info.functions.items parts.5 in
     λ i. record {
@@ -104,13 +105,13 @@ program_reads m info explicit accepted =
       functions = (ap reverse (append-nil (map function_read (functions_form explicit (module_names m) m.types 0 m.functions info.functions.items)) ∙ each) ∙ sym (form_functions-map (reverse listed) ∙ map-reverse form_function listed)) i;
     }
 
-pub module_counted : (m : Module) (info : ModuleInfo) → IsTrue (is_accepted m info) → length (program_shape m info).functions ≡ length m.functions
+pub module_counted : (m : Module) (info : ModuleInfo) → IsTrue (fits_so_far m info) → length (program_shape m info).functions ≡ length m.functions
 module_counted m info accepted =
-    let parts = accepted_parts m info accepted in
+    let parts = fits_parts m info accepted in
     length-reverse (function_shapes m.types m.functions info.functions.items)
     ∙ shapes_counted m.types m.functions info.functions.items parts.5
 
-module _ (m : Module) (info : ModuleInfo) (accepted : IsTrue (is_accepted m info)) (unnamed : IsTrue (nothing_named m)) (scope : IsTrue (scope_holds m info)) (counted : NamesAreCounted m) where
+module _ (m : Module) (info : ModuleInfo) (accepted : IsTrue (fits_so_far m info)) (unnamed : IsTrue (nothing_named m)) (scope : IsTrue (scope_holds m info)) (counted : NamesAreCounted m) where
   abbrev p : shapes.Module
   p = program_shape m info
 
@@ -131,7 +132,7 @@ module _ (m : Module) (info : ModuleInfo) (accepted : IsTrue (is_accepted m info
 
   pub module_fits : ModuleFits p (outer_names (module_names m)) (namings (module_names m) m info)
   module_fits =
-      let parts = accepted_parts m info accepted in
+      let parts = fits_parts m info accepted in
       let listed = namings_from (module_names m) 0 (function_shapes m.types m.functions info.functions.items) in
       let count : length (reverse (function_shapes m.types m.functions info.functions.items)) ≡ length m.functions = length-reverse (function_shapes m.types m.functions info.functions.items) ∙ shapes_counted m.types m.functions info.functions.items parts.5 in
       record {
@@ -162,5 +163,5 @@ module _ (m : Module) (info : ModuleInfo) (accepted : IsTrue (is_accepted m info
       ap (λ (text : TextModule). follow_module text settings world meaning is_request turns (function_name (module_names m) g) arguments past) (program_reads m info explicit accepted)
       ∙ runs_alike p (outer_names (module_names m)) (namings (module_names m) m info) module_fits settings fit meaning typed g f found arguments typed_arguments world turns past keeps
 
-pub runs_as : (m : Module) (info : ModuleInfo) (explicit : Bool) → IsTrue (is_accepted m info) → IsTrue (nothing_named m) → ScopesHold m info → NamesAreCounted m → RunsAs m info (written_program m info explicit)
+pub runs_as : (m : Module) (info : ModuleInfo) (explicit : Bool) → IsTrue (fits_so_far m info) → IsTrue (nothing_named m) → ScopesHold m info → NamesAreCounted m → RunsAs m info (written_program m info explicit)
 runs_as m info explicit accepted unnamed scope counted = runs m info accepted unnamed ((scopes_are_checked m info accepted).1 scope) counted explicit

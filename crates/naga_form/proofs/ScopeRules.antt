@@ -11,8 +11,8 @@ use Rattle.naga_ir.specs.declared.module.Module.{Module}
 use Rattle.naga_ir.specs.declared.types.Type_.{Type_}
 use Rattle.naga_info.specs.declared.info.ExpressionInfo.{ExpressionInfo}
 use Rattle.naga_info.specs.declared.info.ModuleInfo.{ModuleInfo}
-use Rattle.module_meaning.specs.Accepted.{is_accepted, function_fits, functions_fit}
-use Rattle.module_meaning.proofs.Accepted.{accepted_functions_fit}
+use Rattle.module_meaning.specs.FitsSoFar.{fits_so_far, function_fits, functions_fit}
+use Rattle.module_meaning.proofs.FitsSoFar.{fits_functions_fit}
 use Rattle.naga_names.specs.Keys.{NameMap}
 use Rattle.shader_runs.specs.Program as shapes
 use Rattle.shader_runs.specs.Program.{expression_of, operands_of}
@@ -62,7 +62,7 @@ each_is_checked (n ∷ ns) all =
       λ r. and_from (fits_function n) (list_all fits_function ns) (here.1 r.0) (rest.1 r.1),
     )
 
-pub scopes_are_checked : (m : Module) (info : ModuleInfo) → IsTrue (is_accepted m info) → (IsTrue (scope_holds m info) ↔ ScopesHold m info)
+pub scopes_are_checked : (m : Module) (info : ModuleInfo) → IsTrue (fits_so_far m info) → (IsTrue (scope_holds m info) ↔ ScopesHold m info)
 scopes_are_checked m info accepted =
     subst (λ fs. IsTrue (scope_holds m info) ↔ EachScopeHolds fs) (namings_functions m info)
-    (each_is_checked (namings (module_names m) m info) (all_are_ordered (module_names m) m.types 0 m.functions info.functions.items (accepted_functions_fit m info accepted) [] tt))
+    (each_is_checked (namings (module_names m) m info) (all_are_ordered (module_names m) m.types 0 m.functions info.functions.items (fits_functions_fit m info accepted) [] tt))

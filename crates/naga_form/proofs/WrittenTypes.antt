@@ -17,15 +17,16 @@ use Rattle.naga_ir.specs.declared.types.TypeInner.TheVariants as inner
 use Rattle.naga_info.specs.declared.info.ExpressionInfo.{ExpressionInfo}
 use Rattle.naga_info.specs.declared.info.TypeResolution.{TypeResolution}
 use Rattle.naga_info.specs.declared.info.TypeResolution.TheVariants.{Handle, Value}
-use Rattle.module_meaning.specs.Accepted.{is_scalar_type, function_fits}
+use Rattle.module_meaning.specs.FitsSoFar.{function_fits}
+use Rattle.module_meaning.specs.Part.{is_scalar_type}
 use Rattle.naga_info.specs.Resolution.{inner_of}
 use Rattle.module_meaning.specs.Spelled.{word_of_width, word_of_type, word_at, pointer_spelling}
 use Rattle.module_meaning.specs.Spelled.{spelling, spelling_of}
 use Rattle.naga_info.proofs.Options.{map_some, then_some}
 use Rattle.wgsl_text.specs.Types.{TypeSpecifier, Named, IsType, of_two}
 use Rattle.wgsl_text.proofs.Building.{scalar_word_is, pointer_to_is}
-use Rattle.module_meaning.proofs.Accepted.{scalar_types_word_at, function_fits_expressions}
-use Rattle.module_meaning.proofs.Accepted.{function_fits_word_at}
+use Rattle.module_meaning.proofs.FitsSoFar.{scalar_types_word_at, function_fits_expressions}
+use Rattle.module_meaning.proofs.FitsSoFar.{function_fits_word_at}
 use Rattle.wgsl_words.specs.Words.{scalar_word_of, space_word, space_access_word}
 use Rattle.naga_names.specs.Keys.{NameMap}
 use Rattle.naga_words.specs.Contexts.{names_of, Names as TypeNames}

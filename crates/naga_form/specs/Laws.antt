@@ -37,8 +37,8 @@ use Rattle.module_meaning.specs.Literals.{literal_value}
 use Rattle.module_meaning.specs.Meanings.{OperatorsAreConsistent, HasTypedMeaning, HasTypedWorld}
 use Rattle.module_meaning.specs.Meanings.{IsNeverStuck}
 use Rattle.module_meaning.specs.Names.{NamesAreCounted, module_names}
-use Rattle.module_meaning.specs.Premises.{nothing_named, scope_holds, ScopesHold}
-use Rattle.module_meaning.specs.Premises.{handles_are_counted}
+use Rattle.module_meaning.specs.Part.{is_written_so_far}
+use Rattle.module_meaning.specs.Premises.{handles_are_counted, scope_holds, ScopesHold}
 use Rattle.module_meaning.specs.Resolution.{ResolvesAs}
 use Rattle.module_meaning.specs.Shapes.{function_naming, program_shape, outer_names, namings}
 use Rattle.module_meaning.specs.Spelled.{spelling_of}
@@ -50,24 +50,25 @@ use Rattle.module_meaning.specs.OperatorTable.{operand_count, operator_word, run
 use Rattle.naga_form.specs.Readable.{AreAlike, AreNamed, ResolutionIsWithin, handle_names, has_form}
 use Rattle.naga_form.specs.TypeTrees.{inner_tree, resolution_tree, type_tree}
 
--- of an accepted module, and of what is written for it with the types of its `let`s told or not
+-- of an accepted module of the part that is written so far, and of what is written for it with the
+-- types of its `let`s told or not
 abbrev pub OfAccepted : (Module → ModuleInfo → Program → Type 0) → Type 0
 OfAccepted Holds =
     (m : Module) (info : ModuleInfo) (explicit : Bool) → IsTrue (is_accepted m info) →
-    Holds m info (written_program m info explicit)
+    IsTrue (is_written_so_far m info) → Holds m info (written_program m info explicit)
 
--- the same where front ends name nothing, the rules of scope hold, and names are counted
+-- the same where the rules of scope hold, and names are counted
 abbrev pub OfAcceptedInScope : (Module → ModuleInfo → Program → Type 0) → Type 0
 OfAcceptedInScope Holds =
     (m : Module) (info : ModuleInfo) (explicit : Bool) → IsTrue (is_accepted m info) →
-    IsTrue (nothing_named m) → ScopesHold m info → NamesAreCounted m →
+    IsTrue (is_written_so_far m info) → ScopesHold m info → NamesAreCounted m →
     Holds m info (written_program m info explicit)
 
 -- the program is one of the grammar, so that its text has one reading
 abbrev pub IsAProgram : Type 0
 IsAProgram =
     (m : Module) (info : ModuleInfo) (explicit : Bool) → IsTrue (is_accepted m info) →
-    IsTrue (nothing_named m) → IsTrue (handles_are_counted m) →
+    IsTrue (is_written_so_far m info) → IsTrue (handles_are_counted m) →
     IsProgram (written_program m info explicit)
 
 -- it declares what the module declares, where something is known of each function
@@ -86,6 +87,7 @@ ResolvesAsMeant = OfAcceptedInScope ResolvesAs
 abbrev pub BindsAsCounted : Type 0
 BindsAsCounted =
     (m : Module) (info : ModuleInfo) (explicit : Bool) → IsTrue (is_accepted m info) →
+    IsTrue (is_written_so_far m info) →
     BindsAs m info explicit (written_program m info explicit)
 
 -- what is written of a function whose literals are all written so far, and the types of whose
@@ -113,20 +115,25 @@ RunsAsTheModule = OfAcceptedInScope RunsAs
 abbrev pub ScopesAreChecked : Type 0
 ScopesAreChecked =
     (m : Module) (info : ModuleInfo) → IsTrue (is_accepted m info) →
+    IsTrue (is_written_so_far m info) →
     (IsTrue (scope_holds m info) ↔ ScopesHold m info)
 
 -- the operators are typed consistently, so that some meaning gives each a value of its type
 abbrev pub IsConsistent : Type 0
 IsConsistent =
-    (m : Module) (info : ModuleInfo) → IsTrue (is_accepted m info) → OperatorsAreConsistent m info
+    (m : Module) (info : ModuleInfo) → IsTrue (is_accepted m info) →
+    IsTrue (is_written_so_far m info) → OperatorsAreConsistent m info
 
 abbrev pub HasAMeaning : Type 0
 HasAMeaning =
-    (m : Module) (info : ModuleInfo) → IsTrue (is_accepted m info) → HasTypedMeaning m info
+    (m : Module) (info : ModuleInfo) → IsTrue (is_accepted m info) →
+    IsTrue (is_written_so_far m info) → HasTypedMeaning m info
 
 -- one world answers by the right types in every run of the module
 abbrev pub HasAWorld : Type 0
-HasAWorld = (m : Module) (info : ModuleInfo) → IsTrue (is_accepted m info) → HasTypedWorld m info
+HasAWorld =
+    (m : Module) (info : ModuleInfo) → IsTrue (is_accepted m info) →
+    IsTrue (is_written_so_far m info) → HasTypedWorld m info
 
 -- neither the module's runs nor those of its program are stuck
 abbrev pub IsNotStuck : Type 0

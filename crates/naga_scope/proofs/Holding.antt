@@ -16,19 +16,16 @@ use Rattle.naga_ir.specs.declared.statement.Range.{Range}
 use Rattle.naga_ir.specs.declared.statement.Statement.{Statement}
 use Rattle.naga_ir.specs.declared.statement.Statement.TheVariants as statement_variant
 use Rattle.naga_ir.specs.declared.types.Type_.{Type_}
-use Rattle.module_meaning.specs.Accepted.{statement_fits, block_fits, function_fits}
+use Rattle.module_meaning.specs.FitsSoFar.{statement_fits, block_fits}
 use Rattle.naga_info.specs.declared.info.ExpressionInfo.{ExpressionInfo}
-use Rattle.module_meaning.proofs.Fitting.{drop_first, item_at}
+use Rattle.module_meaning.proofs.Fitting.{drop_first}
 use Rattle.naga_names.specs.Keys.{NameMap}
-use Rattle.shader_runs.specs.Program.{Function, operands_of}
-use Rattle.shader_runs.specs.Premises.{AllBelow}
-use Rattle.shader_runs.specs.Scope.{Naming, Handles, after, fits, fits_all, fits_function}
+use Rattle.shader_runs.specs.Program.{Function}
+use Rattle.shader_runs.specs.Scope.{Naming, Handles, after, fits, fits_all}
 use Rattle.module_meaning.specs.Shapes.{statement_shape, statements_shape, function_shape}
-use Rattle.module_meaning.specs.Shapes.{function_shapes, function_naming, namings_from}
-use Rattle.module_meaning.specs.Shapes.{OperandsStandBefore}
+use Rattle.module_meaning.specs.Shapes.{function_naming}
 use Rattle.naga_form.proofs.Fits.{none_given_by}
 use Rattle.naga_scope.specs.Flat.{holds_no_block, is_flat}
-use Rattle.naga_scope.proofs.Emitting.{no_and}
 
 -- ---- first values
 pub first_values_listed : (n : ℕ) (ls : List LocalVariable) → map (λ p. p.1.init) (enumerate_from n ls) ≡ map (λ l. l.init) ls

@@ -1,5 +1,5 @@
 -- The shapes of a function's expressions, and what is not named in it.
-use Rattle.std.proofs.Common.{◌≡◌, ◌≢◌, ℕ, ◌&&◌, ◌||◌, Bool, true, false, List, [], ◌∷◌, map}
+use Rattle.std.proofs.Common.{◌≡◌, ℕ, ◌||◌, true, false, List, map}
 use Rattle.std.proofs.Common.{get_or, nat_le, Option, Some, None, refl, sym, ap, ◌∙◌}
 use Rattle.std.specs.Prelude.{IsTrue, slice_get}
 use Rattle.std.specs.Option.{is_some, option_map, option_map_or}

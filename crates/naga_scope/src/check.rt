@@ -2,7 +2,6 @@
 
 ghost use Rattle.std.specs.Prelude.{◌≡◌, ◌-◌, ℕ, List, length, IsTrue};
 ghost use Rattle.module_meaning.specs.Part.{names_nothing};
-ghost use Rattle.module_meaning.specs.Premises.{nothing_named};
 ghost use Rattle.module_meaning.specs.Shapes.{function_shape, function_naming, statement_shape};
 ghost use Rattle.naga_info.specs.declared.info.ExpressionInfo.{ExpressionInfo};
 ghost use Rattle.naga_ir.specs.StatementViews.{tree_of};
@@ -18,7 +17,7 @@ ghost use Rattle.naga_scope.specs.Standings.{handles_of, is_earlier};
 use crate::binding::expression_at;
 use crate::points::Scope;
 use naga_info::FunctionInfo;
-use naga_ir::{Expression, Function, Handle, LocalVariable, Module, Place, Range, Statement};
+use naga_ir::{Expression, Function, Handle, LocalVariable, Place, Range, Statement};
 
 /// Whether the expression, if there is one, may be written at this point.
 fn is_usable_if(scope: &Scope, function: &Function, handle: Option<Handle<Expression>>) -> bool
@@ -148,18 +147,6 @@ pub(crate) fn function_holds(scope: &mut Scope, function: &Function, info: &Func
     }
     for statement in function.body.as_slice() {
         if !statement_holds(scope, function, info, statement) {
-            return false;
-        }
-    }
-    true
-}
-
-/// Whether no front end named an expression of a function.
-pub fn nothing_named(module: &Module) -> bool
-    ensures { result ≡ nothing_named «module».now }
-{
-    for (_, function) in module.functions.iter() {
-        if !function.named_expressions.is_empty() {
             return false;
         }
     }

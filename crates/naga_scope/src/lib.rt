@@ -8,6 +8,5 @@ pub mod plan;
 pub mod points;
 
 pub use binding::binds;
-pub use check::nothing_named;
 pub use plan::{Plan, PlanError};
 pub use points::{Scope, Standing};

@@ -2,8 +2,7 @@
 
 ghost use Rattle.std.specs.Prelude.{◌≡◌, ◌<◌, List, IfErr, IfOk, IsTrue, length};
 ghost use Rattle.module_meaning.specs.Accepted.{is_accepted};
-ghost use Rattle.module_meaning.specs.Part.{names_nothing};
-ghost use Rattle.module_meaning.specs.Premises.{nothing_named};
+ghost use Rattle.module_meaning.specs.Part.{is_written_so_far, names_nothing};
 ghost use Rattle.module_meaning.specs.Shapes.{function_shape, OperandsStandBefore};
 ghost use Rattle.naga_ir.specs.declared.types.Type_.{Type_};
 ghost use Rattle.naga_scope.specs.Flat.{is_flat};
@@ -57,8 +56,8 @@ impl Model for Plan {
 
 impl Plan {
     /// The plan of the function with this handle, for a module that is accepted with what is known
-    /// of it, and in which no front end named an expression. Where the rules of scope don't hold in
-    /// the function, or there is no memory, there is no plan.
+    /// of it, and is of the part that is written so far. Where the rules of scope don't hold in the
+    /// function, or there is no memory, there is no plan.
     ///
     /// It takes memory once: one table serves the check, is then set back to the function's start,
     /// and serves the text.
@@ -69,7 +68,7 @@ impl Plan {
         handle: Handle<Function>,
     ) -> Result<Plan, PlanError>
         requires accepted { IsTrue (is_accepted «module».now info.now) }
-        requires unnamed { IsTrue (nothing_named «module».now) }
+        requires written { IsTrue (is_written_so_far «module».now info.now) }
         requires handle { handle < length «module».now.functions }
         ensures ok { IfOk result (IsPlanOf «module».now info.now handle) }
         ensures err { IfErr result (IsRefusalToPlanOf «module».now info.now handle) }

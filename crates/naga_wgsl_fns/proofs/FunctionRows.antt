@@ -14,7 +14,7 @@ use Rattle.naga_ir.specs.declared.module.FunctionResult.{FunctionResult}
 use Rattle.naga_ir.specs.declared.module.LocalVariable.{LocalVariable}
 use Rattle.naga_info.specs.declared.info.ExpressionInfo.{ExpressionInfo}
 use Rattle.naga_info.specs.declared.info.ModuleInfo.{ModuleInfo}
-use Rattle.module_meaning.specs.Accepted.{is_accepted, function_fits}
+use Rattle.module_meaning.specs.FitsSoFar.{fits_so_far, function_fits}
 use Rattle.module_meaning.specs.Part.{function_is_written, is_written_so_far}
 use Rattle.naga_form.specs.Expressions.{value_form}
 use Rattle.naga_form.specs.Statements.{lines_form}
@@ -25,8 +25,8 @@ use Rattle.naga_form.specs.Functions.{locals_form, parameter_form, parameters_fo
 use Rattle.naga_form.specs.Functions.{function_form}
 use Rattle.wgsl_text.proofs.Text.{text-append}
 use Rattle.naga_names.proofs.Refusal.{element}
-use Rattle.module_meaning.proofs.Accepted.{accepted_types_are_scalar, accepted_functions_fit}
-use Rattle.module_meaning.proofs.Accepted.{list_all_at, functions_fit_at}
+use Rattle.module_meaning.proofs.FitsSoFar.{fits_types_are_scalar, fits_functions_fit}
+use Rattle.module_meaning.proofs.FitsSoFar.{list_all_at, functions_fit_at}
 use Rattle.wgsl_text.proofs.Functions.{value_text as value_row_text, locals_text as local_row_text}
 use Rattle.wgsl_text.proofs.Functions.{function_text as function_row_text}
 use Rattle.naga_names.specs.Keys.{names_in}
@@ -63,18 +63,18 @@ use Rattle.naga_wgsl_fns.specs.Functions.{text_of_function}
 known_is : (info : ModuleInfo) (g : ℕ) (es : List ExpressionInfo) → slice_get info.functions.items g ≡ Some es → known_of info g ≡ es
 known_is info g es at = ap (λ o. unwrap_or o []) at
 
-pub can_write : (t : FunctionText) (info : ModuleInfo) → is_accepted t.shader.now info ≡ true → is_written_so_far t.shader.now ≡ true → HasNamesOf t.shader.now (names_in t.names.now) → slice_get t.shader.now.functions t.handle ≡ Some t.function.now → slice_get info.functions.items t.handle ≡ Some t.info.now → CanWrite t
+pub can_write : (t : FunctionText) (info : ModuleInfo) → fits_so_far t.shader.now info ≡ true → is_written_so_far t.shader.now info ≡ true → HasNamesOf t.shader.now (names_in t.names.now) → slice_get t.shader.now.functions t.handle ≡ Some t.function.now → slice_get info.functions.items t.handle ≡ Some t.info.now → CanWrite t
 can_write t info accepted written named here known =
     let m = t.shader.now in
     let f = t.function.now in
-    let fit = functions_fit_at m.types m.functions info.functions.items t.handle f (accepted_functions_fit m info accepted) here in
+    let fit = functions_fit_at m.types m.functions info.functions.items t.handle f (fits_functions_fit m info accepted) here in
     let same : fit.0 ≡ t.info.now = ap (λ o. unwrap_or o fit.0) (sym fit.1 ∙ known) in
     record {
       named = named;
       function = here;
-      scalars = accepted_types_are_scalar m info accepted;
+      scalars = fits_types_are_scalar m info accepted;
       fits = ap (λ ks. function_fits m.types f ks) (sym same) ∙ fit.2;
-      written = list_all_at function_is_written m.functions t.handle f (functions_are_written m written) here;
+      written = list_all_at function_is_written m.functions t.handle f (functions_are_written m info written) here;
     }
 
 -- the text of a function that there is

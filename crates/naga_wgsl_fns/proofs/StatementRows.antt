@@ -17,7 +17,7 @@ use Rattle.naga_ir.specs.declared.module.FunctionResult.{FunctionResult}
 use Rattle.naga_ir.specs.declared.types.Type_.{Type_}
 use Rattle.naga_info.specs.declared.info.ExpressionInfo.{ExpressionInfo}
 use Rattle.naga_back.specs.Indentation.{indentation}
-use Rattle.module_meaning.specs.Accepted.{statement_fits, block_fits}
+use Rattle.module_meaning.specs.FitsSoFar.{statement_fits, block_fits}
 use Rattle.shader_runs.specs.Program.{binds, from}
 use Rattle.shader_runs.specs.Scope.{Handles, Naming, after, after_all, after_emit, after_one}
 use Rattle.shader_runs.specs.Scope.{bound_name, given_after, given_by_all}

@@ -10,7 +10,7 @@ use Rattle.naga_ir.specs.declared.types.AddressSpace.TheVariants as space
 use Rattle.naga_ir.specs.declared.types.Type_.{Type_}
 use Rattle.naga_ir.specs.declared.types.TypeInner.{TypeInner}
 use Rattle.naga_ir.specs.declared.types.TypeInner.TheVariants as inner
-use Rattle.module_meaning.specs.Accepted.{is_scalar_type}
+use Rattle.module_meaning.specs.Part.{is_scalar_type}
 use Rattle.naga_info.specs.Resolution.{inner_of}
 use Rattle.module_meaning.specs.Spelled.{word_of_type, word_at, pointer_spelling, spelling}
 use Rattle.module_meaning.specs.Spelled.{spelling_of}
@@ -18,7 +18,7 @@ use Rattle.naga_info.proofs.Options.{map_some, then_some}
 use Rattle.wgsl_text.specs.Types.{TypeSpecifier, Named}
 use Rattle.wgsl_text.proofs.Text.{text-append}
 use Rattle.naga_form.proofs.TypeTrees.{only_text, lacks_unknown, type_row, inner_tree_row}
-use Rattle.module_meaning.proofs.Accepted.{list_all_at}
+use Rattle.module_meaning.proofs.FitsSoFar.{list_all_at}
 use Rattle.naga_names.specs.Keys.{NameMap, names_in}
 use Rattle.naga_info.specs.declared.info.TypeResolution.{TypeResolution}
 use Rattle.naga_info.specs.declared.info.TypeResolution.TheVariants as resolution

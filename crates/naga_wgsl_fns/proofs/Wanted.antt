@@ -28,19 +28,19 @@ use Rattle.naga_form.proofs.WrittenTypes.{known_spelled, resolution_has_form}
 use Rattle.naga_form.specs.TypeTrees.{resolution_tree}
 use Rattle.wgsl_text.specs.Reading.{type_layout}
 use Rattle.wgsl_text.specs.Types.{Named}
-use Rattle.naga_names.proofs.Refusal.{element}
-use Rattle.module_meaning.proofs.Accepted.{list_all_at, scalar_types_word_at}
-use Rattle.module_meaning.proofs.Accepted.{function_fits_signature, function_fits_locals}
-use Rattle.module_meaning.proofs.Accepted.{function_fits_block, function_fits_length}
-use Rattle.module_meaning.proofs.Accepted.{function_fits_word_at, value_fits_word, local_fits_parts}
-use Rattle.module_meaning.proofs.Accepted.{local_word_at, load_word_at, applied_at, store_fits_word}
-use Rattle.module_meaning.proofs.Accepted.{local_first_word}
+use Rattle.module_meaning.proofs.FitsSoFar.{list_all_at, scalar_types_word_at}
+use Rattle.module_meaning.proofs.FitsSoFar.{function_fits_signature, function_fits_locals}
+use Rattle.module_meaning.proofs.FitsSoFar.{function_fits_length}
+use Rattle.module_meaning.proofs.FitsSoFar.{function_fits_word_at, value_fits_word, local_fits_parts}
+use Rattle.module_meaning.proofs.FitsSoFar.{local_word_at, load_word_at, applied_at, store_fits_word}
+use Rattle.module_meaning.proofs.FitsSoFar.{local_first_word}
 use Rattle.module_meaning.proofs.Part.{written_parts}
 use Rattle.module_meaning.specs.Applications.{Application, application_of}
 use Rattle.shader_runs.specs.Premises.{AllBelow}
 use Rattle.module_meaning.specs.Spelled.{literal_word, word_at, spelling_of, local_pointer}
-use Rattle.module_meaning.specs.Accepted.{is_below, expected_type, local_fits, statement_fits}
-use Rattle.module_meaning.specs.Accepted.{return_fits}
+use Rattle.module_meaning.specs.FitsSoFar.{expected_type, local_fits, statement_fits}
+use Rattle.module_meaning.specs.Ranges.{is_below}
+use Rattle.module_meaning.specs.FitsSoFar.{return_fits}
 use Rattle.module_meaning.specs.Part.{names_nothing}
 use Rattle.naga_info.proofs.Options.{then_some}
 use Rattle.naga_wgsl_fns.specs.declared.functions.FunctionText.{FunctionText}

@@ -2,7 +2,8 @@
 use Rattle.std.specs.Prelude.{◌≡◌, ℕ, Bool, List, Option, Some, IsTrue, slice_get, bit_and, ◌==◌}
 use Rattle.std.specs.List.{list_all}
 use Rattle.naga_ir.specs.declared.expression.Expression.{Expression}
-use Rattle.module_meaning.specs.Accepted.{is_scalar_type, function_fits}
+use Rattle.module_meaning.specs.FitsSoFar.{function_fits}
+use Rattle.module_meaning.specs.Part.{is_scalar_type}
 use Rattle.module_meaning.specs.Part.{function_is_written}
 use Rattle.naga_names.specs.Keys.{names_in}
 use Rattle.shader_runs.specs.Scope.{Naming}

@@ -2,7 +2,8 @@
 
 ghost use Rattle.std.specs.Prelude.{◌≡◌, ◌<◌, ◌++◌, IfErr, IsTrue, OnErr, OnOk, Some, length};
 ghost use Rattle.std.specs.Prelude.{slice_get};
-ghost use Rattle.module_meaning.specs.Accepted.{is_accepted, is_below};
+ghost use Rattle.module_meaning.specs.Accepted.{is_accepted};
+ghost use Rattle.module_meaning.specs.Ranges.{is_below};
 ghost use Rattle.module_meaning.specs.Part.{is_written_so_far};
 ghost use Rattle.module_meaning.specs.Names.{HasNamesOf};
 ghost use Rattle.naga_names.specs.Keys.{names_in};
@@ -53,7 +54,7 @@ pub fn write_function<W: TextSink>(
     out: &mut W,
 ) -> Result<(), Error>
     requires accepted { IsTrue (is_accepted «module».now info.now) }
-    requires written { IsTrue (is_written_so_far «module».now) }
+    requires written { IsTrue (is_written_so_far «module».now info.now) }
     requires handle { handle < length «module».now.functions }
     requires names { HasNamesOf «module».now (names_in names.now) }
     requires planned { IsPlanOf «module».now info.now handle plan }

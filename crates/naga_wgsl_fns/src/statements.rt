@@ -1,7 +1,8 @@
 //! Blocks and statements.
 
 ghost use Rattle.std.specs.Prelude.{◌≡◌, ◌<◌, ◌-◌, ◌≤◌, IsTrue, length};
-ghost use Rattle.module_meaning.specs.Accepted.{block_fits, is_below, statement_fits};
+ghost use Rattle.module_meaning.specs.FitsSoFar.{block_fits, statement_fits};
+ghost use Rattle.module_meaning.specs.Ranges.{is_below};
 ghost use Rattle.naga_back.specs.Indentation.{indentation};
 ghost use Rattle.module_meaning.specs.Shapes.{statement_shape};
 ghost use Rattle.naga_ir.specs.StatementViews.{tree_of};

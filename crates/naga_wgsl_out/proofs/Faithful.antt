@@ -3,14 +3,14 @@ use Rattle.std.proofs.Common.{◌≡◌, ◌<◌, ◌∙◌, ◌++◌, ℕ, Bool
 use Rattle.std.proofs.Common.{ap, drop, inl, inr, length, subst, sym}
 use Rattle.std.specs.Prelude.{IfErr, IsTrue, OnErr, OnOk, Result}
 use Rattle.naga_ir.specs.declared.module.Module.{Module}
-use Rattle.module_meaning.specs.Accepted.{is_accepted}
+use Rattle.module_meaning.specs.FitsSoFar.{fits_so_far}
 use Rattle.module_meaning.specs.Part.{is_written_so_far}
 use Rattle.wgsl_text.specs.Declarations.{Program}
 use Rattle.naga_form.specs.Declarations.{written_program}
 use Rattle.naga_form.proofs.Resolution.{resolves}
 use Rattle.naga_form.proofs.Interface.{has_interface}
 use Rattle.naga_form.proofs.Programs.{is_program}
-use Rattle.module_meaning.proofs.Accepted.{accepted_functions_fit, functions_fit_length}
+use Rattle.module_meaning.proofs.FitsSoFar.{fits_functions_fit, functions_fit_length}
 use Rattle.naga_info.specs.declared.info.ModuleInfo.{ModuleInfo}
 use Rattle.naga_names.specs.Keys.{NameMap}
 use Rattle.wgsl_text.specs.Reading.{Reads, HasOneReading}
@@ -69,7 +69,7 @@ for_want m info (Memory e) before after is = tt
 for_want m info _ before after is = absurd is
 
 -- and so is what is not written so far
-pub for_part : (m : Module) (info : ModuleInfo) (error : Error) (before after : ℕ) → IsNotYetWritten error → is_written_so_far m ≡ false → IsRefusal m info before after error
+pub for_part : (m : Module) (info : ModuleInfo) (error : Error) (before after : ℕ) → IsNotYetWritten error → is_written_so_far m info ≡ false → IsRefusal m info before after error
 for_part m info (Unimplemented message) before after is part = (is, part)
 for_part m info (Memory e) before after is part = tt
 for_part m info _ before after is part = absurd is
@@ -88,7 +88,7 @@ scope_tells_of_module _ told = absurd told
 
 -- a text that was appended
 module _ (m : Module) (info : ModuleInfo) (flags : WriterFlags)
-    (accepted : IsTrue (is_accepted m info)) (written : IsTrue (is_written_so_far m))
+    (fits : IsTrue (fits_so_far m info)) (written : IsTrue (is_written_so_far m info))
     (names : NameMap) (has : HasAllNames m names) where
   -- a plan of each function
   abbrev AllPlanned : Type 0
@@ -102,8 +102,8 @@ module _ (m : Module) (info : ModuleInfo) (flags : WriterFlags)
 
   one : AllPlanned → HasOneReading Reads (written_text m info flags) program
   one planned =
-      program_has_one_reading program (is_program m info explicit accepted
-      (functions_name_nothing m written) (all_planned_counted m info accepted planned))
+      program_has_one_reading program (is_program m info explicit fits
+      (functions_name_nothing m info written) (all_planned_counted m info fits planned))
 
   each : AllPlanned → (held now : List ℕ) → now ≡ held ++ written_text m info flags →
       (Q : Program → Type 0) → Q program → EachReading held now Q
@@ -125,7 +125,7 @@ module _ (m : Module) (info : ModuleInfo) (flags : WriterFlags)
     pub failures_ok : OnOk r (after ≡ before)
 
   same_text : module_lines m info flags ≡ written_text m info flags
-  same_text = written_lines m info flags accepted
+  same_text = written_lines m info flags fits
 
   module _ (held now : List ℕ) (before after : ℕ) where
     wrote : WroteFunctions m info flags held before now after →
@@ -133,9 +133,9 @@ module _ (m : Module) (info : ModuleInfo) (flags : WriterFlags)
     wrote w =
         let appended = w.wrote.appended ∙ ap (λ t. held ++ t) same_text in
         let rules = all_planned_hold m info w.planned in
-        let unnamed = functions_name_nothing m written in
+        let unnamed = functions_name_nothing m info written in
         let fit = functions_fit_length m.types m.functions info.functions.items
-        (accepted_functions_fit m info accepted) in
+        (fits_functions_fit m info fits) in
         let reading = each w.planned held now appended in
         record {
           is_faithful = record {
@@ -153,11 +153,11 @@ module _ (m : Module) (info : ModuleInfo) (flags : WriterFlags)
             };
             interface = reading (HasInterfaceOf m) (has_interface m info explicit fit);
             runs = reading (RunsAs m info)
-                (runs_as m info explicit accepted unnamed rules has.counted);
+                (runs_as m info explicit fits unnamed rules has.counted);
           };
           resolved = reading (ResolvesAs m info)
-              (resolves m info explicit accepted unnamed rules has.counted);
-          binds = reading (BindsAs m info explicit) (binds_as m info explicit accepted);
+              (resolves m info explicit fits unnamed rules has.counted);
+          binds = reading (BindsAs m info explicit) (binds_as m info explicit fits);
           text_ok = appended;
           text_err = tt;
           untouched = tt;

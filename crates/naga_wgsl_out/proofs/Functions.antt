@@ -13,13 +13,13 @@ use Rattle.naga_ir.specs.declared.module.Function.{Function}
 use Rattle.naga_ir.specs.declared.module.Module.{Module}
 use Rattle.naga_info.specs.declared.info.ExpressionInfo.{ExpressionInfo}
 use Rattle.naga_info.specs.declared.info.ModuleInfo.{ModuleInfo}
-use Rattle.module_meaning.specs.Accepted.{is_accepted}
+use Rattle.module_meaning.specs.FitsSoFar.{fits_so_far}
 use Rattle.wgsl_text.specs.Token.{LineEnd}
 use Rattle.wgsl_text.specs.Functions.{function_pieces, functions_pieces}
 use Rattle.naga_form.specs.Functions.{function_form, functions_form}
 use Rattle.wgsl_text.proofs.Text.{text-append}
 use Rattle.naga_names.proofs.Refusal.{element}
-use Rattle.module_meaning.proofs.Accepted.{accepted_functions_fit, functions_fit_length}
+use Rattle.module_meaning.proofs.FitsSoFar.{fits_functions_fit, functions_fit_length}
 use Rattle.wgsl_text.specs.Text.{text}
 use Rattle.naga_scope.specs.Plans.{IsPlanOf, ScopeHoldsIn}
 use Rattle.naga_scope.specs.declared.points.Standing.{Standing}
@@ -53,10 +53,10 @@ functions_text m info flags g (f ∷ fs) (es ∷ ess) size known =
     later i ks at = let moved : g + suc i ≡ (g + 1) + i = omega arith in subst (λ h. known_of info h ≡ ks) moved (known (suc i) ks at)
 
 -- so far a module's text is its functions
-pub written_lines : (m : Module) (info : ModuleInfo) (flags : WriterFlags) → is_accepted m info ≡ true → lines_of m info flags (enumerate_from 0 m.functions) ≡ written_text m info flags
+pub written_lines : (m : Module) (info : ModuleInfo) (flags : WriterFlags) → fits_so_far m info ≡ true → lines_of m info flags (enumerate_from 0 m.functions) ≡ written_text m info flags
 written_lines m info flags accepted =
     let form = functions_form (tells_types flags) (module_names m) m.types 0 m.functions info.functions.items in
-    sym (ap text (append-nil (functions_pieces form)) ∙ functions_text m info flags 0 m.functions info.functions.items (functions_fit_length m.types m.functions info.functions.items (accepted_functions_fit m info accepted)) known)
+    sym (ap text (append-nil (functions_pieces form)) ∙ functions_text m info flags 0 m.functions info.functions.items (functions_fit_length m.types m.functions info.functions.items (fits_functions_fit m info accepted)) known)
   where
     known : (i : ℕ) (es : List ExpressionInfo) → slice_get info.functions.items i ≡ Some es → known_of info (0 + i) ≡ es
     known i es at = let same : i ≡ 0 + i = omega arith in subst (λ h. known_of info h ≡ es) same (ap (λ o. unwrap_or o []) at)

@@ -12,10 +12,10 @@ use Rattle.naga_ir.specs.declared.module.Module.{Module}
 use Rattle.naga_info.specs.declared.info.ModuleInfo.{ModuleInfo}
 use Rattle.shader_runs.specs.Program.{Function}
 use Rattle.shader_runs.specs.ScopeRules.{ScopeHolds}
-use Rattle.module_meaning.specs.Accepted.{is_accepted}
+use Rattle.module_meaning.specs.FitsSoFar.{fits_so_far}
 use Rattle.module_meaning.specs.Premises.{EachScopeHolds, ScopesHold, handles_are_counted}
 use Rattle.module_meaning.specs.Shapes.{expression_shape, function_shapes}
-use Rattle.module_meaning.proofs.Accepted.{accepted_functions_fit, functions_fit_at}
+use Rattle.module_meaning.proofs.FitsSoFar.{fits_functions_fit, functions_fit_at}
 use Rattle.naga_scope.specs.Plans.{IsPlan, ScopeHoldsIn, function_shape_at}
 use Rattle.naga_scope.proofs.Planned.{plan_found}
 use Rattle.naga_wgsl_out.specs.Writing.{HasPlan}
@@ -88,7 +88,7 @@ all_pass test (x ∷ xs) at =
     (all_pass test xs (λ i y is. at (suc i) y is))
 
 -- and its handles are counted
-pub all_planned_counted : (m : Module) (info : ModuleInfo) → IsTrue (is_accepted m info) →
+pub all_planned_counted : (m : Module) (info : ModuleInfo) → IsTrue (fits_so_far m info) →
     ((i : ℕ) → i < length m.functions → HasPlan m info i) → IsTrue (handles_are_counted m)
 all_planned_counted m info accepted planned =
     all_pass (λ f. nat_le (length f.expressions) (2 ^ 64)) m.functions at
@@ -96,7 +96,7 @@ all_planned_counted m info accepted planned =
     at : (i : ℕ) (f : ir_function.Function) → slice_get m.functions i ≡ Some f →
         nat_le (length f.expressions) (2 ^ 64) ≡ true
     at i f is =
-        let fit = accepted_functions_fit m info accepted in
+        let fit = fits_functions_fit m info accepted in
         let known = functions_fit_at m.types m.functions info.functions.items i f fit is in
         let has = planned i (slice_get_within m.functions i f is) in
         let plan = plan_found m info i f known.0 has.table is known.1 has.plan in

@@ -59,7 +59,7 @@ IsRefusal m info before now (Memory e) = ⊤
 IsRefusal m info before now (Custom message) =
     IsToldOf m (string_bytes message) ⊎ IsOutOfScope m info (string_bytes message)
 IsRefusal m info before now (Unimplemented message) =
-    (string_bytes message ≡ codes "not yet written") × IsFalse (is_written_so_far m)
+    (string_bytes message ≡ codes "not yet written") × IsFalse (is_written_so_far m info)
 IsRefusal m info before now _ = ⊥
 
 -- the error tells of the module, and not of memory or of the sink
@@ -88,7 +88,7 @@ IsPlanRefusal m info handle _ = ⊥
 
 -- no reason stands in the module
 pub record IsWritable (m : Module) (info : ModuleInfo) : Type 0 where
-  pub written : IsTrue (is_written_so_far m)
+  pub written : IsTrue (is_written_so_far m info)
   pub in_scope : ScopesHold m info
   pub told : NamerIsFull m → ⊥
   pub keys : KeyIsOutOfRange m → ⊥

@@ -88,8 +88,8 @@ impl<W: TextSink> Writer<W> {
     ///
     /// So far a module is refused as `Unimplemented`, `not yet written`, unless it declares nothing
     /// but scalar types and functions whose locals have a literal as first value or none, whose
-    /// expressions are arguments, locals, literals, loads, sums, differences and products, without
-    /// names of their own, and whose statements are `Emit`s, `Store`s and `Return`s.
+    /// expressions are arguments, locals, literals, loads, sums, differences and products of scalars,
+    /// without names of their own, and whose statements are `Emit`s, `Store`s and `Return`s.
     ///
     /// An emitted expression is bound by a `let` where it is a `Load` that is used at all or an
     /// operator that is used at least twice; `EXPLICIT_TYPES` has each `let` tell its type.
@@ -120,7 +120,7 @@ impl<W: TextSink> Writer<W> {
             W.failures self.new.sink ≡ W.failures self.old.sink) }
         ensures flags { self.new.flags ≡ self.old.flags }
     {
-        if !is_written_so_far(module) {
+        if !is_written_so_far(module, info) {
             return Err(not_yet_written(self.alloc));
         }
         let names = names_of(self.alloc, module)?;
@@ -139,7 +139,7 @@ fn write_functions<W: TextSink>(
     out: &mut W,
 ) -> Result<(), Error>
     requires accepted { IsTrue (is_accepted «module».now info.now) }
-    requires written { IsTrue (is_written_so_far «module».now) }
+    requires written { IsTrue (is_written_so_far «module».now info.now) }
     requires names { HasNamesOf «module».now (names_in names.now) }
     ensures { WritesFunctions «module».now info.now flags result (W.text out.old)
         (W.failures out.old) (W.text out.new) (W.failures out.new) }
@@ -160,7 +160,7 @@ fn plan_of(
     handle: Handle<Function>,
 ) -> Result<Plan, Error>
     requires accepted { IsTrue (is_accepted «module».now info.now) }
-    requires written { IsTrue (is_written_so_far «module».now) }
+    requires written { IsTrue (is_written_so_far «module».now info.now) }
     requires handle { handle < length «module».now.functions }
     ensures ok { IfOk result (IsPlanOf «module».now info.now handle) }
     ensures err { IfErr result (IsPlanRefusal «module».now info.now handle) }
@@ -183,7 +183,7 @@ fn write_function_line<W: TextSink>(
     out: &mut W,
 ) -> Result<(), Error>
     requires accepted { IsTrue (is_accepted «module».now info.now) }
-    requires written { IsTrue (is_written_so_far «module».now) }
+    requires written { IsTrue (is_written_so_far «module».now info.now) }
     requires handle { handle < length «module».now.functions }
     requires names { HasNamesOf «module».now (names_in names.now) }
     requires planned { IsPlanOf «module».now info.now handle plan }

@@ -1,6 +1,7 @@
 //! Tests that need a crate of their own, so that what they test is proved once and its edits wait
-//! for no test: names, spellings of types, which expressions are in scope where, and whether what
-//! modules name is there; beside them a context and a sink as a user would write them.
+//! for no test: names, spellings of types, which expressions are in scope where, whether what
+//! modules name is there, and which modules are accepted; beside them a context and a sink as a user
+//! would write them.
 #![tactic(auto)]
 
 pub mod limited;
@@ -9,6 +10,8 @@ pub mod numbered;
 pub use limited::Limited;
 pub use numbered::NumberedTypes;
 
+#[cfg(test)]
+mod acceptance;
 #[cfg(test)]
 mod names;
 #[cfg(test)]

@@ -1,7 +1,7 @@
-use naga_acceptance::accepts;
+use naga_acceptance::{accepts, is_written_so_far};
 use naga_info::ModuleInfo;
 use naga_ir::{BinaryOperator, Expression, Handle, Literal, Module, Place, Scalar, Type_};
-use naga_scope::{Plan, PlanError, nothing_named};
+use naga_scope::{Plan, PlanError};
 use sample_modules::Sample;
 use std::alloc::{AllocError, Global};
 use std::process::Abort;
@@ -142,7 +142,7 @@ fn first_holds(
     module: &Module,
     info: &ModuleInfo,
 ) -> Result<Option<bool>, AllocError> {
-    if !accepts(module, info) || !nothing_named(module) || module.functions.len() != 1 {
+    if !accepts(module, info) || !is_written_so_far(module, info) || module.functions.len() != 1 {
         return Ok(None);
     }
     match Plan::of(alloc, module, info, Place::from_index(0)) {

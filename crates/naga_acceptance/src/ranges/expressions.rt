@@ -2,12 +2,13 @@
 
 ghost use Rattle.std.specs.Prelude.{◌≡◌, length};
 ghost use Rattle.naga_ir.specs.Operands.{expression_operands};
+ghost use Rattle.module_meaning.specs.Literals.{literal_is_within};
 ghost use Rattle.module_meaning.specs.Ranges.{all_below, all_placed, expression_in_range};
 ghost use Rattle.module_meaning.specs.Ranges.{expressions_in_range, global_expression_in_range};
 ghost use Rattle.module_meaning.specs.Ranges.{initialiser_before, names_in_range};
 
-use crate::acceptance::is_below;
-use naga_ir::{Expression, Function, Handle, Module};
+use crate::ranges::is_below;
+use naga_ir::{Expression, Function, Handle, Literal, Module};
 
 /// Whether the expression's operands are among the first `expressions`.
 fn operands_before(expressions: usize, expression: &Expression) -> bool
@@ -21,8 +22,29 @@ fn operands_before(expressions: usize, expression: &Expression) -> bool
     true
 }
 
+/// Whether a literal's value is one of its type, as it always is.
+pub(crate) fn literal_is_within(literal: Literal) -> bool
+    ensures { result ≡ literal_is_within literal }
+{
+    match literal {
+        Literal::I16(_)
+        | Literal::U16(_)
+        | Literal::I32(_)
+        | Literal::U32(_)
+        | Literal::I64(_)
+        | Literal::U64(_)
+        | Literal::AbstractInt(_)
+        | Literal::F16(_)
+        | Literal::F32(_)
+        | Literal::F64(_)
+        | Literal::AbstractFloat(_) => true,
+        Literal::Bool(_) => true,
+    }
+}
+
 /// Whether what an expression names beside its operands is there, in a function that may call the
-/// first `callees` functions and has so many arguments and locals.
+/// first `callees` functions and has so many arguments and locals; and a literal has a value of its
+/// type.
 fn names_in_range(
     module: &Module,
     callees: usize,
@@ -44,8 +66,8 @@ fn names_in_range(
         Expression::GlobalVariable(handle) => handle.index() < module.global_variables.len(),
         Expression::LocalVariable(handle) => handle.index() < locals,
         Expression::CallResult(function) => function.index() < callees,
-        Expression::Literal(_)
-        | Expression::Access { .. }
+        Expression::Literal(literal) => literal_is_within(*literal),
+        Expression::Access { .. }
         | Expression::AccessIndex { .. }
         | Expression::Splat { .. }
         | Expression::Swizzle { .. }

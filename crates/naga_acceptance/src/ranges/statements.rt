@@ -6,7 +6,7 @@ ghost use Rattle.module_meaning.specs.Ranges.{all_below, atomic_in_range, block_
 ghost use Rattle.module_meaning.specs.Ranges.{cases_in_range, cooperative_in_range};
 ghost use Rattle.module_meaning.specs.Ranges.{gather_in_range, ray_in_range, statement_in_range};
 
-use crate::acceptance::is_below;
+use crate::ranges::is_below;
 use naga_ir::{
     AtomicFunction, Block, CooperativeData, Expression, GatherMode, Handle, RayPipelineFunction,
     Statement, SwitchCase,

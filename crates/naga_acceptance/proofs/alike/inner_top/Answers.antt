@@ -1,4 +1,4 @@
-use Rattle.std.proofs.Common.{◌≡◌, ℕ, List, ◌++◌, ◌∙◌, ap, sym}
+use Rattle.std.proofs.Common.{◌++◌, ◌∙◌, ap, sym}
 use Rattle.module_meaning.specs.AlikeTypes.{inner_form_by}
 use Rattle.std.specs.Option.{option_map}
 use Rattle.naga_acceptance.specs.Views.{bases, numbers}

@@ -1,5 +1,5 @@
 use Rattle.std.proofs.Common.{◌+◌, IsTrue, drop, refl, sym, ap, subst, ◌∙◌}
-use Rattle.module_meaning.specs.Accepted.{block_fits}
+use Rattle.module_meaning.specs.FitsSoFar.{block_fits}
 use Rattle.naga_ir.specs.StatementTree.{BlockTree}
 use Rattle.naga_ir.specs.StatementViews.{tree_of, block_of}
 use Rattle.naga_words.proofs.Writing.{leaves_as, leaves_more, leaves_start}

@@ -1,5 +1,5 @@
 use Rattle.std.proofs.Common.{◌≡◌, drop, length, IsTrue}
-use Rattle.module_meaning.specs.Accepted.{block_fits}
+use Rattle.module_meaning.specs.FitsSoFar.{block_fits}
 use Rattle.naga_ir.specs.StatementViews.{block_of}
 use Rattle.naga_words.specs.Output.{output_view}
 use Rattle.naga_words.proofs.Writing.{Leaves}

@@ -1,6 +1,6 @@
 use Rattle.std.proofs.Common.{subst, length, IsTrue}
 use Rattle.std.proofs.lemmas.Bool.{ltb-true}
-use Rattle.module_meaning.specs.Accepted.{is_below}
+use Rattle.module_meaning.specs.Ranges.{is_below}
 use Rattle.naga_wgsl_fns.proofs.functions.FunctionText.write_return.Goals as goal
 
 pub write_return_value-requires-clause-value : goal.write_return_value-requires-clause-value

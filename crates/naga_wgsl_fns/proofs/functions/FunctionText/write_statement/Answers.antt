@@ -1,5 +1,5 @@
 use Rattle.std.proofs.Common.{IsTrue, subst}
-use Rattle.module_meaning.specs.Accepted.{statement_fits}
+use Rattle.module_meaning.specs.FitsSoFar.{statement_fits}
 use Rattle.naga_ir.specs.StatementViews.{tree_of}
 use Rattle.naga_wgsl_fns.proofs.StatementRows.{no_other_statement}
 use Rattle.naga_wgsl_fns.proofs.Wanted.{emit_within, return_within, store_within}

@@ -1,0 +1,326 @@
+//! Whether operators that are spelled alike, over operands of types alike, have types alike.
+//!
+//! Uses are gone through in order. A table of fixed size remembers, by a hash of operator and
+//! types, the first use of each slot. One that finds its own operator there is compared with that
+//! use alone; one that finds another is compared with the first use of its operator, which is
+//! looked for from the start.
+
+ghost use Rattle.std.specs.Prelude.{◌≡◌, ◌<◌, ◌≤◌, ◌^◌, suc, slice_get, true, Some, []};
+ghost use Rattle.std.specs.List.{list_all};
+ghost use Rattle.std.specs.Option.{IfSome, option_map, option_map_or, option_to_list};
+ghost use Rattle.naga_acceptance.specs.Uses.{Remembers, earlier_uses, first_answer, first_uses};
+ghost use Rattle.naga_acceptance.specs.Uses.{group_of, group_uses, operation, slot_of, use_at};
+ghost use Rattle.naga_acceptance.specs.Uses.{use_in};
+ghost use Rattle.module_meaning.specs.AgreeingOperators.{function_group, further_groups_of};
+ghost use Rattle.module_meaning.specs.AgreeingOperators.{groups_of, module_operators_agree};
+ghost use Rattle.module_meaning.specs.AgreeingOperators.{uses_of};
+ghost use Rattle.module_meaning.specs.Operations.{agrees, all_agree};
+
+use crate::parts::Known;
+use crate::uses::{SLOTS, Use, expression_use, has_same_answer, is_same_operator, slot_of};
+use naga_info::{FunctionInfo, ModuleInfo};
+use naga_ir::{Arena, Expression, Function, Module, Place, Type_, UniqueArena};
+
+/// Expressions that stand together, with their types.
+#[derive(Debug, Clone, Copy)]
+pub(crate) struct Expressions<'a> {
+    arena: &'a Arena<Expression>,
+    known: Known<'a>,
+}
+
+/// Where an expression stands: in which group, and the number of its handle there. Functions and
+/// entry points together may be more than a `usize` counts.
+#[derive(Debug, Clone, Copy)]
+pub(crate) struct Site {
+    group: u128,
+    index: usize,
+}
+
+fn function_group<'a>(function: &'a Function, info: &'a FunctionInfo) -> Expressions<'a>
+    ensures { group_of result ≡ function_group function.now info.now }
+{
+    Expressions {
+        arena: &function.expressions,
+        known: Known::Function(info.expressions.as_slice()),
+    }
+}
+
+/// The expressions of the entry point of this number, or those of the module itself behind them.
+fn further_group_at<'a>(
+    module: &'a Module,
+    info: &'a ModuleInfo,
+    number: u128,
+) -> Option<Expressions<'a>>
+    ensures group { option_map group_of result
+        ≡ slice_get (further_groups_of «module».now info.now) number }
+    ensures within { IfSome result (λ _. number ≤ 2 ^ 64) }
+{
+    let entry_points = module.entry_points.as_slice();
+    let infos = info.entry_points.as_slice();
+    let count = entry_points.len().min(infos.len()) as u128;
+    if number < count {
+        let index = number as usize;
+        Some(function_group(&entry_points[index].function, &infos[index]))
+    } else if number == count {
+        Some(Expressions {
+            arena: &module.global_expressions,
+            known: Known::Global(info.const_expression_types.as_slice()),
+        })
+    } else {
+        None
+    }
+}
+
+/// The group of this number: functions, entry points and the module itself, in order.
+fn group_at<'a>(module: &'a Module, info: &'a ModuleInfo, number: u128) -> Option<Expressions<'a>>
+    ensures group { option_map group_of result
+        ≡ slice_get (groups_of «module».now info.now) number }
+    ensures within { IfSome result (λ _. number < 2 ^ 66) }
+{
+    let infos = info.functions.as_slice();
+    let functions = module.functions.len().min(infos.len()) as u128;
+    if number < functions {
+        let index = number as usize;
+        Some(function_group(&module.functions[Place::from_index(index)], &infos[index]))
+    } else {
+        further_group_at(module, info, number - functions)
+    }
+}
+
+/// The expression with this number as a use, if it is there and has an operator.
+fn use_in<'a>(
+    types: &'a UniqueArena<Type_>,
+    group: Expressions<'a>,
+    index: usize,
+) -> Option<Use<'a>>
+    ensures { option_map (operation types.now) result
+        ≡ use_in types.now (group_of group.entry) index }
+{
+    if index < group.arena.len() {
+        let here = Place::from_index(index);
+        expression_use(types, group.known, here, &group.arena[here])
+    } else {
+        None
+    }
+}
+
+fn use_at<'a>(module: &'a Module, info: &'a ModuleInfo, site: Site) -> Option<Use<'a>>
+    ensures { option_map (operation «module».now.types) result
+        ≡ use_at «module».now.types (groups_of «module».now info.now) site }
+{
+    match group_at(module, info, site.group) {
+        Some(group) => use_in(&module.types, group, site.index),
+        None => None,
+    }
+}
+
+/// Whether the expression of this number has the type of `used`, if it uses the same operator.
+fn answer_at(
+    types: &UniqueArena<Type_>,
+    group: Expressions<'_>,
+    index: usize,
+    used: &Use<'_>,
+) -> Option<bool>
+    ensures { result ≡ first_answer
+        (option_to_list (use_in types.now (group_of group.entry) index))
+        (operation types.now used.now) }
+{
+    match use_in(types, group, index) {
+        Some(seen) if is_same_operator(types, &seen, used) => {
+            Some(has_same_answer(types, &seen, used))
+        }
+        _ => None,
+    }
+}
+
+/// The same of the first use of the operator among the first expressions of a group.
+fn first_answer(
+    types: &UniqueArena<Type_>,
+    group: Expressions<'_>,
+    end: usize,
+    used: &Use<'_>,
+) -> Option<bool>
+    ensures { result ≡ first_answer (first_uses types.now (group_of group.entry) end)
+        (operation types.now used.now) }
+{
+    for index in 0..end {
+        let found = answer_at(types, group, index, used);
+        if found.is_some() {
+            return found;
+        }
+    }
+    None
+}
+
+/// The same among all expressions of a group, if there is such a group.
+fn group_answer(module: &Module, info: &ModuleInfo, number: u128, used: &Use<'_>) -> Option<bool>
+    ensures { result ≡ first_answer
+        (option_map_or (uses_of «module».now.types)
+        (slice_get (groups_of «module».now info.now) number) [])
+        (operation «module».now.types used.now) }
+{
+    match group_at(module, info, number) {
+        Some(group) => first_answer(&module.types, group, group.arena.len(), used),
+        None => None,
+    }
+}
+
+/// The same among the first groups.
+fn groups_answer(module: &Module, info: &ModuleInfo, number: u128, used: &Use<'_>) -> Option<bool>
+    ensures { result ≡ first_answer
+        (group_uses «module».now.types (groups_of «module».now info.now) number)
+        (operation «module».now.types used.now) }
+{
+    for place in 0..number {
+        let found = group_answer(module, info, place, used);
+        if found.is_some() {
+            return found;
+        }
+    }
+    None
+}
+
+/// The same among all that stands before the expression `index` of a group, which has this number.
+fn earlier_answer(
+    module: &Module,
+    info: &ModuleInfo,
+    number: u128,
+    group: Expressions<'_>,
+    index: usize,
+    used: &Use<'_>,
+) -> Option<bool>
+    ensures { result ≡ first_answer
+        (earlier_uses «module».now.types (groups_of «module».now info.now) number
+        (group_of group.entry) index)
+        (operation «module».now.types used.now) }
+{
+    let found = groups_answer(module, info, number, used);
+    if found.is_some() {
+        return found;
+    }
+    first_answer(&module.types, group, index, used)
+}
+
+/// Whether a use agrees with all that stand before it, which agree among themselves.
+fn agrees_with_earlier(
+    module: &Module,
+    info: &ModuleInfo,
+    table: &[Option<Site>],
+    slot: usize,
+    number: u128,
+    group: Expressions<'_>,
+    index: usize,
+    used: &Use<'_>,
+) -> bool
+    requires slot { slot ≡ slot_of (operation «module».now.types used.now) }
+    requires agree { all_agree (earlier_uses «module».now.types
+        (groups_of «module».now info.now) number (group_of group) index) ≡ true }
+    requires table { Remembers «module».now.types (groups_of «module».now info.now)
+        (earlier_uses «module».now.types (groups_of «module».now info.now) number
+        (group_of group) index) table.now }
+    ensures { result ≡ list_all (λ o. agrees o (operation «module».now.types used.now))
+        (earlier_uses «module».now.types (groups_of «module».now info.now) number
+        (group_of group.entry) index) }
+{
+    let types = &module.types;
+    match table[slot] {
+        Some(site) => match use_at(module, info, site) {
+            Some(seen) if is_same_operator(types, &seen, used) => {
+                has_same_answer(types, &seen, used)
+            }
+            _ => earlier_answer(module, info, number, group, index, used).unwrap_or(true),
+        },
+        None => true,
+    }
+}
+
+/// Whether the expression `index` of a group, which has this number, agrees with all that stand
+/// before it, if it is a use. It is remembered then, where its slot is empty.
+fn use_agrees(
+    module: &Module,
+    info: &ModuleInfo,
+    table: &mut [Option<Site>],
+    number: u128,
+    group: Expressions<'_>,
+    index: usize,
+) -> bool
+    requires group { slice_get (groups_of «module».now info.now) number ≡ Some (group_of group) }
+    requires agree { all_agree (earlier_uses «module».now.types
+        (groups_of «module».now info.now) number (group_of group) index) ≡ true }
+    requires table { Remembers «module».now.types (groups_of «module».now info.now)
+        (earlier_uses «module».now.types (groups_of «module».now info.now) number
+        (group_of group) index) table.now }
+    ensures agree { result ≡ all_agree (earlier_uses «module».now.types
+        (groups_of «module».now info.now) number (group_of group.entry) (suc index)) }
+    ensures table { result ≡ true →
+        Remembers «module».now.types (groups_of «module».now info.now)
+        (earlier_uses «module».now.types (groups_of «module».now info.now) number
+        (group_of group.entry) (suc index)) table.new }
+{
+    let types = &module.types;
+    let Some(used) = use_in(types, group, index) else {
+        return true;
+    };
+    let slot = slot_of(types, &used);
+    if !agrees_with_earlier(module, info, table, slot, number, group, index, &used) {
+        return false;
+    }
+    if table[slot].is_none() {
+        table[slot] = Some(Site {
+            group: number,
+            index,
+        });
+    }
+    true
+}
+
+/// Whether the uses of a group, which has this number, agree with each other and with all that stand
+/// in the groups before it.
+fn group_agrees(
+    module: &Module,
+    info: &ModuleInfo,
+    table: &mut [Option<Site>],
+    number: u128,
+    group: Expressions<'_>,
+) -> bool
+    requires group { slice_get (groups_of «module».now info.now) number ≡ Some (group_of group) }
+    requires agree { all_agree (group_uses «module».now.types
+        (groups_of «module».now info.now) number) ≡ true }
+    requires table { Remembers «module».now.types (groups_of «module».now info.now)
+        (group_uses «module».now.types (groups_of «module».now info.now) number) table.now }
+    ensures agree { result ≡ all_agree (group_uses «module».now.types
+        (groups_of «module».now info.now) (suc number)) }
+    ensures table { result ≡ true →
+        Remembers «module».now.types (groups_of «module».now info.now)
+        (group_uses «module».now.types (groups_of «module».now info.now) (suc number))
+        table.new }
+{
+    for index in 0..group.arena.len() {
+        if !use_agrees(module, info, table, number, group, index) {
+            return false;
+        }
+    }
+    true
+}
+
+/// Whether any two operators in the module that are spelled alike, over operands of types alike,
+/// have types alike, wherever they stand: in its functions, its entry points and its own
+/// expressions.
+/// Loads, derivatives and what is done with images are no operators here, since the world answers
+/// them. Expressions of which nothing is known by `info` are not looked at.
+///
+/// It takes no memory. Time grows with the expressions, as long as few operators share a slot of a
+/// table of 509; one that shares its slot with another is looked for from the start.
+pub fn operators_agree(module: &Module, info: &ModuleInfo) -> bool
+    ensures { result ≡ module_operators_agree «module».now info.now }
+{
+    let mut table: [Option<Site>; SLOTS] = [None; SLOTS];
+    let mut number = 0;
+    while let Some(group) = group_at(module, info, number) {
+        if !group_agrees(module, info, &mut table, number, group) {
+            return false;
+        }
+        number += 1;
+    }
+    true
+}

@@ -1,0 +1,238 @@
+//! What tells operators: those that WGSL spells alike are told by the same.
+
+ghost use Rattle.std.specs.Prelude.{◌≡◌, ◌<◌, List, Some};
+ghost use Rattle.std.specs.Option.{option_copied, option_map};
+ghost use Rattle.std.specs.Str.{bytes_eq};
+ghost use Rattle.naga_acceptance.specs.KnownTypes.{given, known_types};
+ghost use Rattle.naga_acceptance.specs.OperatorKeys.{key};
+ghost use Rattle.naga_ir.specs.declared.types.Type_ as ir_type;
+ghost use Rattle.naga_ir.specs.declared.types.TypeInner as ir_inner;
+ghost use Rattle.naga_info.specs.declared.info.TypeResolution.TheVariants.{Value};
+ghost use Rattle.module_meaning.specs.AgreeingOperators.{constructor_key, conversion_key};
+ghost use Rattle.module_meaning.specs.AgreeingOperators.{formless_key, letter_number, one_key};
+ghost use Rattle.module_meaning.specs.AgreeingOperators.{operator_key, swizzle_key, target_key};
+ghost use Rattle.module_meaning.specs.AgreeingOperators.{typed_key, width_number, word_key};
+ghost use Rattle.module_meaning.specs.Conversions.{conversion_target, converted_scalar, keeps_bits};
+
+use crate::alike::{are_alike, given_identity, has_form};
+use crate::parts::{GivenType, Known, known_inner, vector_number};
+use crate::type_numbers::{Level, is_same_level, kind_number, level_of, truth_number};
+use naga_ir::{
+    Expression, Handle, Scalar, ScalarKind, SwizzleComponent, Type_, TypeInner, UniqueArena,
+    VectorSize,
+};
+
+/// What tells an operator.
+#[derive(Debug, Clone, Copy)]
+pub(crate) enum Key {
+    /// The constructor of a type, or a bit cast to it.
+    Typed {
+        /// Whether the bits are kept.
+        bits: bool,
+        /// The type.
+        ty: GivenType,
+    },
+    /// A kind, and up to five numbers.
+    Word(Level),
+}
+
+fn typed_key(bits: bool, ty: GivenType) -> Key
+    ensures { (types : List ir_type.Type_) →
+        key types result ≡ typed_key types bits (given ty) }
+{
+    Key::Typed { bits, ty }
+}
+
+fn one_key(kind: usize, number: usize) -> Key
+    ensures { (types : List ir_type.Type_) → key types result ≡ one_key kind number }
+{
+    Key::Word(level_of(kind, number, 0, 0, 0, 0))
+}
+
+fn constructor_key(types: &UniqueArena<Type_>, ty: Handle<Type_>) -> Key
+    ensures { key types.now result ≡ constructor_key types.now ty }
+{
+    let constructed = GivenType::Handle(ty);
+    if has_form(types, &constructed) {
+        typed_key(false, constructed)
+    } else {
+        one_key(0, ty.index())
+    }
+}
+
+fn width_number(width: Option<u8>) -> usize
+    ensures { result ≡ width_number width }
+{
+    match width {
+        Some(width) => width as usize + 1,
+        None => 0,
+    }
+}
+
+fn formless_key(kind: ScalarKind, convert: Option<u8>) -> Key
+    ensures { (types : List ir_type.Type_) → key types result ≡ formless_key kind convert }
+{
+    Key::Word(level_of(1, kind_number(kind), width_number(convert), 0, 0, 0))
+}
+
+fn converted_scalar(scalar: Scalar, kind: ScalarKind, convert: Option<u8>) -> Scalar
+    ensures { result ≡ converted_scalar scalar kind convert }
+{
+    Scalar {
+        kind,
+        width: convert.unwrap_or(scalar.width),
+    }
+}
+
+/// What a value of this type is converted to, if it is converted.
+fn conversion_target(
+    operand: &TypeInner,
+    kind: ScalarKind,
+    convert: Option<u8>,
+) -> Option<GivenType>
+    ensures { option_map given result
+        ≡ option_map (λ it. Value it) (conversion_target operand.now kind convert) }
+{
+    match operand {
+        TypeInner::Scalar(scalar) => {
+            Some(GivenType::Scalar(converted_scalar(*scalar, kind, convert)))
+        }
+        TypeInner::Vector { size, scalar } => Some(GivenType::Vector {
+            size: *size,
+            scalar: converted_scalar(*scalar, kind, convert),
+        }),
+        TypeInner::Matrix {
+            columns,
+            rows,
+            scalar,
+        } => Some(GivenType::Matrix {
+            columns: *columns,
+            rows: *rows,
+            scalar: converted_scalar(*scalar, kind, convert),
+        }),
+        _ => None,
+    }
+}
+
+/// Whether the bits are kept and read as a value of the other type.
+fn keeps_bits(operand: &TypeInner, convert: Option<u8>) -> bool
+    ensures { result ≡ keeps_bits operand.now convert }
+{
+    match operand {
+        TypeInner::Matrix { .. } => false,
+        _ => convert.is_none(),
+    }
+}
+
+fn target_key(
+    types: &UniqueArena<Type_>,
+    kind: ScalarKind,
+    convert: Option<u8>,
+    bits: bool,
+    target: &GivenType,
+) -> Key
+    ensures { (it : ir_inner.TypeInner) → given target.now ≡ Value it →
+        key types.now result ≡ target_key types.now kind convert bits it }
+{
+    if has_form(types, target) {
+        typed_key(bits, *target)
+    } else {
+        formless_key(kind, convert)
+    }
+}
+
+fn conversion_key(
+    types: &UniqueArena<Type_>,
+    kind: ScalarKind,
+    convert: Option<u8>,
+    operand: Option<&TypeInner>,
+) -> Key
+    ensures { key types.now result
+        ≡ conversion_key types.now kind convert (option_copied operand.entry) }
+{
+    let Some(operand) = operand else {
+        return formless_key(kind, convert);
+    };
+    match conversion_target(operand, kind, convert) {
+        Some(target) => {
+            let bits = keeps_bits(operand, convert);
+            target_key(types, kind, convert, bits, &target)
+        }
+        None => formless_key(kind, convert),
+    }
+}
+
+/// The letter at a place of a swizzle, of which `size` are written.
+fn letter_number(size: VectorSize, pattern: &[SwizzleComponent; 4], place: usize) -> usize
+    requires { place < 4 }
+    ensures { result ≡ letter_number size pattern.now place }
+{
+    if place < vector_number(size) {
+        pattern[place] as usize
+    } else {
+        0
+    }
+}
+
+fn swizzle_key(size: VectorSize, pattern: &[SwizzleComponent; 4]) -> Key
+    ensures { (types : List ir_type.Type_) → key types result ≡ swizzle_key size pattern.now }
+{
+    Key::Word(level_of(
+        5,
+        vector_number(size),
+        letter_number(size, pattern, 0),
+        letter_number(size, pattern, 1),
+        letter_number(size, pattern, 2),
+        letter_number(size, pattern, 3),
+    ))
+}
+
+/// What tells the operator of an expression; leaves, results and what asks for an event have none.
+pub(crate) fn operator_key(
+    types: &UniqueArena<Type_>,
+    known: Known<'_>,
+    expression: &Expression,
+) -> Option<Key>
+    ensures { option_map (key types.now) result
+        ≡ operator_key types.now (known_types known.entry) expression.now }
+{
+    Some(match expression {
+        Expression::Compose { ty, .. } => constructor_key(types, *ty),
+        Expression::As {
+            expr,
+            kind,
+            convert,
+        } => conversion_key(types, *kind, *convert, known_inner(types, known, *expr)),
+        Expression::Splat { size, .. } => one_key(2, vector_number(*size)),
+        Expression::Access { .. } => one_key(3, 0),
+        Expression::AccessIndex { index, .. } => one_key(4, *index as usize),
+        Expression::Swizzle { size, pattern, .. } => swizzle_key(*size, pattern),
+        Expression::Unary { op, .. } => one_key(6, *op as usize),
+        Expression::Binary { op, .. } => one_key(7, *op as usize),
+        Expression::Select { .. } => one_key(8, 0),
+        Expression::Relational { fun, .. } => one_key(9, *fun as usize),
+        Expression::Math { fun, .. } => one_key(10, *fun as usize),
+        Expression::ArrayLength(_) => one_key(11, 0),
+        Expression::CooperativeMultiplyAdd { .. } => one_key(12, 0),
+        Expression::RayQueryGetIntersection { committed, .. } => {
+            one_key(13, truth_number(*committed))
+        }
+        Expression::RayQueryVertexPositions { committed, .. } => {
+            one_key(14, truth_number(*committed))
+        }
+        _ => return None,
+    })
+}
+
+/// Whether two operators are told by the same.
+pub(crate) fn is_same_key(types: &UniqueArena<Type_>, a: &Key, b: &Key) -> bool
+    ensures { result ≡ bytes_eq (key types.now a.now) (key types.now b.now) }
+{
+    match (a, b) {
+        (Key::Typed { bits: x, ty: s }, Key::Typed { bits: y, ty: t }) => {
+            x == y && are_alike(types, given_identity(types, s), given_identity(types, t))
+        }
+        (Key::Word(x), Key::Word(y)) => is_same_level(x, y),
+        _ => false,
+    }
+}
