@@ -3,27 +3,8 @@
 # shapes and sizes: nanoseconds of processor time in `Namer::reset`, `accepts`, `count` and `write_string`; where
 # valgrind is there, allocations; and for each level of nested operands bytes of the stack. Run it at the top of
 # the repository; it works on a copy, with the proofs that earlier checks kept (some GB).
-set -e
-top=$(pwd)
-copy=$(mktemp -d)
-trap 'rm -rf "$copy"' EXIT
-cp HANDLES "$copy"
-mkdir -p "$copy/crates"
-for crate in "$top"/crates/*; do
-    case $(basename "$crate") in
-        wgsl_rows | wgsl_trials | name_samples | type_samples | scope_samples) ;;
-        *) cp -a "$crate" "$copy/crates/" ;;
-    esac
-done
-grep -vE '^(wgsl_rows|wgsl_trials|name_samples|type_samples|scope_samples):' crates.txt > "$copy/crates.txt"
-echo 'writing_times: bitflags naga_wgsl_out sample_modules' >> "$copy/crates.txt"
-mkdir -p "$copy/crates/writing_times/src" "$copy/crates/writing_times/specs" "$copy/crates/writing_times/proofs"
-cd "$copy/crates/writing_times"
-for file in "$top"/bench/writing_times/*.rt.txt; do
-    cp "$file" "src/$(basename "$file" .txt)"
-done
-: > specs/Lib.antt
-: > proofs/Lib.antt
+set -- writing_times bench/writing_times/*.rt.txt
+. bench/on_a_whole_copy.sh
 program="$copy/crates/writing_times/out/writing_times"
 
 rt run > table 2> told || { cat told >&2; exit 1; }
