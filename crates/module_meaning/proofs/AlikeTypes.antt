@@ -30,9 +30,10 @@ is_plain (n ∷ w) = not (nat_eq n 32)
 abbrev pub begins_plain : Option (List ℕ) → Bool
 begins_plain o = option_map_or is_plain o true
 
-if_plain : (b : Bool) (x y : Option (List ℕ)) → begins_plain x ≡ true → begins_plain y ≡ true → begins_plain (if b then x else y) ≡ true
-if_plain true x y p q = p
-if_plain false x y p q = q
+-- what holds of both, holds of each
+pub if_either : {X : Type 0} (test : X → Bool) (b : Bool) (x y : X) → test x ≡ true → test y ≡ true → test (if b then x else y) ≡ true
+if_either test true x y p q = p
+if_either test false x y p q = q
 
 behind_plain : (tag first second : ℕ) (o : Option (List ℕ)) → not (nat_eq tag 32) ≡ true → begins_plain (option_map (λ it. level tag first second 0 0 0 ++ it) o) ≡ true
 behind_plain tag first second None p = refl
@@ -40,13 +41,13 @@ behind_plain tag first second (Some it) p = p
 
 image_plain : (dim : ImageDimension) (arrayed : Bool) (c : ImageClass) → begins_plain (image_form dim arrayed c) ≡ true
 image_plain dim arrayed (class.Sampled kind multi) =
-    if_plain (is_some (scalar_word (record { kind = kind; width = 4 })))
+    if_either begins_plain (is_some (scalar_word (record { kind = kind; width = 4 })))
     (Some (level 9 (dimension_number dim) (truth_number arrayed) 0 (kind_number kind) (truth_number multi))) None refl refl
 image_plain dim arrayed _ = refl
 
 module _ (f : ℕ → Option (List ℕ)) where
   scalar_plain : (tag : ℕ) (s : Scalar) (third fourth fifth : ℕ) → not (nat_eq tag 32) ≡ true → begins_plain (over_scalar tag s third fourth fifth) ≡ true
-  scalar_plain tag s third fourth fifth p = if_plain (is_some (scalar_word s)) (Some (level tag (kind_number s.kind) s.width third fourth fifth)) None p refl
+  scalar_plain tag s third fourth fifth p = if_either begins_plain (is_some (scalar_word s)) (Some (level tag (kind_number s.kind) s.width third fourth fifth)) None p refl
 
   inner_plain : (it : TypeInner) → begins_plain (inner_form_by f it) ≡ true
   inner_plain (inner.Scalar s) = scalar_plain _ s _ _ _ refl
@@ -55,7 +56,7 @@ module _ (f : ℕ → Option (List ℕ)) where
   inner_plain (inner.CooperativeMatrix columns rows s role) = scalar_plain _ s _ _ _ refl
   inner_plain (inner.Atomic s) = scalar_plain _ s _ _ _ refl
   inner_plain (inner.Pointer base space) = behind_plain _ _ _ (f base) refl
-  inner_plain (inner.ValuePointer n s space) = if_plain (is_none (space_word space)) None (pointer_form space (value_form n s)) refl (behind_plain _ _ _ (value_form n s) refl)
+  inner_plain (inner.ValuePointer n s space) = if_either begins_plain (is_none (space_word space)) None (pointer_form space (value_form n s)) refl (behind_plain _ _ _ (value_form n s) refl)
   inner_plain (inner.Array base n stride) = behind_plain _ _ _ (f base) refl
   inner_plain (inner.BindingArray base n) = behind_plain _ _ _ (f base) refl
   inner_plain (inner.Struct members span) = refl
@@ -66,7 +67,7 @@ module _ (f : ℕ → Option (List ℕ)) where
 
   found_plain : (h : ℕ) (o : Option Type_) → begins_plain (found_form_by f h o) ≡ true
   found_plain h None = refl
-  found_plain h (Some t) = if_plain (is_struct t.inner) (Some (level 8 h 0 0 0 0)) (inner_form_by f t.inner) refl (inner_plain t.inner)
+  found_plain h (Some t) = if_either begins_plain (is_struct t.inner) (Some (level 8 h 0 0 0 0)) (inner_form_by f t.inner) refl (inner_plain t.inner)
 
 handle_plain : (types : List Type_) (h : ℕ) → begins_plain (handle_form types h) ≡ true
 unfolding handle_form

@@ -55,8 +55,8 @@ constructor_asks a r n = by (a.spelled r)
     by None = refl
     by (Some w) = refl
 
-cast_among : (converts : Bool) (k : ScalarKind) (width : Option ℕ) (o : Option (List ℕ)) →
-    asks (option_map_or (cast_to converts) o (WithoutForm (Cast k width))) ≡ false
+cast_among : (bits : Bool) (k : ScalarKind) (width : Option ℕ) (o : Option (List ℕ)) →
+    asks (option_map_or (cast_to bits) o (WithoutForm (Cast k width))) ≡ false
 cast_among converts k width None = refl
 cast_among true k width (Some w) = refl
 cast_among false k width (Some w) = refl

@@ -33,7 +33,7 @@ use Rattle.module_meaning.specs.FitsSoFar.{local_fits, function_fits, fits_so_fa
 use Rattle.module_meaning.specs.Part.{is_scalar_type}
 use Rattle.module_meaning.specs.FitsSoFar.{functions_fit, statement_fits, block_fits}
 use Rattle.module_meaning.specs.Part.{declares_functions}
-use Rattle.module_meaning.specs.Ranges.{special_types_fit, signature_fits}
+use Rattle.module_meaning.specs.Ranges.{special_types_fit, signature_types_fit}
 use Rattle.module_meaning.specs.FitsSoFar.{operand_fits, application_fits}
 use Rattle.module_meaning.specs.Ranges.{names_fit}
 use Rattle.module_meaning.specs.FitsSoFar.{application_type, expected_type, is_within}
@@ -169,16 +169,16 @@ module _ (types : List Type_) where
 
   -- all that a function's fitting says
   pub function_fits_parts : (f : Function) (es : List ExpressionInfo) → function_fits types f es ≡ true
-      → (signature_fits (length types) f ≡ true) × (names_fit f ≡ true) × (expressions_fit types f f.expressions es ≡ true)
+      → (signature_types_fit (length types) f ≡ true) × (names_fit f ≡ true) × (expressions_fit types f f.expressions es ≡ true)
       × (list_all (local_fits types es) f.local_variables ≡ true) × (block_fits types es f.result f.body ≡ true)
   function_fits_parts f es fits =
-      let one = and_parts (signature_fits (length types) f) _ fits
+      let one = and_parts (signature_types_fit (length types) f) _ fits
       in let two = and_parts (names_fit f) _ one.1
       in let three = and_parts (expressions_fit types f f.expressions es) _ two.1
       in let four = and_parts (list_all (local_fits types es) f.local_variables) (block_fits types es f.result f.body) three.1
       in (one.0, two.0, three.0, four.0, four.1)
 
-  pub function_fits_signature : (f : Function) (es : List ExpressionInfo) → function_fits types f es ≡ true → signature_fits (length types) f ≡ true
+  pub function_fits_signature : (f : Function) (es : List ExpressionInfo) → function_fits types f es ≡ true → signature_types_fit (length types) f ≡ true
   function_fits_signature f es fits = (function_fits_parts f es fits).0
 
   pub function_fits_names : (f : Function) (es : List ExpressionInfo) → function_fits types f es ≡ true → names_fit f ≡ true

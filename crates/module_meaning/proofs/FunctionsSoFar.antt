@@ -36,7 +36,8 @@ use Rattle.module_meaning.specs.Spelled.{scalar_word, word_at, local_pointer, sp
 use Rattle.module_meaning.specs.Spelled.{spelling_at, pointee_word, pointee_of, pointee_at, is_alike}
 use Rattle.module_meaning.specs.Spelled.{literal_word}
 use Rattle.module_meaning.specs.Part.{is_scalar_type}
-use Rattle.module_meaning.specs.Ranges.{is_below, signature_fits, names_fit}
+use Rattle.module_meaning.specs.Numbers.{signature_fits_32_bits}
+use Rattle.module_meaning.specs.Ranges.{is_below, signature_fits, signature_types_fit, names_fit}
 use Rattle.module_meaning.specs.FitsSoFar.{operand_fits, expected_type, is_within}
 use Rattle.module_meaning.specs.FitsSoFar.{expression_fits, expressions_fit_from}
 use Rattle.module_meaning.specs.FitsSoFar.{value_fits, local_fits, return_fits}
@@ -62,6 +63,7 @@ use Rattle.module_meaning.proofs.FitsSoFar.{list_all_at, some_word, scalar_types
 use Rattle.module_meaning.proofs.SpelledSoFar.{IsSpelled, word_there, handle_spelled}
 use Rattle.module_meaning.proofs.SpelledSoFar.{scalar_spelled, pointer_spelled, spelled}
 use Rattle.module_meaning.proofs.SpelledSoFar.{spelled_alike}
+use Rattle.naga_names.proofs.Refusal.{element}
 
 -- ---- lists and words
 
@@ -105,12 +107,6 @@ fit_from types f es n (x ∷ xs) (k ∷ ks) size each =
     later h e k2 one two =
         let at : (n + 1) + h ≡ n + suc h = omega arith
         in ap (λ m. expression_fits types f es m e k2) at ∙ each (suc h) e k2 one two
-
--- there is an item at each place of a list
-pub item_within : {X : Type 0} (xs : List X) (h : ℕ) → h < length xs → (x : X) × (slice_get xs h ≡ Some x)
-item_within [] h within = absurd (omega (arith, within))
-item_within (x ∷ xs) zero within = (x, refl)
-item_within (x ∷ xs) (suc h) within = item_within xs h (omega (arith, within))
 
 -- ---- what expressions of a function have
 
@@ -240,7 +236,7 @@ module _ (types : List Type_) (scalars : list_all is_scalar_type types ≡ true)
       where
         one : (o : ℕ) → nat_lt o h ≡ true → nat_lt o h ≡ true → operand_fits types es h o ≡ true
         one o before also =
-            let k = item_within es o (omega (arith, ltb-true o h before, within))
+            let k = element es o (omega (arith, ltb-true o h before, within))
             in and_from (nat_lt o h) (is_some (spelling_at types es o)) before
             (ap (λ x. is_some (option_and_then (λ e. spelling_of types e.ty) x)) k.1 ∙ known_spelled o k.0 k.1)
 
@@ -275,6 +271,9 @@ module _ (m : Module) (scalars : list_all is_scalar_type m.types ≡ true) (call
       in let four = and_parts _ _ three.1
       in (one.0, two.0, three.0, four.0, four.1)
 
+  signature_types : signature_types_fit (length m.types) f ≡ true
+  signature_types = (and_parts (signature_types_fit (length m.types) f) (signature_fits_32_bits f) ranges_parts.0).0
+
   sound_parts : (have_their_types m (Some f) (types_of es) f.expressions ≡ true) × (locals_are_sound m.types (types_of es) f.local_variables ≡ true) × (body_is_sound m f (types_of es) ≡ true)
   sound_parts =
       let one = and_parts _ _ sound
@@ -291,7 +290,7 @@ module _ (m : Module) (scalars : list_all is_scalar_type m.types ≡ true) (call
       in (three.0, four.1)
 
   signature_parts : (list_all (λ a. nat_lt a.ty (length m.types)) f.arguments.items ≡ true) × (is_below (length m.types) (option_map (λ r. r.ty) f.result) ≡ true)
-  signature_parts = and_parts _ _ ranges_parts.0
+  signature_parts = and_parts _ _ signature_types
 
   -- the type of each expression is the one that is wanted
   wants : (h : ℕ) (e : Expression) (k : ExpressionInfo) → slice_get f.expressions h ≡ Some e → slice_get es h ≡ Some k → is_wanted m.types (wanted_type m (Some f) (types_of es) e) k.ty ≡ true
@@ -384,4 +383,4 @@ module _ (m : Module) (scalars : list_all is_scalar_type m.types ≡ true) (call
       in let locals = each_passes (local_in_range (length m.types) (length f.expressions)) (local_is_sound m.types (types_of es)) (local_fits m.types es)
       (local_fitting m.types scalars es known (length f.expressions)) f.local_variables ranges_parts.2 sound_parts.1
       in let block = block_fitting f.body expressions_written.1 ranges_parts.4 sound_parts.2
-      in and_from _ _ ranges_parts.0 (and_from _ _ ranges_parts.1 (and_from _ _ expressions (and_from _ _ locals block)))
+      in and_from _ _ signature_types (and_from _ _ ranges_parts.1 (and_from _ _ expressions (and_from _ _ locals block)))

@@ -7,11 +7,16 @@ pub mod ExpressionShapes
 pub mod FitsSoFar
 pub mod Fitting
 pub mod FunctionsSoFar
+pub mod ModuleShapeExamples
+pub mod ModuleShapes
+pub mod NumberExamples
 pub mod Operations
 pub mod OperatorsSoFar
 pub mod Part
 pub mod ShapeExamples
 pub mod ShapeKinds
 pub mod Shapes
+pub mod SideBySide
 pub mod SpelledSoFar
 pub mod TypeIdentity
+pub mod TypesSoFar

@@ -14,7 +14,7 @@ use Rattle.naga_ir.specs.declared.types.Type_.{Type_}
 use Rattle.naga_info.specs.declared.info.ExpressionInfo.{ExpressionInfo}
 use Rattle.naga_info.specs.declared.info.ModuleInfo.{ModuleInfo}
 use Rattle.module_meaning.specs.Applications.{Application, application_of}
-use Rattle.module_meaning.specs.Operations.{Operation, are_alike, application_operations, agrees}
+use Rattle.module_meaning.specs.Operations.{Operation, are_same_words, application_operations, agrees}
 use Rattle.module_meaning.specs.Operations.{all_agree, operation_of, expression_operations}
 use Rattle.module_meaning.specs.Operations.{function_operations, all_operations}
 use Rattle.module_meaning.specs.FitsSoFar.{fits_so_far}
@@ -22,16 +22,17 @@ use Rattle.module_meaning.proofs.FitsSoFar.{fits_operators_agree, list_all_at, I
 
 -- ---- operations that agree
 
-alike_itself : (ws : List (List ℕ)) → are_alike ws ws ≡ true
+-- words are alike to themselves
+pub alike_itself : (ws : List (List ℕ)) → are_same_words ws ws ≡ true
 alike_itself [] = refl
 alike_itself (w ∷ ws) = λ i. (bytes_eq-Decides w w).1 refl i && alike_itself ws i
 
 agrees_answer : (a b : Operation) → agrees a b ≡ true → a.operator ≡ b.operator →
     a.operands ≡ b.operands → a.answer ≡ b.answer
 agrees_answer a b agree o os =
-    let alike : (bytes_eq a.operator b.operator && are_alike a.operands b.operands) ≡ true =
+    let alike : (bytes_eq a.operator b.operator && are_same_words a.operands b.operands) ≡ true =
     λ i. (bytes_eq-Decides a.operator b.operator).1 o i &&
-    (ap (are_alike a.operands) (sym os) ∙ alike_itself a.operands) i
+    (ap (are_same_words a.operands) (sym os) ∙ alike_itself a.operands) i
     in (bytes_eq-Decides a.answer b.answer).0 (sym (ap (λ c. if c then bytes_eq a.answer b.answer else true) alike) ∙ agree)
 
 -- of operations any two of which agree, two with one word and operands of types alike have types

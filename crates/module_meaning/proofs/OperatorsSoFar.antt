@@ -32,7 +32,7 @@ use Rattle.module_meaning.specs.AgreeingOperators.{module_operators_agree}
 use Rattle.module_meaning.specs.AlikeTypes.{type_identity}
 use Rattle.module_meaning.specs.Applications.{accepted_word}
 use Rattle.module_meaning.specs.InfoSizes.{function_size_fits}
-use Rattle.module_meaning.specs.Operations.{Operation, are_alike, agrees, all_agree, spelling_then}
+use Rattle.module_meaning.specs.Operations.{Operation, are_same_words, agrees, all_agree, spelling_then}
 use Rattle.module_meaning.specs.Operations.{operation_of, expression_operations}
 use Rattle.module_meaning.specs.Operations.{function_operations, all_operations, operators_agree}
 use Rattle.module_meaning.specs.OperatorTable.{BinarySign}
@@ -41,7 +41,8 @@ use Rattle.module_meaning.specs.Ranges.{all_below, function_in_range, expression
 use Rattle.module_meaning.specs.Ranges.{names_in_range}
 use Rattle.module_meaning.specs.Spelled.{spelling_of, spelling_at}
 use Rattle.module_meaning.proofs.FitsSoFar.{list_all_at, some_word}
-use Rattle.module_meaning.proofs.FunctionsSoFar.{types_of, item_within, known_spelled, type_there}
+use Rattle.module_meaning.proofs.FunctionsSoFar.{types_of, known_spelled, type_there}
+use Rattle.naga_names.proofs.Refusal.{element}
 use Rattle.module_meaning.proofs.FunctionsSoFar.{placed_at, expressions_are_there, expressions_are_written}
 use Rattle.module_meaning.proofs.SpelledSoFar.{IsSpelled, spelled, spelled_alike, told_alike}
 
@@ -96,7 +97,7 @@ module _ (types : List Type_) where
   spelled_same : (v w s t : List ℕ) → IsTold v s → IsTold w t → s ≡ t → v ≡ w
   spelled_same v w s t one two is = spelled_alike types one.resolution two.resolution v w one.spelled_so two.spelled_so (sym one.told_so ∙ (is ∙ two.told_so))
 
-  operands_same : (vs ws ss ts : List (List ℕ)) → AreTold vs ss → AreTold ws ts → are_alike vs ws ≡ true → are_alike ss ts ≡ true
+  operands_same : (vs ws ss ts : List (List ℕ)) → AreTold vs ss → AreTold ws ts → are_same_words vs ws ≡ true → are_same_words ss ts ≡ true
   operands_same [] [] [] [] one two is = refl
   operands_same [] [] [] (t ∷ ts) one two is = absurd two
   operands_same [] [] (s ∷ ss) ts one two is = absurd one
@@ -105,23 +106,23 @@ module _ (types : List Type_) where
   operands_same (v ∷ vs) (w ∷ ws) [] ts one two is = absurd one
   operands_same (v ∷ vs) (w ∷ ws) (s ∷ ss) [] one two is = absurd two
   operands_same (v ∷ vs) (w ∷ ws) (s ∷ ss) (t ∷ ts) one two is =
-      let parts = and_parts (bytes_eq v w) (are_alike vs ws) is
-      in and_from (bytes_eq s t) (are_alike ss ts)
+      let parts = and_parts (bytes_eq v w) (are_same_words vs ws) is
+      in and_from (bytes_eq s t) (are_same_words ss ts)
       ((bytes_eq-Decides s t).1 (told_same v w s t one.0 two.0 ((bytes_eq-Decides v w).0 parts.0)))
       (operands_same vs ws ss ts one.1 two.1 parts.1)
 
   -- where the operations over what tells types agree, so do those over spellings
   agrees_so : (o p u v : Operation) → IsSame o u → IsSame p v → agrees u v ≡ true → agrees o p ≡ true
-  agrees_so o p u v one two agree = by (bytes_eq o.operator p.operator && are_alike o.operands p.operands) refl
+  agrees_so o p u v one two agree = by (bytes_eq o.operator p.operator && are_same_words o.operands p.operands) refl
     where
-      by : (b : Bool) → (bytes_eq o.operator p.operator && are_alike o.operands p.operands) ≡ b → (if b then bytes_eq o.answer p.answer else true) ≡ true
+      by : (b : Bool) → (bytes_eq o.operator p.operator && are_same_words o.operands p.operands) ≡ b → (if b then bytes_eq o.answer p.answer else true) ≡ true
       by false e = refl
       by true e =
-          let parts = and_parts (bytes_eq o.operator p.operator) (are_alike o.operands p.operands) e
+          let parts = and_parts (bytes_eq o.operator p.operator) (are_same_words o.operands p.operands) e
           in let word : o.operator ≡ p.operator = (bytes_eq-Decides o.operator p.operator).0 parts.0
           in let sign : one.sign ≡ two.sign = sym (named_so one.sign o.operator one.word_is) ∙ (ap sign_named word ∙ named_so two.sign p.operator two.word_is)
           in let key : u.operator ≡ v.operator = one.key_is ∙ (ap (λ op. one_key 7 (tag_of binary_operators op)) sign ∙ sym two.key_is)
-          in let alike = and_from (bytes_eq u.operator v.operator) (are_alike u.operands v.operands) ((bytes_eq-Decides u.operator v.operator).1 key)
+          in let alike = and_from (bytes_eq u.operator v.operator) (are_same_words u.operands v.operands) ((bytes_eq-Decides u.operator v.operator).1 key)
           (operands_same o.operands p.operands u.operands v.operands one.operands_are two.operands_are parts.1)
           in let answer : u.answer ≡ v.answer = (bytes_eq-Decides u.answer v.answer).0 (sym (ap (λ c. if c then bytes_eq u.answer v.answer else true) alike) ∙ agree)
           in (bytes_eq-Decides o.answer p.answer).1 (spelled_same o.answer p.answer u.answer v.answer one.answer_is two.answer_is answer)
@@ -153,7 +154,7 @@ module _ (types : List Type_) where
     -- the type of each expression is spelled, and told so
     told_at : (h : ℕ) → h < length es → (w : List ℕ) × (spelling_at types es h ≡ Some w) × IsTold w (identity_at types (types_of es) h)
     told_at h within =
-        let k = item_within es h within
+        let k = element es h within
         in let w = some_word (spelling_of types k.0.ty) (known_spelled types scalars es known h k.0 k.1)
         in (
           w.0,

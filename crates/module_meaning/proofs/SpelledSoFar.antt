@@ -51,22 +51,38 @@ pub record IsSpelled (types : List Type_) (r : TypeResolution) (w : List ℕ) : 
 
 -- ---- scalars
 
-by_width : (b2 b4 b8 : Bool) (i16 i32 i64 w : List ℕ) → (if b4 then Some i32 else (if b8 then Some i64 else None)) ≡ Some w
-    → is_some (if b2 then Some i16 else (if b4 then Some i32 else (if b8 then Some i64 else None))) ≡ true
-by_width true b4 b8 i16 i32 i64 w is = refl
-by_width false b4 b8 i16 i32 i64 w is = ap is_some is
+-- no scalar of two bytes is written so far
+not_two : (k : ScalarKind) (n : ℕ) (w : List ℕ) → word_of_width k n ≡ Some w → (n == 2) ≡ false
+not_two k n w is = by (n == 2) refl
+  where
+    none : (k : ScalarKind) → word_of_width k 2 ≡ None
+    none kind.Bool = refl
+    none kind.Sint = refl
+    none kind.Uint = refl
+    none _ = refl
+
+    by : (b : Bool) → (n == 2) ≡ b → (n == 2) ≡ false
+    by true at =
+        let two : n ≡ 2 = eqb-true n 2 at
+        in let no : Some w ≡ None = sym is ∙ (ap (word_of_width k) two ∙ none k)
+        in absurd cc
+    by false at = at
+
+-- the word of a scalar is WGSL's
+pub wgsl_word_is : (k : ScalarKind) (n : ℕ) (w : List ℕ) → word_of_width k n ≡ Some w →
+    wgsl_word_of k n ≡ Some w
+wgsl_word_is kind.Bool n w is = is
+wgsl_word_is kind.Sint n w is =
+    ap (λ b. if b then Some (codes "i16") else word_of_width kind.Sint n)
+    (not_two kind.Sint n w is) ∙ is
+wgsl_word_is kind.Uint n w is =
+    ap (λ b. if b then Some (codes "u16") else word_of_width kind.Uint n)
+    (not_two kind.Uint n w is) ∙ is
+wgsl_word_is _ n w is = absurd cc
 
 -- WGSL has a word for each scalar that is told apart so far
-has_word_of : (k : ScalarKind) (n : ℕ) (w : List ℕ) → word_of_width k n ≡ Some w → is_some (wgsl_word_of k n) ≡ true
-has_word_of kind.Bool n w is = ap is_some is
-has_word_of kind.Sint n w is = by_width (n == 2) (n == 4) (n == 8) (codes "i16") (codes "i32") (codes "i64") w is
-has_word_of kind.Uint n w is = by_width (n == 2) (n == 4) (n == 8) (codes "u16") (codes "u32") (codes "u64") w is
-has_word_of kind.Float n w is = absurd cc
-has_word_of kind.AbstractInt n w is = absurd cc
-has_word_of kind.AbstractFloat n w is = absurd cc
-
 has_word : (s : Scalar) (w : List ℕ) → scalar_word s ≡ Some w → is_some (wgsl_word s) ≡ true
-has_word s w is = has_word_of s.kind s.width w is
+has_word s w is = ap is_some (wgsl_word_is s.kind s.width w is)
 
 -- a type with a word is a scalar
 word_scalar : (it : TypeInner) (w : List ℕ) → word_of_type it ≡ Some w → (s : Scalar) × (it ≡ inner.Scalar s) × (scalar_word s ≡ Some w)
@@ -148,7 +164,7 @@ pointer_spelled types base w is =
 -- ---- types that are spelled, in a module of scalar types
 module _ (types : List Type_) (scalars : list_all is_scalar_type types ≡ true) where
   -- the type at a handle has a word, which is its spelling
-  word_of_handle : (h : ℕ) (w : List ℕ) → spelling_of types (Handle h) ≡ Some w → word_at types h ≡ Some w
+  pub word_of_handle : (h : ℕ) (w : List ℕ) → spelling_of types (Handle h) ≡ Some w → word_at types h ≡ Some w
   word_of_handle h w is =
       let one = then_some (spelling types) (option_map (λ t. t.inner) (slice_get types h)) w is
       in let two = map_some (λ t. t.inner) (slice_get types h) one.0 one.1

@@ -1,8 +1,8 @@
 -- Which modules are accepted, with what is known of them: all that a module names is there and
--- stands where it may be named (Ranges); expressions have their types and operands that they take,
--- statements and initialisers get what they want (Soundness); and operators that are spelled alike
--- have types alike where their operands have (AgreeingOperators). How often expressions are used is
--- not asked.
+-- stands where it may be named, and numbers are of their types (Ranges); expressions have their
+-- types and operands that they take, statements and initialisers get what they want (Soundness);
+-- and operators that are spelled alike have types alike where their operands have
+-- (AgreeingOperators). How often expressions are used is not asked.
 --
 -- Throughout, m is a module, and info is what is known of it.
 use Rattle.std.specs.Prelude.{Bool, ◌&&◌}

@@ -37,10 +37,10 @@ use Rattle.module_meaning.specs.Conversions.{conversion_target, keeps_bits}
 use Rattle.module_meaning.specs.TypeIdentity.{kind_number, level, truth_number, vector_number}
 use Rattle.module_meaning.specs.TypeParts.{known_inner}
 
--- What tells an operator, as numbers: those that WGSL spells alike are told by the same numbers. The
--- word of a constructor is its type, and so is that of a conversion, with whether this keeps bits;
--- all others have a kind and up to five numbers. What WGSL has no form for is an operator by itself,
--- told by its fields.
+-- What tells an operator, as numbers: those that WGSL spells alike over as many operands are told by
+-- the same numbers. The word of a constructor is its type, and so is that of a conversion, with
+-- whether this keeps bits; all others have a kind and up to five numbers. What WGSL has no form for
+-- is an operator by itself, told by its fields.
 abbrev pub typed_key : List Type_ → (bits : Bool) → TypeResolution → List ℕ
 typed_key types bits r = 0 ∷ truth_number bits ∷ type_identity types r
 

@@ -1,7 +1,9 @@
 -- Types are alike where WGSL spells them alike, each struct and each override standing for its
 -- handle. So arrays that differ in stride alone are alike, pointers to storage whose access has one
 -- word, and a pointer to a vector in memory and one to a vector of the module. A type without a form
--- is a type of its own, alike only to what is the same by itself.
+-- is a type of its own, alike only to what is the same by itself. That the numbers here tell types as
+-- their spellings do is a law about types without pointers into the space of handles, which no
+-- accepted module has.
 --
 -- What tells a type is a list of numbers. That of a type with a form has a level, six numbers, for
 -- the type itself and behind it those of the type that it is over, where it is over one.

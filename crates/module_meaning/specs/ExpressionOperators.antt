@@ -4,8 +4,8 @@
 --
 -- Throughout, a is what stands around an expression, h the handle of an operand, r what is known of
 -- the type of an expression, t a type of the module, and s a scalar.
-use Rattle.std.specs.Prelude.{ℕ, Bool, true, false, ◌||◌, List, length, slice_get, Option, Some}
-use Rattle.std.specs.Prelude.{None, if◌then◌else◌, unwrap_or}
+use Rattle.std.specs.Prelude.{ℕ, Bool, true, false, List, length, slice_get, Option, Some}
+use Rattle.std.specs.Prelude.{None, if◌then◌else◌}
 use Rattle.std.specs.Option.{option_map, option_map_or, option_and_then, is_some}
 use Rattle.naga_ir.specs.declared.expression.CooperativeData.{CooperativeData}
 use Rattle.naga_ir.specs.declared.expression.Expression.{Expression}
@@ -27,6 +27,7 @@ use Rattle.naga_ir.specs.declared.types.Type_.{Type_}
 use Rattle.naga_info.specs.Resolution.{inner_of}
 use Rattle.naga_info.specs.declared.info.TypeResolution.{TypeResolution}
 use Rattle.naga_info.specs.declared.info.TypeResolution.TheVariants.{Handle, Value}
+use Rattle.module_meaning.specs.Conversions.{conversion_target, keeps_bits}
 use Rattle.module_meaning.specs.OperatorTable.{Operator, BinarySign, UnarySign, Choice}
 use Rattle.module_meaning.specs.OperatorTable.{Mathematical, Relation, Derivative, ArrayLength}
 use Rattle.module_meaning.specs.OperatorTable.{Sample, Gather, Texel, ImageSize, CountOf}
@@ -64,34 +65,17 @@ constructor a r components =
     (WithoutForm (ValueOf (a.numbers r) components))
 
 -- ---- other scalar types
--- a scalar of this kind, of the width wanted, or else as wide as it was
-abbrev pub cast_scalar : ScalarKind → (convert : Option ℕ) → Scalar → Scalar
-cast_scalar kind convert s = record { kind = kind; width = unwrap_or convert s.width }
+-- a conversion to the type spelled so, or the bits as a value of that
+abbrev pub cast_to : (bits : Bool) → (spelling : List ℕ) → Operator
+cast_to false spelling = Convert spelling
+cast_to true spelling = Reinterpret spelling
 
--- the type of the same shape over such scalars; what is no scalar, vector or matrix has none
-abbrev pub cast_type : ScalarKind → (convert : Option ℕ) → TypeInner → Option TypeInner
-cast_type kind convert (inner.Scalar s) = Some (inner.Scalar (cast_scalar kind convert s))
-cast_type kind convert (inner.Vector size s) =
-    Some (inner.Vector size (cast_scalar kind convert s))
-cast_type kind convert (inner.Matrix columns rows s) =
-    Some (inner.Matrix columns rows (cast_scalar kind convert s))
-cast_type kind convert _ = None
-
-abbrev pub is_matrix : TypeInner → Bool
-is_matrix (inner.Matrix columns rows s) = true
-is_matrix _ = false
-
--- a conversion to the type spelled so, or its bits as a value of that
-abbrev pub cast_to : (converts : Bool) → (spelling : List ℕ) → Operator
-cast_to true spelling = Convert spelling
-cast_to false spelling = Reinterpret spelling
-
--- What takes a value of a type to other scalars. Matrices are converted in any case. Where the type
--- or the new one has no form, it is an operator by itself.
+-- What takes a value of a type to other scalars. Where the type or the new one has no form, it is
+-- an operator by itself.
 abbrev pub cast : Surroundings → ScalarKind → (convert : Option ℕ) → Option TypeInner → Operator
 cast a kind convert operand =
-    let new = option_and_then (cast_type kind convert) operand in
-    option_map_or (cast_to (is_some convert || option_map_or is_matrix operand false))
+    let new = option_and_then (λ it. conversion_target it kind convert) operand in
+    option_map_or (cast_to (option_map_or (λ it. keeps_bits it convert) operand false))
     (option_and_then (λ it. a.spelled (Value it)) new) (WithoutForm (Cast kind convert))
 
 -- ---- parts

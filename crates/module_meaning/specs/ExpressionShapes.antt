@@ -92,7 +92,8 @@ tree_within (suc levels) d es h =
 abbrev pub constant_tree : Declared → List ir.Expression → ℕ → Option ConstantTree
 constant_tree d es h = tree_within (suc h) d es h
 
--- a constant; one without a tree, which stands in no accepted module, is `false`
+-- a constant; one without a tree, for which no text is written (it applies an operator that is no
+-- composition), is `false`
 abbrev pub constant_shape : Option ConstantTree → Expression
 constant_shape t = Constant (unwrap_or t (Fixed (Truth false)))
 

@@ -12,7 +12,7 @@ use Rattle.shader_runs.specs.Premises.{IsTyped, SettingsFit}
 use Rattle.shader_runs.specs.Constants.{run_module, follow_module}
 use Rattle.shader_runs.specs.Correct.{KeepsTypes}
 use Rattle.module_meaning.specs.Names.{module_names, function_name}
-use Rattle.module_meaning.specs.Shapes.{program_shape}
+use Rattle.module_meaning.specs.ModuleShapes.{module_shape}
 use Rattle.text_meaning.specs.Abstraction.{program_read}
 use Rattle.wgsl_text.specs.Requests.{is_request}
 use Rattle.text_meaning.specs.Interface.{interface_read}
@@ -29,7 +29,7 @@ HasInterfaceOf m program = interface_read program ≡ module_interface (module_n
 abbrev pub OfEachRun : Module → ModuleInfo → Program →
     ((module_run text_run : ReachedOrHalted (Option Value)) → Type 0) → Type 0
 OfEachRun m info program Holds =
-    let shape = program_shape m info in
+    let shape = module_shape m info in
     let text = program_read program in
     (settings : Settings) → SettingsFit shape settings →
     (meaning : Meaning) → IsTyped shape meaning →

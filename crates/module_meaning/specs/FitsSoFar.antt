@@ -25,7 +25,7 @@ use Rattle.naga_info.specs.declared.info.ModuleInfo.{ModuleInfo}
 use Rattle.module_meaning.specs.Applications.{Application, application_of, accepted_word}
 use Rattle.module_meaning.specs.Operations.{operators_agree}
 use Rattle.module_meaning.specs.Part.{declares_functions, is_scalar_type}
-use Rattle.module_meaning.specs.Ranges.{names_fit, signature_fits, special_types_fit}
+use Rattle.module_meaning.specs.Ranges.{names_fit, signature_types_fit, special_types_fit}
 use Rattle.module_meaning.specs.Spelled.{word_at, local_pointer}
 use Rattle.module_meaning.specs.Spelled.{spelling_at, spelling_of, pointee_at, is_alike}
 use Rattle.module_meaning.specs.Literals.{literal_is_within}
@@ -122,7 +122,8 @@ block_fits types es answer (statement s b) =
 -- a function and what is known of its expressions
 abbrev pub function_fits : List Type_ → Function → List ExpressionInfo → Bool
 function_fits types f es =
-    signature_fits (length types) f && (names_fit f && (expressions_fit types f f.expressions es &&
+    signature_types_fit (length types) f &&
+    (names_fit f && (expressions_fit types f f.expressions es &&
     (list_all (local_fits types es) f.local_variables && block_fits types es f.result f.body)))
 
 -- each function and what is known of it

@@ -15,7 +15,9 @@ pub mod Initialisers
 pub mod Interface
 pub mod Literals
 pub mod Meanings
+pub mod ModuleShapes
 pub mod Names
+pub mod Numbers
 pub mod OperandDemands
 pub mod Operations
 pub mod OperatorTable

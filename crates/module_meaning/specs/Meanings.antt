@@ -9,23 +9,23 @@ use Rattle.shader_runs.specs.Correct.{AlwaysKeepsTypes, KeepsTypes}
 use Rattle.shader_runs.specs.Progress.{IsNotStuck}
 use Rattle.shader_runs.specs.Typing.{IsConsistent}
 use Rattle.module_meaning.specs.Faithful.{OfEachRun}
-use Rattle.module_meaning.specs.Shapes.{program_shape}
+use Rattle.module_meaning.specs.ModuleShapes.{module_shape}
 
 -- What is spelled alike over operands of types alike has results of types alike, in all functions
 -- of the module.
 abbrev pub OperatorsAreConsistent : Module → ModuleInfo → Type 0
-OperatorsAreConsistent m info = IsConsistent (program_shape m info)
+OperatorsAreConsistent m info = IsConsistent (module_shape m info)
 
 -- Some meaning gives each operator a value of its handle's type at operands of theirs.
 abbrev pub HasTypedMeaning : Module → ModuleInfo → Type 0
-HasTypedMeaning m info = (meaning : Meaning) × IsTyped (program_shape m info) meaning
+HasTypedMeaning m info = (meaning : Meaning) × IsTyped (module_shape m info) meaning
 
 -- Under each typed meaning, and all values of overrides and variables of their types, one world
 -- answers by the right types in every run: of each function, from all arguments of its types, with
 -- every bound on loop turns.
 abbrev pub HasTypedWorld : Module → ModuleInfo → Type 0
 HasTypedWorld m info =
-    let shape = program_shape m info in
+    let shape = module_shape m info in
     (settings : Settings) → SettingsFit shape settings →
     (meaning : Meaning) → IsTyped shape meaning →
     (world : World) × AlwaysKeepsTypes shape settings meaning world

@@ -7,7 +7,7 @@ use Rattle.naga_ir.specs.declared.module.Function as ir_function
 use Rattle.naga_ir.specs.declared.module.Module.{Module}
 use Rattle.naga_names.specs.Naming.{Names, new_names, labels_with_base}
 use Rattle.naga_names.specs.Keys.{NameMap, same_key}
-use Rattle.naga_names.specs.Reset.{labelled_items, labels_of, named_items}
+use Rattle.naga_names.specs.Reset.{keys_fit, labelled_items, labels_of, named_items}
 use Rattle.naga_names.specs.declared.key.NameKey.{NameKey}
 use Rattle.naga_names.specs.declared.key.NameKey.TheVariants as key
 use Rattle.wgsl_text.specs.Keywords.{reserved_words, builtin_words}
@@ -57,6 +57,11 @@ abbrev pub NamesAreCounted : Module → Type 0
 NamesAreCounted m =
     (base : List ℕ) →
     labels_with_base wgsl_names (labels_of (labelled_items wgsl_names m)) base ≤ 2 ^ 32
+
+-- names are counted, and the key of each item, down to a struct's member, can tell its number
+pub record ItemsAreCounted (m : Module) : Type 0 where
+  pub names : NamesAreCounted m
+  pub keys : keys_fit (labelled_items wgsl_names m) ≡ true
 
 -- The map has the name of each function, of each argument, whose numbers are no greater than the
 -- greatest `u32`, and of each local.

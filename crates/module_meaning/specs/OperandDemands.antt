@@ -22,7 +22,7 @@ use Rattle.module_meaning.specs.TypeIdentity.{vector_number}
 use Rattle.module_meaning.specs.TypeParts.{inner_at, known_inner, own_scalar, pointee_type}
 use Rattle.module_meaning.specs.TypeParts.{has_computed_parts, is_part_number}
 
--- Is the scalar an integer: `i16`, `u16`, `i32`, `u32`, `i64` or `u64`?
+-- Is it the width of an integer in bytes, as of `i16`, `u32` or `i64`?
 abbrev pub is_integer_width : ℕ → Bool
 is_integer_width width = width == 2 || (width == 4 || width == 8)
 

@@ -1,8 +1,8 @@
--- Operators that are spelled alike, over operands of
--- types alike, have types alike, across a whole module.
+-- Operators that are told alike, over operands of types alike, have types alike, across a whole
+-- module. Operators and types are told by words: lists of numbers, or spellings.
 --
--- Throughout, a and b are two operations, o is one (os are several), v and w are spellings (vs and
--- ws are several), f is a function (fs are several), xs are its expressions, es what is known of
+-- Throughout, a and b are two operations, o is one (os are several), v and w are words (vs and ws
+-- are several), f is a function (fs are several), xs are its expressions, es what is known of
 -- them, e is an expression, h a handle (hs are several), and p an index with its expression.
 use Rattle.std.specs.Prelude.{ℕ, Bool, true, false, ◌&&◌, List, [], ◌∷◌, ◌++◌}
 use Rattle.std.specs.Prelude.{Option, Some, None, if◌then◌else◌}
@@ -15,23 +15,22 @@ use Rattle.naga_info.specs.declared.info.ExpressionInfo.{ExpressionInfo}
 use Rattle.module_meaning.specs.Applications.{Application, application_of, accepted_word}
 use Rattle.module_meaning.specs.Spelled.{spelling_at}
 
--- an operator where it is used: its word, and the
--- spellings of the types of its operands and of its result
+-- an operator where it is used: what tells it, the types of its operands and that of its result
 pub record Operation : Type 0 where
   pub operator : List ℕ
   pub operands : List (List ℕ)
   pub answer : List ℕ
 
--- types in order are spelled alike
-abbrev pub are_alike : List (List ℕ) → List (List ℕ) → Bool
-are_alike [] [] = true
-are_alike (v ∷ vs) (w ∷ ws) = bytes_eq v w && are_alike vs ws
-are_alike _ _ = false
+-- words that are the same, in order
+abbrev pub are_same_words : List (List ℕ) → List (List ℕ) → Bool
+are_same_words [] [] = true
+are_same_words (v ∷ vs) (w ∷ ws) = bytes_eq v w && are_same_words vs ws
+are_same_words _ _ = false
 
 -- where both are one operator over operands of types alike, their types are alike
 abbrev pub agrees : Operation → Operation → Bool
 agrees a b =
-    if bytes_eq a.operator b.operator && are_alike a.operands b.operands
+    if bytes_eq a.operator b.operator && are_same_words a.operands b.operands
     then bytes_eq a.answer b.answer else true
 
 -- any two agree

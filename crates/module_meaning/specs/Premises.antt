@@ -8,7 +8,8 @@ use Rattle.shader_runs.specs.Program as shapes
 use Rattle.shader_runs.specs.Scope.{fits_function}
 use Rattle.shader_runs.specs.ScopeRules.{ScopeHolds}
 use Rattle.module_meaning.specs.Names.{module_names}
-use Rattle.module_meaning.specs.Shapes.{program_shape, namings}
+use Rattle.module_meaning.specs.ModuleShapes.{module_shape}
+use Rattle.module_meaning.specs.Shapes.{namings}
 
 -- no function has expressions that a front end named
 abbrev pub nothing_named : Module → Bool
@@ -21,7 +22,7 @@ EachScopeHolds (f ∷ fs) = ScopeHolds f × EachScopeHolds fs
 
 -- each handle is in scope where it is used, and each `Emit` is allowed
 abbrev pub ScopesHold : Module → ModuleInfo → Type 0
-ScopesHold m info = EachScopeHolds (program_shape m info).functions
+ScopesHold m info = EachScopeHolds (module_shape m info).functions
 
 -- the check of these rules
 abbrev pub scope_holds : Module → ModuleInfo → Bool

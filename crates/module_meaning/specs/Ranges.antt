@@ -2,7 +2,7 @@
 -- handles, `Emit` ranges and argument numbers lie in their arenas and lists; an expression's
 -- operands and a type's parts stand before it, and a callee before its caller; a global expression
 -- names no argument and no local, and stands behind the initialiser of each constant and override
--- that it names; and a literal's value is one of its type.
+-- that it names; and each number is one of its type: a literal's value, and those of Numbers.
 --
 -- Throughout, m is a module, t is a type, h a handle, here the handle of what is looked at, e an
 -- expression, l a local, f a function, p an entry point, s a statement, b the rest of a block, k an
@@ -50,6 +50,10 @@ use Rattle.naga_info.specs.declared.info.TypeResolution.TheVariants.{Handle, Val
 use Rattle.naga_words.specs.Spelling.{length_within}
 use Rattle.module_meaning.specs.InfoSizes.{all_known, resolution_is_fit, sizes_fit, type_is_fit}
 use Rattle.module_meaning.specs.Literals.{literal_is_within}
+use Rattle.module_meaning.specs.Numbers.{fits_16_bits, fits_32_bits, label_fits_32_bits}
+use Rattle.module_meaning.specs.Numbers.{pattern_is_whole, resource_fits_32_bits}
+use Rattle.module_meaning.specs.Numbers.{signature_fits_32_bits, type_fits_32_bits}
+use Rattle.module_meaning.specs.Numbers.{workgroup_fits_32_bits}
 
 -- ---- lists
 
@@ -92,16 +96,20 @@ parts_before types (inner.BindingArray base size) = nat_lt base types
 abbrev pub parts_stand_before : List Type_ → Bool
 parts_stand_before types = all_placed (λ here t. parts_before here t.inner) types
 
--- a type's parts are among the first so many types, and the override of its length is one of so many
-abbrev pub type_in_range : (overrides types : ℕ) → TypeInner → Bool
-type_in_range overrides types t = parts_before types t && length_within overrides t
+-- the override of a type's length is one of so many, and the type's numbers have 32 bits
+abbrev pub numbers_in_range : (overrides : ℕ) → TypeInner → Bool
+numbers_in_range overrides t = length_within overrides t && type_fits_32_bits t
 
--- each type's parts stand before it, and the overrides of lengths are there
+-- a type's parts are among the first so many types, and its numbers are in range
+abbrev pub type_in_range : (overrides types : ℕ) → TypeInner → Bool
+type_in_range overrides types t = parts_before types t && numbers_in_range overrides t
+
+-- each type's parts stand before it, and its numbers are in range
 abbrev pub types_in_range : (overrides : ℕ) → List Type_ → Bool
 types_in_range overrides types =
-    parts_stand_before types && list_all (λ t. length_within overrides t.inner) types
+    parts_stand_before types && list_all (λ t. numbers_in_range overrides t.inner) types
 
--- a known type names types and an override that there are
+-- a known type names types and an override that there are, and its numbers have 32 bits
 abbrev pub resolution_in_range : (overrides types : ℕ) → TypeResolution → Bool
 resolution_in_range overrides types (Handle handle) = nat_lt handle types
 resolution_in_range overrides types (Value t) = type_in_range overrides types t
@@ -116,18 +124,24 @@ resolution_fits overrides types k =
 abbrev pub constant_in_range : (types expressions : ℕ) → Constant → Bool
 constant_in_range types expressions k = nat_lt k.ty types && nat_lt k.init expressions
 
+-- the number of an override, if it has one, has 16 bits
 abbrev pub override_in_range : (types expressions : ℕ) → Override → Bool
-override_in_range types expressions k = nat_lt k.ty types && is_below expressions k.init
+override_in_range types expressions k =
+    nat_lt k.ty types && (is_below expressions k.init && option_map_or fits_16_bits k.id true)
 
+-- the numbers of what a variable is bound to, if it is, have 32 bits
 abbrev pub global_in_range : (types expressions : ℕ) → GlobalVariable → Bool
-global_in_range types expressions k = nat_lt k.ty types && is_below expressions k.init
+global_in_range types expressions k =
+    nat_lt k.ty types &&
+    (is_below expressions k.init && option_map_or resource_fits_32_bits k.binding true)
 
 abbrev pub local_in_range : (types expressions : ℕ) → LocalVariable → Bool
 local_in_range types expressions l = nat_lt l.ty types && is_below expressions l.init
 
 -- ---- expressions
 
--- what an expression names beside its operands is there, and a literal has a value of its type
+-- what an expression names beside its operands is there; a literal has a value of its type, an
+-- index that is known has 32 bits, and a pattern four letters
 abbrev pub names_in_range : Module → (callees arguments locals : ℕ) → Expression → Bool
 names_in_range m callees arguments locals (expression.Literal value) = literal_is_within value
 names_in_range m callees arguments locals (expression.Constant h) = nat_lt h (length m.constants)
@@ -136,9 +150,10 @@ names_in_range m callees arguments locals (expression.ZeroValue ty) = nat_lt ty 
 names_in_range m callees arguments locals (expression.Compose ty components) =
     nat_lt ty (length m.types)
 names_in_range m callees arguments locals (expression.Access base index) = true
-names_in_range m callees arguments locals (expression.AccessIndex base index) = true
+names_in_range m callees arguments locals (expression.AccessIndex base index) = fits_32_bits index
 names_in_range m callees arguments locals (expression.Splat size value) = true
-names_in_range m callees arguments locals (expression.Swizzle size vector pattern) = true
+names_in_range m callees arguments locals (expression.Swizzle size vector pattern) =
+    pattern_is_whole pattern
 names_in_range m callees arguments locals (expression.FunctionArgument number) =
     nat_lt number arguments
 names_in_range m callees arguments locals (expression.GlobalVariable h) =
@@ -261,7 +276,7 @@ simple_in_range callees expressions (cooperative_store target place) =
     nat_lt target expressions && cooperative_in_range expressions place
 simple_in_range callees expressions (ray_pipeline_function fun) = ray_in_range expressions fun
 
--- so do those of the statements in its blocks
+-- so do those of the statements in its blocks, and a switch's labels have 32 bits
 abbrev mutual
   pub statement_in_range : (callees expressions : ℕ) → StatementTree → Bool
   statement_in_range callees expressions (simple s) = simple_in_range callees expressions s
@@ -283,15 +298,20 @@ abbrev mutual
   pub cases_in_range : (callees expressions : ℕ) → CaseTrees → Bool
   cases_in_range callees expressions no_cases = true
   cases_in_range callees expressions (case value body falls cases) =
-      block_in_range callees expressions body && cases_in_range callees expressions cases
+      label_fits_32_bits value &&
+      (block_in_range callees expressions body && cases_in_range callees expressions cases)
 
 -- ---- functions and entry points
 
 -- the types of the arguments and of the result lie in the types
-abbrev pub signature_fits : ℕ → Function → Bool
-signature_fits count f =
+abbrev pub signature_types_fit : ℕ → Function → Bool
+signature_types_fit count f =
     list_all (λ a. nat_lt a.ty count) f.arguments.items &&
     is_below count (option_map (λ r. r.ty) f.result)
+
+-- they do, and the numbers of what arguments and result are bound to have 32 bits
+abbrev pub signature_fits : ℕ → Function → Bool
+signature_fits count f = signature_types_fit count f && signature_fits_32_bits f
 
 -- front ends' names are given to expressions of the function
 abbrev pub names_fit : Function → Bool
@@ -311,13 +331,15 @@ function_in_range m callees f =
     (list_all (local_in_range (length m.types) (length f.expressions)) f.local_variables &&
     (expressions_in_range m callees f && block_in_range callees (length f.expressions) f.body)))
 
--- an entry point may call each function; the variables that it names beside lie in the globals
+-- an entry point may call each function; the variables that it names beside lie in the globals, and
+-- its workgroup's sizes have 32 bits
 abbrev pub entry_point_in_range : Module → EntryPoint → Bool
 entry_point_in_range m p =
     is_below (length m.global_variables) (option_map (λ k. k.output_variable) p.mesh_info) &&
     (is_below (length m.global_variables) p.task_payload &&
     (is_below (length m.global_variables) p.incoming_ray_payload &&
-    function_in_range m (length m.functions) p.function))
+    (workgroup_fits_32_bits p.workgroup_size &&
+    function_in_range m (length m.functions) p.function)))
 
 -- ---- modules
 

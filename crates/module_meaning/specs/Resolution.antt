@@ -6,7 +6,8 @@ use Rattle.naga_info.specs.declared.info.ModuleInfo.{ModuleInfo}
 use Rattle.shader_runs.specs.Resolution.{text_targets, module_targets}
 use Rattle.wgsl_text.specs.Declarations.{Program}
 use Rattle.module_meaning.specs.Names.{module_names}
-use Rattle.module_meaning.specs.Shapes.{program_shape, namings}
+use Rattle.module_meaning.specs.ModuleShapes.{module_shape}
+use Rattle.module_meaning.specs.Shapes.{namings}
 use Rattle.text_meaning.specs.Abstraction.{program_read}
 
 -- Each identifier of each function, in their order, stands for the function, argument, local or
@@ -14,4 +15,4 @@ use Rattle.text_meaning.specs.Abstraction.{program_read}
 abbrev pub ResolvesAs : Module → ModuleInfo → Program → Type 0
 ResolvesAs m info program =
     text_targets (program_read program)
-    ≡ map (map Some) (module_targets (program_shape m info) (namings (module_names m) m info))
+    ≡ map (map Some) (module_targets (module_shape m info) (namings (module_names m) m info))

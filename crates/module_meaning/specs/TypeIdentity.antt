@@ -1,5 +1,5 @@
--- What tells types apart that no text spells so far: a struct is told by its handle, any other type
--- by what it is.
+-- What tells types apart that have no spelling: a struct is told by its handle, any other type by
+-- what it is.
 use Rattle.std.specs.Prelude.{ℕ, Bool, true, false, List, [], ◌∷◌, Option, Some, None}
 use Rattle.std.specs.Prelude.{if◌then◌else◌, slice_get}
 use Rattle.std.specs.Option.{option_map}

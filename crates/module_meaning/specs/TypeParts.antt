@@ -1,6 +1,7 @@
--- What types are made of: a vector of scalars, a matrix of columns, an array of elements, a struct
--- of members. A pointer to one of these gives pointers to its parts, in its space. A part is named
--- by an index, which is computed (None) or known (Some); members of a struct by a known one alone.
+-- What types are made of: a vector of scalars, a matrix of columns, an array or a binding array of
+-- elements, a struct of members. A pointer to one of these gives pointers to its parts, in its
+-- space. A part is named by an index, which is computed (None) or known (Some); members of a struct
+-- by a known one alone.
 --
 -- Throughout, types are a module's types, known are the types of the expressions of one function,
 -- of an entry point or of the module itself, by handle, it is a type by itself, t a type of the

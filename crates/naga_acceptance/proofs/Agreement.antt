@@ -11,9 +11,9 @@ use Rattle.std.specs.Str.{bytes_eq}
 use Rattle.std.proofs.lemmas.Bool.{and_parts}
 use Rattle.std.proofs.lemmas.List.Folds.{list_all-append}
 use Rattle.std.proofs.lemmas.Slice.Eq.{bytes_eq-Decides}
-use Rattle.module_meaning.specs.Operations.{Operation, are_alike, agrees, all_agree}
+use Rattle.module_meaning.specs.Operations.{Operation, are_same_words, agrees, all_agree}
 use Rattle.module_meaning.proofs.FitsSoFar.{list_all_at}
-use Rattle.module_meaning.proofs.Operations.{all_agree_at}
+use Rattle.module_meaning.proofs.Operations.{all_agree_at, alike_itself}
 use Rattle.naga_acceptance.specs.Uses.{is_same_operator, first_answer}
 
 -- ---- tests
@@ -32,25 +32,20 @@ and_false false = refl
 
 -- ---- one operator over operands of types alike
 
--- words that are alike, in order, are the same
-pub equal_lists : (vs ws : List (List ℕ)) → are_alike vs ws ≡ true → vs ≡ ws
+-- words that are tested the same are
+pub equal_lists : (vs ws : List (List ℕ)) → are_same_words vs ws ≡ true → vs ≡ ws
 equal_lists [] [] e = refl
 equal_lists [] (w ∷ ws) e = absurd cc
 equal_lists (v ∷ vs) [] e = absurd cc
 equal_lists (v ∷ vs) (w ∷ ws) e =
-    let parts = and_parts (bytes_eq v w) (are_alike vs ws) e
+    let parts = and_parts (bytes_eq v w) (are_same_words vs ws) e
     in λ i. (bytes_eq-Decides v w).0 parts.0 i ∷ equal_lists vs ws parts.1 i
-
--- words are alike to themselves
-alike_self : (ws : List (List ℕ)) → are_alike ws ws ≡ true
-alike_self [] = refl
-alike_self (w ∷ ws) = λ i. (bytes_eq-Decides w w).1 refl i && alike_self ws i
 
 -- uses of one operator have the same operator and operands
 pub same_parts : (v w : Operation) → is_same_operator v w ≡ true →
     (v.operator ≡ w.operator) × (v.operands ≡ w.operands)
 same_parts v w e =
-    let parts = and_parts (bytes_eq v.operator w.operator) (are_alike v.operands w.operands) e
+    let parts = and_parts (bytes_eq v.operator w.operator) (are_same_words v.operands w.operands) e
     in ((bytes_eq-Decides v.operator w.operator).0 parts.0, equal_lists v.operands w.operands parts.1)
 
 -- and those that have the same are uses of one operator
@@ -58,7 +53,7 @@ pub same_from : (v w : Operation) → v.operator ≡ w.operator → v.operands �
     is_same_operator v w ≡ true
 same_from v w o os =
     λ i. (bytes_eq-Decides v.operator w.operator).1 o i &&
-    (ap (are_alike v.operands) (sym os) ∙ alike_self v.operands) i
+    (ap (are_same_words v.operands) (sym os) ∙ alike_itself v.operands) i
 
 -- ---- two uses that agree
 

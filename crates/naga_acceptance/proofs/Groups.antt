@@ -5,9 +5,10 @@
 -- h gives a list for an item, e is an expression, types are a module's types, g is a group (gs are
 -- several), f is a function (fs are several), infos what is known of them, p an entry point, m a module
 -- and info what is known of it.
+use Rattle.module_meaning.proofs.SideBySide.{in_groups}
 use Rattle.std.proofs.Common.{◌≡◌, ℕ, zero, suc, ◌+◌, ◌-◌, ◌<◌, ◌≤◌, min, List, [], ◌∷◌, ◌++◌, map}
 use Rattle.std.proofs.Common.{length, refl, ap, sym, ◌∙◌, arith, Some, None, slice_get}
-use Rattle.std.proofs.Common.{append_assoc, append-nil}
+use Rattle.std.proofs.Common.{append_assoc, append-nil, length-append}
 use Rattle.std.specs.List.{flat_map, enumerate_from}
 use Rattle.std.specs.Option.{option_and_then, option_map, option_map_or, option_to_list}
 use Rattle.std.proofs.lemmas.List.{length-map}
@@ -148,20 +149,6 @@ function_groups_count (f ∷ fs) [] = omega arith
 function_groups_count (f ∷ fs) (info ∷ infos) =
     omega (arith, function_groups_count fs infos)
 
--- the group of a function
-pub function_groups_at : (fs : List Function) (infos : List (List ExpressionInfo)) (k : ℕ)
-    (f : Function) (info : List ExpressionInfo) → slice_get fs k ≡ Some f →
-    slice_get infos k ≡ Some info →
-    slice_get (function_groups fs infos) k ≡ Some (function_group f info)
-function_groups_at [] infos k f info there known = absurd cc
-function_groups_at (f1 ∷ fs) [] k f info there known = absurd cc
-function_groups_at (f1 ∷ fs) (info1 ∷ infos) zero f info there known =
-    let one : f1 ≡ f = cc
-    in let two : info1 ≡ info = cc
-    in λ i. Some (function_group (one i) (two i))
-function_groups_at (f1 ∷ fs) (info1 ∷ infos) (suc k) f info there known =
-    function_groups_at fs infos k f info there known
-
 -- ---- the groups of a module
 
 module _ (m : Module) (info : ModuleInfo) where
@@ -200,7 +187,7 @@ module _ (m : Module) (info : ModuleInfo) where
         slice_get_within info.entry_points.items k known there,
       )
       in in_front entry_groups (own_group ∷ []) k within
-      ∙ function_groups_at entry_functions info.entry_points.items k p.function known
+      ∙ in_groups entry_functions info.entry_points.items k p.function known
       (slice_get-map (λ p. p.function) m.entry_points.items k ∙ ap (option_map (λ p. p.function)) here)
       there
 
@@ -233,7 +220,7 @@ module _ (m : Module) (info : ModuleInfo) where
         slice_get_within info.functions.items k known there,
       )
       in in_front (function_groups m.functions info.functions.items) (further_groups_of m info) k within
-      ∙ function_groups_at m.functions info.functions.items k f known here there
+      ∙ in_groups m.functions info.functions.items k f known here there
 
   -- what stands behind the functions
   pub past_functions : (k functions : ℕ) →
@@ -245,3 +232,18 @@ module _ (m : Module) (info : ModuleInfo) where
       in behind (function_groups m.functions info.functions.items) (further_groups_of m info) k
       (omega (arith, past, count))
       ∙ ap (λ n. slice_get (further_groups_of m info) (k - n)) (sym count)
+
+-- ---- how many groups there are
+
+-- at most one for each function and entry point, and the module's own
+pub groups_within : (m : Module) (info : ModuleInfo) → length (groups_of m info) ≤ length m.functions + length m.entry_points.items + 1
+groups_within m info =
+    omega (
+      arith,
+      length-append (function_groups m.functions info.functions.items) (further_groups_of m info),
+      length-append (function_groups (map (λ p. p.function) m.entry_points.items) info.entry_points.items)
+          (record { expressions = m.global_expressions; known = info.const_expression_types.items } ∷ []),
+      function_groups_count m.functions info.functions.items,
+      function_groups_count (map (λ p. p.function) m.entry_points.items) info.entry_points.items,
+      length-map m.entry_points.items (λ p. p.function),
+    )

@@ -1,6 +1,8 @@
 pub mod Agreement
 pub mod Counting
 pub mod EarlierUses
+pub mod Finding
+pub mod FirstFaults
 pub mod Groups
 pub mod Identities
 pub mod Mixing
@@ -9,4 +11,5 @@ pub mod Passing
 pub mod Recounted
 pub mod Remembering
 pub mod Views
+pub mod Walking
 pub mod Writing

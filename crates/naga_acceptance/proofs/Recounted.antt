@@ -20,6 +20,7 @@ use Rattle.module_meaning.specs.Soundness.{function_is_sound, module_is_sound}
 use Rattle.module_meaning.specs.Soundness.{typed_function_is_sound}
 use Rattle.naga_acceptance.specs.Counts.{all_with_counts, functions_of, operand_places, use_count}
 use Rattle.naga_acceptance.specs.Counts.{with_counts, with_counts_from}
+use Rattle.naga_acceptance.proofs.Counting.{length-all_with_counts}
 
 -- the counts don't change the types, nor how many there are
 same_types : (c : ℕ → ℕ) (n : ℕ) (es : List ExpressionInfo) → map (λ e. e.ty) (with_counts_from c n es) ≡ map (λ e. e.ty) es
@@ -29,11 +30,6 @@ same_types c n (e ∷ es) = ap (λ tys. e.ty ∷ tys) (same_types c (n + 1) es)
 same_length : (c : ℕ → ℕ) (n : ℕ) (es : List ExpressionInfo) → length (with_counts_from c n es) ≡ length es
 same_length c n [] = refl
 same_length c n (e ∷ es) = ap suc (same_length c (n + 1) es)
-
-all_same_length : (fs : List Function) (ess : List (List ExpressionInfo)) → length (all_with_counts fs ess) ≡ length ess
-all_same_length [] ess = refl
-all_same_length (f ∷ fs) [] = refl
-all_same_length (f ∷ fs) (es ∷ ess) = ap suc (all_same_length fs ess)
 
 -- ---- tests of what is known
 same_known : (test : TypeResolution → Bool) (c : ℕ → ℕ) (n : ℕ) (es : List ExpressionInfo) → list_all (λ k. test k.ty) (with_counts_from c n es) ≡ list_all (λ k. test k.ty) es
@@ -54,7 +50,7 @@ module _ {X : Type 0} (test : X → List ExpressionInfo → Bool) (same : (x : X
   same_zipped (x ∷ xs) (f ∷ fs) (es ∷ ess) = λ i. same x f es i && same_zipped xs fs ess i
 
   same_paired : (xs : List X) (fs : List Function) (ess : List (List ExpressionInfo)) → all_paired test xs (all_with_counts fs ess) ≡ all_paired test xs ess
-  same_paired xs fs ess = λ i. (length xs == all_same_length fs ess i) && same_zipped xs fs ess i
+  same_paired xs fs ess = λ i. (length xs == length-all_with_counts fs ess i) && same_zipped xs fs ess i
 
 -- ---- operators
 same_groups : (fs gs : List Function) (ess : List (List ExpressionInfo)) → function_groups fs (all_with_counts gs ess) ≡ function_groups fs ess

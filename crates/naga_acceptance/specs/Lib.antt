@@ -1,5 +1,9 @@
 pub mod Counts
+pub mod Faults
+pub mod FirstFaults
 pub mod KnownTypes
 pub mod OperatorKeys
+pub mod Searching
+pub mod TextOrder
 pub mod Uses
 pub mod Views

@@ -17,7 +17,7 @@ use Rattle.naga_acceptance.specs.declared.agreeing.Expressions.{Expressions}
 use Rattle.naga_acceptance.specs.declared.agreeing.Site.{Site}
 use Rattle.naga_acceptance.specs.declared.uses.Use.{Use}
 use Rattle.module_meaning.specs.AgreeingOperators.{Group, expression_use, identity_at, uses_of}
-use Rattle.module_meaning.specs.Operations.{Operation, are_alike}
+use Rattle.module_meaning.specs.Operations.{Operation, are_same_words}
 
 -- expressions that stand together
 abbrev pub group_of : Expressions → Group
@@ -60,7 +60,7 @@ earlier_uses types gs number g index = group_uses types gs number ++ first_uses 
 
 -- both are uses of one operator, over operands of types alike
 abbrev pub is_same_operator : Operation → Operation → Bool
-is_same_operator v w = bytes_eq v.operator w.operator && are_alike v.operands w.operands
+is_same_operator v w = bytes_eq v.operator w.operator && are_same_words v.operands w.operands
 
 -- whether the first use of the same operator has the same type, if there is one
 abbrev pub first_answer : List Operation → Operation → Option Bool

@@ -1,22 +1,57 @@
-//! Which modules are accepted.
+//! Which modules are accepted, and where one is not.
 
 ghost use Rattle.std.specs.Prelude.{◌≡◌};
+ghost use Rattle.std.specs.Option.{IfSome, is_none};
+ghost use Rattle.naga_acceptance.specs.Faults.{Fails};
 ghost use Rattle.module_meaning.specs.Accepted.{is_accepted};
 
-use crate::agreeing::operators_agree;
-use crate::ranges::ranges_fit;
-use crate::soundness::module_is_sound;
+use crate::agreeing::operators_fault;
+use crate::faults::Unaccepted;
+use crate::ranges::ranges_fault;
+use crate::soundness::sound_fault;
 use naga_info::ModuleInfo;
 use naga_ir::Module;
+
+/// The first place at which the module is not accepted, with what is known of it, and the kind of
+/// fault there; none if it is accepted ([`accepts`]).
+///
+/// It is the first in the order in which the clauses are asked:
+///
+/// - Whether as much is known as there is, and types have forms that they may have.
+/// - Whether all that is named is there: by types, special types, constants, overrides, variables,
+///   the module's own expressions, functions and entry points; in a function by the whole, its
+///   locals, its expressions and its statements.
+/// - Whether the types that are known may be there.
+/// - Whether all gets what it wants: the module's own expressions, the initialisers, the functions
+///   and the entry points; in a function its expressions, its locals and its statements.
+/// - Whether operators agree.
+///
+/// It takes no memory, and answers whatever numbers a module holds, in the time that `accepts`
+/// takes.
+pub fn unaccepted(module: &Module, info: &ModuleInfo) -> Option<Unaccepted>
+    ensures accepted { is_none result ≡ is_accepted «module».now info.now }
+    ensures fault { IfSome result (Fails «module».now info.now) }
+{
+    let named = ranges_fault(module, info);
+    if named.is_some() {
+        return named;
+    }
+    let wanted = sound_fault(module, info);
+    if wanted.is_some() {
+        return wanted;
+    }
+    operators_fault(module, info)
+}
 
 /// Whether the module is accepted, with what is known of it:
 ///
 /// - All that they name is there and stands where it may be named, and one thing is known of each
-///   function, entry point and expression ([`ranges_fit`]).
+///   function, entry point and expression ([`ranges_fit`](crate::ranges::ranges_fit)).
 /// - Each expression has its type and operands that it takes, initialisers have the types of their
-///   items, and statements get what they want ([`module_is_sound`]).
+///   items, and statements get what they want
+///   ([`module_is_sound`](crate::soundness::module_is_sound)).
 /// - Operators that are spelled alike, over operands of types alike, have types alike, across the
-///   module ([`operators_agree`]).
+///   module ([`operators_agree`](crate::agreeing::operators_agree)).
 ///
 /// Types are alike where WGSL spells them alike, each struct and each override standing for its
 /// handle; a type without a form is alike only to itself. The counts are not looked at.
@@ -24,9 +59,8 @@ use naga_ir::Module;
 /// It takes no memory and answers whatever numbers a module holds. Time grows with the module; a
 /// switch takes the square of its cases, and an operator that shares its slot of a table with
 /// another is looked for from the start.
-#[tactic(auto, unfolding(module_meaning::specs::Accepted::is_accepted))]
 pub fn accepts(module: &Module, info: &ModuleInfo) -> bool
     ensures { result ≡ is_accepted «module».now info.now }
 {
-    ranges_fit(module, info) && module_is_sound(module, info) && operators_agree(module, info)
+    unaccepted(module, info).is_none()
 }

@@ -5,9 +5,11 @@
 //! use alone; one that finds another is compared with the first use of its operator, which is
 //! looked for from the start.
 
-ghost use Rattle.std.specs.Prelude.{◌≡◌, ◌<◌, ◌≤◌, ◌^◌, suc, slice_get, true, Some, []};
+ghost use Rattle.std.specs.Prelude.{◌≡◌, ◌+◌, ◌<◌, ◌≤◌, ◌^◌, suc, length, slice_get, true, Some};
+ghost use Rattle.std.specs.Prelude.{[]};
 ghost use Rattle.std.specs.List.{list_all};
-ghost use Rattle.std.specs.Option.{IfSome, option_map, option_map_or, option_to_list};
+ghost use Rattle.std.specs.Option.{IfSome, is_none, option_map, option_map_or, option_to_list};
+ghost use Rattle.naga_acceptance.specs.Faults.{Disagrees, Fails, site_of};
 ghost use Rattle.naga_acceptance.specs.Uses.{Remembers, earlier_uses, first_answer, first_uses};
 ghost use Rattle.naga_acceptance.specs.Uses.{group_of, group_uses, operation, slot_of, use_at};
 ghost use Rattle.naga_acceptance.specs.Uses.{use_in};
@@ -16,6 +18,7 @@ ghost use Rattle.module_meaning.specs.AgreeingOperators.{groups_of, module_opera
 ghost use Rattle.module_meaning.specs.AgreeingOperators.{uses_of};
 ghost use Rattle.module_meaning.specs.Operations.{agrees, all_agree};
 
+use crate::faults::{Fault, Item, Part, Unaccepted, at};
 use crate::parts::Known;
 use crate::uses::{SLOTS, Use, expression_use, has_same_answer, is_same_operator, slot_of};
 use naga_info::{FunctionInfo, ModuleInfo};
@@ -274,33 +277,70 @@ fn use_agrees(
     true
 }
 
-/// Whether the uses of a group, which has this number, agree with each other and with all that stand
-/// in the groups before it.
-fn group_agrees(
+/// The first use of a group, which has this number, that does not agree with all that stand before
+/// it, in the group or in the groups before it.
+fn first_disagreeing(
     module: &Module,
     info: &ModuleInfo,
     table: &mut [Option<Site>],
     number: u128,
     group: Expressions<'_>,
-) -> bool
+) -> Option<usize>
     requires group { slice_get (groups_of «module».now info.now) number ≡ Some (group_of group) }
     requires agree { all_agree (group_uses «module».now.types
         (groups_of «module».now info.now) number) ≡ true }
     requires table { Remembers «module».now.types (groups_of «module».now info.now)
         (group_uses «module».now.types (groups_of «module».now info.now) number) table.now }
-    ensures agree { result ≡ all_agree (group_uses «module».now.types
+    ensures agree { is_none result ≡ all_agree (group_uses «module».now.types
         (groups_of «module».now info.now) (suc number)) }
-    ensures table { result ≡ true →
+    ensures table { is_none result ≡ true →
         Remembers «module».now.types (groups_of «module».now info.now)
         (group_uses «module».now.types (groups_of «module».now info.now) (suc number))
         table.new }
+    ensures fault { IfSome result (λ index. Disagrees «module».now info.now number index) }
 {
     for index in 0..group.arena.len() {
         if !use_agrees(module, info, table, number, group, index) {
-            return false;
+            return Some(index);
         }
     }
-    true
+    None
+}
+
+/// Where an expression stands that is in the group of this number, with this number there.
+fn use_item(module: &Module, number: u128, index: usize) -> Item
+    requires { number ≤ length «module».now.functions + length «module».now.entry_points.items }
+    ensures { site_of «module».now result ≡ Some (number, index) }
+{
+    let functions = module.functions.len() as u128;
+    let expression = Place::from_index(index);
+    if number < functions {
+        let handle = Place::from_index(number as usize);
+        return Item::Function(handle, Part::Expression(expression));
+    }
+    let further = number - functions;
+    if further < module.entry_points.len() as u128 {
+        return Item::EntryPoint(further as usize, Part::Expression(expression));
+    }
+    Item::GlobalExpression(expression)
+}
+
+/// The first use of an operator that does not agree with all that stand before it
+/// ([`operators_agree`]).
+pub(crate) fn operators_fault(module: &Module, info: &ModuleInfo) -> Option<Unaccepted>
+    ensures agree { is_none result ≡ module_operators_agree «module».now info.now }
+    ensures fault { IfSome result (Fails «module».now info.now) }
+{
+    let mut table: [Option<Site>; SLOTS] = [None; SLOTS];
+    let mut number = 0;
+    while let Some(group) = group_at(module, info, number) {
+        let disagreeing = first_disagreeing(module, info, &mut table, number, group);
+        if let Some(index) = disagreeing {
+            return Some(at(use_item(module, number, index), Fault::Disagreement));
+        }
+        number += 1;
+    }
+    None
 }
 
 /// Whether any two operators in the module that are spelled alike, over operands of types alike,
@@ -314,13 +354,5 @@ fn group_agrees(
 pub fn operators_agree(module: &Module, info: &ModuleInfo) -> bool
     ensures { result ≡ module_operators_agree «module».now info.now }
 {
-    let mut table: [Option<Site>; SLOTS] = [None; SLOTS];
-    let mut number = 0;
-    while let Some(group) = group_at(module, info, number) {
-        if !group_agrees(module, info, &mut table, number, group) {
-            return false;
-        }
-        number += 1;
-    }
-    true
+    operators_fault(module, info).is_none()
 }

@@ -5,7 +5,8 @@ ghost use Rattle.std.specs.Prelude.{◌≡◌, ◌≤◌, ◌&&◌, ◌++◌, �
 ghost use Rattle.std.specs.Prelude.{None};
 ghost use Rattle.std.specs.Option.{IfSome, is_some, option_and_then, option_map};
 ghost use Rattle.std.specs.Str.{bytes_eq};
-ghost use Rattle.module_meaning.specs.AlikeTypes.{form_within, handle_form, has_form, image_form};
+ghost use Rattle.module_meaning.specs.AlikeTypes.{are_alike as types_alike, form_within};
+ghost use Rattle.module_meaning.specs.AlikeTypes.{handle_form, has_form, image_form};
 ghost use Rattle.module_meaning.specs.AlikeTypes.{access_number, inner_form_by, over_scalar};
 ghost use Rattle.module_meaning.specs.AlikeTypes.{type_form, type_identity, value_form};
 ghost use Rattle.module_meaning.specs.AlikeTypes.{value_pointer_form};
@@ -632,4 +633,47 @@ pub(crate) fn are_alike(types: &UniqueArena<Type_>, a: Identity, b: Identity) ->
         (Identity::Formless(x), Identity::Formless(y)) => is_same_formless(x, y),
         _ => false,
     }
+}
+
+/// Whether both are one handle. Most types of a module are told by handles, which need no numbers.
+fn is_one_handle(a: &TypeResolution, b: &TypeResolution) -> bool
+    ensures { result ≡ true → a.now ≡ b.now }
+{
+    match (a, b) {
+        (TypeResolution::Handle(x), TypeResolution::Handle(y)) => x == y,
+        _ => false,
+    }
+}
+
+/// Whether two known types are alike.
+pub(crate) fn are_known_alike(
+    types: &UniqueArena<Type_>,
+    a: &TypeResolution,
+    b: &TypeResolution,
+) -> bool
+    ensures { result ≡ types_alike types.now a.now b.now }
+{
+    is_one_handle(a, b) || are_alike(types, identity_of(types, a), identity_of(types, b))
+}
+
+/// Whether a known type is the given one by its handle.
+fn is_given_handle(own: &TypeResolution, wanted: &GivenType) -> bool
+    ensures { result ≡ true → own.now ≡ given wanted.now }
+{
+    match (own, wanted) {
+        (TypeResolution::Handle(x), GivenType::Handle(y)) => x == y,
+        _ => false,
+    }
+}
+
+/// Whether a known type is like a given one.
+pub(crate) fn is_like(types: &UniqueArena<Type_>, own: &TypeResolution, wanted: &GivenType) -> bool
+    ensures { result ≡ types_alike types.now own.now (given wanted.now) }
+{
+    is_given_handle(own, wanted)
+        || are_alike(
+            types,
+            identity_of(types, own),
+            given_identity(types, wanted),
+        )
 }

@@ -1,10 +1,9 @@
 //! What expressions ask of their operands' types.
 
 ghost use Rattle.std.specs.Prelude.{◌≡◌, ◌&&◌};
-ghost use Rattle.std.specs.List.{list_all};
 ghost use Rattle.std.specs.Option.{is_some, option_map_or};
 ghost use Rattle.naga_acceptance.specs.KnownTypes.{known_types};
-ghost use Rattle.module_meaning.specs.OperandDemands.{are_operands_fit, is_components, is_integer};
+ghost use Rattle.module_meaning.specs.OperandDemands.{is_components, is_integer};
 ghost use Rattle.module_meaning.specs.OperandDemands.{is_pointer, is_swizzled, letters_fit};
 ghost use Rattle.module_meaning.specs.OperandDemands.{operand_is, operands_fit};
 ghost use Rattle.module_meaning.specs.OperandDemands.{points_to_components};
@@ -15,7 +14,7 @@ use crate::parts::{
     vector_number,
 };
 use naga_ir::{
-    Arena, Expression, Handle, Scalar, ScalarKind, SwizzleComponent, Type_, TypeInner, UniqueArena,
+    Expression, Handle, Scalar, ScalarKind, SwizzleComponent, Type_, TypeInner, UniqueArena,
     VectorSize,
 };
 
@@ -144,20 +143,4 @@ pub fn operands_fit(types: &UniqueArena<Type_>, known: Known<'_>, expression: &E
         }
         _ => true,
     }
-}
-
-/// Whether all of these expressions get what they ask of their operands.
-pub fn are_operands_fit(
-    types: &UniqueArena<Type_>,
-    known: Known<'_>,
-    expressions: &Arena<Expression>,
-) -> bool
-    ensures { result ≡ are_operands_fit types.now (known_types known.entry) expressions.now }
-{
-    for (_, expression) in expressions.iter() {
-        if !operands_fit(types, known, expression) {
-            return false;
-        }
-    }
-    true
 }

@@ -5,15 +5,14 @@ ghost use Rattle.std.specs.Option.{option_and_then, option_copied, option_map};
 ghost use Rattle.naga_acceptance.specs.KnownTypes.{given, known_types, wanted};
 ghost use Rattle.module_meaning.specs.ExpressionTypes.{argument_type, binary_type, constant_type};
 ghost use Rattle.module_meaning.specs.ExpressionTypes.{global_type, has_its_type};
-ghost use Rattle.module_meaning.specs.ExpressionTypes.{have_their_types, if_any, is_bool};
-ghost use Rattle.module_meaning.specs.ExpressionTypes.{is_wanted};
+ghost use Rattle.module_meaning.specs.ExpressionTypes.{if_any, is_bool, is_wanted};
 ghost use Rattle.module_meaning.specs.ExpressionTypes.{literal_scalar, local_type, logical_type};
 ghost use Rattle.module_meaning.specs.ExpressionTypes.{only, override_type, result_type};
 ghost use Rattle.module_meaning.specs.ExpressionTypes.{splat_type, swizzle_type, variable_type};
 ghost use Rattle.module_meaning.specs.ExpressionTypes.{wanted_type};
 ghost use Rattle.module_meaning.specs.TypeParts.{known_inner, known_pointee, part_type};
 
-use crate::alike::{are_alike, given_identity, identity_of};
+use crate::alike::is_like;
 use crate::parts::{
     GivenType, Known, known_inner, known_type, own_scalar, part_type, pointee_type, vector_scalar,
 };
@@ -309,9 +308,7 @@ fn is_wanted(types: &UniqueArena<Type_>, demand: Wanted, own: &TypeResolution) -
     ensures { result ≡ is_wanted types.now (wanted demand) own.now }
 {
     match demand {
-        Wanted::LikeThis(ty) => {
-            are_alike(types, identity_of(types, own), given_identity(types, &ty))
-        }
+        Wanted::LikeThis(ty) => is_like(types, own, &ty),
         Wanted::Anything => true,
         Wanted::Nothing => false,
     }
@@ -338,23 +335,4 @@ pub(crate) fn has_its_type(
         }
         None => false,
     }
-}
-
-/// Whether all expressions that stand together have types that they may have ([`wanted_type`]): the
-/// types of each are known, and like what it stands for. It takes no memory.
-pub fn have_their_types(
-    module: &Module,
-    function: Option<&Function>,
-    known: Known<'_>,
-    expressions: &Arena<Expression>,
-) -> bool
-    ensures { result ≡ have_their_types «module».now (option_copied function.entry)
-        (known_types known.entry) expressions.now }
-{
-    for (handle, expression) in expressions.iter() {
-        if !has_its_type(module, function, known, handle, expression) {
-            return false;
-        }
-    }
-    true
 }

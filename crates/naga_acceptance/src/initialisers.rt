@@ -1,13 +1,16 @@
 //! Whether initialisers have their items' types.
 
 ghost use Rattle.std.specs.Prelude.{◌≡◌};
-ghost use Rattle.std.specs.List.{list_all};
+ghost use Rattle.std.specs.List.{enumerate_from};
+ghost use Rattle.naga_acceptance.specs.FirstFaults.{initialisers_fault};
 ghost use Rattle.naga_acceptance.specs.KnownTypes.{known_types};
+ghost use Rattle.naga_acceptance.specs.Searching.{first_unfit};
 ghost use Rattle.module_meaning.specs.Initialisers.{constant_is_sound, global_is_sound};
-ghost use Rattle.module_meaning.specs.Initialisers.{initialiser_fits, initialisers_fit};
-ghost use Rattle.module_meaning.specs.Initialisers.{local_is_sound, locals_are_sound};
+ghost use Rattle.module_meaning.specs.Initialisers.{initialiser_fits};
+ghost use Rattle.module_meaning.specs.Initialisers.{local_is_sound};
 ghost use Rattle.module_meaning.specs.Initialisers.{override_is_sound};
 
+use crate::faults::{Fault, Item, Unaccepted, at};
 use crate::parts::{GivenType, Known};
 use crate::statements::value_has_type;
 use naga_ir::{
@@ -41,21 +44,21 @@ pub(crate) fn local_is_sound(
     initialiser_fits(types, known, local.ty, local.init)
 }
 
-/// Whether the first values of a function's variables have their types, `known` being the types of
-/// the function's expressions.
-pub fn locals_are_sound(
+/// The first local whose initialiser has another type.
+pub(crate) fn first_unsound_local(
     types: &UniqueArena<Type_>,
     known: Known<'_>,
     locals: &Arena<LocalVariable>,
-) -> bool
-    ensures { result ≡ locals_are_sound types.now (known_types known.entry) locals.now }
+) -> Option<Handle<LocalVariable>>
+    ensures { result ≡ first_unfit (λ _. local_is_sound types.now (known_types known.entry))
+        (enumerate_from 0 locals.now) }
 {
-    for (_, local) in locals.iter() {
+    for (handle, local) in locals.iter() {
         if !local_is_sound(types, known, local) {
-            return false;
+            return Some(handle);
         }
     }
-    true
+    None
 }
 
 pub(crate) fn constant_is_sound(
@@ -88,60 +91,71 @@ pub(crate) fn global_is_sound(
     initialiser_fits(types, known, global.ty, global.init)
 }
 
-fn constants_are_sound(
+/// The first constant whose initialiser has another type.
+fn first_unsound_constant(
     types: &UniqueArena<Type_>,
     known: Known<'_>,
     constants: &Arena<Constant>,
-) -> bool
-    ensures { result
-        ≡ list_all (constant_is_sound types.now (known_types known.entry)) constants.now }
+) -> Option<Handle<Constant>>
+    ensures { result ≡ first_unfit (λ _. constant_is_sound types.now (known_types known.entry))
+        (enumerate_from 0 constants.now) }
 {
-    for (_, constant) in constants.iter() {
+    for (handle, constant) in constants.iter() {
         if !constant_is_sound(types, known, constant) {
-            return false;
+            return Some(handle);
         }
     }
-    true
+    None
 }
 
-fn overrides_are_sound(
+/// The first override whose initialiser has another type.
+fn first_unsound_override(
     types: &UniqueArena<Type_>,
     known: Known<'_>,
     overrides: &Arena<Override>,
-) -> bool
-    ensures { result
-        ≡ list_all (override_is_sound types.now (known_types known.entry)) overrides.now }
+) -> Option<Handle<Override>>
+    ensures { result ≡ first_unfit (λ _. override_is_sound types.now (known_types known.entry))
+        (enumerate_from 0 overrides.now) }
 {
-    for (_, item) in overrides.iter() {
+    for (handle, item) in overrides.iter() {
         if !override_is_sound(types, known, item) {
-            return false;
+            return Some(handle);
         }
     }
-    true
+    None
 }
 
-fn globals_are_sound(
+/// The first global whose initialiser has another type.
+fn first_unsound_global(
     types: &UniqueArena<Type_>,
     known: Known<'_>,
     globals: &Arena<GlobalVariable>,
-) -> bool
-    ensures { result ≡ list_all (global_is_sound types.now (known_types known.entry)) globals.now }
+) -> Option<Handle<GlobalVariable>>
+    ensures { result ≡ first_unfit (λ _. global_is_sound types.now (known_types known.entry))
+        (enumerate_from 0 globals.now) }
 {
-    for (_, global) in globals.iter() {
+    for (handle, global) in globals.iter() {
         if !global_is_sound(types, known, global) {
-            return false;
+            return Some(handle);
         }
     }
-    true
+    None
 }
 
-/// Whether the initialisers of a module's constants, overrides and variables have their types,
+/// The first of a module's constants, overrides and variables whose initialiser has another type,
 /// `known` being the types of the module's expressions.
-pub fn initialisers_fit(module: &Module, known: Known<'_>) -> bool
-    ensures { result ≡ initialisers_fit «module».now (known_types known.entry) }
+pub(crate) fn initialisers_fault(module: &Module, known: Known<'_>) -> Option<Unaccepted>
+    ensures { result ≡ initialisers_fault «module».now (known_types known.entry) }
 {
     let types = &module.types;
-    constants_are_sound(types, known, &module.constants)
-        && overrides_are_sound(types, known, &module.overrides)
-        && globals_are_sound(types, known, &module.global_variables)
+    if let Some(handle) = first_unsound_constant(types, known, &module.constants) {
+        return Some(at(Item::Constant(handle), Fault::InitialiserType));
+    }
+    if let Some(handle) = first_unsound_override(types, known, &module.overrides) {
+        return Some(at(Item::Override(handle), Fault::InitialiserType));
+    }
+    match first_unsound_global(types, known, &module.global_variables) {
+        Some(handle) => Some(at(Item::GlobalVariable(handle), Fault::InitialiserType)),
+        None => None,
+    }
 }

@@ -1,30 +1,45 @@
 //! Whether all that a module and what is known of it name is there, and stands where it may be
-//! named.
+//! named, and numbers are of their types.
 
 ghost use Rattle.std.specs.Prelude.{◌≡◌, length, nat_lt};
-ghost use Rattle.std.specs.List.{list_all};
+ghost use Rattle.std.specs.List.{enumerate_from, list_all};
 ghost use Rattle.indexmap.specs.IndexMap.{values};
-ghost use Rattle.module_meaning.specs.InfoSizes.{all_known};
-ghost use Rattle.module_meaning.specs.Ranges.{all_placed, constant_in_range, declarations_in_range};
-ghost use Rattle.module_meaning.specs.Ranges.{entry_point_in_range, function_in_range};
-ghost use Rattle.module_meaning.specs.Ranges.{global_in_range, is_below, local_in_range};
-ghost use Rattle.module_meaning.specs.Ranges.{module_in_range, module_ranges_fit, names_fit};
+ghost use Rattle.naga_acceptance.specs.Faults.{entry_names_fit};
+ghost use Rattle.naga_acceptance.specs.FirstFaults.{declarations_range_fault};
+ghost use Rattle.naga_acceptance.specs.FirstFaults.{entry_point_range_fault};
+ghost use Rattle.naga_acceptance.specs.FirstFaults.{entry_points_range_fault, first_known_fault};
+ghost use Rattle.naga_acceptance.specs.FirstFaults.{first_unknown, function_range_fault};
+ghost use Rattle.naga_acceptance.specs.FirstFaults.{functions_range_fault, info_fault};
+ghost use Rattle.naga_acceptance.specs.FirstFaults.{items_range_fault, module_range_fault};
+ghost use Rattle.naga_acceptance.specs.FirstFaults.{ranges_fault};
+ghost use Rattle.naga_acceptance.specs.Searching.{first_unfit};
+ghost use Rattle.module_meaning.specs.Ranges.{constant_in_range, global_in_range, is_below};
+ghost use Rattle.module_meaning.specs.Ranges.{local_in_range, module_ranges_fit, names_fit};
 ghost use Rattle.module_meaning.specs.Ranges.{override_in_range, resolution_fits, signature_fits};
-ghost use Rattle.module_meaning.specs.Ranges.{special_types_fit};
+ghost use Rattle.module_meaning.specs.Ranges.{signature_types_fit, special_types_fit};
 
 pub(crate) mod expressions;
+pub(crate) mod numbers;
 pub(crate) mod sizes;
 pub(crate) mod statements;
 pub(crate) mod types;
 
-use crate::ranges::expressions::{expressions_in_range, global_expressions_in_range};
-use crate::ranges::sizes::{resolution_is_fit, sizes_fit, types_are_fit};
-use crate::ranges::statements::block_in_range;
-use crate::ranges::types::{resolution_in_range, types_in_range};
+use crate::faults::{
+    Fault, Item, Part, Unaccepted, at, at_entry_point, at_expression, at_function,
+};
+use crate::ranges::expressions::{
+    first_expression_out_of_range, first_global_expression_out_of_range,
+};
+use crate::ranges::numbers::{
+    id_fits_16_bits, resource_fits_32_bits, signature_fits_32_bits, workgroup_fits_32_bits,
+};
+use crate::ranges::sizes::{first_handle_pointer, resolution_is_fit, sizes_fault};
+use crate::ranges::statements::first_out_of_range;
+use crate::ranges::types::{resolution_in_range, types_range_fault};
 use naga_info::{ExpressionInfo, FunctionInfo, ModuleInfo, TypeResolution};
 use naga_ir::{
-    Arena, Constant, EntryPoint, Function, FunctionArgument, GlobalVariable, LocalVariable, Module,
-    Override, Place, SpecialTypes,
+    Arena, Constant, EntryPoint, Expression, Function, FunctionArgument, GlobalVariable, Handle,
+    LocalVariable, Module, Override, Place, SpecialTypes,
 };
 
 /// Whether the handle, if there is one, lies below the bound.
@@ -43,49 +58,69 @@ fn constant_in_range(types: usize, expressions: usize, constant: &Constant) -> b
     constant.ty.index() < types && constant.init.index() < expressions
 }
 
-fn constants_in_range(types: usize, expressions: usize, constants: &Arena<Constant>) -> bool
-    ensures { result ≡ list_all (constant_in_range types expressions) constants.now }
+/// The first constant that names what is not there.
+fn first_constant_out_of_range(
+    types: usize,
+    expressions: usize,
+    constants: &Arena<Constant>,
+) -> Option<Handle<Constant>>
+    ensures { result ≡ first_unfit (λ _. constant_in_range types expressions)
+        (enumerate_from 0 constants.now) }
 {
-    for (_, constant) in constants.iter() {
+    for (handle, constant) in constants.iter() {
         if !constant_in_range(types, expressions, constant) {
-            return false;
+            return Some(handle);
         }
     }
-    true
+    None
 }
 
 fn override_in_range(types: usize, expressions: usize, item: &Override) -> bool
     ensures { result ≡ override_in_range types expressions item.now }
 {
-    item.ty.index() < types && is_below(expressions, item.init)
+    item.ty.index() < types && is_below(expressions, item.init) && id_fits_16_bits(item.id)
 }
 
-fn overrides_in_range(types: usize, expressions: usize, overrides: &Arena<Override>) -> bool
-    ensures { result ≡ list_all (override_in_range types expressions) overrides.now }
+/// The first override that names what is not there.
+fn first_override_out_of_range(
+    types: usize,
+    expressions: usize,
+    overrides: &Arena<Override>,
+) -> Option<Handle<Override>>
+    ensures { result ≡ first_unfit (λ _. override_in_range types expressions)
+        (enumerate_from 0 overrides.now) }
 {
-    for (_, item) in overrides.iter() {
+    for (handle, item) in overrides.iter() {
         if !override_in_range(types, expressions, item) {
-            return false;
+            return Some(handle);
         }
     }
-    true
+    None
 }
 
 fn global_in_range(types: usize, expressions: usize, global: &GlobalVariable) -> bool
     ensures { result ≡ global_in_range types expressions global.now }
 {
-    global.ty.index() < types && is_below(expressions, global.init)
+    global.ty.index() < types
+        && is_below(expressions, global.init)
+        && resource_fits_32_bits(global.binding)
 }
 
-fn globals_in_range(types: usize, expressions: usize, globals: &Arena<GlobalVariable>) -> bool
-    ensures { result ≡ list_all (global_in_range types expressions) globals.now }
+/// The first global that names what is not there.
+fn first_global_out_of_range(
+    types: usize,
+    expressions: usize,
+    globals: &Arena<GlobalVariable>,
+) -> Option<Handle<GlobalVariable>>
+    ensures { result ≡ first_unfit (λ _. global_in_range types expressions)
+        (enumerate_from 0 globals.now) }
 {
-    for (_, global) in globals.iter() {
+    for (handle, global) in globals.iter() {
         if !global_in_range(types, expressions, global) {
-            return false;
+            return Some(handle);
         }
     }
-    true
+    None
 }
 
 fn special_types_fit(type_count: usize, special_types: &SpecialTypes) -> bool
@@ -106,18 +141,41 @@ fn predeclared_types_fit(type_count: usize, special_types: &SpecialTypes) -> boo
         .all(|handle| handle.index() < type_count)
 }
 
-/// Whether all that the module declares beside functions and entry points names what is there.
-fn declarations_in_range(module: &Module) -> bool
-    ensures { result ≡ declarations_in_range «module».now }
+/// The first constant, override, variable or global expression of a module that names what is not
+/// there.
+fn items_range_fault(module: &Module) -> Option<Unaccepted>
+    ensures { result ≡ items_range_fault «module».now }
 {
     let types = module.types.len();
     let expressions = module.global_expressions.len();
-    types_in_range(module.overrides.len(), &module.types)
-        && special_types_fit(types, &module.special_types)
-        && constants_in_range(types, expressions, &module.constants)
-        && overrides_in_range(types, expressions, &module.overrides)
-        && globals_in_range(types, expressions, &module.global_variables)
-        && global_expressions_in_range(module)
+    if let Some(handle) = first_constant_out_of_range(types, expressions, &module.constants) {
+        return Some(at(Item::Constant(handle), Fault::Names));
+    }
+    if let Some(handle) = first_override_out_of_range(types, expressions, &module.overrides) {
+        return Some(at(Item::Override(handle), Fault::Names));
+    }
+    if let Some(handle) = first_global_out_of_range(types, expressions, &module.global_variables) {
+        return Some(at(Item::GlobalVariable(handle), Fault::Names));
+    }
+    match first_global_expression_out_of_range(module) {
+        Some((handle, fault)) => Some(at(Item::GlobalExpression(handle), fault)),
+        None => None,
+    }
+}
+
+/// The first item that a module declares beside functions and entry points, and that names what is
+/// not there.
+fn declarations_range_fault(module: &Module) -> Option<Unaccepted>
+    ensures { result ≡ declarations_range_fault «module».now }
+{
+    let types = types_range_fault(module);
+    if types.is_some() {
+        return types;
+    }
+    if !special_types_fit(module.types.len(), &module.special_types) {
+        return Some(at(Item::Module, Fault::SpecialTypes));
+    }
+    items_range_fault(module)
 }
 
 fn local_in_range(types: usize, expressions: usize, local: &LocalVariable) -> bool
@@ -126,25 +184,38 @@ fn local_in_range(types: usize, expressions: usize, local: &LocalVariable) -> bo
     local.ty.index() < types && is_below(expressions, local.init)
 }
 
-fn locals_in_range(types: usize, expressions: usize, locals: &Arena<LocalVariable>) -> bool
-    ensures { result ≡ list_all (local_in_range types expressions) locals.now }
+/// The first local that names what is not there.
+fn first_local_out_of_range(
+    types: usize,
+    expressions: usize,
+    locals: &Arena<LocalVariable>,
+) -> Option<Handle<LocalVariable>>
+    ensures { result ≡ first_unfit (λ _. local_in_range types expressions)
+        (enumerate_from 0 locals.now) }
 {
-    for (_, local) in locals.iter() {
+    for (handle, local) in locals.iter() {
         if !local_in_range(types, expressions, local) {
-            return false;
+            return Some(handle);
         }
     }
-    true
+    None
 }
 
-fn signature_fits(type_count: usize, function: &Function) -> bool
-    ensures { result ≡ signature_fits type_count function.now }
+/// Whether the types of the arguments and of the result are among the first `type_count`.
+fn signature_types_fit(type_count: usize, function: &Function) -> bool
+    ensures { result ≡ signature_types_fit type_count function.now }
 {
     arguments_fit(type_count, &function.arguments)
         && match &function.result {
             Some(answer) => answer.ty.index() < type_count,
             None => true,
         }
+}
+
+fn signature_fits(type_count: usize, function: &Function) -> bool
+    ensures { result ≡ signature_fits type_count function.now }
+{
+    signature_types_fit(type_count, function) && signature_fits_32_bits(function)
 }
 
 fn arguments_fit(type_count: usize, arguments: &[FunctionArgument]) -> bool
@@ -165,33 +236,50 @@ fn names_fit(function: &Function) -> bool
         .all(|handle| handle.index() < count)
 }
 
-/// Whether all that a function names is there, where it may call the first `callees` functions.
-fn function_in_range(module: &Module, callees: usize, function: &Function) -> bool
-    ensures { result ≡ function_in_range «module».now callees function.now }
+/// The first part of a function, where it may call the first `callees` functions, that names what
+/// is not there.
+fn function_range_fault(
+    module: &Module,
+    callees: usize,
+    function: &Function,
+) -> Option<(Part, Fault)>
+    ensures { result ≡ function_range_fault «module».now callees function.now }
 {
     let types = module.types.len();
     let expressions = function.expressions.len();
-    signature_fits(types, function)
-        && names_fit(function)
-        && locals_in_range(types, expressions, &function.local_variables)
-        && expressions_in_range(module, callees, function)
-        && block_in_range(callees, expressions, &function.body)
+    if !signature_fits(types, function) {
+        return Some((Part::Whole, Fault::Signature));
+    }
+    if !names_fit(function) {
+        return Some((Part::Whole, Fault::NamedExpressions));
+    }
+    if let Some(local) = first_local_out_of_range(types, expressions, &function.local_variables) {
+        return Some((Part::Local(local), Fault::Names));
+    }
+    if let Some(found) = first_expression_out_of_range(module, callees, function) {
+        return Some(at_expression(found));
+    }
+    match first_out_of_range(callees, expressions, &function.body) {
+        Some(number) => Some((Part::Statement(number), Fault::Names)),
+        None => None,
+    }
 }
 
-fn functions_in_range(module: &Module) -> bool
-    ensures { result ≡ all_placed (function_in_range «module».now) «module».now.functions }
+fn functions_range_fault(module: &Module) -> Option<Unaccepted>
+    ensures { result ≡ functions_range_fault «module».now }
 {
     for (handle, function) in module.functions.iter() {
-        if !function_in_range(module, handle.index(), function) {
-            return false;
+        if let Some(found) = function_range_fault(module, handle.index(), function) {
+            return Some(at_function(handle, found));
         }
     }
-    true
+    None
 }
 
-/// Whether all that an entry point names is there. It may call each function.
-fn entry_point_in_range(module: &Module, entry_point: &EntryPoint) -> bool
-    ensures { result ≡ entry_point_in_range «module».now entry_point.now }
+/// Whether the variables that an entry point names are there, and its workgroup's sizes have 32
+/// bits.
+fn entry_names_fit(module: &Module, entry_point: &EntryPoint) -> bool
+    ensures { result ≡ entry_names_fit «module».now entry_point.now }
 {
     let globals = module.global_variables.len();
     let output_variable = match &entry_point.mesh_info {
@@ -201,25 +289,42 @@ fn entry_point_in_range(module: &Module, entry_point: &EntryPoint) -> bool
     is_below(globals, output_variable)
         && is_below(globals, entry_point.task_payload)
         && is_below(globals, entry_point.incoming_ray_payload)
-        && function_in_range(module, module.functions.len(), &entry_point.function)
+        && workgroup_fits_32_bits(entry_point.workgroup_size)
 }
 
-fn entry_points_in_range(module: &Module) -> bool
-    ensures { result ≡ list_all (entry_point_in_range «module».now)
-        «module».now.entry_points.items }
+/// The first part of an entry point that names what is not there. It may call each function.
+fn entry_point_range_fault(module: &Module, entry_point: &EntryPoint) -> Option<(Part, Fault)>
+    ensures { result ≡ entry_point_range_fault «module».now entry_point.now }
 {
-    for entry_point in &module.entry_points {
-        if !entry_point_in_range(module, entry_point) {
-            return false;
+    if !entry_names_fit(module, entry_point) {
+        return Some((Part::Whole, Fault::Names));
+    }
+    function_range_fault(module, module.functions.len(), &entry_point.function)
+}
+
+fn entry_points_range_fault(module: &Module) -> Option<Unaccepted>
+    ensures { result ≡ entry_points_range_fault «module».now }
+{
+    for (index, entry_point) in module.entry_points.iter().enumerate() {
+        if let Some(found) = entry_point_range_fault(module, entry_point) {
+            return Some(at_entry_point(index, found));
         }
     }
-    true
+    None
 }
 
-fn module_in_range(module: &Module) -> bool
-    ensures { result ≡ module_in_range «module».now }
+fn module_range_fault(module: &Module) -> Option<Unaccepted>
+    ensures { result ≡ module_range_fault «module».now }
 {
-    declarations_in_range(module) && functions_in_range(module) && entry_points_in_range(module)
+    let declarations = declarations_range_fault(module);
+    if declarations.is_some() {
+        return declarations;
+    }
+    let functions = functions_range_fault(module);
+    if functions.is_some() {
+        return functions;
+    }
+    entry_points_range_fault(module)
 }
 
 /// Whether a known type has a form that it may have, and names what there is: types among the first
@@ -230,49 +335,93 @@ fn resolution_fits(overrides: usize, types: usize, ty: &TypeResolution) -> bool
     resolution_is_fit(ty) && resolution_in_range(overrides, types, ty)
 }
 
-fn expression_infos_fit(overrides: usize, types: usize, infos: &[ExpressionInfo]) -> bool
-    ensures { result ≡ list_all (λ k. resolution_fits overrides types k.ty) infos.now }
+/// The first expression of a function whose known type has a form that it may not have, or names
+/// what is not there.
+fn first_unknown(
+    overrides: usize,
+    types: usize,
+    infos: &[ExpressionInfo],
+) -> Option<Handle<Expression>>
+    ensures { result ≡ first_unknown overrides types infos.now }
 {
-    for info in infos {
+    for (index, info) in infos.iter().enumerate() {
         if !resolution_fits(overrides, types, &info.ty) {
-            return false;
+            return Some(Place::from_index(index));
         }
     }
-    true
+    None
 }
 
-fn function_infos_fit(overrides: usize, types: usize, infos: &[FunctionInfo]) -> bool
-    ensures { result ≡ list_all (list_all (λ k. resolution_fits overrides types k.ty)) infos.now }
+/// The index of the first function in which there is such an expression, with that.
+fn first_known_fault(
+    overrides: usize,
+    types: usize,
+    infos: &[FunctionInfo],
+) -> Option<(usize, (Part, Fault))>
+    ensures { result ≡ first_known_fault overrides types infos.now }
 {
-    for info in infos {
-        if !expression_infos_fit(overrides, types, info.expressions.as_slice()) {
-            return false;
+    for (index, info) in infos.iter().enumerate() {
+        if let Some(handle) = first_unknown(overrides, types, info.expressions.as_slice()) {
+            return Some((index, (Part::Expression(handle), Fault::KnownType)));
         }
     }
-    true
+    None
 }
 
-fn global_infos_fit(overrides: usize, types: usize, infos: &[TypeResolution]) -> bool
-    ensures { result ≡ list_all (resolution_fits overrides types) infos.now }
+fn first_unknown_global(
+    overrides: usize,
+    types: usize,
+    infos: &[TypeResolution],
+) -> Option<Handle<Expression>>
+    ensures { result ≡ first_unfit (λ _. resolution_fits overrides types)
+        (enumerate_from 0 infos.now) }
 {
-    for ty in infos {
+    for (index, ty) in infos.iter().enumerate() {
         if !resolution_fits(overrides, types, ty) {
-            return false;
+            return Some(Place::from_index(index));
         }
     }
-    true
+    None
 }
 
-/// Whether each known type has a form that it may have, and names what there is.
-fn info_fits(module: &Module, info: &ModuleInfo) -> bool
-    ensures { result ≡ all_known
-        (resolution_fits (length «module».now.overrides) (length «module».now.types)) info.now }
+/// The first expression whose known type has a form that it may not have, or names what is not
+/// there.
+fn info_fault(module: &Module, info: &ModuleInfo) -> Option<Unaccepted>
+    ensures { result ≡ info_fault «module».now info.now }
 {
     let overrides = module.overrides.len();
     let types = module.types.len();
-    function_infos_fit(overrides, types, info.functions.as_slice())
-        && function_infos_fit(overrides, types, info.entry_points.as_slice())
-        && global_infos_fit(overrides, types, info.const_expression_types.as_slice())
+    if let Some((index, found)) = first_known_fault(overrides, types, info.functions.as_slice()) {
+        return Some(at_function(Place::from_index(index), found));
+    }
+    let entry_points = info.entry_points.as_slice();
+    if let Some((index, found)) = first_known_fault(overrides, types, entry_points) {
+        return Some(at_entry_point(index, found));
+    }
+    let globals = info.const_expression_types.as_slice();
+    match first_unknown_global(overrides, types, globals) {
+        Some(handle) => Some(at(Item::GlobalExpression(handle), Fault::KnownType)),
+        None => None,
+    }
+}
+
+/// The first place where the module or what is known of it names what is not there, or does not
+/// stand where it may be named ([`ranges_fit`]).
+pub(crate) fn ranges_fault(module: &Module, info: &ModuleInfo) -> Option<Unaccepted>
+    ensures { result ≡ ranges_fault «module».now info.now }
+{
+    let sizes = sizes_fault(module, info);
+    if sizes.is_some() {
+        return sizes;
+    }
+    if let Some(handle) = first_handle_pointer(&module.types) {
+        return Some(at(Item::Type(handle), Fault::TypeForm));
+    }
+    let named = module_range_fault(module);
+    if named.is_some() {
+        return named;
+    }
+    info_fault(module, info)
 }
 
 /// Whether all that the module and what is known of it name is there, and stands where it may be
@@ -286,14 +435,11 @@ fn info_fits(module: &Module, info: &ModuleInfo) -> bool
 ///   before its caller. Entry points may call each function.
 /// - A global expression names no argument and no local, and stands behind the initialiser of each
 ///   constant and override that it names.
+/// - Numbers are of their types, and a pattern has four letters, as it always is here.
 ///
 /// It takes no memory, and answers whatever numbers a module holds.
-#[tactic(auto, unfolding(module_meaning::specs::Ranges::module_ranges_fit))]
 pub fn ranges_fit(module: &Module, info: &ModuleInfo) -> bool
     ensures { result ≡ module_ranges_fit «module».now info.now }
 {
-    sizes_fit(module, info)
-        && types_are_fit(&module.types)
-        && module_in_range(module)
-        && info_fits(module, info)
+    ranges_fault(module, info).is_none()
 }

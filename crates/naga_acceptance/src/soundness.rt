@@ -1,97 +1,162 @@
 //! Whether what stands in a module gets what it wants.
 
-ghost use Rattle.std.specs.Prelude.{◌≡◌, List};
+ghost use Rattle.std.specs.Prelude.{◌≡◌, map};
 ghost use Rattle.std.specs.Option.{option_copied};
+ghost use Rattle.naga_acceptance.specs.FirstFaults.{declarations_sound_fault};
+ghost use Rattle.naga_acceptance.specs.FirstFaults.{entry_points_sound_fault};
+ghost use Rattle.naga_acceptance.specs.FirstFaults.{expression_sound_fault};
+ghost use Rattle.naga_acceptance.specs.FirstFaults.{expressions_sound_fault};
+ghost use Rattle.naga_acceptance.specs.FirstFaults.{function_sound_fault, functions_sound_fault};
+ghost use Rattle.naga_acceptance.specs.FirstFaults.{sound_fault};
 ghost use Rattle.naga_acceptance.specs.KnownTypes.{known_types};
-ghost use Rattle.module_meaning.specs.InfoSizes.{all_paired};
-ghost use Rattle.module_meaning.specs.Soundness.{declarations_are_sound, entry_point_is_sound};
-ghost use Rattle.module_meaning.specs.Soundness.{expressions_are_sound, function_is_sound};
 ghost use Rattle.module_meaning.specs.Soundness.{module_is_sound};
 
-use crate::demands::are_operands_fit;
-use crate::expression_types::have_their_types;
-use crate::initialisers::{initialisers_fit, locals_are_sound};
+use crate::demands::operands_fit;
+use crate::expression_types::has_its_type;
+use crate::faults::{
+    Fault, Item, Part, Unaccepted, at, at_entry_point, at_expression, at_function,
+};
+use crate::initialisers::{first_unsound_local, initialisers_fault};
 use crate::parts::Known;
-use crate::statements::body_is_sound;
+use crate::statements::first_unsound;
 use naga_info::{FunctionInfo, ModuleInfo, TypeResolution};
-use naga_ir::{Arena, EntryPoint, Expression, Function, Module, Place};
+use naga_ir::{Arena, EntryPoint, Expression, Function, Handle, Module, Place};
 
-/// Whether each expression has its type, and operands that it takes.
-fn expressions_are_sound(
+/// Whether the expression with this handle has another type than what it stands for, or else takes
+/// no operands of these types.
+fn expression_sound_fault(
+    module: &Module,
+    function: Option<&Function>,
+    known: Known<'_>,
+    handle: Handle<Expression>,
+    expression: &Expression,
+) -> Option<Fault>
+    ensures { result ≡ expression_sound_fault «module».now (option_copied function.entry)
+        (known_types known.entry) handle expression.now }
+{
+    if !has_its_type(module, function, known, handle, expression) {
+        return Some(Fault::OtherType);
+    }
+    if !operands_fit(&module.types, known, expression) {
+        return Some(Fault::OperandTypes);
+    }
+    None
+}
+
+/// The first expression of which that is so.
+fn expressions_sound_fault(
     module: &Module,
     function: Option<&Function>,
     known: Known<'_>,
     expressions: &Arena<Expression>,
-) -> bool
-    ensures { result ≡ expressions_are_sound «module».now (option_copied function.entry)
+) -> Option<(Handle<Expression>, Fault)>
+    ensures { result ≡ expressions_sound_fault «module».now (option_copied function.entry)
         (known_types known.entry) expressions.now }
 {
-    have_their_types(module, function, known, expressions)
-        && are_operands_fit(&module.types, known, expressions)
-}
-
-/// Whether all that stands in a function gets what it wants.
-pub(crate) fn function_is_sound(module: &Module, function: &Function, info: &FunctionInfo) -> bool
-    ensures { result ≡ function_is_sound «module».now function.now info.now }
-{
-    let known = Known::Function(info.expressions.as_slice());
-    expressions_are_sound(module, Some(function), known, &function.expressions)
-        && locals_are_sound(&module.types, known, &function.local_variables)
-        && body_is_sound(module, function, known)
-}
-
-fn functions_are_sound(module: &Module, functions: &Arena<Function>, infos: &[FunctionInfo]) -> bool
-    ensures { result ≡ all_paired (function_is_sound «module».now) functions.now infos.now }
-{
-    if functions.len() != infos.len() {
-        return false;
-    }
-    for (index, info) in infos.iter().enumerate() {
-        if !function_is_sound(module, &functions[Place::from_index(index)], info) {
-            return false;
+    for (handle, expression) in expressions.iter() {
+        if let Some(fault) = expression_sound_fault(module, function, known, handle, expression) {
+            return Some((handle, fault));
         }
     }
-    true
+    None
 }
 
-fn entry_points_are_sound(
+/// The first part of a function that does not get what it wants.
+fn function_sound_fault(
+    module: &Module,
+    function: &Function,
+    info: &FunctionInfo,
+) -> Option<(Part, Fault)>
+    ensures { result ≡ function_sound_fault «module».now function.now
+        (map (λ k. k.ty) info.now) }
+{
+    let known = Known::Function(info.expressions.as_slice());
+    let expressions = &function.expressions;
+    if let Some(found) = expressions_sound_fault(module, Some(function), known, expressions) {
+        return Some(at_expression(found));
+    }
+    if let Some(local) = first_unsound_local(&module.types, known, &function.local_variables) {
+        return Some((Part::Local(local), Fault::InitialiserType));
+    }
+    match first_unsound(module, function, known) {
+        Some(number) => Some((Part::Statement(number), Fault::Unsatisfied)),
+        None => None,
+    }
+}
+
+fn functions_sound_fault(
+    module: &Module,
+    functions: &Arena<Function>,
+    infos: &[FunctionInfo],
+) -> Option<Unaccepted>
+    ensures { result ≡ functions_sound_fault «module».now functions.now infos.now }
+{
+    if functions.len() != infos.len() {
+        return Some(at(Item::Module, Fault::InfoSize));
+    }
+    for (index, info) in infos.iter().enumerate() {
+        let handle = Place::from_index(index);
+        if let Some(found) = function_sound_fault(module, &functions[handle], info) {
+            return Some(at_function(handle, found));
+        }
+    }
+    None
+}
+
+fn entry_points_sound_fault(
     module: &Module,
     entry_points: &[EntryPoint],
     infos: &[FunctionInfo],
-) -> bool
-    ensures { result ≡ all_paired (entry_point_is_sound «module».now) entry_points.now infos.now }
+) -> Option<Unaccepted>
+    ensures { result ≡ entry_points_sound_fault «module».now entry_points.now infos.now }
 {
     if entry_points.len() != infos.len() {
-        return false;
+        return Some(at(Item::Module, Fault::InfoSize));
     }
     for (index, info) in infos.iter().enumerate() {
-        if !function_is_sound(module, &entry_points[index].function, info) {
-            return false;
+        if let Some(found) = function_sound_fault(module, &entry_points[index].function, info) {
+            return Some(at_entry_point(index, found));
         }
     }
-    true
+    None
 }
 
-/// Whether the module's own expressions and its initialisers get what they want.
-fn declarations_are_sound(module: &Module, types: &[TypeResolution]) -> bool
-    ensures { result ≡ declarations_are_sound «module».now types.now }
+/// The first of the module's own expressions, or else the first of its initialisers, that does not
+/// get what it wants.
+fn declarations_sound_fault(module: &Module, types: &[TypeResolution]) -> Option<Unaccepted>
+    ensures { result ≡ declarations_sound_fault «module».now types.now }
 {
     let known = Known::Global(types);
-    expressions_are_sound(module, None, known, &module.global_expressions)
-        && initialisers_fit(module, known)
+    let expressions = &module.global_expressions;
+    if let Some((handle, fault)) = expressions_sound_fault(module, None, known, expressions) {
+        return Some(at(Item::GlobalExpression(handle), fault));
+    }
+    initialisers_fault(module, known)
 }
 
-/// Whether all that stands in a module gets what it wants by what is known of it: each expression of
-/// its functions, its entry points and its own has its type ([`have_their_types`]) and operands that
-/// it takes ([`are_operands_fit`]), initialisers have the types of their items
-/// ([`initialisers_fit`], [`locals_are_sound`]), and statements get what they want
-/// ([`body_is_sound`]). Of each function and entry point one thing has to be known. It takes no
-/// memory.
-#[tactic(auto, unfolding(module_meaning::specs::Soundness::module_is_sound))]
+/// The first place where what stands in a module does not get what it wants ([`module_is_sound`]).
+pub(crate) fn sound_fault(module: &Module, info: &ModuleInfo) -> Option<Unaccepted>
+    ensures { result ≡ sound_fault «module».now info.now }
+{
+    let declarations = declarations_sound_fault(module, info.const_expression_types.as_slice());
+    if declarations.is_some() {
+        return declarations;
+    }
+    let functions = functions_sound_fault(module, &module.functions, info.functions.as_slice());
+    if functions.is_some() {
+        return functions;
+    }
+    entry_points_sound_fault(module, &module.entry_points, info.entry_points.as_slice())
+}
+
+/// Whether all that stands in a module gets what it wants by what is known of it: each expression
+/// of its functions, its entry points and its own has its type
+/// ([`wanted_type`](crate::expression_types::wanted_type)) and operands that it takes
+/// ([`operands_fit`]), initialisers have the types of their items, and statements get what they
+/// want ([`body_is_sound`](crate::statements::body_is_sound)). Of each function and entry point one
+/// thing has to be known. It takes no memory.
 pub fn module_is_sound(module: &Module, info: &ModuleInfo) -> bool
     ensures { result ≡ module_is_sound «module».now info.now }
 {
-    declarations_are_sound(module, info.const_expression_types.as_slice())
-        && functions_are_sound(module, &module.functions, info.functions.as_slice())
-        && entry_points_are_sound(module, &module.entry_points, info.entry_points.as_slice())
+    sound_fault(module, info).is_none()
 }

@@ -2,11 +2,13 @@
 
 ghost use Rattle.std.specs.Prelude.{◌≡◌, slice_get, false, true};
 ghost use Rattle.std.specs.Option.{option_map};
+ghost use Rattle.std.specs.Result.{result_err};
 ghost use Rattle.naga_acceptance.specs.KnownTypes.{given, known_types};
 ghost use Rattle.naga_ir.specs.StatementViews.{cases_of, tree_of};
 ghost use Rattle.module_meaning.specs.OperandDemands.{operand_is, points_to_components};
-ghost use Rattle.module_meaning.specs.StatementsFit.{are_passed, block_is_sound, body_is_sound};
-ghost use Rattle.module_meaning.specs.StatementsFit.{cases_are_sound, has_label, is_answered};
+ghost use Rattle.naga_acceptance.specs.TextOrder.{is_sound, numbered, own_is_sound, text_order};
+ghost use Rattle.module_meaning.specs.StatementsFit.{are_passed, body_is_sound};
+ghost use Rattle.module_meaning.specs.StatementsFit.{has_label, is_answered};
 ghost use Rattle.module_meaning.specs.StatementsFit.{is_atomic, is_atomic_result};
 ghost use Rattle.module_meaning.specs.StatementsFit.{is_ballot_result, is_call, is_condition};
 ghost use Rattle.module_meaning.specs.StatementsFit.{is_result, is_result_if, is_result_of};
@@ -15,16 +17,17 @@ ghost use Rattle.module_meaning.specs.StatementsFit.{is_stored, is_subgroup_resu
 ghost use Rattle.module_meaning.specs.StatementsFit.{is_uniform_load_result, label_is_of};
 ghost use Rattle.module_meaning.specs.StatementsFit.{labels_are_of, labels_differ, labels_fit};
 ghost use Rattle.module_meaning.specs.StatementsFit.{last_falls_through, points_to_atomic};
-ghost use Rattle.module_meaning.specs.StatementsFit.{selection_fits, selects, statement_is_sound};
+ghost use Rattle.module_meaning.specs.StatementsFit.{selection_fits, selects};
 ghost use Rattle.module_meaning.specs.StatementsFit.{value_has_type};
 
-use crate::alike::{are_alike, given_identity, identity_of};
+use crate::alike::is_like;
 use crate::demands::points_to_components;
 use crate::expression_types::{is_bool, pointee_at};
 use crate::parts::{GivenType, Known, inner_at, known_inner, known_type};
+use crate::walk::{first_unmet, sound_demand};
 use naga_ir::{
-    Block, Expression, Function, FunctionArgument, FunctionResult, Handle, Module, Scalar,
-    ScalarKind, Statement, SwitchCase, SwitchValue, Type_, TypeInner, UniqueArena,
+    Expression, Function, FunctionArgument, FunctionResult, Handle, Module, Scalar, ScalarKind,
+    Statement, SwitchCase, SwitchValue, Type_, TypeInner, UniqueArena,
 };
 
 // ---- what is known of values
@@ -39,11 +42,7 @@ pub(crate) fn value_has_type(
     ensures { result ≡ value_has_type types.now (known_types known.entry) value (given wanted) }
 {
     match known_type(known, value) {
-        Some(ty) => are_alike(
-            types,
-            identity_of(types, ty),
-            given_identity(types, &wanted),
-        ),
+        Some(ty) => is_like(types, ty, &wanted),
         None => false,
     }
 }
@@ -401,10 +400,10 @@ pub(crate) fn is_call(
 
 // ---- statements
 
-/// Whether a statement gets what it wants. It may leave the nearest loop or switch where it
-/// `breaks`, and go on with the nearest loop's `continuing` where it `continues`.
-#[cycle(statements)]
-pub(crate) fn statement_is_sound(
+/// Whether a statement by itself, its blocks left out, gets what it wants. It may leave the nearest
+/// loop or switch where it `breaks`, and go on with the nearest loop's `continuing` where it
+/// `continues`.
+pub(crate) fn own_is_sound(
     module: &Module,
     function: &Function,
     known: Known<'_>,
@@ -412,7 +411,7 @@ pub(crate) fn statement_is_sound(
     continues: bool,
     statement: &Statement,
 ) -> bool
-    ensures { result ≡ statement_is_sound «module».now function.now (known_types known.entry) breaks
+    ensures { result ≡ own_is_sound «module».now function.now (known_types known.entry) breaks
         continues (tree_of statement.now) }
 {
     let types = &module.types;
@@ -424,29 +423,14 @@ pub(crate) fn statement_is_sound(
         | Statement::ImageStore { .. }
         | Statement::ImageAtomic { .. }
         | Statement::RayQuery { .. }
-        | Statement::RayPipelineFunction(_) => true,
-        Statement::Block(block) => block_is_sound(
-            module, function, known, breaks, continues, block,
-        ),
-        Statement::If {
-            condition,
-            accept,
-            reject,
-        } => is_condition(types, known, *condition)
-            && block_is_sound(module, function, known, breaks, continues, accept)
-            && block_is_sound(module, function, known, breaks, continues, reject),
-        Statement::Switch { selector, cases } => is_selection(types, known, *selector, cases)
-            && cases_are_sound(module, function, known, true, continues, cases),
-        Statement::Loop {
-            body,
-            continuing,
-            break_if,
-        } => block_is_sound(module, function, known, true, true, body)
-            && block_is_sound(module, function, known, false, false, continuing)
-            && match break_if {
-                Some(condition) => is_condition(types, known, *condition),
-                None => true,
-            },
+        | Statement::RayPipelineFunction(_)
+        | Statement::Block(_) => true,
+        Statement::If { condition, .. } => is_condition(types, known, *condition),
+        Statement::Switch { selector, cases } => is_selection(types, known, *selector, cases),
+        Statement::Loop { break_if, .. } => match break_if {
+            Some(condition) => is_condition(types, known, *condition),
+            None => true,
+        },
         Statement::Break => breaks,
         Statement::Continue => continues,
         Statement::Return { value } => is_returned(types, known, &function.result, *value),
@@ -485,44 +469,14 @@ pub(crate) fn statement_is_sound(
     }
 }
 
-#[cycle(statements)]
-fn block_is_sound(
-    module: &Module,
-    function: &Function,
-    known: Known<'_>,
-    breaks: bool,
-    continues: bool,
-    block: &Block,
-) -> bool
-    ensures { result ≡ block_is_sound «module».now function.now (known_types known.entry) breaks
-        continues «block».now }
+/// The number of the first statement of a function, in the order of the text, that does not get
+/// what it wants. Those in blocks are counted too, from 0, and modulo 2^64.
+pub(crate) fn first_unsound(module: &Module, function: &Function, known: Known<'_>) -> Option<usize>
+    ensures { result ≡ result_err (numbered
+        (is_sound «module».now function.now (known_types known.entry)) 0
+        (text_order function.now.body)) }
 {
-    for statement in block.as_slice() {
-        if !statement_is_sound(module, function, known, breaks, continues, statement) {
-            return false;
-        }
-    }
-    true
-}
-
-#[cycle(statements)]
-fn cases_are_sound(
-    module: &Module,
-    function: &Function,
-    known: Known<'_>,
-    breaks: bool,
-    continues: bool,
-    cases: &[SwitchCase],
-) -> bool
-    ensures { result ≡ cases_are_sound «module».now function.now (known_types known.entry) breaks
-        continues (cases_of cases.now) }
-{
-    for case in cases {
-        if !block_is_sound(module, function, known, breaks, continues, &case.body) {
-            return false;
-        }
-    }
-    true
+    first_unmet(sound_demand(module, function, known), &function.body)
 }
 
 /// Whether the statements of a function get what they want, `known` being the types of its
@@ -542,5 +496,5 @@ fn cases_are_sound(
 pub fn body_is_sound(module: &Module, function: &Function, known: Known<'_>) -> bool
     ensures { result ≡ body_is_sound «module».now function.now (known_types known.entry) }
 {
-    block_is_sound(module, function, known, false, false, &function.body)
+    first_unsound(module, function, known).is_none()
 }

@@ -9,9 +9,9 @@ ghost use Rattle.naga_acceptance.specs.Uses.{all_mixed, is_same_operator, operat
 ghost use Rattle.naga_acceptance.specs.Uses.{slot_of};
 ghost use Rattle.naga_ir.specs.Operands.{expression_operands};
 ghost use Rattle.module_meaning.specs.AgreeingOperators.{expression_use, identity_at};
-ghost use Rattle.module_meaning.specs.Operations.{are_alike};
+ghost use Rattle.module_meaning.specs.Operations.{are_same_words};
 
-use crate::alike::{are_alike, given_identity, identity_of};
+use crate::alike::{are_known_alike, given_identity, identity_of};
 use crate::operator_keys::{Key, is_same_key, operator_key};
 use crate::parts::{Known, known_type};
 use crate::type_hash::{identity_mixed, level_mixed, mixed};
@@ -64,7 +64,7 @@ fn is_alike_at(
 {
     match known_type(known, handle) {
         Some(a) => match known_type(other_known, other) {
-            Some(b) => are_alike(types, identity_of(types, a), identity_of(types, b)),
+            Some(b) => are_known_alike(types, a, b),
             None => false,
         },
         None => match known_type(other_known, other) {
@@ -75,7 +75,7 @@ fn is_alike_at(
 }
 
 fn are_operands_alike(types: &UniqueArena<Type_>, a: &Use<'_>, b: &Use<'_>) -> bool
-    ensures { result ≡ are_alike
+    ensures { result ≡ are_same_words
         (map (identity_at types.now (known_types a.now.known))
         (expression_operands a.now.expression.now))
         (map (identity_at types.now (known_types b.now.known))

@@ -56,6 +56,11 @@ use Rattle.naga_form.specs.TypeTrees.{scalar_tree, value_tree, pointer_tree_in, 
 use Rattle.naga_form.specs.TypeTrees.{value_pointer_tree_in, image_tree, ray_tree, inner_tree_by}
 use Rattle.naga_form.specs.TypeTrees.{found_tree_by, tree_within, type_tree, resolution_tree}
 use Rattle.naga_form.specs.Readable.{handle_names}
+use Rattle.naga_words.specs.Contexts.{Names}
+use Rattle.std.specs.List.{list_all}
+use Rattle.std.proofs.Common.{◌||◌}
+use Rattle.std.proofs.lemmas.Slice.Eq.{bytes_eq-Decides}
+use Rattle.wgsl_text.specs.Words.{IsIdentifier, is_builtin, is_reserved}
 
 -- ---- words without parts: types, and what else stands in a type
 abbrev first_row : {X : Type 0} → X → List (List ℕ × X) → List ℕ → X
@@ -116,11 +121,38 @@ word_rows =
     depth_row true Cube true ∷
     map format_row formats
 
--- the numbers of a word. A word of one number is a struct's, an override's or a role's
-pub word_numbers : List ℕ → List ℕ
-word_numbers [] = []
-word_numbers (h ∷ []) = level 8 h 0 0 0 0
-word_numbers (x ∷ y ∷ w) = first_row [] word_rows (x ∷ y ∷ w)
+-- the numbers of a word. What has no row is a struct's or an override's, of which `told` tells the
+-- handle
+pub word_numbers : (told : List ℕ → ℕ) → List ℕ → List ℕ
+word_numbers told [] = []
+word_numbers told (h ∷ []) = level 8 (told (h ∷ [])) 0 0 0 0
+word_numbers told (x ∷ y ∷ w) = first_row (level 8 (told (x ∷ y ∷ w)) 0 0 0 0) word_rows (x ∷ y ∷ w)
+
+-- a word that has no row
+no_row : {X : Type 0} (is : List ℕ → Bool) (other : X) (rows : List (List ℕ × X)) (w : List ℕ) → list_all (λ row. is row.0) rows ≡ true → is w ≡ false → first_row other rows w ≡ other
+no_row is other [] w all not_so = refl
+no_row {X = X} is other (row ∷ rows) w all not_so =
+    let parts = and_parts (is row.0) (list_all (λ row. is row.0) rows) all in
+    by parts.0 (no_row is other rows w parts.1 not_so) (bytes_eq w row.0) refl
+  where
+    by : is row.0 ≡ true → first_row other rows w ≡ other → (b : Bool) → bytes_eq w row.0 ≡ b → elim b as (λ b. X) [ true ↦ row.1 | false ↦ first_row other rows w ] ≡ other
+    by taken more true at = absurd (true≢false (sym taken ∙ (ap is (sym ((bytes_eq-Decides w row.0).0 at)) ∙ not_so)))
+    by taken more false at = more
+
+abbrev is_taken : List ℕ → Bool
+is_taken w = is_builtin w || is_reserved w
+
+rows_are_taken : list_all (λ row. is_taken row.0) word_rows ≡ true
+unfolding is_builtin is_reserved
+rows_are_taken = refl
+
+-- an identifier has no row
+pub named_numbers : (told : List ℕ → ℕ) (w : List ℕ) → IsIdentifier w → word_numbers told w ≡ level 8 (told w) 0 0 0 0
+unfolding word_numbers
+named_numbers told [] is = absurd (true≢false (sym is.word.text))
+named_numbers told (h ∷ []) is = refl
+named_numbers told (x ∷ y ∷ w) is =
+    no_row is_taken (level 8 (told (x ∷ y ∷ w)) 0 0 0 0) word_rows (x ∷ y ∷ w) rows_are_taken (λ i. is.own i || is.word.free i)
 
 -- ---- words with parts
 -- how the numbers of the parts make those of the whole
@@ -204,296 +236,352 @@ filling_of w = first_row NoTemplate template_rows w
 abbrev number_at : List (List ℕ) → (part place : ℕ) → ℕ
 number_at parts i j = get_or (get_or parts i []) j 0
 
+-- the letter of a role, which stands in the second part
+abbrev letter_in : TypeParts → ℕ
+letter_in (TypePart t (TypePart (Named (c ∷ w)) more)) = c
+letter_in _ = 0
+
 abbrev role_at : ℕ → ℕ
 role_at n = if n == 65 then 0 else (if n == 66 then 1 else 2)
 
 abbrev length_tag : ℕ → ℕ
 length_tag n = if n == 30 then 0 else (if n == 8 then 1 else 2)
 
-abbrev filled : Filling → (parts : List (List ℕ)) → List ℕ
-filled NoTemplate parts = []
-filled PointerTo parts = level 5 (number_at parts 0 1) (number_at parts 2 2) 0 0 0 ++ get_or parts 1 []
-filled (OverScalar tag third fourth) parts = level tag (number_at parts 0 1) (number_at parts 0 2) third fourth 0
-filled (OverRole c r) parts = level 3 (number_at parts 0 1) (number_at parts 0 2) c r (role_at (number_at parts 1 1))
-filled (SampledImage dim arrayed multi) parts = level 9 dim arrayed 0 (number_at parts 0 1) multi
-filled (StorageImage dim arrayed) parts = level 9 dim arrayed 2 (number_at parts 0 1) (number_at parts 1 1)
-filled (ArrayOf tag) parts = level tag (length_tag (number_at parts 1 0)) (number_at parts 1 1) 0 0 0 ++ get_or parts 0 []
-filled (WithReturn tag) parts = level tag 1 0 0 0 0
+abbrev filled : Filling → (letter : ℕ) → (parts : List (List ℕ)) → List ℕ
+filled NoTemplate letter parts = []
+filled PointerTo letter parts = level 5 (number_at parts 0 1) (number_at parts 2 2) 0 0 0 ++ get_or parts 1 []
+filled (OverScalar tag third fourth) letter parts = level tag (number_at parts 0 1) (number_at parts 0 2) third fourth 0
+filled (OverRole c r) letter parts = level 3 (number_at parts 0 1) (number_at parts 0 2) c r (role_at letter)
+filled (SampledImage dim arrayed multi) letter parts = level 9 dim arrayed 0 (number_at parts 0 1) multi
+filled (StorageImage dim arrayed) letter parts = level 9 dim arrayed 2 (number_at parts 0 1) (number_at parts 1 1)
+filled (ArrayOf tag) letter parts = level tag (length_tag (number_at parts 1 0)) (number_at parts 1 1) 0 0 0 ++ get_or parts 0 []
+filled (WithReturn tag) letter parts = level tag 1 0 0 0 0
 
 abbrev mutual
-  pub tree_numbers : TypeSpecifier → List ℕ
-  tree_numbers (Named w) = word_numbers w
-  tree_numbers (Template w parts) = filled (filling_of w) (parts_numbers parts)
+  pub tree_numbers : (told : List ℕ → ℕ) → TypeSpecifier → List ℕ
+  tree_numbers told (Named w) = word_numbers told w
+  tree_numbers told (Template w parts) = filled (filling_of w) (letter_in parts) (parts_numbers told parts)
 
-  parts_numbers : TypeParts → List (List ℕ)
-  parts_numbers NoParts = []
-  parts_numbers (TypePart t more) = tree_numbers t ∷ parts_numbers more
-  parts_numbers (SizePart n more) = level 30 n 0 0 0 0 ∷ parts_numbers more
+  parts_numbers : (told : List ℕ → ℕ) → TypeParts → List (List ℕ)
+  parts_numbers told NoParts = []
+  parts_numbers told (TypePart t more) = tree_numbers told t ∷ parts_numbers told more
+  parts_numbers told (SizePart n more) = level 30 n 0 0 0 0 ∷ parts_numbers told more
 
-pub no_numbers : tree_numbers (Named []) ≡ []
+pub no_numbers : (told : List ℕ → ℕ) → tree_numbers told (Named []) ≡ []
 unfolding word_numbers
-no_numbers = refl
+no_numbers told = refl
 
 pub is_no : (b : Bool) → not b ≡ true → b ≡ false
 is_no true e = absurd (true≢false (sym e))
 is_no false e = refl
 
--- ---- each word's row
-format_numbers : (f : StorageFormat) → word_numbers (format_word f) ≡ level 23 (tag_of format_names f) 0 0 0 0
-unfolding word_numbers
-format_numbers format.R8Unorm = refl
-format_numbers _ = refl
+-- a length that is an override is told by the override's name
+abbrev pub LengthIsTold : (told : List ℕ → ℕ) → Names → ArraySize → Type 0
+LengthIsTold told under (size.Pending o) = word_numbers told (under.override_name o) ≡ level 8 o 0 0 0 0
+LengthIsTold told under _ = Unit {0}
 
-vector_filling : (n : VectorSize) → filling_of (vector_word n) ≡ OverScalar 1 (vector_number n) 0
-unfolding filling_of
-vector_filling Bi = refl
-vector_filling _ = refl
+abbrev pub InnerIsTold : (told : List ℕ → ℕ) → Names → TypeInner → Type 0
+InnerIsTold told under (inner.Array base n stride) = LengthIsTold told under n
+InnerIsTold told under (inner.BindingArray base n) = LengthIsTold told under n
+InnerIsTold told under _ = Unit {0}
 
-matrix_filling : (c r : VectorSize) → filling_of (matrix_word c r) ≡ OverScalar 2 (vector_number c) (vector_number r)
-unfolding filling_of
-matrix_filling Bi Bi = refl
-matrix_filling Bi Tri = refl
-matrix_filling Bi Quad = refl
-matrix_filling Tri Bi = refl
-matrix_filling Tri Tri = refl
-matrix_filling Tri Quad = refl
-matrix_filling Quad Bi = refl
-matrix_filling Quad Tri = refl
-matrix_filling Quad Quad = refl
+abbrev pub ResolutionIsTold : (told : List ℕ → ℕ) → Names → TypeResolution → Type 0
+ResolutionIsTold told under (Handle h) = Unit {0}
+ResolutionIsTold told under (Value it) = InnerIsTold told under it
 
-cooperative_filling : (c r : CooperativeSize) → filling_of (cooperative_word c r) ≡ OverRole (cooperative_number c) (cooperative_number r)
-unfolding filling_of
-cooperative_filling Eight Eight = refl
-cooperative_filling Eight Sixteen = refl
-cooperative_filling Sixteen Eight = refl
-cooperative_filling Sixteen Sixteen = refl
+-- the words of structs and of overrides tell their handles
+pub record AreTold (told : List ℕ → ℕ) (under : Names) : Type 0 where
+  pub structs : (h : ℕ) (t : Type_) → slice_get under.types h ≡ Some t → is_struct t.inner ≡ true → word_numbers told (under.struct_name h) ≡ level 8 h 0 0 0 0
+  pub lengths : (h : ℕ) (t : Type_) → slice_get under.types h ≡ Some t → InnerIsTold told under t.inner
 
-sampled_filling : (multi : Bool) (dim : ImageDimension) (arrayed : Bool) → filling_of (image_word (codes "texture_") multi dim arrayed) ≡ SampledImage (dimension_number dim) (truth_number arrayed) (truth_number multi)
-unfolding filling_of
-sampled_filling false D1 false = refl
-sampled_filling false D1 true = refl
-sampled_filling false D2 false = refl
-sampled_filling false D2 true = refl
-sampled_filling false D3 false = refl
-sampled_filling false D3 true = refl
-sampled_filling false Cube false = refl
-sampled_filling false Cube true = refl
-sampled_filling true D1 false = refl
-sampled_filling true D1 true = refl
-sampled_filling true D2 false = refl
-sampled_filling true D2 true = refl
-sampled_filling true D3 false = refl
-sampled_filling true D3 true = refl
-sampled_filling true Cube false = refl
-sampled_filling true Cube true = refl
+abbrev length_part : Names → ℕ → TypeParts
+length_part under o = TypePart (Named (under.override_name o)) NoParts
 
-storage_filling : (dim : ImageDimension) (arrayed : Bool) → filling_of (image_word (codes "texture_storage_") false dim arrayed) ≡ StorageImage (dimension_number dim) (truth_number arrayed)
-unfolding filling_of
-storage_filling D1 false = refl
-storage_filling D1 true = refl
-storage_filling D2 false = refl
-storage_filling D2 true = refl
-storage_filling D3 false = refl
-storage_filling D3 true = refl
-storage_filling Cube false = refl
-storage_filling Cube true = refl
+module _ (told : List ℕ → ℕ) where
+  -- ---- each word's row
+  format_numbers : (f : StorageFormat) → word_numbers told (format_word f) ≡ level 23 (tag_of format_names f) 0 0 0 0
+  unfolding word_numbers
+  format_numbers format.R8Unorm = refl
+  format_numbers _ = refl
 
-depth_numbers : (multi : Bool) (dim : ImageDimension) (arrayed : Bool) → word_numbers (image_word (codes "texture_depth_") multi dim arrayed) ≡ level 9 (dimension_number dim) (truth_number arrayed) 1 (truth_number multi) 0
-unfolding word_numbers
-depth_numbers false D1 false = refl
-depth_numbers false D1 true = refl
-depth_numbers false D2 false = refl
-depth_numbers false D2 true = refl
-depth_numbers false D3 false = refl
-depth_numbers false D3 true = refl
-depth_numbers false Cube false = refl
-depth_numbers false Cube true = refl
-depth_numbers true D1 false = refl
-depth_numbers true D1 true = refl
-depth_numbers true D2 false = refl
-depth_numbers true D2 true = refl
-depth_numbers true D3 false = refl
-depth_numbers true D3 true = refl
-depth_numbers true Cube false = refl
-depth_numbers true Cube true = refl
+  vector_filling : (n : VectorSize) → filling_of (vector_word n) ≡ OverScalar 1 (vector_number n) 0
+  unfolding filling_of
+  vector_filling Bi = refl
+  vector_filling _ = refl
 
-role_numbers : (r : CooperativeRole) → role_at (get_or (word_numbers (role_word r)) 1 0) ≡ role_number r
-unfolding word_numbers
-role_numbers A = refl
-role_numbers _ = refl
+  matrix_filling : (c r : VectorSize) → filling_of (matrix_word c r) ≡ OverScalar 2 (vector_number c) (vector_number r)
+  unfolding filling_of
+  matrix_filling Bi Bi = refl
+  matrix_filling Bi Tri = refl
+  matrix_filling Bi Quad = refl
+  matrix_filling Tri Bi = refl
+  matrix_filling Tri Tri = refl
+  matrix_filling Tri Quad = refl
+  matrix_filling Quad Bi = refl
+  matrix_filling Quad Tri = refl
+  matrix_filling Quad Quad = refl
 
-image_access_numbers : (a l s : Bool) → get_or (word_numbers (if a then codes "atomic" else (if l then (if s then codes "read_write" else codes "read") else codes "write"))) 1 0 ≡ (if a then 3 else (if l then (if s then 2 else 1) else 0))
-unfolding word_numbers
-image_access_numbers true l s = refl
-image_access_numbers false true true = refl
-image_access_numbers false true false = refl
-image_access_numbers false false s = refl
+  cooperative_filling : (c r : CooperativeSize) → filling_of (cooperative_word c r) ≡ OverRole (cooperative_number c) (cooperative_number r)
+  unfolding filling_of
+  cooperative_filling Eight Eight = refl
+  cooperative_filling Eight Sixteen = refl
+  cooperative_filling Sixteen Eight = refl
+  cooperative_filling Sixteen Sixteen = refl
 
--- a scalar of that kind and width
-abbrev IsScalarNumbers : (kind width : ℕ) → List ℕ → Type 0
-IsScalarNumbers k n w = word_numbers w ≡ level 0 k n 0 0 0
+  sampled_filling : (multi : Bool) (dim : ImageDimension) (arrayed : Bool) → filling_of (image_word (codes "texture_") multi dim arrayed) ≡ SampledImage (dimension_number dim) (truth_number arrayed) (truth_number multi)
+  unfolding filling_of
+  sampled_filling false D1 false = refl
+  sampled_filling false D1 true = refl
+  sampled_filling false D2 false = refl
+  sampled_filling false D2 true = refl
+  sampled_filling false D3 false = refl
+  sampled_filling false D3 true = refl
+  sampled_filling false Cube false = refl
+  sampled_filling false Cube true = refl
+  sampled_filling true D1 false = refl
+  sampled_filling true D1 true = refl
+  sampled_filling true D2 false = refl
+  sampled_filling true D2 true = refl
+  sampled_filling true D3 false = refl
+  sampled_filling true D3 true = refl
+  sampled_filling true Cube false = refl
+  sampled_filling true Cube true = refl
 
-scalar_choice : (k n m : ℕ) (u : List ℕ) (others : Option (List ℕ)) (w : List ℕ) → IsScalarNumbers k m u → (others ≡ Some w → IsScalarNumbers k n w) → (if n == m then Some u else others) ≡ Some w → IsScalarNumbers k n w
-scalar_choice k n m u others w one more e = by (n == m) refl e
-  where
-    by : (b : Bool) → (n == m) ≡ b → (if b then Some u else others) ≡ Some w → IsScalarNumbers k n w
-    by true at e =
-        let width : n ≡ m = eqb-true n m at in
-        let word : u ≡ w = same_Some u w e in
-        ap word_numbers (sym word) ∙ one ∙ ap (λ x. level 0 k x 0 0 0) (sym width)
-    by false at e = more e
+  storage_filling : (dim : ImageDimension) (arrayed : Bool) → filling_of (image_word (codes "texture_storage_") false dim arrayed) ≡ StorageImage (dimension_number dim) (truth_number arrayed)
+  unfolding filling_of
+  storage_filling D1 false = refl
+  storage_filling D1 true = refl
+  storage_filling D2 false = refl
+  storage_filling D2 true = refl
+  storage_filling D3 false = refl
+  storage_filling D3 true = refl
+  storage_filling Cube false = refl
+  storage_filling Cube true = refl
 
-scalar_numbers : (k : ScalarKind) (n : ℕ) (w : List ℕ) → scalar_word_of k n ≡ Some w → IsScalarNumbers (kind_number k) n w
-unfolding word_numbers
-scalar_numbers kind.Bool n w e = scalar_choice 3 n 1 (codes "bool") None w refl (λ e. absurd (cc)) e
-scalar_numbers kind.Sint n w e = scalar_choice 0 n 2 (codes "i16") _ w refl (scalar_choice 0 n 4 (codes "i32") _ w refl (scalar_choice 0 n 8 (codes "i64") None w refl (λ e. absurd (cc)))) e
-scalar_numbers kind.Uint n w e = scalar_choice 1 n 2 (codes "u16") _ w refl (scalar_choice 1 n 4 (codes "u32") _ w refl (scalar_choice 1 n 8 (codes "u64") None w refl (λ e. absurd (cc)))) e
-scalar_numbers kind.Float n w e = scalar_choice 2 n 2 (codes "f16") _ w refl (scalar_choice 2 n 4 (codes "f32") _ w refl (scalar_choice 2 n 8 (codes "f64") None w refl (λ e. absurd (cc)))) e
-scalar_numbers kind.AbstractInt n w e = absurd (cc)
-scalar_numbers kind.AbstractFloat n w e = absurd (cc)
+  depth_numbers : (multi : Bool) (dim : ImageDimension) (arrayed : Bool) → word_numbers told (image_word (codes "texture_depth_") multi dim arrayed) ≡ level 9 (dimension_number dim) (truth_number arrayed) 1 (truth_number multi) 0
+  unfolding word_numbers
+  depth_numbers false D1 false = refl
+  depth_numbers false D1 true = refl
+  depth_numbers false D2 false = refl
+  depth_numbers false D2 true = refl
+  depth_numbers false D3 false = refl
+  depth_numbers false D3 true = refl
+  depth_numbers false Cube false = refl
+  depth_numbers false Cube true = refl
+  depth_numbers true D1 false = refl
+  depth_numbers true D1 true = refl
+  depth_numbers true D2 false = refl
+  depth_numbers true D2 true = refl
+  depth_numbers true D3 false = refl
+  depth_numbers true D3 true = refl
+  depth_numbers true Cube false = refl
+  depth_numbers true Cube true = refl
 
--- ---- each type
-over_is_told : (word : Option (List ℕ)) (over : TypeSpecifier → TypeSpecifier) (it : List ℕ) → ((w : List ℕ) → word ≡ Some w → tree_numbers (over (Named w)) ≡ it) → (if is_some word then Some it else None) ≡ option_map tree_numbers (option_map over (option_map Named word))
-over_is_told None over it e = refl
-over_is_told (Some w) over it e = ap Some (sym (e w refl))
+  abbrev role_parts : CooperativeRole → TypeParts
+  role_parts r = TypePart (Named []) (TypePart (Named (role_word r)) NoParts)
 
-scalar_is_told : (s : Scalar) → scalar_form s ≡ option_map tree_numbers (scalar_tree s)
-scalar_is_told s = by (scalar_word s) (scalar_numbers s.kind s.width)
-  where
-    by : (word : Option (List ℕ)) → ((w : List ℕ) → word ≡ Some w → IsScalarNumbers (kind_number s.kind) s.width w) → (if is_some word then Some (level 0 (kind_number s.kind) s.width 0 0 0) else None) ≡ option_map tree_numbers (option_map Named word)
-    by None e = refl
-    by (Some w) e = ap Some (sym (e w refl))
+  role_numbers : (r : CooperativeRole) → role_at (letter_in (role_parts r)) ≡ role_number r
+  role_numbers A = refl
+  role_numbers _ = refl
 
--- a type over a scalar, by its word's row
-scalar_part : (word : List ℕ) (filling : Filling) → filling_of word ≡ filling → (s : Scalar) (w : List ℕ) → scalar_word s ≡ Some w → tree_numbers (of_one word (Named w)) ≡ filled filling (level 0 (kind_number s.kind) s.width 0 0 0 ∷ [])
-scalar_part word filling row s w e = λ i. filled (row i) (scalar_numbers s.kind s.width w e i ∷ [])
+  image_access_numbers : (a l s : Bool) → get_or (word_numbers told (if a then codes "atomic" else (if l then (if s then codes "read_write" else codes "read") else codes "write"))) 1 0 ≡ (if a then 3 else (if l then (if s then 2 else 1) else 0))
+  unfolding word_numbers
+  image_access_numbers true l s = refl
+  image_access_numbers false true true = refl
+  image_access_numbers false true false = refl
+  image_access_numbers false false s = refl
 
-value_is_told : (n : Option VectorSize) (s : Scalar) → value_form n s ≡ option_map tree_numbers (value_tree n s)
-value_is_told None s = scalar_is_told s
-value_is_told (Some n) s = over_is_told (scalar_word s) (of_one (vector_word n)) _ (scalar_part (vector_word n) _ (vector_filling n) s)
+  -- a scalar of that kind and width
+  abbrev IsScalarNumbers : (kind width : ℕ) → List ℕ → Type 0
+  IsScalarNumbers k n w = word_numbers told w ≡ level 0 k n 0 0 0
 
-buffer_is_told : (a s : Bool) (t : TypeSpecifier) → level 5 4 (if a then 2 else (if s then 1 else 0)) 0 0 0 ++ tree_numbers t ≡ tree_numbers (pointer_tree (codes "storage") (if a then Some (codes "atomic") else (if s then Some (codes "read_write") else None)) t)
-unfolding word_numbers filling_of
-buffer_is_told true s t = refl
-buffer_is_told false true t = refl
-buffer_is_told false false t = refl
+  scalar_choice : (k n m : ℕ) (u : List ℕ) (others : Option (List ℕ)) (w : List ℕ) → IsScalarNumbers k m u → (others ≡ Some w → IsScalarNumbers k n w) → (if n == m then Some u else others) ≡ Some w → IsScalarNumbers k n w
+  scalar_choice k n m u others w one more e = by (n == m) refl e
+    where
+      by : (b : Bool) → (n == m) ≡ b → (if b then Some u else others) ≡ Some w → IsScalarNumbers k n w
+      by true at e =
+          let width : n ≡ m = eqb-true n m at in
+          let word : u ≡ w = same_Some u w e in
+          ap (word_numbers told) (sym word) ∙ one ∙ ap (λ x. level 0 k x 0 0 0) (sym width)
+      by false at e = more e
 
-pointer_is_told : (at : AddressSpace) → is_handle_space at ≡ false → (p : Option (List ℕ)) (o : Option TypeSpecifier) → p ≡ option_map tree_numbers o → pointer_form at p ≡ option_map tree_numbers (pointer_tree_in (space_word at) (space_access_word at) o)
-unfolding word_numbers filling_of
-pointer_is_told at named p o e = ap (pointer_form at) e ∙ by o
-  where
-    nothing : (word access : Option (List ℕ)) → None ≡ option_map tree_numbers (pointer_tree_in word access None)
-    nothing None access = refl
-    nothing (Some word) access = refl
+  scalar_numbers : (k : ScalarKind) (n : ℕ) (w : List ℕ) → scalar_word_of k n ≡ Some w → IsScalarNumbers (kind_number k) n w
+  unfolding word_numbers
+  scalar_numbers kind.Bool n w e = scalar_choice 3 n 1 (codes "bool") None w refl (λ e. absurd (cc)) e
+  scalar_numbers kind.Sint n w e = scalar_choice 0 n 2 (codes "i16") _ w refl (scalar_choice 0 n 4 (codes "i32") _ w refl (scalar_choice 0 n 8 (codes "i64") None w refl (λ e. absurd (cc)))) e
+  scalar_numbers kind.Uint n w e = scalar_choice 1 n 2 (codes "u16") _ w refl (scalar_choice 1 n 4 (codes "u32") _ w refl (scalar_choice 1 n 8 (codes "u64") None w refl (λ e. absurd (cc)))) e
+  scalar_numbers kind.Float n w e = scalar_choice 2 n 2 (codes "f16") _ w refl (scalar_choice 2 n 4 (codes "f32") _ w refl (scalar_choice 2 n 8 (codes "f64") None w refl (λ e. absurd (cc)))) e
+  scalar_numbers kind.AbstractInt n w e = absurd (cc)
+  scalar_numbers kind.AbstractFloat n w e = absurd (cc)
 
-    pointee : (at : AddressSpace) → is_handle_space at ≡ false → (t : TypeSpecifier) → pointer_form at (Some (tree_numbers t)) ≡ option_map tree_numbers (pointer_tree_in (space_word at) (space_access_word at) (Some t))
-    pointee (space.Storage access) named t = ap Some (buffer_is_told (has atomic_bit access) (has store_bit access) t)
-    pointee space.Handle named t = absurd (true≢false named)
-    pointee space.Function named t = refl
-    pointee space.Private named t = refl
-    pointee space.WorkGroup named t = refl
-    pointee space.Uniform named t = refl
-    pointee space.Immediate named t = refl
-    pointee space.TaskPayload named t = refl
-    pointee space.RayPayload named t = refl
-    pointee space.IncomingRayPayload named t = refl
+  -- ---- each type
+  over_is_told : (word : Option (List ℕ)) (over : TypeSpecifier → TypeSpecifier) (it : List ℕ) → ((w : List ℕ) → word ≡ Some w → tree_numbers told (over (Named w)) ≡ it) → (if is_some word then Some it else None) ≡ option_map (tree_numbers told) (option_map over (option_map Named word))
+  over_is_told None over it e = refl
+  over_is_told (Some w) over it e = ap Some (sym (e w refl))
 
-    by : (o : Option TypeSpecifier) → pointer_form at (option_map tree_numbers o) ≡ option_map tree_numbers (pointer_tree_in (space_word at) (space_access_word at) o)
-    by None = nothing (space_word at) (space_access_word at)
-    by (Some t) = pointee at named t
+  scalar_is_told : (s : Scalar) → scalar_form s ≡ option_map (tree_numbers told) (scalar_tree s)
+  scalar_is_told s = by (scalar_word s) (scalar_numbers s.kind s.width)
+    where
+      by : (word : Option (List ℕ)) → ((w : List ℕ) → word ≡ Some w → IsScalarNumbers (kind_number s.kind) s.width w) → (if is_some word then Some (level 0 (kind_number s.kind) s.width 0 0 0) else None) ≡ option_map (tree_numbers told) (option_map Named word)
+      by None e = refl
+      by (Some w) e = ap Some (sym (e w refl))
 
-value_pointer_is_told : (at : AddressSpace) (p : Option (List ℕ)) (o : Option TypeSpecifier) → p ≡ option_map tree_numbers o → value_pointer_form at p ≡ option_map tree_numbers (value_pointer_tree_in (space_word at) (space_access_word at) o)
-value_pointer_is_told space.Handle p o e = refl
-value_pointer_is_told space.Function p o e = pointer_is_told space.Function refl p o e
-value_pointer_is_told space.Private p o e = pointer_is_told space.Private refl p o e
-value_pointer_is_told space.WorkGroup p o e = pointer_is_told space.WorkGroup refl p o e
-value_pointer_is_told space.Uniform p o e = pointer_is_told space.Uniform refl p o e
-value_pointer_is_told (space.Storage access) p o e = pointer_is_told (space.Storage access) refl p o e
-value_pointer_is_told space.Immediate p o e = pointer_is_told space.Immediate refl p o e
-value_pointer_is_told space.TaskPayload p o e = pointer_is_told space.TaskPayload refl p o e
-value_pointer_is_told space.RayPayload p o e = pointer_is_told space.RayPayload refl p o e
-value_pointer_is_told space.IncomingRayPayload p o e = pointer_is_told space.IncomingRayPayload refl p o e
+  -- a type over a scalar, by its word's row
+  scalar_part : (word : List ℕ) (filling : Filling) → filling_of word ≡ filling → (s : Scalar) (w : List ℕ) → scalar_word s ≡ Some w → tree_numbers told (of_one word (Named w)) ≡ filled filling 0 (level 0 (kind_number s.kind) s.width 0 0 0 ∷ [])
+  scalar_part word filling row s w e = λ i. filled (row i) 0 (scalar_numbers s.kind s.width w e i ∷ [])
 
-array_is_told : (types : List Type_) (word : List ℕ) (tag : ℕ) → filling_of word ≡ ArrayOf tag → (n : ArraySize) (p : Option (List ℕ)) (o : Option TypeSpecifier) → p ≡ option_map tree_numbers o → array_form tag n p ≡ option_map tree_numbers (option_map (array_tree (handle_names types) word n) o)
-unfolding word_numbers
-array_is_told types word tag row n p o e = ap (array_form tag n) e ∙ by n o
-  where
-    by : (n : ArraySize) (o : Option TypeSpecifier) → array_form tag n (option_map tree_numbers o) ≡ option_map tree_numbers (option_map (array_tree (handle_names types) word n) o)
-    by (size.Constant number) None = refl
-    by (size.Pending handle) None = refl
-    by size.Dynamic None = refl
-    by (size.Constant number) (Some t) = λ i. Some (filled (sym row i) (parts_numbers (TypePart t (SizePart (non_zero_u32_get number) NoParts))))
-    by (size.Pending handle) (Some t) = λ i. Some (filled (sym row i) (parts_numbers (TypePart t (TypePart (Named (handle ∷ [])) NoParts))))
-    by size.Dynamic (Some t) = λ i. Some (filled (sym row i) (parts_numbers (TypePart t NoParts)))
+  value_is_told : (n : Option VectorSize) (s : Scalar) → value_form n s ≡ option_map (tree_numbers told) (value_tree n s)
+  value_is_told None s = scalar_is_told s
+  value_is_told (Some n) s = over_is_told (scalar_word s) (of_one (vector_word n)) _ (scalar_part (vector_word n) _ (vector_filling n) s)
 
-image_is_told : (dim : ImageDimension) (arrayed : Bool) (c : ImageClass) → image_form dim arrayed c ≡ option_map tree_numbers (image_tree dim arrayed c)
-unfolding word_numbers
-image_is_told dim arrayed (class.Sampled k multi) =
-    let s : Scalar = record { kind = k; width = 4 } in
-    let word = image_word (codes "texture_") multi dim arrayed in
-    over_is_told (scalar_word s) (of_one word) _ (scalar_part word _ (sampled_filling multi dim arrayed) s)
-image_is_told dim arrayed (class.Depth multi) = ap Some (sym (depth_numbers multi dim arrayed))
-image_is_told dim arrayed class.External = refl
-image_is_told dim arrayed (class.Storage f access) =
-    let access_told = image_access_numbers (has atomic_bit access) (has load_bit access) (has store_bit access) in
-    sym ((λ i. Some (filled (storage_filling dim arrayed i) (format_numbers f i ∷ word_numbers (image_access_word access) ∷ []))) ∙
-    ap (λ x. Some (level 9 (dimension_number dim) (truth_number arrayed) 2 (tag_of format_names f) x)) access_told)
+  buffer_is_told : (a s : Bool) (t : TypeSpecifier) → level 5 4 (if a then 2 else (if s then 1 else 0)) 0 0 0 ++ tree_numbers told t ≡ tree_numbers told (pointer_tree (codes "storage") (if a then Some (codes "atomic") else (if s then Some (codes "read_write") else None)) t)
+  unfolding word_numbers filling_of
+  buffer_is_told true s t = refl
+  buffer_is_told false true t = refl
+  buffer_is_told false false t = refl
 
-sampler_is_told : (b : Bool) → Some (level 10 (truth_number b) 0 0 0 0) ≡ Some (word_numbers (sampler_word b))
-unfolding word_numbers
-sampler_is_told true = refl
-sampler_is_told false = refl
+  pointer_is_told : (at : AddressSpace) → is_handle_space at ≡ false → (p : Option (List ℕ)) (o : Option TypeSpecifier) → p ≡ option_map (tree_numbers told) o → pointer_form at p ≡ option_map (tree_numbers told) (pointer_tree_in (space_word at) (space_access_word at) o)
+  unfolding word_numbers filling_of
+  pointer_is_told at named p o e = ap (pointer_form at) e ∙ by o
+    where
+      nothing : (word access : Option (List ℕ)) → None ≡ option_map (tree_numbers told) (pointer_tree_in word access None)
+      nothing None access = refl
+      nothing (Some word) access = refl
 
-structure_is_told : (b : Bool) → Some (level 11 (truth_number b) 0 0 0 0) ≡ Some (tree_numbers (ray_tree (codes "acceleration_structure") b))
-unfolding word_numbers filling_of
-structure_is_told true = refl
-structure_is_told false = refl
+      pointee : (at : AddressSpace) → is_handle_space at ≡ false → (t : TypeSpecifier) → pointer_form at (Some (tree_numbers told t)) ≡ option_map (tree_numbers told) (pointer_tree_in (space_word at) (space_access_word at) (Some t))
+      pointee (space.Storage access) named t = ap Some (buffer_is_told (has atomic_bit access) (has store_bit access) t)
+      pointee space.Handle named t = absurd (true≢false named)
+      pointee space.Function named t = refl
+      pointee space.Private named t = refl
+      pointee space.WorkGroup named t = refl
+      pointee space.Uniform named t = refl
+      pointee space.Immediate named t = refl
+      pointee space.TaskPayload named t = refl
+      pointee space.RayPayload named t = refl
+      pointee space.IncomingRayPayload named t = refl
 
-query_is_told : (b : Bool) → Some (level 12 (truth_number b) 0 0 0 0) ≡ Some (tree_numbers (ray_tree (codes "ray_query") b))
-unfolding word_numbers filling_of
-query_is_told true = refl
-query_is_told false = refl
+      by : (o : Option TypeSpecifier) → pointer_form at (option_map (tree_numbers told) o) ≡ option_map (tree_numbers told) (pointer_tree_in (space_word at) (space_access_word at) o)
+      by None = nothing (space_word at) (space_access_word at)
+      by (Some t) = pointee at named t
+
+  value_pointer_is_told : (at : AddressSpace) (p : Option (List ℕ)) (o : Option TypeSpecifier) → p ≡ option_map (tree_numbers told) o → value_pointer_form at p ≡ option_map (tree_numbers told) (value_pointer_tree_in (space_word at) (space_access_word at) o)
+  value_pointer_is_told space.Handle p o e = refl
+  value_pointer_is_told space.Function p o e = pointer_is_told space.Function refl p o e
+  value_pointer_is_told space.Private p o e = pointer_is_told space.Private refl p o e
+  value_pointer_is_told space.WorkGroup p o e = pointer_is_told space.WorkGroup refl p o e
+  value_pointer_is_told space.Uniform p o e = pointer_is_told space.Uniform refl p o e
+  value_pointer_is_told (space.Storage access) p o e = pointer_is_told (space.Storage access) refl p o e
+  value_pointer_is_told space.Immediate p o e = pointer_is_told space.Immediate refl p o e
+  value_pointer_is_told space.TaskPayload p o e = pointer_is_told space.TaskPayload refl p o e
+  value_pointer_is_told space.RayPayload p o e = pointer_is_told space.RayPayload refl p o e
+  value_pointer_is_told space.IncomingRayPayload p o e = pointer_is_told space.IncomingRayPayload refl p o e
+
+  array_is_told : (under : Names) (word : List ℕ) (tag : ℕ) → filling_of word ≡ ArrayOf tag → (n : ArraySize) → LengthIsTold told under n → (p : Option (List ℕ)) (o : Option TypeSpecifier) → p ≡ option_map (tree_numbers told) o → array_form tag n p ≡ option_map (tree_numbers told) (option_map (array_tree under word n) o)
+  unfolding word_numbers
+  array_is_told under word tag row n is p o e = ap (array_form tag n) e ∙ by n is o
+    where
+      by : (n : ArraySize) → LengthIsTold told under n → (o : Option TypeSpecifier) → array_form tag n (option_map (tree_numbers told) o) ≡ option_map (tree_numbers told) (option_map (array_tree under word n) o)
+      by (size.Constant number) is None = refl
+      by (size.Pending handle) is None = refl
+      by size.Dynamic is None = refl
+      by (size.Constant number) is (Some t) = λ i. Some (filled (sym row i) 0 (parts_numbers told (TypePart t (SizePart (non_zero_u32_get number) NoParts))))
+      by (size.Pending handle) is (Some t) = (λ i. Some (level tag (length_tag (get_or (sym is i) 0 0)) (get_or (sym is i) 1 0) 0 0 0 ++ tree_numbers told t)) ∙ (λ i. Some (filled (sym row i) (letter_in (TypePart t (length_part under handle))) (parts_numbers told (TypePart t (length_part under handle)))))
+      by size.Dynamic is (Some t) = λ i. Some (filled (sym row i) 0 (parts_numbers told (TypePart t NoParts)))
+
+  image_is_told : (dim : ImageDimension) (arrayed : Bool) (c : ImageClass) → image_form dim arrayed c ≡ option_map (tree_numbers told) (image_tree dim arrayed c)
+  unfolding word_numbers
+  image_is_told dim arrayed (class.Sampled k multi) =
+      let s : Scalar = record { kind = k; width = 4 } in
+      let word = image_word (codes "texture_") multi dim arrayed in
+      over_is_told (scalar_word s) (of_one word) _ (scalar_part word _ (sampled_filling multi dim arrayed) s)
+  image_is_told dim arrayed (class.Depth multi) = ap Some (sym (depth_numbers multi dim arrayed))
+  image_is_told dim arrayed class.External = refl
+  image_is_told dim arrayed (class.Storage f access) =
+      let access_told = image_access_numbers (has atomic_bit access) (has load_bit access) (has store_bit access) in
+      sym ((λ i. Some (filled (storage_filling dim arrayed i) (letter_in (TypePart (Named []) (TypePart (Named (image_access_word access)) NoParts))) (format_numbers f i ∷ word_numbers told (image_access_word access) ∷ []))) ∙
+      ap (λ x. Some (level 9 (dimension_number dim) (truth_number arrayed) 2 (tag_of format_names f) x)) access_told)
+
+  sampler_is_told : (b : Bool) → Some (level 10 (truth_number b) 0 0 0 0) ≡ Some (word_numbers told (sampler_word b))
+  unfolding word_numbers
+  sampler_is_told true = refl
+  sampler_is_told false = refl
+
+  structure_is_told : (b : Bool) → Some (level 11 (truth_number b) 0 0 0 0) ≡ Some (tree_numbers told (ray_tree (codes "acceleration_structure") b))
+  unfolding word_numbers filling_of
+  structure_is_told true = refl
+  structure_is_told false = refl
+
+  query_is_told : (b : Bool) → Some (level 12 (truth_number b) 0 0 0 0) ≡ Some (tree_numbers told (ray_tree (codes "ray_query") b))
+  unfolding word_numbers filling_of
+  query_is_told true = refl
+  query_is_told false = refl
+
+  module _ (under : Names) where
+    inner_is_told : (f : ℕ → Option (List ℕ)) (g : ℕ → Option TypeSpecifier) → ((h : ℕ) → f h ≡ option_map (tree_numbers told) (g h)) → (it : TypeInner) → InnerIsTold told under it → is_handle_pointer it ≡ false → inner_form_by f it ≡ option_map (tree_numbers told) (inner_tree_by under g it)
+    unfolding filling_of
+    inner_is_told f g same (inner.Scalar s) is named = scalar_is_told s
+    inner_is_told f g same (inner.Vector n s) is named = value_is_told (Some n) s
+    inner_is_told f g same (inner.Matrix c r s) is named = over_is_told (scalar_word s) (of_one (matrix_word c r)) _ (scalar_part (matrix_word c r) _ (matrix_filling c r) s)
+    inner_is_told f g same (inner.CooperativeMatrix c r s role) is named =
+        over_is_told (scalar_word s) (λ t. of_two (cooperative_word c r) t (Named (role_word role))) _
+        (λ w e. (λ i. filled (cooperative_filling c r i) (letter_in (role_parts role)) (scalar_numbers s.kind s.width w e i ∷ word_numbers told (role_word role) ∷ [])) ∙
+        ap (λ x. level 3 (kind_number s.kind) s.width (cooperative_number c) (cooperative_number r) x) (role_numbers role))
+    inner_is_told f g same (inner.Atomic s) is named = over_is_told (scalar_word s) (of_one (codes "atomic")) _ (scalar_part (codes "atomic") _ refl s)
+    inner_is_told f g same (inner.Pointer base at) is named = pointer_is_told at named (f base) (g base) (same base)
+    inner_is_told f g same (inner.ValuePointer n s at) is named = value_pointer_is_told at (value_form n s) (value_tree n s) (value_is_told n s)
+    inner_is_told f g same (inner.Array base n stride) is named = array_is_told under (codes "array") 6 refl n is (f base) (g base) (same base)
+    inner_is_told f g same (inner.BindingArray base n) is named = array_is_told under (codes "binding_array") 7 refl n is (f base) (g base) (same base)
+    inner_is_told f g same (inner.Struct members span) is named = refl
+    inner_is_told f g same (inner.Image dim arrayed c) is named = image_is_told dim arrayed c
+    inner_is_told f g same (inner.Sampler comparison) is named = sampler_is_told comparison
+    inner_is_told f g same (inner.AccelerationStructure b) is named = structure_is_told b
+    inner_is_told f g same (inner.RayQuery b) is named = query_is_told b
+
+    module _ (are : AreTold told under) (named : (h : ℕ) (t : Type_) → slice_get under.types h ≡ Some t → is_handle_pointer t.inner ≡ false) where
+      found_is_told : (f : ℕ → Option (List ℕ)) (g : ℕ → Option TypeSpecifier) → ((h : ℕ) → f h ≡ option_map (tree_numbers told) (g h)) → (h : ℕ) (o : Option Type_) → slice_get under.types h ≡ o → found_form_by f h o ≡ option_map (tree_numbers told) (found_tree_by under g h o)
+      unfolding word_numbers
+      found_is_told f g same h None at = refl
+      found_is_told f g same h (Some t) at = by (is_struct t.inner) refl _ _ (inner_is_told f g same t.inner (are.lengths h t at) (named h t at))
+        where
+          by : (b : Bool) → is_struct t.inner ≡ b → (x : Option (List ℕ)) (y : Option TypeSpecifier) → x ≡ option_map (tree_numbers told) y → (if b then Some (level 8 h 0 0 0 0) else x) ≡ option_map (tree_numbers told) (if b then Some (Named (under.struct_name h)) else y)
+          by true is x y e = ap Some (sym (are.structs h t at is))
+          by false is x y e = e
+
+      within_is_told : (levels h : ℕ) → form_within levels under.types h ≡ option_map (tree_numbers told) (tree_within levels under h)
+      within_is_told zero h = refl
+      within_is_told (suc levels) h = found_is_told (form_within levels under.types) (tree_within levels under) (within_is_told levels) h (slice_get under.types h) refl
+
+      handle_is_told : (h : ℕ) → handle_form under.types h ≡ option_map (tree_numbers told) (type_tree under h)
+      unfolding type_tree handle_form
+      handle_is_told h = within_is_told (suc h) h
+
+      -- a type's numbers can be read off its tree
+      pub form_is_told : (r : TypeResolution) → ResolutionIsTold told under r → resolution_is_fit r ≡ true → type_form under.types r ≡ option_map (tree_numbers told) (resolution_tree under r)
+      form_is_told (Handle h) is fit = handle_is_told h
+      form_is_told (Value it) is fit = inner_is_told (handle_form under.types) (type_tree under) handle_is_told it is (is_no (is_handle_pointer it) (and_parts _ _ fit).1)
+
+-- ---- names that are handles
+abbrev pub own_handle : List ℕ → ℕ
+own_handle w = get_or w 0 0
 
 module _ (types : List Type_) where
-  inner_is_told : (f : ℕ → Option (List ℕ)) (g : ℕ → Option TypeSpecifier) → ((h : ℕ) → f h ≡ option_map tree_numbers (g h)) → (it : TypeInner) → is_handle_pointer it ≡ false → inner_form_by f it ≡ option_map tree_numbers (inner_tree_by (handle_names types) g it)
-  unfolding filling_of
-  inner_is_told f g same (inner.Scalar s) named = scalar_is_told s
-  inner_is_told f g same (inner.Vector n s) named = value_is_told (Some n) s
-  inner_is_told f g same (inner.Matrix c r s) named = over_is_told (scalar_word s) (of_one (matrix_word c r)) _ (scalar_part (matrix_word c r) _ (matrix_filling c r) s)
-  inner_is_told f g same (inner.CooperativeMatrix c r s role) named =
-      over_is_told (scalar_word s) (λ t. of_two (cooperative_word c r) t (Named (role_word role))) _
-      (λ w e. (λ i. filled (cooperative_filling c r i) (scalar_numbers s.kind s.width w e i ∷ word_numbers (role_word role) ∷ [])) ∙
-      ap (λ x. level 3 (kind_number s.kind) s.width (cooperative_number c) (cooperative_number r) x) (role_numbers role))
-  inner_is_told f g same (inner.Atomic s) named = over_is_told (scalar_word s) (of_one (codes "atomic")) _ (scalar_part (codes "atomic") _ refl s)
-  inner_is_told f g same (inner.Pointer base at) named = pointer_is_told at named (f base) (g base) (same base)
-  inner_is_told f g same (inner.ValuePointer n s at) named = value_pointer_is_told at (value_form n s) (value_tree n s) (value_is_told n s)
-  inner_is_told f g same (inner.Array base n stride) named = array_is_told types (codes "array") 6 refl n (f base) (g base) (same base)
-  inner_is_told f g same (inner.BindingArray base n) named = array_is_told types (codes "binding_array") 7 refl n (f base) (g base) (same base)
-  inner_is_told f g same (inner.Struct members span) named = refl
-  inner_is_told f g same (inner.Image dim arrayed c) named = image_is_told dim arrayed c
-  inner_is_told f g same (inner.Sampler comparison) named = sampler_is_told comparison
-  inner_is_told f g same (inner.AccelerationStructure b) named = structure_is_told b
-  inner_is_told f g same (inner.RayQuery b) named = query_is_told b
+  length_is : (n : ArraySize) → LengthIsTold own_handle (handle_names types) n
+  unfolding word_numbers
+  length_is (size.Pending o) = refl
+  length_is _ = tt
 
-  module _ (named : (h : ℕ) (t : Type_) → slice_get types h ≡ Some t → is_handle_pointer t.inner ≡ false) where
-    found_is_told : (f : ℕ → Option (List ℕ)) (g : ℕ → Option TypeSpecifier) → ((h : ℕ) → f h ≡ option_map tree_numbers (g h)) → (h : ℕ) (o : Option Type_) → slice_get types h ≡ o → found_form_by f h o ≡ option_map tree_numbers (found_tree_by (handle_names types) g h o)
-    unfolding word_numbers
-    found_is_told f g same h None at = refl
-    found_is_told f g same h (Some t) at = by (is_struct t.inner) _ _ (inner_is_told f g same t.inner (named h t at))
-      where
-        by : (b : Bool) (x : Option (List ℕ)) (y : Option TypeSpecifier) → x ≡ option_map tree_numbers y → (if b then Some (level 8 h 0 0 0 0) else x) ≡ option_map tree_numbers (if b then Some (Named (h ∷ [])) else y)
-        by true x y e = refl
-        by false x y e = e
+  inner_is : (it : TypeInner) → InnerIsTold own_handle (handle_names types) it
+  inner_is (inner.Array base n stride) = length_is n
+  inner_is (inner.BindingArray base n) = length_is n
+  inner_is _ = tt
 
-    within_is_told : (levels h : ℕ) → form_within levels types h ≡ option_map tree_numbers (tree_within levels (handle_names types) h)
-    within_is_told zero h = refl
-    within_is_told (suc levels) h = found_is_told (form_within levels types) (tree_within levels (handle_names types)) (within_is_told levels) h (slice_get types h) refl
+  struct_is : (h : ℕ) → word_numbers own_handle (h ∷ []) ≡ level 8 h 0 0 0 0
+  unfolding word_numbers
+  struct_is h = refl
 
-    handle_is_told : (h : ℕ) → handle_form types h ≡ option_map tree_numbers (type_tree (handle_names types) h)
-    unfolding type_tree handle_form
-    handle_is_told h = within_is_told (suc h) h
+  pub handles_are_told : AreTold own_handle (handle_names types)
+  handles_are_told = record { structs = λ h t at is. struct_is h; lengths = λ h t at. inner_is t.inner }
 
-    -- a type's numbers can be read off its tree
-    pub form_is_told : (r : TypeResolution) → resolution_is_fit r ≡ true → type_form types r ≡ option_map tree_numbers (resolution_tree (handle_names types) r)
-    form_is_told (Handle h) fit = handle_is_told h
-    form_is_told (Value it) fit = inner_is_told (handle_form types) (type_tree (handle_names types)) handle_is_told it (is_no (is_handle_pointer it) (and_parts _ _ fit).1)
+  pub resolution_is_told : (r : TypeResolution) → ResolutionIsTold own_handle (handle_names types) r
+  resolution_is_told (Handle h) = tt
+  resolution_is_told (Value it) = inner_is it

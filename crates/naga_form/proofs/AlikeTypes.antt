@@ -45,7 +45,7 @@ use Rattle.naga_form.specs.TypeTrees.{value_tree, pointer_tree_in, array_tree}
 use Rattle.naga_form.specs.TypeTrees.{value_pointer_tree_in, image_tree, ray_tree, inner_tree_by}
 use Rattle.naga_form.specs.TypeTrees.{found_tree_by, tree_within, type_tree}
 use Rattle.naga_form.specs.TypeTrees.{resolution_tree}
-use Rattle.naga_form.specs.Readable.{handle_names}
+use Rattle.naga_words.specs.Contexts.{Names}
 
 -- ---- from numbers to trees
 scalar_read : (kind width : ℕ) → TypeSpecifier
@@ -63,9 +63,9 @@ abbrev pointer_read : Option (List ℕ) → (access : Option (List ℕ)) → Typ
 pointer_read None access pointee = pointee
 pointer_read (Some word) access pointee = pointer_tree word access pointee
 
-abbrev array_read : List ℕ → (length number : ℕ) → TypeSpecifier → TypeSpecifier
-array_read word l n element =
-    get_or (Template word (TypePart element (SizePart n NoParts)) ∷ of_two word element (Named (n ∷ [])) ∷ []) l (of_one word element)
+abbrev array_read : (under : Names) → List ℕ → (length number : ℕ) → TypeSpecifier → TypeSpecifier
+array_read under word l n element =
+    get_or (Template word (TypePart element (SizePart n NoParts)) ∷ of_two word element (Named (under.override_name n)) ∷ []) l (of_one word element)
 
 abbrev access_read : ℕ → List ℕ
 access_read n = get_or (codes "write" ∷ codes "read" ∷ codes "read_write" ∷ codes "atomic" ∷ []) n []
@@ -83,8 +83,8 @@ image_read dim arrayed c d e =
     ) c (Named (codes "texture_external"))
 
 -- a level, above what it is over
-pub level_read : (tag a b c d e : ℕ) → TypeSpecifier → TypeSpecifier
-level_read tag a b c d e more =
+pub level_read : (under : Names) → (tag a b c d e : ℕ) → TypeSpecifier → TypeSpecifier
+level_read under tag a b c d e more =
     get_or (
     scalar_read a b ∷
     of_one (vector_word (vector_of c)) (scalar_read a b) ∷
@@ -92,9 +92,9 @@ level_read tag a b c d e more =
     of_two (cooperative_word (cooperative_of c) (cooperative_of d)) (scalar_read a b) (Named (role_word (role_of e))) ∷
     of_one (codes "atomic") (scalar_read a b) ∷
     pointer_read (space_read a) (buffer_access_read b) more ∷
-    array_read (codes "array") a b more ∷
-    array_read (codes "binding_array") a b more ∷
-    Named (a ∷ []) ∷
+    array_read under (codes "array") a b more ∷
+    array_read under (codes "binding_array") a b more ∷
+    Named (under.struct_name a) ∷
     image_read (dimension_of a) (truth_of b) c d e ∷
     Named (sampler_word (truth_of a)) ∷
     ray_tree (codes "acceleration_structure") (truth_of a) ∷
@@ -102,19 +102,19 @@ level_read tag a b c d e more =
     []
     ) tag (Named [])
 
-abbrev pub form_read : List ℕ → TypeSpecifier
-form_read (tag ∷ a ∷ b ∷ c ∷ d ∷ e ∷ more) = level_read tag a b c d e (form_read more)
-form_read _ = Named []
+abbrev pub form_read : Names → List ℕ → TypeSpecifier
+form_read under (tag ∷ a ∷ b ∷ c ∷ d ∷ e ∷ more) = level_read under tag a b c d e (form_read under more)
+form_read under _ = Named []
 
 -- no level begins with the number of a type without a form
-pub other_read : (code : List ℕ) → form_read (32 ∷ code) ≡ Named []
+pub other_read : (under : Names) → (code : List ℕ) → form_read under (32 ∷ code) ≡ Named []
 unfolding level_read
-other_read [] = refl
-other_read (a ∷ []) = refl
-other_read (a ∷ b ∷ []) = refl
-other_read (a ∷ b ∷ c ∷ []) = refl
-other_read (a ∷ b ∷ c ∷ d ∷ []) = refl
-other_read (a ∷ b ∷ c ∷ d ∷ e ∷ more) = refl
+other_read under [] = refl
+other_read under (a ∷ []) = refl
+other_read under (a ∷ b ∷ []) = refl
+other_read under (a ∷ b ∷ c ∷ []) = refl
+other_read under (a ∷ b ∷ c ∷ d ∷ []) = refl
+other_read under (a ∷ b ∷ c ∷ d ∷ e ∷ more) = refl
 
 space_is_read : (at : AddressSpace) → space_read (space_number at) ≡ space_word at
 space_is_read space.Function = refl
@@ -140,26 +140,26 @@ scalar_is_read : (s : Scalar) → scalar_read (kind_number s.kind) s.width ≡ N
 unfolding scalar_read
 scalar_is_read s = λ i. Named (unwrap_or (scalar_word_of (kind_told s.kind i) s.width) [])
 
-over_is_read : (word : Option (List ℕ)) (over : TypeSpecifier → TypeSpecifier) (it : List ℕ) → form_read it ≡ over (Named (unwrap_or word [])) → option_map over (option_map Named word) ≡ option_map form_read (if is_some word then Some it else None)
-over_is_read None over it e = refl
-over_is_read (Some word) over it e = ap Some (sym e)
+over_is_read : (under : Names) → (word : Option (List ℕ)) (over : TypeSpecifier → TypeSpecifier) (it : List ℕ) → form_read under it ≡ over (Named (unwrap_or word [])) → option_map over (option_map Named word) ≡ option_map (form_read under) (if is_some word then Some it else None)
+over_is_read under None over it e = refl
+over_is_read under (Some word) over it e = ap Some (sym e)
 
-scalar_form_is_read : (s : Scalar) → option_map Named (scalar_word s) ≡ option_map form_read (over_scalar 0 s 0 0 0)
+scalar_form_is_read : (under : Names) → (s : Scalar) → option_map Named (scalar_word s) ≡ option_map (form_read under) (over_scalar 0 s 0 0 0)
 unfolding level_read
-scalar_form_is_read s = by (scalar_word s) (scalar_is_read s)
+scalar_form_is_read under s = by (scalar_word s) (scalar_is_read s)
   where
-    by : (word : Option (List ℕ)) → scalar_read (kind_number s.kind) s.width ≡ Named (unwrap_or word []) → option_map Named word ≡ option_map form_read (if is_some word then Some (level 0 (kind_number s.kind) s.width 0 0 0) else None)
+    by : (word : Option (List ℕ)) → scalar_read (kind_number s.kind) s.width ≡ Named (unwrap_or word []) → option_map Named word ≡ option_map (form_read under) (if is_some word then Some (level 0 (kind_number s.kind) s.width 0 0 0) else None)
     by None e = refl
     by (Some word) e = ap Some (sym e)
 
-value_form_is_read : (n : Option VectorSize) (s : Scalar) → value_tree n s ≡ option_map form_read (value_form n s)
+value_form_is_read : (under : Names) → (n : Option VectorSize) (s : Scalar) → value_tree n s ≡ option_map (form_read under) (value_form n s)
 unfolding level_read
-value_form_is_read None s = scalar_form_is_read s
-value_form_is_read (Some n) s = over_is_read (scalar_word s) (of_one (vector_word n)) _ (λ i. of_one (vector_word (vector_told n i)) (scalar_is_read s i))
+value_form_is_read under None s = scalar_form_is_read under s
+value_form_is_read under (Some n) s = over_is_read under (scalar_word s) (of_one (vector_word n)) _ (λ i. of_one (vector_word (vector_told n i)) (scalar_is_read s i))
 
-pointer_is_read : (at : AddressSpace) (o : Option TypeSpecifier) (p : Option (List ℕ)) → o ≡ option_map form_read p → pointer_tree_in (space_word at) (space_access_word at) o ≡ option_map form_read (pointer_form at p)
+pointer_is_read : (under : Names) → (at : AddressSpace) (o : Option TypeSpecifier) (p : Option (List ℕ)) → o ≡ option_map (form_read under) p → pointer_tree_in (space_word at) (space_access_word at) o ≡ option_map (form_read under) (pointer_form at p)
 unfolding level_read
-pointer_is_read at o p e = ap (pointer_tree_in (space_word at) (space_access_word at)) e ∙ by p
+pointer_is_read under at o p e = ap (pointer_tree_in (space_word at) (space_access_word at)) e ∙ by p
   where
     chosen : (word access : Option (List ℕ)) (t : TypeSpecifier) → pointer_tree_in word access (Some t) ≡ Some (pointer_read word access t)
     chosen None access t = refl
@@ -169,29 +169,29 @@ pointer_is_read at o p e = ap (pointer_tree_in (space_word at) (space_access_wor
     nothing None access = refl
     nothing (Some word) access = refl
 
-    by : (p : Option (List ℕ)) → pointer_tree_in (space_word at) (space_access_word at) (option_map form_read p) ≡ option_map form_read (pointer_form at p)
+    by : (p : Option (List ℕ)) → pointer_tree_in (space_word at) (space_access_word at) (option_map (form_read under) p) ≡ option_map (form_read under) (pointer_form at p)
     by None = nothing (space_word at) (space_access_word at)
     by (Some it) =
-        chosen (space_word at) (space_access_word at) (form_read it) ∙
-        (λ i. Some (pointer_read (sym (space_is_read at) i) (sym (access_number_is_read at) i) (form_read it)))
+        chosen (space_word at) (space_access_word at) (form_read under it) ∙
+        (λ i. Some (pointer_read (sym (space_is_read at) i) (sym (access_number_is_read at) i) (form_read under it)))
 
-value_pointer_is_read : (at : AddressSpace) (o : Option TypeSpecifier) (p : Option (List ℕ)) → o ≡ option_map form_read p → value_pointer_tree_in (space_word at) (space_access_word at) o ≡ option_map form_read (value_pointer_form at p)
-value_pointer_is_read space.Handle o p e = refl
-value_pointer_is_read space.Function o p e = pointer_is_read space.Function o p e
-value_pointer_is_read space.Private o p e = pointer_is_read space.Private o p e
-value_pointer_is_read space.WorkGroup o p e = pointer_is_read space.WorkGroup o p e
-value_pointer_is_read space.Uniform o p e = pointer_is_read space.Uniform o p e
-value_pointer_is_read (space.Storage access) o p e = pointer_is_read (space.Storage access) o p e
-value_pointer_is_read space.Immediate o p e = pointer_is_read space.Immediate o p e
-value_pointer_is_read space.TaskPayload o p e = pointer_is_read space.TaskPayload o p e
-value_pointer_is_read space.RayPayload o p e = pointer_is_read space.RayPayload o p e
-value_pointer_is_read space.IncomingRayPayload o p e = pointer_is_read space.IncomingRayPayload o p e
+value_pointer_is_read : (under : Names) → (at : AddressSpace) (o : Option TypeSpecifier) (p : Option (List ℕ)) → o ≡ option_map (form_read under) p → value_pointer_tree_in (space_word at) (space_access_word at) o ≡ option_map (form_read under) (value_pointer_form at p)
+value_pointer_is_read under space.Handle o p e = refl
+value_pointer_is_read under space.Function o p e = pointer_is_read under space.Function o p e
+value_pointer_is_read under space.Private o p e = pointer_is_read under space.Private o p e
+value_pointer_is_read under space.WorkGroup o p e = pointer_is_read under space.WorkGroup o p e
+value_pointer_is_read under space.Uniform o p e = pointer_is_read under space.Uniform o p e
+value_pointer_is_read under (space.Storage access) o p e = pointer_is_read under (space.Storage access) o p e
+value_pointer_is_read under space.Immediate o p e = pointer_is_read under space.Immediate o p e
+value_pointer_is_read under space.TaskPayload o p e = pointer_is_read under space.TaskPayload o p e
+value_pointer_is_read under space.RayPayload o p e = pointer_is_read under space.RayPayload o p e
+value_pointer_is_read under space.IncomingRayPayload o p e = pointer_is_read under space.IncomingRayPayload o p e
 
-array_is_read : (types : List Type_) (n : ArraySize) (o : Option TypeSpecifier) (p : Option (List ℕ)) → o ≡ option_map form_read p → option_map (array_tree (handle_names types) (codes "array") n) o ≡ option_map form_read (array_form 6 n p)
+array_is_read : (under : Names) → (n : ArraySize) (o : Option TypeSpecifier) (p : Option (List ℕ)) → o ≡ option_map (form_read under) p → option_map (array_tree under (codes "array") n) o ≡ option_map (form_read under) (array_form 6 n p)
 unfolding level_read
-array_is_read types n o p e = ap (option_map (array_tree (handle_names types) (codes "array") n)) e ∙ by n p
+array_is_read under n o p e = ap (option_map (array_tree under (codes "array") n)) e ∙ by n p
   where
-    by : (n : ArraySize) (p : Option (List ℕ)) → option_map (array_tree (handle_names types) (codes "array") n) (option_map form_read p) ≡ option_map form_read (array_form 6 n p)
+    by : (n : ArraySize) (p : Option (List ℕ)) → option_map (array_tree under (codes "array") n) (option_map (form_read under) p) ≡ option_map (form_read under) (array_form 6 n p)
     by (size.Constant number) None = refl
     by (size.Constant number) (Some it) = refl
     by (size.Pending o) None = refl
@@ -199,11 +199,11 @@ array_is_read types n o p e = ap (option_map (array_tree (handle_names types) (c
     by size.Dynamic None = refl
     by size.Dynamic (Some it) = refl
 
-binding_array_is_read : (types : List Type_) (n : ArraySize) (o : Option TypeSpecifier) (p : Option (List ℕ)) → o ≡ option_map form_read p → option_map (array_tree (handle_names types) (codes "binding_array") n) o ≡ option_map form_read (array_form 7 n p)
+binding_array_is_read : (under : Names) → (n : ArraySize) (o : Option TypeSpecifier) (p : Option (List ℕ)) → o ≡ option_map (form_read under) p → option_map (array_tree under (codes "binding_array") n) o ≡ option_map (form_read under) (array_form 7 n p)
 unfolding level_read
-binding_array_is_read types n o p e = ap (option_map (array_tree (handle_names types) (codes "binding_array") n)) e ∙ by n p
+binding_array_is_read under n o p e = ap (option_map (array_tree under (codes "binding_array") n)) e ∙ by n p
   where
-    by : (n : ArraySize) (p : Option (List ℕ)) → option_map (array_tree (handle_names types) (codes "binding_array") n) (option_map form_read p) ≡ option_map form_read (array_form 7 n p)
+    by : (n : ArraySize) (p : Option (List ℕ)) → option_map (array_tree under (codes "binding_array") n) (option_map (form_read under) p) ≡ option_map (form_read under) (array_form 7 n p)
     by (size.Constant number) None = refl
     by (size.Constant number) (Some it) = refl
     by (size.Pending o) None = refl
@@ -211,57 +211,57 @@ binding_array_is_read types n o p e = ap (option_map (array_tree (handle_names t
     by size.Dynamic None = refl
     by size.Dynamic (Some it) = refl
 
-image_is_read : (dim : ImageDimension) (arrayed : Bool) (c : ImageClass) → image_tree dim arrayed c ≡ option_map form_read (image_form dim arrayed c)
+image_is_read : (under : Names) → (dim : ImageDimension) (arrayed : Bool) (c : ImageClass) → image_tree dim arrayed c ≡ option_map (form_read under) (image_form dim arrayed c)
 unfolding level_read image_read
-image_is_read dim arrayed (class.Sampled k multi) =
+image_is_read under dim arrayed (class.Sampled k multi) =
     let s : Scalar = record { kind = k; width = 4 } in
-    over_is_read (scalar_word s) (of_one (image_word (codes "texture_") multi dim arrayed)) _
+    over_is_read under (scalar_word s) (of_one (image_word (codes "texture_") multi dim arrayed)) _
     (λ i. of_one (image_word (codes "texture_") (truth_told multi i) (dimension_told dim i) (truth_told arrayed i)) (scalar_is_read s i))
-image_is_read dim arrayed (class.Depth multi) = λ i. Some (Named (image_word (codes "texture_depth_") (sym (truth_told multi) i) (sym (dimension_told dim) i) (sym (truth_told arrayed) i)))
-image_is_read dim arrayed class.External = refl
-image_is_read dim arrayed (class.Storage f access) =
+image_is_read under dim arrayed (class.Depth multi) = λ i. Some (Named (image_word (codes "texture_depth_") (sym (truth_told multi) i) (sym (dimension_told dim) i) (sym (truth_told arrayed) i)))
+image_is_read under dim arrayed class.External = refl
+image_is_read under dim arrayed (class.Storage f access) =
     let access_told = image_access_is_read (has atomic_bit access) (has load_bit access) (has store_bit access) in
     λ i. Some (of_two (image_word (codes "texture_storage_") false (sym (dimension_told dim) i) (sym (truth_told arrayed) i)) (Named (format_word (sym (format_told f) i))) (Named (sym access_told i)))
 
-module _ (types : List Type_) where
-  inner_is_read : (f : ℕ → Option (List ℕ)) (g : ℕ → Option TypeSpecifier) → ((h : ℕ) → g h ≡ option_map form_read (f h)) → (it : TypeInner) → inner_tree_by (handle_names types) g it ≡ option_map form_read (inner_form_by f it)
+module _ (under : Names) where
+  inner_is_read : (f : ℕ → Option (List ℕ)) (g : ℕ → Option TypeSpecifier) → ((h : ℕ) → g h ≡ option_map (form_read under) (f h)) → (it : TypeInner) → inner_tree_by under g it ≡ option_map (form_read under) (inner_form_by f it)
   unfolding level_read
-  inner_is_read f g same (inner.Scalar s) = scalar_form_is_read s
-  inner_is_read f g same (inner.Vector n s) = value_form_is_read (Some n) s
+  inner_is_read f g same (inner.Scalar s) = scalar_form_is_read under s
+  inner_is_read f g same (inner.Vector n s) = value_form_is_read under (Some n) s
   inner_is_read f g same (inner.Matrix columns rows s) =
-      over_is_read (scalar_word s) (of_one (matrix_word columns rows)) _ (λ i. of_one (matrix_word (vector_told columns i) (vector_told rows i)) (scalar_is_read s i))
+      over_is_read under (scalar_word s) (of_one (matrix_word columns rows)) _ (λ i. of_one (matrix_word (vector_told columns i) (vector_told rows i)) (scalar_is_read s i))
   inner_is_read f g same (inner.CooperativeMatrix columns rows s role) =
-      over_is_read (scalar_word s) (λ t. of_two (cooperative_word columns rows) t (Named (role_word role))) _
+      over_is_read under (scalar_word s) (λ t. of_two (cooperative_word columns rows) t (Named (role_word role))) _
       (λ i. of_two (cooperative_word (cooperative_told columns i) (cooperative_told rows i)) (scalar_is_read s i) (Named (role_word (role_told role i))))
-  inner_is_read f g same (inner.Atomic s) = over_is_read (scalar_word s) (of_one (codes "atomic")) _ (λ i. of_one (codes "atomic") (scalar_is_read s i))
-  inner_is_read f g same (inner.Pointer base at) = pointer_is_read at (g base) (f base) (same base)
-  inner_is_read f g same (inner.ValuePointer n s at) = value_pointer_is_read at (value_tree n s) (value_form n s) (value_form_is_read n s)
-  inner_is_read f g same (inner.Array base n stride) = array_is_read types n (g base) (f base) (same base)
-  inner_is_read f g same (inner.BindingArray base n) = binding_array_is_read types n (g base) (f base) (same base)
+  inner_is_read f g same (inner.Atomic s) = over_is_read under (scalar_word s) (of_one (codes "atomic")) _ (λ i. of_one (codes "atomic") (scalar_is_read s i))
+  inner_is_read f g same (inner.Pointer base at) = pointer_is_read under at (g base) (f base) (same base)
+  inner_is_read f g same (inner.ValuePointer n s at) = value_pointer_is_read under at (value_tree n s) (value_form n s) (value_form_is_read under n s)
+  inner_is_read f g same (inner.Array base n stride) = array_is_read under n (g base) (f base) (same base)
+  inner_is_read f g same (inner.BindingArray base n) = binding_array_is_read under n (g base) (f base) (same base)
   inner_is_read f g same (inner.Struct members span) = refl
-  inner_is_read f g same (inner.Image dim arrayed c) = image_is_read dim arrayed c
+  inner_is_read f g same (inner.Image dim arrayed c) = image_is_read under dim arrayed c
   inner_is_read f g same (inner.Sampler comparison) = λ i. Some (Named (sampler_word (sym (truth_told comparison) i)))
   inner_is_read f g same (inner.AccelerationStructure b) = λ i. Some (ray_tree (codes "acceleration_structure") (sym (truth_told b) i))
   inner_is_read f g same (inner.RayQuery b) = λ i. Some (ray_tree (codes "ray_query") (sym (truth_told b) i))
 
-  found_is_read : (f : ℕ → Option (List ℕ)) (g : ℕ → Option TypeSpecifier) → ((h : ℕ) → g h ≡ option_map form_read (f h)) → (h : ℕ) (o : Option Type_) → found_tree_by (handle_names types) g h o ≡ option_map form_read (found_form_by f h o)
+  found_is_read : (f : ℕ → Option (List ℕ)) (g : ℕ → Option TypeSpecifier) → ((h : ℕ) → g h ≡ option_map (form_read under) (f h)) → (h : ℕ) (o : Option Type_) → found_tree_by under g h o ≡ option_map (form_read under) (found_form_by f h o)
   unfolding level_read
   found_is_read f g same h None = refl
   found_is_read f g same h (Some t) = by (is_struct t.inner) _ _ (inner_is_read f g same t.inner)
     where
-      by : (b : Bool) (x : Option TypeSpecifier) (y : Option (List ℕ)) → x ≡ option_map form_read y → (if b then Some (Named (h ∷ [])) else x) ≡ option_map form_read (if b then Some (level 8 h 0 0 0 0) else y)
+      by : (b : Bool) (x : Option TypeSpecifier) (y : Option (List ℕ)) → x ≡ option_map (form_read under) y → (if b then Some (Named (under.struct_name h)) else x) ≡ option_map (form_read under) (if b then Some (level 8 h 0 0 0 0) else y)
       by true x y e = refl
       by false x y e = e
 
-  within_is_read : (levels h : ℕ) → tree_within levels (handle_names types) h ≡ option_map form_read (form_within levels types h)
+  within_is_read : (levels h : ℕ) → tree_within levels under h ≡ option_map (form_read under) (form_within levels under.types h)
   within_is_read zero h = refl
-  within_is_read (suc levels) h = found_is_read (form_within levels types) (tree_within levels (handle_names types)) (within_is_read levels) h (slice_get types h)
+  within_is_read (suc levels) h = found_is_read (form_within levels under.types) (tree_within levels under) (within_is_read levels) h (slice_get under.types h)
 
-  handle_is_read : (h : ℕ) → type_tree (handle_names types) h ≡ option_map form_read (handle_form types h)
+  handle_is_read : (h : ℕ) → type_tree under h ≡ option_map (form_read under) (handle_form under.types h)
   unfolding type_tree handle_form
   handle_is_read h = within_is_read (suc h) h
 
   -- a type's tree can be read off its numbers
-  pub form_is_read : (r : TypeResolution) → resolution_tree (handle_names types) r ≡ option_map form_read (type_form types r)
+  pub form_is_read : (r : TypeResolution) → resolution_tree under r ≡ option_map (form_read under) (type_form under.types r)
   form_is_read (Handle h) = handle_is_read h
-  form_is_read (Value it) = inner_is_read (handle_form types) (type_tree (handle_names types)) handle_is_read it
+  form_is_read (Value it) = inner_is_read (handle_form under.types) (type_tree under) handle_is_read it

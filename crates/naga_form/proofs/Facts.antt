@@ -1,6 +1,7 @@
 -- What is known of each expression of an accepted function.
-use Rattle.std.proofs.Common.{[], arith, ◌≡◌, ℕ, ◌+◌, suc, zero, List, ◌∷◌, length, Option, Some}
-use Rattle.std.proofs.Common.{None, refl, subst}
+use Rattle.module_meaning.proofs.SideBySide.{item_beside}
+use Rattle.std.proofs.Common.{arith, ◌≡◌, ℕ, ◌+◌, suc, List, ◌∷◌, Option, Some}
+use Rattle.std.proofs.Common.{None, subst}
 use Rattle.std.specs.Prelude.{IsTrue, slice_get}
 use Rattle.naga_ir.specs.declared.expression.Expression.{Expression}
 use Rattle.naga_ir.specs.declared.module.Function.{Function}
@@ -25,14 +26,8 @@ known_at types f exprs es h e fit found =
     record { known = k.0; there = k.1; fits = k.2 }
 
 -- where something is known of a handle, there is an expression
-known_has_one : {X Y : Type 0} (xs : List X) (ys : List Y) (h : ℕ) (y : Y) → length xs ≡ length ys → slice_get ys h ≡ Some y → (x : X) × (slice_get xs h ≡ Some x)
-known_has_one xs [] h y same found = absurd (cc)
-known_has_one [] (y1 ∷ ys) h y same found = absurd (cc)
-known_has_one (x ∷ xs) (y1 ∷ ys) zero y same found = (x, refl)
-known_has_one (x ∷ xs) (y1 ∷ ys) (suc h) y same found = known_has_one xs ys h y (cc) found
-
 pub expression_at : (types : List Type_) (f : Function) (exprs : List Expression) (es : List ExpressionInfo) (h : ℕ) (k : ExpressionInfo) → IsTrue (expressions_fit types f exprs es) → slice_get es h ≡ Some k → (e : Expression) × (slice_get exprs h ≡ Some e)
-expression_at types f exprs es h k fit found = known_has_one exprs es h k (expressions_fit_length types f exprs es fit) found
+expression_at types f exprs es h k fit found = item_beside exprs es h k (expressions_fit_length types f exprs es fit) found
 
 -- a returned handle: its expression, and the word of its type, which is the result's
 pub record IsReturned (types : List Type_) (f : Function) (es : List ExpressionInfo) (h : ℕ) : Type 0 where

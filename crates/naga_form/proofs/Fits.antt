@@ -39,6 +39,7 @@ use Rattle.shader_runs.specs.Premises.{IsName, NameKey, name_at}
 use Rattle.naga_info.proofs.Options.{then_some}
 use Rattle.shader_runs.proofs.Update.{and_left, and_right}
 use Rattle.naga_form.proofs.TypeIdentity.{declared_spelling}
+use Rattle.naga_form.proofs.AlikeNumbers.{is_no}
 use Rattle.naga_form.proofs.Names.{numbered_distinct, name_is, item_is_identifier}
 use Rattle.naga_form.proofs.Names.{item_not_numbered, items_tell, function_item, argument_item}
 use Rattle.naga_form.proofs.Names.{function_there, argument_there}
@@ -141,10 +142,6 @@ accepted_freely : (op : Operator) →
 unfolding is_request is_builtin builtin_words
 accepted_freely (BinarySign operator.Add) = refl
 accepted_freely _ = refl
-
-not_true : (b : Bool) → not b ≡ true → b ≡ false
-not_true false is = refl
-not_true true is = absurd (cc)
 
 none_listed : (i : ℕ) (ts : List ValueType) → ts ≡ [] → i < length ts → ⊥
 none_listed i ts e lt = let none : i < 0 = subst (λ ts. i < length ts) e lt in omega (arith, none)
@@ -324,9 +321,9 @@ module _ (m : Module) (g : ℕ) (f : ir_function.Function) (found : slice_get m.
           let three =
           and_parts (not (nat_eq c 32))
           (not (is_word (c ∷ rest)) || is_builtin (c ∷ rest)) two.1 in (
-            not_true (is_request (c ∷ rest)) one.0,
+            is_no (is_request (c ∷ rest)) one.0,
             stands_free counted c rest
-                (not_true (nat_eq c 95) two.0) (not_true (nat_eq c 32) three.0) three.1,
+                (is_no (nat_eq c 95) two.0) (is_no (nat_eq c 32) three.0) three.1,
           )
 
   words_at : length p.functions ≡ length m.functions → (h : ℕ) (e : ir.Expression) → slice_get f.expressions h ≡ Some e → WordFits p own (Some (expression_shape e))

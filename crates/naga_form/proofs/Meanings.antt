@@ -1,8 +1,8 @@
 -- An accepted module has a typed meaning and a world that keeps the types, and no run of it is
 -- stuck.
 use Rattle.std.proofs.Common.{[], ◌≡◌, ℕ, suc, zero, Bool, true, false, List, ◌∷◌, length, map}
-use Rattle.std.proofs.Common.{Option, Some, None, refl, sym, ap, subst, ◌∙◌, ◌⊎◌, inl, inr, codes}
-use Rattle.std.specs.Prelude.{IsTrue, slice_get, reverse, cond, if◌then◌else◌}
+use Rattle.std.proofs.Common.{Option, Some, None, refl, sym, ap, subst, ◌∙◌, codes}
+use Rattle.std.specs.Prelude.{IsTrue, slice_get, cond, if◌then◌else◌}
 use mathlib.Core.List.{reverse_aux}
 use Rattle.std.specs.List.{starts_with}
 use Rattle.std.specs.Bool.{nat_eq}
@@ -19,14 +19,14 @@ use Rattle.naga_ir.specs.declared.types.Type_.{Type_}
 use Rattle.naga_info.specs.declared.info.ExpressionInfo.{ExpressionInfo}
 use Rattle.naga_info.specs.declared.info.ModuleInfo.{ModuleInfo}
 use Rattle.std.proofs.lemmas.Option.{same_Some}
-use Rattle.module_meaning.specs.Spelled.{spelling_at, local_pointer}
+use Rattle.module_meaning.specs.Spelled.{spelling_at}
 use Rattle.module_meaning.specs.FitsSoFar.{fits_so_far, function_fits, functions_fit, statement_fits}
 use Rattle.module_meaning.specs.FitsSoFar.{block_fits}
 use Rattle.naga_form.specs.Declarations.{written_program}
-use Rattle.module_meaning.proofs.FitsSoFar.{fits_parts, function_fits_block, load_word_at}
-use Rattle.module_meaning.proofs.FitsSoFar.{IsOperation, applied_at, store_fits_word}
+use Rattle.module_meaning.proofs.FitsSoFar.{fits_parts, function_fits_block}
+use Rattle.module_meaning.proofs.FitsSoFar.{IsOperation, applied_at}
 use Rattle.module_meaning.proofs.Operations.{IsApplied, accepted_operations_agree}
-use Rattle.module_meaning.proofs.Shapes.{accepted_is, accepted_shape, application_any, operator_any}
+use Rattle.module_meaning.proofs.Shapes.{accepted_is, accepted_shape, application_any}
 use Rattle.module_meaning.specs.Applications.{Application, application_of}
 use Rattle.module_meaning.specs.OperatorTable.{run_word}
 use Rattle.module_meaning.specs.Operations.{spelling_then, spellings_at}
@@ -42,17 +42,19 @@ use Rattle.shader_runs.specs.ProgramRun.{run_all, run_body, run_if_arguments_fit
 use Rattle.shader_runs.specs.Constants.{environment_of, run_module, follow_module}
 use Rattle.shader_runs.specs.Text.{TextModule}
 use Rattle.shader_runs.specs.Correct.{KeepsTypes}
-use Rattle.shader_runs.specs.Progress.{IsNotStuck, IsPointer, LoadFits, AreWellFormed, IsWellFormed}
-use Rattle.shader_runs.specs.Progress.{FunctionIsWellFormed, AllWellFormed}
-use Rattle.shader_runs.specs.Typing.{Signature, signatures_of, IsOneOf, first_of, later_of}
-use Rattle.shader_runs.specs.Typing.{IsSpelled, in_function, in_initialiser, PartsFit}
+use Rattle.shader_runs.specs.Progress.{IsNotStuck}
+use Rattle.shader_runs.specs.Typing.{Signature, signatures_of, IsOneOf}
+use Rattle.shader_runs.specs.Typing.{IsSpelled, in_function, in_initialiser, PartsFit, IsConsistent}
 use Rattle.shader_runs.specs.Premises.{handle_types}
 use Rattle.shader_runs.proofs.Update.{and_left, and_right}
 use Rattle.shader_runs.proofs.Typing.{has_typed_meaning, no_signature}
 use Rattle.shader_runs.proofs.Starts.{steady_world}
 use Rattle.shader_runs.proofs.Progress.{runs_are_not_stuck}
 use Rattle.wgsl_text.specs.Words.{stands_in}
-use Rattle.module_meaning.specs.Premises.{nothing_named, ScopesHold}
+use Rattle.module_meaning.specs.ModuleShapes.{module_shape}
+use Rattle.module_meaning.specs.Part.{is_written_so_far}
+use Rattle.module_meaning.proofs.ModuleShapes.{same_program}
+use Rattle.module_meaning.specs.Premises.{ScopesHold}
 use Rattle.module_meaning.specs.Names.{NamesAreCounted, module_names, function_name}
 use Rattle.module_meaning.specs.Types.{type_spelled, integer_words}
 use Rattle.module_meaning.specs.Shapes.{operator_shape, expression_shape, statement_shape}
@@ -62,28 +64,12 @@ use Rattle.wgsl_text.specs.Requests.{is_request}
 use Rattle.module_meaning.specs.Meanings.{OperatorsAreConsistent, HasTypedMeaning, HasTypedWorld}
 use Rattle.module_meaning.specs.Meanings.{IsNeverStuck}
 use Rattle.naga_form.proofs.Fits.{typed_as, at_any}
+use Rattle.naga_form.proofs.ModulePlaces.{in_reversed}
 use Rattle.naga_form.proofs.ScopeRules.{scopes_are_checked}
-use Rattle.naga_form.proofs.Runs.{module_fits, program_reads}
-
--- ---- lists that are turned round
-
--- what stands in a list that is turned round onto another stands in one of both
-in_either : {X : Type 0} (xs behind : List X) (i : ℕ) (x : X) → slice_get (reverse_aux xs behind) i ≡ Some x → ((k : ℕ) × (slice_get xs k ≡ Some x)) ⊎ ((k : ℕ) × (slice_get behind k ≡ Some x))
-in_either [] behind i x there = inr (i, there)
-in_either (y ∷ xs) behind i x there = go (in_either xs (y ∷ behind) i x there)
-  where
-    go : ((k : ℕ) × (slice_get xs k ≡ Some x)) ⊎ ((k : ℕ) × (slice_get (y ∷ behind) k ≡ Some x)) → ((k : ℕ) × (slice_get (y ∷ xs) k ≡ Some x)) ⊎ ((k : ℕ) × (slice_get behind k ≡ Some x))
-    go (inl found) = inl (suc found.0, found.1)
-    go (inr (zero, at)) = inl (0, at)
-    go (inr (suc k, at)) = inr (k, at)
-
--- what stands in a list turned round stands in the list
-in_reversed : {X : Type 0} (xs : List X) (i : ℕ) (x : X) → slice_get (reverse xs) i ≡ Some x → (k : ℕ) × (slice_get xs k ≡ Some x)
-in_reversed xs i x there = go (in_either xs [] i x there)
-  where
-    go : ((k : ℕ) × (slice_get xs k ≡ Some x)) ⊎ ((k : ℕ) × (slice_get [] k ≡ Some x)) → (k : ℕ) × (slice_get xs k ≡ Some x)
-    go (inl found) = found
-    go (inr found) = absurd (cc)
+use Rattle.naga_form.proofs.Signatures.{only_signature}
+use Rattle.naga_form.proofs.WellFormed.{all_well_formed}
+use Rattle.module_meaning.specs.Accepted.{is_accepted}
+use Rattle.naga_form.proofs.Runs.{module_fits, reads_as_shapes}
 
 -- ---- words of types
 -- what a value type is spelled by
@@ -217,10 +203,6 @@ one_spelling_each (v ∷ vs) [] e = absurd (cc)
 one_spelling_each (v ∷ vs) (w ∷ ws) e =
     λ i. one_spelling v w (ap first_or e) i ∷ one_spelling_each vs ws (ap rest_of e) i
 
-only_one : (x y : Signature) → IsOneOf x (y ∷ []) → x ≡ y
-only_one x y first_of = refl
-only_one x y (later_of there) = absurd (no_signature x there)
-
 -- the integers, locals and so on of an accepted function spell nothing; an operator between two
 -- operands has its signature
 module _ (types : List Type_) (fs : List ir_function.Function) (ess : List (List ExpressionInfo)) (p : shapes.Module) (g : ℕ) (f : ir_function.Function) (f_at : slice_get fs g ≡ Some f) (es : List ExpressionInfo) (es_at : slice_get ess g ≡ Some es) (fit : function_fits types f es ≡ true) where
@@ -274,7 +256,7 @@ module _ (types : List Type_) (fs : List ir_function.Function) (ess : List (List
           application = applied;
           operation = o;
         };
-        same = only_one x _ among
+        same = only_signature x _ among
             ∙
             (λ i. record {
               word =
@@ -327,67 +309,29 @@ module _ (types : List Type_) (fs : List ir_function.Function) (ess : List (List
   parts_at : (h : ℕ) → PartsFit p.parts own (handle_type own h) (expression_of own h)
   parts_at h = at_any types f es h (λ o. PartsFit p.parts own (handle_type own h) o) tt (parts_among h)
 
-  -- ---- loads and stores are through pointers
-  points_at : (h : ℕ) (w : List ℕ) → spelling_at types es h ≡ Some (local_pointer w) → IsPointer (handle_type own h)
-  points_at h w spelled = subst IsPointer (sym (typed_as types f es h (local_pointer w) spelled)) tt
-
-  load_among : (h : ℕ) (e : ir.Expression) → slice_get f.expressions h ≡ Some e → LoadFits own (Some (expression_shape e))
-  load_among h (expression.Load q) at = let l = load_word_at types f es h q fit at in points_at q l.0 l.3
-  load_among h (expression.Literal value) at = tt
-  load_among h (expression.FunctionArgument number) at = tt
-  load_among h (expression.LocalVariable handle) at = tt
-  load_among h e at =
-      application_any (λ s. LoadFits own (Some s)) tt (application_of e)
-      (λ a is. operator_any (λ s. LoadFits own (Some s)) a.operator a.operands (λ j l r. tt) tt)
-
-  line_well_formed : (st : StatementTree) → statement_fits types es f.result st ≡ true → IsWellFormed own false false (statement_shape st)
-  line_well_formed (simple (emit first last)) fit = tt
-  line_well_formed (simple (store pointer value)) fit = let s = store_fits_word types es f.result pointer value fit in points_at pointer s.0 s.3
-  line_well_formed (simple (return value)) fit = tt
-  line_well_formed _ fit = absurd (cc)
-
-  lines_well_formed : (b : BlockTree) → block_fits types es f.result b ≡ true → AreWellFormed own false false (statements_shape b)
-  lines_well_formed no_statements fit = tt
-  lines_well_formed (statement st b) fit = (
-    line_well_formed st (and_left (statement_fits types es f.result st) (block_fits types es f.result b) fit),
-    lines_well_formed b (and_right (statement_fits types es f.result st) (block_fits types es f.result b) fit),
-  )
-
-  well_formed : FunctionIsWellFormed own
-  well_formed = record {
-    loads = λ h. at_any types f es h (λ o. LoadFits own o) tt (load_among h);
-    body = lines_well_formed f.body (function_fits_block types f es fit);
-  }
-
-all_well_formed : (types : List Type_) (p : shapes.Module) (fs : List ir_function.Function) (ess : List (List ExpressionInfo)) → functions_fit types fs ess ≡ true → (behind : List shapes.Function) → AllWellFormed behind → AllWellFormed (reverse_aux (function_shapes types fs ess) behind)
-all_well_formed types p [] ess fit behind all = all
-all_well_formed types p (f ∷ fs) [] fit behind all = all
-all_well_formed types p (f ∷ fs) (es ∷ ess) fit behind all =
-    let here = well_formed types (f ∷ fs) (es ∷ ess) p 0 f refl es refl (and_left (function_fits types f es) (functions_fit types fs ess) fit) in
-    all_well_formed types p fs ess (and_right (function_fits types f es) (functions_fit types fs ess) fit) (function_shape types f es ∷ behind) (here, all)
-
 -- ---- an accepted module
 module _ (m : Module) (info : ModuleInfo) (accepted : IsTrue (fits_so_far m info)) where
-  abbrev shape : shapes.Module
-  shape = program_shape m info
+  -- its program of shapes, as that of the part
+  abbrev part : shapes.Module
+  part = program_shape m info
 
   abbrev ess : List (List ExpressionInfo)
   ess = info.functions.items
 
-  found_shape : (place : ℕ) (f : shapes.Function) → slice_get shape.functions place ≡ Some f → IsFitting m.types m.functions ess f
+  found_shape : (place : ℕ) (f : shapes.Function) → slice_get part.functions place ≡ Some f → IsFitting m.types m.functions ess f
   found_shape place f there =
       let found = in_reversed (function_shapes m.types m.functions ess) place f there in
       fitting_at m.types m.functions ess (fits_parts m info accepted).5 found.0 f found.1
 
-  operator_of : (x : Signature) → IsSpelled shape x → IsOperator m.types m.functions ess x
+  operator_of : (x : Signature) → IsSpelled part x → IsOperator m.types m.functions ess x
   operator_of x (in_initialiser i e there among) = absurd (cc)
   operator_of x (in_function place f there h among) =
       let k = found_shape place f there in
-      spelled_at m.types m.functions ess shape k.number k.function k.function_there k.known k.known_there k.fit x h
-      (subst (λ f. IsOneOf x (signatures_of shape f (handle_type f h) (expression_of f h))) (sym k.same) among)
+      spelled_at m.types m.functions ess part k.number k.function k.function_there k.known k.known_there k.fit x h
+      (subst (λ f. IsOneOf x (signatures_of part f (handle_type f h) (expression_of f h))) (sym k.same) among)
 
-  pub consistent : OperatorsAreConsistent m info
-  consistent = record { alike = alike; parts = parts }
+  part_is_consistent : IsConsistent part
+  part_is_consistent = record { alike = alike; parts = parts }
     where
       -- both are operators of the module, which agree
       agree : (x y : Signature) → IsOperator m.types m.functions ess x → IsOperator m.types m.functions ess y → x.word ≡ y.word → x.operands ≡ y.operands → x.result ≡ y.result
@@ -405,25 +349,40 @@ module _ (m : Module) (info : ModuleInfo) (accepted : IsTrue (fits_so_far m info
           one_word : {a b : List ℕ} → Spelled a ≡ Spelled b → a ≡ b
           one_word e = cc
 
-      alike : (x y : Signature) → IsSpelled shape x → IsSpelled shape y → x.word ≡ y.word → x.operands ≡ y.operands → x.result ≡ y.result
+      alike : (x y : Signature) → IsSpelled part x → IsSpelled part y → x.word ≡ y.word → x.operands ≡ y.operands → x.result ≡ y.result
       alike x y is_x is_y word operands = agree x y (operator_of x is_x) (operator_of y is_y) word operands
 
-      parts : (place : ℕ) (f : shapes.Function) → slice_get shape.functions place ≡ Some f → (h : ℕ) → PartsFit shape.parts f (handle_type f h) (expression_of f h)
+      parts : (place : ℕ) (f : shapes.Function) → slice_get part.functions place ≡ Some f → (h : ℕ) → PartsFit part.parts f (handle_type f h) (expression_of f h)
       parts place f there h =
           let k = found_shape place f there in
-          subst (λ f. PartsFit shape.parts f (handle_type f h) (expression_of f h)) k.same
-          (parts_at m.types m.functions ess shape k.number k.function k.function_there k.known k.known_there k.fit h)
+          subst (λ f. PartsFit part.parts f (handle_type f h) (expression_of f h)) k.same
+          (parts_at m.types m.functions ess part k.number k.function k.function_there k.known k.known_there k.fit h)
 
-  pub has_meaning : HasTypedMeaning m info
-  has_meaning = has_typed_meaning shape consistent
+  module _ (written : IsTrue (is_written_so_far m info)) where
+    abbrev shape : shapes.Module
+    shape = module_shape m info
 
-  pub has_world : HasTypedWorld m info
-  has_world settings fit meaning typed =
-      steady_world shape settings meaning (λ w j n g vs. steady_calls m.types (environment_of shape settings meaning) w meaning shape.functions (all_are_written m.types m.functions ess (fits_parts m info accepted).5 [] tt) j n g vs [])
+    same : part ≡ shape
+    same = sym (same_program m info accepted written)
 
-  pub never_stuck : (explicit : Bool) → IsTrue (nothing_named m) → ScopesHold m info → NamesAreCounted m → IsNeverStuck m info (written_program m info explicit)
-  never_stuck explicit unnamed scope counted settings fit meaning typed g f found arguments typed_arguments world turns past =
-      let well = all_well_formed m.types shape m.functions ess (fits_parts m info accepted).5 [] tt in
-      subst (λ (text : TextModule). IsNotStuck (run_module shape settings world meaning turns g arguments past) × (KeepsTypes (run_module shape settings world meaning turns g arguments past) → IsNotStuck (follow_module text settings world meaning is_request turns (function_name (module_names m) g) arguments past)))
-      (sym (program_reads m info explicit accepted))
-      (runs_are_not_stuck shape (outer_names (module_names m)) (namings (module_names m) m info) (module_fits m info accepted unnamed ((scopes_are_checked m info accepted).1 scope) counted) well settings fit meaning typed g f found arguments typed_arguments world turns past)
+    pub consistent : OperatorsAreConsistent m info
+    consistent = subst IsConsistent same part_is_consistent
+
+    pub has_meaning : HasTypedMeaning m info
+    has_meaning = has_typed_meaning shape consistent
+
+    all_written : AllAreWritten m.types shape.functions
+    all_written =
+        subst (λ (p : shapes.Module). AllAreWritten m.types p.functions) same
+        (all_are_written m.types m.functions ess (fits_parts m info accepted).5 [] tt)
+
+    pub has_world : HasTypedWorld m info
+    has_world settings fit meaning typed =
+        steady_world shape settings meaning
+        (λ w j n g vs. steady_calls m.types (environment_of shape settings meaning) w meaning shape.functions all_written j n g vs [])
+
+    pub never_stuck : IsTrue (is_accepted m info) → (explicit : Bool) → ScopesHold m info → NamesAreCounted m → IsNeverStuck m info (written_program m info explicit)
+    never_stuck whole explicit scope counted settings fit meaning typed g f found arguments typed_arguments world turns past =
+        subst (λ (text : TextModule). IsNotStuck (run_module shape settings world meaning turns g arguments past) × (KeepsTypes (run_module shape settings world meaning turns g arguments past) → IsNotStuck (follow_module text settings world meaning is_request turns (function_name (module_names m) g) arguments past)))
+        (sym (reads_as_shapes m info explicit accepted written))
+        (runs_are_not_stuck shape (outer_names (module_names m)) (namings (module_names m) m info) (module_fits m info accepted written ((scopes_are_checked m info accepted written).1 scope) counted) (all_well_formed m info whole) settings fit meaning typed g f found arguments typed_arguments world turns past)

@@ -26,16 +26,18 @@ use Rattle.shader_runs.proofs.Update.{and_left, and_right}
 use Rattle.module_meaning.specs.Names.{module_names, NamesAreCounted}
 use Rattle.module_meaning.specs.Types.{declared_type}
 use Rattle.module_meaning.specs.Shapes.{function_naming, expression_shape, function_shape}
-use Rattle.module_meaning.specs.Shapes.{function_shapes, program_shape, namings_from, namings}
+use Rattle.module_meaning.specs.ModuleShapes.{module_shape}
+use Rattle.module_meaning.specs.Part.{is_written_so_far}
+use Rattle.module_meaning.specs.Shapes.{function_shapes, namings_from, namings}
 use Rattle.module_meaning.specs.Shapes.{outer_names}
 use Rattle.module_meaning.specs.Applications.{application_of}
 use Rattle.module_meaning.proofs.Shapes.{application_any, operator_any}
 use Rattle.naga_form.specs.Declarations.{written_program}
-use Rattle.module_meaning.specs.Premises.{nothing_named, ScopesHold}
+use Rattle.module_meaning.specs.Premises.{ScopesHold}
 use Rattle.module_meaning.specs.Resolution.{ResolvesAs}
 use Rattle.naga_form.proofs.Fits.{mapped_length, at_any}
 use Rattle.naga_form.proofs.ScopeRules.{scopes_are_checked}
-use Rattle.naga_form.proofs.Runs.{program_reads, module_fits}
+use Rattle.naga_form.proofs.Runs.{reads_as_shapes, module_fits}
 
 -- an accepted function's arguments and locals are its own
 module _ (types : List Type_) (f : ir_function.Function) (es : List ExpressionInfo) (fits : function_fits types f es ≡ true) where
@@ -65,10 +67,10 @@ leaves_stand names types g (f ∷ fs) (es ∷ ess) fit behind all =
     let here = leaves_are_own types f es (and_left (function_fits types f es) (functions_fit types fs ess) fit) in
     leaves_stand names types (g + 1) fs ess (and_right (function_fits types f es) (functions_fit types fs ess) fit) (function_naming names types g f es ∷ behind) (here, all)
 
-pub resolves : (m : Module) (info : ModuleInfo) (explicit : Bool) → IsTrue (fits_so_far m info) → IsTrue (nothing_named m) → ScopesHold m info → NamesAreCounted m → ResolvesAs m info (written_program m info explicit)
-resolves m info explicit accepted unnamed scope counted =
+pub resolves : (m : Module) (info : ModuleInfo) (explicit : Bool) → IsTrue (fits_so_far m info) → IsTrue (is_written_so_far m info) → ScopesHold m info → NamesAreCounted m → ResolvesAs m info (written_program m info explicit)
+resolves m info explicit accepted written scope counted =
     let names = module_names m in
-    ap text_targets (program_reads m info explicit accepted)
-    ∙ resolves_as_meant (program_shape m info) (outer_names names) (namings names m info)
-    (module_fits m info accepted unnamed ((scopes_are_checked m info accepted).1 scope) counted)
+    ap text_targets (reads_as_shapes m info explicit accepted written)
+    ∙ resolves_as_meant (module_shape m info) (outer_names names) (namings names m info)
+    (module_fits m info accepted written ((scopes_are_checked m info accepted written).1 scope) counted)
     (leaves_stand names m.types 0 m.functions info.functions.items (fits_functions_fit m info accepted) [] tt)

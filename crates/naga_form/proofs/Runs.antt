@@ -10,7 +10,10 @@ use Rattle.indexmap.proofs.ReorderLemmas.{map-reverse}
 use Rattle.naga_ir.specs.declared.module.Function as ir_function
 use Rattle.naga_ir.specs.declared.module.Module.{Module}
 use Rattle.naga_ir.specs.declared.types.Type_.{Type_}
-use Rattle.module_meaning.specs.Part.{names_nothing}
+use Rattle.module_meaning.specs.Part.{names_nothing, is_written_so_far}
+use Rattle.module_meaning.specs.ModuleShapes.{module_shape}
+use Rattle.module_meaning.proofs.ModuleShapes.{same_program}
+use Rattle.module_meaning.proofs.Part.{functions_name_nothing}
 use Rattle.module_meaning.specs.FitsSoFar.{fits_so_far, function_fits, functions_fit}
 use Rattle.module_meaning.specs.Part.{is_scalar_type}
 use Rattle.naga_info.specs.declared.info.ExpressionInfo.{ExpressionInfo}
@@ -39,7 +42,7 @@ use Rattle.shader_runs.specs.Correct.{ModuleFits}
 use Rattle.shader_runs.proofs.Calls.{runs_alike}
 use Rattle.shader_runs.proofs.Names.{length-functions_of}
 use Rattle.shader_runs.proofs.Update.{and_left, and_right}
-use Rattle.module_meaning.specs.Premises.{nothing_named, scope_holds, ScopesHold}
+use Rattle.module_meaning.specs.Premises.{scope_holds, ScopesHold}
 use Rattle.module_meaning.specs.Names.{NamesAreCounted, module_names, function_name}
 use Rattle.module_meaning.specs.Shapes.{function_shapes, program_shape, namings_from, namings}
 use Rattle.module_meaning.specs.Shapes.{outer_names, function_naming}
@@ -105,13 +108,19 @@ program_reads m info explicit accepted =
       functions = (ap reverse (append-nil (map function_read (functions_form explicit (module_names m) m.types 0 m.functions info.functions.items)) ∙ each) ∙ sym (form_functions-map (reverse listed) ∙ map-reverse form_function listed)) i;
     }
 
+-- and so as that of every module
+pub reads_as_shapes : (m : Module) (info : ModuleInfo) (explicit : Bool) → IsTrue (fits_so_far m info) → IsTrue (is_written_so_far m info) → program_read (written_program m info explicit) ≡ form_module (module_shape m info) (outer_names (module_names m)) (namings (module_names m) m info)
+reads_as_shapes m info explicit accepted written =
+    program_reads m info explicit accepted
+    ∙ ap (λ p. form_module p (outer_names (module_names m)) (namings (module_names m) m info)) (sym (same_program m info accepted written))
+
 pub module_counted : (m : Module) (info : ModuleInfo) → IsTrue (fits_so_far m info) → length (program_shape m info).functions ≡ length m.functions
 module_counted m info accepted =
     let parts = fits_parts m info accepted in
     length-reverse (function_shapes m.types m.functions info.functions.items)
     ∙ shapes_counted m.types m.functions info.functions.items parts.5
 
-module _ (m : Module) (info : ModuleInfo) (accepted : IsTrue (fits_so_far m info)) (unnamed : IsTrue (nothing_named m)) (scope : IsTrue (scope_holds m info)) (counted : NamesAreCounted m) where
+module _ (m : Module) (info : ModuleInfo) (accepted : IsTrue (fits_so_far m info)) (written : IsTrue (is_written_so_far m info)) (scope : IsTrue (scope_holds m info)) (counted : NamesAreCounted m) where
   abbrev p : shapes.Module
   p = program_shape m info
 
@@ -130,8 +139,8 @@ module _ (m : Module) (info : ModuleInfo) (accepted : IsTrue (fits_so_far m info
       let this = function_fits_shape m g f found es fit unnamed_here p refl refl (module_counted m info accepted) (functions_of behind) (length-functions_of behind ∙ at) counted scoped_here in
       all_fit (g + 1) fs ess (and_right (function_fits m.types f es) (functions_fit m.types fs ess) fits) (further m.functions g f fs there) (and_right (names_nothing f) (list_all names_nothing fs) named_none) (and_right (fits_function own) (list_all fits_function (namings_from (module_names m) (g + 1) (function_shapes m.types fs ess))) scoped) (own ∷ behind) (ap suc at ∙ sym (add-one g)) (this, so_far)
 
-  pub module_fits : ModuleFits p (outer_names (module_names m)) (namings (module_names m) m info)
-  module_fits =
+  fits_as_part : ModuleFits p (outer_names (module_names m)) (namings (module_names m) m info)
+  fits_as_part =
       let parts = fits_parts m info accepted in
       let listed = namings_from (module_names m) 0 (function_shapes m.types m.functions info.functions.items) in
       let count : length (reverse (function_shapes m.types m.functions info.functions.items)) ≡ length m.functions = length-reverse (function_shapes m.types m.functions info.functions.items) ∙ shapes_counted m.types m.functions info.functions.items parts.5 in
@@ -144,7 +153,7 @@ module _ (m : Module) (info : ModuleInfo) (accepted : IsTrue (fits_so_far m info
               one_function g k (ap (λ item. item.0) (items_tell m counted (function_item m g a.0) (function_item m k b.0) (function_there m g a.0 a.1) (function_there m k b.0 b.1) e));
         };
         constants = no_constants;
-        all = all_fit 0 m.functions info.functions.items parts.5 (from_start m.functions) unnamed (all_reversed fits_function listed [] scope) [] refl tt;
+        all = all_fit 0 m.functions info.functions.items parts.5 (from_start m.functions) (functions_name_nothing m info written) (all_reversed fits_function listed [] scope) [] refl tt;
       }
     where
       no_constants : ConstantsFit p (outer_names (module_names m))
@@ -158,10 +167,14 @@ module _ (m : Module) (info : ModuleInfo) (accepted : IsTrue (fits_so_far m info
       one_function : (g k : ℕ) → key.Function g ≡ key.Function k → g ≡ k
       one_function g k e = cc
 
+  pub module_fits : ModuleFits (module_shape m info) (outer_names (module_names m)) (namings (module_names m) m info)
+  module_fits =
+      subst (λ p. ModuleFits p (outer_names (module_names m)) (namings (module_names m) m info)) (sym (same_program m info accepted written)) fits_as_part
+
   runs : (explicit : Bool) → RunsAs m info (written_program m info explicit)
   runs explicit settings fit meaning typed g f found arguments typed_arguments world turns past keeps =
-      ap (λ (text : TextModule). follow_module text settings world meaning is_request turns (function_name (module_names m) g) arguments past) (program_reads m info explicit accepted)
-      ∙ runs_alike p (outer_names (module_names m)) (namings (module_names m) m info) module_fits settings fit meaning typed g f found arguments typed_arguments world turns past keeps
+      ap (λ (text : TextModule). follow_module text settings world meaning is_request turns (function_name (module_names m) g) arguments past) (reads_as_shapes m info explicit accepted written)
+      ∙ runs_alike (module_shape m info) (outer_names (module_names m)) (namings (module_names m) m info) module_fits settings fit meaning typed g f found arguments typed_arguments world turns past keeps
 
-pub runs_as : (m : Module) (info : ModuleInfo) (explicit : Bool) → IsTrue (fits_so_far m info) → IsTrue (nothing_named m) → ScopesHold m info → NamesAreCounted m → RunsAs m info (written_program m info explicit)
-runs_as m info explicit accepted unnamed scope counted = runs m info accepted unnamed ((scopes_are_checked m info accepted).1 scope) counted explicit
+pub runs_as : (m : Module) (info : ModuleInfo) (explicit : Bool) → IsTrue (fits_so_far m info) → IsTrue (is_written_so_far m info) → ScopesHold m info → NamesAreCounted m → RunsAs m info (written_program m info explicit)
+runs_as m info explicit accepted written scope counted = runs m info accepted written ((scopes_are_checked m info accepted written).1 scope) counted explicit

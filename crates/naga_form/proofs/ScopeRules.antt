@@ -1,6 +1,6 @@
 -- The check of scope decides whether the rules of scope hold in each function of an accepted
 -- module.
-use Rattle.std.proofs.Common.{[], ◌≡◌, ℕ, ◌+◌, true, List, ◌∷◌, map, refl, ap, subst, ◌∙◌}
+use Rattle.std.proofs.Common.{[], ◌≡◌, ℕ, ◌+◌, true, List, ◌∷◌, map, refl, ap, subst, ◌∙◌, sym}
 use Rattle.std.specs.Prelude.{IsTrue, reverse, ◌↔◌}
 use Rattle.std.specs.List.{list_all}
 use Rattle.std.proofs.lemmas.Bool.{and_from}
@@ -22,6 +22,8 @@ use Rattle.shader_runs.specs.Premises.{AllBelow}
 use Rattle.shader_runs.proofs.ScopeRules.{scope_check_is_the_rules}
 use Rattle.shader_runs.proofs.Update.{and_left, and_right}
 use Rattle.module_meaning.specs.Names.{module_names}
+use Rattle.module_meaning.specs.Part.{is_written_so_far}
+use Rattle.module_meaning.proofs.ModuleShapes.{same_program}
 use Rattle.module_meaning.specs.Premises.{scope_holds, EachScopeHolds, ScopesHold}
 use Rattle.module_meaning.specs.Shapes.{function_shapes, program_shape, namings_from, namings}
 use Rattle.module_meaning.specs.Shapes.{function_naming}
@@ -62,7 +64,7 @@ each_is_checked (n ∷ ns) all =
       λ r. and_from (fits_function n) (list_all fits_function ns) (here.1 r.0) (rest.1 r.1),
     )
 
-pub scopes_are_checked : (m : Module) (info : ModuleInfo) → IsTrue (fits_so_far m info) → (IsTrue (scope_holds m info) ↔ ScopesHold m info)
-scopes_are_checked m info accepted =
-    subst (λ fs. IsTrue (scope_holds m info) ↔ EachScopeHolds fs) (namings_functions m info)
+pub scopes_are_checked : (m : Module) (info : ModuleInfo) → IsTrue (fits_so_far m info) → IsTrue (is_written_so_far m info) → (IsTrue (scope_holds m info) ↔ ScopesHold m info)
+scopes_are_checked m info accepted written =
+    subst (λ fs. IsTrue (scope_holds m info) ↔ EachScopeHolds fs) (namings_functions m info ∙ ap (λ p. p.functions) (sym (same_program m info accepted written)))
     (each_is_checked (namings (module_names m) m info) (all_are_ordered (module_names m) m.types 0 m.functions info.functions.items (fits_functions_fit m info accepted) [] tt))

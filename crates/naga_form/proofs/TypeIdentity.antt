@@ -25,6 +25,7 @@ use Rattle.naga_ir.specs.declared.types.TypeInner.TheVariants as inner
 use Rattle.module_meaning.specs.TypeIdentity.{Identity}
 use Rattle.module_meaning.specs.TypeIdentity.{identity}
 use Rattle.module_meaning.specs.TypeIdentity.{word_of_unspelled_type}
+use Rattle.module_meaning.proofs.AlikeTypes.{if_either}
 use Rattle.module_meaning.proofs.TypeIdentity.{word_tells}
 
 -- the spelling of a type that is no such type as a truth value, an integer or a pointer
@@ -41,14 +42,10 @@ unspelled_apart types a b x y e =
 abbrev begins_plain : Option (List ℕ) → Bool
 begins_plain o = option_map_or (λ w. not (nat_eq (get_or w 0 0) 32)) o true
 
-if_plain : (b : Bool) (x y : Option (List ℕ)) → begins_plain x ≡ true → begins_plain y ≡ true → begins_plain (if b then x else y) ≡ true
-if_plain true x y p q = p
-if_plain false x y p q = q
-
 scalar_plain : (k : ScalarKind) (n : ℕ) → begins_plain (word_of_width k n) ≡ true
-scalar_plain kind.Bool n = if_plain (n == 1) (Some (codes "bool")) None refl refl
-scalar_plain kind.Sint n = if_plain (n == 4) (Some (codes "i32")) (if n == 8 then Some (codes "i64") else None) refl (if_plain (n == 8) (Some (codes "i64")) None refl refl)
-scalar_plain kind.Uint n = if_plain (n == 4) (Some (codes "u32")) (if n == 8 then Some (codes "u64") else None) refl (if_plain (n == 8) (Some (codes "u64")) None refl refl)
+scalar_plain kind.Bool n = if_either begins_plain (n == 1) (Some (codes "bool")) None refl refl
+scalar_plain kind.Sint n = if_either begins_plain (n == 4) (Some (codes "i32")) (if n == 8 then Some (codes "i64") else None) refl (if_either begins_plain (n == 8) (Some (codes "i64")) None refl refl)
+scalar_plain kind.Uint n = if_either begins_plain (n == 4) (Some (codes "u32")) (if n == 8 then Some (codes "u64") else None) refl (if_either begins_plain (n == 8) (Some (codes "u64")) None refl refl)
 scalar_plain _ n = refl
 
 pointer_plain : (s : AddressSpace) (o : Option (List ℕ)) → begins_plain (pointer_spelling s o) ≡ true

@@ -258,7 +258,7 @@ formless_share : (x y : Formless) → 32 ∷ formless_code x ≡ 32 ∷ formless
 formless_share x y e = sym (formless_told x) ∙ (ap formless_of e ∙ formless_told y)
 
 -- no type is spelled so
-no_blank : (w code : List ℕ) → SpellsAType w → w ≡ 32 ∷ code → ⊥
+pub no_blank : (w code : List ℕ) → SpellsAType w → w ≡ 32 ∷ code → ⊥
 no_blank w code is e =
     false≢true (ap is_word_text (sym (ap head_word (is.1.1 ∙ e)) ∙ head_is is.0 is.1.0.part) ∙ head_text is.0 is.1.0.part)
 

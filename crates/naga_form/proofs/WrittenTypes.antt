@@ -1,15 +1,13 @@
 -- The types of an accepted module are written by their words, and are types of the grammar.
 use Rattle.std.proofs.Common.{[], ◌≡◌, ℕ, ◌<◌, Bool, true, false, List, length, Option, Some, None}
-use Rattle.std.proofs.Common.{refl, sym, ap, subst, ◌∙◌, codes, slice_get, ◌==◌}
-use Rattle.std.specs.Prelude.{IsTrue, unwrap_or, if◌then◌else◌}
+use Rattle.std.proofs.Common.{refl, sym, ap, subst, ◌∙◌, codes, slice_get}
+use Rattle.std.specs.Prelude.{IsTrue, unwrap_or}
 use Rattle.std.specs.List.{list_all}
 use Rattle.std.specs.Option.{option_map, option_and_then}
-use Rattle.std.proofs.lemmas.Bool.{eqb-true}
 use Rattle.std.proofs.lemmas.Option.{slice_get_within, same_Some}
 use Rattle.naga_ir.specs.declared.types.AddressSpace.{AddressSpace}
 use Rattle.naga_ir.specs.declared.types.AddressSpace.TheVariants as space
 use Rattle.naga_ir.specs.declared.types.ScalarKind.{ScalarKind}
-use Rattle.naga_ir.specs.declared.types.ScalarKind.TheVariants as kind
 use Rattle.naga_ir.specs.declared.module.Function.{Function}
 use Rattle.naga_ir.specs.declared.types.Type_.{Type_}
 use Rattle.naga_ir.specs.declared.types.TypeInner.{TypeInner}
@@ -25,9 +23,10 @@ use Rattle.module_meaning.specs.Spelled.{spelling, spelling_of}
 use Rattle.naga_info.proofs.Options.{map_some, then_some}
 use Rattle.wgsl_text.specs.Types.{TypeSpecifier, Named, IsType, of_two}
 use Rattle.wgsl_text.proofs.Building.{scalar_word_is, pointer_to_is}
+use Rattle.module_meaning.proofs.SpelledSoFar.{wgsl_word_is}
 use Rattle.module_meaning.proofs.FitsSoFar.{scalar_types_word_at, function_fits_expressions}
 use Rattle.module_meaning.proofs.FitsSoFar.{function_fits_word_at}
-use Rattle.wgsl_words.specs.Words.{scalar_word_of, space_word, space_access_word}
+use Rattle.wgsl_words.specs.Words.{space_word, space_access_word}
 use Rattle.naga_names.specs.Keys.{NameMap}
 use Rattle.naga_words.specs.Contexts.{names_of, Names as TypeNames}
 use Rattle.naga_form.specs.TypeTrees.{inner_tree, named_tree_by, pointer_tree_in, found_tree_by}
@@ -50,33 +49,12 @@ record IsTypeWord (w : List ℕ) : Type 0 where
 type_word : (w : List ℕ) → stands_in scalar_words w ≡ true → IsTypeWord w
 type_word w scalar = let is = scalar_word_is w scalar in record { itself = is; pointer = pointer_to_is (codes "function") (Named w) refl is }
 
--- A width of two bytes is spelled, and not written so far.
-not_two : (k : ScalarKind) (n : ℕ) (w : List ℕ) → word_of_width k n ≡ Some w → (n == 2) ≡ false
-not_two k n w e = by (n == 2) refl
-  where
-    none : (k : ScalarKind) → word_of_width k 2 ≡ None
-    none kind.Bool = refl
-    none kind.Sint = refl
-    none kind.Uint = refl
-    none _ = refl
-
-    by : (b : Bool) → (n == 2) ≡ b → (n == 2) ≡ false
-    by true at = let two : n ≡ 2 = eqb-true n 2 at in let same : Some w ≡ None = sym e ∙ ap (word_of_width k) two ∙ none k in absurd (cc)
-    by false at = at
-
--- the words that are written so far are those of the table
-pub word_in_table : (k : ScalarKind) (n : ℕ) (w : List ℕ) → word_of_width k n ≡ Some w → scalar_word_of k n ≡ Some w
-word_in_table kind.Bool n w e = e
-word_in_table kind.Sint n w e = ap (λ b. if b then Some (codes "i16") else word_of_width kind.Sint n) (not_two kind.Sint n w e) ∙ e
-word_in_table kind.Uint n w e = ap (λ b. if b then Some (codes "u16") else word_of_width kind.Uint n) (not_two kind.Uint n w e) ∙ e
-word_in_table _ n w e = absurd (cc)
-
 is_type_word : (k : ScalarKind) (n : ℕ) (w : List ℕ) → word_of_width k n ≡ Some w → IsTypeWord w
-is_type_word k n w e = type_word w (value_words.scalars.each (record { kind = k; width = n }) w (word_in_table k n w e))
+is_type_word k n w e = type_word w (value_words.scalars.each (record { kind = k; width = n }) w (wgsl_word_is k n w e))
 
 -- a type that has a word is written as its word
 word_of_named : (t : TypeNames) (f : ℕ → Option TypeSpecifier) (ty : ℕ) (i : TypeInner) (w : List ℕ) → word_of_type i ≡ Some w → named_tree_by t f ty i ≡ Some (Named w)
-word_of_named t f ty (inner.Scalar s) w e = ap (option_map Named) (word_in_table s.kind s.width w e)
+word_of_named t f ty (inner.Scalar s) w e = ap (option_map Named) (wgsl_word_is s.kind s.width w e)
 word_of_named t f ty _ w e = absurd (cc)
 
 pub tree_of_word : (t : TypeNames) (ty : ℕ) (w : List ℕ) → word_at t.types ty ≡ Some w → type_tree t ty ≡ Some (Named w)
@@ -110,7 +88,7 @@ module _ (types : List Type_) where
 
   inner_has_form : (i : TypeInner) (w : List ℕ) → spelling types i ≡ Some w → HasForm (λ names. inner_tree (names_of types names) i)
   inner_has_form (inner.Scalar s) w e =
-      record { tree = Named w; is = λ names. ap (option_map Named) (word_in_table s.kind s.width w e); form = (is_type_word s.kind s.width w e).itself }
+      record { tree = Named w; is = λ names. ap (option_map Named) (wgsl_word_is s.kind s.width w e); form = (is_type_word s.kind s.width w e).itself }
   inner_has_form (inner.Pointer base a) w e = pointer_has_form base a (word_at types base) refl w e
   inner_has_form _ w e = absurd (cc)
 

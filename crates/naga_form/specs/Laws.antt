@@ -36,11 +36,12 @@ use Rattle.module_meaning.specs.InfoSizes.{type_is_fit, resolution_is_fit}
 use Rattle.module_meaning.specs.Literals.{literal_value}
 use Rattle.module_meaning.specs.Meanings.{OperatorsAreConsistent, HasTypedMeaning, HasTypedWorld}
 use Rattle.module_meaning.specs.Meanings.{IsNeverStuck}
-use Rattle.module_meaning.specs.Names.{NamesAreCounted, module_names}
+use Rattle.module_meaning.specs.Names.{ItemsAreCounted, NamesAreCounted, module_names}
 use Rattle.module_meaning.specs.Part.{is_written_so_far}
 use Rattle.module_meaning.specs.Premises.{handles_are_counted, scope_holds, ScopesHold}
 use Rattle.module_meaning.specs.Resolution.{ResolvesAs}
-use Rattle.module_meaning.specs.Shapes.{function_naming, program_shape, outer_names, namings}
+use Rattle.module_meaning.specs.ModuleShapes.{module_shape}
+use Rattle.module_meaning.specs.Shapes.{function_naming, outer_names, namings}
 use Rattle.module_meaning.specs.Spelled.{spelling_of}
 use Rattle.module_meaning.specs.TypeIdentity.{identity}
 use Rattle.module_meaning.specs.Types.{value_type, LocalsAreSpelled}
@@ -104,7 +105,7 @@ FunctionsAreRead =
 abbrev pub IsReadAsItsShapes : Type 0
 IsReadAsItsShapes = OfAccepted (λ m info program.
     program_read program
-    ≡ form_module (program_shape m info) (outer_names (module_names m))
+    ≡ form_module (module_shape m info) (outer_names (module_names m))
     (namings (module_names m) m info))
 
 -- it does what the module does
@@ -128,6 +129,18 @@ abbrev pub HasAMeaning : Type 0
 HasAMeaning =
     (m : Module) (info : ModuleInfo) → IsTrue (is_accepted m info) →
     IsTrue (is_written_so_far m info) → HasTypedMeaning m info
+
+-- the same of every accepted module, written so far or not, where its items are counted: what is
+-- spelled by a name is told by it
+abbrev pub EveryIsConsistent : Type 0
+EveryIsConsistent =
+    (m : Module) (info : ModuleInfo) → IsTrue (is_accepted m info) → ItemsAreCounted m →
+    OperatorsAreConsistent m info
+
+abbrev pub EveryHasAMeaning : Type 0
+EveryHasAMeaning =
+    (m : Module) (info : ModuleInfo) → IsTrue (is_accepted m info) → ItemsAreCounted m →
+    HasTypedMeaning m info
 
 -- one world answers by the right types in every run of the module
 abbrev pub HasAWorld : Type 0

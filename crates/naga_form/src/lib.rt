@@ -7,6 +7,7 @@ pub mod types;
 ghost use Rattle.naga_form.specs.Laws.{IsAProgram, HasTheInterface, ResolvesAsMeant};
 ghost use Rattle.naga_form.specs.Laws.{BindsAsCounted, FunctionsAreRead, IsReadAsItsShapes};
 ghost use Rattle.naga_form.specs.Laws.{RunsAsTheModule, ScopesAreChecked, IsConsistent};
+ghost use Rattle.naga_form.specs.Laws.{EveryIsConsistent, EveryHasAMeaning};
 ghost use Rattle.naga_form.specs.Laws.{HasAMeaning, HasAWorld, IsNotStuck, UnspelledAreTold};
 ghost use Rattle.naga_form.specs.Laws.{SpelledAreTold, LiteralsAreTold, WordsAreTold, WordsAreKept};
 ghost use Rattle.naga_form.specs.Laws.{OperandsAreTold, RequestsAreTold};
@@ -58,10 +59,13 @@ pub fn scopes_are_checked()
 {}
 
 /// The operators of an accepted module are typed consistently, so that some meaning gives each a
-/// value of its handle's type.
+/// value of its handle's type: of every accepted module whose items are counted, and of one of the
+/// part that is written so far in any case.
 pub fn has_a_typed_meaning()
     ensures consistent { IsConsistent }
     ensures meaning { HasAMeaning }
+    ensures every_consistent { EveryIsConsistent }
+    ensures every_meaning { EveryHasAMeaning }
 {}
 
 /// For each such meaning, one world answers by the right types in every run of the module.

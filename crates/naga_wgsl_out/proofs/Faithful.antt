@@ -56,11 +56,12 @@ for_names m info (Memory e) before after is = tt
 for_names m info _ before after is = absurd is
 
 -- and so is a function in which the rules of scope don't hold
-pub for_scope : (m : Module) (info : ModuleInfo) (error : Error) (before after : ℕ) →
+pub for_scope : (m : Module) (info : ModuleInfo) → IsTrue (fits_so_far m info) →
+    IsTrue (is_written_so_far m info) → (error : Error) (before after : ℕ) →
     TellsOfScope error → (i : ℕ) → (ScopeHoldsIn m info i → ⊥) → IsRefusal m info before after error
-for_scope m info (Custom message) before after told i fails =
-    inr (told, λ rules. fails (scope_holds_in m info rules i))
-for_scope m info _ before after told i fails = absurd told
+for_scope m info fits written (Custom message) before after told i fails =
+    inr (told, λ rules. fails (scope_holds_in m info fits written rules i))
+for_scope m info fits written _ before after told i fails = absurd told
 
 -- so are a sink that failed and want of memory
 pub for_want : (m : Module) (info : ModuleInfo) (error : Error) (before after : ℕ) → IsWant before after error → IsRefusal m info before after error
@@ -132,8 +133,7 @@ module _ (m : Module) (info : ModuleInfo) (flags : WriterFlags)
         Concludes (Ok tt) held now before after
     wrote w =
         let appended = w.wrote.appended ∙ ap (λ t. held ++ t) same_text in
-        let rules = all_planned_hold m info w.planned in
-        let unnamed = functions_name_nothing m info written in
+        let rules = all_planned_hold m info fits written w.planned in
         let fit = functions_fit_length m.types m.functions info.functions.items
         (fits_functions_fit m info fits) in
         let reading = each w.planned held now appended in
@@ -153,10 +153,10 @@ module _ (m : Module) (info : ModuleInfo) (flags : WriterFlags)
             };
             interface = reading (HasInterfaceOf m) (has_interface m info explicit fit);
             runs = reading (RunsAs m info)
-                (runs_as m info explicit fits unnamed rules has.counted);
+                (runs_as m info explicit fits written rules has.counted);
           };
           resolved = reading (ResolvesAs m info)
-              (resolves m info explicit fits unnamed rules has.counted);
+              (resolves m info explicit fits written rules has.counted);
           binds = reading (BindsAs m info explicit) (binds_as m info explicit fits);
           text_ok = appended;
           text_err = tt;
@@ -186,7 +186,7 @@ module _ (m : Module) (info : ModuleInfo) (flags : WriterFlags)
         Concludes (Err e) held now before after
     met_no_plan e s = record {
       is_faithful = refused m info e held now before after
-          (for_scope m info e before after s.told s.before.handle s.before.fails);
+          (for_scope m info fits written e before after s.told s.before.handle s.before.fails);
       resolved = tt;
       binds = tt;
       text_ok = tt;

@@ -1,6 +1,6 @@
 -- The rules of scope in the functions of a module, one by one and in all.
 use Rattle.std.proofs.Common.{◌≡◌, ◌<◌, ◌^◌, ◌∙◌, ℕ, Bool, true, zero, suc, List, [], ◌∷◌}
-use Rattle.std.proofs.Common.{None, Option, Some, ap, arith, length, nat_le, refl, sym}
+use Rattle.std.proofs.Common.{None, Option, Some, ap, arith, length, nat_le, refl, subst, sym}
 use Rattle.std.specs.Prelude.{IfSome, IsSomeAnd, IsTrue, slice_get}
 use Rattle.std.specs.List.{list_all}
 use Rattle.std.proofs.lemmas.Bool.{and_from}
@@ -10,12 +10,15 @@ use mathlib.Core.List.{reverse_aux}
 use Rattle.naga_ir.specs.declared.module.Function as ir_function
 use Rattle.naga_ir.specs.declared.module.Module.{Module}
 use Rattle.naga_info.specs.declared.info.ModuleInfo.{ModuleInfo}
+use Rattle.shader_runs.specs.Program as shapes
 use Rattle.shader_runs.specs.Program.{Function}
 use Rattle.shader_runs.specs.ScopeRules.{ScopeHolds}
 use Rattle.module_meaning.specs.FitsSoFar.{fits_so_far}
+use Rattle.module_meaning.specs.Part.{is_written_so_far}
 use Rattle.module_meaning.specs.Premises.{EachScopeHolds, ScopesHold, handles_are_counted}
 use Rattle.module_meaning.specs.Shapes.{expression_shape, function_shapes}
 use Rattle.module_meaning.proofs.FitsSoFar.{fits_functions_fit, functions_fit_at}
+use Rattle.module_meaning.proofs.ModuleShapes.{same_program}
 use Rattle.naga_scope.specs.Plans.{IsPlan, ScopeHoldsIn, function_shape_at}
 use Rattle.naga_scope.proofs.Planned.{plan_found}
 use Rattle.naga_wgsl_out.specs.Writing.{HasPlan}
@@ -43,11 +46,13 @@ each_from [] at = tt
 each_from (f ∷ fs) at = (at 0 (omega arith), each_from fs (λ i lt. at (suc i) (omega (arith, lt))))
 
 -- where the rules hold in a module, they hold in each function
-pub scope_holds_in : (m : Module) (info : ModuleInfo) → ScopesHold m info → (i : ℕ) →
-    ScopeHoldsIn m info i
-scope_holds_in m info rules i =
-    let shapes = function_shapes m.types m.functions info.functions.items in
-    each_at shapes (turned_back shapes [] rules).0 i
+pub scope_holds_in : (m : Module) (info : ModuleInfo) → IsTrue (fits_so_far m info) →
+    IsTrue (is_written_so_far m info) → ScopesHold m info → (i : ℕ) → ScopeHoldsIn m info i
+scope_holds_in m info fits written rules i =
+    let own = function_shapes m.types m.functions info.functions.items in
+    let of_part = subst (λ (p : shapes.Module). EachScopeHolds p.functions)
+    (same_program m info fits written) rules in
+    each_at own (turned_back own [] of_part).0 i
 
 -- ---- functions with a plan
 pub planned_holds : (m : Module) (info : ModuleInfo) (i : ℕ) → HasPlan m info i →
@@ -72,12 +77,15 @@ shapes_below m info i lt = by m.functions info.functions.items i lt
         let rest = by fs ess i (omega (arith, lt)) in omega (arith, rest)
 
 -- where each function has a plan, the rules of scope hold in the module
-pub all_planned_hold : (m : Module) (info : ModuleInfo) →
+pub all_planned_hold : (m : Module) (info : ModuleInfo) → IsTrue (fits_so_far m info) →
+    IsTrue (is_written_so_far m info) →
     ((i : ℕ) → i < length m.functions → HasPlan m info i) → ScopesHold m info
-all_planned_hold m info planned =
-    let shapes = function_shapes m.types m.functions info.functions.items in
-    turned shapes []
-    (each_from shapes (λ i lt. planned_holds m info i (planned i (shapes_below m info i lt)))) tt
+all_planned_hold m info fits written planned =
+    let own = function_shapes m.types m.functions info.functions.items in
+    subst (λ (p : shapes.Module). EachScopeHolds p.functions)
+    (sym (same_program m info fits written))
+    (turned own []
+    (each_from own (λ i lt. planned_holds m info i (planned i (shapes_below m info i lt)))) tt)
 
 -- a test that each item passes
 all_pass : {X : Type 0} (test : X → Bool) (xs : List X) →

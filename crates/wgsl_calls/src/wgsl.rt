@@ -1,7 +1,7 @@
 //! The writer, and what is asked before it.
 use crate::texts::reads;
 use bitflags::Flags;
-use naga_wgsl_out::info::{accepts, count};
+use naga_wgsl_out::info::{accepts, count, unaccepted};
 use naga_wgsl_out::wgsl::{Error, Writer, WriterFlags, write_string};
 use sample_modules::{Row, Sample};
 use std::alloc::Global;
@@ -18,6 +18,7 @@ fn writes(rt: &impl Abort, alloc: Global, sample: &mut Sample) -> Result<(), Err
     Row::Store.build(sample)?;
     count(&mut sample.info, &sample.module);
     assert!(rt; accepts(&sample.module, &sample.info));
+    assert_eq!(rt; unaccepted(&sample.module, &sample.info), None);
     let text = write_string(alloc, &sample.module, &sample.info, WriterFlags::empty())?;
     reads(rt, text.as_str(), STORE);
     let mut writer = Writer::new(alloc, String::new(alloc), WriterFlags::EXPLICIT_TYPES);

@@ -1,7 +1,7 @@
 //! Which modules are accepted, beyond what they name ([`ranges`](crate::ranges) tests that): types of
 //! expressions, what expressions ask of their operands, operators that are spelled alike, and
 //! statements. A module with each kind of expression and statement is accepted, and each fault alone
-//! has it refused.
+//! has it refused. Small modules as a front end would build them are accepted too ([`worked`]).
 
 use naga_acceptance::accepts;
 use naga_acceptance::agreeing::operators_agree;
@@ -27,6 +27,7 @@ mod kinds;
 mod operators;
 mod steps;
 mod values;
+mod worked;
 
 use building::{Draft, Subject, pick, place};
 use demands::demands;

@@ -1,7 +1,7 @@
 //! Tests that need a crate of their own, so that what they test is proved once and its edits wait
 //! for no test: names, spellings of types, which expressions are in scope where, whether what
-//! modules name is there, and which modules are accepted; beside them a context and a sink as a user
-//! would write them.
+//! modules name is there, which modules are accepted, and where one is not; beside them a context
+//! and a sink as a user would write them.
 #![tactic(auto)]
 
 pub mod limited;
@@ -14,6 +14,8 @@ pub use numbered::NumberedTypes;
 mod acceptance;
 #[cfg(test)]
 mod names;
+#[cfg(test)]
+mod places;
 #[cfg(test)]
 mod ranges;
 #[cfg(test)]

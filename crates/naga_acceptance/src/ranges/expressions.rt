@@ -1,13 +1,18 @@
 //! Whether what expressions name is there, and stands before them.
 
 ghost use Rattle.std.specs.Prelude.{◌≡◌, length};
+ghost use Rattle.std.specs.List.{enumerate_from};
 ghost use Rattle.naga_ir.specs.Operands.{expression_operands};
 ghost use Rattle.module_meaning.specs.Literals.{literal_is_within};
-ghost use Rattle.module_meaning.specs.Ranges.{all_below, all_placed, expression_in_range};
-ghost use Rattle.module_meaning.specs.Ranges.{expressions_in_range, global_expression_in_range};
+ghost use Rattle.naga_acceptance.specs.FirstFaults.{expression_range_fault};
+ghost use Rattle.naga_acceptance.specs.FirstFaults.{global_expression_range_fault};
+ghost use Rattle.naga_acceptance.specs.Searching.{first_faulty};
+ghost use Rattle.module_meaning.specs.Ranges.{all_below};
 ghost use Rattle.module_meaning.specs.Ranges.{initialiser_before, names_in_range};
 
+use crate::faults::Fault;
 use crate::ranges::is_below;
+use crate::ranges::numbers::{fits_32_bits, pattern_is_whole};
 use naga_ir::{Expression, Function, Handle, Literal, Module};
 
 /// Whether the expression's operands are among the first `expressions`.
@@ -44,7 +49,7 @@ pub(crate) fn literal_is_within(literal: Literal) -> bool
 
 /// Whether what an expression names beside its operands is there, in a function that may call the
 /// first `callees` functions and has so many arguments and locals; and a literal has a value of its
-/// type.
+/// type, an index 32 bits, and a pattern four letters.
 fn names_in_range(
     module: &Module,
     callees: usize,
@@ -67,10 +72,10 @@ fn names_in_range(
         Expression::LocalVariable(handle) => handle.index() < locals,
         Expression::CallResult(function) => function.index() < callees,
         Expression::Literal(literal) => literal_is_within(*literal),
+        Expression::AccessIndex { index, .. } => fits_32_bits(*index),
+        Expression::Swizzle { pattern, .. } => pattern_is_whole(*pattern),
         Expression::Access { .. }
-        | Expression::AccessIndex { .. }
         | Expression::Splat { .. }
-        | Expression::Swizzle { .. }
         | Expression::Load { .. }
         | Expression::ImageSample { .. }
         | Expression::ImageLoad { .. }
@@ -92,21 +97,26 @@ fn names_in_range(
     }
 }
 
-/// Whether the operands of the expression with this handle stand before it, and what it names is
-/// there.
-pub(crate) fn expression_in_range(
+/// Whether an operand of the expression with this handle does not stand before it, or else what it
+/// names is not there.
+fn expression_range_fault(
     module: &Module,
     callees: usize,
     arguments: usize,
     locals: usize,
     here: Handle<Expression>,
     expression: &Expression,
-) -> bool
-    ensures { result ≡ expression_in_range «module».now callees arguments locals here
+) -> Option<Fault>
+    ensures { result ≡ expression_range_fault «module».now callees arguments locals here
         expression.now }
 {
-    operands_before(here.index(), expression)
-        && names_in_range(module, callees, arguments, locals, expression)
+    if !operands_before(here.index(), expression) {
+        return Some(Fault::Operands);
+    }
+    if !names_in_range(module, callees, arguments, locals, expression) {
+        return Some(Fault::Names);
+    }
+    None
 }
 
 /// Whether the initialiser of the constant or the override that an expression names, if it names
@@ -133,42 +143,58 @@ fn initialiser_before(module: &Module, here: Handle<Expression>, expression: &Ex
     }
 }
 
-/// Whether the operands of the global expression with this handle, and the initialisers of what it
-/// names, stand before it, and it names no argument and no local.
-pub(crate) fn global_expression_in_range(
+/// The same of a global expression, which names no argument and no local, or else whether the
+/// initialiser of what it names does not stand before it.
+fn global_expression_range_fault(
     module: &Module,
     here: Handle<Expression>,
     expression: &Expression,
-) -> bool
-    ensures { result ≡ global_expression_in_range «module».now here expression.now }
+) -> Option<Fault>
+    ensures { result ≡ global_expression_range_fault «module».now here expression.now }
 {
-    expression_in_range(module, module.functions.len(), 0, 0, here, expression)
-        && initialiser_before(module, here, expression)
+    let found = expression_range_fault(module, module.functions.len(), 0, 0, here, expression);
+    if found.is_some() {
+        return found;
+    }
+    if !initialiser_before(module, here, expression) {
+        return Some(Fault::LaterInitialiser);
+    }
+    None
 }
 
-pub(crate) fn global_expressions_in_range(module: &Module) -> bool
-    ensures { result ≡ all_placed (global_expression_in_range «module».now)
-        «module».now.global_expressions }
+/// The first global expression that has such a fault.
+pub(crate) fn first_global_expression_out_of_range(
+    module: &Module,
+) -> Option<(Handle<Expression>, Fault)>
+    ensures { result ≡ first_faulty (global_expression_range_fault «module».now)
+        (enumerate_from 0 «module».now.global_expressions) }
 {
     for (handle, expression) in module.global_expressions.iter() {
-        if !global_expression_in_range(module, handle, expression) {
-            return false;
+        if let Some(fault) = global_expression_range_fault(module, handle, expression) {
+            return Some((handle, fault));
         }
     }
-    true
+    None
 }
 
-/// Whether all expressions of a function that may call the first `callees` functions name what is
-/// there.
-pub(crate) fn expressions_in_range(module: &Module, callees: usize, function: &Function) -> bool
-    ensures { result ≡ expressions_in_range «module».now callees function.now }
+/// The first expression of a function, which may call the first `callees` functions, that names
+/// what is not there or does not stand before it.
+pub(crate) fn first_expression_out_of_range(
+    module: &Module,
+    callees: usize,
+    function: &Function,
+) -> Option<(Handle<Expression>, Fault)>
+    ensures { result ≡ first_faulty (expression_range_fault «module».now callees
+        (length function.now.arguments.items) (length function.now.local_variables))
+        (enumerate_from 0 function.now.expressions) }
 {
     let arguments = function.arguments.len();
     let locals = function.local_variables.len();
     for (handle, expression) in function.expressions.iter() {
-        if !expression_in_range(module, callees, arguments, locals, handle, expression) {
-            return false;
+        let found = expression_range_fault(module, callees, arguments, locals, handle, expression);
+        if let Some(fault) = found {
+            return Some((handle, fault));
         }
     }
-    true
+    None
 }

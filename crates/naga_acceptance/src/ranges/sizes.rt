@@ -2,15 +2,18 @@
 //! have there.
 
 ghost use Rattle.std.specs.Prelude.{◌≡◌, ◌==◌, length};
-ghost use Rattle.std.specs.List.{list_all};
-ghost use Rattle.module_meaning.specs.InfoSizes.{all_paired, entry_point_size_fits};
+ghost use Rattle.std.specs.List.{enumerate_from};
+ghost use Rattle.naga_acceptance.specs.FirstFaults.{entry_point_sizes_fault};
+ghost use Rattle.naga_acceptance.specs.FirstFaults.{function_sizes_fault, sizes_fault};
+ghost use Rattle.naga_acceptance.specs.Searching.{first_unfit};
 ghost use Rattle.module_meaning.specs.InfoSizes.{function_size_fits, is_handle_pointer, is_struct};
 ghost use Rattle.module_meaning.specs.InfoSizes.{is_handle_space};
-ghost use Rattle.module_meaning.specs.InfoSizes.{resolution_is_fit, sizes_fit, type_is_fit};
+ghost use Rattle.module_meaning.specs.InfoSizes.{resolution_is_fit, type_is_fit};
 
+use crate::faults::{Fault, Item, Part, Unaccepted, at};
 use naga_info::{FunctionInfo, ModuleInfo, TypeResolution};
 use naga_ir::{
-    AddressSpace, Arena, EntryPoint, Function, Module, Place, Type_, TypeInner, UniqueArena,
+    AddressSpace, Arena, EntryPoint, Function, Handle, Module, Place, Type_, TypeInner, UniqueArena,
 };
 
 /// Whether one thing is known of each of the function's expressions.
@@ -20,41 +23,55 @@ pub(crate) fn function_size_fits(function: &Function, info: &FunctionInfo) -> bo
     function.expressions.len() == info.expressions.len()
 }
 
-fn function_sizes_fit(functions: &Arena<Function>, infos: &[FunctionInfo]) -> bool
-    ensures { result ≡ all_paired function_size_fits functions.now infos.now }
+fn function_sizes_fault(functions: &Arena<Function>, infos: &[FunctionInfo]) -> Option<Unaccepted>
+    ensures { result ≡ function_sizes_fault functions.now infos.now }
 {
     if functions.len() != infos.len() {
-        return false;
+        return Some(at(Item::Module, Fault::InfoSize));
     }
     for (index, info) in infos.iter().enumerate() {
-        if !function_size_fits(&functions[Place::from_index(index)], info) {
-            return false;
+        let handle = Place::from_index(index);
+        if !function_size_fits(&functions[handle], info) {
+            return Some(at(Item::Function(handle, Part::Whole), Fault::InfoSize));
         }
     }
-    true
+    None
 }
 
-fn entry_point_sizes_fit(entry_points: &[EntryPoint], infos: &[FunctionInfo]) -> bool
-    ensures { result ≡ all_paired entry_point_size_fits entry_points.now infos.now }
+fn entry_point_sizes_fault(
+    entry_points: &[EntryPoint],
+    infos: &[FunctionInfo],
+) -> Option<Unaccepted>
+    ensures { result ≡ entry_point_sizes_fault entry_points.now infos.now }
 {
     if entry_points.len() != infos.len() {
-        return false;
+        return Some(at(Item::Module, Fault::InfoSize));
     }
     for (index, info) in infos.iter().enumerate() {
         if !function_size_fits(&entry_points[index].function, info) {
-            return false;
+            return Some(at(Item::EntryPoint(index, Part::Whole), Fault::InfoSize));
         }
     }
-    true
+    None
 }
 
-/// Whether there is one entry for each function, entry point, expression and global expression.
-pub(crate) fn sizes_fit(module: &Module, info: &ModuleInfo) -> bool
-    ensures { result ≡ sizes_fit «module».now info.now }
+/// The first place where there is not one entry for each function, entry point, expression and
+/// global expression.
+pub(crate) fn sizes_fault(module: &Module, info: &ModuleInfo) -> Option<Unaccepted>
+    ensures { result ≡ sizes_fault «module».now info.now }
 {
-    function_sizes_fit(&module.functions, info.functions.as_slice())
-        && entry_point_sizes_fit(&module.entry_points, info.entry_points.as_slice())
-        && module.global_expressions.len() == info.const_expression_types.len()
+    let functions = function_sizes_fault(&module.functions, info.functions.as_slice());
+    if functions.is_some() {
+        return functions;
+    }
+    let entry_points = entry_point_sizes_fault(&module.entry_points, info.entry_points.as_slice());
+    if entry_points.is_some() {
+        return entry_points;
+    }
+    if module.global_expressions.len() != info.const_expression_types.len() {
+        return Some(at(Item::Module, Fault::InfoSize));
+    }
+    None
 }
 
 fn is_handle_space(space: AddressSpace) -> bool
@@ -85,16 +102,16 @@ fn is_struct(inner: &TypeInner) -> bool
     }
 }
 
-/// Whether no type of the module is a pointer in the space of handles.
-pub(crate) fn types_are_fit(types: &UniqueArena<Type_>) -> bool
-    ensures { result ≡ list_all type_is_fit types.now }
+/// The first type of the module that is a pointer in the space of handles.
+pub(crate) fn first_handle_pointer(types: &UniqueArena<Type_>) -> Option<Handle<Type_>>
+    ensures { result ≡ first_unfit (λ _. type_is_fit) (enumerate_from 0 types.now) }
 {
-    for (_, ty) in types.iter() {
+    for (handle, ty) in types.iter() {
         if is_handle_pointer(&ty.inner) {
-            return false;
+            return Some(handle);
         }
     }
-    true
+    None
 }
 
 /// Whether a known type is no struct by itself, and no pointer in the space of handles.

@@ -1,15 +1,19 @@
 //! Whether what statements name is there.
 
 ghost use Rattle.std.specs.Prelude.{◌≡◌, length};
-ghost use Rattle.naga_ir.specs.StatementViews.{tree_of, cases_of};
-ghost use Rattle.module_meaning.specs.Ranges.{all_below, atomic_in_range, block_in_range};
-ghost use Rattle.module_meaning.specs.Ranges.{cases_in_range, cooperative_in_range};
-ghost use Rattle.module_meaning.specs.Ranges.{gather_in_range, ray_in_range, statement_in_range};
+ghost use Rattle.std.specs.Result.{result_err};
+ghost use Rattle.naga_ir.specs.StatementViews.{tree_of};
+ghost use Rattle.naga_acceptance.specs.TextOrder.{is_in_range, numbered, own_in_range, text_order};
+ghost use Rattle.module_meaning.specs.Ranges.{all_below, atomic_in_range};
+ghost use Rattle.module_meaning.specs.Ranges.{cooperative_in_range};
+ghost use Rattle.module_meaning.specs.Ranges.{gather_in_range, ray_in_range};
 
 use crate::ranges::is_below;
+use crate::ranges::numbers::labels_fit_32_bits;
+use crate::walk::{first_unmet, range_demand};
 use naga_ir::{
     AtomicFunction, Block, CooperativeData, Expression, GatherMode, Handle, RayPipelineFunction,
-    Statement, SwitchCase,
+    Statement,
 };
 
 fn all_below(expressions: usize, handles: &[Handle<Expression>]) -> bool
@@ -69,10 +73,10 @@ fn ray_in_range(expressions: usize, fun: RayPipelineFunction) -> bool
 }
 
 /// Whether the operands and the result of a statement, and the range of an `Emit`, lie in the first
-/// `expressions`, and its callee in the first `callees` functions, in its blocks too.
-#[cycle(statements)]
-pub(crate) fn statement_in_range(callees: usize, expressions: usize, statement: &Statement) -> bool
-    ensures { result ≡ statement_in_range callees expressions (tree_of statement.now) }
+/// `expressions`, and its callee in the first `callees` functions, and a switch's labels have 32
+/// bits. Its blocks are left out.
+pub(crate) fn own_in_range(callees: usize, expressions: usize, statement: &Statement) -> bool
+    ensures { result ≡ own_in_range callees expressions (tree_of statement.now) }
 {
     match statement {
         Statement::Emit(range) => range.first <= range.end && range.end <= expressions,
@@ -80,29 +84,13 @@ pub(crate) fn statement_in_range(callees: usize, expressions: usize, statement: 
         | Statement::Continue
         | Statement::Kill
         | Statement::ControlBarrier(_)
-        | Statement::MemoryBarrier(_) => true,
-        Statement::Block(block) => block_in_range(callees, expressions, block),
-        Statement::If {
-            condition,
-            accept,
-            reject,
-        } => {
-            condition.index() < expressions
-                && block_in_range(callees, expressions, accept)
-                && block_in_range(callees, expressions, reject)
-        }
+        | Statement::MemoryBarrier(_)
+        | Statement::Block(_) => true,
+        Statement::If { condition, .. } => condition.index() < expressions,
         Statement::Switch { selector, cases } => {
-            selector.index() < expressions && cases_in_range(callees, expressions, cases)
+            selector.index() < expressions && labels_fit_32_bits(cases)
         }
-        Statement::Loop {
-            body,
-            continuing,
-            break_if,
-        } => {
-            block_in_range(callees, expressions, body)
-                && block_in_range(callees, expressions, continuing)
-                && is_below(expressions, *break_if)
-        }
+        Statement::Loop { break_if, .. } => is_below(expressions, *break_if),
         Statement::Return { value } => is_below(expressions, *value),
         Statement::Store { pointer, value } => {
             pointer.index() < expressions && value.index() < expressions
@@ -179,26 +167,12 @@ pub(crate) fn statement_in_range(callees: usize, expressions: usize, statement: 
     }
 }
 
-#[cycle(statements)]
-pub(crate) fn block_in_range(callees: usize, expressions: usize, block: &Block) -> bool
-    ensures { result ≡ block_in_range callees expressions block.now }
+/// The number of the first statement of a body, in the order of the text, that names what is not
+/// among so many functions or expressions. Those in blocks are counted too, from 0, and modulo
+/// 2^64.
+pub(crate) fn first_out_of_range(callees: usize, expressions: usize, body: &Block) -> Option<usize>
+    ensures { result ≡ result_err
+        (numbered (is_in_range callees expressions) 0 (text_order body.now)) }
 {
-    for statement in block.as_slice() {
-        if !statement_in_range(callees, expressions, statement) {
-            return false;
-        }
-    }
-    true
-}
-
-#[cycle(statements)]
-fn cases_in_range(callees: usize, expressions: usize, cases: &[SwitchCase]) -> bool
-    ensures { result ≡ cases_in_range callees expressions (cases_of cases.now) }
-{
-    for case in cases {
-        if !block_in_range(callees, expressions, &case.body) {
-            return false;
-        }
-    }
-    true
+    first_unmet(range_demand(callees, expressions), body)
 }

@@ -1,13 +1,17 @@
 //! Whether what types name is there, and stands before them.
 
 ghost use Rattle.std.specs.Prelude.{◌≡◌, length};
-ghost use Rattle.std.specs.List.{list_all};
+ghost use Rattle.std.specs.List.{enumerate_from, list_all};
+ghost use Rattle.naga_acceptance.specs.FirstFaults.{types_range_fault};
+ghost use Rattle.naga_acceptance.specs.Searching.{first_unfit};
 ghost use Rattle.naga_words.specs.Spelling.{length_within, size_within};
-ghost use Rattle.module_meaning.specs.Ranges.{members_before, parts_before, parts_stand_before};
-ghost use Rattle.module_meaning.specs.Ranges.{resolution_in_range, type_in_range, types_in_range};
+ghost use Rattle.module_meaning.specs.Ranges.{members_before, numbers_in_range, parts_before};
+ghost use Rattle.module_meaning.specs.Ranges.{resolution_in_range, type_in_range};
 
+use crate::faults::{Fault, Item, Unaccepted, at};
+use crate::ranges::numbers::type_fits_32_bits;
 use naga_info::TypeResolution;
-use naga_ir::{ArraySize, StructMember, Type_, TypeInner, UniqueArena};
+use naga_ir::{ArraySize, Handle, Module, StructMember, Type_, TypeInner, UniqueArena};
 
 /// Whether the members' types are among the first `types`.
 fn members_before(types: usize, members: &[StructMember]) -> bool
@@ -43,16 +47,16 @@ pub(crate) fn parts_before(types: usize, inner: &TypeInner) -> bool
     }
 }
 
-/// Whether each type's parts stand before it.
-pub(crate) fn parts_stand_before(types: &UniqueArena<Type_>) -> bool
-    ensures { result ≡ parts_stand_before types.now }
+/// The first type whose parts do not stand before it.
+fn first_early(types: &UniqueArena<Type_>) -> Option<Handle<Type_>>
+    ensures { result ≡ first_unfit (λ h t. parts_before h t.inner) (enumerate_from 0 types.now) }
 {
     for (handle, ty) in types.iter() {
         if !parts_before(handle.index(), &ty.inner) {
-            return false;
+            return Some(handle);
         }
     }
-    true
+    None
 }
 
 fn size_within(overrides: usize, size: ArraySize) -> bool
@@ -77,28 +81,44 @@ pub(crate) fn length_within(overrides: usize, inner: &TypeInner) -> bool
     }
 }
 
-fn lengths_within(overrides: usize, types: &UniqueArena<Type_>) -> bool
-    ensures { result ≡ list_all (λ t. length_within overrides t.inner) types.now }
+/// Whether the override that a type's length names is one of so many, and its numbers have 32 bits.
+fn numbers_in_range(overrides: usize, inner: &TypeInner) -> bool
+    ensures { result ≡ numbers_in_range overrides inner.now }
 {
-    for (_, ty) in types.iter() {
-        if !length_within(overrides, &ty.inner) {
-            return false;
-        }
-    }
-    true
+    length_within(overrides, inner) && type_fits_32_bits(inner)
 }
 
-/// Whether each type's parts stand before it, and the overrides of lengths are among so many.
-pub(crate) fn types_in_range(overrides: usize, types: &UniqueArena<Type_>) -> bool
-    ensures { result ≡ types_in_range overrides types.now }
+/// The first type whose length names an override that is not one of so many.
+fn first_without_length(overrides: usize, types: &UniqueArena<Type_>) -> Option<Handle<Type_>>
+    ensures { result ≡ first_unfit (λ _ t. numbers_in_range overrides t.inner)
+        (enumerate_from 0 types.now) }
 {
-    parts_stand_before(types) && lengths_within(overrides, types)
+    for (handle, ty) in types.iter() {
+        if !numbers_in_range(overrides, &ty.inner) {
+            return Some(handle);
+        }
+    }
+    None
+}
+
+/// The first type whose parts do not stand before it, or else the first whose length names an
+/// override that is not there.
+pub(crate) fn types_range_fault(module: &Module) -> Option<Unaccepted>
+    ensures { result ≡ types_range_fault «module».now }
+{
+    if let Some(handle) = first_early(&module.types) {
+        return Some(at(Item::Type(handle), Fault::TypeParts));
+    }
+    match first_without_length(module.overrides.len(), &module.types) {
+        Some(handle) => Some(at(Item::Type(handle), Fault::TypeLength)),
+        None => None,
+    }
 }
 
 fn type_in_range(overrides: usize, types: usize, inner: &TypeInner) -> bool
     ensures { result ≡ type_in_range overrides types inner.now }
 {
-    parts_before(types, inner) && length_within(overrides, inner)
+    parts_before(types, inner) && numbers_in_range(overrides, inner)
 }
 
 /// Whether a known type names types and an override that there are.

@@ -1,8 +1,7 @@
 use Rattle.module_meaning.proofs.AcceptedSoFar.{accepted_so_far}
-use Rattle.module_meaning.proofs.Part.{functions_name_nothing}
 use Rattle.naga_form.proofs.Meanings.{never_stuck}
 use Rattle.naga_form.proofs.is_never_stuck.Goals as goal
 
 pub returns : goal.returns
 returns c = λ m info explicit accepted written.
-    never_stuck m info (accepted_so_far m info accepted written) explicit (functions_name_nothing m info written)
+    never_stuck m info (accepted_so_far m info accepted written) written accepted explicit

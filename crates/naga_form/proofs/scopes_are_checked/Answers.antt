@@ -3,4 +3,4 @@ use Rattle.naga_form.proofs.ScopeRules.{scopes_are_checked}
 use Rattle.naga_form.proofs.scopes_are_checked.Goals as goal
 
 pub returns : goal.returns
-returns c = λ m info accepted written. scopes_are_checked m info (accepted_so_far m info accepted written)
+returns c = λ m info accepted written. scopes_are_checked m info (accepted_so_far m info accepted written) written

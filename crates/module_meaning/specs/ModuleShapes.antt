@@ -1,0 +1,104 @@
+-- The program of shapes of every module: its functions and entry points, its constants, overrides
+-- and variables, and how pointers to parts of its types are spelled.
+--
+-- Throughout, m is a module, info what is known of it, d what it declares, c a constant, o an
+-- override, g a variable or a group of expressions that stand together, p an entry point or a
+-- function with what is known of it, or an expression with its type, r such a type, and s a selector.
+use Rattle.std.specs.Prelude.{ℕ, Bool, true, false, ◌&&◌, List, [], ◌∷◌, ◌++◌, map, reverse}
+use Rattle.std.specs.Prelude.{if◌then◌else◌, unwrap_or, slice_get}
+use Rattle.std.specs.List.{filter, flat_map, zip}
+use Rattle.std.specs.Option.{option_map_or, is_some}
+use Rattle.naga_ir.specs.declared.expression.Expression as ir
+use Rattle.naga_ir.specs.declared.expression.Expression.TheVariants as expression
+use Rattle.naga_ir.specs.declared.module.Constant as ir_constant
+use Rattle.naga_ir.specs.declared.module.Module as ir_module
+use Rattle.naga_info.specs.declared.info.ModuleInfo.{ModuleInfo}
+use Rattle.naga_info.specs.declared.info.TypeResolution.{TypeResolution}
+use Rattle.naga_info.specs.declared.info.TypeResolution.TheVariants.{Handle}
+use Rattle.module_meaning.specs.AgreeingOperators.{Group, groups_of}
+use Rattle.module_meaning.specs.ExpressionShapes.{Declared, constant_tree, part_selector}
+use Rattle.module_meaning.specs.ExpressionTypes.{variable_type}
+use Rattle.module_meaning.specs.FunctionShapes.{function_shape}
+use Rattle.module_meaning.specs.Surroundings.{declared, global_types_known, type_of_values}
+use Rattle.module_meaning.specs.Surroundings.{word_of_values}
+use Rattle.shader_runs.specs.Program.{ConstantTree, Fixed, Module}
+use Rattle.shader_runs.specs.Value.{PartTypes, PointerType, Truth, Step, At, Field, step_of}
+use Rattle.shader_runs.specs.Value.{same_bytes, same_integer, same_type}
+
+-- what a module declares, for its own expressions
+abbrev pub declared_globally : ir_module.Module → ModuleInfo → Declared
+declared_globally m info = declared m info (global_types_known info)
+
+-- ---- constants
+-- those with a name, in their order
+abbrev pub named_constants : ir_module.Module → List ir_constant.Constant
+named_constants m = filter (λ c. is_some c.name) m.constants
+
+-- what a constant is computed from; one without a tree, for which no text is written, is `false`
+abbrev pub initialiser : ir_module.Module → ModuleInfo → ir_constant.Constant → ConstantTree
+initialiser m info c =
+    unwrap_or (constant_tree (declared_globally m info) m.global_expressions c.init)
+    (Fixed (Truth false))
+
+-- ---- parts
+-- Are both one step?
+abbrev pub same_step : Step → Step → Bool
+same_step (At i) (At j) = same_integer i j
+same_step (Field v) (Field w) = same_bytes v w
+same_step _ _ = false
+
+-- Does the step name a part by a number?
+abbrev pub is_numbered : Step → Bool
+is_numbered (At i) = true
+is_numbered (Field w) = false
+
+-- Is the value of the expression with this handle a pointer spelled so?
+abbrev pub points_so : Declared → (whole : List ℕ) → (base : ℕ) → Bool
+points_so d whole base =
+    option_map_or (λ r. same_type (d.value_type r) (PointerType whole)) (d.around.known base) false
+
+-- Does the expression take the part to which the step leads, of a pointer spelled so? An index that
+-- is computed may be any number, a known one selects a part.
+abbrev pub takes_part : Declared → (whole : List ℕ) → Step → ir.Expression → Bool
+takes_part d whole step (expression.Access base index) =
+    points_so d whole base && is_numbered step
+takes_part d whole step (expression.AccessIndex base index) =
+    points_so d whole base &&
+    option_map_or (λ s. same_step (step_of s) step) (part_selector d base index) false
+takes_part d whole step _ = false
+
+-- the type of an expression, where it takes the part
+abbrev pub part_taken :
+    Declared → (whole : List ℕ) → Step → (ir.Expression × TypeResolution) → List TypeResolution
+part_taken d whole step p = if takes_part d whole step p.0 then p.1 ∷ [] else []
+
+-- the types of the expressions of a group that take it
+abbrev pub parts_taken :
+    ir_module.Module → ModuleInfo → (whole : List ℕ) → Step → Group → List TypeResolution
+parts_taken m info whole step g =
+    flat_map (part_taken (declared m info (λ h. slice_get g.known h)) whole step)
+    (zip g.expressions g.known)
+
+-- How a pointer to a part is spelled, by the spelling of the pointer to the whole: as the type of
+-- the first expression in the module that takes this part of a pointer spelled so, since all that
+-- do have one type. Where no expression takes it, no run asks for it, and there is no spelling.
+abbrev pub part_words : ir_module.Module → ModuleInfo → PartTypes
+part_words m info whole step =
+    option_map_or (word_of_values m)
+    (slice_get (flat_map (parts_taken m info whole step) (groups_of m info)) 0) []
+
+-- ---- modules
+-- The constants and overrides stand in it as they are numbered, its functions and then its entry
+-- points with the last one first.
+abbrev pub module_shape : ir_module.Module → ModuleInfo → Module
+module_shape m info =
+    let functions = zip m.functions info.functions.items in
+    let entry_points = zip (map (λ p. p.function) m.entry_points.items) info.entry_points.items in
+    record {
+      constant_types = map (λ c. type_of_values m (Handle c.ty)) (named_constants m) ++
+          map (λ o. type_of_values m (Handle o.ty)) m.overrides;
+      initialisers = map (initialiser m info) (named_constants m);
+      global_types = map (λ g. type_of_values m (variable_type g.space g.ty)) m.global_variables;
+      parts = part_words m info;
+      functions = reverse (map (λ p. function_shape m info p.0 p.1) (functions ++ entry_points));
+    }

@@ -1,0 +1,10 @@
+use Rattle.std.proofs.Common.{◌≡◌, drop}
+use Rattle.std.specs.List.{enumerate_from}
+use Rattle.naga_acceptance.specs.Searching.{first_unfit}
+use Rattle.module_meaning.specs.Ranges.{resolution_fits}
+use Rattle.naga_acceptance.proofs.ranges.first_unknown.Given as goal
+
+abbrev pub invariant-loop-index : goal.invariant-loop-index
+invariant-loop-index l =
+    first_unfit (λ _ k. resolution_fits l.overrides l.types k.ty) (enumerate_from l.index (drop l.index l.infos))
+    ≡ first_unfit (λ _ k. resolution_fits l.overrides l.types k.ty) (enumerate_from 0 l.infos)

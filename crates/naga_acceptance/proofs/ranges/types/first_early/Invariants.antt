@@ -1,0 +1,10 @@
+use Rattle.std.proofs.Common.{◌≡◌}
+use Rattle.std.specs.List.{enumerate_from}
+use Rattle.naga_acceptance.specs.Searching.{first_unfit}
+use Rattle.module_meaning.specs.Ranges.{parts_before}
+use Rattle.naga_acceptance.proofs.ranges.types.first_early.Given as goal
+
+abbrev pub invariant-loop-handle : goal.invariant-loop-handle
+invariant-loop-handle l =
+    first_unfit (λ h t. parts_before h t.inner) (l.handle-iterator)
+    ≡ first_unfit (λ h t. parts_before h t.inner) (enumerate_from 0 l.types)

@@ -1,0 +1,254 @@
+-- What acceptance says of each function and entry point, in the order in which they are numbered in
+-- the program of shapes.
+use Rattle.module_meaning.specs.Names.{ItemsAreCounted}
+use Rattle.module_meaning.proofs.SideBySide.{paired_at, zip_at, zip_parts}
+use Rattle.std.proofs.Common.{◌≡◌, ℕ, zero, suc, ◌≤◌, ◌+◌, Bool, true, List, [], ◌∷◌, ◌++◌}
+use Rattle.std.proofs.Common.{refl, sym, ap, ◌∙◌, length, Some, slice_get, map, arith}
+use Rattle.std.proofs.Common.{◌⊎◌, inl, inr, eqb-true, ◌==◌, subst}
+use Rattle.std.specs.List.{list_all, zip}
+use Rattle.std.specs.Prelude.{IsTrue}
+use Rattle.std.specs.Option.{option_map}
+use Rattle.std.proofs.lemmas.Bool.{and_parts}
+use Rattle.std.proofs.lemmas.Option.{slice_get_within}
+use Rattle.naga_info.proofs.Options.{map_some}
+use Rattle.naga_ir.specs.declared.module.EntryPoint.{EntryPoint}
+use Rattle.naga_ir.specs.declared.module.Function.{Function}
+use Rattle.naga_ir.specs.declared.module.Module.{Module}
+use Rattle.naga_info.specs.declared.info.ExpressionInfo.{ExpressionInfo}
+use Rattle.naga_info.specs.declared.info.ModuleInfo.{ModuleInfo}
+use Rattle.module_meaning.specs.Accepted.{is_accepted}
+use Rattle.module_meaning.specs.AgreeingOperators.{module_operators_agree, function_group}
+use Rattle.module_meaning.specs.InfoSizes.{all_paired, function_size_fits, sizes_fit}
+use Rattle.module_meaning.specs.Numbers.{workgroup_fits_32_bits}
+use Rattle.module_meaning.specs.Ranges.{module_ranges_fit, module_in_range, is_below}
+use Rattle.module_meaning.specs.Ranges.{function_in_range, entry_point_in_range, signature_fits}
+use Rattle.module_meaning.specs.Ranges.{names_fit, local_in_range, expressions_in_range}
+use Rattle.module_meaning.specs.Ranges.{block_in_range}
+use Rattle.module_meaning.specs.Initialisers.{locals_are_sound}
+use Rattle.module_meaning.specs.Soundness.{expressions_are_sound}
+use Rattle.module_meaning.specs.StatementsFit.{body_is_sound}
+use Rattle.module_meaning.specs.Soundness.{module_is_sound, function_is_sound, entry_point_is_sound}
+use Rattle.module_meaning.proofs.FitsSoFar.{list_all_at}
+use Rattle.module_meaning.proofs.FunctionsSoFar.{placed_at}
+use Rattle.std.proofs.lemmas.Option.{slice_get-map}
+use Rattle.naga_names.proofs.Refusal.{element}
+use Rattle.naga_form.proofs.AgreeingUses.{in_left}
+use Rattle.naga_form.proofs.AcceptedGroups.{IsSoundGroup, functions_are, entry_points_are}
+
+-- ---- lists side by side and behind each other
+zip_length : {X Y : Type 0} (xs : List X) (ys : List Y) → length xs ≡ length ys →
+    length (zip xs ys) ≡ length xs
+zip_length [] ys same = refl
+zip_length (x ∷ xs) [] same = absurd (omega (arith, same))
+zip_length (x ∷ xs) (y ∷ ys) same = ap suc (zip_length xs ys (omega (arith, same)))
+
+paired_length : {X Y : Type 0} (test : X → Y → Bool) (xs : List X) (ys : List Y) →
+    all_paired test xs ys ≡ true → length xs ≡ length ys
+paired_length test xs ys all =
+    eqb-true (length xs) (length ys)
+    (and_parts (length xs == length ys) (list_all (λ p. test p.0 p.1) (zip xs ys)) all).0
+
+-- what stands in a list before another stands in one of both
+pub in_append : {X : Type 0} (xs ys : List X) (i : ℕ) (x : X) → slice_get (xs ++ ys) i ≡ Some x →
+    (slice_get xs i ≡ Some x) ⊎ ((j : ℕ) × (i ≡ length xs + j) × (slice_get ys j ≡ Some x))
+in_append [] ys i x there = let at : i ≡ 0 + i = omega arith in inr (i, at, there)
+in_append (y ∷ xs) ys zero x there = inl there
+in_append (y ∷ xs) ys (suc i) x there = by (in_append xs ys i x there)
+  where
+    by : (slice_get xs i ≡ Some x) ⊎ ((j : ℕ) × (i ≡ length xs + j) × (slice_get ys j ≡ Some x)) →
+        (slice_get xs i ≡ Some x) ⊎
+        ((j : ℕ) × (suc i ≡ suc (length xs) + j) × (slice_get ys j ≡ Some x))
+    by (inl here) = inl here
+    by (inr k) = let at = k.1 in inr (k.0, omega (arith, at), k.2)
+
+-- ---- functions
+-- the entry points' functions, each with what is known of its expressions
+abbrev pub entry_points_known : Module → ModuleInfo → List (Function × List ExpressionInfo)
+entry_points_known m info =
+    zip (map (λ p. p.function) m.entry_points.items) info.entry_points.items
+
+-- the functions and behind them those
+abbrev pub functions_known : Module → ModuleInfo → List (Function × List ExpressionInfo)
+functions_known m info =
+    zip m.functions info.functions.items ++ entry_points_known m info
+
+-- the function with this number, which may call so many
+pub record IsAccepted (m : Module) (k : ℕ) (f : Function) (es : List ExpressionInfo) : Type 0 where
+  pub callees : ℕ
+  pub before : callees ≤ k
+  pub there : callees ≤ length m.functions
+  pub size : length f.expressions ≡ length es
+  pub ranges : function_in_range m callees f ≡ true
+  pub sound : function_is_sound m f es ≡ true
+
+-- its expressions and its body are in range
+pub ranges_are : (m : Module) (callees : ℕ) (f : Function) → function_in_range m callees f ≡ true →
+    (expressions_in_range m callees f ≡ true) ×
+    (block_in_range callees (length f.expressions) f.body ≡ true)
+ranges_are m callees f ranges =
+    let one = and_parts (signature_fits (length m.types) f) _ ranges in
+    let two = and_parts (names_fit f) _ one.1 in
+    let three =
+    and_parts (list_all (local_in_range (length m.types) (length f.expressions)) f.local_variables)
+    _ two.1 in
+    let four =
+    and_parts (expressions_in_range m callees f)
+    (block_in_range callees (length f.expressions) f.body) three.1 in
+    (four.0, four.1)
+
+-- its expressions and its body are sound
+pub soundness_is : (m : Module) (f : Function) (es : List ExpressionInfo) →
+    function_is_sound m f es ≡ true →
+    (expressions_are_sound m (Some f) (map (λ e. e.ty) es) f.expressions ≡ true) ×
+    (body_is_sound m f (map (λ e. e.ty) es) ≡ true)
+soundness_is m f es sound =
+    let known = map (λ e. e.ty) es in
+    let one = and_parts (expressions_are_sound m (Some f) known f.expressions) _ sound in
+    let two =
+    and_parts (locals_are_sound m.types known f.local_variables) (body_is_sound m f known) one.1 in
+    (one.0, two.1)
+
+module _ (m : Module) (info : ModuleInfo) (accepted : IsTrue (is_accepted m info)) where
+  accepted_parts : (module_ranges_fit m info ≡ true) × (module_is_sound m info ≡ true)
+  unfolding is_accepted
+  accepted_parts =
+      let one = and_parts _ _ accepted in
+      let two = and_parts (module_is_sound m info) (module_operators_agree m info) one.1 in
+      (one.0, two.0)
+
+  ranges_parts : (sizes_fit m info ≡ true) × (module_in_range m ≡ true)
+  unfolding module_ranges_fit
+  ranges_parts =
+      let one = and_parts _ _ accepted_parts.0 in let two = and_parts _ _ one.1 in
+      let three = and_parts _ _ two.1 in (one.0, three.0)
+
+  sound_parts :
+      (all_paired (function_is_sound m) m.functions info.functions.items ≡ true) ×
+      (all_paired (entry_point_is_sound m) m.entry_points.items info.entry_points.items ≡ true)
+  unfolding module_is_sound
+  sound_parts =
+      let one = and_parts _ _ accepted_parts.1 in let two = and_parts _ _ one.1 in (two.0, two.1)
+
+  functions_paired : all_paired function_size_fits m.functions info.functions.items ≡ true
+  functions_paired = (and_parts _ _ ranges_parts.0).0
+
+  functions_counted : length m.functions ≡ length info.functions.items
+  functions_counted =
+      paired_length function_size_fits m.functions info.functions.items functions_paired
+
+  of_function : (k : ℕ) (f : Function) (es : List ExpressionInfo) →
+      slice_get m.functions k ≡ Some f → slice_get info.functions.items k ≡ Some es →
+      IsAccepted m k f es
+  of_function k f es here there =
+      let from : 0 + k ≡ k = omega arith in
+      let before : k ≤ k = omega arith in
+      let within = slice_get_within m.functions k f here in
+      let below : k ≤ length m.functions = omega (arith, within) in
+      let range = and_parts _ _ ranges_parts.1 in let functions = and_parts _ _ range.1 in
+      record {
+        callees = k;
+        before = before;
+        there = below;
+        size = eqb-true (length f.expressions) (length es)
+            (paired_at function_size_fits m.functions info.functions.items functions_paired
+            k f es here there);
+        ranges = sym (ap (λ n. function_in_range m n f) from) ∙
+            placed_at (function_in_range m) 0 m.functions k f functions.0 here;
+        sound = paired_at (function_is_sound m) m.functions info.functions.items sound_parts.0
+            k f es here there;
+      }
+
+  of_entry_point : (k j : ℕ) (p : EntryPoint) (es : List ExpressionInfo) →
+      k ≡ length m.functions + j →
+      slice_get m.entry_points.items j ≡ Some p → slice_get info.entry_points.items j ≡ Some es →
+      IsAccepted m k p.function es
+  of_entry_point k j p es at here there =
+      let before : length m.functions ≤ k = omega (arith, at) in
+      let all : length m.functions ≤ length m.functions = omega arith in
+      let sizes = and_parts _ _ ranges_parts.0 in let more = and_parts _ _ sizes.1 in
+      let range = and_parts _ _ ranges_parts.1 in let functions = and_parts _ _ range.1 in
+      let own =
+      list_all_at (entry_point_in_range m) m.entry_points.items j p functions.1 here in
+      let count = length m.global_variables in
+      let one = and_parts (is_below count (option_map (λ k. k.output_variable) p.mesh_info)) _ own in
+      let two = and_parts (is_below count p.task_payload) _ one.1 in
+      let three = and_parts (is_below count p.incoming_ray_payload) _ two.1 in
+      let four =
+      and_parts (workgroup_fits_32_bits p.workgroup_size)
+      (function_in_range m (length m.functions) p.function) three.1 in
+      record {
+        callees = length m.functions;
+        before = before;
+        there = all;
+        size = eqb-true (length p.function.expressions) (length es)
+            (paired_at (λ p es. function_size_fits p.function es) m.entry_points.items
+            info.entry_points.items more.0 j p es here there);
+        ranges = four.1;
+        sound = paired_at (entry_point_is_sound m) m.entry_points.items info.entry_points.items
+            sound_parts.1 j p es here there;
+      }
+
+  -- the number of a function, or of an entry point among these
+  pub data Numbered (k : ℕ) (f : Function) (es : List ExpressionInfo) : Type 0 where
+    AsFunction : slice_get m.functions k ≡ Some f → slice_get info.functions.items k ≡ Some es →
+        Numbered k f es
+    AsEntryPoint : (j : ℕ) (p : EntryPoint) → k ≡ length m.functions + j →
+        slice_get m.entry_points.items j ≡ Some p → slice_get info.entry_points.items j ≡ Some es →
+        p.function ≡ f → Numbered k f es
+
+  pub numbered : (k : ℕ) (f : Function) (es : List ExpressionInfo) →
+      slice_get (functions_known m info) k ≡ Some (f, es) → Numbered k f es
+  numbered k f es there =
+      by
+      (in_append (zip m.functions info.functions.items) (entry_points_known m info) k (f, es) there)
+    where
+      by : (slice_get (zip m.functions info.functions.items) k ≡ Some (f, es)) ⊎
+          ((j : ℕ) × (k ≡ length (zip m.functions info.functions.items) + j) ×
+          (slice_get (entry_points_known m info) j ≡ Some (f, es))) →
+          Numbered k f es
+      by (inl here) =
+          let both = zip_parts m.functions info.functions.items k (f, es) here in
+          AsFunction both.0 both.1
+      by (inr e) =
+          let both =
+          zip_parts (map (λ p. p.function) m.entry_points.items) info.entry_points.items e.0 (f, es) e.2 in
+          let found =
+          map_some (λ p. p.function) (slice_get m.entry_points.items e.0) f
+          (sym (slice_get-map (λ p. p.function) m.entry_points.items e.0) ∙ both.0) in
+          let counted =
+          ap (λ n. n + e.0) (zip_length m.functions info.functions.items functions_counted) in
+          AsEntryPoint e.0 found.0 (e.1 ∙ counted) found.1 both.1 found.2
+
+  -- each of them
+  pub accepted_at : (k : ℕ) (f : Function) (es : List ExpressionInfo) →
+      slice_get (functions_known m info) k ≡ Some (f, es) → IsAccepted m k f es
+  accepted_at k f es there = by (numbered k f es there)
+    where
+      by : Numbered k f es → IsAccepted m k f es
+      by (AsFunction here known) = of_function k f es here known
+      by (AsEntryPoint j p at here known same) =
+          subst (λ f. IsAccepted m k f es) same (of_entry_point k j p es at here known)
+
+  -- a function of the module has its number among these
+  pub function_there : (g : ℕ) (f : Function) → slice_get m.functions g ≡ Some f →
+      (es : List ExpressionInfo) × (slice_get (functions_known m info) g ≡ Some (f, es))
+  function_there g f here =
+      let within = slice_get_within m.functions g f here in
+      let counted = functions_counted in
+      let known = element info.functions.items g (omega (arith, within, counted)) in (
+        known.0,
+        in_left (zip m.functions info.functions.items) (entry_points_known m info) g (f, known.0)
+            (zip_at m.functions info.functions.items g f known.0 here known.1),
+      )
+
+  -- what is known of the expressions of each, where names and lengths are counted
+  pub group_at : ItemsAreCounted m → (k : ℕ) (f : Function) (es : List ExpressionInfo) →
+      slice_get (functions_known m info) k ≡ Some (f, es) →
+      IsSoundGroup m info (Some f) (function_group f es)
+  group_at counted k f es there = by (numbered k f es there)
+    where
+      by : Numbered k f es → IsSoundGroup m info (Some f) (function_group f es)
+      by (AsFunction here known) = functions_are m info accepted counted k f es here known
+      by (AsEntryPoint j p at here known same) =
+          subst (λ f. IsSoundGroup m info (Some f) (function_group f es)) same
+          (entry_points_are m info accepted counted j p es here known)

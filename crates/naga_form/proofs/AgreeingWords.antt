@@ -1,0 +1,194 @@
+-- Expressions of an accepted module that the runs call by one spelled word, over operands of equal
+-- types, are of one type: by the type whose value they are, or by the operator that they apply.
+use Rattle.module_meaning.specs.Names.{ItemsAreCounted}
+use Rattle.std.proofs.Common.{◌≡◌, ℕ, Bool, true, false, List, [], ◌∷◌, refl, sym, ap, ◌∙◌, subst}
+use Rattle.std.proofs.Common.{Option, Some, None, map, drop, if◌then◌else◌}
+use Rattle.std.specs.Prelude.{IsTrue, unwrap_or}
+use Rattle.std.specs.Option.{option_map_or, is_some}
+use Rattle.std.proofs.lemmas.Bool.{true≢false}
+use Rattle.std.proofs.lemmas.Option.{same_Some}
+use Rattle.naga_ir.specs.Operands.{expression_operands}
+use Rattle.naga_ir.specs.declared.expression.Expression.{Expression}
+use Rattle.naga_ir.specs.declared.expression.Expression.TheVariants as expression
+use Rattle.naga_ir.specs.declared.expression.ImageQuery.{ImageQuery}
+use Rattle.naga_ir.specs.declared.expression.ImageQuery.TheVariants as query
+use Rattle.naga_ir.specs.declared.expression.SwizzleComponent.{SwizzleComponent}
+use Rattle.naga_ir.specs.declared.module.Function.{Function}
+use Rattle.naga_ir.specs.declared.module.Module.{Module}
+use Rattle.naga_ir.specs.declared.types.CooperativeRole.{CooperativeRole}
+use Rattle.naga_ir.specs.declared.types.CooperativeSize.{CooperativeSize}
+use Rattle.naga_ir.specs.declared.types.VectorSize.{VectorSize}
+use Rattle.naga_info.specs.declared.info.ModuleInfo.{ModuleInfo}
+use Rattle.naga_info.specs.declared.info.TypeResolution.{TypeResolution}
+use Rattle.naga_info.specs.declared.info.TypeResolution.TheVariants.{Handle}
+use Rattle.shader_runs.specs.Typing.{Signature}
+use Rattle.shader_runs.specs.Value.{Word, Spelled, PartWord, IndexWord, Selector, MemberNamed}
+use Rattle.std.specs.List.{flat_map}
+use Rattle.std.specs.Prelude.{take}
+use Rattle.module_meaning.specs.Accepted.{is_accepted}
+use Rattle.module_meaning.specs.AgreeingOperators.{Group, operator_key}
+use Rattle.module_meaning.specs.AlikeTypes.{has_form}
+use Rattle.module_meaning.specs.ExpressionOperators.{applied_operator, constructor, matrix_load, points_to_atomic, sample_operator, query_operator}
+use Rattle.module_meaning.specs.ExpressionShapes.{part_selector, letter}
+use Rattle.module_meaning.specs.ExpressionTypes.{wanted_type, LikeThis}
+use Rattle.module_meaning.specs.OperatorTable.{Operator, AtomicLoad, CooperativeLoad, MatrixLoad, WithoutForm, ValueOf, Construct, Level, run_word, one_word, asks}
+use Rattle.module_meaning.specs.Surroundings.{word_of_values}
+use Rattle.module_meaning.specs.TypeIdentity.{identity, identity_code, word_of_unspelled_type, vector_number}
+use Rattle.module_meaning.specs.Types.{type_names, spelled_resolution}
+use Rattle.naga_form.proofs.AcceptedGroups.{agree}
+use Rattle.naga_form.proofs.AgreeingExpressions.{are, own_type, operands_are, own_is, use_of, by_identity, same_values}
+use Rattle.naga_form.proofs.AgreeingUses.{IsApplied, value_at, results_agree}
+use Rattle.naga_form.proofs.OperatorKeys.{IsFormed, IsKeyed, Negated, Keyed, KeyIn, keyed, sound, spells, form_spelled}
+use Rattle.naga_form.proofs.SameValues.{IsFit, numbers_by_words}
+use Rattle.naga_form.proofs.Signatures.{IsCalled, by_operator, by_zero, by_index, by_part, by_letters, IsOfExpression, around_group, declared_for}
+use Rattle.naga_form.proofs.TypedWords.{no_blank, share_a_word}
+
+module _ (m : Module) (info : ModuleInfo) (accepted : IsTrue (is_accepted m info)) (counted : ItemsAreCounted m) where
+  -- how the runs call an expression: as a value of a type, from components or none; as an operator
+  -- over operands; or as a part
+  pub data Call (g : Group) (e : Expression) (w : Word) : Type 0 where
+    Composed : (ty n : ℕ) (k : List ℕ) → ((f : Option Function) → wanted_type m f g.known e ≡ LikeThis (Handle ty)) →
+        applied_operator (around_group m info g) e ≡ Some (constructor (around_group m info g) (Handle ty) n) → operator_key m.types g.known e ≡ Some k →
+        (has_form m.types (Handle ty) ≡ true → IsFormed m (are m info accepted counted) e) →
+        w ≡ Spelled (run_word (constructor (around_group m info g) (Handle ty) n)) → Call g e w
+    Zeroed : (ty : ℕ) → ((f : Option Function) → wanted_type m f g.known e ≡ LikeThis (Handle ty)) → expression_operands e ≡ [] →
+        w ≡ Spelled (run_word (constructor (around_group m info g) (Handle ty) 0)) → Call g e w
+    Applied : (o : Operator) (k : List ℕ) → applied_operator (around_group m info g) e ≡ Some o → operator_key m.types g.known e ≡ Some k →
+        IsFormed m (are m info accepted counted) e → (h : ℕ) (hs : List ℕ) → expression_operands e ≡ h ∷ hs → w ≡ Spelled (run_word o) → Call g e w
+    Indexed : (base index : ℕ) → e ≡ expression.Access base index → w ≡ IndexWord → Call g e w
+    Selected : (base index : ℕ) (s : Selector) → e ≡ expression.AccessIndex base index → part_selector (declared_for m info g) base index ≡ Some s → w ≡ PartWord s → Call g e w
+    Lettered : (size : VectorSize) (vector : ℕ) (pattern : List SwizzleComponent) → e ≡ expression.Swizzle size vector pattern →
+        w ≡ PartWord (MemberNamed (flat_map letter (take (vector_number size) pattern))) → Call g e w
+
+  -- ---- what applies an operator without asking
+  asking : (o p : Operator) → Some p ≡ Some o → asks p ≡ true → asks o ≡ false → ⊥
+  asking o p e is not_so = true≢false (sym is ∙ (ap asks (same_Some p o e) ∙ not_so))
+
+  samples_ask : (of_depths : Bool) (gather : Option SwizzleComponent) (level : Level) (compares clamped arrayed offset : Bool) → asks (sample_operator of_depths gather level compares clamped arrayed offset) ≡ true
+  samples_ask of_depths None level compares clamped arrayed offset = refl
+  samples_ask of_depths (Some component) level compares clamped arrayed offset = refl
+
+  queries_ask : (q : ImageQuery) → asks (query_operator q) ≡ true
+  queries_ask (query.Size level) = refl
+  queries_ask query.NumLevels = refl
+  queries_ask query.NumLayers = refl
+  queries_ask query.NumSamples = refl
+
+  loads_ask : (columns rows : CooperativeSize) (role : CooperativeRole) (row_major : Bool) (o : Option (List ℕ)) → asks (option_map_or (CooperativeLoad row_major) o (WithoutForm (MatrixLoad columns rows role row_major))) ≡ true
+  loads_ask columns rows role row_major None = refl
+  loads_ask columns rows role row_major (Some w) = refl
+
+  applied : (g : Group) (e : Expression) (o : Operator) → applied_operator (around_group m info g) e ≡ Some o → asks o ≡ false → Call g e (Spelled (run_word o))
+  applied g (expression.Compose ty parts) o a silent = Composed ty _ _ (λ f. refl) refl refl (λ has. has) (ap (λ o. Spelled (run_word o)) (sym (same_Some _ o a)))
+  applied g (expression.As operand kind convert) o a silent = Applied o _ a refl tt operand [] refl refl
+  applied g (expression.Splat size value) o a silent = Applied o _ a refl tt value [] refl refl
+  applied g (expression.AccessIndex base index) o a silent = Applied o _ a refl tt base [] refl refl
+  applied g (expression.Unary op operand) o a silent = Applied o _ a refl tt operand [] refl refl
+  applied g (expression.Binary op left right) o a silent = Applied o _ a refl tt left (right ∷ []) refl refl
+  applied g (expression.Select condition accept reject) o a silent = Applied o _ a refl tt reject (accept ∷ condition ∷ []) refl refl
+  applied g (expression.Relational fun argument) o a silent = Applied o _ a refl tt argument [] refl refl
+  applied g (expression.Math fun arg arg1 arg2 arg3) o a silent = Applied o _ a refl tt arg _ refl refl
+  applied g (expression.ArrayLength array) o a silent = Applied o _ a refl tt array [] refl refl
+  applied g (expression.CooperativeMultiplyAdd p q r) o a silent = Applied o _ a refl tt p (q ∷ r ∷ []) refl refl
+  applied g (expression.RayQueryGetIntersection query committed) o a silent = Applied o _ a refl tt query [] refl refl
+  applied g (expression.RayQueryVertexPositions query committed) o a silent = Applied o _ a refl tt query [] refl refl
+  applied g (expression.Load pointer) o a silent = by (points_to_atomic (around_group m info g) pointer) a
+    where
+      by : (b : Bool) → (if b then Some AtomicLoad else None) ≡ Some o → Call g (expression.Load pointer) (Spelled (run_word o))
+      by true a = absurd (asking o AtomicLoad a refl silent)
+      by false a = absurd cc
+  applied g (expression.ImageSample image sampler gather coordinate array_index offset level depth_ref clamp) o a silent =
+      absurd (asking o _ a (samples_ask _ gather _ _ _ _ _) silent)
+  applied g (expression.ImageLoad image coordinate array_index sample level) o a silent = absurd (asking o _ a refl silent)
+  applied g (expression.ImageQuery image q) o a silent = absurd (asking o (query_operator q) a (queries_ask q) silent)
+  applied g (expression.Derivative axis control operand) o a silent = absurd (asking o _ a refl silent)
+  applied g (expression.CooperativeLoad columns rows role place) o a silent =
+      absurd (asking o (matrix_load (around_group m info g) columns rows role place) a (loads_ask columns rows role place.row_major _) silent)
+  applied g _ o a silent = absurd cc
+
+  zeroed : (g : Group) (e : Expression) (ty : ℕ) → e ≡ expression.ZeroValue ty → Call g e (Spelled (run_word (constructor (around_group m info g) (Handle ty) 0)))
+  zeroed g e ty is = Zeroed ty (λ f. ap (wanted_type m f g.known) is) (ap expression_operands is) refl
+
+  pub call : (g : Group) (e : Expression) (w : Word) → IsCalled m info g e w → Call g e w
+  call g e _ (by_operator o a silent) = applied g e o a silent
+  call g e _ (by_zero ty is) = zeroed g e ty is
+  call g e _ (by_index base index is) = Indexed base index is refl
+  call g e _ (by_part base index s is selected) = Selected base index s is selected refl
+  call g e _ (by_letters size vector pattern is) = Lettered size vector pattern is refl
+
+  -- ---- the types of values
+  abbrev value_word : Option (List ℕ) → TypeResolution → (components : ℕ) → List ℕ
+  value_word o r n = run_word (option_map_or (λ spelling. Construct spelling n) o (WithoutForm (ValueOf (identity_code (identity m.types r)) n)))
+
+  -- the word of a type's value tells the type's word
+  one_type : (r s : TypeResolution) (n k : ℕ) → IsFit m r → IsFit m s → value_word (spelled_resolution (type_names m) r) r n ≡ value_word (spelled_resolution (type_names m) s) s k → word_of_values m r ≡ word_of_values m s
+  one_type r s n k p q e = by (spelled_resolution (type_names m) r) refl (spelled_resolution (type_names m) s) refl e
+    where
+      by : (x : Option (List ℕ)) → spelled_resolution (type_names m) r ≡ x → (y : Option (List ℕ)) → spelled_resolution (type_names m) s ≡ y → value_word x r n ≡ value_word y s k →
+          unwrap_or x (word_of_unspelled_type (identity m.types r)) ≡ unwrap_or y (word_of_unspelled_type (identity m.types s))
+      by (Some v) at (Some w) bt e = e
+      by (Some v) at None bt e = absurd (no_blank v _ (spells m (are m info accepted counted) r p v at) e)
+      by None at (Some w) bt e = absurd (no_blank w _ (spells m (are m info accepted counted) s q w bt) (sym e))
+      by None at None bt e = ap (λ c. 32 ∷ drop 2 c) e
+
+  -- an operator over operands is not a value of a type without a form
+  not_formless : (o : Operator) (count : ℕ) (k numbers : List ℕ) (n : ℕ) → IsKeyed m (are m info accepted counted) o count k → run_word o ≡ run_word (WithoutForm (ValueOf numbers n)) → ⊥
+  not_formless o count k numbers n keyed e = by keyed (share_a_word o (WithoutForm (ValueOf numbers n)) (sound m (are m info accepted counted) o count k keyed) tt e)
+    where
+      by : IsKeyed m (are m info accepted counted) o count k → one_word o ≡ WithoutForm (ValueOf numbers 1) → ⊥
+      by (Negated sign one key) is = absurd cc
+      by (Keyed key) is = subst (λ p. KeyIn m (are m info accepted counted) p count k) is key
+
+  -- ---- two of one word
+  module _ {x y : Signature} (a : IsOfExpression m info x) (b : IsOfExpression m info y) where
+    -- values of types with one word
+    pub both_values : (r s : TypeResolution) (n k : ℕ) → IsFit m r → IsFit m s → wanted_type m a.function a.group.known a.expression ≡ LikeThis r → wanted_type m b.function b.group.known b.expression ≡ LikeThis s →
+        value_word (spelled_resolution (type_names m) r) r n ≡ value_word (spelled_resolution (type_names m) s) s k → x.result ≡ y.result
+    both_values r s n k p q wanted other e =
+        by_identity m info accepted counted a b
+        (own_is m info accepted counted a r wanted ∙ (numbers_by_words m (are m info accepted counted) r s p q (one_type r s n k p q e) ∙ sym (own_is m info accepted counted b s other)))
+
+    module _ (operands : x.operands ≡ y.operands) where
+      abbrev applies : {z : Signature} (c : IsOfExpression m info z) (k : List ℕ) (at : operator_key m.types c.group.known c.expression ≡ Some k) (o : Operator) → applied_operator (around_group m info c.group) c.expression ≡ Some o → IsFormed m (are m info accepted counted) c.expression →
+          IsApplied m info (are m info accepted counted) (use_of m info accepted counted c k at)
+      applies c k at o applied formed = record {
+        operator = o;
+        applied = applied;
+        formed = formed;
+        fits = c.sound.fits;
+        operands = operands_are m info accepted counted c;
+        own = (own_type m info accepted counted c).0;
+        own_there = (own_type m info accepted counted c).1;
+      }
+
+      -- operators of one word
+      pub both_applied : (o p : Operator) (k l : List ℕ) → applied_operator (around_group m info a.group) a.expression ≡ Some o → operator_key m.types a.group.known a.expression ≡ Some k → IsFormed m (are m info accepted counted) a.expression →
+          applied_operator (around_group m info b.group) b.expression ≡ Some p → operator_key m.types b.group.known b.expression ≡ Some l → IsFormed m (are m info accepted counted) b.expression →
+          run_word o ≡ run_word p → x.result ≡ y.result
+      both_applied o p k l ao ak af bo bk bf e =
+          a.result
+          ∙ (results_agree m info (are m info accepted counted) (agree m info accepted counted)
+          (use_of m info accepted counted a k ak) (use_of m info accepted counted b l bk) (applies a k ak o ao af) (applies b l bk p bo bf) e
+          (same_values m info accepted counted a b operands) ∙ sym b.result)
+
+      -- a composition and an operator
+      pub composed_applied : (ty n : ℕ) (k : List ℕ) → applied_operator (around_group m info a.group) a.expression ≡ Some (constructor (around_group m info a.group) (Handle ty) n) → operator_key m.types a.group.known a.expression ≡ Some k →
+          (has_form m.types (Handle ty) ≡ true → IsFormed m (are m info accepted counted) a.expression) →
+          (p : Operator) (l : List ℕ) → applied_operator (around_group m info b.group) b.expression ≡ Some p → operator_key m.types b.group.known b.expression ≡ Some l → IsFormed m (are m info accepted counted) b.expression →
+          run_word (constructor (around_group m info a.group) (Handle ty) n) ≡ run_word p → x.result ≡ y.result
+      composed_applied ty n k ao ak formed p l bo bk bf e = by (spelled_resolution (type_names m) (Handle ty)) refl
+        where
+          by : (o : Option (List ℕ)) → spelled_resolution (type_names m) (Handle ty) ≡ o → x.result ≡ y.result
+          by (Some w) at = both_applied _ p k l ao ak (formed (sym (form_spelled m (are m info accepted counted) (Handle ty)) ∙ ap is_some at)) bo bk bf e
+          by None at =
+              absurd (not_formless p _ l (identity_code (identity m.types (Handle ty))) n
+              (keyed m (are m info accepted counted) b.group.known b.expression l p bk bo bf)
+              (sym e ∙ ap (λ o. value_word o (Handle ty) n) at))
+
+      -- an operator has operands
+      pub zeroed_applied : expression_operands a.expression ≡ [] → (h : ℕ) (hs : List ℕ) → expression_operands b.expression ≡ h ∷ hs → ⊥
+      zeroed_applied none h hs some =
+          let values = same_values m info accepted counted a b operands in
+          let empty : [] ≡ value_at m info b.group.known h ∷ map (value_at m info b.group.known) hs =
+          ap (map (value_at m info a.group.known)) (sym none) ∙ (values ∙ ap (map (value_at m info b.group.known)) some) in
+          absurd cc

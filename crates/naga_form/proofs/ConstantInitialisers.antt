@@ -1,0 +1,109 @@
+-- What the program of shapes of an accepted module has for its constants: the trees of a group and
+-- the initialisers of the named constants spell signatures of expressions, and name what is there.
+-- A tree has its expression's type; an initialiser has its constant's, where it has a tree.
+use Rattle.module_meaning.specs.Names.{ItemsAreCounted}
+use Rattle.shader_runs.proofs.Typing.{no_signature}
+use Rattle.std.proofs.Common.{◌≡◌, ℕ, zero, suc, Bool, true, false, List, [], ◌∷◌, refl, sym, ap, ◌∙◌, subst}
+use Rattle.std.proofs.Common.{Option, Some, None, slice_get, if◌then◌else◌}
+use Rattle.std.specs.List.{filter}
+use Rattle.std.specs.Prelude.{IsTrue, unwrap_or}
+use Rattle.std.proofs.lemmas.Option.{slice_get-map}
+use Rattle.naga_ir.specs.declared.module.Constant.{Constant}
+use Rattle.naga_ir.specs.declared.module.Function.{Function}
+use Rattle.naga_ir.specs.declared.module.Module.{Module}
+use Rattle.naga_info.specs.declared.info.ModuleInfo.{ModuleInfo}
+use Rattle.naga_info.specs.declared.info.TypeResolution.TheVariants.{Handle}
+use Rattle.naga_info.proofs.Options.{map_some}
+use Rattle.shader_runs.specs.Program.{ConstantTree, Fixed}
+use Rattle.shader_runs.specs.Premises.{constant_type, ConstantInRange}
+use Rattle.shader_runs.specs.Typing.{Signature, constant_signatures, IsOneOf}
+use Rattle.shader_runs.specs.Value.{Truth, type_at}
+use Rattle.module_meaning.specs.Accepted.{is_accepted}
+use Rattle.module_meaning.specs.AgreeingOperators.{Group}
+use Rattle.module_meaning.specs.ExpressionShapes.{constant_tree}
+use Rattle.module_meaning.specs.ModuleShapes.{module_shape, named_constants, initialiser, declared_globally}
+use Rattle.module_meaning.specs.Surroundings.{type_of_values}
+use Rattle.naga_form.proofs.AcceptedGroups.{IsSoundGroup}
+use Rattle.naga_form.proofs.AgreeingUses.{value_at}
+use Rattle.naga_form.proofs.ConstantTrees.{IsTreeOf, trees_are, initialiser_is}
+use Rattle.naga_form.proofs.NamedConstants.{is_named, place_typed}
+use Rattle.naga_form.proofs.Signatures.{declared_for, IsOfExpression}
+
+-- a named constant is one of all
+pub named_stands : (cs : List Constant) (i : ℕ) (c : Constant) → slice_get (filter is_named cs) i ≡ Some c → (h : ℕ) × (slice_get cs h ≡ Some c)
+named_stands [] i c here = absurd cc
+named_stands (d ∷ cs) i c here = by (named_stands cs) (is_named d) here
+  where
+    by : ((i : ℕ) (c : Constant) → slice_get (filter is_named cs) i ≡ Some c → (h : ℕ) × (slice_get cs h ≡ Some c)) →
+        (b : Bool) → slice_get (if b then d ∷ filter is_named cs else filter is_named cs) i ≡ Some c → (h : ℕ) × (slice_get (d ∷ cs) h ≡ Some c)
+    by rest false here = let k = rest i c here in (suc k.0, k.1)
+    by rest true here = at i here
+      where
+        at : (i : ℕ) → slice_get (d ∷ filter is_named cs) i ≡ Some c → (h : ℕ) × (slice_get (d ∷ cs) h ≡ Some c)
+        at zero here = (0, here)
+        at (suc i) here = let k = rest i c here in (suc k.0, k.1)
+
+module _ (m : Module) (info : ModuleInfo) (accepted : IsTrue (is_accepted m info)) (counted : ItemsAreCounted m) where
+  -- ---- trees of a sound group
+  pub tree_typed : (f : Option Function) (g : Group) → IsSoundGroup m info f g → (h : ℕ) (t : ConstantTree) → constant_tree (declared_for m info g) g.expressions h ≡ Some t →
+      constant_type (module_shape m info) t ≡ value_at m info g.known h
+  tree_typed f g is h t found = (trees_are m info accepted counted f g is h t found).type
+
+  pub tree_spelled : (f : Option Function) (g : Group) → IsSoundGroup m info f g → (h : ℕ) (t : ConstantTree) → constant_tree (declared_for m info g) g.expressions h ≡ Some t →
+      (x : Signature) → IsOneOf x (constant_signatures (module_shape m info) t) → IsOfExpression m info x
+  tree_spelled f g is h t found = (trees_are m info accepted counted f g is h t found).spelled
+
+  pub tree_in_range : (f : Option Function) (g : Group) → IsSoundGroup m info f g → (h : ℕ) (t : ConstantTree) → constant_tree (declared_for m info g) g.expressions h ≡ Some t →
+      ConstantInRange (module_shape m info) t
+  tree_in_range f g is h t found = (trees_are m info accepted counted f g is h t found).range
+
+  -- ---- initialisers of named constants
+  -- the named constant that an initialiser is of, among all constants
+  pub record IsInitialiser (i : ℕ) (e : ConstantTree) : Type 0 where
+    pub constant : Constant
+    pub named : slice_get (named_constants m) i ≡ Some constant
+    pub handle : ℕ
+    pub there : slice_get m.constants handle ≡ Some constant
+    pub is : initialiser m info constant ≡ e
+
+  pub initialiser_of : (i : ℕ) (e : ConstantTree) → slice_get (module_shape m info).initialisers i ≡ Some e → IsInitialiser i e
+  initialiser_of i e at =
+      let found = map_some (initialiser m info) (slice_get (named_constants m) i) e (sym (slice_get-map (initialiser m info) (named_constants m) i) ∙ at) in
+      let all = named_stands m.constants i found.0 found.1 in
+      record { constant = found.0; named = found.1; handle = all.0; there = all.1; is = found.2 }
+
+  -- what holds of each tree of the constant's type and of `false` holds of the initialiser
+  initialiser_by : (P : ConstantTree → Type 0) → P (Fixed (Truth false)) → (h : ℕ) (c : Constant) → slice_get m.constants h ≡ Some c →
+      ((t : ConstantTree) → IsTreeOf m info (type_of_values m (Handle c.ty)) t → P t) → P (initialiser m info c)
+  initialiser_by P none h c at some = by (constant_tree (declared_globally m info) m.global_expressions c.init) refl
+    where
+      by : (o : Option ConstantTree) → constant_tree (declared_globally m info) m.global_expressions c.init ≡ o → P (unwrap_or o (Fixed (Truth false)))
+      by None found = none
+      by (Some t) found = some t (initialiser_is m info accepted counted h c at t found)
+
+  pub initialiser_spelled : (i : ℕ) (e : ConstantTree) → slice_get (module_shape m info).initialisers i ≡ Some e →
+      (x : Signature) → IsOneOf x (constant_signatures (module_shape m info) e) → IsOfExpression m info x
+  initialiser_spelled i e at x =
+      let k = initialiser_of i e at in
+      subst (λ t. IsOneOf x (constant_signatures (module_shape m info) t) → IsOfExpression m info x) k.is
+      (initialiser_by (λ t. IsOneOf x (constant_signatures (module_shape m info) t) → IsOfExpression m info x) (λ one. absurd (no_signature x one)) k.handle k.constant k.there (λ t is. is.spelled x))
+
+  pub initialiser_in_range : (i : ℕ) (e : ConstantTree) → slice_get (module_shape m info).initialisers i ≡ Some e → ConstantInRange (module_shape m info) e
+  initialiser_in_range i e at =
+      let k = initialiser_of i e at in
+      subst (ConstantInRange (module_shape m info)) k.is
+      (initialiser_by (ConstantInRange (module_shape m info)) tt k.handle k.constant k.there (λ t is. is.range))
+
+  -- each named constant is computed from a tree
+  abbrev pub HaveTrees : Type 0
+  HaveTrees = (i : ℕ) (c : Constant) → slice_get (named_constants m) i ≡ Some c →
+      (t : ConstantTree) × (constant_tree (declared_globally m info) m.global_expressions c.init ≡ Some t)
+
+  -- then its initialiser has its type
+  pub initialiser_typed : HaveTrees → (i : ℕ) (e : ConstantTree) → slice_get (module_shape m info).initialisers i ≡ Some e →
+      type_at (module_shape m info).constant_types i ≡ constant_type (module_shape m info) e
+  initialiser_typed have i e at =
+      let k = initialiser_of i e at in let tree = have i k.constant k.named in
+      let found : initialiser m info k.constant ≡ tree.0 = ap (λ o. unwrap_or o (Fixed (Truth false))) tree.1 in
+      place_typed m info i k.constant k.named
+      ∙ (sym (initialiser_is m info accepted counted k.handle k.constant k.there tree.0 tree.1).type ∙ ap (constant_type (module_shape m info)) (sym found ∙ k.is))

@@ -1,0 +1,276 @@
+-- Constant trees of an accepted module: each has the type that is known of its expression, its
+-- operators are those of expressions of sound groups, and what it names is there.
+use Rattle.naga_form.proofs.AgreeingUses.{value_is}
+use Rattle.module_meaning.specs.Names.{ItemsAreCounted}
+use Rattle.shader_runs.proofs.Typing.{no_signature}
+use Rattle.naga_form.proofs.Signatures.{either_signature}
+use Rattle.std.proofs.Common.{◌≡◌, ℕ, zero, suc, Bool, true, false, List, [], ◌∷◌, refl, sym, ap, ◌∙◌, length, subst}
+use Rattle.std.proofs.Common.{Option, Some, None, slice_get, map, ◌&&◌, if◌then◌else◌}
+use Rattle.std.specs.List.{list_all}
+use Rattle.std.specs.Prelude.{IsTrue}
+use Rattle.std.specs.Option.{option_map_or, option_and_then, is_some}
+use Rattle.std.proofs.lemmas.Bool.{and_parts}
+use Rattle.std.proofs.lemmas.Option.{same_Some}
+use Rattle.std.proofs.lemmas.Slice.Eq.{bytes_eq-Decides}
+use Rattle.naga_ir.specs.Operands.{expression_operands}
+use Rattle.naga_ir.specs.declared.expression.Expression.{Expression}
+use Rattle.naga_ir.specs.declared.expression.Expression.TheVariants as expression
+use Rattle.naga_ir.specs.declared.module.Constant.{Constant}
+use Rattle.naga_ir.specs.declared.module.Function.{Function}
+use Rattle.naga_ir.specs.declared.module.Module.{Module}
+use Rattle.naga_ir.specs.declared.types.TypeInner.TheVariants as inner
+use Rattle.naga_info.specs.declared.info.ModuleInfo.{ModuleInfo}
+use Rattle.naga_info.specs.declared.info.TypeResolution.{TypeResolution}
+use Rattle.naga_info.specs.declared.info.TypeResolution.TheVariants.{Handle, Value}
+use Rattle.naga_info.proofs.Options.{then_some, map_some}
+use Rattle.shader_runs.specs.Program.{ConstantTree, Fixed, NamedConstant, Constructed, ConstantTrees, no_constant, constant}
+use Rattle.shader_runs.specs.Program as program
+use Rattle.shader_runs.specs.Premises.{constant_type, constant_types_of, ConstantInRange, ConstantsInRange}
+use Rattle.shader_runs.specs.Typing.{Signature, constant_signatures, constants_signatures, IsOneOf, first_of, later_of}
+use Rattle.shader_runs.specs.Value.{ValueType, Spelled}
+use Rattle.module_meaning.specs.Accepted.{is_accepted}
+use Rattle.module_meaning.specs.AgreeingOperators.{Group, module_operators_agree}
+use Rattle.module_meaning.specs.AlikeTypes.{type_identity, are_alike}
+use Rattle.module_meaning.specs.ExpressionOperators.{constructor}
+use Rattle.module_meaning.specs.ExpressionShapes.{Declared, trees, tree_then, trees_of, built, tree_over, tree_within, constant_tree}
+use Rattle.module_meaning.specs.ExpressionTypes.{LikeThis, only, is_wanted, wanted_type, literal_scalar, expression_type_fits}
+use Rattle.module_meaning.specs.ExpressionTypes as types
+use Rattle.module_meaning.specs.InfoSizes.{all_paired}
+use Rattle.module_meaning.specs.Initialisers.{initialisers_fit, constant_is_sound, override_is_sound, global_is_sound}
+use Rattle.module_meaning.specs.Literals.{literal_value}
+use Rattle.module_meaning.specs.ModuleShapes.{module_shape, declared_globally}
+use Rattle.module_meaning.specs.OperatorTable.{Operator, run_word, Splat}
+use Rattle.module_meaning.specs.Ranges.{module_ranges_fit}
+use Rattle.module_meaning.specs.Soundness.{module_is_sound, function_is_sound, entry_point_is_sound, declarations_are_sound, expressions_are_sound}
+use Rattle.module_meaning.specs.Surroundings.{declared_over, constant_within, written_constant, constant_number, override_number, type_of_values, global_types_known}
+use Rattle.module_meaning.proofs.ExpressionShapes.{constructor_asks}
+use Rattle.module_meaning.proofs.FitsSoFar.{list_all_at}
+use Rattle.naga_form.proofs.AcceptedGroups.{IsSoundGroup, own_known, types_are_counted, own_group, declarations_are}
+use Rattle.naga_form.proofs.AgreeingUses.{value_at}
+use Rattle.naga_form.proofs.LiteralTypes.{literal_typed, literal_is_none}
+use Rattle.naga_form.proofs.NamedConstants.{named_typed, named_within, override_typed, override_within}
+use Rattle.naga_form.proofs.SameValues.{IsFit, values_by_numbers}
+use Rattle.naga_form.proofs.Signatures.{around_group, declared_for, IsCalled, by_operator, by_zero, IsOfExpression}
+
+-- ---- trees
+module _ (m : Module) (info : ModuleInfo) where
+  abbrev shape : program.Module
+  shape = module_shape m info
+
+  -- a tree of this type, whose operators are those of expressions and whose names are there
+  pub record IsTreeOf (k : ValueType) (t : ConstantTree) : Type 0 where
+    pub type : constant_type shape t ≡ k
+    pub spelled : (x : Signature) → IsOneOf x (constant_signatures shape t) → IsOfExpression m info x
+    pub range : ConstantInRange shape t
+
+  -- trees of these types
+  pub record AreTreesOf (ks : List ValueType) (ts : ConstantTrees) : Type 0 where
+    pub types : constant_types_of shape ts ≡ ks
+    pub spelled : (x : Signature) → IsOneOf x (constants_signatures shape ts) → IsOfExpression m info x
+    pub range : ConstantsInRange shape ts
+
+  no_trees : AreTreesOf [] no_constant
+  no_trees = record { types = refl; spelled = λ x one. absurd (no_signature x one); range = tt }
+
+  tree_and : (k : ValueType) (ks : List ValueType) (t : ConstantTree) (ts : ConstantTrees) → IsTreeOf k t → AreTreesOf ks ts → AreTreesOf (k ∷ ks) (constant t ts)
+  tree_and k ks t ts one more = record {
+    types = λ i. one.type i ∷ more.types i;
+    spelled = λ x is. either_signature x (constant_signatures shape t) (constants_signatures shape ts) (one.spelled x) (more.spelled x) is;
+    range = (one.range, more.range);
+  }
+
+  trees_found : (value : ℕ → ValueType) (tree_of : ℕ → Option ConstantTree) → ((h : ℕ) (t : ConstantTree) → tree_of h ≡ Some t → IsTreeOf (value h) t) →
+      (hs : List ℕ) (ts : List ConstantTree) → trees_of tree_of hs ≡ Some ts → AreTreesOf (map value hs) (trees ts)
+  trees_found value tree_of are [] ts is = subst (λ us. AreTreesOf [] (trees us)) (same_Some [] ts is) no_trees
+  trees_found value tree_of are (h ∷ hs) ts is = by (tree_of h) refl (trees_of tree_of hs) (trees_found value tree_of are hs) is
+    where
+      by : (o : Option ConstantTree) → tree_of h ≡ o → (os : Option (List ConstantTree)) → ((us : List ConstantTree) → os ≡ Some us → AreTreesOf (map value hs) (trees us)) → tree_then o os ≡ Some ts → AreTreesOf (value h ∷ map value hs) (trees ts)
+      by None at os more is = absurd cc
+      by (Some t) at None more is = absurd cc
+      by (Some t) at (Some us) more is =
+          subst (λ vs. AreTreesOf (value h ∷ map value hs) (trees vs)) (same_Some (t ∷ us) ts is) (tree_and (value h) (map value hs) t (trees us) (are h t at) (more us refl))
+
+  -- what is wanted of a type that there may be
+  pub wanted_there : (o : Option TypeResolution) (r : TypeResolution) → is_wanted m.types (only o) r ≡ true → (s : TypeResolution) × (o ≡ Some s) × (are_alike m.types r s ≡ true)
+  wanted_there None r is = absurd cc
+  wanted_there (Some s) r is = (s, refl, is)
+
+  -- each constant has a tree of its type, where it has one
+  abbrev pub ConstantsAre : (ℕ → Option ConstantTree) → Type 0
+  ConstantsAre tree_of = (h : ℕ) (c : Constant) → slice_get m.constants h ≡ Some c → (t : ConstantTree) → tree_of h ≡ Some t → IsTreeOf (type_of_values m (Handle c.ty)) t
+
+  retyped : (k l : ValueType) (t : ConstantTree) → k ≡ l → IsTreeOf k t → IsTreeOf l t
+  retyped k l t e is = record { type = is.type ∙ e; spelled = is.spelled; range = is.range }
+
+  module _ (accepted : IsTrue (is_accepted m info)) (counted : ItemsAreCounted m) where
+    -- types that are alike have values of one type
+    alike : (a b : TypeResolution) → IsFit m a → IsFit m b → are_alike m.types a b ≡ true → type_of_values m a ≡ type_of_values m b
+    alike a b p q e = values_by_numbers m (types_are_counted m info accepted counted) a b p q ((bytes_eq-Decides (type_identity m.types a) (type_identity m.types b)).0 e)
+
+    -- ---- of expressions that stand together
+    module _ (f : Option Function) (g : Group) (is : IsSoundGroup m info f g) (written : ℕ → Option ConstantTree) (constants : ConstantsAre written) where
+      abbrev inside : Declared
+      inside = declared_over m written (λ h. slice_get g.known h)
+
+      abbrev value : ℕ → ValueType
+      value = value_at m info g.known
+
+      -- an expression is of the type that it has by what it stands for
+      like_wanted : (h : ℕ) (e : Expression) → slice_get g.expressions h ≡ Some e → (r : TypeResolution) → slice_get g.known h ≡ Some r → (s : TypeResolution) → IsFit m s → are_alike m.types r s ≡ true → type_of_values m s ≡ value h
+      like_wanted h e at r there s fit e1 = sym (alike r s (is.fits h r there) fit e1) ∙ sym (value_is m info g.known h r there)
+
+      literal_is : (h : ℕ) (v : _) → slice_get g.expressions h ≡ Some (expression.Literal v) → IsTreeOf (value h) (Fixed (literal_value v))
+      literal_is h v at =
+          let own = own_known m info f g is h (expression.Literal v) at in
+          record {
+            type = literal_typed m v ∙ like_wanted h (expression.Literal v) at own.0 own.1 (Value (inner.Scalar (literal_scalar v))) (refl, tt, refl) (is.typed h (expression.Literal v) own.0 at own.1);
+            spelled = λ x one. absurd (no_signature x one);
+            range = literal_is_none v;
+          }
+
+      constant_is : (h c : ℕ) → slice_get g.expressions h ≡ Some (expression.Constant c) → (t : ConstantTree) → written c ≡ Some t → IsTreeOf (value h) t
+      constant_is h c at t found =
+          let own = own_known m info f g is h (expression.Constant c) at in
+          let there = wanted_there (types.constant_type m c) own.0 (is.typed h (expression.Constant c) own.0 at own.1) in
+          let item = map_some (λ c. Handle c.ty) (slice_get m.constants c) there.0 there.1 in
+          let same : are_alike m.types own.0 (Handle item.0.ty) ≡ true = ap (are_alike m.types own.0) item.2 ∙ there.2 in
+          retyped (type_of_values m (Handle item.0.ty)) (value h) t (like_wanted h (expression.Constant c) at own.0 own.1 (Handle item.0.ty) tt same)
+          (constants c item.0 item.1 t found)
+
+      override_is : (h o : ℕ) → slice_get g.expressions h ≡ Some (expression.Override o) → IsTreeOf (value h) (NamedConstant (override_number m o))
+      override_is h o at =
+          let own = own_known m info f g is h (expression.Override o) at in
+          let there = wanted_there (types.override_type m o) own.0 (is.typed h (expression.Override o) own.0 at own.1) in
+          let item = map_some (λ o. Handle o.ty) (slice_get m.overrides o) there.0 there.1 in
+          let same : are_alike m.types own.0 (Handle item.0.ty) ≡ true = ap (are_alike m.types own.0) item.2 ∙ there.2 in
+          record {
+            type = override_typed m info o item.0 item.1 ∙ like_wanted h (expression.Override o) at own.0 own.1 (Handle item.0.ty) tt same;
+            spelled = λ x one. absurd (no_signature x one);
+            range = override_within m info o item.0 item.1;
+          }
+
+      built_is : (h : ℕ) (e : Expression) → slice_get g.expressions h ≡ Some e → (o : Operator) → IsCalled m info g e (Spelled (run_word o)) → (ts : List ConstantTree) →
+          AreTreesOf (map value (expression_operands e)) (trees ts) → (t : ConstantTree) → built inside h o ts ≡ Some t → IsTreeOf (value h) t
+      built_is h e at o called ts are t made =
+          let parts = map_some (λ r. Constructed (run_word o) (type_of_values m r) (trees ts)) (slice_get g.known h) t made in
+          subst (IsTreeOf (value h)) parts.2 (record {
+            type = sym (value_is m info g.known h parts.0 parts.1);
+            spelled = spelled parts.0 parts.1;
+            range = are.range;
+          })
+        where
+          either : (s : Signature) → IsOfExpression m info s → (xs : List Signature) → ((x : Signature) → IsOneOf x xs → IsOfExpression m info x) → (x : Signature) → IsOneOf x (s ∷ xs) → IsOfExpression m info x
+          either s first xs more x first_of = first
+          either s first xs more x (later_of one) = more x one
+
+          spelled : (r : TypeResolution) → slice_get g.known h ≡ Some r → (x : Signature) → IsOneOf x (constant_signatures shape (Constructed (run_word o) (type_of_values m r) (trees ts))) → IsOfExpression m info x
+          spelled r there x one =
+              either (record { word = Spelled (run_word o); operands = constant_types_of shape (trees ts); result = type_of_values m r }) (record {
+                function = f;
+                group = g;
+                sound = is;
+                handle = h;
+                expression = e;
+                there = at;
+                called = called;
+                operands = are.types;
+                result = sym (value_is m info g.known h r there);
+              }) (constants_signatures shape (trees ts)) are.spelled x one
+
+      -- a tree over trees
+      tree_over_is : (tree_of : ℕ → Option ConstantTree) → ((h : ℕ) (t : ConstantTree) → tree_of h ≡ Some t → IsTreeOf (value h) t) →
+          (h : ℕ) (e : Expression) → slice_get g.expressions h ≡ Some e → (t : ConstantTree) → tree_over inside tree_of h e ≡ Some t → IsTreeOf (value h) t
+      tree_over_is tree_of are h (expression.Literal v) at t found = subst (IsTreeOf (value h)) (same_Some (Fixed (literal_value v)) t found) (literal_is h v at)
+      tree_over_is tree_of are h (expression.Constant c) at t found = constant_is h c at t found
+      tree_over_is tree_of are h (expression.Override o) at t found = subst (IsTreeOf (value h)) (same_Some (NamedConstant (override_number m o)) t found) (override_is h o at)
+      tree_over_is tree_of are h (expression.ZeroValue ty) at t found =
+          built_is h (expression.ZeroValue ty) at (constructor (around_group m info g) (Handle ty) 0) (by_zero ty refl) [] no_trees t found
+      tree_over_is tree_of are h (expression.Compose ty components) at t found =
+          let o = constructor (around_group m info g) (Handle ty) (length components.items) in
+          let parts = then_some (built inside h o) (trees_of tree_of components.items) t found in
+          built_is h (expression.Compose ty components) at o (by_operator o refl (constructor_asks (around_group m info g) (Handle ty) (length components.items))) parts.0
+          (trees_found value tree_of are components.items parts.0 parts.1) t parts.2
+      tree_over_is tree_of are h (expression.Splat size v) at t found =
+          let parts = then_some (λ u. built inside h (Splat size) (u ∷ [])) (tree_of v) t found in
+          built_is h (expression.Splat size v) at (Splat size) (by_operator (Splat size) refl refl) (parts.0 ∷ [])
+          (tree_and (value v) [] parts.0 no_constant (are v parts.0 parts.1) no_trees) t parts.2
+      tree_over_is tree_of are h _ at t found = absurd cc
+
+      within_is : (levels : ℕ) (h : ℕ) (t : ConstantTree) → tree_within levels inside g.expressions h ≡ Some t → IsTreeOf (value h) t
+      within_is zero h t found = absurd cc
+      within_is (suc levels) h t found =
+          let parts = then_some (tree_over inside (tree_within levels inside g.expressions) h) (slice_get g.expressions h) t found in
+          tree_over_is (tree_within levels inside g.expressions) (within_is levels) h parts.0 parts.1 t parts.2
+
+    -- ---- constants
+    all_sound : module_is_sound m info ≡ true
+    unfolding is_accepted
+    all_sound =
+        let one = and_parts (module_ranges_fit m info) (module_is_sound m info && module_operators_agree m info) accepted in
+        (and_parts (module_is_sound m info) (module_operators_agree m info) one.1).0
+
+    own_sound : declarations_are_sound m info.const_expression_types.items ≡ true
+    unfolding module_is_sound
+    own_sound =
+        (and_parts (declarations_are_sound m info.const_expression_types.items)
+        (all_paired (function_is_sound m) m.functions info.functions.items && all_paired (entry_point_is_sound m) m.entry_points.items info.entry_points.items) all_sound).0
+
+    -- what is known of the module's own expressions
+    abbrev own : List TypeResolution
+    own = info.const_expression_types.items
+
+    constants_sound : list_all (constant_is_sound m.types own) m.constants ≡ true
+    constants_sound =
+        let one = and_parts (expressions_are_sound m None own m.global_expressions) (initialisers_fit m own) own_sound in
+        (and_parts (list_all (constant_is_sound m.types own) m.constants)
+        (list_all (override_is_sound m.types own) m.overrides && list_all (global_is_sound m.types own) m.global_variables) one.1).0
+
+    -- the initialiser of a constant has its type
+    initialiser_known : (h : ℕ) (c : Constant) → slice_get m.constants h ≡ Some c → value_at m info own c.init ≡ type_of_values m (Handle c.ty)
+    initialiser_known h c at = by (slice_get own c.init) refl (list_all_at (constant_is_sound m.types own) m.constants h c constants_sound at)
+      where
+        by : (o : Option TypeResolution) → slice_get own c.init ≡ o → option_map_or (λ r. are_alike m.types r (Handle c.ty)) o false ≡ true → value_at m info own c.init ≡ type_of_values m (Handle c.ty)
+        by None there same = absurd cc
+        by (Some r) there same =
+            value_is m info own c.init r there ∙ alike r (Handle c.ty) ((declarations_are m info accepted counted).fits c.init r there) tt same
+
+    -- a constant by its name, or by its initialiser
+    abbrev around_own : (ℕ → Option ConstantTree) → Declared
+    around_own written = declared_over m written (global_types_known info)
+
+    abbrev written_over : (ℕ → Option ConstantTree) → ℕ → Constant → Option ConstantTree
+    written_over written h c = if is_some c.name then Some (NamedConstant (constant_number m h)) else constant_tree (around_own written) m.global_expressions c.init
+
+    written_is : (written : ℕ → Option ConstantTree) → ConstantsAre written → (h : ℕ) (c : Constant) → slice_get m.constants h ≡ Some c → (t : ConstantTree) → written_over written h c ≡ Some t → IsTreeOf (type_of_values m (Handle c.ty)) t
+    written_is written are h c at t found = by (is_some c.name) refl found
+      where
+        by : (b : Bool) → is_some c.name ≡ b → (if b then Some (NamedConstant (constant_number m h)) else constant_tree (around_own written) m.global_expressions c.init) ≡ Some t → IsTreeOf (type_of_values m (Handle c.ty)) t
+        by true named found = subst (IsTreeOf (type_of_values m (Handle c.ty))) (same_Some (NamedConstant (constant_number m h)) t found) (record {
+          type = named_typed m info h c at named;
+          spelled = λ x one. absurd (no_signature x one);
+          range = named_within m info h c at named;
+        })
+        by false named found =
+            retyped (value_at m info own c.init) (type_of_values m (Handle c.ty)) t (initialiser_known h c at)
+            (within_is None (own_group m info accepted counted) (declarations_are m info accepted counted) written are (suc c.init) c.init t found)
+
+    -- each constant, as it is written within so many levels
+    constants_within : (levels : ℕ) → ConstantsAre (constant_within levels m info)
+    constants_within zero h c at t found = absurd cc
+    constants_within (suc levels) h c at t found =
+        written_is (constant_within levels m info) (constants_within levels) h c at t (sym (ap (option_and_then (written_over (constant_within levels m info) h)) at) ∙ found)
+
+    -- ---- what is said of constant trees
+    -- a constant as it is written
+    pub constants_are : (h : ℕ) (c : Constant) → slice_get m.constants h ≡ Some c → (t : ConstantTree) → written_constant m info h ≡ Some t → IsTreeOf (type_of_values m (Handle c.ty)) t
+    constants_are = constants_within (length m.global_expressions)
+
+    -- a tree of a sound group
+    pub trees_are : (f : Option Function) (g : Group) → IsSoundGroup m info f g → (h : ℕ) (t : ConstantTree) → constant_tree (declared_for m info g) g.expressions h ≡ Some t → IsTreeOf (value_at m info g.known h) t
+    trees_are f g is h t found = within_is f g is (written_constant m info) constants_are (suc h) h t found
+
+    -- the initialiser of a named constant, if it has a tree
+    pub initialiser_is : (h : ℕ) (c : Constant) → slice_get m.constants h ≡ Some c → (t : ConstantTree) → constant_tree (declared_globally m info) m.global_expressions c.init ≡ Some t → IsTreeOf (type_of_values m (Handle c.ty)) t
+    initialiser_is h c at t found =
+        retyped (value_at m info own c.init) (type_of_values m (Handle c.ty)) t (initialiser_known h c at)
+        (trees_are None (own_group m info accepted counted) (declarations_are m info accepted counted) c.init t found)

@@ -1,0 +1,177 @@
+-- No word of an operator begins as the free names do, and one test of words tells those that ask
+-- for events, also among the words that no text has.
+use Rattle.std.proofs.Common.{◌≡◌, ℕ, Bool, true, false, not, ◌&&◌, ◌||◌, List, [], ◌∷◌, Option, Some, None}
+use Rattle.std.proofs.Common.{refl, sym, ap, subst, ◌∙◌, nat_eq, codes, true≢false}
+use Rattle.std.specs.Prelude.{if◌then◌else◌}
+use Rattle.std.specs.List.{list_all}
+use Rattle.std.specs.Option.{option_or}
+use Rattle.std.specs.Str.{bytes_eq}
+use Rattle.std.proofs.lemmas.Bool.{false≢true, and_parts, not-true, eqb-true}
+use Rattle.std.proofs.lemmas.Option.{same_Some}
+use Rattle.std.proofs.lemmas.Slice.Eq.{bytes_eq-Decides}
+use Rattle.naga_ir.specs.declared.operators.UnaryOperator.TheVariants as unary
+use Rattle.wgsl_text.specs.Requests.{is_request, head_word}
+use Rattle.wgsl_text.specs.Types.{TypeSpecifier, Named, Template, IsPart}
+use Rattle.wgsl_text.specs.Words.{is_word_text}
+use Rattle.wgsl_text.proofs.Types.{type_template}
+use Rattle.module_meaning.specs.OperatorTable.{Operator, UnarySign, Texel, OnlyTexel, CooperativeLoad}
+use Rattle.module_meaning.specs.OperatorTable.{Construct, Convert, Reinterpret, WithoutForm, Formless}
+use Rattle.module_meaning.specs.OperatorTable.{Cast, PartAt, ValueOf, MatrixLoad, with_type, run_word}
+use Rattle.module_meaning.specs.OperatorTable.{one_word, asks, is_untyped, SpellsAType, TypeIsSound}
+use Rattle.module_meaning.specs.OperatorTable.{formless_code, formless_asks}
+use Rattle.naga_form.proofs.FreeNames.{begins_free}
+use Rattle.naga_form.proofs.OperatorEvents.{asks_as_told}
+use Rattle.naga_form.proofs.OperatorTable.{mathematical, others, first_with, operator_of, told}
+use Rattle.naga_form.proofs.TypedWords.{head_of, head_is, no_blank}
+
+-- the words without a text that ask for events, by their second letter: samplings, steps and scans,
+-- gathers, texels, and loads of matrices whose type has no form
+abbrev own_request : List ℕ → Bool
+own_request (b ∷ c ∷ w) =
+    nat_eq b 32 && (nat_eq c 115 || (nat_eq c 103 || (nat_eq c 116 || nat_eq c 3)))
+own_request _ = false
+
+-- a word that asks for an event, whether a text has it or not
+unfoldable pub free_request : List ℕ → Bool
+free_request w = is_request w || own_request w
+
+-- what is said of an operator's word
+pub record WordIsTold (o : Operator) : Type 0 where
+  pub free : begins_free (run_word o) ≡ false
+  pub asking : free_request (run_word o) ≡ asks o
+
+-- ---- operators without types
+abbrev alike : Bool → Bool → Bool
+alike true b = b
+alike false b = not b
+
+alike_is : (a b : Bool) → alike a b ≡ true → a ≡ b
+alike_is true true e = refl
+alike_is true false e = absurd (false≢true e)
+alike_is false true e = absurd (false≢true e)
+alike_is false false e = refl
+
+-- the test of the whole table
+is_told : Operator → Bool
+is_told o = not (begins_free (run_word o)) && alike (free_request (run_word o)) (asks o)
+
+others_told : list_all is_told others ≡ true
+unfolding is_told free_request is_request
+others_told = refl
+
+mathematical_told : list_all is_told mathematical ≡ true
+unfolding is_told free_request is_request
+mathematical_told = refl
+
+-- what is found by a word has it, and passes the test of all
+found : (w : List ℕ) (os : List Operator) (o : Operator) → list_all is_told os ≡ true → first_with w os ≡ Some o → (w ≡ run_word o) × (is_told o ≡ true)
+found w [] o all e = absurd (cc)
+found w (x ∷ os) o all e =
+    by (bytes_eq w (run_word x)) refl (and_parts (is_told x) (list_all is_told os) all) (found w os o) e
+  where
+    by : (b : Bool) → bytes_eq w (run_word x) ≡ b → (is_told x ≡ true) × (list_all is_told os ≡ true) → (list_all is_told os ≡ true → first_with w os ≡ Some o → (w ≡ run_word o) × (is_told o ≡ true)) → (if b then Some x else first_with w os) ≡ Some o → (w ≡ run_word o) × (is_told o ≡ true)
+    by true same parts later e =
+        let is = same_Some x o e in
+        ((bytes_eq-Decides w (run_word x)).0 same ∙ ap run_word is, subst (λ y. is_told y ≡ true) is parts.0)
+    by false same parts later e = later parts.1 e
+
+found_any : (w : List ℕ) (o : Operator) → operator_of w ≡ Some o → (w ≡ run_word o) × (is_told o ≡ true)
+found_any w o e = by (first_with w others) refl e
+  where
+    by : (x : Option Operator) → first_with w others ≡ x → option_or x (first_with w mathematical) ≡ Some o → (w ≡ run_word o) × (is_told o ≡ true)
+    by (Some y) is e = found w others o others_told (is ∙ e)
+    by None is e = found w mathematical o mathematical_told e
+
+told_parts : (o : Operator) → is_told o ≡ true → (begins_free (run_word o) ≡ false) × (free_request (run_word o) ≡ asks o)
+unfolding is_told
+told_parts o e =
+    let parts = and_parts (not (begins_free (run_word o))) (alike (free_request (run_word o)) (asks o)) e in
+    (not-true (begins_free (run_word o)) parts.0, alike_is (free_request (run_word o)) (asks o) parts.1)
+
+-- operators of one word ask alike
+asks_once : (o : Operator) → asks (one_word o) ≡ asks o
+asks_once (UnarySign unary.Negate) = refl
+asks_once (UnarySign _) = refl
+asks_once (Texel arrayed OnlyTexel) = refl
+asks_once (Texel arrayed _) = refl
+asks_once (WithoutForm (ValueOf numbers components)) = refl
+asks_once (WithoutForm _) = refl
+asks_once _ = refl
+
+untyped_is_told : (o : Operator) → is_untyped o ≡ true → WordIsTold o
+untyped_is_told o u =
+    let at = found_any (run_word o) (one_word o) (told o u) in
+    let parts = told_parts (one_word o) at.1 in record {
+      free = ap begins_free at.0 ∙ parts.0;
+      asking = ap free_request at.0 ∙ (parts.1 ∙ asks_once o);
+    }
+
+-- ---- operators with types
+-- a type begins with a letter
+head_text : (t : TypeSpecifier) → IsPart t → is_word_text (head_of t) ≡ true
+head_text (Named w) is = is.text
+head_text (Template w parts) is = (type_template w parts is.0).word.text
+
+no_number : (w : List ℕ) → is_word_text (head_word w) ≡ true → begins_free w ≡ false
+no_number [] e = refl
+no_number (b ∷ bytes) e = by (nat_eq b 1) refl
+  where
+    by : (x : Bool) → nat_eq b 1 ≡ x → x ≡ false
+    by true is = absurd (false≢true (ap (λ c. is_word_text (head_word (c ∷ bytes))) (sym (eqb-true b 1 is)) ∙ e))
+    by false is = refl
+
+type_begins : (w : List ℕ) → SpellsAType w → is_word_text (head_word w) ≡ true
+type_begins w is =
+    ap (λ v. is_word_text (head_word v)) (sym is.1.1)
+    ∙ (ap is_word_text (head_is is.0 is.1.0.part) ∙ head_text is.0 is.1.0.part)
+
+no_own_request : (w : List ℕ) → SpellsAType w → own_request w ≡ false
+no_own_request [] is = refl
+no_own_request (b ∷ []) is = refl
+no_own_request (b ∷ c ∷ w) is = by (nat_eq b 32) refl
+  where
+    by : (x : Bool) → nat_eq b 32 ≡ x → (x && (nat_eq c 115 || (nat_eq c 103 || (nat_eq c 116 || nat_eq c 3)))) ≡ false
+    by true at = absurd (no_blank (b ∷ c ∷ w) (c ∷ w) is (ap (λ a. a ∷ c ∷ w) (eqb-true b 32 at)))
+    by false at = refl
+
+-- what is no word of its own asks as a text's word does
+by_text : (w : List ℕ) (a : Bool) → is_request w ≡ a → own_request w ≡ false → free_request w ≡ a
+unfolding free_request
+by_text w true is not_own = λ i. is i || own_request w
+by_text w false is not_own = λ i. is i || not_own i
+
+spelling_is_told : (w : List ℕ) → SpellsAType w → (begins_free w ≡ false) × (free_request w ≡ false)
+spelling_is_told w is =
+    (no_number w (type_begins w is), by_text w false (asks_as_told (Convert w) w is refl) (no_own_request w is))
+
+formless_told : (x : Formless) → free_request (32 ∷ formless_code x) ≡ formless_asks x
+unfolding free_request is_request
+formless_told (Cast kind width) = refl
+formless_told (PartAt index) = refl
+formless_told (ValueOf numbers components) = refl
+formless_told (MatrixLoad columns rows role row_major) = refl
+
+typed_is_told : (o : Operator) → is_untyped o ≡ false → TypeIsSound o → WordIsTold o
+typed_is_told (Construct w n) u is = let parts = spelling_is_told w is in record { free = parts.0; asking = parts.1 }
+typed_is_told (Convert w) u is = let parts = spelling_is_told w is in record { free = parts.0; asking = parts.1 }
+typed_is_told (Reinterpret w) u is = record {
+  free = refl;
+  asking = by_text (with_type (codes "bitcast") w) false (asks_as_told (Reinterpret w) (with_type (codes "bitcast") w) is refl) refl;
+}
+typed_is_told (CooperativeLoad false w) u is = record {
+  free = refl;
+  asking = by_text (with_type (codes "coopLoad") w) true (asks_as_told (CooperativeLoad false w) (with_type (codes "coopLoad") w) is refl) refl;
+}
+typed_is_told (CooperativeLoad true w) u is = record {
+  free = refl;
+  asking = by_text (with_type (codes "coopLoadT") w) true (asks_as_told (CooperativeLoad true w) (with_type (codes "coopLoadT") w) is refl) refl;
+}
+typed_is_told (WithoutForm x) u is = record { free = refl; asking = formless_told x }
+typed_is_told _ u is = absurd (true≢false u)
+
+pub word_is_told : (o : Operator) → TypeIsSound o → WordIsTold o
+word_is_told o is = by (is_untyped o) refl
+  where
+    by : (b : Bool) → is_untyped o ≡ b → WordIsTold o
+    by true u = untyped_is_told o u
+    by false u = typed_is_told o u is

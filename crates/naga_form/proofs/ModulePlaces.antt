@@ -1,0 +1,165 @@
+-- Where each function of the program of shapes of an accepted module comes from, and what stands at
+-- its handles: the shapes of the expressions, and the types of their values.
+use Rattle.module_meaning.specs.Names.{ItemsAreCounted}
+use Rattle.module_meaning.proofs.SideBySide.{zip_parts}
+use Rattle.std.proofs.Common.{◌≡◌, ℕ, zero, suc, ◌+◌, List, [], ◌∷◌, ◌++◌, refl, sym, ap, ◌∙◌, map}
+use Rattle.std.proofs.Common.{Some, None, slice_get, arith, ◌⊎◌, inl, inr}
+use Rattle.std.specs.Prelude.{IsTrue, reverse}
+use mathlib.Core.List.{reverse_aux}
+use Rattle.std.specs.List.{zip}
+use Rattle.std.specs.Option.{option_map}
+use Rattle.std.proofs.lemmas.Option.{same_Some}
+use Rattle.naga_ir.specs.declared.expression.Expression as ir
+use Rattle.naga_ir.specs.declared.module.Function as ir_function
+use Rattle.naga_ir.specs.declared.module.Module as ir_module
+use Rattle.naga_info.specs.declared.info.ExpressionInfo.{ExpressionInfo}
+use Rattle.naga_info.specs.declared.info.ModuleInfo.{ModuleInfo}
+use Rattle.module_meaning.specs.Accepted.{is_accepted}
+use Rattle.module_meaning.specs.AgreeingOperators.{function_group}
+use Rattle.module_meaning.specs.ExpressionShapes.{Declared, shape_of}
+use Rattle.module_meaning.specs.FunctionShapes.{function_shape, shapes_from}
+use Rattle.module_meaning.specs.ModuleShapes.{module_shape}
+use Rattle.module_meaning.specs.Surroundings.{declared, types_known, type_of_values}
+use Rattle.shader_runs.specs.Premises.{handle_types}
+use Rattle.shader_runs.specs.Program.{Function, expression_of, handle_type}
+use Rattle.shader_runs.specs.Value.{type_at}
+use Rattle.naga_form.proofs.AcceptedGroups.{IsSoundGroup, functions_are, entry_points_are}
+use Rattle.naga_form.proofs.AgreeingUses.{value_at}
+
+-- ---- where an item of a list comes from
+-- what stands in a list that is turned round onto another stands in one of both
+in_either : {X : Type 0} (xs behind : List X) (i : ℕ) (x : X) →
+    slice_get (reverse_aux xs behind) i ≡ Some x →
+    ((k : ℕ) × (slice_get xs k ≡ Some x)) ⊎ ((k : ℕ) × (slice_get behind k ≡ Some x))
+in_either [] behind i x there = inr (i, there)
+in_either (y ∷ xs) behind i x there = go (in_either xs (y ∷ behind) i x there)
+  where
+    go : ((k : ℕ) × (slice_get xs k ≡ Some x)) ⊎ ((k : ℕ) × (slice_get (y ∷ behind) k ≡ Some x)) →
+        ((k : ℕ) × (slice_get (y ∷ xs) k ≡ Some x)) ⊎ ((k : ℕ) × (slice_get behind k ≡ Some x))
+    go (inl found) = inl (suc found.0, found.1)
+    go (inr (zero, at)) = inl (0, at)
+    go (inr (suc k, at)) = inr (k, at)
+
+-- what stands in a list turned round stands in the list
+pub in_reversed : {X : Type 0} (xs : List X) (i : ℕ) (x : X) → slice_get (reverse xs) i ≡ Some x →
+    (k : ℕ) × (slice_get xs k ≡ Some x)
+in_reversed xs i x there = go (in_either xs [] i x there)
+  where
+    go : ((k : ℕ) × (slice_get xs k ≡ Some x)) ⊎ ((k : ℕ) × (slice_get [] k ≡ Some x)) →
+        (k : ℕ) × (slice_get xs k ≡ Some x)
+    go (inl found) = found
+    go (inr found) = absurd (cc)
+
+-- what stands in two lists in a row stands in one of them
+pub in_row : {X : Type 0} (xs ys : List X) (i : ℕ) (x : X) → slice_get (xs ++ ys) i ≡ Some x →
+    ((k : ℕ) × (slice_get xs k ≡ Some x)) ⊎ ((k : ℕ) × (slice_get ys k ≡ Some x))
+in_row [] ys i x there = inr (i, there)
+in_row (y ∷ xs) ys zero x there = inl (0, there)
+in_row (y ∷ xs) ys (suc i) x there = go (in_row xs ys i x there)
+  where
+    go : ((k : ℕ) × (slice_get xs k ≡ Some x)) ⊎ ((k : ℕ) × (slice_get ys k ≡ Some x)) →
+        ((k : ℕ) × (slice_get (y ∷ xs) k ≡ Some x)) ⊎ ((k : ℕ) × (slice_get ys k ≡ Some x))
+    go (inl found) = inl (suc found.0, found.1)
+    go (inr found) = inr found
+
+-- what stands in a list that is made from another is made from what stands there
+pub in_image : {X Y : Type 0} (f : X → Y) (xs : List X) (i : ℕ) (y : Y) →
+    slice_get (map f xs) i ≡ Some y → (x : X) × (slice_get xs i ≡ Some x) × (f x ≡ y)
+in_image f [] i y there = absurd cc
+in_image f (x ∷ xs) zero y there = (x, refl, same_Some (f x) y there)
+in_image f (x ∷ xs) (suc i) y there = in_image f xs i y there
+
+-- ---- functions
+-- a shape of the module, with its function or entry point and what is known of it
+pub record IsShapeOf (m : ir_module.Module) (info : ModuleInfo) (f : Function) : Type 0 where
+  pub function : ir_function.Function
+  pub known : List ExpressionInfo
+  pub sound : IsSoundGroup m info (Some function) (function_group function known)
+  pub same : f ≡ function_shape m info function known
+
+module _ (m : ir_module.Module) (info : ModuleInfo) (accepted : IsTrue (is_accepted m info)) (counted : ItemsAreCounted m) where
+  abbrev functions : List (ir_function.Function × List ExpressionInfo)
+  functions = zip m.functions info.functions.items
+
+  abbrev entry_points : List (ir_function.Function × List ExpressionInfo)
+  entry_points = zip (map (λ p. p.function) m.entry_points.items) info.entry_points.items
+
+  shape_of_either : (f : Function) (p : ir_function.Function × List ExpressionInfo) →
+      function_shape m info p.0 p.1 ≡ f →
+      ((k : ℕ) × (slice_get functions k ≡ Some p)) ⊎ ((k : ℕ) × (slice_get entry_points k ≡ Some p)) →
+      IsShapeOf m info f
+  shape_of_either f p same (inl found) =
+      let parts = zip_parts m.functions info.functions.items found.0 p found.1 in
+      record {
+        function = p.0;
+        known = p.1;
+        sound = functions_are m info accepted counted found.0 p.0 p.1 parts.0 parts.1;
+        same = sym same;
+      }
+  shape_of_either f p same (inr found) =
+      let parts = zip_parts (map (λ p. p.function) m.entry_points.items) info.entry_points.items found.0 p found.1 in
+      let entry = in_image (λ p. p.function) m.entry_points.items found.0 p.0 parts.0 in
+      record {
+        function = entry.0.function;
+        known = p.1;
+        sound = entry_points_are m info accepted counted found.0 entry.0 p.1 entry.1 parts.1;
+        same = sym same ∙ ap (λ g. function_shape m info g p.1) (sym entry.2);
+      }
+
+  -- each function of the program is the shape of one of the module's, or of an entry point's
+  pub function_at : (place : ℕ) (f : Function) → slice_get (module_shape m info).functions place ≡ Some f → IsShapeOf m info f
+  function_at place f there =
+      let found = in_reversed (map (λ p. function_shape m info p.0 p.1) (functions ++ entry_points)) place f there in
+      let image = in_image (λ p. function_shape m info p.0 p.1) (functions ++ entry_points) found.0 f found.1 in
+      shape_of_either f image.0 image.2 (in_row functions entry_points found.0 image.0 image.1)
+
+-- ---- handles
+-- what is evaluated at an index of expressions that stand in a function from a handle on
+pub shapes_at : (d : Declared) (all : List ir.Expression) (n : ℕ) (es : List ir.Expression) (h : ℕ) →
+    slice_get (shapes_from d all n es) h ≡ option_map (shape_of d all (n + h)) (slice_get es h)
+shapes_at d all n [] h = refl
+shapes_at d all n (e ∷ es) zero =
+    let at : n ≡ n + 0 = omega arith in ap (λ k. Some (shape_of d all k e)) at
+shapes_at d all n (e ∷ es) (suc h) =
+    let at : (n + 1) + h ≡ n + suc h = omega arith in
+    shapes_at d all (n + 1) es h ∙ ap (λ k. option_map (shape_of d all k) (slice_get es h)) at
+
+-- a list that is made from another that is made from a third
+map_twice : {X Y Z : Type 0} (f : X → Y) (g : Y → Z) (xs : List X) →
+    map (λ x. g (f x)) xs ≡ map g (map f xs)
+map_twice f g [] = refl
+map_twice f g (x ∷ xs) = ap (λ ys. g (f x) ∷ ys) (map_twice f g xs)
+
+module _ (m : ir_module.Module) (info : ModuleInfo) (function : ir_function.Function) (es : List ExpressionInfo) where
+  abbrev own : Function
+  own = function_shape m info function es
+
+  -- the expression of a handle
+  pub expression_is : (h : ℕ) →
+      expression_of own h ≡
+      option_map (shape_of (declared m info (types_known es)) function.expressions h) (slice_get function.expressions h)
+  expression_is h =
+      let at : 0 + h ≡ h = omega arith in
+      let d = declared m info (types_known es) in
+      shapes_at d function.expressions 0 function.expressions h
+      ∙ ap (λ k. option_map (shape_of d function.expressions k) (slice_get function.expressions h)) at
+
+  pub expression_at : (h : ℕ) (e : ir.Expression) → slice_get function.expressions h ≡ Some e →
+      expression_of own h ≡ Some (shape_of (declared m info (types_known es)) function.expressions h e)
+  expression_at h e at =
+      expression_is h
+      ∙ ap (option_map (shape_of (declared m info (types_known es)) function.expressions h)) at
+
+  pub no_expression_at : (h : ℕ) → slice_get function.expressions h ≡ None → expression_of own h ≡ None
+  no_expression_at h at =
+      expression_is h
+      ∙ ap (option_map (shape_of (declared m info (types_known es)) function.expressions h)) at
+
+  -- the type of its values
+  pub handle_type_is : (h : ℕ) → handle_type own h ≡ value_at m info (function_group function es).known h
+  handle_type_is h = ap (λ ks. type_at ks h) (map_twice (λ e. e.ty) (type_of_values m) es)
+
+  pub handle_types_are : (hs : List ℕ) →
+      handle_types own hs ≡ map (value_at m info (function_group function es).known) hs
+  handle_types_are [] = refl
+  handle_types_are (h ∷ hs) = λ i. handle_type_is h i ∷ handle_types_are hs i

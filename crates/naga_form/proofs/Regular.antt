@@ -1,0 +1,402 @@
+-- The statements of every accepted function are regular: what is returned has the function's result
+-- type, calls pass what an earlier callee wants, results go to result handles, and cases fall
+-- through from empty ones alone. What is said of words and names is asked, and so is that only empty
+-- cases fall through, which acceptance doesn't say.
+use Rattle.std.proofs.Common.{◌≡◌, ℕ, ◌<◌, ◌≤◌, Bool, true, false, not, ◌&&◌, ◌||◌, List, [], ◌∷◌}
+use Rattle.std.proofs.Common.{Option, Some, None, refl, sym, ap, ◌∙◌, subst, slice_get, length, map}
+use Rattle.std.proofs.Common.{arith, nat_lt, eqb-true}
+use Rattle.std.specs.Option.{option_map, option_map_or, option_and_then, is_some}
+use Rattle.std.proofs.lemmas.Bool.{and_parts, ltb-true, not-true}
+use Rattle.naga_info.proofs.Options.{map_some}
+use Rattle.naga_ir.specs.StatementTree.{SimpleStatement, return}
+use Rattle.naga_ir.specs.StatementTree.{control_barrier, memory_barrier, store, image_store, atomic}
+use Rattle.naga_ir.specs.StatementTree.{image_atomic, work_group_uniform_load, call, ray_query}
+use Rattle.naga_ir.specs.StatementTree.{subgroup_ballot, subgroup_gather}
+use Rattle.naga_ir.specs.StatementTree.{subgroup_collective_operation, cooperative_store}
+use Rattle.naga_ir.specs.StatementTree.{ray_pipeline_function, StatementTree, simple, block, branch}
+use Rattle.naga_ir.specs.StatementTree.{switch, loop, BlockTree, no_statements, statement}
+use Rattle.naga_ir.specs.StatementTree.{CaseTrees, no_cases, case}
+use Rattle.naga_ir.specs.declared.expression.Expression as ir
+use Rattle.naga_ir.specs.declared.expression.Expression.TheVariants as expression
+use Rattle.naga_ir.specs.declared.module.Function.{Function}
+use Rattle.naga_ir.specs.declared.module.FunctionArgument.{FunctionArgument}
+use Rattle.naga_ir.specs.declared.module.FunctionResult.{FunctionResult}
+use Rattle.naga_ir.specs.declared.module.Module.{Module}
+use Rattle.naga_ir.specs.declared.statement.SwitchValue.TheVariants as label
+use Rattle.naga_ir.specs.declared.types.TypeInner.{TypeInner}
+use Rattle.naga_ir.specs.declared.types.TypeInner.TheVariants as inner
+use Rattle.naga_info.specs.declared.info.ExpressionInfo.{ExpressionInfo}
+use Rattle.naga_info.specs.declared.info.ModuleInfo.{ModuleInfo}
+use Rattle.naga_info.specs.declared.info.TypeResolution.{TypeResolution}
+use Rattle.naga_info.specs.declared.info.TypeResolution.TheVariants.{Handle}
+use Rattle.module_meaning.specs.Numbers.{label_fits_32_bits}
+use Rattle.module_meaning.specs.AgreeingOperators.{function_group}
+use Rattle.module_meaning.specs.AlikeTypes.{are_alike}
+use Rattle.module_meaning.specs.ExpressionOperators.{points_to_atomic}
+use Rattle.module_meaning.specs.ExpressionShapes.{Declared, shape_of}
+use Rattle.module_meaning.specs.ExpressionTypes.{is_wanted, only, result_type}
+use Rattle.module_meaning.specs.FunctionShapes.{function_shape, statement_shape, statements_shape}
+use Rattle.module_meaning.specs.FunctionShapes.{cases_shape}
+use Rattle.module_meaning.specs.ModuleShapes.{module_shape}
+use Rattle.module_meaning.specs.Ranges.{simple_in_range, statement_in_range, block_in_range}
+use Rattle.module_meaning.specs.Ranges.{cases_in_range, is_below}
+use Rattle.module_meaning.specs.StatementShapes.{simple_shape, store_shape}
+use Rattle.module_meaning.specs.StatementsFit.{value_has_type, is_returned, are_passed, calls, is_call}
+use Rattle.module_meaning.specs.StatementsFit.{is_answered, is_result, is_result_if, is_result_of}
+use Rattle.module_meaning.specs.StatementsFit.{is_atomic_result, is_uniform_load_result}
+use Rattle.module_meaning.specs.StatementsFit.{is_ballot_result, is_subgroup_result}
+use Rattle.module_meaning.specs.StatementsFit.{simple_is_sound, statement_is_sound, block_is_sound}
+use Rattle.module_meaning.specs.StatementsFit.{cases_are_sound, labels_fit, last_falls_through}
+use Rattle.module_meaning.specs.StatementsFit.{is_condition, is_selection, selection_fits, selects}
+use Rattle.module_meaning.specs.StatementsFit.{labels_are_of, labels_differ, has_label}
+use Rattle.module_meaning.specs.StatementsFit.{body_is_sound}
+use Rattle.module_meaning.specs.StatementsFit.{points_to_atomic as points_to_atomic_type}
+use Rattle.module_meaning.specs.OperandDemands.{operand_is}
+use Rattle.module_meaning.specs.Surroundings.{declared, types_known, type_of_values}
+use Rattle.shader_runs.specs.Premises.{IsRegular, AreRegular, CasesAreRegular, FallsFrom, ReturnFits}
+use Rattle.shader_runs.specs.Premises.{ResultFits, ActionFits, CallFits, ResultWanted, IsResult}
+use Rattle.shader_runs.specs.Premises.{AsksBy, EachAsks, IsNoName, handle_types}
+use Rattle.shader_runs.specs.Program as shapes
+use Rattle.shader_runs.specs.Program.{Statement, Block, If, Switch, Loop, Barrier, Act, Asked, Called}
+use Rattle.shader_runs.specs.Program.{Statements, end, then, Cases, no_case, handle_type, expression_of}
+use Rattle.shader_runs.specs.Program.{function_numbered}
+use Rattle.shader_runs.specs.ProgramRun.{barrier_words}
+use Rattle.shader_runs.specs.Scope.{Naming, Names}
+use Rattle.naga_form.proofs.AcceptedGroups.{IsSoundGroup}
+use Rattle.naga_form.proofs.Leaves.{alike_values, typed_only}
+use Rattle.naga_form.proofs.SameValues.{TypesAreCounted, IsFit}
+use Rattle.naga_form.proofs.WellFormed.{passing, operand_at, shape_there, typed_known}
+
+-- ---- what is asked of words and names
+-- the words of a statement ask for events, and no name hides a callee's
+abbrev mutual
+  pub IsWorded : shapes.Module → Naming → Statement → Type 0
+  IsWorded p f (Block b) = AreWorded p f b
+  IsWorded p f (If c a b) = AreWorded p f a × AreWorded p f b
+  IsWorded p f (Switch h cases) = CasesAreWorded p f cases
+  IsWorded p f (Loop b d e) = AreWorded p f b × AreWorded p f d
+  IsWorded p f (Barrier bits) = EachAsks p f (barrier_words bits)
+  IsWorded p f (Act (Asked w) xs r) = AsksBy p f w
+  IsWorded p f (Act (Called g) xs r) = IsNoName p f (f.names.outer.function g)
+  IsWorded p f _ = Unit {0}
+
+  pub AreWorded : shapes.Module → Naming → Statements → Type 0
+  AreWorded p f end = Unit {0}
+  AreWorded p f (then s ss) = IsWorded p f s × AreWorded p f ss
+
+  pub CasesAreWorded : shapes.Module → Naming → Cases → Type 0
+  CasesAreWorded p f no_case = Unit {0}
+  CasesAreWorded p f (shapes.case l b falls cs) = AreWorded p f b × CasesAreWorded p f cs
+
+-- ---- what is asked of cases
+abbrev pub is_empty : BlockTree → Bool
+is_empty no_statements = true
+is_empty (statement s b) = false
+
+-- only empty cases fall through, in a statement, in a block and among cases
+abbrev mutual
+  pub only_empty_fall_in : StatementTree → Bool
+  only_empty_fall_in (simple s) = true
+  only_empty_fall_in (block b) = only_empty_fall b
+  only_empty_fall_in (branch condition accept reject) =
+      only_empty_fall accept && only_empty_fall reject
+  only_empty_fall_in (switch selector cs) = only_empty_cases_fall cs
+  only_empty_fall_in (loop body continuing break_if) =
+      only_empty_fall body && only_empty_fall continuing
+
+  pub only_empty_fall : BlockTree → Bool
+  only_empty_fall no_statements = true
+  only_empty_fall (statement s b) = only_empty_fall_in s && only_empty_fall b
+
+  pub only_empty_cases_fall : CaseTrees → Bool
+  only_empty_cases_fall no_cases = true
+  only_empty_cases_fall (case v b falls cs) =
+      (not falls || is_empty b) && (only_empty_fall b && only_empty_cases_fall cs)
+
+-- ---- results
+module _ (d : Declared) (es : List ir.Expression) (h : ℕ) where
+  call_result : (function : ℕ) (e : ir.Expression) → is_result_of function e ≡ true →
+      IsResult (Some (shape_of d es h e))
+  call_result function (expression.CallResult callee) is = tt
+  call_result function _ is = absurd cc
+
+  atomic_result : (e : ir.Expression) → is_atomic_result e ≡ true → IsResult (Some (shape_of d es h e))
+  atomic_result (expression.AtomicResult ty comparison) is = tt
+  atomic_result _ is = absurd cc
+
+  uniform_load_result : (e : ir.Expression) → is_uniform_load_result e ≡ true →
+      IsResult (Some (shape_of d es h e))
+  uniform_load_result (expression.WorkGroupUniformLoadResult ty) is = tt
+  uniform_load_result _ is = absurd cc
+
+  ballot_result : (e : ir.Expression) → is_ballot_result e ≡ true → IsResult (Some (shape_of d es h e))
+  ballot_result expression.SubgroupBallotResult is = tt
+  ballot_result _ is = absurd cc
+
+  subgroup_result : (e : ir.Expression) → is_subgroup_result e ≡ true →
+      IsResult (Some (shape_of d es h e))
+  subgroup_result (expression.SubgroupOperationResult ty) is = tt
+  subgroup_result _ is = absurd cc
+
+-- ---- callees
+-- so many functions of the module stand behind, each with its shape
+pub record StandBehind (m : Module) (info : ModuleInfo) (count : ℕ) (callees : List shapes.Function) :
+    Type 0 where
+  pub shape_of_callee : (g : ℕ) (f : Function) → g < count → slice_get m.functions g ≡ Some f →
+      (es : List ExpressionInfo) ×
+      (function_numbered callees g ≡ Some (function_shape m info f es))
+
+-- ---- one function
+module _ (m : Module) (info : ModuleInfo) (f : Function) (es : List ExpressionInfo) (are : TypesAreCounted m) (group : IsSoundGroup m info (Some f) (function_group f es)) where
+  abbrev shape : shapes.Function
+  shape = function_shape m info f es
+
+  abbrev known : List TypeResolution
+  known = map (λ e. e.ty) es
+
+  abbrev around : Declared
+  around = declared m info (types_known es)
+
+  value_typed : (h ty : ℕ) → value_has_type m.types known h (Handle ty) ≡ true →
+      handle_type shape h ≡ type_of_values m (Handle ty)
+  value_typed h ty fits =
+      let one = passing (λ r. are_alike m.types r (Handle ty)) (slice_get known h) fits in
+      typed_known m info f es h one.0 one.1 ∙
+      alike_values m are one.0 (Handle ty) (group.fits h one.0 one.1) tt one.2
+
+  return_at : (o : Option FunctionResult) (v : Option ℕ) → f.result ≡ o → is_returned m.types known o v ≡ true →
+      ReturnFits shape v
+  return_at (Some answer) (Some h) is fits =
+      ap (option_map (λ r. type_of_values m (Handle r.ty))) is ∙
+      ap Some (sym (value_typed h answer.ty fits))
+  return_at None (Some h) is fits = absurd cc
+  return_at o None is fits = tt
+
+  passed : (wanted : List FunctionArgument) (xs : List ℕ) → are_passed m.types known wanted xs ≡ true →
+      handle_types shape xs ≡ map (λ a. type_of_values m (Handle a.ty)) wanted
+  passed [] [] fits = refl
+  passed [] (x ∷ xs) fits = absurd cc
+  passed (a ∷ wanted) [] fits = absurd cc
+  passed (a ∷ wanted) (x ∷ xs) fits =
+      let one =
+      and_parts (value_has_type m.types known x (Handle a.ty)) (are_passed m.types known wanted xs) fits in
+      λ i. value_typed x a.ty one.0 i ∷ passed wanted xs one.1 i
+
+  result_at : (test : ir.Expression → Bool) (h : ℕ) →
+      ((e : ir.Expression) → test e ≡ true → IsResult (Some (shape_of around f.expressions h e))) →
+      is_result test f h ≡ true → ResultFits shape (Some h)
+  result_at test h each fits =
+      let one = passing test (slice_get f.expressions h) fits in
+      subst IsResult (sym (shape_there m info f es h one.0 one.1)) (each one.0 one.2)
+
+  result_if : (test : ir.Expression → Bool) (r : Option ℕ) →
+      ((h : ℕ) (e : ir.Expression) → test e ≡ true →
+      IsResult (Some (shape_of around f.expressions h e))) →
+      is_result_if test f r ≡ true → ResultFits shape r
+  result_if test None each fits = tt
+  result_if test (Some h) each fits = result_at test h (each h) fits
+
+  -- a callee's result has the type of the handle that it is given to
+  answered : (callee : Function) (g : ℕ) → slice_get m.functions g ≡ Some callee → (r : Option ℕ) →
+      is_answered callee g f r ≡ true →
+      ResultWanted shape (option_map (λ r. type_of_values m (Handle r.ty)) callee.result) r
+  answered callee g there None fits = tt
+  answered callee g there (Some h) fits =
+      let one = and_parts (is_some callee.result) (is_result (is_result_of g) f h) fits in
+      let two = passing (is_result_of g) (slice_get f.expressions h) one.1 in
+      by two.0 two.1 two.2
+    where
+      by : (e : ir.Expression) → slice_get f.expressions h ≡ Some e → is_result_of g e ≡ true →
+          ResultWanted shape (option_map (λ r. type_of_values m (Handle r.ty)) callee.result) (Some h)
+      by (expression.CallResult c) at is =
+          let answers : result_type m c ≡ option_map (λ r. Handle r.ty) callee.result =
+          ap (result_type m) (eqb-true c g is) ∙
+          ap (option_and_then (λ f. option_map (λ r. Handle r.ty) f.result)) there in
+          let one =
+          typed_only m info f es are group h (expression.CallResult c) at
+          (option_map (λ r. Handle r.ty) callee.result)
+          (λ r fits. subst (λ o. is_wanted m.types (only o) r ≡ true) answers fits)
+          (λ s has. let found = map_some (λ r. Handle r.ty) callee.result s has in
+          subst (IsFit m) found.2 tt) in
+          let found = map_some (λ r. Handle r.ty) callee.result one.0 one.1 in
+          ap (option_map (λ r. type_of_values m (Handle r.ty))) found.1 ∙
+          ap Some (ap (type_of_values m) found.2 ∙ sym one.2)
+      by _ at is = absurd cc
+
+  module _ (n : Names) (count : ℕ) (callees : List shapes.Function) (behind : StandBehind m info count callees) (earlier : count ≤ n.earlier) where
+    abbrev own : Naming
+    own = record { function = shape; names = n }
+
+    abbrev p : shapes.Module
+    p = module_shape m info
+
+    call_at : (g : ℕ) (xs : List ℕ) (r : Option ℕ) → g < count → is_call m f known g xs r ≡ true →
+        IsNoName p own (n.outer.function g) → ActionFits p callees own (Called g) xs r × ResultFits shape r
+    call_at g xs r lt fits no_name =
+        let one = passing (calls m.types known f g xs r) (slice_get m.functions g) fits in
+        let two =
+        and_parts (are_passed m.types known one.0.arguments.items xs) (is_answered one.0 g f r) one.2 in
+        let callee = behind.shape_of_callee g one.0 lt one.1 in (
+          (omega (arith, lt, earlier), no_name, subst (λ o. CallFits shape o xs r) (sym callee.1) (passed one.0.arguments.items xs two.0, answered one.0 g one.1 r two.1)),
+          by one.0 r two.1,
+        )
+      where
+        by : (callee : Function) (r : Option ℕ) → is_answered callee g f r ≡ true → ResultFits shape r
+        by callee None fits = tt
+        by callee (Some h) fits =
+            result_at (is_result_of g) h (call_result around f.expressions h g)
+            (and_parts (is_some callee.result) (is_result (is_result_of g) f h) fits).1
+
+    line_at : (breaks continues : Bool) (s : SimpleStatement) →
+        simple_in_range count (length f.expressions) s ≡ true →
+        simple_is_sound m f known breaks continues s ≡ true →
+        IsWorded p own (simple_shape around.around s) →
+        IsRegular p callees own (simple_shape around.around s)
+    line_at breaks continues (return v) within fits worded = return_at f.result v refl fits
+    line_at breaks continues (control_barrier flags) within fits worded = worded
+    line_at breaks continues (memory_barrier flags) within fits worded = worded
+    line_at breaks continues (store pointer value) within fits worded = by (points_to_atomic around.around pointer) worded
+      where
+        by : (to_atomic : Bool) → IsWorded p own (store_shape to_atomic pointer value) →
+            IsRegular p callees own (store_shape to_atomic pointer value)
+        by true worded = (worded, tt)
+        by false worded = tt
+    line_at breaks continues (image_store image coordinate array_index value) within fits worded = (worded, tt)
+    line_at breaks continues (atomic pointer fun value outcome) within fits worded =
+        let one =
+        and_parts (operand_is m.types known (points_to_atomic_type m.types) pointer)
+        (is_result_if is_atomic_result f outcome) fits in
+        (worded, result_if is_atomic_result outcome (λ h. atomic_result around f.expressions h) one.1)
+    line_at breaks continues (image_atomic image coordinate array_index fun value) within fits worded = (worded, tt)
+    line_at breaks continues (work_group_uniform_load pointer outcome) within fits worded =
+        (worded, result_at is_uniform_load_result outcome (uniform_load_result around f.expressions outcome) fits)
+    line_at breaks continues (call function arguments outcome) within fits worded =
+        call_at function arguments outcome (ltb-true function count (and_parts (nat_lt function count) _ within).0) fits worded
+    line_at breaks continues (ray_query query) within fits worded = (worded, tt)
+    line_at breaks continues (subgroup_ballot outcome predicate) within fits worded =
+        (worded, result_at is_ballot_result outcome (ballot_result around f.expressions outcome) fits)
+    line_at breaks continues (subgroup_gather mode argument outcome) within fits worded =
+        (worded, result_at is_subgroup_result outcome (subgroup_result around f.expressions outcome) fits)
+    line_at breaks continues (subgroup_collective_operation op collective argument outcome) within fits worded =
+        (worded, result_at is_subgroup_result outcome (subgroup_result around f.expressions outcome) fits)
+    line_at breaks continues (cooperative_store target data_) within fits worded = (worded, tt)
+    line_at breaks continues (ray_pipeline_function fun) within fits worded = (worded, tt)
+    line_at breaks continues _ within fits worded = tt
+
+    -- a case that falls through is empty, and not the last one
+    falls_at : (falls : Bool) (b : BlockTree) (cs : CaseTrees) → (not falls || is_empty b) ≡ true →
+        last_falls_through falls cs ≡ false →
+        FallsFrom falls (statements_shape around.around b) (cases_shape around.around cs)
+    falls_at false b cs only last = tt
+    falls_at true no_statements no_cases only last = absurd cc
+    falls_at true no_statements (case v b falls cs) only last = tt
+    falls_at true (statement s b) cs only last = absurd cc
+
+    last_falls : (h : ℕ) (cs : CaseTrees) → is_selection m.types known h cs ≡ true →
+        last_falls_through false cs ≡ false
+    last_falls h cs fits = let o = operand_at m.types known (selection_fits cs) h fits in by o.itself o.taken
+      where
+        by : (it : TypeInner) → selection_fits cs it ≡ true → last_falls_through false cs ≡ false
+        by (inner.Scalar s) fits =
+            let one = and_parts (selects s) (labels_fit s cs) fits in
+            let two =
+            and_parts (labels_are_of s cs)
+            (labels_differ cs && (has_label label.Default cs && not (last_falls_through false cs))) one.1 in
+            let three =
+            and_parts (labels_differ cs)
+            (has_label label.Default cs && not (last_falls_through false cs)) two.1 in
+            not-true (last_falls_through false cs)
+            (and_parts (has_label label.Default cs) (not (last_falls_through false cs)) three.1).1
+        by _ fits = absurd cc
+
+    mutual
+      statement_at : (breaks continues : Bool) (s : StatementTree) →
+          statement_in_range count (length f.expressions) s ≡ true →
+          statement_is_sound m f known breaks continues s ≡ true → only_empty_fall_in s ≡ true →
+          IsWorded p own (statement_shape around.around s) →
+          IsRegular p callees own (statement_shape around.around s)
+      statement_at breaks continues (simple s) within fits only worded =
+          line_at breaks continues s within fits worded
+      statement_at breaks continues (block b) within fits only worded =
+          block_at breaks continues b within fits only worded
+      statement_at breaks continues (branch condition accept reject) within fits only worded =
+          let ranges = and_parts (nat_lt condition (length f.expressions)) _ within in
+          let both =
+          and_parts (block_in_range count (length f.expressions) accept)
+          (block_in_range count (length f.expressions) reject) ranges.1 in
+          let one = and_parts (is_condition m.types known condition) _ fits in
+          let two =
+          and_parts (block_is_sound m f known breaks continues accept)
+          (block_is_sound m f known breaks continues reject) one.1 in
+          let empty = and_parts (only_empty_fall accept) (only_empty_fall reject) only in (
+            block_at breaks continues accept both.0 two.0 empty.0 worded.0,
+            block_at breaks continues reject both.1 two.1 empty.1 worded.1,
+          )
+      statement_at breaks continues (switch selector cs) within fits only worded =
+          let ranges =
+          and_parts (nat_lt selector (length f.expressions))
+          (cases_in_range count (length f.expressions) cs) within in
+          let one =
+          and_parts (is_selection m.types known selector cs)
+          (cases_are_sound m f known true continues cs) fits in
+          cases_at continues false cs ranges.1 one.1 only (last_falls selector cs one.0) worded
+      statement_at breaks continues (loop body continuing break_if) within fits only worded =
+          let ranges = and_parts (block_in_range count (length f.expressions) body) _ within in
+          let both =
+          and_parts (block_in_range count (length f.expressions) continuing)
+          (is_below (length f.expressions) break_if) ranges.1 in
+          let one = and_parts (block_is_sound m f known true true body) _ fits in
+          let two =
+          and_parts (block_is_sound m f known false false continuing)
+          (option_map_or (is_condition m.types known) break_if true) one.1 in
+          let empty = and_parts (only_empty_fall body) (only_empty_fall continuing) only in (
+            block_at true true body ranges.0 one.0 empty.0 worded.0,
+            block_at false false continuing both.0 two.0 empty.1 worded.1,
+          )
+
+      block_at : (breaks continues : Bool) (b : BlockTree) →
+          block_in_range count (length f.expressions) b ≡ true →
+          block_is_sound m f known breaks continues b ≡ true → only_empty_fall b ≡ true →
+          AreWorded p own (statements_shape around.around b) →
+          AreRegular p callees own (statements_shape around.around b)
+      block_at breaks continues no_statements within fits only worded = tt
+      block_at breaks continues (statement s b) within fits only worded =
+          let ranges =
+          and_parts (statement_in_range count (length f.expressions) s)
+          (block_in_range count (length f.expressions) b) within in
+          let one =
+          and_parts (statement_is_sound m f known breaks continues s)
+          (block_is_sound m f known breaks continues b) fits in
+          let empty = and_parts (only_empty_fall_in s) (only_empty_fall b) only in (
+            statement_at breaks continues s ranges.0 one.0 empty.0 worded.0,
+            block_at breaks continues b ranges.1 one.1 empty.1 worded.1,
+          )
+
+      cases_at : (continues before : Bool) (cs : CaseTrees) →
+          cases_in_range count (length f.expressions) cs ≡ true →
+          cases_are_sound m f known true continues cs ≡ true → only_empty_cases_fall cs ≡ true →
+          last_falls_through before cs ≡ false →
+          CasesAreWorded p own (cases_shape around.around cs) →
+          CasesAreRegular p callees own (cases_shape around.around cs)
+      cases_at continues before no_cases within fits only last worded = tt
+      cases_at continues before (case v b falls cs) within fits only last worded =
+          let ranges =
+          and_parts (block_in_range count (length f.expressions) b)
+          (cases_in_range count (length f.expressions) cs)
+          (and_parts (label_fits_32_bits v) _ within).1 in
+          let one =
+          and_parts (block_is_sound m f known true continues b)
+          (cases_are_sound m f known true continues cs) fits in
+          let empty =
+          and_parts (not falls || is_empty b) (only_empty_fall b && only_empty_cases_fall cs) only in
+          let rest = and_parts (only_empty_fall b) (only_empty_cases_fall cs) empty.1 in (
+            falls_at falls b cs empty.0 last,
+            block_at true continues b ranges.0 one.0 rest.0 worded.0,
+            cases_at continues falls cs ranges.1 one.1 rest.1 last worded.1,
+          )
+
+    -- all statements of the function
+    pub regular : block_in_range count (length f.expressions) f.body ≡ true →
+        body_is_sound m f known ≡ true → only_empty_fall f.body ≡ true →
+        AreWorded p own shape.body → AreRegular p callees own shape.body
+    regular within fits only worded = block_at false false f.body within fits only worded

@@ -1,0 +1,177 @@
+-- The words of statements ask for events where words that ask stand free and each statement has a
+-- word: acceptance takes statements for which WGSL has none.
+use Rattle.std.proofs.Common.{◌≡◌, ℕ, ◌<◌, ◌≤◌, Bool, true, false, ◌&&◌, List, [], Option, Some}
+use Rattle.std.proofs.Common.{None, refl, sym, ◌∙◌, subst, arith, nat_lt, codes}
+use Rattle.std.specs.Prelude.{unwrap_or}
+use Rattle.std.specs.Option.{is_some}
+use Rattle.std.proofs.lemmas.Bool.{and_parts, ltb-true}
+use Rattle.naga_ir.specs.StatementTree.{SimpleStatement}
+use Rattle.naga_ir.specs.StatementTree.{control_barrier, memory_barrier, store, image_store, atomic}
+use Rattle.naga_ir.specs.StatementTree.{image_atomic, work_group_uniform_load, call, ray_query}
+use Rattle.naga_ir.specs.StatementTree.{subgroup_ballot, subgroup_gather}
+use Rattle.naga_ir.specs.StatementTree.{subgroup_collective_operation, cooperative_store}
+use Rattle.naga_ir.specs.StatementTree.{ray_pipeline_function, StatementTree, simple, block, branch}
+use Rattle.naga_ir.specs.StatementTree.{switch, loop, BlockTree, no_statements, statement}
+use Rattle.naga_ir.specs.StatementTree.{CaseTrees, no_cases, case}
+use Rattle.wgsl_text.specs.Requests.{is_request}
+use Rattle.module_meaning.specs.Numbers.{label_fits_32_bits}
+use Rattle.module_meaning.specs.ExpressionOperators.{Surroundings, points_to_atomic}
+use Rattle.module_meaning.specs.FunctionShapes.{statement_shape, statements_shape, cases_shape}
+use Rattle.module_meaning.specs.OperatorTable.{Operator, TexelStore, TexelChange, AtomicStore}
+use Rattle.module_meaning.specs.OperatorTable.{AtomicChange, UniformLoad, Ballot, Collective}
+use Rattle.module_meaning.specs.OperatorTable.{FromSubgroup, CooperativeStore, TraceRay, asks}
+use Rattle.module_meaning.specs.OperatorTable.{operator_word, own_word, run_word, TypeIsSound}
+use Rattle.module_meaning.specs.OperatorTable.{texel_change_word, collective_word}
+use Rattle.module_meaning.specs.Ranges.{simple_in_range, statement_in_range, block_in_range}
+use Rattle.module_meaning.specs.Ranges.{cases_in_range, is_below}
+use Rattle.module_meaning.specs.StatementShapes.{simple_shape, store_shape, change_of, source_of}
+use Rattle.module_meaning.specs.StatementShapes.{barrier_bits}
+use Rattle.shader_runs.specs.Premises.{AsksBy, EachAsks, IsNoName}
+use Rattle.shader_runs.specs.Program as shapes
+use Rattle.shader_runs.specs.Program.{BarrierBits}
+use Rattle.shader_runs.specs.ProgramRun.{barrier_words, word_if}
+use Rattle.shader_runs.specs.Scope.{Naming}
+use Rattle.shader_runs.specs.Value.{Bytes}
+use Rattle.naga_form.proofs.OperatorEvents.{asks_as_told}
+use Rattle.naga_form.proofs.Regular.{IsWorded, AreWorded, CasesAreWorded}
+
+-- ---- statements with words
+-- WGSL has a word for the statement, if it wants one: none for a step of a ray query, for a texel
+-- that is compared and for most scans
+abbrev pub line_has_word : SimpleStatement → Bool
+line_has_word (image_atomic image coordinate array_index fun value) =
+    is_some (texel_change_word (change_of fun))
+line_has_word (subgroup_collective_operation op collective argument outcome) =
+    is_some (collective_word op collective)
+line_has_word (ray_query query) = false
+line_has_word _ = true
+
+abbrev mutual
+  pub statement_has_words : StatementTree → Bool
+  statement_has_words (simple s) = line_has_word s
+  statement_has_words (block b) = block_has_words b
+  statement_has_words (branch condition accept reject) =
+      block_has_words accept && block_has_words reject
+  statement_has_words (switch selector cs) = cases_have_words cs
+  statement_has_words (loop body continuing break_if) =
+      block_has_words body && block_has_words continuing
+
+  pub block_has_words : BlockTree → Bool
+  block_has_words no_statements = true
+  block_has_words (statement s b) = statement_has_words s && block_has_words b
+
+  pub cases_have_words : CaseTrees → Bool
+  cases_have_words no_cases = true
+  cases_have_words (case v b falls cs) = block_has_words b && cases_have_words cs
+
+-- ---- names
+-- what asks for an event in a text does so here, and no name of the function hides it or a callee
+pub record AsksFreely (p : shapes.Module) (f : Naming) : Type 0 where
+  pub requests : (w : Bytes) → is_request w ≡ true → AsksBy p f w
+  pub callees : (g : ℕ) → g < f.names.earlier → IsNoName p f (f.names.outer.function g)
+
+module _ (p : shapes.Module) (f : Naming) (free : AsksFreely p f) where
+  operator_asks : (op : Operator) → is_some (operator_word op) ≡ true → asks op ≡ true →
+      TypeIsSound op → AsksBy p f (run_word op)
+  operator_asks op has asking sound = by (operator_word op) refl has
+    where
+      by : (o : Option (List ℕ)) → operator_word op ≡ o → is_some o ≡ true →
+          AsksBy p f (unwrap_or (operator_word op) (own_word op))
+      by None at has = absurd cc
+      by (Some w) at has =
+          subst (λ o. AsksBy p f (unwrap_or o (own_word op))) (sym at)
+          (free.requests w (asks_as_told op w sound at ∙ asking))
+
+  word_asks : (b : Bool) (w : Bytes) (ws : List Bytes) → is_request w ≡ true → EachAsks p f ws →
+      EachAsks p f (word_if b w ws)
+  word_asks true w ws is all = (free.requests w is, all)
+  word_asks false w ws is all = all
+
+  barriers_ask : (bits : BarrierBits) → EachAsks p f (barrier_words bits)
+  unfolding is_request
+  barriers_ask bits =
+      word_asks bits.storage (codes "storageBarrier") _ refl
+      (word_asks bits.work_group (codes "workgroupBarrier") _ refl
+      (word_asks bits.sub_group (codes "subgroupBarrier") _ refl
+      (word_asks bits.texture (codes "textureBarrier") [] refl tt)))
+
+  store_has_word : (row_major : Bool) → is_some (operator_word (CooperativeStore row_major)) ≡ true
+  store_has_word true = refl
+  store_has_word false = refl
+
+  module _ (a : Surroundings) (count expressions : ℕ) (earlier : count ≤ f.names.earlier) where
+    line_worded : (s : SimpleStatement) → simple_in_range count expressions s ≡ true →
+        line_has_word s ≡ true → IsWorded p f (simple_shape a s)
+    line_worded (control_barrier flags) within has = barriers_ask (barrier_bits flags)
+    line_worded (memory_barrier flags) within has = barriers_ask (barrier_bits flags)
+    line_worded (store pointer value) within has = by (points_to_atomic a pointer)
+      where
+        by : (to_atomic : Bool) → IsWorded p f (store_shape to_atomic pointer value)
+        by true = operator_asks AtomicStore refl refl tt
+        by false = tt
+    line_worded (image_store image coordinate array_index value) within has =
+        operator_asks (TexelStore (is_some array_index)) refl refl tt
+    line_worded (atomic pointer fun value outcome) within has =
+        operator_asks (AtomicChange (change_of fun)) refl refl tt
+    line_worded (image_atomic image coordinate array_index fun value) within has =
+        operator_asks (TexelChange (change_of fun) (is_some array_index)) has refl tt
+    line_worded (work_group_uniform_load pointer outcome) within has =
+        operator_asks UniformLoad refl refl tt
+    line_worded (call function arguments outcome) within has =
+        let lt = ltb-true function count (and_parts (nat_lt function count) _ within).0 in
+        free.callees function (omega (arith, lt, earlier))
+    line_worded (ray_query query) within has = absurd cc
+    line_worded (subgroup_ballot outcome predicate) within has =
+        operator_asks (Ballot (is_some predicate)) refl refl tt
+    line_worded (subgroup_gather mode argument outcome) within has =
+        operator_asks (FromSubgroup (source_of mode)) refl refl tt
+    line_worded (subgroup_collective_operation op collective argument outcome) within has =
+        operator_asks (Collective op collective) has refl tt
+    line_worded (cooperative_store target place) within has =
+        operator_asks (CooperativeStore place.row_major) (store_has_word place.row_major) refl tt
+    line_worded (ray_pipeline_function fun) within has = operator_asks TraceRay refl refl tt
+    line_worded _ within has = tt
+
+    mutual
+      statement_worded : (s : StatementTree) → statement_in_range count expressions s ≡ true →
+          statement_has_words s ≡ true → IsWorded p f (statement_shape a s)
+      statement_worded (simple s) within has = line_worded s within has
+      statement_worded (block b) within has = worded b within has
+      statement_worded (branch condition accept reject) within has =
+          let ranges = and_parts (nat_lt condition expressions) _ within in
+          let both =
+          and_parts (block_in_range count expressions accept)
+          (block_in_range count expressions reject) ranges.1 in
+          let words = and_parts (block_has_words accept) (block_has_words reject) has in
+          (worded accept both.0 words.0, worded reject both.1 words.1)
+      statement_worded (switch selector cs) within has =
+          cases_worded cs
+          (and_parts (nat_lt selector expressions) (cases_in_range count expressions cs) within).1 has
+      statement_worded (loop body continuing break_if) within has =
+          let ranges = and_parts (block_in_range count expressions body) _ within in
+          let both =
+          and_parts (block_in_range count expressions continuing) (is_below expressions break_if)
+          ranges.1 in
+          let words = and_parts (block_has_words body) (block_has_words continuing) has in
+          (worded body ranges.0 words.0, worded continuing both.0 words.1)
+
+      -- all statements of a block
+      pub worded : (b : BlockTree) → block_in_range count expressions b ≡ true →
+          block_has_words b ≡ true → AreWorded p f (statements_shape a b)
+      worded no_statements within has = tt
+      worded (statement s b) within has =
+          let ranges =
+          and_parts (statement_in_range count expressions s) (block_in_range count expressions b)
+          within in
+          let words = and_parts (statement_has_words s) (block_has_words b) has in
+          (statement_worded s ranges.0 words.0, worded b ranges.1 words.1)
+
+      cases_worded : (cs : CaseTrees) → cases_in_range count expressions cs ≡ true →
+          cases_have_words cs ≡ true → CasesAreWorded p f (cases_shape a cs)
+      cases_worded no_cases within has = tt
+      cases_worded (case v b falls cs) within has =
+          let ranges =
+          and_parts (block_in_range count expressions b) (cases_in_range count expressions cs)
+          (and_parts (label_fits_32_bits v) _ within).1 in
+          let words = and_parts (block_has_words b) (cases_have_words cs) has in
+          (worded b ranges.0 words.0, cases_worded cs ranges.1 words.1)

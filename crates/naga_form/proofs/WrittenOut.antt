@@ -1,0 +1,202 @@
+-- Where the initialiser of each constant is written out, as a literal, another constant, an
+-- override, a zero value, a composition or a splat of such, each constant of an accepted module has
+-- a tree. Acceptance doesn't ask that it is: a negation of a literal is not.
+use Rattle.module_meaning.specs.Names.{ItemsAreCounted}
+use Rattle.std.proofs.Common.{◌≡◌, ℕ, zero, suc, ◌<◌, ◌≤◌, ◌+◌, Bool, true, false, List, [], ◌∷◌, refl, sym, ap, ◌∙◌, length}
+use Rattle.std.proofs.Common.{Option, Some, None, slice_get, arith, nat_lt, ◌&&◌, if◌then◌else◌}
+use Rattle.std.specs.List.{list_all}
+use Rattle.std.specs.Prelude.{IsTrue}
+use Rattle.std.specs.Option.{option_map, option_map_or, option_and_then, is_some}
+use Rattle.std.proofs.lemmas.Bool.{and_parts, ltb-true}
+use Rattle.naga_ir.specs.declared.expression.Expression.{Expression}
+use Rattle.naga_ir.specs.declared.expression.Expression.TheVariants as expression
+use Rattle.naga_ir.specs.declared.module.Constant.{Constant}
+use Rattle.naga_ir.specs.declared.module.Function.{Function}
+use Rattle.naga_ir.specs.declared.module.Module.{Module}
+use Rattle.naga_info.specs.declared.info.ModuleInfo.{ModuleInfo}
+use Rattle.naga_info.specs.declared.info.TypeResolution.TheVariants.{Handle}
+use Rattle.naga_info.proofs.Options.{map_some}
+use Rattle.shader_runs.specs.Program.{ConstantTree, NamedConstant, Constructed}
+use Rattle.module_meaning.specs.Accepted.{is_accepted}
+use Rattle.module_meaning.specs.AgreeingOperators.{Group, module_operators_agree}
+use Rattle.module_meaning.specs.ExpressionOperators.{constructor}
+use Rattle.module_meaning.specs.ExpressionShapes.{Declared, trees, tree_then, trees_of, built, tree_over, tree_within, constant_tree}
+use Rattle.module_meaning.specs.ExpressionTypes as types
+use Rattle.module_meaning.specs.InfoSizes.{sizes_fit, type_is_fit, all_known}
+use Rattle.module_meaning.specs.OperatorTable.{Operator, Splat}
+use Rattle.module_meaning.specs.Ranges.{module_ranges_fit, module_in_range, declarations_in_range, types_in_range, special_types_fit, constant_in_range, override_in_range, global_in_range, global_expression_in_range, expression_in_range, initialiser_before, all_placed, all_below, resolution_fits, is_below, function_in_range, entry_point_in_range}
+use Rattle.module_meaning.specs.Soundness.{module_is_sound}
+use Rattle.module_meaning.specs.Surroundings.{declared_over, constant_within, written_constant, constant_number, global_types_known}
+use Rattle.module_meaning.proofs.FitsSoFar.{list_all_at}
+use Rattle.module_meaning.proofs.FunctionsSoFar.{placed_at}
+use Rattle.naga_form.proofs.AcceptedGroups.{IsSoundGroup, own_known, own_group, declarations_are}
+use Rattle.naga_form.proofs.ConstantInitialisers.{HaveTrees, named_stands}
+use Rattle.naga_form.proofs.ConstantTrees.{wanted_there}
+use Rattle.naga_form.proofs.Signatures.{around_group, declared_for}
+
+-- an expression is written out, if these handles are
+abbrev pub written_out_over : (ℕ → Bool) → Expression → Bool
+written_out_over is_written (expression.Literal value) = true
+written_out_over is_written (expression.Constant handle) = true
+written_out_over is_written (expression.Override handle) = true
+written_out_over is_written (expression.ZeroValue ty) = true
+written_out_over is_written (expression.Compose ty components) = list_all is_written components.items
+written_out_over is_written (expression.Splat size value) = is_written value
+written_out_over is_written _ = false
+
+-- a handle is, at most so many levels deep
+abbrev pub written_out_within : (levels : ℕ) → List Expression → ℕ → Bool
+written_out_within zero es h = false
+written_out_within (suc levels) es h = option_map_or (written_out_over (written_out_within levels es)) (slice_get es h) false
+
+-- a handle is; operands stand before what they are operands of
+abbrev pub is_written_out : List Expression → ℕ → Bool
+is_written_out es h = written_out_within (suc h) es h
+
+-- the initialiser of each constant is
+abbrev pub AreWrittenOut : Module → Type 0
+AreWrittenOut m = list_all (λ c. is_written_out m.global_expressions c.init) m.constants ≡ true
+
+abbrev HasTree : Option ConstantTree → Type 0
+HasTree o = (t : ConstantTree) × (o ≡ Some t)
+
+trees_there : (tree_of : ℕ → Option ConstantTree) (is_written : ℕ → Bool) (bound : ℕ) → ((h : ℕ) → h < bound → is_written h ≡ true → HasTree (tree_of h)) →
+    (hs : List ℕ) → all_below bound hs ≡ true → list_all is_written hs ≡ true → (ts : List ConstantTree) × (trees_of tree_of hs ≡ Some ts)
+trees_there tree_of is_written bound have [] below all = ([], refl)
+trees_there tree_of is_written bound have (h ∷ hs) below all =
+    let low = and_parts (nat_lt h bound) (all_below bound hs) below in
+    let is = and_parts (is_written h) (list_all is_written hs) all in
+    let one = have h (ltb-true h bound low.0) is.0 in
+    let more = trees_there tree_of is_written bound have hs low.1 is.1 in
+    (one.0 ∷ more.0, λ i. tree_then (one.1 i) (more.1 i))
+
+module _ (m : Module) (info : ModuleInfo) where
+  -- ---- of expressions that stand together
+  module _ (f : Option Function) (g : Group) (is : IsSoundGroup m info f g) (written : ℕ → Option ConstantTree) where
+    abbrev inside : Declared
+    inside = declared_over m written (λ h. slice_get g.known h)
+
+    -- each constant that the expressions up to this handle name has a tree
+    abbrev HaveNamed : ℕ → Type 0
+    HaveNamed h = (k c : ℕ) → k ≤ h → slice_get g.expressions k ≡ Some (expression.Constant c) → HasTree (written c)
+
+    built_there : (h : ℕ) (e : Expression) → slice_get g.expressions h ≡ Some e → (o : Operator) (ts : List ConstantTree) → HasTree (built inside h o ts)
+    built_there h e at o ts =
+        let own = own_known m info f g is h e at in
+        (_, ap (option_map (λ r. Constructed _ (inside.value_type r) (trees ts))) own.1)
+
+    over_there : (tree_of : ℕ → Option ConstantTree) (is_written : ℕ → Bool) (h : ℕ) (e : Expression) → slice_get g.expressions h ≡ Some e →
+        ((k : ℕ) → k < h → is_written k ≡ true → HasTree (tree_of k)) → HaveNamed h → written_out_over is_written e ≡ true → HasTree (tree_over inside tree_of h e)
+    over_there tree_of is_written h (expression.Literal v) at have named out = (_, refl)
+    over_there tree_of is_written h (expression.Constant c) at have named out = named h c (omega arith) at
+    over_there tree_of is_written h (expression.Override o) at have named out = (_, refl)
+    over_there tree_of is_written h (expression.ZeroValue ty) at have named out = built_there h (expression.ZeroValue ty) at (constructor (around_group m info g) (Handle ty) 0) []
+    over_there tree_of is_written h (expression.Compose ty components) at have named out =
+        let o = constructor (around_group m info g) (Handle ty) (length components.items) in
+        let ts = trees_there tree_of is_written h have components.items (is.below h (expression.Compose ty components) at) out in
+        let t = built_there h (expression.Compose ty components) at o ts.0 in
+        (t.0, ap (option_and_then (built inside h o)) ts.1 ∙ t.1)
+    over_there tree_of is_written h (expression.Splat size v) at have named out =
+        let below = and_parts (nat_lt v h) true (is.below h (expression.Splat size v) at) in
+        let one = have v (ltb-true v h below.0) out in
+        let t = built_there h (expression.Splat size v) at (Splat size) (one.0 ∷ []) in
+        (t.0, ap (option_and_then (λ t. built inside h (Splat size) (t ∷ []))) one.1 ∙ t.1)
+    over_there tree_of is_written h _ at have named out = absurd cc
+
+    tree_there : (levels h : ℕ) → HaveNamed h → written_out_within levels g.expressions h ≡ true → HasTree (tree_within levels inside g.expressions h)
+    tree_there zero h named out = absurd cc
+    tree_there (suc levels) h named out = by (slice_get g.expressions h) refl out (λ k lt. tree_there levels k (λ j c le. named j c (omega (arith, lt, le))))
+      where
+        by : (o : Option Expression) → slice_get g.expressions h ≡ o → option_map_or (written_out_over (written_out_within levels g.expressions)) o false ≡ true →
+            ((k : ℕ) → k < h → written_out_within levels g.expressions k ≡ true → HasTree (tree_within levels inside g.expressions k)) →
+            HasTree (option_and_then (tree_over inside (tree_within levels inside g.expressions) h) o)
+        by None at out have = absurd cc
+        by (Some e) at out have = over_there (tree_within levels inside g.expressions) (written_out_within levels g.expressions) h e at have named out
+
+  module _ (accepted : IsTrue (is_accepted m info)) (counted : ItemsAreCounted m) where
+    -- ---- the module's own expressions stand behind the initialisers that they name
+    ranges : module_ranges_fit m info ≡ true
+    unfolding is_accepted
+    ranges = (and_parts (module_ranges_fit m info) (module_is_sound m info && module_operators_agree m info) accepted).0
+
+    range : declarations_in_range m ≡ true
+    unfolding module_ranges_fit
+    range =
+        let one = and_parts (sizes_fit m info) _ ranges in
+        let two = and_parts (list_all type_is_fit m.types) _ one.1 in
+        let three = and_parts (module_in_range m) (all_known (resolution_fits (length m.overrides) (length m.types)) info) two.1 in
+        (and_parts (declarations_in_range m) (all_placed (function_in_range m) m.functions && list_all (entry_point_in_range m) m.entry_points.items) three.0).0
+
+    abbrev pub Own : Group
+    Own = own_group m info accepted counted
+
+    pub own_is : IsSoundGroup m info None Own
+    own_is = declarations_are m info accepted counted
+
+    own_parts : (list_all (constant_in_range (length m.types) (length m.global_expressions)) m.constants ≡ true) × (all_placed (global_expression_in_range m) m.global_expressions ≡ true)
+    own_parts =
+        let types = length m.types in let own = length m.global_expressions in
+        let declared = and_parts (types_in_range (length m.overrides) m.types) _ range in
+        let d1 = and_parts (special_types_fit types m.special_types) _ declared.1 in
+        let d2 = and_parts (list_all (constant_in_range types own) m.constants) _ d1.1 in
+        let d3 = and_parts (list_all (override_in_range types own) m.overrides) _ d2.1 in
+        let d4 = and_parts (list_all (global_in_range types own) m.global_variables) (all_placed (global_expression_in_range m) m.global_expressions) d3.1 in
+        (d2.0, d4.1)
+
+    -- the constant that an expression names
+    pub constant_named : (f : Option Function) (g : Group) → IsSoundGroup m info f g → (h c : ℕ) → slice_get g.expressions h ≡ Some (expression.Constant c) → (k : Constant) × (slice_get m.constants c ≡ Some k)
+    constant_named f g is h c at =
+        let own = own_known m info f g is h (expression.Constant c) at in
+        let there = wanted_there m info (types.constant_type m c) own.0 (is.typed h (expression.Constant c) own.0 at own.1) in
+        let item = map_some (λ c. Handle c.ty) (slice_get m.constants c) there.0 there.1 in
+        (item.0, item.1)
+
+    pub initialiser_stands_before : (h c : ℕ) → slice_get m.global_expressions h ≡ Some (expression.Constant c) → (k : Constant) → slice_get m.constants c ≡ Some k → k.init < h
+    initialiser_stands_before h c at k there =
+        let from : 0 + h ≡ h = omega arith in
+        let own : global_expression_in_range m h (expression.Constant c) ≡ true = sym (ap (λ n. global_expression_in_range m n (expression.Constant c)) from) ∙ placed_at (global_expression_in_range m) 0 m.global_expressions h (expression.Constant c) own_parts.1 at in
+        let before = (and_parts (expression_in_range m (length m.functions) 0 0 h (expression.Constant c)) (initialiser_before m h (expression.Constant c)) own).1 in
+        ltb-true k.init h (sym (ap (λ o. is_below h (option_map (λ k. k.init) o)) there) ∙ before)
+
+    -- ---- constants
+    module _ (out : AreWrittenOut m) where
+      -- the tree of an initialiser, where each constant with an earlier initialiser has one
+      initialiser_there : (written : ℕ → Option ConstantTree) → (h : ℕ) (c : Constant) → slice_get m.constants h ≡ Some c →
+          ((k : ℕ) (d : Constant) → slice_get m.constants k ≡ Some d → d.init < c.init → HasTree (written k)) →
+          HasTree (constant_tree (declared_over m written (global_types_known info)) m.global_expressions c.init)
+      initialiser_there written h c at have =
+          tree_there None Own own_is written (suc c.init) c.init
+          (λ k d le here.
+          let item = constant_named None Own own_is k d here in
+          let lt = initialiser_stands_before k d here item.0 item.1 in
+          have d item.0 item.1 (omega (arith, le, lt)))
+          (list_all_at (λ c. is_written_out m.global_expressions c.init) m.constants h c out at)
+
+      constants_there : (levels : ℕ) (h : ℕ) (c : Constant) → slice_get m.constants h ≡ Some c → c.init < levels → HasTree (constant_within levels m info h)
+      constants_there zero h c at lt = absurd (omega (arith, lt))
+      constants_there (suc levels) h c at lt =
+          let one = by (is_some c.name) (initialiser_there (constant_within levels m info) h c at (λ k d there le. constants_there levels k d there (omega (arith, lt, le)))) in
+          (one.0, ap (option_and_then (λ c. if is_some c.name then Some (NamedConstant (constant_number m h)) else constant_tree (declared_over m (constant_within levels m info) (global_types_known info)) m.global_expressions c.init)) at ∙ one.1)
+        where
+          by : (b : Bool) → HasTree (constant_tree (declared_over m (constant_within levels m info) (global_types_known info)) m.global_expressions c.init) →
+              HasTree (if b then Some (NamedConstant (constant_number m h)) else constant_tree (declared_over m (constant_within levels m info) (global_types_known info)) m.global_expressions c.init)
+          by true there = (_, refl)
+          by false there = there
+
+      -- each constant has a tree
+      pub constant_has_tree : (h : ℕ) (c : Constant) → slice_get m.constants h ≡ Some c → (t : ConstantTree) × (written_constant m info h ≡ Some t)
+      constant_has_tree h c at =
+          let own = and_parts (nat_lt c.ty (length m.types)) (nat_lt c.init (length m.global_expressions)) (list_all_at (constant_in_range (length m.types) (length m.global_expressions)) m.constants h c own_parts.0 at) in
+          constants_there (length m.global_expressions) h c at (ltb-true c.init (length m.global_expressions) own.1)
+
+      -- so each initialiser of a named one has
+      pub have_trees : HaveTrees m info accepted counted
+      have_trees i c named =
+          let k = named_stands m.constants i c named in
+          initialiser_there (written_constant m info) k.0 c k.1 (λ j d there lt. constant_has_tree j d there)
+
+      -- and each expression of a function that is written out
+      pub written_has_tree : (f : Option Function) (g : Group) → IsSoundGroup m info f g → (h : ℕ) → is_written_out g.expressions h ≡ true → (t : ConstantTree) × (constant_tree (declared_for m info g) g.expressions h ≡ Some t)
+      written_has_tree f g is h written =
+          tree_there f g is (written_constant m info) (suc h) h
+          (λ k d le here. let item = constant_named f g is k d here in constant_has_tree d item.0 item.1) written
