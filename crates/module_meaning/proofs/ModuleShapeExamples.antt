@@ -115,6 +115,8 @@ module _ (other : ir_module.Module) (info : ModuleInfo) (label : String Global)
     abbrev taking : ir_module.Module
     taking =
         record m {
+          constants = [];
+          global_expressions = [];
           functions = element_taken ∷ [];
           entry_points = one other.entry_points component_taken;
         }
@@ -147,14 +149,19 @@ module _ (other : ir_module.Module) (info : ModuleInfo) (label : String Global)
     unfolding type_parts
     component = refl
 
+    -- no expression takes the third component
+    untaken : (module_shape taking known).parts (codes "ptr<function, vec3<f32>>") (At (pos 2)) ≡ []
+    unfolding type_parts
+    untaken = refl
+
     first_function : function_numbered (module_shape taking known).functions 0 ≡ Some (function_shape taking known element_taken to_array)
     first_function = refl
 
     then_entry_point : function_numbered (module_shape taking known).functions 1 ≡ Some (function_shape taking known component_taken.function to_vector)
     then_entry_point = refl
 
--- Members of a struct are told by their steps. Here the first is named `y`, so that the step to it is
--- the one to the second component of a vector, and the second is named `depth`.
+-- Members of a struct are told by their steps. Here the first is named `y`, so that the step to it
+-- is the one to the second component of a vector, and the second is named `depth`.
 module _ (other : Vec StructMember Global) (member : StructMember) (declared : Declared) where
   abbrev pair_of : Vec StructMember Global
   pair_of =

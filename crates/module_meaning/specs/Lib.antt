@@ -35,3 +35,4 @@ pub mod Surroundings
 pub mod TypeIdentity
 pub mod TypeParts
 pub mod Types
+pub mod Writable

@@ -1,5 +1,10 @@
 -- What the run of a module asks of operators and of the world can be met, and no run of an accepted
 -- module is stuck.
+use Rattle.std.specs.Prelude.{◌≡◌, ℕ, List, Some, IsTrue}
+use Rattle.shader_runs.specs.Constants.{run_module}
+use Rattle.shader_runs.specs.Program.{Function, function_numbered}
+use Rattle.shader_runs.specs.Value.{Value, has_types}
+use Rattle.shader_runs.specs.World.{Event}
 use Rattle.naga_ir.specs.declared.module.Module.{Module}
 use Rattle.naga_info.specs.declared.info.ModuleInfo.{ModuleInfo}
 use Rattle.wgsl_text.specs.Declarations.{Program}
@@ -37,3 +42,16 @@ abbrev pub IsNeverStuck : Module → ModuleInfo → Program → Type 0
 IsNeverStuck m info program =
     OfEachRun m info program (λ module_run text_run.
     IsNotStuck module_run × (KeepsTypes module_run → IsNotStuck text_run))
+
+-- The same of the module's run alone, whatever is written for it: from all values of overrides and
+-- arguments of their types, under every typed meaning, in every world, with every bound on loop
+-- turns and behind any history.
+abbrev pub NoRunIsStuck : Module → ModuleInfo → Type 0
+NoRunIsStuck m info =
+    let shape = module_shape m info in
+    (settings : Settings) → SettingsFit shape settings →
+    (meaning : Meaning) → IsTyped shape meaning →
+    (g : ℕ) (f : Function) → function_numbered shape.functions g ≡ Some f →
+    (arguments : List Value) → IsTrue (has_types shape.parts f.argument_types arguments) →
+    (world : World) (turns : ℕ) (past : List Event) →
+    IsNotStuck (run_module shape settings world meaning turns g arguments past)

@@ -2,8 +2,8 @@
 -- and variables, and how pointers to parts of its types are spelled.
 --
 -- Throughout, m is a module, info what is known of it, d what it declares, c a constant, o an
--- override, g a variable or a group of expressions that stand together, p an entry point or a
--- function with what is known of it, or an expression with its type, r such a type, and s a selector.
+-- override, g a variable or a group of expressions that stand together, p an entry point, a function
+-- with what is known of it or an expression with its type, r such a type, and s a selector.
 use Rattle.std.specs.Prelude.{ℕ, Bool, true, false, ◌&&◌, List, [], ◌∷◌, ◌++◌, map, reverse}
 use Rattle.std.specs.Prelude.{if◌then◌else◌, unwrap_or, slice_get}
 use Rattle.std.specs.List.{filter, flat_map, zip}

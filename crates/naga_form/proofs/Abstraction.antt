@@ -1,11 +1,13 @@
 -- What is written of a function is read as the function's shape says: the abstraction of its form
 -- is the form of its shape.
+use Rattle.module_meaning.specs.Ranges.{local_in_range, is_below}
 use Rattle.std.proofs.Common.{◌≡◌, ℕ, suc, Bool, true, false, List, [], ◌∷◌, ◌++◌, length, refl}
 use Rattle.std.proofs.Common.{sym, ap, ◌∙◌, arith, zero, ◌+◌, pos, negsuc, map, Option, Some, None}
 use Rattle.std.proofs.Common.{add-one, add-zero, zero-add, ◌-◌}
 use Rattle.std.specs.Prelude.{codes, IsTrue, slice_get, unwrap_or}
 use Rattle.std.specs.Option.{option_map_or, option_map}
-use Rattle.std.proofs.lemmas.Bool.{ltb-true}
+use Rattle.std.proofs.lemmas.Bool.{and_parts, ltb-true}
+use Rattle.std.proofs.Common.{nat_lt}
 use Rattle.std.proofs.lemmas.List.{map-append}
 use Rattle.std.proofs.lemmas.Option.{slice_get-map}
 use Rattle.naga_ir.specs.declared.statement.SwitchValue.{SwitchValue}
@@ -20,11 +22,9 @@ use Rattle.naga_ir.specs.declared.module.LocalVariable.{LocalVariable}
 use Rattle.naga_ir.specs.declared.types.Type_.{Type_}
 use Rattle.naga_info.specs.declared.info.ExpressionInfo.{ExpressionInfo}
 use Rattle.std.specs.List.{list_all}
-use Rattle.module_meaning.specs.FitsSoFar.{local_fits, function_fits}
 use Rattle.module_meaning.specs.Part.{is_scalar_type}
 use Rattle.module_meaning.specs.Spelled.{word_at, local_pointer}
-use Rattle.module_meaning.proofs.FitsSoFar.{list_all_at, scalar_types_word_at, function_fits_locals}
-use Rattle.module_meaning.proofs.FitsSoFar.{local_fits_parts}
+use Rattle.module_meaning.proofs.FitsSoFar.{list_all_at, scalar_types_word_at}
 use Rattle.naga_names.specs.Keys.{NameMap}
 use Rattle.wgsl_text.specs.Token.{GreaterThan, mark}
 use Rattle.wgsl_text.specs.Types.{TypeSpecifier, Named, type_pieces}
@@ -238,11 +238,10 @@ module _ (names : NameMap) (types : List Type_) (g : ℕ) (f : ir_function.Funct
           let same : suc k + l ≡ k + (l + 1) = omega arith in
           at (suc k) ∙ ap (slice_get f.local_variables) same
 
--- the type of each local of a function that fits is spelled
-pub locals_spelled : (types : List Type_) (f : ir_function.Function) (es : List ExpressionInfo) → IsTrue (list_all is_scalar_type types) → function_fits types f es ≡ true → LocalsAreSpelled types f.local_variables
-locals_spelled types f es scalars fits l v at =
-    let fit = list_all_at (local_fits types es) f.local_variables l v (function_fits_locals types f es fits) at in
-    let parts = local_fits_parts types es v fit in
+-- the type of each local in range is spelled
+pub locals_spelled : (types : List Type_) (f : ir_function.Function) (count : ℕ) → IsTrue (list_all is_scalar_type types) → list_all (local_in_range (length types) count) f.local_variables ≡ true → LocalsAreSpelled types f.local_variables
+locals_spelled types f count scalars ranges l v at =
+    let parts = and_parts (nat_lt v.ty (length types)) (is_below count v.init) (list_all_at (local_in_range (length types) count) f.local_variables l v ranges at) in
     scalar_types_word_at types v.ty scalars (ltb-true v.ty (length types) parts.0)
 
 pub function_reads : (explicit : Bool) (names : NameMap) (types : List Type_) (g : ℕ) (f : ir_function.Function) (es : List ExpressionInfo) → LiteralsAreWritten f.expressions → LocalsAreSpelled types f.local_variables → function_read (function_form explicit names types g f es) ≡ form_function (function_naming names types g f es)

@@ -1,6 +1,8 @@
 -- What acceptance says of each function and entry point, in the order in which they are numbered in
 -- the program of shapes.
-use Rattle.module_meaning.specs.Names.{ItemsAreCounted}
+use Rattle.naga_ir.specs.Operands.{expression_operands}
+use Rattle.naga_ir.specs.declared.expression.Expression.{Expression}
+use Rattle.module_meaning.specs.Ranges.{expression_in_range, names_in_range, all_below}
 use Rattle.module_meaning.proofs.SideBySide.{paired_at, zip_at, zip_parts}
 use Rattle.std.proofs.Common.{◌≡◌, ℕ, zero, suc, ◌≤◌, ◌+◌, Bool, true, List, [], ◌∷◌, ◌++◌}
 use Rattle.std.proofs.Common.{refl, sym, ap, ◌∙◌, length, Some, slice_get, map, arith}
@@ -96,6 +98,30 @@ ranges_are m callees f ranges =
     (block_in_range callees (length f.expressions) f.body) three.1 in
     (four.0, four.1)
 
+-- so are its locals
+pub locals_are_in_range : (m : Module) (callees : ℕ) (f : Function) →
+    function_in_range m callees f ≡ true →
+    list_all (local_in_range (length m.types) (length f.expressions)) f.local_variables ≡ true
+locals_are_in_range m callees f ranges =
+    let one = and_parts (signature_fits (length m.types) f) _ ranges in
+    let two = and_parts (names_fit f) _ one.1 in
+    (and_parts (list_all (local_in_range (length m.types) (length f.expressions)) f.local_variables)
+    _ two.1).0
+
+-- so is what an expression names
+pub names_are_in_range : (m : Module) (callees : ℕ) (f : Function) →
+    function_in_range m callees f ≡ true → (h : ℕ) (e : Expression) →
+    slice_get f.expressions h ≡ Some e →
+    names_in_range m callees (length f.arguments.items) (length f.local_variables) e ≡ true
+names_are_in_range m callees f ranges h e at =
+    let test =
+    expression_in_range m callees (length f.arguments.items) (length f.local_variables) in
+    let from : 0 + h ≡ h = omega arith in
+    (and_parts (all_below h (expression_operands e))
+    (names_in_range m callees (length f.arguments.items) (length f.local_variables) e)
+    (sym (ap (λ n. test n e) from) ∙
+    placed_at test 0 f.expressions h e (ranges_are m callees f ranges).0 at)).1
+
 -- its expressions and its body are sound
 pub soundness_is : (m : Module) (f : Function) (es : List ExpressionInfo) →
     function_is_sound m f es ≡ true →
@@ -132,7 +158,7 @@ module _ (m : Module) (info : ModuleInfo) (accepted : IsTrue (is_accepted m info
   functions_paired : all_paired function_size_fits m.functions info.functions.items ≡ true
   functions_paired = (and_parts _ _ ranges_parts.0).0
 
-  functions_counted : length m.functions ≡ length info.functions.items
+  pub functions_counted : length m.functions ≡ length info.functions.items
   functions_counted =
       paired_length function_size_fits m.functions info.functions.items functions_paired
 
@@ -241,14 +267,14 @@ module _ (m : Module) (info : ModuleInfo) (accepted : IsTrue (is_accepted m info
             (zip_at m.functions info.functions.items g f known.0 here known.1),
       )
 
-  -- what is known of the expressions of each, where names and lengths are counted
-  pub group_at : ItemsAreCounted m → (k : ℕ) (f : Function) (es : List ExpressionInfo) →
+  -- what is known of the expressions of each
+  pub group_at : (k : ℕ) (f : Function) (es : List ExpressionInfo) →
       slice_get (functions_known m info) k ≡ Some (f, es) →
       IsSoundGroup m info (Some f) (function_group f es)
-  group_at counted k f es there = by (numbered k f es there)
+  group_at k f es there = by (numbered k f es there)
     where
       by : Numbered k f es → IsSoundGroup m info (Some f) (function_group f es)
-      by (AsFunction here known) = functions_are m info accepted counted k f es here known
+      by (AsFunction here known) = functions_are m info accepted k f es here known
       by (AsEntryPoint j p at here known same) =
           subst (λ f. IsSoundGroup m info (Some f) (function_group f es)) same
-          (entry_points_are m info accepted counted j p es here known)
+          (entry_points_are m info accepted j p es here known)

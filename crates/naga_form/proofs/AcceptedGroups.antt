@@ -1,6 +1,6 @@
 -- What acceptance says of the expressions that stand together in a function, in an entry point or in
 -- the module itself.
-use Rattle.module_meaning.specs.Names.{ItemsAreCounted}
+use Rattle.module_meaning.specs.Names.{NamesAreCounted}
 use Rattle.module_meaning.proofs.SideBySide.{in_groups, paired_at}
 use Rattle.std.proofs.Common.{◌≡◌, ℕ, zero, suc, ◌<◌, ◌+◌, Bool, true, false, List, [], ◌∷◌, refl, sym, ap, ◌∙◌, length, ◌&&◌}
 use Rattle.std.proofs.Common.{Option, Some, None, slice_get, map, arith, nat_lt, ◌^◌, ◌≤◌, eqb-true}
@@ -94,7 +94,7 @@ module _ (m : Module) (info : ModuleInfo) where
       let lt = slice_get_within g.expressions h e at in let size = is.size in
       element g.known h (omega (arith, lt, size))
 
-  module _ (accepted : IsTrue (is_accepted m info)) (counted : ItemsAreCounted m) where
+  module _ (accepted : IsTrue (is_accepted m info)) where
     accepted_parts : (module_ranges_fit m info ≡ true) × (module_is_sound m info ≡ true) × (module_operators_agree m info ≡ true)
     unfolding is_accepted
     accepted_parts = let one = and_parts _ _ accepted in let two = and_parts _ _ one.1 in (one.0, two.0, two.1)
@@ -117,9 +117,10 @@ module _ (m : Module) (info : ModuleInfo) where
         and_parts (length_within (length m.overrides) t.inner) (type_fits_32_bits t.inner)
         (list_all_at (λ t. numbers_in_range (length m.overrides) t.inner) m.types h t (and_parts _ _ types_range).1 at)
 
-    pub types_are_counted : TypesAreCounted m
-    types_are_counted = record {
-      names = counted.names;
+    -- the types, where names are counted
+    pub types_are_counted : NamesAreCounted m → TypesAreCounted m
+    types_are_counted counted = record {
+      names = counted;
       fits = ranges_parts.1;
       counted = λ h t at. inner_counted t.inner (numbers_at h t at).1;
       within = λ h t at. (numbers_at h t at).0;

@@ -1,7 +1,7 @@
 -- Expressions of an accepted module over operands of equal types: their operands are told alike,
 -- and where one key tells what they apply, or one type what they have, their values are of one
 -- type.
-use Rattle.module_meaning.specs.Names.{ItemsAreCounted}
+use Rattle.module_meaning.specs.Names.{NamesAreCounted}
 use Rattle.std.proofs.Common.{◌≡◌, ℕ, List, [], sym, ap, ◌∙◌}
 use Rattle.std.proofs.Common.{Some, slice_get, map}
 use Rattle.std.specs.Prelude.{IsTrue}
@@ -21,7 +21,7 @@ use Rattle.naga_form.proofs.AgreeingUses.{IsUse, AreKnown, value_at, uses_agree,
 use Rattle.naga_form.proofs.SameValues.{TypesAreCounted}
 use Rattle.naga_form.proofs.Signatures.{IsOfExpression}
 
-module _ (m : Module) (info : ModuleInfo) (accepted : IsTrue (is_accepted m info)) (counted : ItemsAreCounted m) where
+module _ (m : Module) (info : ModuleInfo) (accepted : IsTrue (is_accepted m info)) (counted : NamesAreCounted m) where
   abbrev pub are : TypesAreCounted m
   are = types_are_counted m info accepted counted
 
@@ -71,4 +71,4 @@ module _ (m : Module) (info : ModuleInfo) (accepted : IsTrue (is_accepted m info
 
       -- of one key, they are of one type
       pub by_key : (k l : List ℕ) → operator_key m.types a.group.known a.expression ≡ Some k → operator_key m.types b.group.known b.expression ≡ Some l → k ≡ l → x.result ≡ y.result
-      by_key k l one two e = by_identity (uses_agree m info (agree m info accepted counted) (use_of a k one) (use_of b l two) e same_operands)
+      by_key k l one two e = by_identity (uses_agree m info (agree m info accepted) (use_of a k one) (use_of b l two) e same_operands)

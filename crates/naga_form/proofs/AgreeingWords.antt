@@ -1,6 +1,6 @@
 -- Expressions of an accepted module that the runs call by one spelled word, over operands of equal
 -- types, are of one type: by the type whose value they are, or by the operator that they apply.
-use Rattle.module_meaning.specs.Names.{ItemsAreCounted}
+use Rattle.module_meaning.specs.Names.{NamesAreCounted}
 use Rattle.std.proofs.Common.{◌≡◌, ℕ, Bool, true, false, List, [], ◌∷◌, refl, sym, ap, ◌∙◌, subst}
 use Rattle.std.proofs.Common.{Option, Some, None, map, drop, if◌then◌else◌}
 use Rattle.std.specs.Prelude.{IsTrue, unwrap_or}
@@ -43,7 +43,7 @@ use Rattle.naga_form.proofs.SameValues.{IsFit, numbers_by_words}
 use Rattle.naga_form.proofs.Signatures.{IsCalled, by_operator, by_zero, by_index, by_part, by_letters, IsOfExpression, around_group, declared_for}
 use Rattle.naga_form.proofs.TypedWords.{no_blank, share_a_word}
 
-module _ (m : Module) (info : ModuleInfo) (accepted : IsTrue (is_accepted m info)) (counted : ItemsAreCounted m) where
+module _ (m : Module) (info : ModuleInfo) (accepted : IsTrue (is_accepted m info)) (counted : NamesAreCounted m) where
   -- how the runs call an expression: as a value of a type, from components or none; as an operator
   -- over operands; or as a part
   pub data Call (g : Group) (e : Expression) (w : Word) : Type 0 where
@@ -167,7 +167,7 @@ module _ (m : Module) (info : ModuleInfo) (accepted : IsTrue (is_accepted m info
           run_word o ≡ run_word p → x.result ≡ y.result
       both_applied o p k l ao ak af bo bk bf e =
           a.result
-          ∙ (results_agree m info (are m info accepted counted) (agree m info accepted counted)
+          ∙ (results_agree m info (are m info accepted counted) (agree m info accepted)
           (use_of m info accepted counted a k ak) (use_of m info accepted counted b l bk) (applies a k ak o ao af) (applies b l bk p bo bf) e
           (same_values m info accepted counted a b operands) ∙ sym b.result)
 

@@ -1,8 +1,11 @@
--- Pointers that are told by the same numbers have parts that are told by the same numbers.
+-- Pointers that are told by the same numbers, and have parts that an index names which is computed,
+-- have parts that are told by the same numbers.
 --
 -- A pointer that has a form is told by its space and by the form of what it points to, and this
--- tells the form of each part; a struct's form tells its handle. A pointer without a form is the
--- same by itself.
+-- tells the form of each part. A pointer without a form is the same by itself.
+--
+-- Of structs this does not hold: pointers to one are alike in storage spaces whose access has one
+-- word, and pointers to its member are not where this has no form.
 --
 -- Throughout, a and b are types that are told by the same numbers, and ia and ib are the types by
 -- themselves, at and to are spaces, and index names a part.
@@ -18,10 +21,7 @@ use Rattle.naga_ir.specs.declared.image.ImageDimension.{ImageDimension}
 use Rattle.naga_ir.specs.declared.module.Module.{Module}
 use Rattle.naga_ir.specs.declared.types.AddressSpace.{AddressSpace}
 use Rattle.naga_ir.specs.declared.types.AddressSpace.TheVariants as space
-use Rattle.naga_ir.specs.declared.types.ArraySize.TheVariants as size
 use Rattle.naga_ir.specs.declared.types.Scalar.{Scalar}
-use Rattle.naga_ir.specs.declared.types.ScalarKind.TheVariants as kind
-use Rattle.naga_ir.specs.declared.types.StructMember.{StructMember}
 use Rattle.naga_ir.specs.declared.types.TypeInner.{TypeInner}
 use Rattle.naga_ir.specs.declared.types.TypeInner.TheVariants as inner
 use Rattle.naga_ir.specs.declared.types.Type_.{Type_}
@@ -29,9 +29,9 @@ use Rattle.naga_ir.specs.declared.types.VectorSize.{VectorSize}
 use Rattle.naga_info.specs.Resolution.{inner_of}
 use Rattle.naga_info.specs.declared.info.TypeResolution.{TypeResolution}
 use Rattle.naga_info.specs.declared.info.TypeResolution.TheVariants.{Handle, Value}
-use Rattle.naga_names.specs.Reset.{members_of}
 use Rattle.wgsl_words.specs.Words.{scalar_word, space_word}
-use Rattle.module_meaning.specs.AlikeTypes.{are_alike, type_form, type_identity, handle_form, form_within, found_form_by, named_form_by, inner_form_by, has_form}
+use Rattle.naga_ir.specs.declared.types.ScalarKind.TheVariants as kind
+use Rattle.module_meaning.specs.AlikeTypes.{are_alike, type_form, type_identity, handle_form, form_within, found_form_by, named_form_by, inner_form_by}
 use Rattle.module_meaning.specs.AlikeTypes.{over_scalar, value_form, pointer_form, value_pointer_form, array_form, image_form, access_number}
 use Rattle.module_meaning.specs.InfoSizes.{is_handle_space, is_handle_pointer, is_struct, resolution_is_fit}
 use Rattle.module_meaning.specs.Ranges.{parts_before}
@@ -56,32 +56,16 @@ part_form number access y =
     if nat_eq (get_or y 0 0) 6 then Some (level 5 number access 0 0 0 ++ drop 6 y) else (
     if nat_eq (get_or y 0 0) 7 then Some (level 5 number access 0 0 0 ++ drop 6 y) else None)))
 
-module _ (m : Module) (are : TypesAreCounted m) where
+-- each type's parts stand before it
+abbrev pub PartsStand : Module → Type 0
+PartsStand m = (h : ℕ) (t : Type_) → slice_get m.types h ≡ Some t → parts_before h t.inner ≡ true
+
+module _ (m : Module) (are : TypesAreCounted m) (stand : PartsStand m) where
   -- both are missing, or both are there, fit and told by the same numbers
   abbrev pub PartsAlike : Option TypeResolution → Option TypeResolution → Type 0
   PartsAlike None None = Unit {0}
   PartsAlike (Some r) (Some s) = (type_identity m.types r ≡ type_identity m.types s) × IsFit m r × IsFit m s
   PartsAlike _ _ = ⊥
-
-  -- each type's parts stand before it
-  abbrev pub PartsStand : Type 0
-  PartsStand = (h : ℕ) (t : Type_) → slice_get m.types h ≡ Some t → parts_before h t.inner ≡ true
-
-  -- Where the member at the index of the struct that both point to has no form, they are of one
-  -- space: what has no form is told by all that may be done in storage, what has one by its word.
-  abbrev pub MembersTell : (ia ib : TypeInner) → (index : Option ℕ) → Type 0
-  MembersTell ia ib index =
-      (h : ℕ) (at to : AddressSpace) (t : Type_) (i : ℕ) (k : StructMember) → ia ≡ inner.Pointer h at → ib ≡ inner.Pointer h to →
-      slice_get m.types h ≡ Some t → index ≡ Some i → slice_get (members_of t.inner) i ≡ Some k →
-      space_number at ≡ space_number to → access_number at ≡ access_number to → has_form m.types (Handle k.ty) ≡ false → at ≡ to
-
-  -- each member of a struct has a form
-  abbrev pub AreMembersFormed : Type 0
-  AreMembersFormed = (h : ℕ) (t : Type_) (i : ℕ) (k : StructMember) → slice_get m.types h ≡ Some t → slice_get (members_of t.inner) i ≡ Some k → has_form m.types (Handle k.ty) ≡ true
-
-  -- both point to one type of the module
-  abbrev pub AreToOne : (ia ib : TypeInner) → Type 0
-  AreToOne ia ib = (h : ℕ) × (at : AddressSpace) × (to : AddressSpace) × (ia ≡ inner.Pointer h at) × (ib ≡ inner.Pointer h to)
 
   -- ---- what a form tells of parts
   abbrev PartIs : Option (List ℕ) → Option TypeResolution → Type 0
@@ -92,11 +76,8 @@ module _ (m : Module) (are : TypesAreCounted m) where
   -- what a pointer of this form points to: a type that is no struct, or one
   data Pointed (it : TypeInner) (form : List ℕ) : Type 0 where
     Plain : (number access : ℕ) (y : List ℕ) → form ≡ level 5 number access 0 0 0 ++ y → nat_eq (get_or y 0 0) 8 ≡ false →
-        ((index : Option ℕ) → is_some (part_type m.types it index) ≡ is_some (part_form number access y)) →
-        (PartsStand → (index : Option ℕ) → PartIs (part_form number access y) (part_type m.types it index)) → Pointed it form
-    Whole : (h : ℕ) (at : AddressSpace) (t : Type_) → form ≡ level 5 (space_number at) (access_number at) 0 0 0 ++ level 8 h 0 0 0 0 →
-        it ≡ inner.Pointer h at → slice_get m.types h ≡ Some t →
-        ((index : Option ℕ) → part_type m.types it index ≡ option_map (λ ty. Value (inner.Pointer ty at)) (member_type (members_of t.inner) index)) → Pointed it form
+        ((index : Option ℕ) → PartIs (part_form number access y) (part_type m.types it index)) → Pointed it form
+    Whole : (number access h : ℕ) → form ≡ level 5 number access 0 0 0 ++ level 8 h 0 0 0 0 → has_computed_parts m.types it ≡ false → Pointed it form
 
   -- ---- forms at any depth that suffices
   same_found : (f g : ℕ → Option (List ℕ)) (h : ℕ) → ((b : ℕ) → b < h → f b ≡ g b) → (o : Option Type_) → ((t : Type_) → o ≡ Some t → parts_before h t.inner ≡ true) → found_form_by f h o ≡ found_form_by g h o
@@ -109,16 +90,16 @@ module _ (m : Module) (are : TypesAreCounted m) where
       by (inner.BindingArray base n) lt = ap (array_form 7 n) (same base (ltb-true base h lt))
       by _ lt = refl
 
-  levels_agree : PartsStand → (n k h : ℕ) → h < n → h < k → form_within n m.types h ≡ form_within k m.types h
-  levels_agree stand zero k h p q = absurd (omega (arith, p))
-  levels_agree stand (suc n) zero h p q = absurd (omega (arith, q))
-  levels_agree stand (suc n) (suc k) h p q =
-      same_found (form_within n m.types) (form_within k m.types) h (λ b lt. levels_agree stand n k b (omega (arith, p, lt)) (omega (arith, q, lt)))
+  levels_agree : (n k h : ℕ) → h < n → h < k → form_within n m.types h ≡ form_within k m.types h
+  levels_agree zero k h p q = absurd (omega (arith, p))
+  levels_agree (suc n) zero h p q = absurd (omega (arith, q))
+  levels_agree (suc n) (suc k) h p q =
+      same_found (form_within n m.types) (form_within k m.types) h (λ b lt. levels_agree n k b (omega (arith, p, lt)) (omega (arith, q, lt)))
       (slice_get m.types h) (stand h)
 
-  at_depth : PartsStand → (n h : ℕ) → h < n → form_within n m.types h ≡ handle_form m.types h
+  at_depth : (n h : ℕ) → h < n → form_within n m.types h ≡ handle_form m.types h
   unfolding handle_form
-  at_depth stand n h lt = levels_agree stand n (suc h) h lt (omega arith)
+  at_depth n h lt = levels_agree n (suc h) h lt (omega arith)
 
   -- ---- pointers by their forms
   abbrev behind : AddressSpace → List ℕ → List ℕ
@@ -175,37 +156,33 @@ module _ (m : Module) (are : TypesAreCounted m) where
     parts_are it is index = ap (λ o. option_and_then (λ it. pointed_part at it index) (option_map (λ t. t.inner) o)) there ∙ ap (λ it. pointed_part at it index) is
 
     plain : (it : TypeInner) → t.inner ≡ it → (y : List ℕ) → nat_eq (get_or y 0 0) 8 ≡ false →
-        ((index : Option ℕ) → is_some (pointed_part at it index) ≡ is_some (part_form (space_number at) (access_number at) y)) →
-        (PartsStand → (index : Option ℕ) → PartIs (part_form (space_number at) (access_number at) y) (pointed_part at it index)) →
+        ((index : Option ℕ) → PartIs (part_form (space_number at) (access_number at) y) (pointed_part at it index)) →
         (form : Option (List ℕ)) → form ≡ Some y → (x : List ℕ) → form ≡ Some x → Pointed (inner.Pointer base at) (behind at x)
-    plain it is y other some parts form f x g =
+    plain it is y other parts form f x g =
         Plain (space_number at) (access_number at) y (ap (behind at) (same_Some x y (sym g ∙ f))) other
-        (λ index. ap is_some (parts_are it is index) ∙ some index)
-        (λ stand index. subst (PartIs (part_form (space_number at) (access_number at) y)) (sym (parts_are it is index)) (parts stand index))
+        (λ index. subst (PartIs (part_form (space_number at) (access_number at) y)) (sym (parts_are it is index)) (parts index))
 
     partless : (it : TypeInner) → t.inner ≡ it → ((index : Option ℕ) → pointed_part at it index ≡ None) →
         (form : Option (List ℕ)) → OfNoParts form → (x : List ℕ) → form ≡ Some x → Pointed (inner.Pointer base at) (behind at x)
     partless it is none None lacks x g = absurd cc
     partless it is none (Some y) lacks x g =
         plain it is y lacks.0
-        (λ index. ap is_some (none index) ∙ sym (ap is_some (lacks.1 (space_number at) (access_number at))))
-        (λ stand index. subst (λ o. PartIs o (pointed_part at it index)) (sym (lacks.1 (space_number at) (access_number at))) (subst (PartIs None) (sym (none index)) tt))
+        (λ index. subst (λ o. PartIs o (pointed_part at it index)) (sym (lacks.1 (space_number at) (access_number at))) (subst (PartIs None) (sym (none index)) tt))
         (Some y) refl x g
 
-    module _ (n : ℕ) (deep : PartsStand → base ≤ n) where
+    module _ (n : ℕ) (deep : base ≤ n) where
       -- an array's elements
       elements : (it : TypeInner) → t.inner ≡ it → (element : ℕ) (size : List ℕ → List ℕ) →
           ((z : List ℕ) → nat_eq (get_or (size z) 0 0) 8 ≡ false) →
           ((z : List ℕ) → part_form (space_number at) (access_number at) (size z) ≡ Some (behind at z)) →
           ((index : Option ℕ) → pointed_part at it index ≡ Some (Value (inner.Pointer element at))) →
-          (PartsStand → element < base) →
+          element < base →
           (o : Option (List ℕ)) → form_within n m.types element ≡ o → (x : List ℕ) → option_map size o ≡ Some x → Pointed (inner.Pointer base at) (behind at x)
       elements it is element size other form parts before None f x g = absurd cc
       elements it is element size other form parts before (Some z) f x g =
           plain it is (size z) (other z)
-          (λ index. ap is_some (parts index) ∙ sym (ap is_some (form z)))
-          (λ stand index. subst (λ o. PartIs o (pointed_part at it index)) (sym (form z)) (subst (PartIs (Some (behind at z))) (sym (parts index))
-          (ap (pointer_form at) (sym (at_depth stand n element (depth (before stand) (deep stand))) ∙ f))))
+          (λ index. subst (λ o. PartIs o (pointed_part at it index)) (sym (form z)) (subst (PartIs (Some (behind at z))) (sym (parts index))
+          (ap (pointer_form at) (sym (at_depth n element (depth before deep)) ∙ f))))
           (Some (size z)) refl x g
         where
           depth : element < base → base ≤ n → element < n
@@ -218,15 +195,15 @@ module _ (m : Module) (are : TypesAreCounted m) where
           by : (b : Bool) → is_some (scalar_word s) ≡ b → (if b then Some (level 1 (kind_number s.kind) s.width (vector_number k) 0 0) else None) ≡ Some x → Pointed (inner.Pointer base at) (behind at x)
           by false word g = absurd cc
           by true word g =
-              plain (inner.Vector k s) is (level 1 (kind_number s.kind) s.width (vector_number k) 0 0) refl (λ index. refl)
-              (λ stand index. value_pointer at named (over_scalar 0 s 0 0 0) _ (scalar_is 0 s 0 0 0 word)) _ refl x g
+              plain (inner.Vector k s) is (level 1 (kind_number s.kind) s.width (vector_number k) 0 0) refl
+              (λ index. value_pointer at named (over_scalar 0 s 0 0 0) _ (scalar_is 0 s 0 0 0 word)) _ refl x g
       pointee (inner.Matrix columns rows s) is x g = by (is_some (scalar_word s)) refl g
         where
           by : (b : Bool) → is_some (scalar_word s) ≡ b → (if b then Some (level 2 (kind_number s.kind) s.width (vector_number columns) (vector_number rows) 0) else None) ≡ Some x → Pointed (inner.Pointer base at) (behind at x)
           by false word g = absurd cc
           by true word g =
-              plain (inner.Matrix columns rows s) is (level 2 (kind_number s.kind) s.width (vector_number columns) (vector_number rows) 0) refl (λ index. refl)
-              (λ stand index. value_pointer at named (over_scalar 1 s (vector_number rows) 0 0) _ (scalar_is 1 s (vector_number rows) 0 0 word)) _ refl x g
+              plain (inner.Matrix columns rows s) is (level 2 (kind_number s.kind) s.width (vector_number columns) (vector_number rows) 0) refl
+              (λ index. value_pointer at named (over_scalar 1 s (vector_number rows) 0 0) _ (scalar_is 1 s (vector_number rows) 0 0 word)) _ refl x g
       pointee (inner.CooperativeMatrix columns rows s role) is x g =
           partless (inner.CooperativeMatrix columns rows s role) is (λ index. refl) _ (over_no_parts 3 s _ _ _ (refl, λ number access. refl)) x g
       pointee (inner.Atomic s) is x g = partless (inner.Atomic s) is (λ index. refl) _ (over_no_parts 4 s 0 0 0 (refl, λ number access. refl)) x g
@@ -234,20 +211,19 @@ module _ (m : Module) (are : TypesAreCounted m) where
       pointee (inner.ValuePointer k s to) is x g = partless (inner.ValuePointer k s to) is (λ index. refl) _ (value_pointer_no_parts to (value_form k s)) x g
       pointee (inner.Array element size stride) is x g =
           elements (inner.Array element size stride) is element _ (λ z. refl) (λ z. refl) (λ index. refl)
-          (λ stand. ltb-true element base (sym (ap (parts_before base) is) ∙ stand base t there)) (form_within n m.types element) refl x g
+          (ltb-true element base (sym (ap (parts_before base) is) ∙ stand base t there)) (form_within n m.types element) refl x g
       pointee (inner.BindingArray element size) is x g =
           elements (inner.BindingArray element size) is element _ (λ z. refl) (λ z. refl) (λ index. refl)
-          (λ stand. ltb-true element base (sym (ap (parts_before base) is) ∙ stand base t there)) (form_within n m.types element) refl x g
+          (ltb-true element base (sym (ap (parts_before base) is) ∙ stand base t there)) (form_within n m.types element) refl x g
       pointee (inner.Struct members span) is x g =
-          Whole base at t (ap (behind at) (sym (same_Some _ x g))) refl there
-          (λ index. parts_are (inner.Struct members span) is index ∙ ap (λ it. option_map (λ ty. Value (inner.Pointer ty at)) (member_type (members_of it) index)) (sym is))
+          Whole (space_number at) (access_number at) base (ap (behind at) (sym (same_Some _ x g))) (ap is_some (parts_are (inner.Struct members span) is None))
       pointee (inner.Image dim arrayed c) is x g = partless (inner.Image dim arrayed c) is (λ index. refl) _ (image_no_parts dim arrayed c) x g
       pointee (inner.Sampler comparison) is x g = partless (inner.Sampler comparison) is (λ index. refl) _ (refl, λ number access. refl) x g
       pointee (inner.AccelerationStructure vertex_return) is x g = partless (inner.AccelerationStructure vertex_return) is (λ index. refl) _ (refl, λ number access. refl) x g
       pointee (inner.RayQuery vertex_return) is x g = partless (inner.RayQuery vertex_return) is (λ index. refl) _ (refl, λ number access. refl) x g
 
   -- what is pointed to stands in the module where it has a form
-  pointed_module : (base : ℕ) (at : AddressSpace) → is_handle_space at ≡ false → (n : ℕ) → (PartsStand → base ≤ n) → (o : Option (List ℕ)) → form_within (suc n) m.types base ≡ o → (x : List ℕ) → pointer_form at o ≡ Some x → Pointed (inner.Pointer base at) x
+  pointed_module : (base : ℕ) (at : AddressSpace) → is_handle_space at ≡ false → (n : ℕ) → base ≤ n → (o : Option (List ℕ)) → form_within (suc n) m.types base ≡ o → (x : List ℕ) → pointer_form at o ≡ Some x → Pointed (inner.Pointer base at) x
   pointed_module base at free n deep None f x g = absurd cc
   pointed_module base at free n deep (Some y) f x g =
       subst (Pointed (inner.Pointer base at)) (same_Some _ x g) (by (slice_get m.types base) refl f)
@@ -262,10 +238,10 @@ module _ (m : Module) (are : TypesAreCounted m) where
       behind_word : (size : Option VectorSize) → is_none (space_word at) ≡ false → (b : Bool) → is_some (scalar_word s) ≡ b → (x : List ℕ) → pointer_form at (value_form size s) ≡ Some x → Pointed (inner.ValuePointer size s at) x
       behind_word None named true word x g =
           Plain (space_number at) (access_number at) (level 0 (kind_number s.kind) s.width 0 0 0) (same_Some x _ (sym g ∙ ap (pointer_form at) (scalar_is 0 s 0 0 0 word))) refl
-          (λ index. refl) (λ stand index. tt)
+          (λ index. tt)
       behind_word (Some k) named true word x g =
           Plain (space_number at) (access_number at) (level 1 (kind_number s.kind) s.width (vector_number k) 0 0) (same_Some x _ (sym g ∙ ap (pointer_form at) (scalar_is 1 s (vector_number k) 0 0 word))) refl
-          (λ index. refl) (λ stand index. value_pointer at named (over_scalar 0 s 0 0 0) _ (scalar_is 0 s 0 0 0 word))
+          (λ index. value_pointer at named (over_scalar 0 s 0 0 0) _ (scalar_is 0 s 0 0 0 word))
       behind_word None named false word x g =
           let none : None ≡ Some x = sym (ap (λ b. pointer_form at (if b then Some (level 0 (kind_number s.kind) s.width 0 0 0) else None)) word) ∙ g in absurd cc
       behind_word (Some k) named false word x g =
@@ -299,7 +275,7 @@ module _ (m : Module) (are : TypesAreCounted m) where
   pointed (Value it) other free at pointer x form = by other free pointer (ap (λ it. inner_form_by (handle_form m.types) it) (sym (same_Some it other at)) ∙ form)
     where
       by : (it : TypeInner) → IsFree it → is_pointer it ≡ true → inner_form_by (handle_form m.types) it ≡ Some x → Pointed it x
-      by (inner.Pointer base at) free pointer form = pointed_module base at free base (λ stand. omega arith) (form_within (suc base) m.types base) refl x form
+      by (inner.Pointer base at) free pointer form = pointed_module base at free base (omega arith) (form_within (suc base) m.types base) refl x form
       by (inner.ValuePointer n s at) free pointer form = pointed_value n s at x form
       by _ free pointer form = absurd (true≢false (sym pointer))
   pointed (Handle h) it free at pointer x form = by h (slice_get m.types h) refl at form
@@ -307,7 +283,7 @@ module _ (m : Module) (are : TypesAreCounted m) where
       of_handle : (h : ℕ) (t : Type_) → slice_get m.types h ≡ Some t → (it : TypeInner) → t.inner ≡ it → IsFree it → is_pointer it ≡ true → named_form_by (form_within h m.types) h it ≡ Some x → Pointed it x
       of_handle zero t there (inner.Pointer base at) is free pointer form = absurd cc
       of_handle (suc n) t there (inner.Pointer base at) is free pointer form =
-          pointed_module base at free n (λ stand. depth (ltb-true base (suc n) (sym (ap (parts_before (suc n)) is) ∙ stand (suc n) t there)))
+          pointed_module base at free n (depth (ltb-true base (suc n) (sym (ap (parts_before (suc n)) is) ∙ stand (suc n) t there)))
           (form_within (suc n) m.types base) refl x form
         where
           depth : base < suc n → base ≤ n
@@ -405,37 +381,11 @@ module _ (m : Module) (are : TypesAreCounted m) where
   not_whole : {A : Type 0} (y : List ℕ) (h : ℕ) → nat_eq (get_or y 0 0) 8 ≡ false → y ≡ level 8 h 0 0 0 0 → A
   not_whole y h other is = absurd (true≢false (sym (ap (λ y. nat_eq (get_or y 0 0) 8) is) ∙ other))
 
-  -- ---- members of a struct
-  abbrev member_pointer : AddressSpace → Option ℕ → Option TypeResolution
-  member_pointer at o = option_map (λ ty. Value (inner.Pointer ty at)) o
-
-  -- pointers to one type in spaces of one word are told by the same numbers where it has a form
-  pointers_told : (ty : ℕ) (at to : AddressSpace) → space_number at ≡ space_number to → access_number at ≡ access_number to →
-      (has_form m.types (Handle ty) ≡ false → at ≡ to) → type_identity m.types (Value (inner.Pointer ty at)) ≡ type_identity m.types (Value (inner.Pointer ty to))
-  pointers_told ty at to numbers accesses tell = by (handle_form m.types ty) refl
-    where
-      by : (o : Option (List ℕ)) → handle_form m.types ty ≡ o → type_identity m.types (Value (inner.Pointer ty at)) ≡ type_identity m.types (Value (inner.Pointer ty to))
-      by None is = ap (λ s. type_identity m.types (Value (inner.Pointer ty s))) (tell (ap is_some is))
-      by (Some z) is =
-          ap (λ o. unwrap_or (pointer_form at o) (word_of_unspelled_type (identity m.types (Value (inner.Pointer ty at))))) is
-          ∙ ((λ i. level 5 (numbers i) (accesses i) 0 0 0 ++ z)
-          ∙ sym (ap (λ o. unwrap_or (pointer_form to o) (word_of_unspelled_type (identity m.types (Value (inner.Pointer ty to))))) is))
-
-  members_alike : (members : List StructMember) (at to : AddressSpace) → is_handle_space at ≡ false → is_handle_space to ≡ false → space_number at ≡ space_number to → access_number at ≡ access_number to →
-      (index : Option ℕ) → ((i : ℕ) (k : StructMember) → index ≡ Some i → slice_get members i ≡ Some k → has_form m.types (Handle k.ty) ≡ false → at ≡ to) →
-      PartsAlike (member_pointer at (member_type members index)) (member_pointer to (member_type members index))
-  members_alike members at to free loose numbers accesses None tell = tt
-  members_alike members at to free loose numbers accesses (Some n) tell = by (slice_get members n) refl
-    where
-      by : (o : Option StructMember) → slice_get members n ≡ o → PartsAlike (member_pointer at (option_map (λ member. member.ty) o)) (member_pointer to (option_map (λ member. member.ty) o))
-      by None there = tt
-      by (Some k) there = (pointers_told k.ty at to numbers accesses (tell n k refl there), pointer_fits k.ty at free, pointer_fits k.ty to loose)
-
-  -- ---- promises
-  pub alike_parts : PartsStand → (a b : TypeResolution) → IsFit m a → IsFit m b → type_identity m.types a ≡ type_identity m.types b →
+  -- ---- promise
+  pub alike_computed_parts : (a b : TypeResolution) → IsFit m a → IsFit m b → type_identity m.types a ≡ type_identity m.types b →
       (ia ib : TypeInner) → inner_of a m.types ≡ Some ia → inner_of b m.types ≡ Some ib → is_pointer ia ≡ true → is_pointer ib ≡ true →
-      (index : Option ℕ) → MembersTell ia ib index → PartsAlike (part_type m.types ia index) (part_type m.types ib index)
-  alike_parts stand a b p q e ia ib at bt first second index tell = by (alike a b p q e)
+      has_computed_parts m.types ia ≡ true → (index : Option ℕ) → PartsAlike (part_type m.types ia index) (part_type m.types ib index)
+  alike_computed_parts a b p q e ia ib at bt first second computed index = by (alike a b p q e)
     where
       free : IsFree ia
       free = is_free a ia p at
@@ -443,31 +393,14 @@ module _ (m : Module) (are : TypesAreCounted m) where
       loose : IsFree ib
       loose = is_free b ib q bt
 
-      wholes : (h g : ℕ) (s u : AddressSpace) (t v : Type_) → level 8 h 0 0 0 0 ≡ level 8 g 0 0 0 0 → space_number s ≡ space_number u → access_number s ≡ access_number u →
-          ia ≡ inner.Pointer h s → ib ≡ inner.Pointer g u → slice_get m.types h ≡ Some t → slice_get m.types g ≡ Some v →
-          PartsAlike (member_pointer s (member_type (members_of t.inner) index)) (member_pointer u (member_type (members_of v.inner) index))
-      wholes h g s u t v forms numbers accesses is other there found =
-          let handles : h ≡ g = ap (λ x. get_or x 1 0) forms in
-          let types : t ≡ v = same_Some t v (sym there ∙ (ap (slice_get m.types) handles ∙ found)) in
-          subst (λ w. PartsAlike (member_pointer s (member_type (members_of t.inner) index)) (member_pointer u (member_type (members_of w.inner) index))) types
-          (members_alike (members_of t.inner) s u (subst IsFree is free) (subst IsFree other loose) numbers accesses
-          index (λ i k named member. tell h s u t i k is (other ∙ ap (λ h. inner.Pointer h u) (sym handles)) there named member numbers accesses))
-
       both : (x : List ℕ) → Pointed ia x → Pointed ib x → PartsAlike (part_type m.types ia index) (part_type m.types ib index)
-      both x (Plain n k y f other some parts) (Plain l j z g another more others) =
+      both x (Plain n k y f other parts) (Plain l j z g another others) =
           let one = one_level n k y l j z x f g in
-          parts_of_form (part_form n k y) (part_type m.types ia index) (part_type m.types ib index) (parts stand index)
-          (subst (λ o. PartIs o (part_type m.types ib index)) (sym (λ i. part_form (one.numbers i) (one.accesses i) (one.behinds i))) (others stand index))
+          parts_of_form (part_form n k y) (part_type m.types ia index) (part_type m.types ib index) (parts index)
+          (subst (λ o. PartIs o (part_type m.types ib index)) (sym (λ i. part_form (one.numbers i) (one.accesses i) (one.behinds i))) (others index))
           (part_fits ia free first index) (part_fits ib loose second index)
-      both x (Plain n k y f other some parts) (Whole h s t g is there parts_of) =
-          not_whole y h other (one_level n k y (space_number s) (access_number s) (level 8 h 0 0 0 0) x f g).behinds
-      both x (Whole h s t f is there parts_of) (Plain n k y g other some parts) =
-          not_whole y h other (sym (one_level (space_number s) (access_number s) (level 8 h 0 0 0 0) n k y x f g).behinds)
-      both x (Whole h s t f is there parts_of) (Whole g u v k other found others_of) =
-          let one = one_level (space_number s) (access_number s) (level 8 h 0 0 0 0) (space_number u) (access_number u) (level 8 g 0 0 0 0) x f k in
-          subst (λ o. PartsAlike o (part_type m.types ib index)) (sym (parts_of index))
-          (subst (PartsAlike (member_pointer s (member_type (members_of t.inner) index))) (sym (others_of index))
-          (wholes h g s u t v one.behinds one.numbers one.accesses is other there found))
+      both x (Plain n k y f other parts) (Whole l j h g none) = not_whole y h other (one_level n k y l j (level 8 h 0 0 0 0) x f g).behinds
+      both x (Whole n k h f none) two = absurd (true≢false (sym computed ∙ none))
 
       by : Alike a b → PartsAlike (part_type m.types ia index) (part_type m.types ib index)
       by (OneForm x f g) = both x (pointed a ia free at first x f) (pointed b ib loose bt second x g)
@@ -475,113 +408,7 @@ module _ (m : Module) (are : TypesAreCounted m) where
           subst (λ it. PartsAlike (part_type m.types ia index) (part_type m.types it index)) (same_Some ia ib (sym at ∙ (same ∙ bt)))
           (parts_of_one (part_type m.types ia index) (part_fits ia free first index))
 
-  pub alike_computed : (a b : TypeResolution) → IsFit m a → IsFit m b → type_identity m.types a ≡ type_identity m.types b →
-      (ia ib : TypeInner) → inner_of a m.types ≡ Some ia → inner_of b m.types ≡ Some ib → is_pointer ia ≡ true → is_pointer ib ≡ true →
-      has_computed_parts m.types ia ≡ has_computed_parts m.types ib
-  alike_computed a b p q e ia ib at bt first second = by (alike a b p q e)
-    where
-      both : (x : List ℕ) → Pointed ia x → Pointed ib x → has_computed_parts m.types ia ≡ has_computed_parts m.types ib
-      both x (Plain n k y f other some parts) (Plain l j z g another more others) =
-          let one = one_level n k y l j z x f g in
-          some None ∙ ((λ i. is_some (part_form (one.numbers i) (one.accesses i) (one.behinds i))) ∙ sym (more None))
-      both x (Plain n k y f other some parts) (Whole h s t g is there parts_of) =
-          not_whole y h other (one_level n k y (space_number s) (access_number s) (level 8 h 0 0 0 0) x f g).behinds
-      both x (Whole h s t f is there parts_of) (Plain n k y g other some parts) =
-          not_whole y h other (sym (one_level (space_number s) (access_number s) (level 8 h 0 0 0 0) n k y x f g).behinds)
-      both x (Whole h s t f is there parts_of) (Whole g u v k other found others_of) = ap is_some (parts_of None) ∙ sym (ap is_some (others_of None))
-
-      by : Alike a b → has_computed_parts m.types ia ≡ has_computed_parts m.types ib
-      by (OneForm x f g) = both x (pointed a ia (is_free a ia p at) at first x f) (pointed b ib (is_free b ib q bt) bt second x g)
-      by (Itselves same) = ap (has_computed_parts m.types) (same_Some ia ib (sym at ∙ (same ∙ bt)))
-
-  pub alike_structs : (a b : TypeResolution) → IsFit m a → IsFit m b → type_identity m.types a ≡ type_identity m.types b →
-      (ia ib : TypeInner) → inner_of a m.types ≡ Some ia → inner_of b m.types ≡ Some ib → is_pointer ia ≡ true → is_pointer ib ≡ true →
-      has_computed_parts m.types ia ≡ false → (n : ℕ) (r : TypeResolution) → part_type m.types ia (Some n) ≡ Some r →
-      AreToOne ia ib
-  alike_structs a b p q e ia ib at bt first second whole n r part = by (alike a b p q e)
-    where
-      -- what has a part by a number and none by a computed one is a pointer to a type of the module
-      pointer_to : (it : TypeInner) → is_pointer it ≡ true → has_computed_parts m.types it ≡ false → part_type m.types it (Some n) ≡ Some r → (h : ℕ) × (s : AddressSpace) × (it ≡ inner.Pointer h s)
-      pointer_to (inner.Pointer h s) pointer whole part = (h, s, refl)
-      pointer_to (inner.ValuePointer None s u) pointer whole part = absurd cc
-      pointer_to (inner.ValuePointer (Some k) s u) pointer whole part = absurd (true≢false whole)
-      pointer_to _ pointer whole part = absurd (true≢false (sym pointer))
-
-      plain : {A : Type 0} (o : Option (List ℕ)) → is_some (part_type m.types ia None) ≡ is_some o → is_some (part_type m.types ia (Some n)) ≡ is_some o → A
-      plain o computed known = absurd (true≢false (sym (ap is_some part) ∙ (known ∙ (sym computed ∙ whole))))
-
-      both : (x : List ℕ) → Pointed ia x → Pointed ib x → AreToOne ia ib
-      both x (Plain l k y f other some parts) two = plain (part_form l k y) (some None) (some (Some n))
-      both x (Whole h s t f is there parts_of) (Plain l k y g other some parts) =
-          not_whole y h other (sym (one_level (space_number s) (access_number s) (level 8 h 0 0 0 0) l k y x f g).behinds)
-      both x (Whole h s t f is there parts_of) (Whole g u v k other found others_of) =
-          let one = one_level (space_number s) (access_number s) (level 8 h 0 0 0 0) (space_number u) (access_number u) (level 8 g 0 0 0 0) x f k in
-          (h, s, u, is, other ∙ ap (λ h. inner.Pointer h u) (sym (ap (λ x. get_or x 1 0) one.behinds)))
-
-      by : Alike a b → AreToOne ia ib
-      by (OneForm x f g) = both x (pointed a ia (is_free a ia p at) at first x f) (pointed b ib (is_free b ib q bt) bt second x g)
-      by (Itselves same) =
-          let one = pointer_to ia first whole part in
-          (one.0, one.1, one.1, one.2, sym (same_Some ia ib (sym at ∙ (same ∙ bt))) ∙ one.2)
-
-  -- and this is a struct
-  pub is_whole : (h : ℕ) (at : AddressSpace) → has_computed_parts m.types (inner.Pointer h at) ≡ false → (n : ℕ) (r : TypeResolution) → part_type m.types (inner.Pointer h at) (Some n) ≡ Some r →
-      (t : Type_) × (slice_get m.types h ≡ Some t) × (is_struct t.inner ≡ true)
-  is_whole h at whole n r part = by (slice_get m.types h) refl whole part
-    where
-      struct : (it : TypeInner) → is_some (pointed_part at it None) ≡ false → pointed_part at it (Some n) ≡ Some r → is_struct it ≡ true
-      struct (inner.Struct members span) whole part = refl
-      struct (inner.Vector k s) whole part = absurd (true≢false whole)
-      struct (inner.Matrix columns rows s) whole part = absurd (true≢false whole)
-      struct (inner.Array base count stride) whole part = absurd (true≢false whole)
-      struct (inner.BindingArray base count) whole part = absurd (true≢false whole)
-      struct _ whole part = absurd cc
-
-      by : (o : Option Type_) → slice_get m.types h ≡ o → is_some (option_and_then (λ it. pointed_part at it None) (option_map (λ t. t.inner) o)) ≡ false →
-          option_and_then (λ it. pointed_part at it (Some n)) (option_map (λ t. t.inner) o) ≡ Some r → (t : Type_) × (slice_get m.types h ≡ Some t) × (is_struct t.inner ≡ true)
-      by None there whole part = absurd cc
-      by (Some t) there whole part = (t, there, struct t.inner whole part)
-
-  -- ---- where members tell
-  -- by a computed index there is no member
-  pub computed_tells : (ia ib : TypeInner) → MembersTell ia ib None
-  computed_tells ia ib h at to t i k is other there named member numbers accesses formless = absurd cc
-
-  -- what has parts by a computed index is no struct
-  pub others_tell : (ia ib : TypeInner) → has_computed_parts m.types ia ≡ true → (index : Option ℕ) → MembersTell ia ib index
-  others_tell ia ib computed index h at to t i k is other there named member numbers accesses formless =
-      by t.inner member (sym (ap (λ o. is_some (option_and_then (λ it. pointed_part at it None) (option_map (λ t. t.inner) o))) there) ∙ (sym (ap (has_computed_parts m.types) is) ∙ computed))
-    where
-      by : (it : TypeInner) → slice_get (members_of it) i ≡ Some k → is_some (pointed_part at it None) ≡ true → at ≡ to
-      by (inner.Struct members span) member computed = absurd (true≢false (sym computed))
-      by _ member computed = absurd cc
-
-  pub forms_tell : (ia ib : TypeInner) → AreMembersFormed → (index : Option ℕ) → MembersTell ia ib index
-  forms_tell ia ib formed index h at to t i k is other there named member numbers accesses formless =
-      absurd (true≢false (sym (formed h t i k there member) ∙ formless))
-
-  -- pointers into spaces of one word are into one space
-  pub spaces_tell : (ia ib : TypeInner) →
-      ((h : ℕ) (at to : AddressSpace) → ia ≡ inner.Pointer h at → ib ≡ inner.Pointer h to → space_number at ≡ space_number to → access_number at ≡ access_number to → at ≡ to) →
-      (index : Option ℕ) → MembersTell ia ib index
-  spaces_tell ia ib one index h at to t i k is other there named member numbers accesses formless = one h at to is other numbers accesses
-
-  -- ---- alike parts where nothing else is asked
-  -- of a type that has parts by a computed index
-  pub alike_computed_parts : PartsStand → (a b : TypeResolution) → IsFit m a → IsFit m b → type_identity m.types a ≡ type_identity m.types b →
-      (ia ib : TypeInner) → inner_of a m.types ≡ Some ia → inner_of b m.types ≡ Some ib → is_pointer ia ≡ true → is_pointer ib ≡ true →
-      has_computed_parts m.types ia ≡ true → (index : Option ℕ) → PartsAlike (part_type m.types ia index) (part_type m.types ib index)
-  alike_computed_parts stand a b p q e ia ib at bt first second computed index =
-      alike_parts stand a b p q e ia ib at bt first second index (others_tell ia ib computed index)
-
-  -- where each member of a struct has a form
-  pub alike_formed_parts : PartsStand → AreMembersFormed → (a b : TypeResolution) → IsFit m a → IsFit m b → type_identity m.types a ≡ type_identity m.types b →
-      (ia ib : TypeInner) → inner_of a m.types ≡ Some ia → inner_of b m.types ≡ Some ib → is_pointer ia ≡ true → is_pointer ib ≡ true →
-      (index : Option ℕ) → PartsAlike (part_type m.types ia index) (part_type m.types ib index)
-  alike_formed_parts stand formed a b p q e ia ib at bt first second index =
-      alike_parts stand a b p q e ia ib at bt first second index (forms_tell ia ib formed index)
-
--- ---- why both are asked
+-- ---- why no struct
 abbrev storage : (bits : ℕ) → AddressSpace
 storage bits = space.Storage (record { 0 = bits })
 
@@ -598,23 +425,3 @@ structs_alike t e = rw e refl
 members_apart : (t : Type_) → are_alike (with_struct t) (Value (inner.Pointer 0 (storage 0))) (Value (inner.Pointer 0 (storage 1))) ≡ false
 unfolding handle_form
 members_apart t = refl
-
-abbrev typed : TypeInner → Type_
-typed it = record { name = None; inner = it }
-
-abbrev array : (base : ℕ) → Type_
-array base = typed (inner.Array base size.Dynamic 4)
-
--- types of which the first is made of one that stands behind it
-abbrev unordered : List Type_
-unordered =
-    array 1 ∷ typed (inner.Scalar (record { kind = kind.Float; width = 4 })) ∷ array 0 ∷ typed (inner.Pointer 2 space.Function) ∷
-    array 1 ∷ array 4 ∷ typed (inner.Pointer 5 space.Function) ∷ []
-
-arrays_alike : are_alike unordered (Handle 3) (Handle 6) ≡ true
-unfolding handle_form
-arrays_alike = refl
-
-elements_apart : are_alike unordered (Value (inner.Pointer 0 space.Function)) (Value (inner.Pointer 4 space.Function)) ≡ false
-unfolding handle_form
-elements_apart = refl

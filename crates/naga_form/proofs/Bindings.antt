@@ -12,7 +12,8 @@ use Rattle.naga_ir.specs.declared.module.Module.{Module}
 use Rattle.naga_ir.specs.declared.types.Type_.{Type_}
 use Rattle.naga_info.specs.declared.info.ExpressionInfo.{ExpressionInfo}
 use Rattle.naga_info.specs.declared.info.ModuleInfo.{ModuleInfo}
-use Rattle.module_meaning.specs.FitsSoFar.{fits_so_far}
+use Rattle.module_meaning.specs.Accepted.{is_accepted}
+use Rattle.module_meaning.specs.Part.{is_written_so_far}
 use Rattle.naga_names.specs.Keys.{NameMap}
 use Rattle.naga_words.specs.Contexts.{names_of, Names as TypeNames}
 use Rattle.shader_runs.specs.Program.{binds, from}
@@ -143,8 +144,8 @@ functions_tell explicit names types g (f ∷ fs) (es ∷ ess) =
     ∙ (λ i. map (λ b. told_spells explicit t es b.handle i) (function_bindings n)) in
     λ i. line i ∷ functions_tell explicit names types (g + 1) fs ess i
 
-pub binds_as : (m : Module) (info : ModuleInfo) (explicit : Bool) → IsTrue (fits_so_far m info) → BindsAs m info explicit (written_program m info explicit)
-binds_as m info explicit accepted =
-    let names = ap text_lets (program_reads m info explicit accepted) ∙ binds_as_meant (program_shape m info) (outer_names (module_names m)) (namings (module_names m) m info) in
+pub binds_as : (m : Module) (info : ModuleInfo) (explicit : Bool) → IsTrue (is_accepted m info) → IsTrue (is_written_so_far m info) → BindsAs m info explicit (written_program m info explicit)
+binds_as m info explicit accepted written =
+    let names = ap text_lets (program_reads m info explicit accepted written) ∙ binds_as_meant (program_shape m info) (outer_names (module_names m)) (namings (module_names m) m info) in
     let annotations = functions_tell explicit (module_names m) m.types 0 m.functions info.functions.items in
     λ i. record { names = names i; annotations = annotations i }

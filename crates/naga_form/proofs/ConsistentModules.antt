@@ -24,13 +24,13 @@ module _ (m : ir_module.Module) (info : ModuleInfo) (accepted : IsTrue (is_accep
   parts : (place : ℕ) (f : Function) → slice_get (module_shape m info).functions place ≡ Some f → (h : ℕ) →
       PartsFit (module_shape m info).parts f (handle_type f h) (expression_of f h)
   parts place f there h =
-      let k = function_at m info accepted counted place f there in
+      let k = function_at m info accepted counted.names place f there in
       subst (λ f. PartsFit (module_shape m info).parts f (handle_type f h) (expression_of f h)) (sym k.same)
       (parts_fit m info accepted counted k.function k.known k.sound h)
 
   -- what is spelled is of an expression
   spelled : (x : Signature) → IsSpelled (module_shape m info) x → IsOfExpression m info x
-  spelled = of_spelled m info (tree_spelled m info accepted counted) accepted counted (initialiser_spelled m info accepted counted)
+  spelled = of_spelled m info (tree_spelled m info accepted counted.names) accepted counted.names (initialiser_spelled m info accepted counted.names)
 
   pub consistent : OperatorsAreConsistent m info
   consistent = record {

@@ -1,7 +1,7 @@
 -- What the program of shapes of an accepted module has for its constants: the trees of a group and
 -- the initialisers of the named constants spell signatures of expressions, and name what is there.
 -- A tree has its expression's type; an initialiser has its constant's, where it has a tree.
-use Rattle.module_meaning.specs.Names.{ItemsAreCounted}
+use Rattle.module_meaning.specs.Names.{NamesAreCounted}
 use Rattle.shader_runs.proofs.Typing.{no_signature}
 use Rattle.std.proofs.Common.{◌≡◌, ℕ, zero, suc, Bool, true, false, List, [], ◌∷◌, refl, sym, ap, ◌∙◌, subst}
 use Rattle.std.proofs.Common.{Option, Some, None, slice_get, if◌then◌else◌}
@@ -43,7 +43,7 @@ named_stands (d ∷ cs) i c here = by (named_stands cs) (is_named d) here
         at zero here = (0, here)
         at (suc i) here = let k = rest i c here in (suc k.0, k.1)
 
-module _ (m : Module) (info : ModuleInfo) (accepted : IsTrue (is_accepted m info)) (counted : ItemsAreCounted m) where
+module _ (m : Module) (info : ModuleInfo) (accepted : IsTrue (is_accepted m info)) (counted : NamesAreCounted m) where
   -- ---- trees of a sound group
   pub tree_typed : (f : Option Function) (g : Group) → IsSoundGroup m info f g → (h : ℕ) (t : ConstantTree) → constant_tree (declared_for m info g) g.expressions h ≡ Some t →
       constant_type (module_shape m info) t ≡ value_at m info g.known h

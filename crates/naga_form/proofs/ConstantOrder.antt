@@ -1,6 +1,6 @@
 -- The named constants of an accepted module have an order in which each stands behind those that
 -- its initialiser names: that of their initialisers among the module's own expressions.
-use Rattle.module_meaning.specs.Names.{ItemsAreCounted}
+use Rattle.module_meaning.specs.Names.{NamesAreCounted}
 use Rattle.std.proofs.Common.{◌≡◌, ℕ, zero, suc, ◌<◌, ◌≤◌, Bool, true, false, List, [], ◌∷◌, refl, sym, ap, ◌∙◌, length, subst}
 use Rattle.std.proofs.Common.{Option, Some, None, slice_get, arith, nat_lt, if◌then◌else◌}
 use Rattle.std.specs.Prelude.{IsTrue, unwrap_or}
@@ -87,7 +87,7 @@ module _ (m : Module) (info : ModuleInfo) where
   abbrev AreBefore : (ℕ → Option ConstantTree) → Type 0
   AreBefore written = (h : ℕ) (c : Constant) → slice_get m.constants h ≡ Some c → (t : ConstantTree) → written h ≡ Some t → EachLeaf AnyValue (Before (suc c.init)) t
 
-  module _ (accepted : IsTrue (is_accepted m info)) (counted : ItemsAreCounted m) where
+  module _ (accepted : IsTrue (is_accepted m info)) (counted : NamesAreCounted m) where
     module _ (written : ℕ → Option ConstantTree) (are : AreBefore written) where
       abbrev inside : Declared
       inside = declared_over m written (global_types_known info)

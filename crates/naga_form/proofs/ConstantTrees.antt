@@ -1,7 +1,7 @@
 -- Constant trees of an accepted module: each has the type that is known of its expression, its
 -- operators are those of expressions of sound groups, and what it names is there.
 use Rattle.naga_form.proofs.AgreeingUses.{value_is}
-use Rattle.module_meaning.specs.Names.{ItemsAreCounted}
+use Rattle.module_meaning.specs.Names.{NamesAreCounted}
 use Rattle.shader_runs.proofs.Typing.{no_signature}
 use Rattle.naga_form.proofs.Signatures.{either_signature}
 use Rattle.std.proofs.Common.{◌≡◌, ℕ, zero, suc, Bool, true, false, List, [], ◌∷◌, refl, sym, ap, ◌∙◌, length, subst}
@@ -102,7 +102,7 @@ module _ (m : Module) (info : ModuleInfo) where
   retyped : (k l : ValueType) (t : ConstantTree) → k ≡ l → IsTreeOf k t → IsTreeOf l t
   retyped k l t e is = record { type = is.type ∙ e; spelled = is.spelled; range = is.range }
 
-  module _ (accepted : IsTrue (is_accepted m info)) (counted : ItemsAreCounted m) where
+  module _ (accepted : IsTrue (is_accepted m info)) (counted : NamesAreCounted m) where
     -- types that are alike have values of one type
     alike : (a b : TypeResolution) → IsFit m a → IsFit m b → are_alike m.types a b ≡ true → type_of_values m a ≡ type_of_values m b
     alike a b p q e = values_by_numbers m (types_are_counted m info accepted counted) a b p q ((bytes_eq-Decides (type_identity m.types a) (type_identity m.types b)).0 e)
@@ -232,7 +232,7 @@ module _ (m : Module) (info : ModuleInfo) where
         by : (o : Option TypeResolution) → slice_get own c.init ≡ o → option_map_or (λ r. are_alike m.types r (Handle c.ty)) o false ≡ true → value_at m info own c.init ≡ type_of_values m (Handle c.ty)
         by None there same = absurd cc
         by (Some r) there same =
-            value_is m info own c.init r there ∙ alike r (Handle c.ty) ((declarations_are m info accepted counted).fits c.init r there) tt same
+            value_is m info own c.init r there ∙ alike r (Handle c.ty) ((declarations_are m info accepted).fits c.init r there) tt same
 
     -- a constant by its name, or by its initialiser
     abbrev around_own : (ℕ → Option ConstantTree) → Declared
@@ -252,7 +252,7 @@ module _ (m : Module) (info : ModuleInfo) where
         })
         by false named found =
             retyped (value_at m info own c.init) (type_of_values m (Handle c.ty)) t (initialiser_known h c at)
-            (within_is None (own_group m info accepted counted) (declarations_are m info accepted counted) written are (suc c.init) c.init t found)
+            (within_is None (own_group m info accepted) (declarations_are m info accepted) written are (suc c.init) c.init t found)
 
     -- each constant, as it is written within so many levels
     constants_within : (levels : ℕ) → ConstantsAre (constant_within levels m info)
@@ -273,4 +273,4 @@ module _ (m : Module) (info : ModuleInfo) where
     pub initialiser_is : (h : ℕ) (c : Constant) → slice_get m.constants h ≡ Some c → (t : ConstantTree) → constant_tree (declared_globally m info) m.global_expressions c.init ≡ Some t → IsTreeOf (type_of_values m (Handle c.ty)) t
     initialiser_is h c at t found =
         retyped (value_at m info own c.init) (type_of_values m (Handle c.ty)) t (initialiser_known h c at)
-        (trees_are None (own_group m info accepted counted) (declarations_are m info accepted counted) c.init t found)
+        (trees_are None (own_group m info accepted) (declarations_are m info accepted) c.init t found)

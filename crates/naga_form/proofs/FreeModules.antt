@@ -1,171 +1,161 @@
--- The program of shapes of a module meets, under free names, what the laws of runs ask: where its
--- functions and constants do so but for names. So what these laws say of the module's run alone, that
--- one world keeps its types and that it is never stuck, holds without the names of a text.
-use Rattle.module_meaning.specs.Names.{ItemsAreCounted}
-use Rattle.std.proofs.Common.{◌≡◌, ℕ, ◌<◌, ◌≤◌, List, [], ◌∷◌, ◌++◌, length, map, Some}
-use Rattle.std.proofs.Common.{refl, sym, subst, ◌∙◌, arith}
-use Rattle.std.specs.Prelude.{IsTrue, slice_get}
-use mathlib.Core.List.{reverse_aux}
-use Rattle.std.specs.List.{zip}
-use Rattle.std.proofs.lemmas.List.{length-map}
-use Rattle.std.proofs.lemmas.Option.{slice_get-map}
-use Rattle.naga_ir.specs.declared.module.Constant as ir_constant
+-- The program of shapes of an accepted module for which texts are written meets, under free names,
+-- what the laws of runs ask. So what these laws say of the module's run alone, that one world keeps
+-- its types and that it is never stuck, holds whatever the names of a text are.
+--
+-- Acceptance takes modules for which no text is written and which are left out here: those with a
+-- constant whose initialiser is an operation, or with a case that does something and falls through.
+use Rattle.module_meaning.specs.Writable.{AreWrittenOut, OnlyEmptyFall, only_empty_fall}
+use Rattle.module_meaning.specs.Names.{NamesAreCounted}
+use Rattle.std.proofs.Common.{◌≡◌, ℕ, true, List, [], ◌∷◌, length, Some}
+use Rattle.std.proofs.Common.{refl, sym, ap, subst, slice_get}
+use Rattle.std.specs.Prelude.{IsTrue}
 use Rattle.naga_ir.specs.declared.module.Function as ir_function
 use Rattle.naga_ir.specs.declared.module.Module as ir_module
 use Rattle.naga_info.specs.declared.info.ExpressionInfo.{ExpressionInfo}
 use Rattle.naga_info.specs.declared.info.ModuleInfo.{ModuleInfo}
-use Rattle.naga_info.specs.declared.info.TypeResolution.TheVariants.{Handle}
-use Rattle.naga_info.proofs.Options.{map_some}
 use Rattle.module_meaning.specs.Accepted.{is_accepted}
 use Rattle.module_meaning.specs.FunctionShapes.{function_shape}
 use Rattle.module_meaning.specs.Meanings.{HasTypedWorld}
-use Rattle.module_meaning.specs.ModuleShapes.{module_shape, named_constants, initialiser}
+use Rattle.module_meaning.specs.ModuleShapes.{module_shape}
 use Rattle.module_meaning.specs.Premises.{EachScopeHolds, ScopesHold}
-use Rattle.module_meaning.specs.Surroundings.{type_of_values}
+use Rattle.module_meaning.proofs.FitsSoFar.{list_all_at}
 use Rattle.shader_runs.specs.Program as shapes
-use Rattle.shader_runs.specs.Program.{ConstantTree, expression_of, operands_of, handle_type}
-use Rattle.shader_runs.specs.Program.{constant_count, function_numbered}
+use Rattle.shader_runs.specs.Program.{ConstantTree, function_numbered}
 use Rattle.shader_runs.specs.World.{World, Meaning, Event, Settings}
-use Rattle.shader_runs.specs.Value.{Value, type_at, has_types}
+use Rattle.shader_runs.specs.Value.{Value, has_types}
 use Rattle.shader_runs.specs.Constants.{run_module}
-use Rattle.shader_runs.specs.Premises.{AllBelow, LeafFits, FunctionFits, AllFit}
-use Rattle.shader_runs.specs.Premises.{ConstantsFit, ConstantInRange, EachLeaf, EachWord, constant_type}
-use Rattle.shader_runs.specs.Premises.{IsTyped, SettingsFit, OperatesOutside}
+use Rattle.shader_runs.specs.Premises.{AllFit, EachWord, IsTyped, SettingsFit, OperatesOutside}
 use Rattle.shader_runs.specs.Correct.{ModuleFits}
-use Rattle.shader_runs.specs.Progress.{AllWellFormed, IsNotStuck}
+use Rattle.shader_runs.specs.Progress.{IsNotStuck}
+use Rattle.shader_runs.specs.Scope.{ModuleNames, Names, Naming}
 use Rattle.shader_runs.specs.ScopeRules.{ScopeHolds}
 use Rattle.shader_runs.proofs.Progress.{runs_are_not_stuck}
 use Rattle.shader_runs.proofs.ScopeRules.{scope_check_is_the_rules}
 use Rattle.shader_runs.proofs.Starts.{has_typed_world}
+use Rattle.naga_form.proofs.AcceptedFunctions.{Numbered, AsFunction, AsEntryPoint, numbered}
+use Rattle.naga_form.proofs.AcceptedFunctions.{functions_known, accepted_at, group_at}
 use Rattle.naga_form.proofs.AcceptedGroups.{types_are_counted}
-use Rattle.naga_form.proofs.FreeNames.{free_names, free_naming, freely_named, free_functions, free_distinct}
-use Rattle.naga_form.proofs.FreeNames.{free_functions_distinct, free_constants_distinct}
-use Rattle.naga_form.proofs.FreeStatements.{StatementsStand, regular_freely}
+use Rattle.naga_form.proofs.ConstantInitialisers.{initialiser_of}
+use Rattle.naga_form.proofs.ConstantsFit.{constants_fit, constants_are_typed}
+use Rattle.naga_form.proofs.FreeNames.{free_names, free_naming, freely_named, free_functions}
+use Rattle.naga_form.proofs.FreeNames.{free_within, free_distinct, free_functions_distinct}
+use Rattle.naga_form.proofs.FreeNames.{free_constants_distinct, function_not_hidden}
 use Rattle.naga_form.proofs.FreeWords.{free_request}
-use Rattle.naga_form.proofs.SameValues.{TypesAreCounted}
-use Rattle.naga_form.proofs.ShapeWords.{function_words, initialiser_words, operator_operates_outside}
+use Rattle.naga_form.proofs.FunctionsFit.{AllBehind, IsFree, Tells, all_from, all_told}
+use Rattle.naga_form.proofs.FunctionsFit.{all_fit_freely, named, shape_numbered}
+use Rattle.naga_form.proofs.Ordered.{ordered}
+use Rattle.naga_form.proofs.ShapeWords.{function_words, initialiser_words}
+use Rattle.naga_form.proofs.ShapeWords.{operator_asks, operator_operates_outside}
+use Rattle.naga_form.proofs.WellFormed.{all_well_formed}
 
--- ---- what is asked but of names
--- what `FunctionFits` says, of a function behind these, but of names and scopes
-pub record FunctionStands (p : shapes.Module) (callees : List shapes.Function) (f : shapes.Function) : Type 0 where
-  pub ordered : (h : ℕ) → AllBelow h (operands_of (expression_of f h))
-  pub leaves : (h : ℕ) → LeafFits p f (handle_type f h) (expression_of f h)
-  pub regular : StatementsStand callees f f.body
-
--- each function, behind those that follow in the list
-abbrev pub AllStand : shapes.Module → List shapes.Function → Type 0
-AllStand p [] = Unit {0}
-AllStand p (f ∷ fs) = FunctionStands p fs f × AllStand p fs
-
--- what `InitialiserFits` says but of words
-pub record InitialiserStands (p : shapes.Module) (rank : ℕ → ℕ) (i : ℕ) (e : ConstantTree) : Type 0 where
-  pub range : ConstantInRange p e
-  pub type : type_at p.constant_types i ≡ constant_type p e
-  pub before : EachLeaf (λ v. Unit {0}) (λ k. k < constant_count p → rank k < rank i) e
-
--- what `ConstantsFit` says but of names
-pub record ConstantsStand (p : shapes.Module) : Type 0 where
-  pub rank : ℕ → ℕ
-  pub initialisers : (i : ℕ) (e : ConstantTree) → slice_get p.initialisers i ≡ Some e →
-      InitialiserStands p rank i e
-
--- ---- functions
--- each is that of a function or an entry point
-abbrev AreShapes : ir_module.Module → ModuleInfo → List shapes.Function → Type 0
-AreShapes m info [] = Unit {0}
-AreShapes m info (f ∷ fs) =
-    ((x : ir_function.Function) × (es : List ExpressionInfo) × (function_shape m info x es ≡ f))
-    × AreShapes m info fs
-
-module _ (m : ir_module.Module) (info : ModuleInfo) where
-  abbrev shape_of_pair : ir_function.Function × List ExpressionInfo → shapes.Function
-  shape_of_pair x = function_shape m info x.0 x.1
-
-  are_shapes : (xs : List (ir_function.Function × List ExpressionInfo)) (behind : List shapes.Function) → AreShapes m info behind → AreShapes m info (reverse_aux (map shape_of_pair xs) behind)
-  are_shapes [] behind all = all
-  are_shapes (x ∷ xs) behind all = are_shapes xs (shape_of_pair x ∷ behind) ((x.0, x.1, refl), all)
-
+module _ (m : ir_module.Module) (info : ModuleInfo) (accepted : IsTrue (is_accepted m info)) (counted : NamesAreCounted m) where
   abbrev pub program : shapes.Module
   program = module_shape m info
 
-  all_are_shapes : AreShapes m info program.functions
-  all_are_shapes = are_shapes (zip m.functions info.functions.items ++ zip (map (λ p. p.function) m.entry_points.items) info.entry_points.items) [] tt
+  abbrev pub names : ModuleNames
+  names = free_names free_request
 
-  module _ (are : TypesAreCounted m) where
-    shape_fits : (x : ir_function.Function) (es : List ExpressionInfo) (callees : List shapes.Function) → FunctionStands program callees (function_shape m info x es) → ScopeHolds (function_shape m info x es) →
-        FunctionFits program (free_names free_request) callees (freely_named free_request (length callees) (function_shape m info x es))
-    shape_fits x es callees stands scope =
-        let f = function_shape m info x es in
-        let own = freely_named free_request (length callees) f in
-        record {
-          outer = refl;
-          earlier = refl;
-          ordered = stands.ordered;
-          words = λ h. function_words m info are program x es (length callees) h;
-          leaves = stands.leaves;
-          regular = regular_freely m info are program callees f _ x.body stands.regular;
-          distinct = free_distinct free_request program (length callees) f;
-          scope = (scope_check_is_the_rules own stands.ordered).1 scope;
-        }
+  abbrev pub namings : List Naming
+  namings = free_naming free_request program.functions
 
-    all_fit : (fs : List shapes.Function) → AreShapes m info fs → AllStand program fs → EachScopeHolds fs → AllFit program (free_names free_request) (free_naming free_request fs)
-    all_fit [] all stand scopes = tt
-    all_fit (f ∷ fs) all stand scopes = (
-      subst (λ callees. FunctionFits program (free_names free_request) callees (freely_named free_request (length fs) f)) (sym (free_functions free_request fs))
-          (subst (λ g. FunctionStands program fs g → ScopeHolds g → FunctionFits program (free_names free_request) fs (freely_named free_request (length fs) g)) all.0.2 (shape_fits all.0.0 all.0.1 fs) stand.0 scopes.0),
-      all_fit fs all.1 stand.1 scopes.1,
-    )
+  -- ---- functions
+  -- named freely behind these, and its scope holds
+  abbrev IsLeftlyNamed : List shapes.Function → Naming → Type 0
+  IsLeftlyNamed callees f =
+      (f.names ≡ free_within free_request (length callees)) × ScopeHolds f.function
 
-    -- ---- constants
-    within_append : {X : Type 0} (xs ys : List X) → length xs ≤ length (xs ++ ys)
-    within_append [] ys = omega arith
-    within_append (x ∷ xs) ys = let rest = within_append xs ys in omega (arith, rest)
+  are_freely_named : (fs : List shapes.Function) → EachScopeHolds fs →
+      AllBehind IsLeftlyNamed (free_naming free_request fs)
+  are_freely_named [] scopes = tt
+  are_freely_named (f ∷ fs) scopes = (
+    (ap (λ gs. free_within free_request (length gs)) (sym (free_functions free_request fs)), scopes.0),
+    are_freely_named fs scopes.1,
+  )
 
-    constants_counted : constant_count program ≤ length program.constant_types
-    constants_counted =
-        let named = map (λ (c : ir_constant.Constant). type_of_values m (Handle c.ty)) (named_constants m) in
-        let others = map (λ o. type_of_values m (Handle o.ty)) m.overrides in
-        let one : length (map (initialiser m info) (named_constants m)) ≡ length (named_constants m) = length-map (named_constants m) (initialiser m info) in
-        let two : length named ≡ length (named_constants m) = length-map (named_constants m) (λ (c : ir_constant.Constant). type_of_values m (Handle c.ty)) in
-        let three : length named ≤ length (named ++ others) = within_append named others in
-        omega (arith, one, two, three)
+  -- what acceptance leaves of one function
+  is_left : (k : ℕ) (f : ir_function.Function) (es : List ExpressionInfo) →
+      slice_get (functions_known m info) k ≡ Some (f, es) → (own : Names)
+      (callees : List shapes.Function) → length callees ≡ k →
+      Tells (shape_numbered m info accepted) callees →
+      IsLeftlyNamed callees (named (function_shape m info f es) own) →
+      IsFree true program names callees (named (function_shape m info f es) own)
+  is_left k f es at own callees number tells is =
+      let count = length callees in
+      let shape = function_shape m info f es in
+      let own = freely_named free_request count shape in
+      let types = types_are_counted m info accepted counted in
+      let this = accepted_at m info accepted k f es at in
+      subst (λ own. IsFree true program names callees (named shape own)) (sym is.0)
+      (record {
+        outer = refl;
+        earlier = refl;
+        words = function_words m info types program f es count;
+        free = record {
+          operators = λ op has does sound. operator_asks m info types program shape count op sound does;
+          callees = λ g lt. function_not_hidden free_request program count shape g;
+        };
+        distinct = free_distinct free_request program count shape;
+        scope = (scope_check_is_the_rules own (ordered m info this.callees f es this.ranges)).1
+            is.1;
+      })
 
-    constants_fit : ConstantsStand program → ConstantsFit program (free_names free_request)
-    constants_fit stand = record {
-      counted = constants_counted;
-      rank = stand.rank;
-      initialisers = λ i e at.
-          let is = stand.initialisers i e at in
-          let c = map_some (initialiser m info) (slice_get (named_constants m) i) e (sym (slice_get-map (initialiser m info) (named_constants m) i) ∙ at) in
-          record {
-            range = is.range;
-            type = is.type;
-            words = subst (λ e. EachWord (OperatesOutside program (free_names free_request)) e) c.2 (initialiser_words m info are (OperatesOutside program (free_names free_request)) (operator_operates_outside program) c.0);
-            before = is.before;
-          };
-      distinct = free_constants_distinct free_request program;
-    }
+  -- only empty cases fall through in each function that is numbered
+  only_at : OnlyEmptyFall m → (k : ℕ) (f : ir_function.Function) (es : List ExpressionInfo) →
+      slice_get (functions_known m info) k ≡ Some (f, es) → only_empty_fall f.body ≡ true
+  only_at falls k f es at = by (numbered m info accepted k f es at)
+    where
+      by : Numbered m info accepted k f es → only_empty_fall f.body ≡ true
+      by (AsFunction here known) = list_all_at (λ f. only_empty_fall f.body) m.functions k f falls.functions here
+      by (AsEntryPoint j p at here known same) =
+          subst (λ f. only_empty_fall f.body ≡ true) same
+          (list_all_at (λ p. only_empty_fall p.function.body) m.entry_points.items j p falls.entry_points here)
 
-    -- a module whose functions and constants stand, and in which the rules of scope hold
-    pub fits_freely : AllStand program program.functions → ConstantsStand program → ScopesHold m info → ModuleFits program (free_names free_request) (free_naming free_request program.functions)
-    fits_freely functions constants scopes = record {
+  -- ---- constants
+  initialiser_operates : (i : ℕ) (e : ConstantTree) → slice_get program.initialisers i ≡ Some e →
+      EachWord (OperatesOutside program names) e
+  initialiser_operates i e at =
+      let found = initialiser_of m info accepted counted i e at in
+      subst (EachWord (OperatesOutside program names)) found.is
+      (initialiser_words m info (types_are_counted m info accepted counted)
+      (OperatesOutside program names) (operator_operates_outside program) found.constant)
+
+  -- ---- the module
+  module _ (written : AreWrittenOut m) (falls : OnlyEmptyFall m) (scopes : ScopesHold m info) where
+    functions_fit : AllFit program names namings
+    functions_fit =
+        all_fit_freely m info accepted counted
+        (λ k f es at.
+        constants_are_typed m info accepted counted written f es
+        (group_at m info accepted k f es at))
+        (only_at falls) names namings (free_functions free_request program.functions) true
+        (λ k f es at. refl)
+        (all_from m info accepted IsLeftlyNamed (IsFree true program names) is_left namings
+        (subst (Tells (shape_numbered m info accepted))
+        (sym (free_functions free_request program.functions)) (all_told m info accepted))
+        (are_freely_named program.functions scopes))
+
+    -- under free names it meets what the laws of runs ask
+    pub module_fits_freely : ModuleFits program names namings
+    module_fits_freely = record {
       functions = free_functions free_request program.functions;
       distinct = free_functions_distinct free_request program;
-      constants = constants_fit constants;
-      all = all_fit program.functions all_are_shapes functions scopes;
+      constants = constants_fit m info accepted counted written names initialiser_operates
+          (free_constants_distinct free_request program);
+      all = functions_fit;
     }
 
-  -- ---- the module's run
-  module _ (accepted : IsTrue (is_accepted m info)) (counted : ItemsAreCounted m) (functions : AllStand program program.functions) (constants : ConstantsStand program) (scopes : ScopesHold m info) where
-    pub module_fits_freely : ModuleFits program (free_names free_request) (free_naming free_request program.functions)
-    module_fits_freely = fits_freely (types_are_counted m info accepted counted) functions constants scopes
-
     -- one world keeps the types
-    pub has_world_of_all : HasTypedWorld m info
-    has_world_of_all = has_typed_world program (free_names free_request) (free_naming free_request program.functions) module_fits_freely
+    pub has_world : HasTypedWorld m info
+    has_world = has_typed_world program names namings module_fits_freely
 
     -- no run of the module is stuck
-    pub never_stuck_of_all : AllWellFormed program.functions → (settings : Settings) → SettingsFit program settings → (meaning : Meaning) → IsTyped program meaning → (g : ℕ) (f : shapes.Function) → function_numbered program.functions g ≡ Some f → (vs : List Value) → IsTrue (has_types program.parts f.argument_types vs) →
-        (w : World) (turns : ℕ) (t : List Event) → IsNotStuck (run_module program settings w meaning turns g vs t)
-    never_stuck_of_all formed settings fit meaning typed g f found vs typed_vs w turns t =
-        (runs_are_not_stuck program (free_names free_request) (free_naming free_request program.functions) module_fits_freely formed settings fit meaning typed g f found vs typed_vs w turns t).0
+    pub never_stuck : (settings : Settings) → SettingsFit program settings → (meaning : Meaning) →
+        IsTyped program meaning → (g : ℕ) (f : shapes.Function) →
+        function_numbered program.functions g ≡ Some f → (arguments : List Value) →
+        IsTrue (has_types program.parts f.argument_types arguments) →
+        (world : World) (turns : ℕ) (past : List Event) →
+        IsNotStuck (run_module program settings world meaning turns g arguments past)
+    never_stuck settings fit meaning typed g f found arguments have world turns past =
+        (runs_are_not_stuck program names namings module_fits_freely
+        (all_well_formed m info accepted) settings fit meaning typed g f found arguments have world
+        turns past).0

@@ -1,5 +1,7 @@
 -- No word of an operator begins as the free names do, and one test of words tells those that ask
 -- for events, also among the words that no text has.
+use Rattle.naga_form.proofs.TypedWords.{head_text}
+use Rattle.naga_form.proofs.OperatorEvents.{keeps_asking}
 use Rattle.std.proofs.Common.{◌≡◌, ℕ, Bool, true, false, not, ◌&&◌, ◌||◌, List, [], ◌∷◌, Option, Some, None}
 use Rattle.std.proofs.Common.{refl, sym, ap, subst, ◌∙◌, nat_eq, codes, true≢false}
 use Rattle.std.specs.Prelude.{if◌then◌else◌}
@@ -9,12 +11,9 @@ use Rattle.std.specs.Str.{bytes_eq}
 use Rattle.std.proofs.lemmas.Bool.{false≢true, and_parts, not-true, eqb-true}
 use Rattle.std.proofs.lemmas.Option.{same_Some}
 use Rattle.std.proofs.lemmas.Slice.Eq.{bytes_eq-Decides}
-use Rattle.naga_ir.specs.declared.operators.UnaryOperator.TheVariants as unary
 use Rattle.wgsl_text.specs.Requests.{is_request, head_word}
-use Rattle.wgsl_text.specs.Types.{TypeSpecifier, Named, Template, IsPart}
 use Rattle.wgsl_text.specs.Words.{is_word_text}
-use Rattle.wgsl_text.proofs.Types.{type_template}
-use Rattle.module_meaning.specs.OperatorTable.{Operator, UnarySign, Texel, OnlyTexel, CooperativeLoad}
+use Rattle.module_meaning.specs.OperatorTable.{Operator, CooperativeLoad}
 use Rattle.module_meaning.specs.OperatorTable.{Construct, Convert, Reinterpret, WithoutForm, Formless}
 use Rattle.module_meaning.specs.OperatorTable.{Cast, PartAt, ValueOf, MatrixLoad, with_type, run_word}
 use Rattle.module_meaning.specs.OperatorTable.{one_word, asks, is_untyped, SpellsAType, TypeIsSound}
@@ -22,7 +21,7 @@ use Rattle.module_meaning.specs.OperatorTable.{formless_code, formless_asks}
 use Rattle.naga_form.proofs.FreeNames.{begins_free}
 use Rattle.naga_form.proofs.OperatorEvents.{asks_as_told}
 use Rattle.naga_form.proofs.OperatorTable.{mathematical, others, first_with, operator_of, told}
-use Rattle.naga_form.proofs.TypedWords.{head_of, head_is, no_blank}
+use Rattle.naga_form.proofs.TypedWords.{head_is, no_blank}
 
 -- the words without a text that ask for events, by their second letter: samplings, steps and scans,
 -- gathers, texels, and loads of matrices whose type has no form
@@ -88,30 +87,15 @@ told_parts o e =
     let parts = and_parts (not (begins_free (run_word o))) (alike (free_request (run_word o)) (asks o)) e in
     (not-true (begins_free (run_word o)) parts.0, alike_is (free_request (run_word o)) (asks o) parts.1)
 
--- operators of one word ask alike
-asks_once : (o : Operator) → asks (one_word o) ≡ asks o
-asks_once (UnarySign unary.Negate) = refl
-asks_once (UnarySign _) = refl
-asks_once (Texel arrayed OnlyTexel) = refl
-asks_once (Texel arrayed _) = refl
-asks_once (WithoutForm (ValueOf numbers components)) = refl
-asks_once (WithoutForm _) = refl
-asks_once _ = refl
-
 untyped_is_told : (o : Operator) → is_untyped o ≡ true → WordIsTold o
 untyped_is_told o u =
     let at = found_any (run_word o) (one_word o) (told o u) in
     let parts = told_parts (one_word o) at.1 in record {
       free = ap begins_free at.0 ∙ parts.0;
-      asking = ap free_request at.0 ∙ (parts.1 ∙ asks_once o);
+      asking = ap free_request at.0 ∙ (parts.1 ∙ keeps_asking o);
     }
 
 -- ---- operators with types
--- a type begins with a letter
-head_text : (t : TypeSpecifier) → IsPart t → is_word_text (head_of t) ≡ true
-head_text (Named w) is = is.text
-head_text (Template w parts) is = (type_template w parts is.0).word.text
-
 no_number : (w : List ℕ) → is_word_text (head_word w) ≡ true → begins_free w ≡ false
 no_number [] e = refl
 no_number (b ∷ bytes) e = by (nat_eq b 1) refl

@@ -1,8 +1,9 @@
 -- What the law of runs asks of the functions of every accepted module, as far as acceptance gives it:
 -- their operands stand before, leaves have their types and statements are regular. What is left is
 -- said of names, words, constants and scope.
-use Rattle.module_meaning.specs.Names.{ItemsAreCounted}
-use Rattle.std.proofs.Common.{◌≡◌, ℕ, suc, ◌<◌, ◌≤◌, ◌+◌, Bool, true, false, List, [], ◌∷◌}
+use Rattle.module_meaning.specs.Writable.{only_empty_fall}
+use Rattle.module_meaning.specs.Names.{NamesAreCounted}
+use Rattle.std.proofs.Common.{◌≡◌, ℕ, suc, ◌<◌, ◌≤◌, ◌+◌, ◌||◌, Bool, true, false, List, [], ◌∷◌}
 use Rattle.std.proofs.Common.{Option, Some, refl, sym, ap, ◌∙◌, subst, slice_get, length, map}
 use Rattle.std.proofs.Common.{arith, nat_eq, cond}
 use mathlib.Core.List.{reverse_aux}
@@ -29,7 +30,7 @@ use Rattle.naga_form.proofs.AcceptedFunctions.{function_there, ranges_are, sound
 use Rattle.naga_form.proofs.AcceptedGroups.{types_are_counted}
 use Rattle.naga_form.proofs.Leaves.{ConstantsAreTyped, leaves}
 use Rattle.naga_form.proofs.Ordered.{ordered}
-use Rattle.naga_form.proofs.Regular.{AreWorded, only_empty_fall, StandBehind, regular}
+use Rattle.naga_form.proofs.Regular.{AreWorded, StandBehind, regular}
 use Rattle.naga_form.proofs.Worded.{AsksFreely, block_has_words, worded}
 
 -- ---- functions by their numbers
@@ -87,13 +88,13 @@ pub record IsLeft (p : shapes.Module) (n : ModuleNames) (callees : List shapes.F
   pub distinct : AreDistinct p f
   pub scope : IsTrue (fits_function f)
 
--- the same where each statement has a word of WGSL
-pub record IsFree (p : shapes.Module) (n : ModuleNames) (callees : List shapes.Function)
+-- the same where each statement has a word of WGSL, or `all` words ask
+pub record IsFree (all : Bool) (p : shapes.Module) (n : ModuleNames) (callees : List shapes.Function)
     (f : Naming) : Type 0 where
   pub outer : f.names.outer ≡ n
   pub earlier : f.names.earlier ≡ length callees
   pub words : (h : ℕ) → WordFits p f (expression_of f.function h)
-  pub free : AsksFreely p f
+  pub free : AsksFreely all p f
   pub distinct : AreDistinct p f
   pub scope : IsTrue (fits_function f)
 
@@ -105,7 +106,7 @@ AllBehind L (f ∷ fs) = L (functions_of fs) f × AllBehind L fs
 abbrev pub named : shapes.Function → Names → Naming
 named f names = record { function = f; names = names }
 
-module _ (m : Module) (info : ModuleInfo) (accepted : IsTrue (is_accepted m info)) (counted : ItemsAreCounted m) where
+module _ (m : Module) (info : ModuleInfo) (accepted : IsTrue (is_accepted m info)) where
   abbrev p : shapes.Module
   p = module_shape m info
 
@@ -134,28 +135,29 @@ module _ (m : Module) (info : ModuleInfo) (accepted : IsTrue (is_accepted m info
   }
 
   -- ---- one function, behind those before it
-  -- its words ask for events, where each statement has one
-  pub worded_at : (k : ℕ) (f : Function) (es : List ExpressionInfo) →
+  -- its words ask for events, where each statement has one or all words ask
+  pub worded_at : (all : Bool) (k : ℕ) (f : Function) (es : List ExpressionInfo) →
       slice_get (functions_known m info) k ≡ Some (f, es) → (names : Names) → k ≤ names.earlier →
       let own = named (function_shape m info f es) names in
-      AsksFreely p own → block_has_words f.body ≡ true → AreWorded p own own.function.body
-  worded_at k f es at names earlier free has =
+      AsksFreely all p own → (all || block_has_words f.body) ≡ true →
+      AreWorded p own own.function.body
+  worded_at all k f es at names earlier free has =
       let is = accepted_at m info accepted k f es at in
       let before = is.before in
-      worded p (named (function_shape m info f es) names) free
+      worded all p (named (function_shape m info f es) names) free
       (declared m info (types_known es)).around is.callees (length f.expressions)
       (omega (arith, before, earlier)) f.body (ranges_are m is.callees f is.ranges).1 has
 
   -- its statements are regular
-  pub regular_at : (k : ℕ) (f : Function) (es : List ExpressionInfo) →
+  pub regular_at : NamesAreCounted m → (k : ℕ) (f : Function) (es : List ExpressionInfo) →
       slice_get (functions_known m info) k ≡ Some (f, es) → only_empty_fall f.body ≡ true →
       (names : Names) (callees : List shapes.Function) → length callees ≡ k →
       Tells shape_numbered callees → names.earlier ≡ length callees →
       let own = named (function_shape m info f es) names in
       AreWorded p own own.function.body → AreRegular p callees own own.function.body
-  regular_at k f es at only names callees number tells earlier words =
+  regular_at counted k f es at only names callees number tells earlier words =
       let is = accepted_at m info accepted k f es at in
-      let group = group_at m info accepted counted k f es at in
+      let group = group_at m info accepted k f es at in
       let before = is.before in
       regular m info f es (types_are_counted m info accepted counted) group names is.callees callees
       (stand_behind is.callees callees (omega (arith, before, number)) tells)
@@ -163,29 +165,29 @@ module _ (m : Module) (info : ModuleInfo) (accepted : IsTrue (is_accepted m info
       (soundness_is m f es is.sound).1 only words
 
   -- all that is asked of it
-  pub function_fits : (k : ℕ) (f : Function) (es : List ExpressionInfo) →
+  pub function_fits : NamesAreCounted m → (k : ℕ) (f : Function) (es : List ExpressionInfo) →
       slice_get (functions_known m info) k ≡ Some (f, es) → ConstantsAreTyped m info f es →
       only_empty_fall f.body ≡ true → (n : ModuleNames) (names : Names) (callees : List shapes.Function) →
       length callees ≡ k → Tells shape_numbered callees →
       IsLeft p n callees (named (function_shape m info f es) names) →
       FunctionFits p n callees (named (function_shape m info f es) names)
-  function_fits k f es at constants only n names callees number tells left =
+  function_fits counted k f es at constants only n names callees number tells left =
       let is = accepted_at m info accepted k f es at in
-      let group = group_at m info accepted counted k f es at in
+      let group = group_at m info accepted k f es at in
       record {
         outer = left.outer;
         earlier = left.earlier;
         ordered = ordered m info is.callees f es is.ranges;
         words = left.words;
         leaves = leaves m info f es (types_are_counted m info accepted counted) group constants;
-        regular = regular_at k f es at only names callees number tells left.earlier left.worded;
+        regular = regular_at counted k f es at only names callees number tells left.earlier left.worded;
         distinct = left.distinct;
         scope = left.scope;
       }
 
   -- ---- all functions
   -- what follows for each function from what is said of it follows for all
-  all_from : (L F : List shapes.Function → Naming → Type 0) →
+  pub all_from : (L F : List shapes.Function → Naming → Type 0) →
       ((k : ℕ) (f : Function) (es : List ExpressionInfo) →
       slice_get (functions_known m info) k ≡ Some (f, es) → (names : Names)
       (callees : List shapes.Function) → length callees ≡ k → Tells shape_numbered callees →
@@ -216,7 +218,7 @@ module _ (m : Module) (info : ModuleInfo) (accepted : IsTrue (is_accepted m info
   all_are p n (f ∷ fs) all = (all.0, all_are p n fs all.1)
 
   -- what is asked beside acceptance of the constants and cases of each
-  module _
+  module _ (counted : NamesAreCounted m)
       (constants : (k : ℕ) (f : Function) (es : List ExpressionInfo) →
       slice_get (functions_known m info) k ≡ Some (f, es) → ConstantsAreTyped m info f es)
       (only : (k : ℕ) (f : Function) (es : List ExpressionInfo) →
@@ -229,24 +231,25 @@ module _ (m : Module) (info : ModuleInfo) (accepted : IsTrue (is_accepted m info
         all_are p n fs
         (all_from (IsLeft p n) (FunctionFits p n)
         (λ k f es at names callees number tells left.
-        function_fits k f es at (constants k f es at) (only k f es at) n names callees number tells
+        function_fits counted k f es at (constants k f es at) (only k f es at) n names callees number tells
         left)
         fs (subst (Tells shape_numbered) (sym same) all_told) left)
 
-    -- the same where each statement has a word
-    pub all_fit_by_words : ((k : ℕ) (f : Function) (es : List ExpressionInfo) →
-        slice_get (functions_known m info) k ≡ Some (f, es) → block_has_words f.body ≡ true) →
-        AllBehind (IsFree p n) fs → AllFit p n fs
-    all_fit_by_words has free =
+    -- the same where each statement has a word, or all words ask
+    pub all_fit_freely : (all : Bool) → ((k : ℕ) (f : Function) (es : List ExpressionInfo) →
+        slice_get (functions_known m info) k ≡ Some (f, es) →
+        (all || block_has_words f.body) ≡ true) →
+        AllBehind (IsFree all p n) fs → AllFit p n fs
+    all_fit_freely all has free =
         all_fit
-        (all_from (IsFree p n) (IsLeft p n)
+        (all_from (IsFree all p n) (IsLeft p n)
         (λ k f es at names callees number tells free.
         let earlier = free.earlier in
         record {
           outer = free.outer;
           earlier = free.earlier;
           words = free.words;
-          worded = worded_at k f es at names (omega (arith, number, earlier)) free.free
+          worded = worded_at all k f es at names (omega (arith, number, earlier)) free.free
               (has k f es at);
           distinct = free.distinct;
           scope = free.scope;

@@ -13,7 +13,6 @@ pub mod AlikeTypes
 pub mod Bindings
 pub mod ConsistentModules
 pub mod ConstantInitialisers
-pub mod ConstantLeaves
 pub mod ConstantOrder
 pub mod ConstantTrees
 pub mod ConstantsFit
@@ -21,7 +20,6 @@ pub mod Facts
 pub mod Fits
 pub mod FreeModules
 pub mod FreeNames
-pub mod FreeStatements
 pub mod FreeWords
 pub mod FunctionsFit
 pub mod Interface
@@ -38,6 +36,7 @@ pub mod OperatorKeys
 pub mod OperatorTable
 pub mod Operators
 pub mod Ordered
+pub mod PartFits
 pub mod PartsFit
 pub mod PointerParts
 pub mod Programs

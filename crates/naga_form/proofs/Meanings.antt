@@ -384,5 +384,5 @@ module _ (m : Module) (info : ModuleInfo) (accepted : IsTrue (fits_so_far m info
     pub never_stuck : IsTrue (is_accepted m info) → (explicit : Bool) → ScopesHold m info → NamesAreCounted m → IsNeverStuck m info (written_program m info explicit)
     never_stuck whole explicit scope counted settings fit meaning typed g f found arguments typed_arguments world turns past =
         subst (λ (text : TextModule). IsNotStuck (run_module shape settings world meaning turns g arguments past) × (KeepsTypes (run_module shape settings world meaning turns g arguments past) → IsNotStuck (follow_module text settings world meaning is_request turns (function_name (module_names m) g) arguments past)))
-        (sym (reads_as_shapes m info explicit accepted written))
-        (runs_are_not_stuck shape (outer_names (module_names m)) (namings (module_names m) m info) (module_fits m info accepted written ((scopes_are_checked m info accepted written).1 scope) counted) (all_well_formed m info whole) settings fit meaning typed g f found arguments typed_arguments world turns past)
+        (sym (reads_as_shapes m info explicit whole written))
+        (runs_are_not_stuck shape (outer_names (module_names m)) (namings (module_names m) m info) (module_fits m info whole written ((scopes_are_checked m info whole written).1 scope) counted) (all_well_formed m info whole) settings fit meaning typed g f found arguments typed_arguments world turns past)

@@ -1,6 +1,6 @@
 -- Where each function of the program of shapes of an accepted module comes from, and what stands at
 -- its handles: the shapes of the expressions, and the types of their values.
-use Rattle.module_meaning.specs.Names.{ItemsAreCounted}
+use Rattle.module_meaning.specs.Names.{NamesAreCounted}
 use Rattle.module_meaning.proofs.SideBySide.{zip_parts}
 use Rattle.std.proofs.Common.{◌≡◌, ℕ, zero, suc, ◌+◌, List, [], ◌∷◌, ◌++◌, refl, sym, ap, ◌∙◌, map}
 use Rattle.std.proofs.Common.{Some, None, slice_get, arith, ◌⊎◌, inl, inr}
@@ -77,7 +77,7 @@ pub record IsShapeOf (m : ir_module.Module) (info : ModuleInfo) (f : Function) :
   pub sound : IsSoundGroup m info (Some function) (function_group function known)
   pub same : f ≡ function_shape m info function known
 
-module _ (m : ir_module.Module) (info : ModuleInfo) (accepted : IsTrue (is_accepted m info)) (counted : ItemsAreCounted m) where
+module _ (m : ir_module.Module) (info : ModuleInfo) (accepted : IsTrue (is_accepted m info)) (counted : NamesAreCounted m) where
   abbrev functions : List (ir_function.Function × List ExpressionInfo)
   functions = zip m.functions info.functions.items
 
@@ -93,7 +93,7 @@ module _ (m : ir_module.Module) (info : ModuleInfo) (accepted : IsTrue (is_accep
       record {
         function = p.0;
         known = p.1;
-        sound = functions_are m info accepted counted found.0 p.0 p.1 parts.0 parts.1;
+        sound = functions_are m info accepted found.0 p.0 p.1 parts.0 parts.1;
         same = sym same;
       }
   shape_of_either f p same (inr found) =
@@ -102,7 +102,7 @@ module _ (m : ir_module.Module) (info : ModuleInfo) (accepted : IsTrue (is_accep
       record {
         function = entry.0.function;
         known = p.1;
-        sound = entry_points_are m info accepted counted found.0 entry.0 p.1 entry.1 parts.1;
+        sound = entry_points_are m info accepted found.0 entry.0 p.1 entry.1 parts.1;
         same = sym same ∙ ap (λ g. function_shape m info g p.1) (sym entry.2);
       }
 

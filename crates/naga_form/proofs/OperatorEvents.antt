@@ -43,7 +43,7 @@ keeps_text (CooperativeStore true) = refl
 keeps_text (CooperativeStore false) = refl
 keeps_text _ = refl
 
-keeps_asking : (o : Operator) → asks (one_word o) ≡ asks o
+pub keeps_asking : (o : Operator) → asks (one_word o) ≡ asks o
 keeps_asking (UnarySign unary.Negate) = refl
 keeps_asking (UnarySign _) = refl
 keeps_asking (Texel arrayed OnlyTexel) = refl

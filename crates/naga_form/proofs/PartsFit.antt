@@ -140,7 +140,7 @@ module _ (m : ir_module.Module) where
 
 module _ (m : ir_module.Module) (info : ModuleInfo) (accepted : IsTrue (is_accepted m info)) (counted : ItemsAreCounted m) where
   abbrev are : TypesAreCounted m
-  are = types_are_counted m info accepted counted
+  are = types_are_counted m info accepted counted.names
 
   -- ---- expressions
   module _ (function : ir_function.Function) (es : List ExpressionInfo) (sound : IsSoundGroup m info (Some function) (function_group function es)) (h : ℕ) where

@@ -1,4 +1,13 @@
 -- What is written for a module is a program of the grammar.
+use Rattle.module_meaning.specs.Accepted.{is_accepted}
+use Rattle.module_meaning.specs.Numbers.{signature_fits_32_bits}
+use Rattle.module_meaning.specs.Part.{block_is_written, statement_is_written, function_is_written, expression_is_written, is_written_so_far}
+use Rattle.module_meaning.specs.Ranges.{function_in_range, local_in_range, signature_fits, signature_types_fit}
+use Rattle.module_meaning.proofs.FitsSoFar.{list_all_at, some_word}
+use Rattle.module_meaning.proofs.Part.{written_so_far_parts}
+use Rattle.naga_form.proofs.AcceptedFunctions.{accepted_at, locals_are_in_range, names_are_in_range}
+use Rattle.naga_form.proofs.AcceptedFunctions.{function_there as known_function}
+use Rattle.naga_form.proofs.PartFits.{function_parts}
 use Rattle.std.proofs.Common.{◌≡◌, ℕ, ◌<◌, ◌≤◌, suc, Bool, true, false, not, ◌&&◌, List, [], ◌∷◌}
 use Rattle.std.proofs.Common.{◌++◌, length, refl, sym, ap, subst, ◌∙◌, arith, ◌||◌, zero, codes}
 use Rattle.std.proofs.Common.{nat_lt, ◌+◌, pos, negsuc, Option, Some, None, ◌-◌, ◌^◌, decimal}
@@ -6,7 +15,7 @@ use Rattle.std.proofs.Common.{nat_eq, nat_le, true≢false}
 use Rattle.std.specs.Prelude.{IsTrue, slice_get, cond, get_or}
 use Rattle.std.specs.List.{list_all}
 use Rattle.std.specs.Option.{option_map, is_some}
-use Rattle.std.proofs.lemmas.Bool.{and_from, or_right, lt-ltb, ltb-true, leb-true}
+use Rattle.std.proofs.lemmas.Bool.{and_from, or_right, lt-ltb, ltb-true, leb-true, and_parts}
 use Rattle.naga_ir.specs.StatementTree.{SimpleStatement, emit, store, return, StatementTree, simple}
 use Rattle.naga_ir.specs.StatementTree.{block, branch, switch, loop, BlockTree, no_statements}
 use Rattle.naga_ir.specs.StatementTree.{statement, CaseTrees, no_cases, case}
@@ -17,21 +26,11 @@ use Rattle.naga_ir.specs.declared.module.Function as ir_function
 use Rattle.naga_ir.specs.declared.module.FunctionArgument.{FunctionArgument}
 use Rattle.naga_ir.specs.declared.module.FunctionResult.{FunctionResult}
 use Rattle.naga_ir.specs.declared.module.Module.{Module}
-use Rattle.naga_ir.specs.declared.types.Type_.{Type_}
 use Rattle.naga_info.specs.declared.info.ExpressionInfo.{ExpressionInfo}
 use Rattle.naga_info.specs.declared.info.ModuleInfo.{ModuleInfo}
-use Rattle.module_meaning.specs.Literals.{literal_is_within}
-use Rattle.module_meaning.specs.Spelled.{word_at, literal_word, spelling_of}
-use Rattle.module_meaning.specs.Spelled.{is_alike}
-use Rattle.module_meaning.specs.Part.{names_nothing}
-use Rattle.module_meaning.specs.FitsSoFar.{local_fits, function_fits, fits_so_far}
+use Rattle.module_meaning.specs.Spelled.{spelling_of}
 use Rattle.module_meaning.specs.Part.{is_scalar_type}
-use Rattle.module_meaning.specs.FitsSoFar.{functions_fit, statement_fits, block_fits}
 use Rattle.module_meaning.specs.Ranges.{is_below}
-use Rattle.module_meaning.proofs.FitsSoFar.{fits_parts, expressions_fit_known}
-use Rattle.module_meaning.proofs.FitsSoFar.{function_fits_parts, function_fits_expressions}
-use Rattle.module_meaning.proofs.FitsSoFar.{function_fits_block, function_fits_word_at}
-use Rattle.module_meaning.proofs.FitsSoFar.{local_fits_parts, local_word_at}
 use Rattle.wgsl_text.specs.Words.{stands_in, is_builtin, IsIdentifier, is_letter, is_word_byte}
 use Rattle.wgsl_text.specs.Words.{all_word_bytes, is_reserved}
 use Rattle.wgsl_text.specs.Declarations.{IsProgram}
@@ -42,7 +41,6 @@ use Rattle.wgsl_text.specs.Statements.{is_reference, IsLabel, IsLabels, has_case
 use Rattle.wgsl_text.specs.Statements.{IsStatements, IsCases}
 use Rattle.wgsl_text.specs.Statements as tree
 use Rattle.wgsl_text.specs.Types.{TypeSpecifier, IsType}
-use Rattle.naga_info.proofs.Options.{then_some}
 use Rattle.shader_runs.proofs.Update.{and_left, and_right}
 use Rattle.shader_runs.proofs.Sources.{forgotten_named}
 use Rattle.naga_names.proofs.Label.{all_digits-decimal}
@@ -56,11 +54,11 @@ use Rattle.naga_form.specs.Functions.{functions_form}
 use Rattle.naga_form.specs.Statements.{let_form, then_if, lets_form, return_line, simple_form}
 use Rattle.naga_form.specs.Statements.{loop_form, label_form, labels_form, line_form, lines_form}
 use Rattle.naga_form.specs.Statements.{cases_form}
-use Rattle.module_meaning.specs.Premises.{nothing_named, handles_are_counted}
+use Rattle.module_meaning.specs.Premises.{handles_are_counted}
 use Rattle.module_meaning.specs.Names.{module_names, wgsl_names, numbered_text, numbered_name}
 use Rattle.module_meaning.specs.Types.{type_names}
 use Rattle.naga_form.specs.Types.{told_type}
-use Rattle.naga_form.proofs.WrittenTypes.{is_type_at, told_is, known_spelled}
+use Rattle.naga_form.proofs.WrittenTypes.{is_type_at, told_is}
 use Rattle.module_meaning.specs.Applications.{Application, application_of}
 use Rattle.naga_form.specs.Operators.{notation}
 use Rattle.naga_form.proofs.Operators.{is_notated, notated, applied_is}
@@ -87,7 +85,7 @@ use Rattle.shader_runs.specs.Scope.{standing_without_name, with_emitted_handle}
 use Rattle.shader_runs.specs.Scope.{after_emit, forgotten_if}
 use Rattle.module_meaning.specs.Shapes.{statement_shape, statements_shape, function_naming}
 use Rattle.module_meaning.specs.Shapes.{expression_shape}
-use Rattle.naga_form.proofs.Fits.{local_item, not_given, nothing_outside}
+use Rattle.naga_form.proofs.Fits.{local_item, none_is_given}
 
 -- ---- numbered names
 digits_are_bytes : (w : List ℕ) → list_all is_ascii_digit w ≡ true → all_word_bytes w ≡ true
@@ -197,17 +195,18 @@ abbrev mutual
   CasesFit no_cases = Unit {0}
   CasesFit (case value body falls cs) = LabelFits value × AllSwitchesFit body × CasesFit cs
 
--- no statement with a block is accepted so far
-switches_fit : (types : List Type_) (es : List ExpressionInfo) (answer : Option FunctionResult) (b : BlockTree) → block_fits types es answer b ≡ true → AllSwitchesFit b
-switches_fit types es answer no_statements fit = tt
-switches_fit types es answer (statement st b) fit =
-    (by st (and_left (statement_fits types es answer st) (block_fits types es answer b) fit), switches_fit types es answer b (and_right (statement_fits types es answer st) (block_fits types es answer b) fit))
+-- no statement with a block is written so far
+switches_fit : (b : BlockTree) → block_is_written b ≡ true → AllSwitchesFit b
+switches_fit no_statements is = tt
+switches_fit (statement st b) is =
+    let parts = and_parts (statement_is_written st) (block_is_written b) is in
+    (by st parts.0, switches_fit b parts.1)
   where
-    by : (st : StatementTree) → statement_fits types es answer st ≡ true → SwitchesFit st
-    by (simple st) fit = tt
-    by _ fit = absurd (cc)
+    by : (st : StatementTree) → statement_is_written st ≡ true → SwitchesFit st
+    by (simple st) is = tt
+    by _ is = absurd (cc)
 
-module _ (m : Module) (g : ℕ) (f : ir_function.Function) (found : slice_get m.functions g ≡ Some f) (es : List ExpressionInfo) (fits : function_fits m.types f es ≡ true) (unnamed : IsTrue (names_nothing f)) (scalars : list_all is_scalar_type m.types ≡ true) (few : length f.expressions ≤ 2 ^ 64) where
+module _ (m : Module) (g : ℕ) (f : ir_function.Function) (found : slice_get m.functions g ≡ Some f) (es : List ExpressionInfo) (callees : ℕ) (ranges : function_in_range m callees f ≡ true) (written : IsTrue (function_is_written f)) (known : list_all (λ k. is_some (spelling_of m.types k.ty)) es ≡ true) (scalars : list_all is_scalar_type m.types ≡ true) (few : length f.expressions ≤ 2 ^ 64) where
   abbrev own : Naming
   own = function_naming (module_names m) m.types g f es
 
@@ -220,16 +219,14 @@ module _ (m : Module) (g : ℕ) (f : ir_function.Function) (found : slice_get m.
 
   own_is : (operand : ℕ → PlainForm) → ((x : ℕ) → IsPlainForm (operand x)) → (h : ℕ) (e : ir.Expression) → slice_get f.expressions h ≡ Some e → IsPlainForm (own_plain own operand e)
   own_is operand all h (expression.Literal v) at =
-      let w = function_fits_word_at m.types f es h (expression.Literal v) fits at in
-      let k = expressions_fit_known m.types f f.expressions es h (expression.Literal v) (function_fits_expressions m.types f es fits) at in
-      literal_is v (ap is_some w.2) (and_right (is_alike (spelling_of m.types k.0.ty) (literal_word v)) (literal_is_within v) k.2)
+      literal_is v (list_all_at expression_is_written f.expressions h (expression.Literal v) (function_parts f written).expressions at)
+      (names_are_in_range m callees f ranges h (expression.Literal v) at)
   own_is operand all h (expression.FunctionArgument n) at =
-      let w = function_fits_word_at m.types f es h (expression.FunctionArgument n) fits at in
-      let a = then_some (λ a. word_at m.types a.ty) (slice_get f.arguments.items n) w.0 w.2 in
+      let a = element f.arguments.items n (ltb-true n (length f.arguments.items) (names_are_in_range m callees f ranges h (expression.FunctionArgument n) at)) in
       item_is_identifier m (argument_item m g n a.0) (argument_there m g f n a.0 found a.1)
   own_is operand all h (expression.LocalVariable v) at =
-      let l = local_word_at m.types f es h v fits at in
-      (item_is_identifier m (local_item g v l.0) (local_stands wgsl_names m g f v l.0 found l.2), refl)
+      let l = element f.local_variables v (ltb-true v (length f.local_variables) (names_are_in_range m callees f ranges h (expression.LocalVariable v) at)) in
+      (item_is_identifier m (local_item g v l.0) (local_stands wgsl_names m g f v l.0 found l.1), refl)
   own_is operand all h (expression.Load q) at = (reference_is_one (operand q) (all q)).0
   own_is operand all h e at = application_is operand all (application_of e) (notated e)
 
@@ -250,7 +247,7 @@ module _ (m : Module) (g : ℕ) (f : ir_function.Function) (found : slice_get m.
 
   -- a bound handle's name
   bound_is : (k h : ℕ) → binds own.function h ≡ true → IsIdentifier (bound_name own k h)
-  bound_is k h bound = subst (λ b. IsIdentifier (cond b [] (numbered_name h))) (sym (not_given m g f found es fits unnamed nothing_outside refl refl h)) (numbered_is h (within (slice_get f.expressions h) refl))
+  bound_is k h bound = subst (λ b. IsIdentifier (cond b [] (numbered_name h))) (sym (none_is_given m.types f es (function_parts f written).unnamed h)) (numbered_is h (within (slice_get f.expressions h) refl))
     where
       within : (o : Option ir.Expression) → slice_get f.expressions h ≡ o → h < 2 ^ 64
       within (Some e) at = let lt = slice_get_within f.expressions h e at in omega (arith, lt, few)
@@ -388,19 +385,20 @@ module _ (m : Module) (g : ℕ) (f : ir_function.Function) (found : slice_get m.
       cases_are told told_well (given_by_all own.function (statements_shape body) k) [] tt cs fit.2 s well,
     )
 
-  locals_are : (l : ℕ) (vs : List LocalVariable) → l + length vs ≡ length f.local_variables → list_all (local_fits m.types es) vs ≡ true → Each IsLocal (locals_form own (type_names m) f.expressions l vs)
+  locals_are : (l : ℕ) (vs : List LocalVariable) → l + length vs ≡ length f.local_variables → list_all (local_in_range (length m.types) (length f.expressions)) vs ≡ true → Each IsLocal (locals_form own (type_names m) f.expressions l vs)
   locals_are l [] size fit = tt
   locals_are l (v ∷ vs) size fit =
       let lt : l < length f.local_variables = omega (arith, size) in
       let next : (l + 1) + length vs ≡ length f.local_variables = omega (arith, size) in
       let here = element f.local_variables l lt in
-      let parts = local_fits_parts m.types es v (and_left (local_fits m.types es v) (list_all (local_fits m.types es) vs) fit) in (
+      let both = and_parts (local_in_range (length m.types) (length f.expressions) v) (list_all (local_in_range (length m.types) (length f.expressions)) vs) fit in
+      let parts = and_parts (nat_lt v.ty (length m.types)) (is_below (length f.expressions) v.init) both.0 in (
         record {
           name = item_is_identifier m (local_item g l here.0) (local_stands wgsl_names m g f l here.0 found here.1);
           type = is_type_at m.types scalars (module_names m) v.ty (ltb-true v.ty (length m.types) parts.0);
           value = first_is v.init;
         },
-        locals_are (l + 1) vs next (and_right (local_fits m.types es v) (list_all (local_fits m.types es) vs) fit),
+        locals_are (l + 1) vs next both.1,
       )
     where
       first_is : (o : Option ℕ) → IsValue (option_map (value_form own f.expressions (at_start own.function)) o)
@@ -424,40 +422,46 @@ module _ (m : Module) (g : ℕ) (f : ir_function.Function) (found : slice_get m.
 
   function_is : (explicit : Bool) → IsFunction (function_form explicit (module_names m) m.types g f es)
   function_is explicit =
-      let parts = function_fits_parts m.types f es fits in
+      let signature = (and_parts (signature_types_fit (length m.types) f) (signature_fits_32_bits f) (and_parts (signature_fits (length m.types) f) _ ranges).0).0 in
       let args = list_all (λ a. nat_lt a.ty (length m.types)) f.arguments.items in
       let answer = is_below (length m.types) (option_map (λ r. r.ty) f.result) in
       let all : 0 + length f.arguments.items ≡ length f.arguments.items = omega arith in
       let all_locals : 0 + length f.local_variables ≡ length f.local_variables = omega arith in
       record {
         name = item_is_identifier m (function_item m g f) (function_there m g f found);
-        parameters = parameters_are 0 f.arguments.items all (and_left args answer parts.0);
-        result = result_is f.result (and_right args answer parts.0);
-        locals = locals_are 0 f.local_variables all_locals parts.3;
-        body = lines_are (told_type explicit (type_names m) es) (told_is m.types scalars (module_names m) explicit es (known_spelled m.types f es fits)) 0 f.body (switches_fit m.types es f.result f.body (function_fits_block m.types f es fits)) (at_start own.function) start_is;
+        parameters = parameters_are 0 f.arguments.items all (and_left args answer signature);
+        result = result_is f.result (and_right args answer signature);
+        locals = locals_are 0 f.local_variables all_locals (locals_are_in_range m callees f ranges);
+        body = lines_are (told_type explicit (type_names m) es) (told_is m.types scalars (module_names m) explicit es (λ h k at. some_word (spelling_of m.types k.ty) (list_all_at (λ k. is_some (spelling_of m.types k.ty)) es h k known at))) 0 f.body (switches_fit f.body (function_parts f written).body) (at_start own.function) start_is;
       }
 
-functions_are : (explicit : Bool) (m : Module) (g : ℕ) (fs : List ir_function.Function) (ess : List (List ExpressionInfo)) → ((i : ℕ) (f : ir_function.Function) → slice_get fs i ≡ Some f → slice_get m.functions (g + i) ≡ Some f) → IsTrue (functions_fit m.types fs ess) → IsTrue (list_all names_nothing fs) → IsTrue (list_all (λ f. nat_le (length f.expressions) (2 ^ 64)) fs) → list_all is_scalar_type m.types ≡ true → Each IsFunction (functions_form explicit (module_names m) m.types g fs ess)
-functions_are explicit m g [] [] there fits unnamed few scalars = tt
-functions_are explicit m g [] (es ∷ ess) there fits unnamed few scalars = tt
-functions_are explicit m g (f ∷ fs) [] there fits unnamed few scalars = tt
-functions_are explicit m g (f ∷ fs) (es ∷ ess) there fits unnamed few scalars =
-    let here : g + 0 ≡ g = omega arith in
-    let found = subst (λ h. slice_get m.functions h ≡ Some f) here (there 0 f refl) in
-    let counted = λ (f : ir_function.Function). nat_le (length f.expressions) (2 ^ 64) in (
-      function_is m g f found es (and_left (function_fits m.types f es) (functions_fit m.types fs ess) fits) (and_left (names_nothing f) (list_all names_nothing fs) unnamed) scalars (leb-true (length f.expressions) (2 ^ 64) (and_left (counted f) (list_all counted fs) few)) explicit,
-      functions_are explicit m (g + 1) fs ess (further m.functions g f fs there) (and_right (function_fits m.types f es) (functions_fit m.types fs ess) fits) (and_right (names_nothing f) (list_all names_nothing fs) unnamed) (and_right (counted f) (list_all counted fs) few) scalars,
-    )
+module _ (explicit : Bool) (m : Module) (info : ModuleInfo) (accepted : IsTrue (is_accepted m info)) (scalars : list_all is_scalar_type m.types ≡ true) where
+  functions_are : (g : ℕ) (fs : List ir_function.Function) (ess : List (List ExpressionInfo)) → ((i : ℕ) (f : ir_function.Function) → slice_get fs i ≡ Some f → slice_get m.functions (g + i) ≡ Some f) → IsTrue (list_all function_is_written fs) →
+      IsTrue (list_all (list_all (λ k. is_some (spelling_of m.types k.ty))) ess) → IsTrue (list_all (λ f. nat_le (length f.expressions) (2 ^ 64)) fs) → Each IsFunction (functions_form explicit (module_names m) m.types g fs ess)
+  functions_are g [] [] there written known few = tt
+  functions_are g [] (es ∷ ess) there written known few = tt
+  functions_are g (f ∷ fs) [] there written known few = tt
+  functions_are g (f ∷ fs) (es ∷ ess) there written known few =
+      let here : g + 0 ≡ g = omega arith in
+      let found = subst (λ h. slice_get m.functions h ≡ Some f) here (there 0 f refl) in
+      let at = known_function m info accepted g f found in
+      let is = accepted_at m info accepted g f at.0 at.1 in
+      let all = and_parts (function_is_written f) (list_all function_is_written fs) written in
+      let spelled = and_parts (list_all (λ k. is_some (spelling_of m.types k.ty)) es) (list_all (list_all (λ k. is_some (spelling_of m.types k.ty))) ess) known in
+      let counted = and_parts (nat_le (length f.expressions) (2 ^ 64)) (list_all (λ f. nat_le (length f.expressions) (2 ^ 64)) fs) few in (
+        function_is m g f found es is.callees is.ranges all.0 spelled.0 scalars (leb-true (length f.expressions) (2 ^ 64) counted.0) explicit,
+        functions_are (g + 1) fs ess (further m.functions g f fs there) all.1 spelled.1 counted.1,
+      )
 
-pub is_program : (m : Module) (info : ModuleInfo) (explicit : Bool) → IsTrue (fits_so_far m info) → IsTrue (nothing_named m) → IsTrue (handles_are_counted m) → IsProgram (written_program m info explicit)
-is_program m info explicit accepted unnamed few =
-    let parts = fits_parts m info accepted in
+pub is_program : (m : Module) (info : ModuleInfo) (explicit : Bool) → IsTrue (is_accepted m info) → IsTrue (is_written_so_far m info) → IsTrue (handles_are_counted m) → IsProgram (written_program m info explicit)
+is_program m info explicit accepted written few =
+    let parts = written_so_far_parts m info written in
     record {
       enables = tt;
       structs = tt;
       constants = tt;
       overrides = tt;
       globals = tt;
-      functions = functions_are explicit m 0 m.functions info.functions.items (from_start m.functions) parts.5 unnamed few parts.1;
+      functions = functions_are explicit m info accepted parts.1 0 m.functions info.functions.items (from_start m.functions) parts.2 parts.3 few;
       entry_points = tt;
     }

@@ -1,7 +1,8 @@
--- The statements of every accepted function are regular: what is returned has the function's result
--- type, calls pass what an earlier callee wants, results go to result handles, and cases fall
--- through from empty ones alone. What is said of words and names is asked, and so is that only empty
--- cases fall through, which acceptance doesn't say.
+-- The statements of every accepted function are regular: what is returned has the function's
+-- result type, calls pass what an earlier callee wants, results go to result handles, and cases
+-- fall through from empty ones alone. What is said of words and names is asked, and so is that only
+-- empty cases fall through, which acceptance doesn't say.
+use Rattle.module_meaning.specs.Writable.{is_empty, only_empty_fall, only_empty_fall_in, only_empty_cases_fall}
 use Rattle.std.proofs.Common.{◌≡◌, ℕ, ◌<◌, ◌≤◌, Bool, true, false, not, ◌&&◌, ◌||◌, List, [], ◌∷◌}
 use Rattle.std.proofs.Common.{Option, Some, None, refl, sym, ap, ◌∙◌, subst, slice_get, length, map}
 use Rattle.std.proofs.Common.{arith, nat_lt, eqb-true}
@@ -87,31 +88,6 @@ abbrev mutual
   pub CasesAreWorded : shapes.Module → Naming → Cases → Type 0
   CasesAreWorded p f no_case = Unit {0}
   CasesAreWorded p f (shapes.case l b falls cs) = AreWorded p f b × CasesAreWorded p f cs
-
--- ---- what is asked of cases
-abbrev pub is_empty : BlockTree → Bool
-is_empty no_statements = true
-is_empty (statement s b) = false
-
--- only empty cases fall through, in a statement, in a block and among cases
-abbrev mutual
-  pub only_empty_fall_in : StatementTree → Bool
-  only_empty_fall_in (simple s) = true
-  only_empty_fall_in (block b) = only_empty_fall b
-  only_empty_fall_in (branch condition accept reject) =
-      only_empty_fall accept && only_empty_fall reject
-  only_empty_fall_in (switch selector cs) = only_empty_cases_fall cs
-  only_empty_fall_in (loop body continuing break_if) =
-      only_empty_fall body && only_empty_fall continuing
-
-  pub only_empty_fall : BlockTree → Bool
-  only_empty_fall no_statements = true
-  only_empty_fall (statement s b) = only_empty_fall_in s && only_empty_fall b
-
-  pub only_empty_cases_fall : CaseTrees → Bool
-  only_empty_cases_fall no_cases = true
-  only_empty_cases_fall (case v b falls cs) =
-      (not falls || is_empty b) && (only_empty_fall b && only_empty_cases_fall cs)
 
 -- ---- results
 module _ (d : Declared) (es : List ir.Expression) (h : ℕ) where

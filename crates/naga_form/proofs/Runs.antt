@@ -1,4 +1,9 @@
 -- The program that is written for a module does what the module does.
+use Rattle.naga_form.proofs.AcceptedFunctions.{accepted_at, locals_are_in_range}
+use Rattle.naga_form.proofs.AcceptedFunctions.{function_there as function_there_known}
+use Rattle.module_meaning.proofs.FunctionsSoFar.{expressions_are_written}
+use Rattle.module_meaning.specs.Part.{expression_is_written}
+use Rattle.module_meaning.specs.Types.{LocalsAreSpelled}
 use Rattle.std.proofs.Common.{[], ◌≡◌, ℕ, suc, ◌+◌, ◌<◌, Bool, true, List, ◌∷◌, map, length, Option}
 use Rattle.std.proofs.Common.{Some, None, refl, sym, ap, subst, ◌∙◌, arith, add-one, append-nil}
 use Rattle.std.specs.Prelude.{IsTrue, slice_get, reverse}
@@ -10,25 +15,21 @@ use Rattle.indexmap.proofs.ReorderLemmas.{map-reverse}
 use Rattle.naga_ir.specs.declared.module.Function as ir_function
 use Rattle.naga_ir.specs.declared.module.Module.{Module}
 use Rattle.naga_ir.specs.declared.types.Type_.{Type_}
-use Rattle.module_meaning.specs.Part.{names_nothing, is_written_so_far}
+use Rattle.module_meaning.specs.Part.{is_written_so_far}
 use Rattle.module_meaning.specs.ModuleShapes.{module_shape}
 use Rattle.module_meaning.proofs.ModuleShapes.{same_program}
-use Rattle.module_meaning.proofs.Part.{functions_name_nothing}
-use Rattle.module_meaning.specs.FitsSoFar.{fits_so_far, function_fits, functions_fit}
-use Rattle.module_meaning.specs.Part.{is_scalar_type}
+use Rattle.module_meaning.proofs.Part.{functions_are_written, written_so_far_parts}
+use Rattle.module_meaning.specs.FitsSoFar.{fits_so_far}
 use Rattle.naga_info.specs.declared.info.ExpressionInfo.{ExpressionInfo}
 use Rattle.naga_info.specs.declared.info.ModuleInfo.{ModuleInfo}
-use Rattle.std.specs.Option.{option_map_or, is_some}
-use Rattle.naga_ir.specs.declared.expression.Literal.{Literal}
+use Rattle.std.specs.Option.{option_map_or}
 use Rattle.naga_ir.specs.declared.expression.Expression as ir
 use Rattle.naga_ir.specs.declared.expression.Expression.TheVariants as expression
-use Rattle.module_meaning.specs.Spelled.{literal_word}
 use Rattle.naga_form.specs.Functions.{functions_form}
 use Rattle.naga_form.specs.Declarations.{written_program}
 use Rattle.naga_form.proofs.Abstraction.{locals_spelled, function_reads}
 use Rattle.naga_form.proofs.Names.{items_tell, function_item, function_there}
 use Rattle.naga_names.proofs.Refusal.{element}
-use Rattle.module_meaning.proofs.FitsSoFar.{fits_parts, function_fits_word_at}
 use Rattle.naga_form.specs.Literals.{LiteralsAreWritten, literal_is_written}
 use Rattle.naga_names.specs.Keys.{NameMap}
 use Rattle.naga_names.specs.declared.key.NameKey.TheVariants as key
@@ -37,7 +38,7 @@ use Rattle.shader_runs.specs.Scope.{Naming, fits_function}
 use Rattle.shader_runs.specs.Text.{TextModule}
 use Rattle.shader_runs.specs.Constants.{follow_module}
 use Rattle.shader_runs.specs.Form.{form_function, form_functions, form_module, functions_of}
-use Rattle.shader_runs.specs.Premises.{AllFit, ConstantsFit}
+use Rattle.shader_runs.specs.Premises.{ConstantsFit}
 use Rattle.shader_runs.specs.Correct.{ModuleFits}
 use Rattle.shader_runs.proofs.Calls.{runs_alike}
 use Rattle.shader_runs.proofs.Names.{length-functions_of}
@@ -50,41 +51,50 @@ use Rattle.text_meaning.specs.Abstraction.{function_read, program_read}
 use Rattle.wgsl_text.specs.Requests.{is_request}
 use Rattle.module_meaning.specs.Faithful.{RunsAs}
 use Rattle.naga_form.proofs.Facts.{further, from_start}
-use Rattle.naga_form.proofs.Fits.{function_fits_shape}
-use Rattle.naga_form.proofs.ScopeRules.{namings_functions, scopes_are_checked}
+use Rattle.naga_form.proofs.PartFits.{is_left, no_case_falls, no_constant_named}
+use Rattle.naga_form.proofs.FunctionsFit.{IsLeft, AllBehind, all_fit}
+use Rattle.naga_form.proofs.AcceptedFunctions.{functions_known, group_at, numbered, Numbered, functions_counted, AsFunction, AsEntryPoint}
+use Rattle.naga_form.proofs.ConstantTrees.{trees_are}
+use Rattle.naga_form.proofs.Leaves.{ConstantsAreTyped}
+use Rattle.module_meaning.specs.Accepted.{is_accepted}
+use Rattle.module_meaning.specs.AgreeingOperators.{function_group}
+use Rattle.module_meaning.specs.Part.{function_is_written}
+use Rattle.module_meaning.proofs.AcceptedSoFar.{accepted_so_far}
+use Rattle.module_meaning.proofs.FitsSoFar.{list_all_at}
+use Rattle.naga_ir.specs.declared.module.EntryPoint.{EntryPoint}
+use Rattle.std.proofs.lemmas.List.{nil_from_length}
+use Rattle.std.proofs.lemmas.Bool.{and_parts, eqb-true}
+use Rattle.std.specs.Prelude.{◌==◌}
+use Rattle.naga_form.proofs.ScopeRules.{same_functions, scopes_are_checked}
 
 pub form_functions-map : (ns : List Naming) → form_functions ns ≡ map form_function ns
 form_functions-map [] = refl
 form_functions-map (n ∷ ns) = ap (λ fs. form_function n ∷ fs) (form_functions-map ns)
 
-pub shapes_counted : (types : List Type_) (fs : List ir_function.Function) (ess : List (List ExpressionInfo)) → IsTrue (functions_fit types fs ess) → length (function_shapes types fs ess) ≡ length fs
-shapes_counted types [] [] fits = refl
-shapes_counted types [] (es ∷ ess) fits = absurd (cc)
-shapes_counted types (f ∷ fs) [] fits = absurd (cc)
-shapes_counted types (f ∷ fs) (es ∷ ess) fits = ap suc (shapes_counted types fs ess (and_right (function_fits types f es) (functions_fit types fs ess) fits))
+pub shapes_counted : (types : List Type_) (fs : List ir_function.Function) (ess : List (List ExpressionInfo)) → length fs ≡ length ess → length (function_shapes types fs ess) ≡ length fs
+shapes_counted types [] ess paired = refl
+shapes_counted types (f ∷ fs) [] paired = absurd (omega (arith, paired))
+shapes_counted types (f ∷ fs) (es ∷ ess) paired = ap suc (shapes_counted types fs ess (omega (arith, paired)))
 
--- the literals of an accepted function are written
-fitting_literals : (types : List Type_) (f : ir_function.Function) (es : List ExpressionInfo) → function_fits types f es ≡ true → LiteralsAreWritten f.expressions
-fitting_literals types f es fits h = by (slice_get f.expressions h) refl
+-- the literals of a function that is written so far are written
+literals_written : (f : ir_function.Function) → IsTrue (function_is_written f) → LiteralsAreWritten f.expressions
+literals_written f written h = by (slice_get f.expressions h) refl
   where
-    found : (v : Literal) (w : List ℕ) → literal_word v ≡ Some w → is_some (literal_word v) ≡ true
-    found v w e = ap is_some e
-
     by : (o : Option ir.Expression) → slice_get f.expressions h ≡ o → option_map_or literal_is_written o true ≡ true
-    by (Some (expression.Literal v)) at = let w = function_fits_word_at types f es h (expression.Literal v) fits at in found v w.0 w.2
+    by (Some (expression.Literal v)) at = list_all_at expression_is_written f.expressions h (expression.Literal v) (expressions_are_written f written) at
     by (Some _) at = refl
     by None at = refl
 
-functions_read : (explicit : Bool) (names : NameMap) (types : List Type_) → IsTrue (list_all is_scalar_type types) → (g : ℕ) (fs : List ir_function.Function) (ess : List (List ExpressionInfo)) → IsTrue (functions_fit types fs ess) → map function_read (functions_form explicit names types g fs ess) ≡ map form_function (namings_from names g (function_shapes types fs ess))
-functions_read explicit names types scalars g [] [] fits = refl
-functions_read explicit names types scalars g [] (es ∷ ess) fits = refl
-functions_read explicit names types scalars g (f ∷ fs) [] fits = refl
-functions_read explicit names types scalars g (f ∷ fs) (es ∷ ess) fits =
-    let fit = and_left (function_fits types f es) (functions_fit types fs ess) fits in
-    let here = fitting_literals types f es fit in
-    let spelled = locals_spelled types f es scalars fit in
-    let rest = and_right (function_fits types f es) (functions_fit types fs ess) fits in
-    λ i. function_reads explicit names types g f es here spelled i ∷ functions_read explicit names types scalars (g + 1) fs ess rest i
+functions_read : (explicit : Bool) (names : NameMap) (types : List Type_) (g : ℕ) (fs : List ir_function.Function) (ess : List (List ExpressionInfo)) → IsTrue (list_all function_is_written fs) → ((i : ℕ) (f : ir_function.Function) → slice_get fs i ≡ Some f → LocalsAreSpelled types f.local_variables) →
+    map function_read (functions_form explicit names types g fs ess) ≡ map form_function (namings_from names g (function_shapes types fs ess))
+functions_read explicit names types g [] [] is spelled = refl
+functions_read explicit names types g [] (es ∷ ess) is spelled = refl
+functions_read explicit names types g (f ∷ fs) [] is spelled = refl
+functions_read explicit names types g (f ∷ fs) (es ∷ ess) is spelled =
+    let all = and_parts (function_is_written f) (list_all function_is_written fs) is in
+    let here = literals_written f all.0 in
+    let own = spelled 0 f refl in
+    λ i. function_reads explicit names types g f es here own i ∷ functions_read explicit names types (g + 1) fs ess all.1 (λ i f there. spelled (suc i) f there) i
 
 -- what holds of all of a list that is turned round onto another holds of all of both
 behind_all : {X : Type 0} (test : X → Bool) (xs behind : List X) → IsTrue (list_all test (reverse_aux xs behind)) → IsTrue (list_all test behind)
@@ -96,85 +106,129 @@ all_reversed test [] behind all = refl
 all_reversed test (x ∷ xs) behind all = and_from (test x) (list_all test xs) (and_left (test x) (list_all test behind) (behind_all test xs (x ∷ behind) all)) (all_reversed test xs (x ∷ behind) all)
 
 -- the square: what is written of the module is read as its program of shapes is written
-pub program_reads : (m : Module) (info : ModuleInfo) (explicit : Bool) → IsTrue (fits_so_far m info) → program_read (written_program m info explicit) ≡ form_module (program_shape m info) (outer_names (module_names m)) (namings (module_names m) m info)
-program_reads m info explicit accepted =
-    let parts = fits_parts m info accepted in
+pub program_reads : (m : Module) (info : ModuleInfo) (explicit : Bool) → IsTrue (is_accepted m info) → IsTrue (is_written_so_far m info) → program_read (written_program m info explicit) ≡ form_module (program_shape m info) (outer_names (module_names m)) (namings (module_names m) m info)
+program_reads m info explicit accepted written =
     let listed = namings_from (module_names m) 0 (function_shapes m.types m.functions info.functions.items) in
-    let each = functions_read explicit (module_names m) m.types parts.1 0 m.functions info.functions.items parts.5 in
+    let each = functions_read explicit (module_names m) m.types 0 m.functions info.functions.items (functions_are_written m info written) spelled in
     λ i. record {
       constants = [];
       overrides = [];
       globals = [];
       functions = (ap reverse (append-nil (map function_read (functions_form explicit (module_names m) m.types 0 m.functions info.functions.items)) ∙ each) ∙ sym (form_functions-map (reverse listed) ∙ map-reverse form_function listed)) i;
     }
+  where
+    spelled : (i : ℕ) (f : ir_function.Function) → slice_get m.functions i ≡ Some f → LocalsAreSpelled m.types f.local_variables
+    spelled i f at =
+        let known = function_there_known m info accepted i f at in
+        let is = accepted_at m info accepted i f known.0 known.1 in
+        locals_spelled m.types f (length f.expressions) (written_so_far_parts m info written).1 (locals_are_in_range m is.callees f is.ranges)
 
 -- and so as that of every module
-pub reads_as_shapes : (m : Module) (info : ModuleInfo) (explicit : Bool) → IsTrue (fits_so_far m info) → IsTrue (is_written_so_far m info) → program_read (written_program m info explicit) ≡ form_module (module_shape m info) (outer_names (module_names m)) (namings (module_names m) m info)
+pub reads_as_shapes : (m : Module) (info : ModuleInfo) (explicit : Bool) → IsTrue (is_accepted m info) → IsTrue (is_written_so_far m info) → program_read (written_program m info explicit) ≡ form_module (module_shape m info) (outer_names (module_names m)) (namings (module_names m) m info)
 reads_as_shapes m info explicit accepted written =
-    program_reads m info explicit accepted
-    ∙ ap (λ p. form_module p (outer_names (module_names m)) (namings (module_names m) m info)) (sym (same_program m info accepted written))
+    program_reads m info explicit accepted written
+    ∙ ap (λ p. form_module p (outer_names (module_names m)) (namings (module_names m) m info)) (sym (same_program m info (accepted_so_far m info accepted written) written))
 
-pub module_counted : (m : Module) (info : ModuleInfo) → IsTrue (fits_so_far m info) → length (program_shape m info).functions ≡ length m.functions
-module_counted m info accepted =
-    let parts = fits_parts m info accepted in
-    length-reverse (function_shapes m.types m.functions info.functions.items)
-    ∙ shapes_counted m.types m.functions info.functions.items parts.5
-
-module _ (m : Module) (info : ModuleInfo) (accepted : IsTrue (fits_so_far m info)) (written : IsTrue (is_written_so_far m info)) (scope : IsTrue (scope_holds m info)) (counted : NamesAreCounted m) where
+-- ---- what the law of runs asks
+-- A module that is accepted and of the part: all is said by acceptance but what the part shows.
+module _ (m : Module) (info : ModuleInfo) (accepted : IsTrue (is_accepted m info)) (written : IsTrue (is_written_so_far m info)) where
   abbrev p : shapes.Module
-  p = program_shape m info
+  p = module_shape m info
 
-  -- each function, behind those before it
-  all_fit : (g : ℕ) (fs : List ir_function.Function) (ess : List (List ExpressionInfo)) → IsTrue (functions_fit m.types fs ess) → ((i : ℕ) (f : ir_function.Function) → slice_get fs i ≡ Some f → slice_get m.functions (g + i) ≡ Some f) → IsTrue (list_all names_nothing fs) → IsTrue (list_all fits_function (namings_from (module_names m) g (function_shapes m.types fs ess))) → (behind : List Naming) → length behind ≡ g → AllFit p (outer_names (module_names m)) behind → AllFit p (outer_names (module_names m)) (reverse_aux (namings_from (module_names m) g (function_shapes m.types fs ess)) behind)
-  all_fit g [] [] fits there named_none scoped behind at so_far = so_far
-  all_fit g [] (es ∷ ess) fits there named_none scoped behind at so_far = so_far
-  all_fit g (f ∷ fs) [] fits there named_none scoped behind at so_far = so_far
-  all_fit g (f ∷ fs) (es ∷ ess) fits there named_none scoped behind at so_far =
-      let fit = and_left (function_fits m.types f es) (functions_fit m.types fs ess) fits in
-      let here : g + 0 ≡ g = omega arith in
-      let found = subst (λ h. slice_get m.functions h ≡ Some f) here (there 0 f refl) in
-      let own = function_naming (module_names m) m.types g f es in
-      let unnamed_here = and_left (names_nothing f) (list_all names_nothing fs) named_none in
-      let scoped_here = and_left (fits_function own) (list_all fits_function (namings_from (module_names m) (g + 1) (function_shapes m.types fs ess))) scoped in
-      let this = function_fits_shape m g f found es fit unnamed_here p refl refl (module_counted m info accepted) (functions_of behind) (length-functions_of behind ∙ at) counted scoped_here in
-      all_fit (g + 1) fs ess (and_right (function_fits m.types f es) (functions_fit m.types fs ess) fits) (further m.functions g f fs there) (and_right (names_nothing f) (list_all names_nothing fs) named_none) (and_right (fits_function own) (list_all fits_function (namings_from (module_names m) (g + 1) (function_shapes m.types fs ess))) scoped) (own ∷ behind) (ap suc at ∙ sym (add-one g)) (this, so_far)
+  fitting : IsTrue (fits_so_far m info)
+  fitting = accepted_so_far m info accepted written
 
-  fits_as_part : ModuleFits p (outer_names (module_names m)) (namings (module_names m) m info)
-  fits_as_part =
-      let parts = fits_parts m info accepted in
-      let listed = namings_from (module_names m) 0 (function_shapes m.types m.functions info.functions.items) in
-      let count : length (reverse (function_shapes m.types m.functions info.functions.items)) ≡ length m.functions = length-reverse (function_shapes m.types m.functions info.functions.items) ∙ shapes_counted m.types m.functions info.functions.items parts.5 in
-      record {
-        functions = namings_functions m info;
-        distinct = record {
-          functions = λ g k lg lk e.
-              let a = element m.functions g (subst (λ n. g < n) count lg) in
-              let b = element m.functions k (subst (λ n. k < n) count lk) in
-              one_function g k (ap (λ item. item.0) (items_tell m counted (function_item m g a.0) (function_item m k b.0) (function_there m g a.0 a.1) (function_there m k b.0 b.1) e));
-        };
-        constants = no_constants;
-        all = all_fit 0 m.functions info.functions.items parts.5 (from_start m.functions) (functions_name_nothing m info written) (all_reversed fits_function listed [] scope) [] refl tt;
-      }
+  same : p ≡ program_shape m info
+  same = same_program m info fitting written
+
+  no_constant_types : p.constant_types ≡ []
+  no_constant_types = ap (λ p. p.constant_types) same
+
+  no_global_types : p.global_types ≡ []
+  no_global_types = ap (λ p. p.global_types) same
+
+  all_counted : length p.functions ≡ length m.functions
+  all_counted =
+      ap (λ p. length p.functions) same
+      ∙ (length-reverse (function_shapes m.types m.functions info.functions.items)
+      ∙ shapes_counted m.types m.functions info.functions.items (functions_counted m info accepted))
+
+  no_entry_points : m.entry_points.items ≡ []
+  no_entry_points =
+      let one = and_parts (length m.constants == 0) _ (written_so_far_parts m info written).0 in
+      let two = and_parts (length m.overrides == 0) _ one.1 in
+      let three = and_parts (length m.global_variables == 0) _ two.1 in
+      let four = and_parts (length m.global_expressions == 0) (length m.entry_points.items == 0) three.1 in
+      nil_from_length m.entry_points.items (eqb-true (length m.entry_points.items) 0 four.1)
+
+  -- each function that is known is written so far
+  written_at : (k : ℕ) (f : ir_function.Function) (es : List ExpressionInfo) → slice_get (functions_known m info) k ≡ Some (f, es) → IsTrue (function_is_written f)
+  written_at k f es at = by (numbered m info accepted k f es at)
     where
-      no_constants : ConstantsFit p (outer_names (module_names m))
-      no_constants = record {
-        counted = omega arith;
-        rank = λ i. i;
-        initialisers = λ i e q. absurd (cc);
-        distinct = λ i k lt lk e. absurd (omega (arith, lt));
-      }
+      none : (xs : List EntryPoint) (j : ℕ) (e : EntryPoint) → xs ≡ [] → slice_get xs j ≡ Some e → ⊥
+      none [] j e is at = absurd cc
+      none (x ∷ xs) j e is at = absurd cc
 
-      one_function : (g k : ℕ) → key.Function g ≡ key.Function k → g ≡ k
-      one_function g k e = cc
+      by : Numbered m info accepted k f es → IsTrue (function_is_written f)
+      by (AsFunction here known) = list_all_at function_is_written m.functions k f (functions_are_written m info written) here
+      by (AsEntryPoint j e number here known of) = absurd (none m.entry_points.items j e no_entry_points here)
 
-  pub module_fits : ModuleFits (module_shape m info) (outer_names (module_names m)) (namings (module_names m) m info)
-  module_fits =
-      subst (λ p. ModuleFits p (outer_names (module_names m)) (namings (module_names m) m info)) (sym (same_program m info accepted written)) fits_as_part
+  module _ (scope : IsTrue (scope_holds m info)) (counted : NamesAreCounted m) where
+    constants_typed : (k : ℕ) (f : ir_function.Function) (es : List ExpressionInfo) → slice_get (functions_known m info) k ≡ Some (f, es) → ConstantsAreTyped m info f es
+    constants_typed k f es at =
+        let group = group_at m info accepted k f es at in
+        record {
+          types = λ h t found. (trees_are m info accepted counted (Some f) (function_group f es) group h t found).type;
+          ranges = λ h t found. (trees_are m info accepted counted (Some f) (function_group f es) group h t found).range;
+          written = λ h c there. absurd (no_constant_named f (written_at k f es at) h c there);
+        }
 
-  runs : (explicit : Bool) → RunsAs m info (written_program m info explicit)
-  runs explicit settings fit meaning typed g f found arguments typed_arguments world turns past keeps =
-      ap (λ (text : TextModule). follow_module text settings world meaning is_request turns (function_name (module_names m) g) arguments past) (reads_as_shapes m info explicit accepted written)
-      ∙ runs_alike (module_shape m info) (outer_names (module_names m)) (namings (module_names m) m info) module_fits settings fit meaning typed g f found arguments typed_arguments world turns past keeps
+    -- nothing is left of each function, behind those before it
+    all_left : (g : ℕ) (fs : List ir_function.Function) (ess : List (List ExpressionInfo)) → ((i : ℕ) (f : ir_function.Function) → slice_get fs i ≡ Some f → slice_get m.functions (g + i) ≡ Some f) → IsTrue (list_all function_is_written fs) → IsTrue (list_all fits_function (namings_from (module_names m) g (function_shapes m.types fs ess))) →
+        (behind : List Naming) → length behind ≡ g → AllBehind (IsLeft p (outer_names (module_names m))) behind → AllBehind (IsLeft p (outer_names (module_names m))) (reverse_aux (namings_from (module_names m) g (function_shapes m.types fs ess)) behind)
+    all_left g [] ess there is scoped behind at so_far = so_far
+    all_left g (f ∷ fs) [] there is scoped behind at so_far = so_far
+    all_left g (f ∷ fs) (es ∷ ess) there is scoped behind at so_far =
+        let here : g + 0 ≡ g = omega arith in
+        let found = subst (λ h. slice_get m.functions h ≡ Some f) here (there 0 f refl) in
+        let own = function_naming (module_names m) m.types g f es in
+        let all = and_parts (function_is_written f) (list_all function_is_written fs) is in
+        let scopes = and_parts (fits_function own) (list_all fits_function (namings_from (module_names m) (g + 1) (function_shapes m.types fs ess))) scoped in
+        let this = is_left m g f found es all.0 p no_constant_types no_global_types all_counted (functions_of behind) (length-functions_of behind ∙ at) counted scopes.0 in
+        all_left (g + 1) fs ess (further m.functions g f fs there) all.1 scopes.1 (own ∷ behind) (ap suc at ∙ sym (add-one g)) (this, so_far)
 
-pub runs_as : (m : Module) (info : ModuleInfo) (explicit : Bool) → IsTrue (fits_so_far m info) → IsTrue (is_written_so_far m info) → ScopesHold m info → NamesAreCounted m → RunsAs m info (written_program m info explicit)
-runs_as m info explicit accepted written scope counted = runs m info accepted written ((scopes_are_checked m info accepted written).1 scope) counted explicit
+    no_constants : ConstantsFit (program_shape m info) (outer_names (module_names m))
+    no_constants = record {
+      counted = omega arith;
+      rank = λ i. i;
+      initialisers = λ i e q. absurd (cc);
+      distinct = λ i k lt lk e. absurd (omega (arith, lt));
+    }
+
+    one_function : (g k : ℕ) → key.Function g ≡ key.Function k → g ≡ k
+    one_function g k e = cc
+
+    pub module_fits : ModuleFits (module_shape m info) (outer_names (module_names m)) (namings (module_names m) m info)
+    module_fits =
+        let listed = namings_from (module_names m) 0 (function_shapes m.types m.functions info.functions.items) in
+        record {
+          functions = same_functions m info accepted written;
+          distinct = record {
+            functions = λ g k lg lk e.
+                let a = element m.functions g (subst (λ n. g < n) all_counted lg) in
+                let b = element m.functions k (subst (λ n. k < n) all_counted lk) in
+                one_function g k (ap (λ item. item.0) (items_tell m counted (function_item m g a.0) (function_item m k b.0) (function_there m g a.0 a.1) (function_there m k b.0 b.1) e));
+          };
+          constants = subst (λ p. ConstantsFit p (outer_names (module_names m))) (sym same) no_constants;
+          all = all_fit m info accepted counted constants_typed (λ k f es at. no_case_falls f (written_at k f es at)) (outer_names (module_names m)) (namings (module_names m) m info) (same_functions m info accepted written)
+              (all_left 0 m.functions info.functions.items (from_start m.functions) (functions_are_written m info written) (all_reversed fits_function listed [] scope) [] refl tt);
+        }
+
+    runs : (explicit : Bool) → RunsAs m info (written_program m info explicit)
+    runs explicit settings fit meaning typed g f found arguments typed_arguments world turns past keeps =
+        ap (λ (text : TextModule). follow_module text settings world meaning is_request turns (function_name (module_names m) g) arguments past) (reads_as_shapes m info explicit accepted written)
+        ∙ runs_alike (module_shape m info) (outer_names (module_names m)) (namings (module_names m) m info) module_fits settings fit meaning typed g f found arguments typed_arguments world turns past keeps
+
+pub runs_as : (m : Module) (info : ModuleInfo) (explicit : Bool) → IsTrue (is_accepted m info) → IsTrue (is_written_so_far m info) → ScopesHold m info → NamesAreCounted m → RunsAs m info (written_program m info explicit)
+runs_as m info explicit accepted written scope counted =
+    runs m info accepted written ((scopes_are_checked m info accepted written).1 scope) counted explicit

@@ -1,18 +1,14 @@
 -- The check of scope decides whether the rules of scope hold in each function of an accepted
 -- module.
-use Rattle.std.proofs.Common.{[], ◌≡◌, ℕ, ◌+◌, true, List, ◌∷◌, map, refl, ap, subst, ◌∙◌, sym}
+use Rattle.std.proofs.Common.{[], ◌≡◌, ℕ, ◌+◌, List, ◌∷◌, map, refl, ap, subst, ◌∙◌, sym}
 use Rattle.std.specs.Prelude.{IsTrue, reverse, ◌↔◌}
 use Rattle.std.specs.List.{list_all}
 use Rattle.std.proofs.lemmas.Bool.{and_from}
-use mathlib.Core.List.{reverse_aux}
 use Rattle.indexmap.proofs.ReorderLemmas.{map-reverse}
-use Rattle.naga_ir.specs.declared.module.Function as ir_function
 use Rattle.naga_ir.specs.declared.module.Module.{Module}
-use Rattle.naga_ir.specs.declared.types.Type_.{Type_}
-use Rattle.naga_info.specs.declared.info.ExpressionInfo.{ExpressionInfo}
 use Rattle.naga_info.specs.declared.info.ModuleInfo.{ModuleInfo}
-use Rattle.module_meaning.specs.FitsSoFar.{fits_so_far, function_fits, functions_fit}
-use Rattle.module_meaning.proofs.FitsSoFar.{fits_functions_fit}
+use Rattle.module_meaning.specs.Accepted.{is_accepted}
+use Rattle.module_meaning.proofs.AcceptedSoFar.{accepted_so_far}
 use Rattle.naga_names.specs.Keys.{NameMap}
 use Rattle.shader_runs.specs.Program as shapes
 use Rattle.shader_runs.specs.Program.{expression_of, operands_of}
@@ -26,8 +22,10 @@ use Rattle.module_meaning.specs.Part.{is_written_so_far}
 use Rattle.module_meaning.proofs.ModuleShapes.{same_program}
 use Rattle.module_meaning.specs.Premises.{scope_holds, EachScopeHolds, ScopesHold}
 use Rattle.module_meaning.specs.Shapes.{function_shapes, program_shape, namings_from, namings}
-use Rattle.module_meaning.specs.Shapes.{function_naming}
-use Rattle.naga_form.proofs.Fits.{ordered}
+use Rattle.module_meaning.specs.ModuleShapes.{module_shape}
+use Rattle.naga_form.proofs.AcceptedFunctions.{accepted_at}
+use Rattle.naga_form.proofs.FunctionsFit.{AllBehind, all_from, all_told, shape_numbered, Tells}
+use Rattle.naga_form.proofs.Ordered.{ordered}
 
 pub functions_of-map : (ns : List Naming) → functions_of ns ≡ map (λ n. n.function) ns
 functions_of-map [] = refl
@@ -43,19 +41,15 @@ namings_functions m info =
     let listed = namings_from (module_names m) 0 (function_shapes m.types m.functions info.functions.items) in
     functions_of-map (reverse listed) ∙ (map-reverse (λ n. n.function) listed ∙ ap reverse (functions_of_namings (module_names m) 0 (function_shapes m.types m.functions info.functions.items)))
 
--- in each function operands stand before their expressions
-abbrev AllAreOrdered : List Naming → Type 0
-AllAreOrdered [] = Unit {0}
-AllAreOrdered (n ∷ ns) = ((h : ℕ) → AllBelow h (operands_of (expression_of n.function h))) × AllAreOrdered ns
+-- operands stand before their expressions
+abbrev IsOrdered : List shapes.Function → Naming → Type 0
+IsOrdered callees n = (h : ℕ) → AllBelow h (operands_of (expression_of n.function h))
 
-all_are_ordered : (names : NameMap) (types : List Type_) (g : ℕ) (fs : List ir_function.Function) (ess : List (List ExpressionInfo)) → functions_fit types fs ess ≡ true → (behind : List Naming) → AllAreOrdered behind → AllAreOrdered (reverse_aux (namings_from names g (function_shapes types fs ess)) behind)
-all_are_ordered names types g [] ess fit behind all = all
-all_are_ordered names types g (f ∷ fs) [] fit behind all = all
-all_are_ordered names types g (f ∷ fs) (es ∷ ess) fit behind all =
-    let here = ordered types f es (and_left (function_fits types f es) (functions_fit types fs ess) fit) in
-    all_are_ordered names types (g + 1) fs ess (and_right (function_fits types f es) (functions_fit types fs ess) fit) (function_naming names types g f es ∷ behind) (here, all)
+nothing_asked : (ns : List Naming) → AllBehind (λ callees n. Unit {0}) ns
+nothing_asked [] = tt
+nothing_asked (n ∷ ns) = (tt, nothing_asked ns)
 
-each_is_checked : (ns : List Naming) → AllAreOrdered ns → (IsTrue (list_all fits_function ns) ↔ EachScopeHolds (functions_of ns))
+each_is_checked : (ns : List Naming) → AllBehind IsOrdered ns → (IsTrue (list_all fits_function ns) ↔ EachScopeHolds (functions_of ns))
 each_is_checked [] all = (λ t. tt, λ r. refl)
 each_is_checked (n ∷ ns) all =
     let here = scope_check_is_the_rules n all.0 in
@@ -64,7 +58,23 @@ each_is_checked (n ∷ ns) all =
       λ r. and_from (fits_function n) (list_all fits_function ns) (here.1 r.0) (rest.1 r.1),
     )
 
-pub scopes_are_checked : (m : Module) (info : ModuleInfo) → IsTrue (fits_so_far m info) → IsTrue (is_written_so_far m info) → (IsTrue (scope_holds m info) ↔ ScopesHold m info)
-scopes_are_checked m info accepted written =
-    subst (λ fs. IsTrue (scope_holds m info) ↔ EachScopeHolds fs) (namings_functions m info ∙ ap (λ p. p.functions) (sym (same_program m info accepted written)))
-    (each_is_checked (namings (module_names m) m info) (all_are_ordered (module_names m) m.types 0 m.functions info.functions.items (fits_functions_fit m info accepted) [] tt))
+module _ (m : Module) (info : ModuleInfo) (accepted : IsTrue (is_accepted m info)) (written : IsTrue (is_written_so_far m info)) where
+  -- the functions of the namings are the module's
+  pub same_functions : functions_of (namings (module_names m) m info) ≡ (module_shape m info).functions
+  same_functions =
+      namings_functions m info
+      ∙ ap (λ p. p.functions) (sym (same_program m info (accepted_so_far m info accepted written) written))
+
+  all_are_ordered : AllBehind IsOrdered (namings (module_names m) m info)
+  all_are_ordered =
+      all_from m info accepted (λ callees n. Unit {0}) IsOrdered
+      (λ k f es at names callees number tells none.
+      let is = accepted_at m info accepted k f es at in ordered m info is.callees f es is.ranges)
+      (namings (module_names m) m info)
+      (subst (Tells (shape_numbered m info accepted)) (sym same_functions) (all_told m info accepted))
+      (nothing_asked (namings (module_names m) m info))
+
+  pub scopes_are_checked : IsTrue (scope_holds m info) ↔ ScopesHold m info
+  scopes_are_checked =
+      subst (λ fs. IsTrue (scope_holds m info) ↔ EachScopeHolds fs) same_functions
+      (each_is_checked (namings (module_names m) m info) all_are_ordered)

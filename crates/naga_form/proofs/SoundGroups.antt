@@ -9,7 +9,6 @@ use Rattle.naga_info.specs.declared.info.ExpressionInfo.{ExpressionInfo}
 use Rattle.naga_info.specs.declared.info.ModuleInfo.{ModuleInfo}
 use Rattle.module_meaning.specs.Accepted.{is_accepted}
 use Rattle.module_meaning.specs.AgreeingOperators.{Group, function_group, function_groups, further_groups_of, groups_of}
-use Rattle.module_meaning.specs.Names.{ItemsAreCounted}
 use Rattle.naga_form.proofs.AcceptedGroups.{IsSoundGroup, functions_are, entry_points_are, declarations_are, own_group}
 use Rattle.naga_form.proofs.AgreeingUses.{IsIn}
 use Rattle.naga_form.proofs.ModulePlaces.{in_row, in_image}
@@ -32,24 +31,24 @@ of_functions (f ∷ fs) (es ∷ ess) (suc i) g at =
     let k = of_functions fs ess i g at in
     record { place = suc k.place; function = k.function; known = k.known; here = k.here; there = k.there; same = k.same }
 
-module _ (m : Module) (info : ModuleInfo) (accepted : IsTrue (is_accepted m info)) (counted : ItemsAreCounted m) where
+module _ (m : Module) (info : ModuleInfo) (accepted : IsTrue (is_accepted m info)) where
   pub groups_are : (g : Group) → IsIn (groups_of m info) g → (f : Option Function) × IsSoundGroup m info f g
   groups_are g place = by (in_row (function_groups m.functions info.functions.items) (further_groups_of m info) place.0 g place.1)
     where
       further : ((k : ℕ) × (slice_get (function_groups (map (λ p. p.function) m.entry_points.items) info.entry_points.items) k ≡ Some g)) ⊎
-          ((k : ℕ) × (slice_get (own_group m info accepted counted ∷ []) k ≡ Some g)) → (f : Option Function) × IsSoundGroup m info f g
+          ((k : ℕ) × (slice_get (own_group m info accepted ∷ []) k ≡ Some g)) → (f : Option Function) × IsSoundGroup m info f g
       further (inl here) =
           let k = of_functions (map (λ p. p.function) m.entry_points.items) info.entry_points.items here.0 g here.1 in
           let p = in_image (λ p. p.function) m.entry_points.items k.place k.function k.here in (
             Some p.0.function,
             subst (IsSoundGroup m info (Some p.0.function)) (ap (λ f. function_group f k.known) p.2 ∙ k.same)
-                (entry_points_are m info accepted counted k.place p.0 k.known p.1 k.there),
+                (entry_points_are m info accepted k.place p.0 k.known p.1 k.there),
           )
-      further (inr (zero, same)) = (None, subst (IsSoundGroup m info None) (same_Some _ g same) (declarations_are m info accepted counted))
+      further (inr (zero, same)) = (None, subst (IsSoundGroup m info None) (same_Some _ g same) (declarations_are m info accepted))
       further (inr (suc k, same)) = absurd cc
 
       by : ((k : ℕ) × (slice_get (function_groups m.functions info.functions.items) k ≡ Some g)) ⊎ ((k : ℕ) × (slice_get (further_groups_of m info) k ≡ Some g)) → (f : Option Function) × IsSoundGroup m info f g
       by (inl here) =
           let k = of_functions m.functions info.functions.items here.0 g here.1 in
-          (Some k.function, subst (IsSoundGroup m info (Some k.function)) k.same (functions_are m info accepted counted k.place k.function k.known k.here k.there))
+          (Some k.function, subst (IsSoundGroup m info (Some k.function)) k.same (functions_are m info accepted k.place k.function k.known k.here k.there))
       by (inr later) = further (in_row (function_groups (map (λ p. p.function) m.entry_points.items) info.entry_points.items) _ later.0 g later.1)

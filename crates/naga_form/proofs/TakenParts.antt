@@ -1,5 +1,6 @@
 -- How a pointer to a part is spelled: all expressions of an accepted module that take one part of
 -- pointers spelled alike have one type, and the program's table of parts spells it.
+use Rattle.module_meaning.proofs.SideBySide.{zip_parts}
 use Rattle.std.proofs.Common.{◌≡◌, ◌⊎◌, inl, inr, ℕ, zero, suc, Bool, true, false, List, [], ◌∷◌, refl, sym, ap, ◌∙◌, subst}
 use Rattle.std.proofs.Common.{Option, Some, None, slice_get, if◌then◌else◌}
 use Rattle.std.specs.Prelude.{IsTrue}
@@ -33,7 +34,7 @@ use Rattle.module_meaning.proofs.SideBySide.{zip_at}
 use Rattle.naga_form.proofs.AcceptedGroups.{IsSoundGroup, types_are_counted}
 use Rattle.naga_form.proofs.AgreeingSignatures.{signatures_agree, parts_stand}
 use Rattle.naga_form.proofs.AgreeingUses.{IsIn, in_flat_map, value_at, value_is}
-use Rattle.naga_form.proofs.AlikeParts.{is_pointer, PartsAlike, FitPart, part_fits, is_free, alike_computed_parts}
+use Rattle.naga_form.proofs.AlikeParts.{is_pointer, PartsStand, PartsAlike, FitPart, part_fits, is_free, alike_computed_parts}
 use Rattle.naga_form.proofs.ModulePlaces.{in_row}
 use Rattle.naga_form.proofs.PointerParts.{same_step_true, one_word, points_as, GivesPointers, part_points, own_word, some_there, IsPart, ElementPart, MemberPart, IsMember, part_of}
 use Rattle.naga_form.proofs.SameValues.{TypesAreCounted, IsFit, numbers_by_values, values_by_numbers}
@@ -63,13 +64,6 @@ first_there : {X : Type 0} (xs : List X) (i : ℕ) (x : X) → slice_get xs i �
 first_there [] i x at = absurd cc
 first_there (y ∷ xs) i x at = (y, refl)
 
--- what stands in two lists side by side
-zip_parts : {X Y : Type 0} (xs : List X) (ys : List Y) (i : ℕ) (p : X × Y) → slice_get (zip xs ys) i ≡ Some p → (slice_get xs i ≡ Some p.0) × (slice_get ys i ≡ Some p.1)
-zip_parts [] ys i p at = absurd cc
-zip_parts (x ∷ xs) [] i p at = absurd cc
-zip_parts (x ∷ xs) (y ∷ ys) zero p at = let same = same_Some (x, y) p at in (ap (λ p. Some p.0) same, ap (λ p. Some p.1) same)
-zip_parts (x ∷ xs) (y ∷ ys) (suc i) p at = zip_parts xs ys i p at
-
 only_there : {X : Type 0} (b : Bool) (x : X) (i : ℕ) (y : X) → slice_get (if b then x ∷ [] else []) i ≡ Some y → (b ≡ true) × (x ≡ y)
 only_there true x zero y at = (refl, same_Some x y at)
 only_there true x (suc i) y at = absurd cc
@@ -77,7 +71,10 @@ only_there false x i y at = absurd cc
 
 module _ (m : ir_module.Module) (info : ModuleInfo) (accepted : IsTrue (is_accepted m info)) (counted : ItemsAreCounted m) where
   abbrev are : TypesAreCounted m
-  are = types_are_counted m info accepted counted
+  are = types_are_counted m info accepted counted.names
+
+  abbrev stand : PartsStand m
+  stand = parts_stand m info accepted counted
 
   -- an expression of this type that takes a part of a pointer spelled so
   pub record IsTaking (whole : Bytes) (step : Step) (r : TypeResolution) : Type 0 where
@@ -108,7 +105,7 @@ module _ (m : ir_module.Module) (info : ModuleInfo) (accepted : IsTrue (is_accep
         let p = in_some (part_taken (declared_for m info k.item) whole step) (zip k.item.expressions k.item.known) k.inside.0 r k.inside.1 in
         let taken = only_there (takes_part (declared_for m info k.item) whole step p.item.0) p.item.1 p.inside.0 r p.inside.1 in
         let sides = zip_parts k.item.expressions k.item.known p.place p.item p.there in
-        let sound = groups_are m info accepted counted k.item (k.place, k.there) in
+        let sound = groups_are m info accepted k.item (k.place, k.there) in
         record {
           function = sound.0;
           group = k.item;
@@ -222,7 +219,7 @@ module _ (m : ir_module.Module) (info : ModuleInfo) (accepted : IsTrue (is_accep
             values ∙ ap PointerType (sym (own_word m r (word_of_values m p) values))
 
         part_fit : (base : ℕ) (k : IsWhole a.group whole base) (index : Option ℕ) (p : TypeResolution) → part_type m.types k.it index ≡ Some p → IsFit m p
-        part_fit base k index p is = subst (FitPart m are) is (part_fits m are k.it (is_free m are k.r k.it k.fit k.itself) k.points index)
+        part_fit base k index p is = subst (FitPart m are stand) is (part_fits m are stand k.it (is_free m are stand k.r k.it k.fit k.itself) k.points index)
 
         by : Taken a.group whole step a.handle r → GivesPointers m r
         by (Element base k p is alike) = alike_pointer p (part_fit base k None p is) alike (part_points m k.it k.points None p is)
@@ -233,16 +230,16 @@ module _ (m : ir_module.Module) (info : ModuleInfo) (accepted : IsTrue (is_accep
       wholes_alike i j k l = numbers_by_values m are k.r l.r k.fit l.fit (k.values ∙ sym l.values)
 
       -- of one pointer with parts that any index names, the other has these too, and they are alike
-      elements : (i j : ℕ) (k : IsWhole a.group whole i) (l : IsWhole b.group whole j) → (p : TypeResolution) → part_type m.types k.it None ≡ Some p → (o : Option TypeResolution) → part_type m.types l.it None ≡ o → PartsAlike m are (Some p) o
+      elements : (i j : ℕ) (k : IsWhole a.group whole i) (l : IsWhole b.group whole j) → (p : TypeResolution) → part_type m.types k.it None ≡ Some p → (o : Option TypeResolution) → part_type m.types l.it None ≡ o → PartsAlike m are stand (Some p) o
       elements i j k l p is o at =
-          subst (PartsAlike m are (Some p)) at
-          (subst (λ o. PartsAlike m are o (part_type m.types l.it None)) is
-          (alike_computed_parts m are (parts_stand m info accepted counted) k.r l.r k.fit l.fit (wholes_alike i j k l) k.it l.it k.itself l.itself k.points l.points (ap is_some is) None))
+          subst (PartsAlike m are stand (Some p)) at
+          (subst (λ o. PartsAlike m are stand o (part_type m.types l.it None)) is
+          (alike_computed_parts m are stand k.r l.r k.fit l.fit (wholes_alike i j k l) k.it l.it k.itself l.itself k.points l.points (ap is_some is) None))
 
       mixed : (i j : ℕ) (k : IsWhole a.group whole i) (l : IsWhole b.group whole j) → (p : TypeResolution) → part_type m.types k.it None ≡ Some p → has_computed_parts m.types l.it ≡ false → ⊥
       mixed i j k l p is none = by (part_type m.types l.it None) (elements i j k l p is (part_type m.types l.it None) refl) none
         where
-          by : (o : Option TypeResolution) → PartsAlike m are (Some p) o → is_some o ≡ false → ⊥
+          by : (o : Option TypeResolution) → PartsAlike m are stand (Some p) o → is_some o ≡ false → ⊥
           by None parts none = parts
           by (Some s) parts none = true≢false none
 

@@ -109,7 +109,7 @@ abbrev pub head_of : TypeSpecifier → List ℕ
 head_of (Named w) = w
 head_of (Template w parts) = w
 
-head_text : (t : TypeSpecifier) → IsPart t → is_word_text (head_of t) ≡ true
+pub head_text : (t : TypeSpecifier) → IsPart t → is_word_text (head_of t) ≡ true
 head_text (Named w) is = is.text
 head_text (Template w parts) is = (type_template w parts is.0).word.text
 

@@ -1,10 +1,11 @@
--- The words of statements ask for events where words that ask stand free and each statement has a
--- word: acceptance takes statements for which WGSL has none.
-use Rattle.std.proofs.Common.{◌≡◌, ℕ, ◌<◌, ◌≤◌, Bool, true, false, ◌&&◌, List, [], Option, Some}
+-- The words of statements ask for events where words that ask stand free, and each statement has
+-- a word or words that no text has stand free too: acceptance takes statements for which WGSL has
+-- none.
+use Rattle.std.proofs.Common.{◌≡◌, ℕ, ◌<◌, ◌≤◌, Bool, true, false, ◌&&◌, ◌||◌, List, [], Option, Some}
 use Rattle.std.proofs.Common.{None, refl, sym, ◌∙◌, subst, arith, nat_lt, codes}
 use Rattle.std.specs.Prelude.{unwrap_or}
 use Rattle.std.specs.Option.{is_some}
-use Rattle.std.proofs.lemmas.Bool.{and_parts, ltb-true}
+use Rattle.std.proofs.lemmas.Bool.{and_parts, or_right, ltb-true}
 use Rattle.naga_ir.specs.StatementTree.{SimpleStatement}
 use Rattle.naga_ir.specs.StatementTree.{control_barrier, memory_barrier, store, image_store, atomic}
 use Rattle.naga_ir.specs.StatementTree.{image_atomic, work_group_uniform_load, call, ray_query}
@@ -20,6 +21,8 @@ use Rattle.module_meaning.specs.FunctionShapes.{statement_shape, statements_shap
 use Rattle.module_meaning.specs.OperatorTable.{Operator, TexelStore, TexelChange, AtomicStore}
 use Rattle.module_meaning.specs.OperatorTable.{AtomicChange, UniformLoad, Ballot, Collective}
 use Rattle.module_meaning.specs.OperatorTable.{FromSubgroup, CooperativeStore, TraceRay, asks}
+use Rattle.module_meaning.specs.OperatorTable.{Barrier, StorageKept, WorkgroupKept, SubgroupKept}
+use Rattle.module_meaning.specs.OperatorTable.{TextureKept, RayStep}
 use Rattle.module_meaning.specs.OperatorTable.{operator_word, own_word, run_word, TypeIsSound}
 use Rattle.module_meaning.specs.OperatorTable.{texel_change_word, collective_word}
 use Rattle.module_meaning.specs.Ranges.{simple_in_range, statement_in_range, block_in_range}
@@ -65,35 +68,56 @@ abbrev mutual
   cases_have_words (case v b falls cs) = block_has_words b && cases_have_words cs
 
 -- ---- names
--- what asks for an event in a text does so here, and no name of the function hides it or a callee
-pub record AsksFreely (p : shapes.Module) (f : Naming) : Type 0 where
-  pub requests : (w : Bytes) → is_request w ≡ true → AsksBy p f w
+-- Each operator that asks for an event does so here, those with a word of WGSL or `all`, and no
+-- name of the function hides it or a callee.
+pub record AsksFreely (all : Bool) (p : shapes.Module) (f : Naming) : Type 0 where
+  pub operators : (op : Operator) → (all || is_some (operator_word op)) ≡ true → asks op ≡ true →
+      TypeIsSound op → AsksBy p f (run_word op)
   pub callees : (g : ℕ) → g < f.names.earlier → IsNoName p f (f.names.outer.function g)
 
-module _ (p : shapes.Module) (f : Naming) (free : AsksFreely p f) where
-  operator_asks : (op : Operator) → is_some (operator_word op) ≡ true → asks op ≡ true →
-      TypeIsSound op → AsksBy p f (run_word op)
-  operator_asks op has asking sound = by (operator_word op) refl has
-    where
-      by : (o : Option (List ℕ)) → operator_word op ≡ o → is_some o ≡ true →
-          AsksBy p f (unwrap_or (operator_word op) (own_word op))
-      by None at has = absurd cc
-      by (Some w) at has =
-          subst (λ o. AsksBy p f (unwrap_or o (own_word op))) (sym at)
-          (free.requests w (asks_as_told op w sound at ∙ asking))
+-- so do those with a word where what asks for an event in a text does so here
+pub asks_by_requests : (p : shapes.Module) (f : Naming) →
+    ((w : Bytes) → is_request w ≡ true → AsksBy p f w) →
+    ((g : ℕ) → g < f.names.earlier → IsNoName p f (f.names.outer.function g)) → AsksFreely false p f
+asks_by_requests p f requests callees = record { operators = ask; callees = callees }
+  where
+    ask : (op : Operator) → is_some (operator_word op) ≡ true → asks op ≡ true → TypeIsSound op →
+        AsksBy p f (run_word op)
+    ask op has asking sound = by (operator_word op) refl has
+      where
+        by : (o : Option (List ℕ)) → operator_word op ≡ o → is_some o ≡ true →
+            AsksBy p f (unwrap_or (operator_word op) (own_word op))
+        by None at has = absurd cc
+        by (Some w) at has =
+            subst (λ o. AsksBy p f (unwrap_or o (own_word op))) (sym at)
+            (requests w (asks_as_told op w sound at ∙ asking))
 
-  word_asks : (b : Bool) (w : Bytes) (ws : List Bytes) → is_request w ≡ true → EachAsks p f ws →
+-- what both of two parts have, or `all`, each has
+each_part : (all a b : Bool) → (all || (a && b)) ≡ true → ((all || a) ≡ true) × ((all || b) ≡ true)
+each_part true a b both = (refl, refl)
+each_part false a b both = and_parts a b both
+
+module _ (all : Bool) (p : shapes.Module) (f : Naming) (free : AsksFreely all p f) where
+  -- an operator that has a word asks for an event
+  word_asks : (op : Operator) → is_some (operator_word op) ≡ true → asks op ≡ true →
+      TypeIsSound op → AsksBy p f (run_word op)
+  word_asks op has = free.operators op (or_right all (is_some (operator_word op)) has)
+
+  one_asks : (b : Bool) (w : Bytes) (ws : List Bytes) → AsksBy p f w → EachAsks p f ws →
       EachAsks p f (word_if b w ws)
-  word_asks true w ws is all = (free.requests w is, all)
-  word_asks false w ws is all = all
+  one_asks true w ws one more = (one, more)
+  one_asks false w ws one more = more
 
   barriers_ask : (bits : BarrierBits) → EachAsks p f (barrier_words bits)
-  unfolding is_request
   barriers_ask bits =
-      word_asks bits.storage (codes "storageBarrier") _ refl
-      (word_asks bits.work_group (codes "workgroupBarrier") _ refl
-      (word_asks bits.sub_group (codes "subgroupBarrier") _ refl
-      (word_asks bits.texture (codes "textureBarrier") [] refl tt)))
+      one_asks bits.storage (codes "storageBarrier") _
+      (word_asks (Barrier true StorageKept) refl refl tt)
+      (one_asks bits.work_group (codes "workgroupBarrier") _
+      (word_asks (Barrier true WorkgroupKept) refl refl tt)
+      (one_asks bits.sub_group (codes "subgroupBarrier") _
+      (word_asks (Barrier true SubgroupKept) refl refl tt)
+      (one_asks bits.texture (codes "textureBarrier") []
+      (word_asks (Barrier true TextureKept) refl refl tt) tt)))
 
   store_has_word : (row_major : Bool) → is_some (operator_word (CooperativeStore row_major)) ≡ true
   store_has_word true = refl
@@ -101,40 +125,40 @@ module _ (p : shapes.Module) (f : Naming) (free : AsksFreely p f) where
 
   module _ (a : Surroundings) (count expressions : ℕ) (earlier : count ≤ f.names.earlier) where
     line_worded : (s : SimpleStatement) → simple_in_range count expressions s ≡ true →
-        line_has_word s ≡ true → IsWorded p f (simple_shape a s)
+        (all || line_has_word s) ≡ true → IsWorded p f (simple_shape a s)
     line_worded (control_barrier flags) within has = barriers_ask (barrier_bits flags)
     line_worded (memory_barrier flags) within has = barriers_ask (barrier_bits flags)
     line_worded (store pointer value) within has = by (points_to_atomic a pointer)
       where
         by : (to_atomic : Bool) → IsWorded p f (store_shape to_atomic pointer value)
-        by true = operator_asks AtomicStore refl refl tt
+        by true = word_asks AtomicStore refl refl tt
         by false = tt
     line_worded (image_store image coordinate array_index value) within has =
-        operator_asks (TexelStore (is_some array_index)) refl refl tt
+        word_asks (TexelStore (is_some array_index)) refl refl tt
     line_worded (atomic pointer fun value outcome) within has =
-        operator_asks (AtomicChange (change_of fun)) refl refl tt
+        word_asks (AtomicChange (change_of fun)) refl refl tt
     line_worded (image_atomic image coordinate array_index fun value) within has =
-        operator_asks (TexelChange (change_of fun) (is_some array_index)) has refl tt
+        free.operators (TexelChange (change_of fun) (is_some array_index)) has refl tt
     line_worded (work_group_uniform_load pointer outcome) within has =
-        operator_asks UniformLoad refl refl tt
+        word_asks UniformLoad refl refl tt
     line_worded (call function arguments outcome) within has =
         let lt = ltb-true function count (and_parts (nat_lt function count) _ within).0 in
         free.callees function (omega (arith, lt, earlier))
-    line_worded (ray_query query) within has = absurd cc
+    line_worded (ray_query query) within has = free.operators RayStep has refl tt
     line_worded (subgroup_ballot outcome predicate) within has =
-        operator_asks (Ballot (is_some predicate)) refl refl tt
+        word_asks (Ballot (is_some predicate)) refl refl tt
     line_worded (subgroup_gather mode argument outcome) within has =
-        operator_asks (FromSubgroup (source_of mode)) refl refl tt
+        word_asks (FromSubgroup (source_of mode)) refl refl tt
     line_worded (subgroup_collective_operation op collective argument outcome) within has =
-        operator_asks (Collective op collective) has refl tt
+        free.operators (Collective op collective) has refl tt
     line_worded (cooperative_store target place) within has =
-        operator_asks (CooperativeStore place.row_major) (store_has_word place.row_major) refl tt
-    line_worded (ray_pipeline_function fun) within has = operator_asks TraceRay refl refl tt
+        word_asks (CooperativeStore place.row_major) (store_has_word place.row_major) refl tt
+    line_worded (ray_pipeline_function fun) within has = word_asks TraceRay refl refl tt
     line_worded _ within has = tt
 
     mutual
       statement_worded : (s : StatementTree) → statement_in_range count expressions s ≡ true →
-          statement_has_words s ≡ true → IsWorded p f (statement_shape a s)
+          (all || statement_has_words s) ≡ true → IsWorded p f (statement_shape a s)
       statement_worded (simple s) within has = line_worded s within has
       statement_worded (block b) within has = worded b within has
       statement_worded (branch condition accept reject) within has =
@@ -142,7 +166,7 @@ module _ (p : shapes.Module) (f : Naming) (free : AsksFreely p f) where
           let both =
           and_parts (block_in_range count expressions accept)
           (block_in_range count expressions reject) ranges.1 in
-          let words = and_parts (block_has_words accept) (block_has_words reject) has in
+          let words = each_part all (block_has_words accept) (block_has_words reject) has in
           (worded accept both.0 words.0, worded reject both.1 words.1)
       statement_worded (switch selector cs) within has =
           cases_worded cs
@@ -152,26 +176,26 @@ module _ (p : shapes.Module) (f : Naming) (free : AsksFreely p f) where
           let both =
           and_parts (block_in_range count expressions continuing) (is_below expressions break_if)
           ranges.1 in
-          let words = and_parts (block_has_words body) (block_has_words continuing) has in
+          let words = each_part all (block_has_words body) (block_has_words continuing) has in
           (worded body ranges.0 words.0, worded continuing both.0 words.1)
 
       -- all statements of a block
       pub worded : (b : BlockTree) → block_in_range count expressions b ≡ true →
-          block_has_words b ≡ true → AreWorded p f (statements_shape a b)
+          (all || block_has_words b) ≡ true → AreWorded p f (statements_shape a b)
       worded no_statements within has = tt
       worded (statement s b) within has =
           let ranges =
           and_parts (statement_in_range count expressions s) (block_in_range count expressions b)
           within in
-          let words = and_parts (statement_has_words s) (block_has_words b) has in
+          let words = each_part all (statement_has_words s) (block_has_words b) has in
           (statement_worded s ranges.0 words.0, worded b ranges.1 words.1)
 
       cases_worded : (cs : CaseTrees) → cases_in_range count expressions cs ≡ true →
-          cases_have_words cs ≡ true → CasesAreWorded p f (cases_shape a cs)
+          (all || cases_have_words cs) ≡ true → CasesAreWorded p f (cases_shape a cs)
       cases_worded no_cases within has = tt
       cases_worded (case v b falls cs) within has =
           let ranges =
           and_parts (block_in_range count expressions b) (cases_in_range count expressions cs)
           (and_parts (label_fits_32_bits v) _ within).1 in
-          let words = and_parts (block_has_words b) (cases_have_words cs) has in
+          let words = each_part all (block_has_words b) (cases_have_words cs) has in
           (worded b ranges.0 words.0, cases_worded cs ranges.1 words.1)

@@ -1,7 +1,8 @@
 -- Where the initialiser of each constant is written out, as a literal, another constant, an
 -- override, a zero value, a composition or a splat of such, each constant of an accepted module has
 -- a tree. Acceptance doesn't ask that it is: a negation of a literal is not.
-use Rattle.module_meaning.specs.Names.{ItemsAreCounted}
+use Rattle.module_meaning.specs.Writable.{AreWrittenOut, is_written_out, written_out_within, written_out_over}
+use Rattle.module_meaning.specs.Names.{NamesAreCounted}
 use Rattle.std.proofs.Common.{◌≡◌, ℕ, zero, suc, ◌<◌, ◌≤◌, ◌+◌, Bool, true, false, List, [], ◌∷◌, refl, sym, ap, ◌∙◌, length}
 use Rattle.std.proofs.Common.{Option, Some, None, slice_get, arith, nat_lt, ◌&&◌, if◌then◌else◌}
 use Rattle.std.specs.List.{list_all}
@@ -32,30 +33,7 @@ use Rattle.module_meaning.proofs.FunctionsSoFar.{placed_at}
 use Rattle.naga_form.proofs.AcceptedGroups.{IsSoundGroup, own_known, own_group, declarations_are}
 use Rattle.naga_form.proofs.ConstantInitialisers.{HaveTrees, named_stands}
 use Rattle.naga_form.proofs.ConstantTrees.{wanted_there}
-use Rattle.naga_form.proofs.Signatures.{around_group, declared_for}
-
--- an expression is written out, if these handles are
-abbrev pub written_out_over : (ℕ → Bool) → Expression → Bool
-written_out_over is_written (expression.Literal value) = true
-written_out_over is_written (expression.Constant handle) = true
-written_out_over is_written (expression.Override handle) = true
-written_out_over is_written (expression.ZeroValue ty) = true
-written_out_over is_written (expression.Compose ty components) = list_all is_written components.items
-written_out_over is_written (expression.Splat size value) = is_written value
-written_out_over is_written _ = false
-
--- a handle is, at most so many levels deep
-abbrev pub written_out_within : (levels : ℕ) → List Expression → ℕ → Bool
-written_out_within zero es h = false
-written_out_within (suc levels) es h = option_map_or (written_out_over (written_out_within levels es)) (slice_get es h) false
-
--- a handle is; operands stand before what they are operands of
-abbrev pub is_written_out : List Expression → ℕ → Bool
-is_written_out es h = written_out_within (suc h) es h
-
--- the initialiser of each constant is
-abbrev pub AreWrittenOut : Module → Type 0
-AreWrittenOut m = list_all (λ c. is_written_out m.global_expressions c.init) m.constants ≡ true
+use Rattle.naga_form.proofs.Signatures.{around_group}
 
 abbrev HasTree : Option ConstantTree → Type 0
 HasTree o = (t : ConstantTree) × (o ≡ Some t)
@@ -113,7 +91,7 @@ module _ (m : Module) (info : ModuleInfo) where
         by None at out have = absurd cc
         by (Some e) at out have = over_there (tree_within levels inside g.expressions) (written_out_within levels g.expressions) h e at have named out
 
-  module _ (accepted : IsTrue (is_accepted m info)) (counted : ItemsAreCounted m) where
+  module _ (accepted : IsTrue (is_accepted m info)) (counted : NamesAreCounted m) where
     -- ---- the module's own expressions stand behind the initialisers that they name
     ranges : module_ranges_fit m info ≡ true
     unfolding is_accepted
@@ -128,10 +106,10 @@ module _ (m : Module) (info : ModuleInfo) where
         (and_parts (declarations_in_range m) (all_placed (function_in_range m) m.functions && list_all (entry_point_in_range m) m.entry_points.items) three.0).0
 
     abbrev pub Own : Group
-    Own = own_group m info accepted counted
+    Own = own_group m info accepted
 
     pub own_is : IsSoundGroup m info None Own
-    own_is = declarations_are m info accepted counted
+    own_is = declarations_are m info accepted
 
     own_parts : (list_all (constant_in_range (length m.types) (length m.global_expressions)) m.constants ≡ true) × (all_placed (global_expression_in_range m) m.global_expressions ≡ true)
     own_parts =
@@ -194,9 +172,3 @@ module _ (m : Module) (info : ModuleInfo) where
       have_trees i c named =
           let k = named_stands m.constants i c named in
           initialiser_there (written_constant m info) k.0 c k.1 (λ j d there lt. constant_has_tree j d there)
-
-      -- and each expression of a function that is written out
-      pub written_has_tree : (f : Option Function) (g : Group) → IsSoundGroup m info f g → (h : ℕ) → is_written_out g.expressions h ≡ true → (t : ConstantTree) × (constant_tree (declared_for m info g) g.expressions h ≡ Some t)
-      written_has_tree f g is h written =
-          tree_there f g is (written_constant m info) (suc h) h
-          (λ k d le here. let item = constant_named f g is k d here in constant_has_tree d item.0 item.1) written

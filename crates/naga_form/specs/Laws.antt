@@ -35,7 +35,8 @@ use Rattle.module_meaning.specs.Faithful.{HasInterfaceOf, RunsAs}
 use Rattle.module_meaning.specs.InfoSizes.{type_is_fit, resolution_is_fit}
 use Rattle.module_meaning.specs.Literals.{literal_value}
 use Rattle.module_meaning.specs.Meanings.{OperatorsAreConsistent, HasTypedMeaning, HasTypedWorld}
-use Rattle.module_meaning.specs.Meanings.{IsNeverStuck}
+use Rattle.module_meaning.specs.Meanings.{IsNeverStuck, NoRunIsStuck}
+use Rattle.module_meaning.specs.Writable.{IsWritable}
 use Rattle.module_meaning.specs.Names.{ItemsAreCounted, NamesAreCounted, module_names}
 use Rattle.module_meaning.specs.Part.{is_written_so_far}
 use Rattle.module_meaning.specs.Premises.{handles_are_counted, scope_holds, ScopesHold}
@@ -148,9 +149,24 @@ HasAWorld =
     (m : Module) (info : ModuleInfo) → IsTrue (is_accepted m info) →
     IsTrue (is_written_so_far m info) → HasTypedWorld m info
 
+-- what holds of every accepted module, written so far or not, where its names are counted, it holds
+-- nothing that no text is ever written for, and the rules of scope hold in it
+abbrev pub OfEveryWritable : (Module → ModuleInfo → Type 0) → Type 0
+OfEveryWritable Holds =
+    (m : Module) (info : ModuleInfo) → IsTrue (is_accepted m info) → NamesAreCounted m →
+    IsWritable m → ScopesHold m info → Holds m info
+
+-- one world answers by the right types
+abbrev pub EveryHasAWorld : Type 0
+EveryHasAWorld = OfEveryWritable HasTypedWorld
+
 -- neither the module's runs nor those of its program are stuck
 abbrev pub IsNotStuck : Type 0
 IsNotStuck = OfAcceptedInScope IsNeverStuck
+
+-- no run of the module is
+abbrev pub EveryIsNotStuck : Type 0
+EveryIsNotStuck = OfEveryWritable NoRunIsStuck
 
 -- two types without a spelling have values of one type only where they are told by the same
 abbrev pub UnspelledAreTold : Type 0

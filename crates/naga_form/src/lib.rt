@@ -8,6 +8,7 @@ ghost use Rattle.naga_form.specs.Laws.{IsAProgram, HasTheInterface, ResolvesAsMe
 ghost use Rattle.naga_form.specs.Laws.{BindsAsCounted, FunctionsAreRead, IsReadAsItsShapes};
 ghost use Rattle.naga_form.specs.Laws.{RunsAsTheModule, ScopesAreChecked, IsConsistent};
 ghost use Rattle.naga_form.specs.Laws.{EveryIsConsistent, EveryHasAMeaning};
+ghost use Rattle.naga_form.specs.Laws.{EveryHasAWorld, EveryIsNotStuck};
 ghost use Rattle.naga_form.specs.Laws.{HasAMeaning, HasAWorld, IsNotStuck, UnspelledAreTold};
 ghost use Rattle.naga_form.specs.Laws.{SpelledAreTold, LiteralsAreTold, WordsAreTold, WordsAreKept};
 ghost use Rattle.naga_form.specs.Laws.{OperandsAreTold, RequestsAreTold};
@@ -68,15 +69,21 @@ pub fn has_a_typed_meaning()
     ensures every_meaning { EveryHasAMeaning }
 {}
 
-/// For each such meaning, one world answers by the right types in every run of the module.
+/// For each such meaning, one world answers by the right types in every run of the module: of a
+/// module of the part that is written so far, and of every accepted module whose names are counted,
+/// in which the rules of scope hold, and that holds nothing that no text is ever written for.
 pub fn has_a_typed_world()
-    ensures { HasAWorld }
+    ensures written { HasAWorld }
+    ensures every { EveryHasAWorld }
 {}
 
 /// No run of an accepted module is stuck, nor one of its program in a world that keeps the types,
-/// where the rules of scope hold in the module.
+/// where the rules of scope hold in the module and it is of the part that is written so far. Nor is
+/// one of any other such module, whose names are counted and that holds nothing that no text is ever
+/// written for.
 pub fn is_never_stuck()
-    ensures { IsNotStuck }
+    ensures written { IsNotStuck }
+    ensures every { EveryIsNotStuck }
 {}
 
 /// Two types that no text spells so far have values of one type only where they are told by the

@@ -21,7 +21,7 @@ use Rattle.naga_names.specs.Keys.{NameMap, names_in}
 use Rattle.shader_runs.specs.Scope.{bound_name, given_after, given_by}
 use Rattle.module_meaning.specs.Names.{module_names, numbered_name}
 use Rattle.module_meaning.specs.Shapes.{statement_shape, OperandsStandBefore}
-use Rattle.naga_form.proofs.Fits.{nothing_outside, not_given, given_line, ordered_at}
+use Rattle.naga_form.proofs.Fits.{none_is_given, none_given_by as nothing_given_by, ordered_at}
 use Rattle.naga_form.specs.Types.{told_type}
 use Rattle.module_meaning.specs.Types.{type_names}
 use Rattle.naga_form.proofs.WrittenTypes.{known_spelled, resolution_has_form}
@@ -152,13 +152,13 @@ module _ (t : FunctionText) (can : CanWrite t) where
 
   -- ---- names of handles
   pub none_given : (h k : ℕ) → given_after (naming t).function h k ≡ k
-  none_given h k = ap (λ b. cond b (suc k) k) (not_given m g f can.function es can.fits unnamed nothing_outside refl refl h)
+  none_given h k = ap (λ b. cond b (suc k) k) (none_is_given m.types f es unnamed h)
 
   pub bound_is : (h : ℕ) → numbered_name h ≡ bound_name (naming t) 0 h
-  bound_is h = sym (ap (λ b. cond b [] (numbered_name h)) (not_given m g f can.function es can.fits unnamed nothing_outside refl refl h))
+  bound_is h = sym (ap (λ b. cond b [] (numbered_name h)) (none_is_given m.types f es unnamed h))
 
   pub none_given_by : (st : StatementTree) → given_by (naming t).function (statement_shape st) 0 ≡ 0
-  none_given_by st = given_line m g f can.function es can.fits unnamed nothing_outside refl refl st 0
+  none_given_by st = nothing_given_by m.types f es unnamed st 0
 
   -- ---- statements
   pub first_value_within : (l : ℕ) (v : LocalVariable) (h : ℕ) → slice_get f.local_variables l ≡ Some v → v.init ≡ Some h → h < length f.expressions

@@ -3,7 +3,9 @@ use Rattle.std.proofs.Common.{◌≡◌, ◌<◌, ◌∙◌, ◌++◌, ℕ, Bool
 use Rattle.std.proofs.Common.{ap, drop, inl, inr, length, subst, sym}
 use Rattle.std.specs.Prelude.{IfErr, IsTrue, OnErr, OnOk, Result}
 use Rattle.naga_ir.specs.declared.module.Module.{Module}
+use Rattle.module_meaning.specs.Accepted.{is_accepted}
 use Rattle.module_meaning.specs.FitsSoFar.{fits_so_far}
+use Rattle.module_meaning.proofs.AcceptedSoFar.{accepted_so_far}
 use Rattle.module_meaning.specs.Part.{is_written_so_far}
 use Rattle.wgsl_text.specs.Declarations.{Program}
 use Rattle.naga_form.specs.Declarations.{written_program}
@@ -20,7 +22,6 @@ use Rattle.module_meaning.specs.Faithful.{HasInterfaceOf, RunsAs}
 use Rattle.module_meaning.specs.Bindings.{BindsAs}
 use Rattle.naga_form.proofs.Bindings.{binds_as}
 use Rattle.module_meaning.specs.Resolution.{ResolvesAs}
-use Rattle.module_meaning.proofs.Part.{functions_name_nothing}
 use Rattle.naga_form.proofs.Runs.{runs_as}
 use Rattle.naga_scope.specs.Plans.{ScopeHoldsIn}
 use Rattle.naga_words.specs.Sink.{IsBehind}
@@ -89,8 +90,11 @@ scope_tells_of_module _ told = absurd told
 
 -- a text that was appended
 module _ (m : Module) (info : ModuleInfo) (flags : WriterFlags)
-    (fits : IsTrue (fits_so_far m info)) (written : IsTrue (is_written_so_far m info))
+    (accepted : IsTrue (is_accepted m info)) (written : IsTrue (is_written_so_far m info))
     (names : NameMap) (has : HasAllNames m names) where
+  fits : IsTrue (fits_so_far m info)
+  fits = accepted_so_far m info accepted written
+
   -- a plan of each function
   abbrev AllPlanned : Type 0
   AllPlanned = (i : ℕ) → i < length m.functions → HasPlan m info i
@@ -103,8 +107,8 @@ module _ (m : Module) (info : ModuleInfo) (flags : WriterFlags)
 
   one : AllPlanned → HasOneReading Reads (written_text m info flags) program
   one planned =
-      program_has_one_reading program (is_program m info explicit fits
-      (functions_name_nothing m info written) (all_planned_counted m info fits planned))
+      program_has_one_reading program (is_program m info explicit accepted
+      written (all_planned_counted m info fits planned))
 
   each : AllPlanned → (held now : List ℕ) → now ≡ held ++ written_text m info flags →
       (Q : Program → Type 0) → Q program → EachReading held now Q
@@ -153,11 +157,11 @@ module _ (m : Module) (info : ModuleInfo) (flags : WriterFlags)
             };
             interface = reading (HasInterfaceOf m) (has_interface m info explicit fit);
             runs = reading (RunsAs m info)
-                (runs_as m info explicit fits written rules has.counted);
+                (runs_as m info explicit accepted written rules has.counted);
           };
           resolved = reading (ResolvesAs m info)
-              (resolves m info explicit fits written rules has.counted);
-          binds = reading (BindsAs m info explicit) (binds_as m info explicit fits);
+              (resolves m info explicit accepted written rules has.counted);
+          binds = reading (BindsAs m info explicit) (binds_as m info explicit accepted written);
           text_ok = appended;
           text_err = tt;
           untouched = tt;

@@ -1,6 +1,5 @@
-use Rattle.module_meaning.proofs.AcceptedSoFar.{accepted_so_far}
 use Rattle.naga_form.proofs.Bindings.{binds_as}
 use Rattle.naga_form.proofs.binds_as_counted.Goals as goal
 
 pub returns : goal.returns
-returns c = λ m info explicit accepted written. binds_as m info explicit (accepted_so_far m info accepted written)
+returns c = λ m info explicit accepted written. binds_as m info explicit accepted written

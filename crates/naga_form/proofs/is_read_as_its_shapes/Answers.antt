@@ -1,6 +1,5 @@
-use Rattle.module_meaning.proofs.AcceptedSoFar.{accepted_so_far}
 use Rattle.naga_form.proofs.Runs.{reads_as_shapes}
 use Rattle.naga_form.proofs.is_read_as_its_shapes.Goals as goal
 
 pub returns : goal.returns
-returns c = λ m info explicit accepted written. reads_as_shapes m info explicit (accepted_so_far m info accepted written) written
+returns c = λ m info explicit accepted written. reads_as_shapes m info explicit accepted written

@@ -1,7 +1,5 @@
-use Rattle.module_meaning.proofs.AcceptedSoFar.{accepted_so_far}
 use Rattle.naga_form.proofs.Runs.{runs_as}
 use Rattle.naga_form.proofs.runs_as_the_module.Goals as goal
 
 pub returns : goal.returns
-returns c = λ m info explicit accepted written.
-    runs_as m info explicit (accepted_so_far m info accepted written) written
+returns c = λ m info explicit accepted written. runs_as m info explicit accepted written

@@ -1,6 +1,5 @@
-use Rattle.module_meaning.proofs.AcceptedSoFar.{accepted_so_far}
 use Rattle.naga_form.proofs.ScopeRules.{scopes_are_checked}
 use Rattle.naga_form.proofs.scopes_are_checked.Goals as goal
 
 pub returns : goal.returns
-returns c = λ m info accepted written. scopes_are_checked m info (accepted_so_far m info accepted written) written
+returns c = λ m info accepted written. scopes_are_checked m info accepted written

@@ -1,6 +1,5 @@
 use Rattle.std.proofs.Common.{◌≡◌, ◌∙◌, ap, subst, sym, true}
 use Rattle.module_meaning.specs.Part.{is_written_so_far}
-use Rattle.module_meaning.proofs.AcceptedSoFar.{accepted_so_far}
 use Rattle.naga_wgsl_out.proofs.Faithful.{Concludes, concludes}
 use Rattle.naga_wgsl_out.proofs.writer.Writer.write.Goals as goal
 
@@ -10,15 +9,15 @@ returns g c =
     let info = c.args.info.now in
     let written : is_written_so_far m info ≡ true =
     sym c.is_written_so_far.ensures ∙ c.if-not-is_written_so_far.false in
-    let fits = accepted_so_far m info c.requires.accepted written in
+    let accepted = c.requires.accepted in
     let r = c.write_functions.result in
     let now = g.W.TextSink.text c.write_functions.new.out in
     let after = g.W.TextSink.failures c.write_functions.new.out in
     let names = c.in_ok-names.ensures.ok in
-    let end = concludes m info c.self.inside.flags fits written _ names
+    let end = concludes m info c.self.inside.flags accepted written _ names
     _ now _ after r c.write_functions.ensures in
     let ends = subst
-    (λ w. Concludes m info w.flags fits written _ names r
+    (λ w. Concludes m info w.flags accepted written _ names r
     (g.W.TextSink.text w.sink) now (g.W.TextSink.failures w.sink) after)
     c.self.view_is end in
     record {
