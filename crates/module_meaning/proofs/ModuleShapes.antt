@@ -1,10 +1,10 @@
--- Of a module that is accepted, and of the part that is written so far, the program of shapes of
--- every module is that of the part.
+-- Of a module of the part that is written so far, the program of shapes of every module is that of
+-- the part.
 --
 -- Throughout, m is a module, info what is known of it, a what stands around expressions, d what the
 -- module declares, f a function (fs are several), es is what is known of its expressions (ess are
 -- those of several functions), e an expression (xs are several), h a handle, r a type of an
--- expression (rs are several), it a type by itself, and w a spelling.
+-- expression (rs are several), and it a type by itself.
 use Rattle.std.proofs.Common.{◌≡◌, ℕ, ◌+◌, ◌==◌, true, false, List, [], ◌∷◌, ◌++◌}
 use Rattle.std.proofs.Common.{length, map, reverse, Option, Some, None, refl, sym, ap, ◌∙◌}
 use Rattle.std.proofs.Common.{slice_get}
@@ -31,40 +31,34 @@ use Rattle.naga_ir.specs.declared.types.TypeInner.TheVariants as inner
 use Rattle.naga_info.specs.declared.info.ExpressionInfo.{ExpressionInfo}
 use Rattle.naga_info.specs.declared.info.ModuleInfo.{ModuleInfo}
 use Rattle.naga_info.specs.declared.info.TypeResolution.{TypeResolution}
-use Rattle.naga_info.specs.declared.info.TypeResolution.TheVariants.{Handle, Value}
 use Rattle.module_meaning.specs.ExpressionOperators.{Surroundings, type_behind, type_known}
 use Rattle.module_meaning.specs.ExpressionOperators.{is_atomic, points_to_atomic}
 use Rattle.module_meaning.specs.ExpressionShapes.{Declared}
 use Rattle.module_meaning.specs.ExpressionTypes.{variable_type}
-use Rattle.module_meaning.specs.FitsSoFar.{fits_so_far, function_fits, functions_fit, local_fits}
 use Rattle.module_meaning.specs.FunctionShapes.{function_shape, shapes_from, statements_shape}
 use Rattle.module_meaning.specs.FunctionShapes.{statement_shape}
 use Rattle.module_meaning.specs.AgreeingOperators.{Group, function_groups, further_groups_of}
 use Rattle.module_meaning.specs.ModuleShapes.{module_shape, initialiser}
 use Rattle.module_meaning.specs.ModuleShapes.{takes_part, part_taken, parts_taken}
 use Rattle.module_meaning.specs.Surroundings.{global_types_known}
-use Rattle.module_meaning.specs.Part.{is_scalar_type, is_written_so_far, function_is_written}
+use Rattle.module_meaning.specs.Part.{is_scalar_type, is_written_scalar, is_written_so_far}
+use Rattle.module_meaning.specs.Part.{function_is_written}
 use Rattle.module_meaning.specs.Part.{expression_is_written, statement_is_written, block_is_written}
 use Rattle.module_meaning.specs.Part.{is_unbound, names_nothing, local_is_written}
-use Rattle.module_meaning.specs.Ranges.{is_below}
 use Rattle.module_meaning.specs.Shapes as so_far
-use Rattle.module_meaning.specs.Spelled.{word_of_type, word_at, spelling, spelling_of}
-use Rattle.module_meaning.specs.Spelled.{local_pointer}
-use Rattle.module_meaning.specs.Surroundings.{declared, types_known, type_of_values, word_of_values}
-use Rattle.module_meaning.specs.Types.{value_type, declared_type, pointer_to_local}
+use Rattle.module_meaning.specs.Surroundings.{declared, types_known}
+use Rattle.module_meaning.specs.Types.{type_of_values, word_of_values}
+use Rattle.module_meaning.specs.Types.{declared_type, local_pointer}
 use Rattle.module_meaning.proofs.ExpressionShapes.{same_shape, same_statement, loads_plainly}
 use Rattle.module_meaning.proofs.ExpressionShapes.{stores_plainly}
-use Rattle.module_meaning.proofs.FitsSoFar.{fits_parts, function_fits_parts, list_all_at}
-use Rattle.module_meaning.proofs.FitsSoFar.{scalar_types_word_at, some_word, local_fits_parts}
+use Rattle.module_meaning.proofs.Lists.{list_all_at}
 use Rattle.module_meaning.proofs.Part.{written_so_far_parts}
-use Rattle.module_meaning.proofs.SpelledSoFar.{word_there}
-use Rattle.module_meaning.proofs.TypesSoFar.{same_type, same_word}
 use Rattle.shader_runs.specs.Program.{then}
 use Rattle.shader_runs.specs.Value.{Step}
 
 -- ---- nothing is atomic
--- a type with a word is no atomic
-no_atomic : (it : TypeInner) → is_some (word_of_type it) ≡ true → is_atomic it ≡ false
+-- a scalar is no atomic
+no_atomic : (it : TypeInner) → is_written_scalar it ≡ true → is_atomic it ≡ false
 no_atomic (inner.Scalar s) is = refl
 no_atomic _ is = absurd cc
 
@@ -123,103 +117,35 @@ same_expressions d scalars all h (e ∷ xs) written =
 -- ---- functions
 module _ (m : ir_module.Module) (info : ModuleInfo)
     (scalars : list_all is_scalar_type m.types ≡ true) where
-  handle_spelling : (h : ℕ) (w : List ℕ) → word_at m.types h ≡ Some w →
-      spelling_of m.types (Handle h) ≡ Some w
-  handle_spelling h w is =
-      let at = word_there m.types h w is
-      in ap (λ o. option_and_then (spelling m.types) (option_map (λ t. t.inner) o)) at.there
-      ∙ (ap (spelling m.types) at.inner_is ∙ at.word_is)
-
-  -- a declaration whose type lies in the types
-  same_declared : (h : ℕ) → nat_lt h (length m.types) ≡ true →
-      type_of_values m (Handle h) ≡ declared_type m.types h
-  same_declared h within =
-      let word = scalar_types_word_at m.types h scalars (ltb-true h (length m.types) within)
-      in same_type m scalars (Handle h) word.0 (handle_spelling h word.0 word.1)
-
-  same_arguments : (xs : List FunctionArgument) →
-      list_all (λ a. nat_lt a.ty (length m.types)) xs ≡ true →
-      map (λ a. type_of_values m (Handle a.ty)) xs ≡ map (λ a. declared_type m.types a.ty) xs
-  same_arguments [] within = refl
-  same_arguments (x ∷ xs) within =
-      let parts = and_parts (nat_lt x.ty (length m.types)) _ within
-      in λ i. same_declared x.ty parts.0 i ∷ same_arguments xs parts.1 i
-
-  same_result : (o : Option FunctionResult) →
-      is_below (length m.types) (option_map (λ r. r.ty) o) ≡ true →
-      option_map (λ r. type_of_values m (Handle r.ty)) o ≡
-      option_map (λ r. declared_type m.types r.ty) o
-  same_result None within = refl
-  same_result (Some r) within = λ i. Some (same_declared r.ty within i)
-
-  same_pointer : (h : ℕ) → nat_lt h (length m.types) ≡ true →
-      word_of_values m (Value (inner.Pointer h space.Function)) ≡
-      pointer_to_local (word_at m.types h)
-  same_pointer h within =
-      let word = scalar_types_word_at m.types h scalars (ltb-true h (length m.types) within)
-      in same_word m scalars (Value (inner.Pointer h space.Function)) (local_pointer word.0)
-      (ap (option_map local_pointer) word.1)
-      ∙ ap pointer_to_local (sym word.1)
-
-  same_locals : (es : List ExpressionInfo) (ls : List LocalVariable) →
-      list_all (local_fits m.types es) ls ≡ true →
-      map (λ l. word_of_values m (Value (inner.Pointer l.ty space.Function))) ls ≡
-      map (λ l. pointer_to_local (word_at m.types l.ty)) ls
-  same_locals es [] fit = refl
-  same_locals es (l ∷ ls) fit =
-      let parts = and_parts (local_fits m.types es l) (list_all (local_fits m.types es) ls) fit
-      in let within = (local_fits_parts m.types es l parts.0).0
-      in λ i. same_pointer l.ty within i ∷ same_locals es ls parts.1 i
-
-  same_known : (es : List ExpressionInfo) →
-      list_all (λ k. is_some (spelling_of m.types k.ty)) es ≡ true →
-      map (λ e. type_of_values m e.ty) es ≡ map (λ e. value_type m.types e.ty) es
-  same_known [] known = refl
-  same_known (k ∷ es) known =
-      let parts =
-      and_parts (is_some (spelling_of m.types k.ty))
-      (list_all (λ k. is_some (spelling_of m.types k.ty)) es) known
-      in let word = some_word (spelling_of m.types k.ty) parts.0
-      in λ i. same_type m scalars k.ty word.0 word.1 i ∷ same_known es parts.1 i
-
   same_function : (f : ir_function.Function) (es : List ExpressionInfo) →
-      function_fits m.types f es ≡ true → function_is_written f ≡ true →
-      list_all (λ k. is_some (spelling_of m.types k.ty)) es ≡ true →
-      function_shape m info f es ≡ so_far.function_shape m.types f es
-  same_function f es fits written known =
-      let fit = function_fits_parts m.types f es fits
-      in let signature =
-      and_parts (list_all (λ a. nat_lt a.ty (length m.types)) f.arguments.items) _ fit.0
-      in let bound = and_parts (is_unbound f) _ (and_parts (names_nothing f) _ written).1
+      function_is_written f ≡ true → function_shape m info f es ≡ so_far.function_shape m f es
+  same_function f es written =
+      let bound = and_parts (is_unbound f) _ (and_parts (names_nothing f) _ written).1
       in let shapes = and_parts (list_all expression_is_written f.expressions) _ bound.1
       in let body =
       and_parts (list_all (local_is_written f.expressions) f.local_variables) _ shapes.1
       in let d = declared m info (types_known es)
       in λ i. record {
-        argument_types = same_arguments f.arguments.items signature.0 i;
-        result = same_result f.result signature.1 i;
+        argument_types = map (λ a. declared_type m a.ty) f.arguments.items;
+        result = option_map (λ r. declared_type m r.ty) f.result;
         first_values = map (λ l. l.init) f.local_variables;
-        local_pointers = same_locals es f.local_variables fit.3 i;
+        local_pointers = map (λ l. local_pointer m l.ty) f.local_variables;
         expressions = same_expressions d scalars f.expressions 0 f.expressions shapes.0 i;
-        types = same_known es known i;
+        types = map (λ e. type_of_values m e.ty) es;
         counts = map (λ e. e.ref_count) es;
         given_names = so_far.given_from (keys f.named_expressions) 0 f.expressions;
         body = same_lines d.around scalars f.body body.1 i;
       }
 
   same_functions : (fs : List ir_function.Function) (ess : List (List ExpressionInfo)) →
-      functions_fit m.types fs ess ≡ true → list_all function_is_written fs ≡ true →
-      list_all (list_all (λ k. is_some (spelling_of m.types k.ty))) ess ≡ true →
+      list_all function_is_written fs ≡ true →
       map (λ p. function_shape m info p.0 p.1) (zip fs ess) ≡
-      so_far.function_shapes m.types fs ess
-  same_functions [] ess fit written known = refl
-  same_functions (f ∷ fs) [] fit written known = refl
-  same_functions (f ∷ fs) (es ∷ ess) fit written known =
-      let fits = and_parts (function_fits m.types f es) (functions_fit m.types fs ess) fit
-      in let is = and_parts (function_is_written f) (list_all function_is_written fs) written
-      in let spelled = and_parts (list_all (λ k. is_some (spelling_of m.types k.ty)) es) _ known
-      in λ i.
-      same_function f es fits.0 is.0 spelled.0 i ∷ same_functions fs ess fits.1 is.1 spelled.1 i
+      so_far.function_shapes m fs ess
+  same_functions [] ess written = refl
+  same_functions (f ∷ fs) [] written = refl
+  same_functions (f ∷ fs) (es ∷ ess) written =
+      let is = and_parts (function_is_written f) (list_all function_is_written fs) written
+      in λ i. same_function f es is.0 i ∷ same_functions fs ess is.1 i
 
 -- ---- parts
 -- no expression that is written takes a part
@@ -275,12 +201,11 @@ none_outside m info whole step entry_points globals =
     (zip (globals i) info.const_expression_types.items) ++ [])
 
 -- the program of shapes is that of the part
-pub same_program : (m : ir_module.Module) (info : ModuleInfo) → IsTrue (fits_so_far m info) →
+pub same_program : (m : ir_module.Module) (info : ModuleInfo) →
     IsTrue (is_written_so_far m info) → module_shape m info ≡ so_far.program_shape m info
-same_program m info fits written =
-    let fit = fits_parts m info fits
-    in let is = written_so_far_parts m info written
-    in let constants = and_parts (length m.constants == 0) _ fit.0
+same_program m info written =
+    let is = written_so_far_parts m info written
+    in let constants = and_parts (length m.constants == 0) _ is.0
     in let overrides = and_parts (length m.overrides == 0) _ constants.1
     in let globals = and_parts (length m.global_variables == 0) _ overrides.1
     in let others = and_parts (length m.global_expressions == 0) _ globals.1
@@ -290,12 +215,12 @@ same_program m info fits written =
     ((λ i. zip m.functions info.functions.items ++
     zip (map (λ p. p.function) (entry_points i)) info.entry_points.items)
     ∙ append-nil (zip m.functions info.functions.items))
-    ∙ same_functions m info is.1 m.functions info.functions.items fit.5 is.2 is.3
+    ∙ same_functions m info is.1 m.functions info.functions.items is.2
     in λ i. record {
       constant_types =
-          map (λ c. type_of_values m (Handle c.ty))
+          map (λ c. declared_type m c.ty)
           (filter (λ c. is_some c.name) (nothing_there m.constants constants.0 i)) ++
-          map (λ o. type_of_values m (Handle o.ty)) (nothing_there m.overrides overrides.0 i);
+          map (λ o. declared_type m o.ty) (nothing_there m.overrides overrides.0 i);
       initialisers =
           map (initialiser m info)
           (filter (λ c. is_some c.name) (nothing_there m.constants constants.0 i));

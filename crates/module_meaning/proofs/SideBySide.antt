@@ -9,7 +9,7 @@ use Rattle.naga_ir.specs.declared.module.Function.{Function}
 use Rattle.naga_info.specs.declared.info.ExpressionInfo.{ExpressionInfo}
 use Rattle.module_meaning.specs.AgreeingOperators.{function_group, function_groups}
 use Rattle.module_meaning.specs.InfoSizes.{all_paired}
-use Rattle.module_meaning.proofs.FitsSoFar.{list_all_at}
+use Rattle.module_meaning.proofs.Lists.{list_all_at}
 
 -- items at one place make a pair there
 pub zip_at : {X Y : Type 0} (xs : List X) (ys : List Y) (i : ℕ) (x : X) (y : Y) → slice_get xs i ≡ Some x → slice_get ys i ≡ Some y → slice_get (zip xs ys) i ≡ Some (x, y)

@@ -12,16 +12,14 @@ use Rattle.naga_ir.specs.StatementTree.{case as case_tree}
 use Rattle.naga_ir.specs.declared.expression.Expression as ir
 use Rattle.naga_ir.specs.declared.module.Function as ir_function
 use Rattle.naga_ir.specs.declared.module.Module as ir_module
-use Rattle.naga_ir.specs.declared.types.AddressSpace.TheVariants as space
-use Rattle.naga_ir.specs.declared.types.TypeInner.TheVariants as inner
 use Rattle.naga_info.specs.declared.info.ExpressionInfo.{ExpressionInfo}
 use Rattle.naga_info.specs.declared.info.ModuleInfo.{ModuleInfo}
-use Rattle.naga_info.specs.declared.info.TypeResolution.TheVariants.{Handle, Value}
 use Rattle.module_meaning.specs.ExpressionOperators.{Surroundings}
 use Rattle.module_meaning.specs.ExpressionShapes.{Declared, shape_of}
 use Rattle.module_meaning.specs.Shapes.{label_shape, given_from}
 use Rattle.module_meaning.specs.StatementShapes.{simple_shape}
-use Rattle.module_meaning.specs.Surroundings.{declared, types_known, type_of_values, word_of_values}
+use Rattle.module_meaning.specs.Surroundings.{declared, types_known}
+use Rattle.module_meaning.specs.Types.{declared_type, local_pointer, type_of_values}
 use Rattle.shader_runs.specs.Program.{Expression, Statement, Block, If, Switch, Loop, Statements}
 use Rattle.shader_runs.specs.Program.{end, then, Cases, no_case, case, Function}
 
@@ -58,11 +56,10 @@ abbrev pub function_shape :
 function_shape m info f es =
     let d = declared m info (types_known es) in
     record {
-      argument_types = map (λ a. type_of_values m (Handle a.ty)) f.arguments.items;
-      result = option_map (λ r. type_of_values m (Handle r.ty)) f.result;
+      argument_types = map (λ a. declared_type m a.ty) f.arguments.items;
+      result = option_map (λ r. declared_type m r.ty) f.result;
       first_values = map (λ l. l.init) f.local_variables;
-      local_pointers = map (λ l. word_of_values m (Value (inner.Pointer l.ty space.Function)))
-          f.local_variables;
+      local_pointers = map (λ l. local_pointer m l.ty) f.local_variables;
       expressions = shapes_from d f.expressions 0 f.expressions;
       types = map (λ e. type_of_values m e.ty) es;
       counts = map (λ e. e.ref_count) es;

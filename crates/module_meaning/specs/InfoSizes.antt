@@ -20,6 +20,7 @@ use Rattle.naga_info.specs.declared.info.ExpressionInfo.{ExpressionInfo}
 use Rattle.naga_info.specs.declared.info.ModuleInfo.{ModuleInfo}
 use Rattle.naga_info.specs.declared.info.TypeResolution.{TypeResolution}
 use Rattle.naga_info.specs.declared.info.TypeResolution.TheVariants.{Handle, Value}
+use Rattle.naga_words.specs.Spelling.{is_struct}
 
 -- two lists are equally long, and their items pass the test side by side
 abbrev pub all_paired : {X Y : Type 0} → (X → Y → Bool) → List X → List Y → Bool
@@ -47,10 +48,6 @@ is_handle_space _ = false
 abbrev pub is_handle_pointer : TypeInner → Bool
 is_handle_pointer (inner.Pointer base at) = is_handle_space at
 is_handle_pointer _ = false
-
-abbrev pub is_struct : TypeInner → Bool
-is_struct (inner.Struct members span) = true
-is_struct _ = false
 
 -- a type of the module has a form that it may have
 abbrev pub type_is_fit : Type_ → Bool

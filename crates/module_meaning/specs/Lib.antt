@@ -8,7 +8,6 @@ pub mod ExpressionOperators
 pub mod ExpressionShapes
 pub mod ExpressionTypes
 pub mod Faithful
-pub mod FitsSoFar
 pub mod FunctionShapes
 pub mod InfoSizes
 pub mod Initialisers
@@ -28,7 +27,6 @@ pub mod Resolution
 pub mod ShapeKinds
 pub mod Shapes
 pub mod Soundness
-pub mod Spelled
 pub mod StatementShapes
 pub mod StatementsFit
 pub mod Surroundings

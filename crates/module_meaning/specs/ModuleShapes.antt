@@ -14,13 +14,12 @@ use Rattle.naga_ir.specs.declared.module.Constant as ir_constant
 use Rattle.naga_ir.specs.declared.module.Module as ir_module
 use Rattle.naga_info.specs.declared.info.ModuleInfo.{ModuleInfo}
 use Rattle.naga_info.specs.declared.info.TypeResolution.{TypeResolution}
-use Rattle.naga_info.specs.declared.info.TypeResolution.TheVariants.{Handle}
 use Rattle.module_meaning.specs.AgreeingOperators.{Group, groups_of}
 use Rattle.module_meaning.specs.ExpressionShapes.{Declared, constant_tree, part_selector}
 use Rattle.module_meaning.specs.ExpressionTypes.{variable_type}
 use Rattle.module_meaning.specs.FunctionShapes.{function_shape}
-use Rattle.module_meaning.specs.Surroundings.{declared, global_types_known, type_of_values}
-use Rattle.module_meaning.specs.Surroundings.{word_of_values}
+use Rattle.module_meaning.specs.Surroundings.{declared, global_types_known}
+use Rattle.module_meaning.specs.Types.{declared_type, type_of_values, word_of_values}
 use Rattle.shader_runs.specs.Program.{ConstantTree, Fixed, Module}
 use Rattle.shader_runs.specs.Value.{PartTypes, PointerType, Truth, Step, At, Field, step_of}
 use Rattle.shader_runs.specs.Value.{same_bytes, same_integer, same_type}
@@ -95,8 +94,8 @@ module_shape m info =
     let functions = zip m.functions info.functions.items in
     let entry_points = zip (map (λ p. p.function) m.entry_points.items) info.entry_points.items in
     record {
-      constant_types = map (λ c. type_of_values m (Handle c.ty)) (named_constants m) ++
-          map (λ o. type_of_values m (Handle o.ty)) m.overrides;
+      constant_types = map (λ c. declared_type m c.ty) (named_constants m) ++
+          map (λ o. declared_type m o.ty) m.overrides;
       initialisers = map (initialiser m info) (named_constants m);
       global_types = map (λ g. type_of_values m (variable_type g.space g.ty)) m.global_variables;
       parts = part_words m info;

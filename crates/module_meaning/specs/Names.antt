@@ -1,15 +1,19 @@
 -- The names that a module's items have in its WGSL text.
 use Rattle.std.specs.Prelude.{◌≡◌, ℕ, Bool, true, false, ◌<◌, ◌≤◌, ◌^◌, List, [], ◌∷◌, ◌++◌, length}
 use Rattle.std.specs.Prelude.{replicate, slice_get, nat_lt, None, Some, codes, decimal, unwrap_or}
+use Rattle.std.specs.Prelude.{IsTrue}
 use Rattle.std.specs.FinSet as set
 use Rattle.std.specs.Map.{update_all}
 use Rattle.naga_ir.specs.declared.module.Function as ir_function
 use Rattle.naga_ir.specs.declared.module.Module.{Module}
+use Rattle.naga_ir.specs.declared.types.StructMember.{StructMember}
+use Rattle.naga_ir.specs.declared.types.Type_.{Type_}
 use Rattle.naga_names.specs.Naming.{Names, new_names, labels_with_base}
 use Rattle.naga_names.specs.Keys.{NameMap, same_key}
-use Rattle.naga_names.specs.Reset.{keys_fit, labelled_items, labels_of, named_items}
+use Rattle.naga_names.specs.Reset.{keys_fit, labelled_items, labels_of, members_of, named_items}
 use Rattle.naga_names.specs.declared.key.NameKey.{NameKey}
 use Rattle.naga_names.specs.declared.key.NameKey.TheVariants as key
+use Rattle.naga_words.specs.Spelling.{is_struct}
 use Rattle.wgsl_text.specs.Keywords.{reserved_words, builtin_words}
 
 -- what no name begins with
@@ -62,6 +66,27 @@ NamesAreCounted m =
 pub record ItemsAreCounted (m : Module) : Type 0 where
   pub names : NamesAreCounted m
   pub keys : keys_fit (labelled_items wgsl_names m) ≡ true
+
+-- ---- names that tell what they name
+-- Structs and overrides have names of their own, so that the spelling of a type tells them apart.
+pub record TypesAreTold (m : Module) : Type 0 where
+  pub structs : (h k : ℕ) (t u : Type_) → slice_get m.types h ≡ Some t →
+      slice_get m.types k ≡ Some u → IsTrue (is_struct t.inner) → IsTrue (is_struct u.inner) →
+      name_in (module_names m) (key.Type_ h) ≡ name_in (module_names m) (key.Type_ k) → h ≡ k
+  pub overrides : (o p : ℕ) → o < length m.overrides → p < length m.overrides →
+      name_in (module_names m) (key.Override o) ≡ name_in (module_names m) (key.Override p) → o ≡ p
+  pub apart : (h o : ℕ) (t : Type_) → slice_get m.types h ≡ Some t → IsTrue (is_struct t.inner) →
+      o < length m.overrides →
+      name_in (module_names m) (key.Type_ h) ≡ name_in (module_names m) (key.Override o) → ⊥
+
+-- The members of a struct have names of their own too.
+pub record ItemsAreTold (m : Module) : Type 0 where
+  pub types : TypesAreTold m
+  pub members : (h : ℕ) (t : Type_) → slice_get m.types h ≡ Some t →
+      (i j : ℕ) (a b : StructMember) → slice_get (members_of t.inner) i ≡ Some a →
+      slice_get (members_of t.inner) j ≡ Some b →
+      name_in (module_names m) (key.StructMember h i) ≡
+      name_in (module_names m) (key.StructMember h j) → i ≡ j
 
 -- The map has the name of each function, of each argument, whose numbers are no greater than the
 -- greatest `u32`, and of each local.

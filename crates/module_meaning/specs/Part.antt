@@ -3,7 +3,8 @@
 -- Throughout, m is a module and info what is known of it, f a function, es are its expressions, e
 -- is one, k is what is known of one, h is a handle, l a local, a an argument, r a result, s a
 -- statement, t a type, and b the rest of a block.
-use Rattle.std.specs.Prelude.{Bool, true, false, ◌&&◌, List, length, ◌==◌, Option, Some, slice_get}
+use Rattle.std.specs.Prelude.{ℕ, Bool, true, false, ◌&&◌, ◌||◌, List, length, ◌==◌, Option, Some}
+use Rattle.std.specs.Prelude.{slice_get}
 use Rattle.std.specs.List.{list_all}
 use Rattle.std.specs.Option.{option_map_or, is_some, is_none}
 use Rattle.indexmap.specs.IndexMap.{keys}
@@ -12,13 +13,22 @@ use Rattle.naga_ir.specs.StatementTree.{no_statements, statement}
 use Rattle.naga_ir.specs.declared.expression.Expression.{Expression}
 use Rattle.naga_ir.specs.declared.expression.Expression.TheVariants.{Literal, FunctionArgument}
 use Rattle.naga_ir.specs.declared.expression.Expression.TheVariants.{LocalVariable, Load}
+use Rattle.naga_ir.specs.declared.expression.Literal.{Literal as LiteralValue}
+use Rattle.naga_ir.specs.declared.expression.Literal.TheVariants as literal
 use Rattle.naga_ir.specs.declared.module.Function.{Function}
 use Rattle.naga_ir.specs.declared.module.LocalVariable.{LocalVariable as Local}
 use Rattle.naga_ir.specs.declared.module.Module.{Module}
+use Rattle.naga_ir.specs.declared.types.AddressSpace.TheVariants.{Function as OfFunction}
+use Rattle.naga_ir.specs.declared.types.Scalar.{Scalar}
+use Rattle.naga_ir.specs.declared.types.ScalarKind.{ScalarKind}
+use Rattle.naga_ir.specs.declared.types.ScalarKind.TheVariants as kind
 use Rattle.naga_ir.specs.declared.types.Type_.{Type_}
+use Rattle.naga_ir.specs.declared.types.TypeInner.{TypeInner}
+use Rattle.naga_ir.specs.declared.types.TypeInner.TheVariants as inner
+use Rattle.naga_info.specs.Resolution.{inner_of}
 use Rattle.naga_info.specs.declared.info.ModuleInfo.{ModuleInfo}
+use Rattle.naga_info.specs.declared.info.TypeResolution.{TypeResolution}
 use Rattle.module_meaning.specs.Applications.{application_of, accepted_word}
-use Rattle.module_meaning.specs.Spelled.{literal_word, spelling_of, word_of_type}
 
 -- nothing is declared but types and functions
 abbrev pub declares_functions : Module → Bool
@@ -26,14 +36,54 @@ declares_functions m =
     length m.constants == 0 && (length m.overrides == 0 && (length m.global_variables == 0 &&
     (length m.global_expressions == 0 && length m.entry_points.items == 0)))
 
--- the type is one of the scalar types that are told apart
+-- ---- types
+-- the kinds and widths in bytes of the scalars that are written so far: `bool`, and integers of 32
+-- and of 64 bits
+abbrev pub width_is_written : ScalarKind → (width : ℕ) → Bool
+width_is_written kind.Bool width = width == 1
+width_is_written kind.Sint width = width == 4 || width == 8
+width_is_written kind.Uint width = width == 4 || width == 8
+width_is_written _ width = false
+
+abbrev pub scalar_is_written : Scalar → Bool
+scalar_is_written s = width_is_written s.kind s.width
+
+-- the type is such a scalar
+abbrev pub is_written_scalar : TypeInner → Bool
+is_written_scalar (inner.Scalar s) = scalar_is_written s
+is_written_scalar _ = false
+
 abbrev pub is_scalar_type : Type_ → Bool
-is_scalar_type t = is_some (word_of_type t.inner)
+is_scalar_type t = is_written_scalar t.inner
+
+-- the type with this handle is
+abbrev pub is_scalar_at : List Type_ → (handle : ℕ) → Bool
+is_scalar_at types handle = option_map_or is_scalar_type (slice_get types handle) false
+
+-- the type is such a scalar, or a pointer to a local of one
+abbrev pub type_is_written : List Type_ → TypeInner → Bool
+type_is_written types (inner.Scalar s) = scalar_is_written s
+type_is_written types (inner.Pointer base OfFunction) = is_scalar_at types base
+type_is_written types _ = false
+
+-- so is what is known of an expression's type
+abbrev pub resolution_is_written : List Type_ → TypeResolution → Bool
+resolution_is_written types r = option_map_or (type_is_written types) (inner_of r types) false
+
+-- ---- functions
+-- the literal is of one of these scalar types
+abbrev pub is_written_literal : LiteralValue → Bool
+is_written_literal (literal.Bool value) = true
+is_written_literal (literal.I32 value) = true
+is_written_literal (literal.U32 value) = true
+is_written_literal (literal.I64 value) = true
+is_written_literal (literal.U64 value) = true
+is_written_literal _ = false
 
 -- a literal of one of the scalar types, an argument, a
 -- local, a load, or an operator that is accepted so far
 abbrev pub expression_is_written : Expression → Bool
-expression_is_written (Literal value) = is_some (literal_word value)
+expression_is_written (Literal value) = is_written_literal value
 expression_is_written (FunctionArgument number) = true
 expression_is_written (LocalVariable handle) = true
 expression_is_written (Load pointer) = true
@@ -75,10 +125,11 @@ function_is_written f =
     names_nothing f && (is_unbound f && (list_all expression_is_written f.expressions &&
     (list_all (local_is_written f.expressions) f.local_variables && block_is_written f.body)))
 
--- each type that is known of an expression of a function is spelled so far
+-- ---- modules
+-- each type that is known of an expression of a function is written so far
 abbrev pub known_types_are_written : List Type_ → ModuleInfo → Bool
 known_types_are_written types info =
-    list_all (list_all (λ k. is_some (spelling_of types k.ty))) info.functions.items
+    list_all (list_all (λ k. resolution_is_written types k.ty)) info.functions.items
 
 -- scalar types and such functions, of whose expressions such types are known, and pointers to them
 unfoldable pub is_written_so_far : Module → ModuleInfo → Bool

@@ -15,13 +15,11 @@ use Rattle.naga_ir.specs.declared.expression.Expression as ir
 use Rattle.naga_ir.specs.declared.expression.Expression.TheVariants as expression
 use Rattle.naga_ir.specs.declared.module.Function as ir_function
 use Rattle.naga_ir.specs.declared.module.Module as ir_module
-use Rattle.naga_ir.specs.declared.types.Type_.{Type_}
 use Rattle.naga_ir.specs.declared.operators.BinaryOperator.TheVariants.{LogicalAnd, LogicalOr}
 use Rattle.naga_info.specs.declared.info.ExpressionInfo.{ExpressionInfo}
 use Rattle.naga_info.specs.declared.info.ModuleInfo.{ModuleInfo}
 use Rattle.module_meaning.specs.Applications.{Application, application_of}
 use Rattle.module_meaning.specs.OperatorTable.{Operator as TableOperator, BinarySign, run_word}
-use Rattle.module_meaning.specs.Spelled.{word_at}
 use Rattle.naga_names.specs.Keys.{NameMap}
 use Rattle.shader_runs.specs.Value.{PartTypes, ShortCircuitAnd, ShortCircuitOr}
 use Rattle.shader_runs.specs.Program.{Fixed, Expression, Constant, Argument, Local, Load, Operator}
@@ -32,7 +30,7 @@ use Rattle.shader_runs.specs.Program.{operands_of}
 use Rattle.shader_runs.specs.Premises.{AllBelow}
 use Rattle.shader_runs.specs.Scope.{ModuleNames, Names, Naming}
 use Rattle.module_meaning.specs.Names.{function_name, argument_name, local_name, numbered_name}
-use Rattle.module_meaning.specs.Types.{value_type, pointer_to_local, declared_type}
+use Rattle.module_meaning.specs.Types.{type_of_values, local_pointer, declared_type}
 use Rattle.module_meaning.specs.Literals.{literal_value}
 use Rattle.wgsl_text.specs.Requests.{is_request}
 
@@ -99,15 +97,16 @@ given_from named h [] = []
 given_from named h (e ∷ es) = list_any (nat_eq h) named ∷ given_from named (h + 1) es
 
 -- a function, with what is known of its expressions
-abbrev pub function_shape : List Type_ → ir_function.Function → List ExpressionInfo → Function
-function_shape types f es =
+abbrev pub function_shape :
+    ir_module.Module → ir_function.Function → List ExpressionInfo → Function
+function_shape m f es =
     record {
-      argument_types = map (λ a. declared_type types a.ty) f.arguments.items;
-      result = option_map (λ r. declared_type types r.ty) f.result;
+      argument_types = map (λ a. declared_type m a.ty) f.arguments.items;
+      result = option_map (λ r. declared_type m r.ty) f.result;
       first_values = map (λ l. l.init) f.local_variables;
-      local_pointers = map (λ l. pointer_to_local (word_at types l.ty)) f.local_variables;
+      local_pointers = map (λ l. local_pointer m l.ty) f.local_variables;
       expressions = map expression_shape f.expressions;
-      types = map (λ e. value_type types e.ty) es;
+      types = map (λ e. type_of_values m e.ty) es;
       counts = map (λ e. e.ref_count) es;
       given_names = given_from (keys f.named_expressions) 0 f.expressions;
       body = statements_shape f.body;
@@ -115,9 +114,9 @@ function_shape types f es =
 
 -- the functions, each with what is known of it
 abbrev pub function_shapes :
-    List Type_ → List ir_function.Function → List (List ExpressionInfo) → List Function
-function_shapes types (f ∷ fs) (es ∷ ess) = function_shape types f es ∷ function_shapes types fs ess
-function_shapes types _ _ = []
+    ir_module.Module → List ir_function.Function → List (List ExpressionInfo) → List Function
+function_shapes m (f ∷ fs) (es ∷ ess) = function_shape m f es ∷ function_shapes m fs ess
+function_shapes m _ _ = []
 
 -- how pointers to parts are spelled: so far no type has parts
 abbrev pub no_parts : PartTypes
@@ -131,7 +130,7 @@ program_shape m info =
       initialisers = [];
       global_types = [];
       parts = no_parts;
-      functions = reverse (function_shapes m.types m.functions info.functions.items);
+      functions = reverse (function_shapes m m.functions info.functions.items);
     }
 
 -- the names of the module's items; it has no constants, overrides and variables so far
@@ -159,9 +158,9 @@ inner_names names g =
 
 -- the function with this handle, under its names
 abbrev pub function_naming :
-    NameMap → List Type_ → ℕ → ir_function.Function → List ExpressionInfo → Naming
-function_naming names types g f es =
-    record { function = function_shape types f es; names = inner_names names g }
+    NameMap → ir_module.Module → ℕ → ir_function.Function → List ExpressionInfo → Naming
+function_naming names m g f es =
+    record { function = function_shape m f es; names = inner_names names g }
 
 -- the operands of each expression stand before it
 abbrev pub OperandsStandBefore : List ir.Expression → Type 0
@@ -178,4 +177,4 @@ namings_from names g (f ∷ fs) =
 -- the functions with their names, the last one first
 abbrev pub namings : NameMap → ir_module.Module → ModuleInfo → List Naming
 namings names m info =
-    reverse (namings_from names 0 (function_shapes m.types m.functions info.functions.items))
+    reverse (namings_from names 0 (function_shapes m m.functions info.functions.items))

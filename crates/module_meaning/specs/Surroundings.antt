@@ -1,17 +1,13 @@
 -- What stands around the expressions of a module: its types under their names, its constants and
 -- overrides, and what is known of the expressions.
 --
--- Throughout, m is a module, h a handle, c a constant (cs are several), r a type, w a spelling, es
--- is what is known of a function's expressions, and known the types of expressions by handle.
+-- Throughout, m is a module, h a handle, c a constant (cs are several), r a type, es is what is
+-- known of a function's expressions, and known the types of expressions by handle.
 use Rattle.std.specs.Prelude.{ℕ, zero, suc, List, [], ◌∷◌, ◌+◌, length, take, map, slice_get}
-use Rattle.std.specs.Prelude.{Option, Some, None, if◌then◌else◌, codes, unwrap_or}
-use Rattle.std.specs.Option.{option_map_or, option_and_then, is_some}
-use Rattle.std.specs.Str.{bytes_eq}
+use Rattle.std.specs.Prelude.{Option, Some, None, if◌then◌else◌}
+use Rattle.std.specs.Option.{option_and_then, is_some}
 use Rattle.naga_ir.specs.declared.module.Constant as ir_constant
 use Rattle.naga_ir.specs.declared.module.Module.{Module}
-use Rattle.naga_ir.specs.declared.types.TypeInner.{TypeInner}
-use Rattle.naga_ir.specs.declared.types.TypeInner.TheVariants as inner
-use Rattle.naga_info.specs.Resolution.{inner_of}
 use Rattle.naga_info.specs.declared.info.ExpressionInfo.{ExpressionInfo}
 use Rattle.naga_info.specs.declared.info.ModuleInfo.{ModuleInfo}
 use Rattle.naga_info.specs.declared.info.TypeResolution.{TypeResolution}
@@ -20,11 +16,9 @@ use Rattle.module_meaning.specs.ExpressionOperators.{Surroundings}
 use Rattle.module_meaning.specs.ExpressionShapes.{Declared, constant_tree}
 use Rattle.module_meaning.specs.Names.{module_names, name_in}
 use Rattle.module_meaning.specs.OperatorTable.{if_there}
-use Rattle.module_meaning.specs.TypeIdentity.{identity, identity_code, word_of_unspelled_type}
-use Rattle.module_meaning.specs.Types.{type_names, spelled_resolution, integer_words}
-use Rattle.wgsl_text.specs.Words.{stands_in}
+use Rattle.module_meaning.specs.TypeIdentity.{identity, identity_code}
+use Rattle.module_meaning.specs.Types.{type_names, spelled_resolution, type_of_values}
 use Rattle.shader_runs.specs.Program.{ConstantTree, NamedConstant}
-use Rattle.shader_runs.specs.Value.{ValueType, BooleanType, IntegerType, PointerType, OtherType}
 
 -- ---- types
 -- types are spelled under the module's names; one without a form is told by what it is
@@ -36,31 +30,6 @@ surroundings m known =
       numbers = λ r. identity_code (identity m.types r);
       known = known;
     }
-
--- a scalar's values are truth values, integers or others
-abbrev pub scalar_values : (spelling : List ℕ) → ValueType
-scalar_values w =
-    if bytes_eq w (codes "bool") then BooleanType else (
-    if stands_in integer_words w then IntegerType w else OtherType w)
-
--- the values of a type with this spelling are those of a scalar, places or others
-abbrev pub values_of : TypeInner → (spelling : List ℕ) → ValueType
-values_of (inner.Scalar s) w = scalar_values w
-values_of (inner.Pointer base space) w = PointerType w
-values_of (inner.ValuePointer size s space) w = PointerType w
-values_of _ w = OtherType w
-
--- How a type is spelled under the module's names. One without a form has a word that no text has,
--- and is told by it.
-abbrev pub word_of_values : Module → TypeResolution → List ℕ
-word_of_values m r =
-    unwrap_or (spelled_resolution (type_names m) r) (word_of_unspelled_type (identity m.types r))
-
--- the type of the values of a type
-abbrev pub type_of_values : Module → TypeResolution → ValueType
-type_of_values m r =
-    let w = word_of_values m r in
-    option_map_or (λ it. values_of it w) (inner_of r m.types) (OtherType w)
 
 -- ---- constants and overrides
 -- how many of these constants have a name

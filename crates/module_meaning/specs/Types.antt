@@ -1,22 +1,24 @@
 -- Types as they are written, and as values have them. A value's type is the type's spelling, and
--- where it has none so far, what the type is told by.
-use Rattle.std.specs.Prelude.{◌≡◌, ℕ, Bool, true, false, slice_get, List, [], ◌∷◌, Option, Some}
-use Rattle.std.specs.Prelude.{None, if◌then◌else◌, codes, unwrap_or}
-use Rattle.std.specs.List.{starts_with}
-use Rattle.std.specs.Bool.{nat_eq}
+-- where it has none, what the type is told by.
+--
+-- Throughout, m is a module, t its types with their names, ty a handle of one, r a type of an
+-- expression, es is what is known of a function's expressions, h a handle, and w a spelling.
+use Rattle.std.specs.Prelude.{ℕ, Bool, true, false, slice_get, List, [], ◌∷◌, Option, None}
+use Rattle.std.specs.Prelude.{if◌then◌else◌, codes, unwrap_or}
+use Rattle.std.specs.Option.{option_and_then, option_map_or}
 use Rattle.std.specs.Str.{bytes_eq}
-use Rattle.naga_ir.specs.declared.module.LocalVariable.{LocalVariable}
 use Rattle.naga_ir.specs.declared.module.Module.{Module}
-use Rattle.naga_ir.specs.declared.types.Type_.{Type_}
-use Rattle.std.specs.Option.{option_and_then}
+use Rattle.naga_ir.specs.declared.types.AddressSpace.TheVariants as space
+use Rattle.naga_ir.specs.declared.types.TypeInner.{TypeInner}
+use Rattle.naga_ir.specs.declared.types.TypeInner.TheVariants as inner
+use Rattle.naga_info.specs.Resolution.{inner_of}
 use Rattle.naga_info.specs.declared.info.ExpressionInfo.{ExpressionInfo}
 use Rattle.naga_info.specs.declared.info.TypeResolution.{TypeResolution}
-use Rattle.naga_info.specs.declared.info.TypeResolution.TheVariants.{Handle}
-use Rattle.module_meaning.specs.Spelled.{word_at, spelling_of, local_pointer}
+use Rattle.naga_info.specs.declared.info.TypeResolution.TheVariants.{Handle, Value}
 use Rattle.naga_words.specs.Contexts.{names_of, Names as TypeNames, writer_context}
 use Rattle.naga_words.specs.Parts.{known_text}
 use Rattle.naga_words.specs.Spelling.{Context, type_parts, resolution_parts}
-use Rattle.module_meaning.specs.TypeIdentity.{Identity, identity, word_of_unspelled_type}
+use Rattle.module_meaning.specs.TypeIdentity.{identity, word_of_unspelled_type}
 use Rattle.module_meaning.specs.Names.{module_names}
 use Rattle.wgsl_text.specs.Words.{stands_in}
 use Rattle.shader_runs.specs.Value.{ValueType, BooleanType, IntegerType, PointerType, OtherType}
@@ -46,33 +48,36 @@ abbrev pub integer_words : List (List ℕ)
 integer_words =
     codes "i16" ∷ codes "u16" ∷ codes "i32" ∷ codes "u32" ∷ codes "i64" ∷ codes "u64" ∷ []
 
--- the type of values whose type is spelled so
-abbrev pub type_spelled : List ℕ → ValueType
-type_spelled w =
+-- ---- types of values
+-- a scalar's values are truth values, integers or others
+abbrev pub scalar_values : (spelling : List ℕ) → ValueType
+scalar_values w =
     if bytes_eq w (codes "bool") then BooleanType else (
-    if stands_in integer_words w then IntegerType w else (
-    if starts_with nat_eq w (codes "ptr<") then PointerType w else OtherType w))
+    if stands_in integer_words w then IntegerType w else OtherType w)
 
--- the spelling of a pointer to a local whose type has this word
-abbrev pub pointer_to_local : Option (List ℕ) → List ℕ
-pointer_to_local (Some w) = local_pointer w
-pointer_to_local None = []
+-- the values of a type with this spelling are those of a scalar, places or others
+abbrev pub values_of : TypeInner → (spelling : List ℕ) → ValueType
+values_of (inner.Scalar s) w = scalar_values w
+values_of (inner.Pointer base space) w = PointerType w
+values_of (inner.ValuePointer size s space) w = PointerType w
+values_of _ w = OtherType w
 
--- the type of each local is spelled
-abbrev pub LocalsAreSpelled : List Type_ → List LocalVariable → Type 0
-LocalsAreSpelled types ls =
-    (l : ℕ) (v : LocalVariable) → slice_get ls l ≡ Some v →
-    (w : List ℕ) × (word_at types v.ty ≡ Some w)
+-- How a type is spelled under the module's names. One without a form has a word that no text has,
+-- and is told by it.
+abbrev pub word_of_values : Module → TypeResolution → List ℕ
+word_of_values m r =
+    unwrap_or (spelled_resolution (type_names m) r) (word_of_unspelled_type (identity m.types r))
 
--- what has no spelling is told by a word that no text has
-abbrev pub type_told : Option (List ℕ) → Identity → ValueType
-type_told (Some w) i = type_spelled w
-type_told None i = OtherType (word_of_unspelled_type i)
-
--- the type of the values of an expression
-abbrev pub value_type : List Type_ → TypeResolution → ValueType
-value_type types r = type_told (spelling_of types r) (identity types r)
+-- the type of the values of a type
+abbrev pub type_of_values : Module → TypeResolution → ValueType
+type_of_values m r =
+    let w = word_of_values m r in
+    option_map_or (λ it. values_of it w) (inner_of r m.types) (OtherType w)
 
 -- the type of the values of a declaration, by its handle
-abbrev pub declared_type : List Type_ → ℕ → ValueType
-declared_type types ty = value_type types (Handle ty)
+abbrev pub declared_type : Module → (ty : ℕ) → ValueType
+declared_type m ty = type_of_values m (Handle ty)
+
+-- how a pointer to a local of a type is spelled
+abbrev pub local_pointer : Module → (ty : ℕ) → List ℕ
+local_pointer m ty = word_of_values m (Value (inner.Pointer ty space.Function))

@@ -2,6 +2,7 @@ pub mod Counts
 pub mod Faults
 pub mod FirstFaults
 pub mod KnownTypes
+pub mod Labels
 pub mod OperatorKeys
 pub mod Searching
 pub mod TextOrder

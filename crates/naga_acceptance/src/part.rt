@@ -7,13 +7,13 @@ ghost use Rattle.naga_ir.specs.StatementViews.{tree_of};
 ghost use Rattle.module_meaning.specs.Part.{block_is_written, expression_is_written};
 ghost use Rattle.module_meaning.specs.Part.{function_is_written, is_literal, is_unbound};
 ghost use Rattle.module_meaning.specs.Part.{is_written_so_far, local_is_written};
-ghost use Rattle.module_meaning.specs.Part.{declares_functions, is_scalar_type};
+ghost use Rattle.module_meaning.specs.Part.{declares_functions, is_scalar_at, is_scalar_type};
+ghost use Rattle.module_meaning.specs.Part.{is_written_literal, is_written_scalar};
 ghost use Rattle.module_meaning.specs.Part.{known_types_are_written, names_nothing};
-ghost use Rattle.module_meaning.specs.Part.{statement_is_written};
+ghost use Rattle.module_meaning.specs.Part.{resolution_is_written, scalar_is_written};
+ghost use Rattle.module_meaning.specs.Part.{statement_is_written, type_is_written};
 ghost use Rattle.module_meaning.specs.Applications.{accepted_word};
 ghost use Rattle.module_meaning.specs.OperatorTable.{BinarySign};
-ghost use Rattle.module_meaning.specs.Spelled.{literal_word, scalar_word, spelling, spelling_of};
-ghost use Rattle.module_meaning.specs.Spelled.{word_at, word_of_type};
 
 use crate::parts::{inner_at, inner_of};
 use naga_info::{ExpressionInfo, FunctionInfo, ModuleInfo, TypeResolution};
@@ -49,8 +49,8 @@ fn declares_functions(module: &Module) -> bool
 }
 
 /// Whether a scalar type is one of those that are written so far.
-fn has_word(scalar: Scalar) -> bool
-    ensures { result ≡ is_some (scalar_word scalar) }
+fn scalar_is_written(scalar: Scalar) -> bool
+    ensures { result ≡ scalar_is_written scalar }
 {
     match scalar.kind {
         ScalarKind::Bool => scalar.width == 1,
@@ -59,11 +59,11 @@ fn has_word(scalar: Scalar) -> bool
     }
 }
 
-fn is_scalar(inner: &TypeInner) -> bool
-    ensures { result ≡ is_some (word_of_type inner.now) }
+fn is_written_scalar(inner: &TypeInner) -> bool
+    ensures { result ≡ is_written_scalar inner.now }
 {
     match inner {
-        TypeInner::Scalar(scalar) => has_word(*scalar),
+        TypeInner::Scalar(scalar) => scalar_is_written(*scalar),
         _ => false,
     }
 }
@@ -72,7 +72,7 @@ fn types_are_scalar(types: &UniqueArena<Type_>) -> bool
     ensures { result ≡ list_all is_scalar_type types.now }
 {
     for (_, ty) in types.iter() {
-        if !is_scalar(&ty.inner) {
+        if !is_written_scalar(&ty.inner) {
             return false;
         }
     }
@@ -80,20 +80,20 @@ fn types_are_scalar(types: &UniqueArena<Type_>) -> bool
 }
 
 fn is_scalar_at(types: &UniqueArena<Type_>, handle: Handle<Type_>) -> bool
-    ensures { result ≡ is_some (word_at types.now handle) }
+    ensures { result ≡ is_scalar_at types.now handle }
 {
     match inner_at(types, handle) {
-        Some(inner) => is_scalar(inner),
+        Some(inner) => is_written_scalar(inner),
         None => false,
     }
 }
 
 /// Whether a type is such a scalar, or a pointer to a local of one.
-fn is_spelled(types: &UniqueArena<Type_>, inner: &TypeInner) -> bool
-    ensures { result ≡ is_some (spelling types.now inner.now) }
+fn type_is_written(types: &UniqueArena<Type_>, inner: &TypeInner) -> bool
+    ensures { result ≡ type_is_written types.now inner.now }
 {
     match inner {
-        TypeInner::Scalar(scalar) => has_word(*scalar),
+        TypeInner::Scalar(scalar) => scalar_is_written(*scalar),
         TypeInner::Pointer {
             base,
             space: AddressSpace::Function,
@@ -102,20 +102,20 @@ fn is_spelled(types: &UniqueArena<Type_>, inner: &TypeInner) -> bool
     }
 }
 
-fn type_is_written(types: &UniqueArena<Type_>, ty: &TypeResolution) -> bool
-    ensures { result ≡ is_some (spelling_of types.now ty.now) }
+fn resolution_is_written(types: &UniqueArena<Type_>, ty: &TypeResolution) -> bool
+    ensures { result ≡ resolution_is_written types.now ty.now }
 {
     match inner_of(types, ty) {
-        Some(inner) => is_spelled(types, inner),
+        Some(inner) => type_is_written(types, inner),
         None => false,
     }
 }
 
 fn expression_types_are_written(types: &UniqueArena<Type_>, infos: &[ExpressionInfo]) -> bool
-    ensures { result ≡ list_all (λ k. is_some (spelling_of types.now k.ty)) infos.now }
+    ensures { result ≡ list_all (λ k. resolution_is_written types.now k.ty) infos.now }
 {
     for info in infos {
-        if !type_is_written(types, &info.ty) {
+        if !resolution_is_written(types, &info.ty) {
             return false;
         }
     }
@@ -123,7 +123,7 @@ fn expression_types_are_written(types: &UniqueArena<Type_>, infos: &[ExpressionI
 }
 
 fn function_types_are_written(types: &UniqueArena<Type_>, infos: &[FunctionInfo]) -> bool
-    ensures { result ≡ list_all (list_all (λ k. is_some (spelling_of types.now k.ty))) infos.now }
+    ensures { result ≡ list_all (list_all (λ k. resolution_is_written types.now k.ty)) infos.now }
 {
     for info in infos {
         if !expression_types_are_written(types, info.expressions.as_slice()) {
@@ -200,14 +200,14 @@ fn expression_is_written(expression: &Expression) -> bool
     match expression {
         Expression::FunctionArgument(_) | Expression::LocalVariable(_) | Expression::Load { .. } =>
             true,
-        Expression::Literal(literal) => literal_is_written(*literal),
+        Expression::Literal(literal) => is_written_literal(*literal),
         Expression::Binary { op, .. } => operator_is_written(*op),
         _ => false,
     }
 }
 
-fn literal_is_written(literal: Literal) -> bool
-    ensures { result ≡ is_some (literal_word literal) }
+fn is_written_literal(literal: Literal) -> bool
+    ensures { result ≡ is_written_literal literal }
 {
     match literal {
         Literal::Bool(_) | Literal::I32(_) | Literal::U32(_) | Literal::I64(_) | Literal::U64(_) =>

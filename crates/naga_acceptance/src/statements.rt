@@ -1,6 +1,6 @@
 //! Whether the statements of a function get what they want.
 
-ghost use Rattle.std.specs.Prelude.{◌≡◌, slice_get, false, true};
+ghost use Rattle.std.specs.Prelude.{None, ◌≡◌, slice_get, false, true};
 ghost use Rattle.std.specs.Option.{option_map};
 ghost use Rattle.std.specs.Result.{result_err};
 ghost use Rattle.naga_acceptance.specs.KnownTypes.{given, known_types};
@@ -16,6 +16,7 @@ ghost use Rattle.module_meaning.specs.StatementsFit.{is_returned, is_same_label,
 ghost use Rattle.module_meaning.specs.StatementsFit.{is_stored, is_subgroup_result};
 ghost use Rattle.module_meaning.specs.StatementsFit.{is_uniform_load_result, label_is_of};
 ghost use Rattle.module_meaning.specs.StatementsFit.{labels_are_of, labels_differ, labels_fit};
+ghost use Rattle.naga_acceptance.specs.Labels.{is_before, is_behind, labels_ascend};
 ghost use Rattle.module_meaning.specs.StatementsFit.{last_falls_through, points_to_atomic};
 ghost use Rattle.module_meaning.specs.StatementsFit.{selection_fits, selects};
 ghost use Rattle.module_meaning.specs.StatementsFit.{value_has_type};
@@ -171,9 +172,45 @@ pub(crate) fn has_label(label: SwitchValue, cases: &[SwitchCase]) -> bool
     false
 }
 
-/// Whether no two cases have one label. It compares each with those behind it, so its time grows
+/// Whether a label stands before another in ascending order: integers by their numbers, and the
+/// default behind all.
+fn is_before(a: SwitchValue, b: SwitchValue) -> bool
+    ensures { result ≡ is_before a b }
+{
+    match (a, b) {
+        (SwitchValue::I32(a), SwitchValue::I32(b)) => a < b,
+        (SwitchValue::U32(a), SwitchValue::U32(b)) => a < b,
+        (SwitchValue::I32(_) | SwitchValue::U32(_), SwitchValue::Default) => true,
+        _ => false,
+    }
+}
+
+fn is_behind(last: Option<SwitchValue>, label: SwitchValue) -> bool
+    ensures { result ≡ is_behind last label }
+{
+    match last {
+        Some(last) => is_before(last, label),
+        None => true,
+    }
+}
+
+/// Whether the labels ascend, the default behind all others.
+fn labels_ascend(cases: &[SwitchCase]) -> bool
+    ensures { result ≡ labels_ascend None (cases_of cases.now) }
+{
+    let mut last = None;
+    for case in cases {
+        if !is_behind(last, case.value) {
+            return false;
+        }
+        last = Some(case.value);
+    }
+    true
+}
+
+/// Whether no label stands behind itself. It compares each with those behind it, so its time grows
 /// with the square of their number; it takes no memory.
-fn labels_differ(cases: &[SwitchCase]) -> bool
+fn none_is_repeated(cases: &[SwitchCase]) -> bool
     ensures { result ≡ labels_differ (cases_of cases.now) }
 {
     for index in 0..cases.len() {
@@ -182,6 +219,14 @@ fn labels_differ(cases: &[SwitchCase]) -> bool
         }
     }
     true
+}
+
+/// Whether no two cases have one label. Where the labels ascend, as those of most switches, it looks
+/// at each once.
+fn labels_differ(cases: &[SwitchCase]) -> bool
+    ensures { result ≡ labels_differ (cases_of cases.now) }
+{
+    labels_ascend(cases) || none_is_repeated(cases)
 }
 
 /// Whether the last case falls through.

@@ -19,15 +19,19 @@ use Rattle.naga_ir.specs.declared.expression.Expression as ir
 use Rattle.naga_ir.specs.declared.module.Function as ir_function
 use Rattle.naga_ir.specs.declared.module.FunctionArgument.{FunctionArgument}
 use Rattle.naga_ir.specs.declared.module.LocalVariable.{LocalVariable}
+use Rattle.naga_ir.specs.declared.module.Module.{Module}
+use Rattle.naga_ir.specs.declared.types.AddressSpace.TheVariants as space
 use Rattle.naga_ir.specs.declared.types.Type_.{Type_}
+use Rattle.naga_ir.specs.declared.types.TypeInner.TheVariants as inner
+use Rattle.naga_info.specs.declared.info.TypeResolution.TheVariants.{Value}
 use Rattle.naga_info.specs.declared.info.ExpressionInfo.{ExpressionInfo}
 use Rattle.std.specs.List.{list_all}
 use Rattle.module_meaning.specs.Part.{is_scalar_type}
-use Rattle.module_meaning.specs.Spelled.{word_at, local_pointer}
-use Rattle.module_meaning.proofs.FitsSoFar.{list_all_at, scalar_types_word_at}
+use Rattle.module_meaning.proofs.Lists.{list_all_at}
 use Rattle.naga_names.specs.Keys.{NameMap}
-use Rattle.wgsl_text.specs.Token.{GreaterThan, mark}
-use Rattle.wgsl_text.specs.Types.{TypeSpecifier, Named, type_pieces}
+use Rattle.wgsl_text.specs.Reading.{type_layout}
+use Rattle.wgsl_text.specs.Types.{TypeSpecifier, Named, pointer_tree}
+use Rattle.wgsl_text.proofs.Text.{text-append}
 use Rattle.shader_runs.specs.Value.{ValueType}
 use Rattle.shader_runs.specs.Program.{binds, from, handle_type, expression_of}
 use Rattle.shader_runs.specs.Scope.{Standing, Named, Handles, Naming, bound_name, at_start}
@@ -46,9 +50,13 @@ use Rattle.naga_form.specs.Statements.{let_form, then_if, lets_form, return_line
 use Rattle.naga_form.specs.Statements.{loop_form, label_form, labels_form, line_form, lines_form}
 use Rattle.naga_form.specs.Statements.{cases_form}
 use Rattle.naga_words.specs.Contexts.{names_of}
-use Rattle.module_meaning.specs.Names.{function_name, argument_name}
-use Rattle.naga_form.specs.Types.{type_form, told_type}
-use Rattle.module_meaning.specs.Types.{pointer_to_local, declared_type, LocalsAreSpelled}
+use Rattle.module_meaning.specs.Names.{function_name, argument_name, module_names}
+use Rattle.naga_form.specs.Types.{type_form, told_type, LocalsHaveForms}
+use Rattle.naga_form.specs.TypeTrees.{type_tree}
+use Rattle.naga_form.proofs.TypeTrees.{inner_tree_row}
+use Rattle.naga_form.proofs.WrittenTypes.{scalars_at, type_has_form}
+use Rattle.module_meaning.specs.Types.{local_pointer, declared_type, type_names}
+use Rattle.module_meaning.specs.TypeIdentity.{identity, word_of_unspelled_type}
 use Rattle.naga_form.specs.Literals.{literal_is_written, LiteralsAreWritten}
 use Rattle.module_meaning.specs.Shapes.{statement_shape, statements_shape, function_naming}
 use Rattle.module_meaning.specs.Shapes.{application_shape, expression_shape, label_shape}
@@ -57,11 +65,9 @@ use Rattle.text_meaning.specs.Abstraction.{expression_read, label_read, labels_r
 use Rattle.text_meaning.specs.Abstraction.{statements_read, cases_read, function_read}
 use Rattle.text_meaning.specs.Abstraction.{statement_read, local_pointer_read, variable_read}
 use Rattle.naga_ir.specs.declared.expression.Expression.TheVariants as expression
-use Rattle.wgsl_text.specs.Text.{text}
 use Rattle.module_meaning.specs.Applications.{Application, application_of}
 use Rattle.naga_form.proofs.Operators.{operator_read}
 use Rattle.naga_form.proofs.Fits.{mapped_at, mapped_length}
-use Rattle.naga_form.proofs.WrittenTypes.{tree_of_word}
 use Rattle.naga_form.proofs.Literals.{literal_read}
 use Rattle.wgsl_text.specs.Statements as tree
 use Rattle.wgsl_text.specs.Expressions as tree_expressions
@@ -131,9 +137,9 @@ module _ (n : Naming) where
   standing_reads (Named x) p q e = refl
   standing_reads _ p q e = e
 
-module _ (names : NameMap) (types : List Type_) (g : ℕ) (f : ir_function.Function) (es : List ExpressionInfo) (literals : LiteralsAreWritten f.expressions) where
+module _ (names : NameMap) (m : Module) (g : ℕ) (f : ir_function.Function) (es : List ExpressionInfo) (literals : LiteralsAreWritten f.expressions) where
   abbrev own : Naming
-  own = function_naming names types g f es
+  own = function_naming names m g f es
 
   below_reads : (s : Handles) (k h : ℕ) → plain_read (plain_below own f.expressions s k h) ≡ written_below own s k h
   below_reads s zero h = refl
@@ -213,43 +219,48 @@ module _ (names : NameMap) (types : List Type_) (g : ℕ) (f : ir_function.Funct
         let behind = given_by_all own.function (statements_shape body) k in
         λ i. group (labels_read_as labels value i) (lines_read told k body s i) (cases_read_as told behind [] cs s i)
 
-  -- the declared type of a local tells the spelling of a pointer to it
-  pointer_reads : (ty : ℕ) (w : List ℕ) → word_at types ty ≡ Some w → local_pointer_read (type_form (names_of types names) ty) ≡ local_pointer w
-  pointer_reads ty w word =
-      ap (λ t. local_pointer_read (unwrap_or t (Named []))) (tree_of_word (names_of types names) ty w word)
-      ∙ ap (λ z. codes "ptr<function, " ++ z) (closed w)
-    where
-      closed : (w : List ℕ) → text (type_pieces (Named w) ++ mark GreaterThan ∷ []) ≡ w ++ codes ">"
-      closed w = refl
+-- the declared type of a local tells the spelling of a pointer to it
+pointer_reads : (m : Module) (ty : ℕ) (t : TypeSpecifier) → type_tree (type_names m) ty ≡ Some t → local_pointer_read (type_form (type_names m) ty) ≡ local_pointer m ty
+pointer_reads m ty t at =
+    ap (λ o. local_pointer_read (unwrap_or o (Named []))) at
+    ∙ sym (ap (λ o. unwrap_or o (word_of_unspelled_type (identity m.types (Value (inner.Pointer ty space.Function)))))
+    (inner_tree_row text-append (type_names m) (λ handle. true) (inner.Pointer ty space.Function)
+    ∙ ap (λ o. option_map type_layout (option_map (pointer_tree (codes "function") None) o)) at))
 
-  locals_read : LocalsAreSpelled types f.local_variables → (l : ℕ) (vs : List LocalVariable) → ((k : ℕ) → slice_get vs k ≡ slice_get f.local_variables (k + l)) → map variable_read (locals_form own (names_of types names) f.expressions l vs) ≡ variables_from own l (map (λ v. v.init) vs)
-  locals_read spelled l [] at = refl
-  locals_read spelled l (v ∷ vs) at =
+module _ (m : Module) (g : ℕ) (f : ir_function.Function) (es : List ExpressionInfo) (literals : LiteralsAreWritten f.expressions) where
+  abbrev own_names : Naming
+  own_names = function_naming (module_names m) m g f es
+
+  locals_read : LocalsHaveForms (type_names m) f.local_variables → (l : ℕ) (vs : List LocalVariable) → ((k : ℕ) → slice_get vs k ≡ slice_get f.local_variables (k + l)) → map variable_read (locals_form own_names (type_names m) f.expressions l vs) ≡ variables_from own_names l (map (λ v. v.init) vs)
+  locals_read formed l [] at = refl
+  locals_read formed l (v ∷ vs) at =
       let here : slice_get f.local_variables l ≡ Some v = ap (slice_get f.local_variables) (sym (zero-add l)) ∙ sym (at 0) in
-      let w = spelled l v here in
-      let pointer = pointer_reads v.ty w.0 w.1 ∙ ap pointer_to_local (sym w.1) ∙ sym (mapped_at (λ l. pointer_to_local (word_at types l.ty)) [] f.local_variables l v here) in
-      let rest = locals_read spelled (l + 1) vs later in
+      let t = formed l v here in
+      let pointer = pointer_reads m v.ty t.0 t.1 ∙ sym (mapped_at (λ l. local_pointer m l.ty) [] f.local_variables l v here) in
+      let rest = locals_read formed (l + 1) vs later in
       λ i.
-      record { name = own.names.local_ l; pointer = pointer i; first_value = value_if_reads (at_start own.function) v.init i }
-      ∷ (rest ∙ ap (λ m. variables_from own m (map (λ v. v.init) vs)) (add-one l)) i
+      record { name = own_names.names.local_ l; pointer = pointer i; first_value = value_if_reads (module_names m) m g f es literals (at_start own_names.function) v.init i }
+      ∷ (rest ∙ ap (λ k. variables_from own_names k (map (λ v. v.init) vs)) (add-one l)) i
     where
       later : (k : ℕ) → slice_get vs k ≡ slice_get f.local_variables (k + (l + 1))
       later k =
           let same : suc k + l ≡ k + (l + 1) = omega arith in
           at (suc k) ∙ ap (slice_get f.local_variables) same
 
--- the type of each local in range is spelled
-pub locals_spelled : (types : List Type_) (f : ir_function.Function) (count : ℕ) → IsTrue (list_all is_scalar_type types) → list_all (local_in_range (length types) count) f.local_variables ≡ true → LocalsAreSpelled types f.local_variables
-locals_spelled types f count scalars ranges l v at =
-    let parts = and_parts (nat_lt v.ty (length types)) (is_below count v.init) (list_all_at (local_in_range (length types) count) f.local_variables l v ranges at) in
-    scalar_types_word_at types v.ty scalars (ltb-true v.ty (length types) parts.0)
+-- the type of each local in range has a form
+pub locals_have_forms : (m : Module) (f : ir_function.Function) (count : ℕ) → IsTrue (list_all is_scalar_type m.types) → list_all (local_in_range (length m.types) count) f.local_variables ≡ true → LocalsHaveForms (type_names m) f.local_variables
+locals_have_forms m f count scalars ranges l v at =
+    let parts = and_parts (nat_lt v.ty (length m.types)) (is_below count v.init) (list_all_at (local_in_range (length m.types) count) f.local_variables l v ranges at) in
+    let form = type_has_form m.types v.ty (scalars_at m.types v.ty scalars (ltb-true v.ty (length m.types) parts.0)) in
+    (form.tree, form.is (module_names m))
 
-pub function_reads : (explicit : Bool) (names : NameMap) (types : List Type_) (g : ℕ) (f : ir_function.Function) (es : List ExpressionInfo) → LiteralsAreWritten f.expressions → LocalsAreSpelled types f.local_variables → function_read (function_form explicit names types g f es) ≡ form_function (function_naming names types g f es)
-function_reads explicit names types g f es literals spelled =
-    let locals = locals_read names types g f es literals spelled 0 f.local_variables (λ k. ap (slice_get f.local_variables) (sym (add-zero k))) in
+pub function_reads : (explicit : Bool) (m : Module) (g : ℕ) (f : ir_function.Function) (es : List ExpressionInfo) → LiteralsAreWritten f.expressions → LocalsHaveForms (type_names m) f.local_variables → function_read (function_form explicit (module_names m) m g f es) ≡ form_function (function_naming (module_names m) m g f es)
+function_reads explicit m g f es literals formed =
+    let names = module_names m in
+    let locals = locals_read m g f es literals formed 0 f.local_variables (λ k. ap (slice_get f.local_variables) (sym (add-zero k))) in
     λ i. record {
       name = function_name names g;
-      parameters = (names_counted names types g 0 f.arguments.items ∙ ap (names_from (argument_name names g) 0) (sym (mapped_length (λ a. declared_type types a.ty) f.arguments.items))) i;
+      parameters = (names_counted names m.types g 0 f.arguments.items ∙ ap (names_from (argument_name names g) 0) (sym (mapped_length (λ a. declared_type m a.ty) f.arguments.items))) i;
       variables = locals i;
-      lines = lines_read names types g f es literals (told_type explicit (names_of types names) es) 0 f.body (at_start (function_shape types f es)) i;
+      lines = lines_read names m g f es literals (told_type explicit (type_names m) es) 0 f.body (at_start (function_shape m f es)) i;
     }

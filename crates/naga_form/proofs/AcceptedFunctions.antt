@@ -30,8 +30,8 @@ use Rattle.module_meaning.specs.Initialisers.{locals_are_sound}
 use Rattle.module_meaning.specs.Soundness.{expressions_are_sound}
 use Rattle.module_meaning.specs.StatementsFit.{body_is_sound}
 use Rattle.module_meaning.specs.Soundness.{module_is_sound, function_is_sound, entry_point_is_sound}
-use Rattle.module_meaning.proofs.FitsSoFar.{list_all_at}
-use Rattle.module_meaning.proofs.FunctionsSoFar.{placed_at}
+use Rattle.module_meaning.proofs.Lists.{list_all_at}
+use Rattle.module_meaning.proofs.Lists.{placed_at}
 use Rattle.std.proofs.lemmas.Option.{slice_get-map}
 use Rattle.naga_names.proofs.Refusal.{element}
 use Rattle.naga_form.proofs.AgreeingUses.{in_left}

@@ -1,6 +1,6 @@
 -- What acceptance says of the expressions that stand together in a function, in an entry point or in
 -- the module itself.
-use Rattle.module_meaning.specs.Names.{NamesAreCounted}
+use Rattle.module_meaning.specs.Names.{TypesAreTold}
 use Rattle.module_meaning.proofs.SideBySide.{in_groups, paired_at}
 use Rattle.std.proofs.Common.{◌≡◌, ℕ, zero, suc, ◌<◌, ◌+◌, Bool, true, false, List, [], ◌∷◌, refl, sym, ap, ◌∙◌, length, ◌&&◌}
 use Rattle.std.proofs.Common.{Option, Some, None, slice_get, map, arith, nat_lt, ◌^◌, ◌≤◌, eqb-true}
@@ -37,8 +37,8 @@ use Rattle.module_meaning.specs.Numbers.{fits_32_bits, size_fits_32_bits, type_f
 use Rattle.module_meaning.specs.OperandDemands.{operands_fit, are_operands_fit}
 use Rattle.module_meaning.specs.Ranges.{module_ranges_fit, module_in_range, resolution_fits, types_in_range, function_in_range, entry_point_in_range, expression_in_range, all_below, all_placed, global_expression_in_range, signature_fits, names_fit, local_in_range, expressions_in_range, block_in_range, declarations_in_range, names_in_range, numbers_in_range, parts_before, special_types_fit, constant_in_range, override_in_range, global_in_range, is_below}
 use Rattle.module_meaning.specs.Soundness.{module_is_sound, function_is_sound, entry_point_is_sound, declarations_are_sound}
-use Rattle.module_meaning.proofs.FitsSoFar.{list_all_at}
-use Rattle.module_meaning.proofs.FunctionsSoFar.{placed_at}
+use Rattle.module_meaning.proofs.Lists.{list_all_at}
+use Rattle.module_meaning.proofs.Lists.{placed_at}
 use Rattle.naga_names.proofs.Refusal.{element}
 use Rattle.naga_form.proofs.AgreeingUses.{AreKnown, AllFit, IsIn, in_left, in_right}
 use Rattle.naga_form.proofs.SameValues.{TypesAreCounted, IsFit, InnerIsCounted, LengthIsCounted}
@@ -118,15 +118,15 @@ module _ (m : Module) (info : ModuleInfo) where
         (list_all_at (λ t. numbers_in_range (length m.overrides) t.inner) m.types h t (and_parts _ _ types_range).1 at)
 
     -- the types, where names are counted
-    pub types_are_counted : NamesAreCounted m → TypesAreCounted m
-    types_are_counted counted = record {
-      names = counted;
+    pub types_are_counted : TypesAreTold m → TypesAreCounted m
+    types_are_counted told = record {
+      names = told;
       fits = ranges_parts.1;
       counted = λ h t at. inner_counted t.inner (numbers_at h t at).1;
       within = λ h t at. (numbers_at h t at).0;
     }
 
-    fit_of : (r : TypeResolution) → resolution_fits (length m.overrides) (length m.types) r ≡ true → IsFit m r
+    pub fit_of : (r : TypeResolution) → resolution_fits (length m.overrides) (length m.types) r ≡ true → IsFit m r
     fit_of (Handle h) fits = tt
     fit_of (Value it) fits =
         let one = and_parts (resolution_is_fit (Value it)) _ fits in let two = and_parts (parts_before (length m.types) it) (numbers_in_range (length m.overrides) it) one.1 in

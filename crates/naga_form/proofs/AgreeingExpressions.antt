@@ -1,7 +1,7 @@
 -- Expressions of an accepted module over operands of equal types: their operands are told alike,
 -- and where one key tells what they apply, or one type what they have, their values are of one
 -- type.
-use Rattle.module_meaning.specs.Names.{NamesAreCounted}
+use Rattle.module_meaning.specs.Names.{TypesAreTold}
 use Rattle.std.proofs.Common.{◌≡◌, ℕ, List, [], sym, ap, ◌∙◌}
 use Rattle.std.proofs.Common.{Some, slice_get, map}
 use Rattle.std.specs.Prelude.{IsTrue}
@@ -21,9 +21,9 @@ use Rattle.naga_form.proofs.AgreeingUses.{IsUse, AreKnown, value_at, uses_agree,
 use Rattle.naga_form.proofs.SameValues.{TypesAreCounted}
 use Rattle.naga_form.proofs.Signatures.{IsOfExpression}
 
-module _ (m : Module) (info : ModuleInfo) (accepted : IsTrue (is_accepted m info)) (counted : NamesAreCounted m) where
+module _ (m : Module) (info : ModuleInfo) (accepted : IsTrue (is_accepted m info)) (named : TypesAreTold m) where
   abbrev pub are : TypesAreCounted m
-  are = types_are_counted m info accepted counted
+  are = types_are_counted m info accepted named
 
   -- ---- one expression
   module _ {x : Signature} (a : IsOfExpression m info x) where

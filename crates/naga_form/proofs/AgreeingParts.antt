@@ -24,7 +24,7 @@ use Rattle.naga_info.specs.Resolution.{inner_of, handle_of}
 use Rattle.naga_info.specs.declared.info.ModuleInfo.{ModuleInfo}
 use Rattle.naga_info.specs.declared.info.TypeResolution.{TypeResolution}
 use Rattle.naga_info.specs.declared.info.TypeResolution.TheVariants.{Handle, Value}
-use Rattle.naga_names.specs.Reset.{members_of, keys_fit, labelled_items}
+use Rattle.naga_names.specs.Reset.{members_of}
 use Rattle.naga_names.specs.declared.key.NameKey.TheVariants as key
 use Rattle.shader_runs.specs.Value.{Selector, MemberNamed, ElementAt}
 use Rattle.wgsl_words.specs.Words.{scalar_word}
@@ -32,11 +32,10 @@ use Rattle.module_meaning.specs.AgreeingOperators.{Group, word_key, swizzle_key}
 use Rattle.module_meaning.specs.AlikeTypes.{type_form, type_identity, handle_form, form_within, found_form_by, named_form_by, pointer_form, over_scalar}
 use Rattle.module_meaning.specs.ExpressionShapes.{own_selector, selector, component_letters, letter}
 use Rattle.module_meaning.specs.InfoSizes.{resolution_is_fit}
-use Rattle.module_meaning.specs.Names.{module_names, name_in, NamesAreCounted, wgsl_names}
+use Rattle.module_meaning.specs.Names.{module_names, name_in, ItemsAreTold}
 use Rattle.module_meaning.specs.Ranges.{parts_before}
 use Rattle.module_meaning.specs.TypeIdentity.{level, vector_number, kind_number, identity, word_of_unspelled_type}
 use Rattle.module_meaning.specs.TypeParts.{is_part_number, value_part_count}
-use Rattle.naga_form.proofs.MemberNames.{member_names_tell}
 use Rattle.naga_form.proofs.Signatures.{declared_for}
 use Rattle.naga_names.proofs.Refusal.{element}
 
@@ -212,19 +211,19 @@ module _ (m : Module) (info : ModuleInfo) where
   not_both i w s x y = let same : ElementAt i ≡ MemberNamed w = sym x ∙ y in absurd cc
 
   -- one name is of one number
-  pub one_number : NamesAreCounted m → keys_fit (labelled_items wgsl_names m) ≡ true → (r q : TypeResolution) (i j : ℕ) (s : Selector) → type_identity m.types r ≡ type_identity m.types q → Named r i s → Named q j s → i ≡ j
-  one_number counted keys r q i j s e (ByNumber x) (ByNumber y) = let same : ElementAt i ≡ ElementAt j = sym x ∙ y in cc
-  one_number counted keys r q i j s e (ByNumber x) (ByLetter w at y told) = absurd (not_both i w s x y)
-  one_number counted keys r q i j s e (ByNumber x) (ByName h t k there member y told) = absurd (not_both i _ s x y)
-  one_number counted keys r q i j s e (ByLetter w at x told) (ByNumber y) = absurd (not_both j w s y x)
-  one_number counted keys r q i j s e (ByLetter w at x told) (ByLetter v bt y other) = letters_tell i j w at (bt ∙ ap Some (member_named v w s y x))
-  one_number counted keys r q i j s e (ByLetter w at x told) (ByName h t k there member y other) = absurd (told_alike r q h e told other)
-  one_number counted keys r q i j s e (ByName h t k there member x told) (ByNumber y) = absurd (not_both j _ s y x)
-  one_number counted keys r q i j s e (ByName h t k there member x told) (ByLetter w at y other) = absurd (told_alike q r h (sym e) other told)
-  one_number counted keys r q i j s e (ByName h t k there member x told) (ByName g u l found other_member y other) =
+  pub one_number : ItemsAreTold m → (r q : TypeResolution) (i j : ℕ) (s : Selector) → type_identity m.types r ≡ type_identity m.types q → Named r i s → Named q j s → i ≡ j
+  one_number items r q i j s e (ByNumber x) (ByNumber y) = let same : ElementAt i ≡ ElementAt j = sym x ∙ y in cc
+  one_number items r q i j s e (ByNumber x) (ByLetter w at y told) = absurd (not_both i w s x y)
+  one_number items r q i j s e (ByNumber x) (ByName h t k there member y told) = absurd (not_both i _ s x y)
+  one_number items r q i j s e (ByLetter w at x told) (ByNumber y) = absurd (not_both j w s y x)
+  one_number items r q i j s e (ByLetter w at x told) (ByLetter v bt y other) = letters_tell i j w at (bt ∙ ap Some (member_named v w s y x))
+  one_number items r q i j s e (ByLetter w at x told) (ByName h t k there member y other) = absurd (told_alike r q h e told other)
+  one_number items r q i j s e (ByName h t k there member x told) (ByNumber y) = absurd (not_both j _ s y x)
+  one_number items r q i j s e (ByName h t k there member x told) (ByLetter w at y other) = absurd (told_alike q r h (sym e) other told)
+  one_number items r q i j s e (ByName h t k there member x told) (ByName g u l found other_member y other) =
       let handles : h ≡ g = same_Some h g (sym told ∙ (ap struct_told e ∙ other)) in
       let types : u ≡ t = same_Some u t (sym found ∙ (ap (slice_get m.types) (sym handles) ∙ there)) in
-      member_names_tell m counted keys h t there i j k l member (ap (λ t. slice_get (members_of t.inner) j) (sym types) ∙ other_member)
+      items.members h t there i j k l member (ap (λ t. slice_get (members_of t.inner) j) (sym types) ∙ other_member)
       (member_named _ _ s x y ∙ ap (λ h. name_in (module_names m) (key.StructMember h j)) (sym handles))
 
   -- ---- swizzles

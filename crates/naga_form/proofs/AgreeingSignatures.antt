@@ -1,6 +1,6 @@
 -- Signatures of an accepted module that are called alike, over operands of equal types, have
 -- results of one type, wherever they stand in it.
-use Rattle.module_meaning.specs.Names.{ItemsAreCounted}
+use Rattle.module_meaning.specs.Names.{ItemsAreTold}
 use Rattle.std.proofs.Common.{◌≡◌, ℕ, true, false, List, [], ◌∷◌, refl, sym, ap, ◌∙◌, subst, length, arith, ◌+◌}
 use Rattle.std.proofs.Common.{Option, Some, None, slice_get, get_or, map}
 use Rattle.std.specs.Prelude.{IsTrue}
@@ -29,7 +29,7 @@ use Rattle.module_meaning.specs.InfoSizes.{resolution_is_fit}
 use Rattle.module_meaning.specs.OperandDemands.{operands_fit, is_swizzled}
 use Rattle.module_meaning.specs.Ranges.{parts_before}
 use Rattle.module_meaning.specs.TypeParts.{is_part_number}
-use Rattle.module_meaning.proofs.FunctionsSoFar.{placed_at}
+use Rattle.module_meaning.proofs.Lists.{placed_at}
 use Rattle.naga_form.proofs.AcceptedGroups.{types_range}
 use Rattle.naga_form.proofs.AgreeingExpressions.{operands_are, same_operands, by_key}
 use Rattle.naga_form.proofs.AgreeingParts.{Named, part_named, one_number, no_part, vector_is_none, struct_told, letters, key_read, swizzle_told, letters_are_several}
@@ -38,7 +38,7 @@ use Rattle.naga_form.proofs.AgreeingUses.{AreKnown}
 use Rattle.naga_form.proofs.SameValues.{IsFit}
 use Rattle.naga_form.proofs.Signatures.{IsOfExpression, declared_for}
 
-module _ (m : Module) (info : ModuleInfo) (accepted : IsTrue (is_accepted m info)) (counted : ItemsAreCounted m) where
+module _ (m : Module) (info : ModuleInfo) (accepted : IsTrue (is_accepted m info)) (told : ItemsAreTold m) where
   -- a type's parts stand before it
   pub parts_stand : (h : ℕ) (t : Type_) → slice_get m.types h ≡ Some t → parts_before h t.inner ≡ true
   parts_stand h t at =
@@ -59,7 +59,7 @@ module _ (m : Module) (info : ModuleInfo) (accepted : IsTrue (is_accepted m info
   module _ {x : Signature} (a : IsOfExpression m info x) where
     base_of : (base : ℕ) → expression_operands a.expression ≡ base ∷ [] → IsBase a base
     base_of base is =
-        let known = subst (AreKnown m info a.group.known) is (operands_are m info accepted counted.names a) in
+        let known = subst (AreKnown m info a.group.known) is (operands_are m info accepted told.types a) in
         record { r = known.0.0; there = known.0.1; operands = is }
 
     -- what an expression asks of its operands
@@ -108,7 +108,7 @@ module _ (m : Module) (info : ModuleInfo) (accepted : IsTrue (is_accepted m info
     bases_alike : (i j : ℕ) (p : IsBase a i) (q : IsBase b j) → type_identity m.types p.r ≡ type_identity m.types q.r
     bases_alike i j p q =
         let all : identity_at m.types a.group.known i ∷ [] ≡ identity_at m.types b.group.known j ∷ [] =
-        ap (map (identity_at m.types a.group.known)) (sym p.operands) ∙ (same_operands m info accepted counted.names a b operands ∙ ap (map (identity_at m.types b.group.known)) q.operands) in
+        ap (map (identity_at m.types a.group.known)) (sym p.operands) ∙ (same_operands m info accepted told.types a b operands ∙ ap (map (identity_at m.types b.group.known)) q.operands) in
         sym (ap (λ o. option_map_or (type_identity m.types) o []) p.there)
         ∙ (ap (λ xs. get_or xs 0 []) all ∙ ap (λ o. option_map_or (type_identity m.types) o []) q.there)
 
@@ -118,8 +118,8 @@ module _ (m : Module) (info : ModuleInfo) (accepted : IsTrue (is_accepted m info
     both_parts : (i j k l : ℕ) (s : Selector) → a.expression ≡ expression.AccessIndex i k → b.expression ≡ expression.AccessIndex j l → part_selector (declared_for m info a.group) i k ≡ Some s → part_selector (declared_for m info b.group) j l ≡ Some s → x.result ≡ y.result
     both_parts i j k l s one two first second =
         let p = base_of a i (ap expression_operands one) in let q = base_of b j (ap expression_operands two) in
-        let same = one_number m info counted.names counted.keys p.r q.r k l s (bases_alike i j p q) (part_is a i k s one first p) (part_is b j l s two second q) in
-        by_key m info accepted counted.names a b operands (one_key 4 k) (one_key 4 l) (key_of a _ _ one refl) (key_of b _ _ two refl) (ap (one_key 4) same)
+        let same = one_number m info told p.r q.r k l s (bases_alike i j p q) (part_is a i k s one first p) (part_is b j l s two second q) in
+        by_key m info accepted told.types a b operands (one_key 4 k) (one_key 4 l) (key_of a _ _ one refl) (key_of b _ _ two refl) (ap (one_key 4) same)
 
     -- a part is not a swizzle
     part_swizzle : (i j k : ℕ) (s : Selector) (size : VectorSize) (pattern : List SwizzleComponent) → a.expression ≡ expression.AccessIndex i k → b.expression ≡ expression.Swizzle size j pattern → part_selector (declared_for m info a.group) i k ≡ Some s → s ≡ MemberNamed (letters size pattern) → ⊥
@@ -130,31 +130,31 @@ module _ (m : Module) (info : ModuleInfo) (accepted : IsTrue (is_accepted m info
 
     both_swizzles : (i j : ℕ) (n k : VectorSize) (v w : List SwizzleComponent) → a.expression ≡ expression.Swizzle n i v → b.expression ≡ expression.Swizzle k j w → letters n v ≡ letters k w → x.result ≡ y.result
     both_swizzles i j n k v w one two e =
-        by_key m info accepted counted.names a b operands (swizzle_key n v) (swizzle_key k w) (key_of a _ _ one refl) (key_of b _ _ two refl)
+        by_key m info accepted told.types a b operands (swizzle_key n v) (swizzle_key k w) (key_of a _ _ one refl) (key_of b _ _ two refl)
         (sym (swizzle_told n v (four a n i v one)) ∙ (ap key_read e ∙ swizzle_told k w (four b k j w two)))
 
     both_indexed : (i j k l : ℕ) → a.expression ≡ expression.Access i k → b.expression ≡ expression.Access j l → x.result ≡ y.result
-    both_indexed i j k l one two = by_key m info accepted counted.names a b operands (one_key 3 0) (one_key 3 0) (key_of a _ _ one refl) (key_of b _ _ two refl) refl
+    both_indexed i j k l one two = by_key m info accepted told.types a b operands (one_key 3 0) (one_key 3 0) (key_of a _ _ one refl) (key_of b _ _ two refl) refl
 
   -- the same, by how they are called
   calls_agree : {x y : Signature} (a : IsOfExpression m info x) (b : IsOfExpression m info y) → x.operands ≡ y.operands → x.word ≡ y.word →
-      Call m info accepted counted.names a.group a.expression x.word → Call m info accepted counted.names b.group b.expression y.word → x.result ≡ y.result
+      Call m info accepted told.types a.group a.expression x.word → Call m info accepted told.types b.group b.expression y.word → x.result ≡ y.result
   calls_agree a b operands e (Composed ty n k wanted ao ak formed v) (Composed uy l h other bo bk bf w) =
-      both_values m info accepted counted.names a b (Handle ty) (Handle uy) n l tt tt (wanted a.function) (other b.function) (spelled_word _ _ (sym v ∙ (e ∙ w)))
+      both_values m info accepted told.types a b (Handle ty) (Handle uy) n l tt tt (wanted a.function) (other b.function) (spelled_word _ _ (sym v ∙ (e ∙ w)))
   calls_agree a b operands e (Composed ty n k wanted ao ak formed v) (Zeroed uy other none w) =
-      both_values m info accepted counted.names a b (Handle ty) (Handle uy) n 0 tt tt (wanted a.function) (other b.function) (spelled_word _ _ (sym v ∙ (e ∙ w)))
+      both_values m info accepted told.types a b (Handle ty) (Handle uy) n 0 tt tt (wanted a.function) (other b.function) (spelled_word _ _ (sym v ∙ (e ∙ w)))
   calls_agree a b operands e (Composed ty n k wanted ao ak formed v) (Applied p l bo bk bf h hs some w) =
-      composed_applied m info accepted counted.names a b operands ty n k ao ak formed p l bo bk bf (spelled_word _ _ (sym v ∙ (e ∙ w)))
+      composed_applied m info accepted told.types a b operands ty n k ao ak formed p l bo bk bf (spelled_word _ _ (sym v ∙ (e ∙ w)))
   calls_agree a b operands e (Zeroed ty wanted none v) (Composed uy l h other bo bk bf w) =
-      both_values m info accepted counted.names a b (Handle ty) (Handle uy) 0 l tt tt (wanted a.function) (other b.function) (spelled_word _ _ (sym v ∙ (e ∙ w)))
+      both_values m info accepted told.types a b (Handle ty) (Handle uy) 0 l tt tt (wanted a.function) (other b.function) (spelled_word _ _ (sym v ∙ (e ∙ w)))
   calls_agree a b operands e (Zeroed ty wanted none v) (Zeroed uy other nothing w) =
-      both_values m info accepted counted.names a b (Handle ty) (Handle uy) 0 0 tt tt (wanted a.function) (other b.function) (spelled_word _ _ (sym v ∙ (e ∙ w)))
-  calls_agree a b operands e (Zeroed ty wanted none v) (Applied p l bo bk bf h hs some w) = absurd (zeroed_applied m info accepted counted.names a b operands none h hs some)
+      both_values m info accepted told.types a b (Handle ty) (Handle uy) 0 0 tt tt (wanted a.function) (other b.function) (spelled_word _ _ (sym v ∙ (e ∙ w)))
+  calls_agree a b operands e (Zeroed ty wanted none v) (Applied p l bo bk bf h hs some w) = absurd (zeroed_applied m info accepted told.types a b operands none h hs some)
   calls_agree a b operands e (Applied o k ao ak af h hs some v) (Composed uy l i other bo bk bf w) =
-      sym (composed_applied m info accepted counted.names b a (sym operands) uy l i bo bk bf o k ao ak af (spelled_word _ _ (sym w ∙ (sym e ∙ v))))
-  calls_agree a b operands e (Applied o k ao ak af h hs some v) (Zeroed uy other none w) = absurd (zeroed_applied m info accepted counted.names b a (sym operands) none h hs some)
+      sym (composed_applied m info accepted told.types b a (sym operands) uy l i bo bk bf o k ao ak af (spelled_word _ _ (sym w ∙ (sym e ∙ v))))
+  calls_agree a b operands e (Applied o k ao ak af h hs some v) (Zeroed uy other none w) = absurd (zeroed_applied m info accepted told.types b a (sym operands) none h hs some)
   calls_agree a b operands e (Applied o k ao ak af h hs some v) (Applied p l bo bk bf i is more w) =
-      both_applied m info accepted counted.names a b operands o p k l ao ak af bo bk bf (spelled_word _ _ (sym v ∙ (e ∙ w)))
+      both_applied m info accepted told.types a b operands o p k l ao ak af bo bk bf (spelled_word _ _ (sym v ∙ (e ∙ w)))
   calls_agree a b operands e (Indexed i k one v) (Indexed j l two w) = both_indexed a b operands i j k l one two
   calls_agree a b operands e (Selected i k s one first v) (Selected j l t two second w) =
       both_parts a b operands i j k l s one two first (second ∙ ap Some (part_word _ _ (sym w ∙ (sym e ∙ v))))
@@ -191,5 +191,5 @@ module _ (m : Module) (info : ModuleInfo) (accepted : IsTrue (is_accepted m info
   pub signatures_agree : (x y : Signature) → IsOfExpression m info x → IsOfExpression m info y → x.word ≡ y.word → x.operands ≡ y.operands → x.result ≡ y.result
   signatures_agree x y a b word operands =
       calls_agree a b operands word
-      (call m info accepted counted.names a.group a.expression x.word a.called)
-      (call m info accepted counted.names b.group b.expression y.word b.called)
+      (call m info accepted told.types a.group a.expression x.word a.called)
+      (call m info accepted told.types b.group b.expression y.word b.called)

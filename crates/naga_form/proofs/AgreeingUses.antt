@@ -17,7 +17,8 @@ use Rattle.module_meaning.specs.AlikeTypes.{type_identity}
 use Rattle.module_meaning.specs.ExpressionOperators.{applied_operator}
 use Rattle.module_meaning.specs.Operations.{Operation}
 use Rattle.module_meaning.specs.OperatorTable.{Operator, run_word}
-use Rattle.module_meaning.specs.Surroundings.{surroundings, type_of_values}
+use Rattle.module_meaning.specs.Surroundings.{surroundings}
+use Rattle.module_meaning.specs.Types.{type_of_values}
 use Rattle.module_meaning.proofs.Operations.{all_agree_at}
 use Rattle.naga_form.proofs.OperatorKeys.{IsFormed, IsKeyed, keyed, one_key_of_word}
 use Rattle.naga_form.proofs.SameValues.{TypesAreCounted, IsFit, numbers_by_values, values_by_numbers}

@@ -19,7 +19,7 @@ use Rattle.module_meaning.specs.InfoSizes.{type_is_fit, resolution_is_fit, is_ha
 use Rattle.module_meaning.specs.TypeIdentity.{level}
 use Rattle.module_meaning.specs.TypeIdentity.{Identity, Nothing, StructAt, Itself, identity}
 use Rattle.module_meaning.specs.TypeIdentity.{identity_at, identity_code, word_of_unspelled_type}
-use Rattle.module_meaning.proofs.FitsSoFar.{list_all_at}
+use Rattle.module_meaning.proofs.Lists.{list_all_at}
 use Rattle.module_meaning.proofs.TypeIdentity.{word_tells}
 use Rattle.naga_form.specs.Readable.{AreAlike, SpelledAlike, Formless, handle_names}
 use Rattle.naga_form.proofs.AlikeTypes.{form_read, form_is_read, other_read}

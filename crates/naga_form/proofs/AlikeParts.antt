@@ -33,7 +33,8 @@ use Rattle.wgsl_words.specs.Words.{scalar_word, space_word}
 use Rattle.naga_ir.specs.declared.types.ScalarKind.TheVariants as kind
 use Rattle.module_meaning.specs.AlikeTypes.{are_alike, type_form, type_identity, handle_form, form_within, found_form_by, named_form_by, inner_form_by}
 use Rattle.module_meaning.specs.AlikeTypes.{over_scalar, value_form, pointer_form, value_pointer_form, array_form, image_form, access_number}
-use Rattle.module_meaning.specs.InfoSizes.{is_handle_space, is_handle_pointer, is_struct, resolution_is_fit}
+use Rattle.module_meaning.specs.InfoSizes.{is_handle_space, is_handle_pointer, resolution_is_fit}
+use Rattle.naga_words.specs.Spelling.{is_struct}
 use Rattle.module_meaning.specs.Ranges.{parts_before}
 use Rattle.module_meaning.specs.TypeIdentity.{identity, identity_code, word_of_unspelled_type, level, kind_number, vector_number, space_number, truth_number, dimension_number}
 use Rattle.module_meaning.specs.TypeParts.{part_type, pointed_part, member_type, has_computed_parts, inner_at}

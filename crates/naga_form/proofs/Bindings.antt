@@ -9,7 +9,6 @@ use Rattle.naga_ir.specs.StatementTree.{CaseTrees, no_cases, case}
 use Rattle.naga_ir.specs.declared.expression.Expression as ir
 use Rattle.naga_ir.specs.declared.module.Function as ir_function
 use Rattle.naga_ir.specs.declared.module.Module.{Module}
-use Rattle.naga_ir.specs.declared.types.Type_.{Type_}
 use Rattle.naga_info.specs.declared.info.ExpressionInfo.{ExpressionInfo}
 use Rattle.naga_info.specs.declared.info.ModuleInfo.{ModuleInfo}
 use Rattle.module_meaning.specs.Accepted.{is_accepted}
@@ -134,18 +133,18 @@ told_spells true t es h = by (slice_get es h)
     by None = refl
     by (Some k) = row k.ty
 
-functions_tell : (explicit : Bool) (names : NameMap) (types : List Type_) (g : ℕ) (fs : List ir_function.Function) (ess : List (List ExpressionInfo)) → map (λ (f : tree_functions.Function). statements_annotations f.body) (functions_form explicit names types g fs ess) ≡ module_annotations explicit (names_of types names) (namings_from names g (function_shapes types fs ess)) ess
-functions_tell explicit names types g [] ess = refl
-functions_tell explicit names types g (f ∷ fs) [] = refl
-functions_tell explicit names types g (f ∷ fs) (es ∷ ess) =
-    let n = function_naming names types g f es in
-    let t = names_of types names in
+functions_tell : (explicit : Bool) (names : NameMap) (m : Module) (g : ℕ) (fs : List ir_function.Function) (ess : List (List ExpressionInfo)) → map (λ (f : tree_functions.Function). statements_annotations f.body) (functions_form explicit names m g fs ess) ≡ module_annotations explicit (names_of m.types names) (namings_from names g (function_shapes m fs ess)) ess
+functions_tell explicit names m g [] ess = refl
+functions_tell explicit names m g (f ∷ fs) [] = refl
+functions_tell explicit names m g (f ∷ fs) (es ∷ ess) =
+    let n = function_naming names m g f es in
+    let t = names_of m.types names in
     let line = lines_tell n (told_type explicit t es) f.expressions 0 f.body (at_start n.function)
     ∙ (λ i. map (λ b. told_spells explicit t es b.handle i) (function_bindings n)) in
-    λ i. line i ∷ functions_tell explicit names types (g + 1) fs ess i
+    λ i. line i ∷ functions_tell explicit names m (g + 1) fs ess i
 
 pub binds_as : (m : Module) (info : ModuleInfo) (explicit : Bool) → IsTrue (is_accepted m info) → IsTrue (is_written_so_far m info) → BindsAs m info explicit (written_program m info explicit)
 binds_as m info explicit accepted written =
     let names = ap text_lets (program_reads m info explicit accepted written) ∙ binds_as_meant (program_shape m info) (outer_names (module_names m)) (namings (module_names m) m info) in
-    let annotations = functions_tell explicit (module_names m) m.types 0 m.functions info.functions.items in
+    let annotations = functions_tell explicit (module_names m) m 0 m.functions info.functions.items in
     λ i. record { names = names i; annotations = annotations i }

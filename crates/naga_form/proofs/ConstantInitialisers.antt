@@ -1,7 +1,7 @@
 -- What the program of shapes of an accepted module has for its constants: the trees of a group and
 -- the initialisers of the named constants spell signatures of expressions, and name what is there.
 -- A tree has its expression's type; an initialiser has its constant's, where it has a tree.
-use Rattle.module_meaning.specs.Names.{NamesAreCounted}
+use Rattle.module_meaning.specs.Names.{TypesAreTold}
 use Rattle.shader_runs.proofs.Typing.{no_signature}
 use Rattle.std.proofs.Common.{◌≡◌, ℕ, zero, suc, Bool, true, false, List, [], ◌∷◌, refl, sym, ap, ◌∙◌, subst}
 use Rattle.std.proofs.Common.{Option, Some, None, slice_get, if◌then◌else◌}
@@ -22,7 +22,7 @@ use Rattle.module_meaning.specs.Accepted.{is_accepted}
 use Rattle.module_meaning.specs.AgreeingOperators.{Group}
 use Rattle.module_meaning.specs.ExpressionShapes.{constant_tree}
 use Rattle.module_meaning.specs.ModuleShapes.{module_shape, named_constants, initialiser, declared_globally}
-use Rattle.module_meaning.specs.Surroundings.{type_of_values}
+use Rattle.module_meaning.specs.Types.{type_of_values}
 use Rattle.naga_form.proofs.AcceptedGroups.{IsSoundGroup}
 use Rattle.naga_form.proofs.AgreeingUses.{value_at}
 use Rattle.naga_form.proofs.ConstantTrees.{IsTreeOf, trees_are, initialiser_is}
@@ -43,19 +43,19 @@ named_stands (d ∷ cs) i c here = by (named_stands cs) (is_named d) here
         at zero here = (0, here)
         at (suc i) here = let k = rest i c here in (suc k.0, k.1)
 
-module _ (m : Module) (info : ModuleInfo) (accepted : IsTrue (is_accepted m info)) (counted : NamesAreCounted m) where
+module _ (m : Module) (info : ModuleInfo) (accepted : IsTrue (is_accepted m info)) (told : TypesAreTold m) where
   -- ---- trees of a sound group
   pub tree_typed : (f : Option Function) (g : Group) → IsSoundGroup m info f g → (h : ℕ) (t : ConstantTree) → constant_tree (declared_for m info g) g.expressions h ≡ Some t →
       constant_type (module_shape m info) t ≡ value_at m info g.known h
-  tree_typed f g is h t found = (trees_are m info accepted counted f g is h t found).type
+  tree_typed f g is h t found = (trees_are m info accepted told f g is h t found).type
 
   pub tree_spelled : (f : Option Function) (g : Group) → IsSoundGroup m info f g → (h : ℕ) (t : ConstantTree) → constant_tree (declared_for m info g) g.expressions h ≡ Some t →
       (x : Signature) → IsOneOf x (constant_signatures (module_shape m info) t) → IsOfExpression m info x
-  tree_spelled f g is h t found = (trees_are m info accepted counted f g is h t found).spelled
+  tree_spelled f g is h t found = (trees_are m info accepted told f g is h t found).spelled
 
   pub tree_in_range : (f : Option Function) (g : Group) → IsSoundGroup m info f g → (h : ℕ) (t : ConstantTree) → constant_tree (declared_for m info g) g.expressions h ≡ Some t →
       ConstantInRange (module_shape m info) t
-  tree_in_range f g is h t found = (trees_are m info accepted counted f g is h t found).range
+  tree_in_range f g is h t found = (trees_are m info accepted told f g is h t found).range
 
   -- ---- initialisers of named constants
   -- the named constant that an initialiser is of, among all constants
@@ -79,7 +79,7 @@ module _ (m : Module) (info : ModuleInfo) (accepted : IsTrue (is_accepted m info
     where
       by : (o : Option ConstantTree) → constant_tree (declared_globally m info) m.global_expressions c.init ≡ o → P (unwrap_or o (Fixed (Truth false)))
       by None found = none
-      by (Some t) found = some t (initialiser_is m info accepted counted h c at t found)
+      by (Some t) found = some t (initialiser_is m info accepted told h c at t found)
 
   pub initialiser_spelled : (i : ℕ) (e : ConstantTree) → slice_get (module_shape m info).initialisers i ≡ Some e →
       (x : Signature) → IsOneOf x (constant_signatures (module_shape m info) e) → IsOfExpression m info x
@@ -106,4 +106,4 @@ module _ (m : Module) (info : ModuleInfo) (accepted : IsTrue (is_accepted m info
       let k = initialiser_of i e at in let tree = have i k.constant k.named in
       let found : initialiser m info k.constant ≡ tree.0 = ap (λ o. unwrap_or o (Fixed (Truth false))) tree.1 in
       place_typed m info i k.constant k.named
-      ∙ (sym (initialiser_is m info accepted counted k.handle k.constant k.there tree.0 tree.1).type ∙ ap (constant_type (module_shape m info)) (sym found ∙ k.is))
+      ∙ (sym (initialiser_is m info accepted told k.handle k.constant k.there tree.0 tree.1).type ∙ ap (constant_type (module_shape m info)) (sym found ∙ k.is))

@@ -1,6 +1,6 @@
 -- The named constants of an accepted module have an order in which each stands behind those that
 -- its initialiser names: that of their initialisers among the module's own expressions.
-use Rattle.module_meaning.specs.Names.{NamesAreCounted}
+use Rattle.module_meaning.specs.Names.{TypesAreTold}
 use Rattle.std.proofs.Common.{◌≡◌, ℕ, zero, suc, ◌<◌, ◌≤◌, Bool, true, false, List, [], ◌∷◌, refl, sym, ap, ◌∙◌, length, subst}
 use Rattle.std.proofs.Common.{Option, Some, None, slice_get, arith, nat_lt, if◌then◌else◌}
 use Rattle.std.specs.Prelude.{IsTrue, unwrap_or}
@@ -87,7 +87,7 @@ module _ (m : Module) (info : ModuleInfo) where
   abbrev AreBefore : (ℕ → Option ConstantTree) → Type 0
   AreBefore written = (h : ℕ) (c : Constant) → slice_get m.constants h ≡ Some c → (t : ConstantTree) → written h ≡ Some t → EachLeaf AnyValue (Before (suc c.init)) t
 
-  module _ (accepted : IsTrue (is_accepted m info)) (counted : NamesAreCounted m) where
+  module _ (accepted : IsTrue (is_accepted m info)) (told : TypesAreTold m) where
     module _ (written : ℕ → Option ConstantTree) (are : AreBefore written) where
       abbrev inside : Declared
       inside = declared_over m written (global_types_known info)
@@ -101,18 +101,18 @@ module _ (m : Module) (info : ModuleInfo) where
           ((k : ℕ) → k < h → (t : ConstantTree) → tree_of k ≡ Some t → EachLeaf AnyValue (Before h) t) → (t : ConstantTree) → tree_over inside tree_of h e ≡ Some t → EachLeaf AnyValue (Before h) t
       over_before tree_of h (expression.Literal v) at below t found = subst (EachLeaf AnyValue (Before h)) (same_Some _ t found) tt
       over_before tree_of h (expression.Constant c) at below t found =
-          let item = constant_named m info accepted counted None (Own m info accepted counted) (own_is m info accepted counted) h c at in
-          let lt = initialiser_stands_before m info accepted counted h c at item.0 item.1 in
+          let item = constant_named m info accepted told None (Own m info accepted told) (own_is m info accepted told) h c at in
+          let lt = initialiser_stands_before m info accepted told h c at item.0 item.1 in
           before_more (suc item.0.init) h (omega (arith, lt)) t (are c item.0 item.1 t found)
       over_before tree_of h (expression.Override o) at below t found = subst (EachLeaf AnyValue (Before h)) (same_Some (NamedConstant (override_number m o)) t found) (override_before h o)
       over_before tree_of h (expression.ZeroValue ty) at below t found = built_before h h (constructor inside.around (Handle ty) 0) [] tt t found
       over_before tree_of h (expression.Compose ty components) at below t found =
           let o = constructor inside.around (Handle ty) (length components.items) in
           let parts = then_some (built inside h o) (trees_of tree_of components.items) t found in
-          built_before h h o parts.0 (trees_leaves (Before h) tree_of h below components.items ((own_is m info accepted counted).below h (expression.Compose ty components) at) parts.0 parts.1) t parts.2
+          built_before h h o parts.0 (trees_leaves (Before h) tree_of h below components.items ((own_is m info accepted told).below h (expression.Compose ty components) at) parts.0 parts.1) t parts.2
       over_before tree_of h (expression.Splat size v) at below t found =
           let parts = then_some (λ u. built inside h (Splat size) (u ∷ [])) (tree_of v) t found in
-          let low = and_parts (nat_lt v h) true ((own_is m info accepted counted).below h (expression.Splat size v) at) in
+          let low = and_parts (nat_lt v h) true ((own_is m info accepted told).below h (expression.Splat size v) at) in
           built_before h h (Splat size) (parts.0 ∷ []) (below v (ltb-true v h low.0) parts.0 parts.1, tt) t parts.2
       over_before tree_of h _ at below t found = absurd cc
 
@@ -143,7 +143,7 @@ module _ (m : Module) (info : ModuleInfo) where
     pub initialiser_before : (i : ℕ) (e : ConstantTree) → slice_get shape.initialisers i ≡ Some e →
         EachLeaf (λ v. Unit {0}) (λ k. k < constant_count shape → constant_rank k < constant_rank i) e
     initialiser_before i e at =
-        let k = initialiser_of m info accepted counted i e at in
+        let k = initialiser_of m info accepted told i e at in
         let rank : constant_rank i ≡ k.constant.init = ap (λ o. option_map_or (λ c. c.init) o 0) k.named in
         subst (λ n. EachLeaf AnyValue (Before n) e) (sym rank) (subst (EachLeaf AnyValue (Before k.constant.init)) k.is (by k.constant (constant_tree (declared_globally m info) m.global_expressions k.constant.init) refl))
       where

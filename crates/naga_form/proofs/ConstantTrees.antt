@@ -1,7 +1,7 @@
 -- Constant trees of an accepted module: each has the type that is known of its expression, its
 -- operators are those of expressions of sound groups, and what it names is there.
 use Rattle.naga_form.proofs.AgreeingUses.{value_is}
-use Rattle.module_meaning.specs.Names.{NamesAreCounted}
+use Rattle.module_meaning.specs.Names.{TypesAreTold}
 use Rattle.shader_runs.proofs.Typing.{no_signature}
 use Rattle.naga_form.proofs.Signatures.{either_signature}
 use Rattle.std.proofs.Common.{◌≡◌, ℕ, zero, suc, Bool, true, false, List, [], ◌∷◌, refl, sym, ap, ◌∙◌, length, subst}
@@ -42,9 +42,10 @@ use Rattle.module_meaning.specs.ModuleShapes.{module_shape, declared_globally}
 use Rattle.module_meaning.specs.OperatorTable.{Operator, run_word, Splat}
 use Rattle.module_meaning.specs.Ranges.{module_ranges_fit}
 use Rattle.module_meaning.specs.Soundness.{module_is_sound, function_is_sound, entry_point_is_sound, declarations_are_sound, expressions_are_sound}
-use Rattle.module_meaning.specs.Surroundings.{declared_over, constant_within, written_constant, constant_number, override_number, type_of_values, global_types_known}
+use Rattle.module_meaning.specs.Surroundings.{declared_over, constant_within, written_constant, constant_number, override_number, global_types_known}
+use Rattle.module_meaning.specs.Types.{type_of_values}
 use Rattle.module_meaning.proofs.ExpressionShapes.{constructor_asks}
-use Rattle.module_meaning.proofs.FitsSoFar.{list_all_at}
+use Rattle.module_meaning.proofs.Lists.{list_all_at}
 use Rattle.naga_form.proofs.AcceptedGroups.{IsSoundGroup, own_known, types_are_counted, own_group, declarations_are}
 use Rattle.naga_form.proofs.AgreeingUses.{value_at}
 use Rattle.naga_form.proofs.LiteralTypes.{literal_typed, literal_is_none}
@@ -102,10 +103,10 @@ module _ (m : Module) (info : ModuleInfo) where
   retyped : (k l : ValueType) (t : ConstantTree) → k ≡ l → IsTreeOf k t → IsTreeOf l t
   retyped k l t e is = record { type = is.type ∙ e; spelled = is.spelled; range = is.range }
 
-  module _ (accepted : IsTrue (is_accepted m info)) (counted : NamesAreCounted m) where
+  module _ (accepted : IsTrue (is_accepted m info)) (told : TypesAreTold m) where
     -- types that are alike have values of one type
     alike : (a b : TypeResolution) → IsFit m a → IsFit m b → are_alike m.types a b ≡ true → type_of_values m a ≡ type_of_values m b
-    alike a b p q e = values_by_numbers m (types_are_counted m info accepted counted) a b p q ((bytes_eq-Decides (type_identity m.types a) (type_identity m.types b)).0 e)
+    alike a b p q e = values_by_numbers m (types_are_counted m info accepted told) a b p q ((bytes_eq-Decides (type_identity m.types a) (type_identity m.types b)).0 e)
 
     -- ---- of expressions that stand together
     module _ (f : Option Function) (g : Group) (is : IsSoundGroup m info f g) (written : ℕ → Option ConstantTree) (constants : ConstantsAre written) where

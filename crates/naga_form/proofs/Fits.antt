@@ -1,5 +1,5 @@
--- Lemmas of the shapes of functions that are written so far: what stands at a handle, that operands
--- stand before and that front ends name nothing.
+-- Lemmas of the shapes of functions that are written so far: what stands at a handle, and that front
+-- ends name nothing.
 use Rattle.std.proofs.Common.{[], ◌≡◌, ℕ, suc, zero, true, false, List, ◌∷◌, map}
 use Rattle.std.proofs.Common.{length, Option, Some, None, refl, sym, ap, subst, ◌∙◌, ◌+◌}
 use Rattle.std.proofs.Common.{◌-◌, codes}
@@ -12,13 +12,8 @@ use Rattle.naga_ir.specs.StatementTree.{CaseTrees, no_cases, case}
 use Rattle.naga_ir.specs.declared.expression.Expression as ir
 use Rattle.naga_ir.specs.declared.module.Function as ir_function
 use Rattle.naga_ir.specs.declared.module.LocalVariable.{LocalVariable}
-use Rattle.naga_ir.specs.declared.types.Type_.{Type_}
+use Rattle.naga_ir.specs.declared.module.Module.{Module}
 use Rattle.naga_info.specs.declared.info.ExpressionInfo.{ExpressionInfo}
-use Rattle.module_meaning.specs.Applications.{application_of}
-use Rattle.module_meaning.specs.Spelled.{spelling_of}
-use Rattle.module_meaning.specs.Spelled.{spelling_at}
-use Rattle.module_meaning.proofs.Shapes.{application_any, operator_operands}
-use Rattle.module_meaning.specs.FitsSoFar.{function_fits}
 use Rattle.module_meaning.specs.Part.{names_nothing}
 use Rattle.naga_names.specs.Reset.{LabelledItem}
 use Rattle.shader_runs.specs.Value.{ValueType, BooleanType, type_at}
@@ -27,19 +22,11 @@ use Rattle.shader_runs.specs.Program.{operands_of, handle_type, argument_count, 
 use Rattle.shader_runs.specs.Program.{is_given, local_count, from}
 use Rattle.shader_runs.specs.Scope.{given_by_all, given_by_cases, given_after}
 use Rattle.shader_runs.specs.Scope.{given_after_all, given_by}
-use Rattle.shader_runs.specs.Premises.{AllBelow}
-use Rattle.naga_info.proofs.Options.{then_some}
-use Rattle.module_meaning.proofs.FitsSoFar.{load_word_at}
-use Rattle.module_meaning.proofs.FitsSoFar.{applied_at}
-use Rattle.module_meaning.specs.Types.{value_type, type_spelled}
-use Rattle.module_meaning.specs.Types.{type_told}
-use Rattle.module_meaning.specs.TypeIdentity.{identity}
 use Rattle.module_meaning.specs.Shapes.{expression_shape, statements_shape, cases_shape}
 use Rattle.module_meaning.specs.Shapes.{function_shape}
 use Rattle.module_meaning.specs.Shapes.{statement_shape, given_from}
 use Rattle.std.proofs.lemmas.Option.{slice_get-map}
 use Rattle.indexmap.specs.IndexMap.{keys}
-use Rattle.naga_ir.specs.declared.expression.Expression.TheVariants as expression
 use Rattle.naga_names.specs.Naming.{label_or}
 use Rattle.naga_names.specs.declared.key.NameKey.TheVariants as key
 
@@ -74,32 +61,18 @@ no_keys (k ∷ ks) e = absurd (some_none (length ks) (eqb-true (length (k ∷ ks
 abbrev pub local_item : ℕ → ℕ → LocalVariable → LabelledItem
 local_item g l v = (key.FunctionLocal g l, label_or v.name (codes "local"))
 
--- the type of a handle that is spelled
-pub typed_as : (types : List Type_) (f : ir_function.Function) (es : List ExpressionInfo) (h : ℕ) (w : List ℕ) → spelling_at types es h ≡ Some w → handle_type (function_shape types f es) h ≡ type_spelled w
-typed_as types f es h w spelled =
-    let k = then_some (λ e. spelling_of types e.ty) (slice_get es h) w spelled in
-    type_at_mapped (λ e. value_type types e.ty) es h k.0 k.1 ∙ ap (λ o. type_told o (identity types k.0.ty)) k.2
-
 -- what holds of no shape and of each expression's holds of the shape of any handle
-pub at_any : (types : List Type_) (f : ir_function.Function) (es : List ExpressionInfo) (h : ℕ) (P : Option shapes.Expression → Type 0) → P None → ((e : ir.Expression) → slice_get f.expressions h ≡ Some e → P (Some (expression_shape e))) → P (expression_of (function_shape types f es) h)
-at_any types f es h P none some = subst P (sym (slice_get-map expression_shape f.expressions h)) (by (slice_get f.expressions h) refl)
+pub at_any : (m : Module) (f : ir_function.Function) (es : List ExpressionInfo) (h : ℕ) (P : Option shapes.Expression → Type 0) → P None → ((e : ir.Expression) → slice_get f.expressions h ≡ Some e → P (Some (expression_shape e))) → P (expression_of (function_shape m f es) h)
+at_any m f es h P none some = subst P (sym (slice_get-map expression_shape f.expressions h)) (by (slice_get f.expressions h) refl)
   where
     by : (o : Option ir.Expression) → slice_get f.expressions h ≡ o → P (option_map expression_shape o)
     by None is = none
     by (Some e) is = some e is
 
--- operands stand before their expressions
-pub ordered_at : (types : List Type_) (f : ir_function.Function) (es : List ExpressionInfo) → function_fits types f es ≡ true → (h : ℕ) (e : ir.Expression) → slice_get f.expressions h ≡ Some e → AllBelow h (operands_of (Some (expression_shape e)))
-ordered_at types f es fits h (expression.Load q) at = let l = load_word_at types f es h q fits at in (l.1, tt)
-ordered_at types f es fits h e at =
-    application_any (λ s. AllBelow h (operands_of (Some s))) tt (application_of e)
-    (λ a is. subst (AllBelow h) (sym (operator_operands a.operator a.operands))
-    (applied_at types f es h e a fits at is).before)
-
 -- ---- a function in which front ends name nothing
-module _ (types : List Type_) (f : ir_function.Function) (es : List ExpressionInfo) (unnamed : IsTrue (names_nothing f)) where
+module _ (m : Module) (f : ir_function.Function) (es : List ExpressionInfo) (unnamed : IsTrue (names_nothing f)) where
   abbrev unnamed_shape : shapes.Function
-  unnamed_shape = function_shape types f es
+  unnamed_shape = function_shape m f es
 
   pub none_is_given : (h : ℕ) → is_given unnamed_shape h ≡ false
   none_is_given h = ap (λ ks. get_or (given_from ks 0 f.expressions) h false) (no_keys (keys f.named_expressions) unnamed) ∙ nothing_given 0 f.expressions h

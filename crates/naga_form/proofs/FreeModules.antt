@@ -5,7 +5,7 @@
 -- Acceptance takes modules for which no text is written and which are left out here: those with a
 -- constant whose initialiser is an operation, or with a case that does something and falls through.
 use Rattle.module_meaning.specs.Writable.{AreWrittenOut, OnlyEmptyFall, only_empty_fall}
-use Rattle.module_meaning.specs.Names.{NamesAreCounted}
+use Rattle.module_meaning.specs.Names.{TypesAreTold}
 use Rattle.std.proofs.Common.{◌≡◌, ℕ, true, List, [], ◌∷◌, length, Some}
 use Rattle.std.proofs.Common.{refl, sym, ap, subst, slice_get}
 use Rattle.std.specs.Prelude.{IsTrue}
@@ -18,7 +18,7 @@ use Rattle.module_meaning.specs.FunctionShapes.{function_shape}
 use Rattle.module_meaning.specs.Meanings.{HasTypedWorld}
 use Rattle.module_meaning.specs.ModuleShapes.{module_shape}
 use Rattle.module_meaning.specs.Premises.{EachScopeHolds, ScopesHold}
-use Rattle.module_meaning.proofs.FitsSoFar.{list_all_at}
+use Rattle.module_meaning.proofs.Lists.{list_all_at}
 use Rattle.shader_runs.specs.Program as shapes
 use Rattle.shader_runs.specs.Program.{ConstantTree, function_numbered}
 use Rattle.shader_runs.specs.World.{World, Meaning, Event, Settings}
@@ -48,7 +48,7 @@ use Rattle.naga_form.proofs.ShapeWords.{function_words, initialiser_words}
 use Rattle.naga_form.proofs.ShapeWords.{operator_asks, operator_operates_outside}
 use Rattle.naga_form.proofs.WellFormed.{all_well_formed}
 
-module _ (m : ir_module.Module) (info : ModuleInfo) (accepted : IsTrue (is_accepted m info)) (counted : NamesAreCounted m) where
+module _ (m : ir_module.Module) (info : ModuleInfo) (accepted : IsTrue (is_accepted m info)) (told : TypesAreTold m) where
   abbrev pub program : shapes.Module
   program = module_shape m info
 
@@ -83,7 +83,7 @@ module _ (m : ir_module.Module) (info : ModuleInfo) (accepted : IsTrue (is_accep
       let count = length callees in
       let shape = function_shape m info f es in
       let own = freely_named free_request count shape in
-      let types = types_are_counted m info accepted counted in
+      let types = types_are_counted m info accepted told in
       let this = accepted_at m info accepted k f es at in
       subst (λ own. IsFree true program names callees (named shape own)) (sym is.0)
       (record {
@@ -114,18 +114,18 @@ module _ (m : ir_module.Module) (info : ModuleInfo) (accepted : IsTrue (is_accep
   initialiser_operates : (i : ℕ) (e : ConstantTree) → slice_get program.initialisers i ≡ Some e →
       EachWord (OperatesOutside program names) e
   initialiser_operates i e at =
-      let found = initialiser_of m info accepted counted i e at in
+      let found = initialiser_of m info accepted told i e at in
       subst (EachWord (OperatesOutside program names)) found.is
-      (initialiser_words m info (types_are_counted m info accepted counted)
+      (initialiser_words m info (types_are_counted m info accepted told)
       (OperatesOutside program names) (operator_operates_outside program) found.constant)
 
   -- ---- the module
   module _ (written : AreWrittenOut m) (falls : OnlyEmptyFall m) (scopes : ScopesHold m info) where
     functions_fit : AllFit program names namings
     functions_fit =
-        all_fit_freely m info accepted counted
+        all_fit_freely m info accepted told
         (λ k f es at.
-        constants_are_typed m info accepted counted written f es
+        constants_are_typed m info accepted told written f es
         (group_at m info accepted k f es at))
         (only_at falls) names namings (free_functions free_request program.functions) true
         (λ k f es at. refl)
@@ -139,7 +139,7 @@ module _ (m : ir_module.Module) (info : ModuleInfo) (accepted : IsTrue (is_accep
     module_fits_freely = record {
       functions = free_functions free_request program.functions;
       distinct = free_functions_distinct free_request program;
-      constants = constants_fit m info accepted counted written names initialiser_operates
+      constants = constants_fit m info accepted told written names initialiser_operates
           (free_constants_distinct free_request program);
       all = functions_fit;
     }

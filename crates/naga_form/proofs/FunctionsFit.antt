@@ -2,7 +2,7 @@
 -- their operands stand before, leaves have their types and statements are regular. What is left is
 -- said of names, words, constants and scope.
 use Rattle.module_meaning.specs.Writable.{only_empty_fall}
-use Rattle.module_meaning.specs.Names.{NamesAreCounted}
+use Rattle.module_meaning.specs.Names.{TypesAreTold}
 use Rattle.std.proofs.Common.{◌≡◌, ℕ, suc, ◌<◌, ◌≤◌, ◌+◌, ◌||◌, Bool, true, false, List, [], ◌∷◌}
 use Rattle.std.proofs.Common.{Option, Some, refl, sym, ap, ◌∙◌, subst, slice_get, length, map}
 use Rattle.std.proofs.Common.{arith, nat_eq, cond}
@@ -149,29 +149,29 @@ module _ (m : Module) (info : ModuleInfo) (accepted : IsTrue (is_accepted m info
       (omega (arith, before, earlier)) f.body (ranges_are m is.callees f is.ranges).1 has
 
   -- its statements are regular
-  pub regular_at : NamesAreCounted m → (k : ℕ) (f : Function) (es : List ExpressionInfo) →
+  pub regular_at : TypesAreTold m → (k : ℕ) (f : Function) (es : List ExpressionInfo) →
       slice_get (functions_known m info) k ≡ Some (f, es) → only_empty_fall f.body ≡ true →
       (names : Names) (callees : List shapes.Function) → length callees ≡ k →
       Tells shape_numbered callees → names.earlier ≡ length callees →
       let own = named (function_shape m info f es) names in
       AreWorded p own own.function.body → AreRegular p callees own own.function.body
-  regular_at counted k f es at only names callees number tells earlier words =
+  regular_at told k f es at only names callees number tells earlier words =
       let is = accepted_at m info accepted k f es at in
       let group = group_at m info accepted k f es at in
       let before = is.before in
-      regular m info f es (types_are_counted m info accepted counted) group names is.callees callees
+      regular m info f es (types_are_counted m info accepted told) group names is.callees callees
       (stand_behind is.callees callees (omega (arith, before, number)) tells)
       (omega (arith, before, number, earlier)) (ranges_are m is.callees f is.ranges).1
       (soundness_is m f es is.sound).1 only words
 
   -- all that is asked of it
-  pub function_fits : NamesAreCounted m → (k : ℕ) (f : Function) (es : List ExpressionInfo) →
+  pub function_fits : TypesAreTold m → (k : ℕ) (f : Function) (es : List ExpressionInfo) →
       slice_get (functions_known m info) k ≡ Some (f, es) → ConstantsAreTyped m info f es →
       only_empty_fall f.body ≡ true → (n : ModuleNames) (names : Names) (callees : List shapes.Function) →
       length callees ≡ k → Tells shape_numbered callees →
       IsLeft p n callees (named (function_shape m info f es) names) →
       FunctionFits p n callees (named (function_shape m info f es) names)
-  function_fits counted k f es at constants only n names callees number tells left =
+  function_fits told k f es at constants only n names callees number tells left =
       let is = accepted_at m info accepted k f es at in
       let group = group_at m info accepted k f es at in
       record {
@@ -179,8 +179,8 @@ module _ (m : Module) (info : ModuleInfo) (accepted : IsTrue (is_accepted m info
         earlier = left.earlier;
         ordered = ordered m info is.callees f es is.ranges;
         words = left.words;
-        leaves = leaves m info f es (types_are_counted m info accepted counted) group constants;
-        regular = regular_at counted k f es at only names callees number tells left.earlier left.worded;
+        leaves = leaves m info f es (types_are_counted m info accepted told) group constants;
+        regular = regular_at told k f es at only names callees number tells left.earlier left.worded;
         distinct = left.distinct;
         scope = left.scope;
       }
@@ -218,7 +218,7 @@ module _ (m : Module) (info : ModuleInfo) (accepted : IsTrue (is_accepted m info
   all_are p n (f ∷ fs) all = (all.0, all_are p n fs all.1)
 
   -- what is asked beside acceptance of the constants and cases of each
-  module _ (counted : NamesAreCounted m)
+  module _ (told : TypesAreTold m)
       (constants : (k : ℕ) (f : Function) (es : List ExpressionInfo) →
       slice_get (functions_known m info) k ≡ Some (f, es) → ConstantsAreTyped m info f es)
       (only : (k : ℕ) (f : Function) (es : List ExpressionInfo) →
@@ -231,7 +231,7 @@ module _ (m : Module) (info : ModuleInfo) (accepted : IsTrue (is_accepted m info
         all_are p n fs
         (all_from (IsLeft p n) (FunctionFits p n)
         (λ k f es at names callees number tells left.
-        function_fits counted k f es at (constants k f es at) (only k f es at) n names callees number tells
+        function_fits told k f es at (constants k f es at) (only k f es at) n names callees number tells
         left)
         fs (subst (Tells shape_numbered) (sym same) all_told) left)
 

@@ -60,19 +60,19 @@ locals_declared : (n : Naming) (t : TypeNames) (es : List ir.Expression) (l : �
 locals_declared n t es l [] = refl
 locals_declared n t es l (v ∷ more) = λ i. spelled_form t v.ty i ∷ locals_declared n t es (l + 1) more i
 
-function_interface_form : (explicit : Bool) (names : NameMap) (types : List Type_) (g : ℕ) (f : ir_function.Function) (es : List ExpressionInfo) → function_interface_read (function_form explicit names types g f es) ≡ function_interface names types g f
-function_interface_form explicit names types g f es = λ i. record {
-  name = (function_interface names types g f).name;
-  arguments = parameters_passed names types g 0 f.arguments.items i;
-  result = results_passed (names_of types names) f.result i;
-  locals = locals_declared (function_naming names types g f es) (names_of types names) f.expressions 0 f.local_variables i;
+function_interface_form : (explicit : Bool) (names : NameMap) (m : Module) (g : ℕ) (f : ir_function.Function) (es : List ExpressionInfo) → function_interface_read (function_form explicit names m g f es) ≡ function_interface names m.types g f
+function_interface_form explicit names m g f es = λ i. record {
+  name = (function_interface names m.types g f).name;
+  arguments = parameters_passed names m.types g 0 f.arguments.items i;
+  result = results_passed (names_of m.types names) f.result i;
+  locals = locals_declared (function_naming names m g f es) (names_of m.types names) f.expressions 0 f.local_variables i;
 }
 
-function_interfaces_form : (explicit : Bool) (names : NameMap) (types : List Type_) (g : ℕ) (fs : List ir_function.Function) (ess : List (List ExpressionInfo)) → length fs ≡ length ess → map function_interface_read (functions_form explicit names types g fs ess) ≡ function_interfaces names types g fs
-function_interfaces_form explicit names types g [] [] size = refl
-function_interfaces_form explicit names types g [] (es ∷ ess) size = refl
-function_interfaces_form explicit names types g (f ∷ fs) [] size = absurd (cc)
-function_interfaces_form explicit names types g (f ∷ fs) (es ∷ ess) size = λ i. function_interface_form explicit names types g f es i ∷ function_interfaces_form explicit names types (g + 1) fs ess (ap pred size) i
+function_interfaces_form : (explicit : Bool) (names : NameMap) (m : Module) (g : ℕ) (fs : List ir_function.Function) (ess : List (List ExpressionInfo)) → length fs ≡ length ess → map function_interface_read (functions_form explicit names m g fs ess) ≡ function_interfaces names m.types g fs
+function_interfaces_form explicit names m g [] [] size = refl
+function_interfaces_form explicit names m g [] (es ∷ ess) size = refl
+function_interfaces_form explicit names m g (f ∷ fs) [] size = absurd (cc)
+function_interfaces_form explicit names m g (f ∷ fs) (es ∷ ess) size = λ i. function_interface_form explicit names m g f es i ∷ function_interfaces_form explicit names m (g + 1) fs ess (ap pred size) i
 
 pub has_interface : (m : Module) (info : ModuleInfo) (explicit : Bool) → length m.functions ≡ length info.functions.items → HasInterfaceOf m (written_program m info explicit)
 has_interface m info explicit size = λ i. record {
@@ -81,6 +81,6 @@ has_interface m info explicit size = λ i. record {
   constants = [];
   overrides = [];
   globals = [];
-  functions = function_interfaces_form explicit (module_names m) m.types 0 m.functions info.functions.items size i;
+  functions = function_interfaces_form explicit (module_names m) m 0 m.functions info.functions.items size i;
   entry_points = [];
 }

@@ -36,8 +36,10 @@ use Rattle.module_meaning.specs.FunctionShapes.{function_shape}
 use Rattle.module_meaning.specs.ModuleShapes.{module_shape}
 use Rattle.module_meaning.specs.OperandDemands.{is_swizzled}
 use Rattle.module_meaning.specs.OperatorTable.{Operator, AtomicLoad, BinarySign, run_word}
-use Rattle.module_meaning.specs.Surroundings.{declared, types_known, type_of_values, word_of_values}
-use Rattle.module_meaning.specs.Surroundings.{values_of, written_constant}
+use Rattle.module_meaning.specs.Surroundings.{declared, types_known}
+use Rattle.module_meaning.specs.Types.{type_of_values, word_of_values}
+use Rattle.module_meaning.specs.Surroundings.{written_constant}
+use Rattle.module_meaning.specs.Types.{values_of}
 use Rattle.shader_runs.specs.Premises.{LeafFits, ConstantInRange, ConstantsInRange, IsNoPointer}
 use Rattle.shader_runs.specs.Premises.{constant_type as constant_tree_type}
 use Rattle.shader_runs.specs.Program as shapes

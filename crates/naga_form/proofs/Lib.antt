@@ -52,6 +52,7 @@ pub mod SoundGroups
 pub mod SoundOperators
 pub mod SpelledSignatures
 pub mod TakenParts
+pub mod ToldItems
 pub mod TypeIdentity
 pub mod TypeTrees
 pub mod TypedWords

@@ -3,13 +3,12 @@
 use Rattle.std.proofs.Common.{◌≡◌, ℕ, ◌<◌, suc, Bool, true, false, refl, sym, ap, ◌∙◌, arith, ◌*◌}
 use Rattle.std.proofs.Common.{◌+◌, pos, negsuc, ◌^◌, ◌/◌, ◌%◌, ℤ}
 use Rattle.std.specs.Prelude.{codes, if◌then◌else◌, IsTrue, ◌==◌}
-use Rattle.std.specs.Option.{is_some}
 use Rattle.std.proofs.lemmas.Bool.{false≢true, eqb-true, ltb-true, eqb-false}
 use Rattle.naga_ir.specs.declared.expression.Literal.{Literal}
 use Rattle.naga_ir.specs.declared.expression.Literal as ir_literal
 use Rattle.naga_ir.specs.declared.expression.Literal.TheVariants as literal
 use Rattle.module_meaning.specs.Literals.{literal_is_within}
-use Rattle.module_meaning.specs.Spelled.{literal_word}
+use Rattle.module_meaning.specs.Part.{is_written_literal}
 use Rattle.wgsl_text.specs.Literals.{Suffixed, LeastInteger, LeastLong, IsLiteral}
 use Rattle.wgsl_text.specs.Token.{SuffixI, SuffixLi}
 use Rattle.shader_runs.specs.Value.{Whole, Value, Truth, Opaque}
@@ -28,7 +27,7 @@ long_read n true e = ap (λ k. Whole (codes "i64") (negsuc k)) (sym (eqb-true n 
 long_read n false e = refl
 
 -- a literal that is written is read with its value
-pub literal_read : (v : ir_literal.Literal) → is_some (literal_word v) ≡ true → value_read (literal_form v) ≡ literal_value v
+pub literal_read : (v : ir_literal.Literal) → is_written_literal v ≡ true → value_read (literal_form v) ≡ literal_value v
 literal_read (literal.I32 (negsuc n)) w = integer_read n (n == 2147483647) refl
 literal_read (literal.I64 (negsuc n)) w = long_read n (n == 9223372036854775807) refl
 literal_read (literal.I32 (pos n)) w = refl
@@ -48,7 +47,7 @@ least_long_or : (n : ℕ) (b : Bool) → (n == 9223372036854775807) ≡ b → n 
 least_long_or n true e lt = tt
 least_long_or n false e lt = let other : n ≡ 9223372036854775807 → ⊥ = eqb-false n 9223372036854775807 e in omega (arith, lt, other)
 
-pub literal_is : (v : ir_literal.Literal) → IsTrue (is_some (literal_word v)) → IsTrue (literal_is_within v) → IsLiteral (literal_form v)
+pub literal_is : (v : ir_literal.Literal) → IsTrue (is_written_literal v) → IsTrue (literal_is_within v) → IsLiteral (literal_form v)
 literal_is (literal.Bool b) w e = tt
 literal_is (literal.I32 (pos n)) w e = ltb-true n (2 ^ 31) e
 literal_is (literal.I32 (negsuc n)) w e = least_or n (n == 2147483647) refl (ltb-true n (2 ^ 31) e)

@@ -14,7 +14,8 @@ use Rattle.naga_info.specs.declared.info.ModuleInfo.{ModuleInfo}
 use Rattle.naga_info.specs.declared.info.TypeResolution.TheVariants.{Handle}
 use Rattle.module_meaning.specs.ModuleShapes.{module_shape, named_constants}
 use Rattle.module_meaning.specs.OperatorTable.{if_there}
-use Rattle.module_meaning.specs.Surroundings.{named_count, constant_number, override_number, type_of_values}
+use Rattle.module_meaning.specs.Surroundings.{named_count, constant_number, override_number}
+use Rattle.module_meaning.specs.Types.{type_of_values}
 use Rattle.shader_runs.specs.Value.{ValueType, BooleanType, type_at}
 
 abbrev pub is_named : Constant → Bool

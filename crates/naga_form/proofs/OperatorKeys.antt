@@ -27,7 +27,8 @@ use Rattle.module_meaning.specs.AlikeTypes.{type_form, has_form}
 use Rattle.module_meaning.specs.Conversions.{converted_scalar}
 use Rattle.module_meaning.specs.ExpressionOperators.{Surroundings, applied_operator, constructor, cast, cast_to}
 use Rattle.module_meaning.specs.OperatorTable.{Operator, BinarySign, UnarySign, Choice, Mathematical, Relation, ArrayLength, CooperativeMultiplyAdd, RayIntersection, RayCorners, Construct, Splat, Convert, Reinterpret, WithoutForm, Cast, PartAt, ValueOf, CooperativeLoad, run_word, one_word, TypeIsSound, SpellsAType}
-use Rattle.module_meaning.specs.Surroundings.{surroundings, word_of_values}
+use Rattle.module_meaning.specs.Surroundings.{surroundings}
+use Rattle.module_meaning.specs.Types.{word_of_values}
 use Rattle.module_meaning.specs.TypeIdentity.{vector_number, truth_number, word_of_unspelled_type, identity, identity_code}
 use Rattle.std.specs.Prelude.{unwrap_or}
 use Rattle.naga_form.specs.TypeTrees.{resolution_tree}

@@ -55,7 +55,7 @@ use Rattle.naga_form.proofs.Regular.{AreWorded, IsWorded}
 use Rattle.module_meaning.specs.Writable.{only_empty_fall, only_empty_fall_in}
 use Rattle.module_meaning.specs.Applications.{Application}
 use Rattle.module_meaning.specs.Part.{function_is_written, block_is_written, statement_is_written, is_unbound, expression_is_written, local_is_written}
-use Rattle.module_meaning.proofs.FitsSoFar.{list_all_at, some_word}
+use Rattle.module_meaning.proofs.Lists.{list_all_at, some_word}
 use Rattle.std.proofs.lemmas.Bool.{and_from}
 use Rattle.std.specs.List.{list_all}
 use Rattle.std.specs.Option.{option_map_or, is_some}
@@ -130,13 +130,13 @@ none_listed i ts e lt = let none : i < 0 = subst (λ ts. i < length ts) e lt in 
 -- ---- one function
 module _ (m : Module) (g : ℕ) (f : ir_function.Function) (found : slice_get m.functions g ≡ Some f) (es : List ExpressionInfo) (written : IsTrue (function_is_written f)) (p : shapes.Module) (constants : p.constant_types ≡ []) (globals : p.global_types ≡ []) (counted : length p.functions ≡ length m.functions) where
   abbrev own : Naming
-  own = function_naming (module_names m) m.types g f es
+  own = function_naming (module_names m) m g f es
 
   abbrev shape : shapes.Function
-  shape = function_shape m.types f es
+  shape = function_shape m f es
 
   none_given : (k : ℕ) → k < given_by_all shape (statements_shape f.body) 0 → ⊥
-  none_given k lt = let none : k < 0 = subst (λ n. k < n) (none_given_by_all m.types f es (function_parts f written).unnamed f.body 0) lt in omega (arith, none)
+  none_given k lt = let none : k < 0 = subst (λ n. k < n) (none_given_by_all m f es (function_parts f written).unnamed f.body 0) lt in omega (arith, none)
 
   -- ---- words
   word_of : (item : LabelledItem) → Stands (labelled_items wgsl_names m) item → is_word (name_in (module_names m) item.0) ≡ true
@@ -166,7 +166,7 @@ module _ (m : Module) (g : ℕ) (f : ir_function.Function) (found : slice_get m.
 
       no_name : IsNoName p own (c ∷ rest)
       no_name (FixedKey (ArgumentName i)) is e =
-          let a = element f.arguments.items i (subst (λ n. i < n) (mapped_length (λ a. declared_type m.types a.ty) f.arguments.items) is) in
+          let a = element f.arguments.items i (subst (λ n. i < n) (mapped_length (λ a. declared_type m a.ty) f.arguments.items) is) in
           no_word (argument_item m g i a.0) (c ∷ rest) (argument_there m g f i a.0 found a.1) other e
       no_name (FixedKey (LocalName i)) is e =
           let a = element f.local_variables i (subst (λ n. i < n) (mapped_length (λ l. l.init) f.local_variables) is) in
@@ -237,7 +237,7 @@ module _ (m : Module) (g : ℕ) (f : ir_function.Function) (found : slice_get m.
   distinct named a b is_a is_b e = apart a b is_a is_b e
     where
       argument_in : (i : ℕ) → i < argument_count shape → i < length f.arguments.items
-      argument_in i lt = subst (λ n. i < n) (mapped_length (λ a. declared_type m.types a.ty) f.arguments.items) lt
+      argument_in i lt = subst (λ n. i < n) (mapped_length (λ a. declared_type m a.ty) f.arguments.items) lt
 
       local_in : (i : ℕ) → i < local_count shape → i < length f.local_variables
       local_in i lt = subst (λ n. i < n) (mapped_length (λ l. l.init) f.local_variables) lt
@@ -292,7 +292,7 @@ module _ (m : Module) (g : ℕ) (f : ir_function.Function) (found : slice_get m.
   is_left callees earlier counted scope = record {
     outer = refl;
     earlier = sym earlier;
-    words = λ h. at_any m.types f es h (λ o. WordFits p own o) tt (words_at h);
+    words = λ h. at_any m f es h (λ o. WordFits p own o) tt (words_at h);
     worded = worded f.body (function_parts f written).body;
     distinct = distinct counted;
     scope = scope;

@@ -2,7 +2,7 @@
 -- is a pointer to the part, as the program's table of parts spells it, and `&&` and `||` on `bool`
 -- give `bool`.
 use Rattle.naga_form.proofs.AgreeingUses.{value_is}
-use Rattle.module_meaning.specs.Names.{ItemsAreCounted}
+use Rattle.module_meaning.specs.Names.{ItemsAreTold}
 use Rattle.std.proofs.Common.{◌≡◌, ℕ, Bool, true, false, List, [], ◌∷◌, refl, sym, ap, ◌∙◌, subst, length}
 use Rattle.std.proofs.Common.{Option, Some, None, slice_get, if◌then◌else◌, arith, eqb-true, codes, ◌==◌, get_or}
 use Rattle.std.specs.Prelude.{IsTrue, ◌||◌, unwrap_or}
@@ -45,7 +45,8 @@ use Rattle.module_meaning.specs.FunctionShapes.{function_shape}
 use Rattle.module_meaning.specs.OperandDemands.{operand_is, is_integer, is_integer_of}
 use Rattle.module_meaning.specs.OperatorTable.{Operator as TableOperator, BinarySign, WithoutForm, Formless, ValueOf, Construct, CooperativeLoad, AtomicLoad, asks, run_word}
 use Rattle.module_meaning.specs.Shapes.{operator_shape}
-use Rattle.module_meaning.specs.Surroundings.{declared, surroundings, types_known, type_of_values, word_of_values, values_of}
+use Rattle.module_meaning.specs.Surroundings.{declared, surroundings, types_known}
+use Rattle.module_meaning.specs.Types.{type_of_values, word_of_values, values_of}
 use Rattle.module_meaning.specs.TypeIdentity.{identity, identity_code, word_of_unspelled_type, level, kind_number}
 use Rattle.module_meaning.specs.TypeParts.{known_inner, has_computed_parts}
 use Rattle.module_meaning.specs.Types.{spelled_resolution, type_names}
@@ -138,9 +139,9 @@ module _ (m : ir_module.Module) where
         by (Some (inner.Scalar s)) at e = boolean_scalar r s at fit values
         by (Some _) at e = absurd cc
 
-module _ (m : ir_module.Module) (info : ModuleInfo) (accepted : IsTrue (is_accepted m info)) (counted : ItemsAreCounted m) where
+module _ (m : ir_module.Module) (info : ModuleInfo) (accepted : IsTrue (is_accepted m info)) (told : ItemsAreTold m) where
   abbrev are : TypesAreCounted m
-  are = types_are_counted m info accepted counted.names
+  are = types_are_counted m info accepted told.types
 
   -- ---- expressions
   module _ (function : ir_function.Function) (es : List ExpressionInfo) (sound : IsSoundGroup m info (Some function) (function_group function es)) (h : ℕ) where
@@ -182,7 +183,7 @@ module _ (m : ir_module.Module) (info : ModuleInfo) (accepted : IsTrue (is_accep
     part_taken_by : (e : ir.Expression) (at : slice_get function.expressions h ≡ Some e) (whole : Bytes) (step : Step) → takes_part (declared m info (types_known es)) whole step e ≡ true →
         type_of_values m (own e at).r ≡ PointerType (parts whole step)
     part_taken_by e at whole step takes =
-        taken_spelled m info accepted counted whole step (own e at).r (record {
+        taken_spelled m info accepted told whole step (own e at).r (record {
           function = Some function;
           group = g;
           sound = sound;

@@ -24,7 +24,8 @@ use Rattle.shader_runs.specs.Value.{BooleanType, IntegerType, PointerType, Other
 use Rattle.shader_runs.proofs.Update.{same_bytes_true, same_bytes_self}
 use Rattle.module_meaning.specs.ExpressionShapes.{Declared, own_selector, selector}
 use Rattle.module_meaning.specs.Names.{module_names, name_in}
-use Rattle.module_meaning.specs.Surroundings.{declared, type_of_values, word_of_values, values_of, scalar_values}
+use Rattle.module_meaning.specs.Surroundings.{declared}
+use Rattle.module_meaning.specs.Types.{type_of_values, word_of_values, values_of, scalar_values}
 use Rattle.module_meaning.specs.TypeParts.{part_type, has_computed_parts, pointed_part, inner_at, member_type, is_part_number, value_part_count}
 use Rattle.module_meaning.specs.Types.{integer_words}
 use Rattle.naga_form.proofs.AlikeParts.{is_pointer}

@@ -3,7 +3,7 @@ use Rattle.module_meaning.specs.Accepted.{is_accepted}
 use Rattle.module_meaning.specs.Numbers.{signature_fits_32_bits}
 use Rattle.module_meaning.specs.Part.{block_is_written, statement_is_written, function_is_written, expression_is_written, is_written_so_far}
 use Rattle.module_meaning.specs.Ranges.{function_in_range, local_in_range, signature_fits, signature_types_fit}
-use Rattle.module_meaning.proofs.FitsSoFar.{list_all_at, some_word}
+use Rattle.module_meaning.proofs.Lists.{list_all_at}
 use Rattle.module_meaning.proofs.Part.{written_so_far_parts}
 use Rattle.naga_form.proofs.AcceptedFunctions.{accepted_at, locals_are_in_range, names_are_in_range}
 use Rattle.naga_form.proofs.AcceptedFunctions.{function_there as known_function}
@@ -28,8 +28,7 @@ use Rattle.naga_ir.specs.declared.module.FunctionResult.{FunctionResult}
 use Rattle.naga_ir.specs.declared.module.Module.{Module}
 use Rattle.naga_info.specs.declared.info.ExpressionInfo.{ExpressionInfo}
 use Rattle.naga_info.specs.declared.info.ModuleInfo.{ModuleInfo}
-use Rattle.module_meaning.specs.Spelled.{spelling_of}
-use Rattle.module_meaning.specs.Part.{is_scalar_type}
+use Rattle.module_meaning.specs.Part.{is_scalar_type, resolution_is_written}
 use Rattle.module_meaning.specs.Ranges.{is_below}
 use Rattle.wgsl_text.specs.Words.{stands_in, is_builtin, IsIdentifier, is_letter, is_word_byte}
 use Rattle.wgsl_text.specs.Words.{all_word_bytes, is_reserved}
@@ -206,9 +205,9 @@ switches_fit (statement st b) is =
     by (simple st) is = tt
     by _ is = absurd (cc)
 
-module _ (m : Module) (g : ℕ) (f : ir_function.Function) (found : slice_get m.functions g ≡ Some f) (es : List ExpressionInfo) (callees : ℕ) (ranges : function_in_range m callees f ≡ true) (written : IsTrue (function_is_written f)) (known : list_all (λ k. is_some (spelling_of m.types k.ty)) es ≡ true) (scalars : list_all is_scalar_type m.types ≡ true) (few : length f.expressions ≤ 2 ^ 64) where
+module _ (m : Module) (g : ℕ) (f : ir_function.Function) (found : slice_get m.functions g ≡ Some f) (es : List ExpressionInfo) (callees : ℕ) (ranges : function_in_range m callees f ≡ true) (written : IsTrue (function_is_written f)) (known : list_all (λ k. resolution_is_written m.types k.ty) es ≡ true) (scalars : list_all is_scalar_type m.types ≡ true) (few : length f.expressions ≤ 2 ^ 64) where
   abbrev own : Naming
-  own = function_naming (module_names m) m.types g f es
+  own = function_naming (module_names m) m g f es
 
   application_is : (operand : ℕ → PlainForm) → ((x : ℕ) → IsPlainForm (operand x)) →
       (o : Option Application) → is_notated o ≡ true → IsPlainForm (application_plain operand o)
@@ -247,7 +246,7 @@ module _ (m : Module) (g : ℕ) (f : ir_function.Function) (found : slice_get m.
 
   -- a bound handle's name
   bound_is : (k h : ℕ) → binds own.function h ≡ true → IsIdentifier (bound_name own k h)
-  bound_is k h bound = subst (λ b. IsIdentifier (cond b [] (numbered_name h))) (sym (none_is_given m.types f es (function_parts f written).unnamed h)) (numbered_is h (within (slice_get f.expressions h) refl))
+  bound_is k h bound = subst (λ b. IsIdentifier (cond b [] (numbered_name h))) (sym (none_is_given m f es (function_parts f written).unnamed h)) (numbered_is h (within (slice_get f.expressions h) refl))
     where
       within : (o : Option ir.Expression) → slice_get f.expressions h ≡ o → h < 2 ^ 64
       within (Some e) at = let lt = slice_get_within f.expressions h e at in omega (arith, lt, few)
@@ -420,7 +419,7 @@ module _ (m : Module) (g : ℕ) (f : ir_function.Function) (found : slice_get m.
   result_is None fit = tt
   result_is (Some r) fit = (tt, refl, is_type_at m.types scalars (module_names m) r.ty (ltb-true r.ty (length m.types) fit))
 
-  function_is : (explicit : Bool) → IsFunction (function_form explicit (module_names m) m.types g f es)
+  function_is : (explicit : Bool) → IsFunction (function_form explicit (module_names m) m g f es)
   function_is explicit =
       let signature = (and_parts (signature_types_fit (length m.types) f) (signature_fits_32_bits f) (and_parts (signature_fits (length m.types) f) _ ranges).0).0 in
       let args = list_all (λ a. nat_lt a.ty (length m.types)) f.arguments.items in
@@ -432,12 +431,12 @@ module _ (m : Module) (g : ℕ) (f : ir_function.Function) (found : slice_get m.
         parameters = parameters_are 0 f.arguments.items all (and_left args answer signature);
         result = result_is f.result (and_right args answer signature);
         locals = locals_are 0 f.local_variables all_locals (locals_are_in_range m callees f ranges);
-        body = lines_are (told_type explicit (type_names m) es) (told_is m.types scalars (module_names m) explicit es (λ h k at. some_word (spelling_of m.types k.ty) (list_all_at (λ k. is_some (spelling_of m.types k.ty)) es h k known at))) 0 f.body (switches_fit f.body (function_parts f written).body) (at_start own.function) start_is;
+        body = lines_are (told_type explicit (type_names m) es) (told_is m.types scalars (module_names m) explicit es known) 0 f.body (switches_fit f.body (function_parts f written).body) (at_start own.function) start_is;
       }
 
 module _ (explicit : Bool) (m : Module) (info : ModuleInfo) (accepted : IsTrue (is_accepted m info)) (scalars : list_all is_scalar_type m.types ≡ true) where
   functions_are : (g : ℕ) (fs : List ir_function.Function) (ess : List (List ExpressionInfo)) → ((i : ℕ) (f : ir_function.Function) → slice_get fs i ≡ Some f → slice_get m.functions (g + i) ≡ Some f) → IsTrue (list_all function_is_written fs) →
-      IsTrue (list_all (list_all (λ k. is_some (spelling_of m.types k.ty))) ess) → IsTrue (list_all (λ f. nat_le (length f.expressions) (2 ^ 64)) fs) → Each IsFunction (functions_form explicit (module_names m) m.types g fs ess)
+      IsTrue (list_all (list_all (λ k. resolution_is_written m.types k.ty)) ess) → IsTrue (list_all (λ f. nat_le (length f.expressions) (2 ^ 64)) fs) → Each IsFunction (functions_form explicit (module_names m) m g fs ess)
   functions_are g [] [] there written known few = tt
   functions_are g [] (es ∷ ess) there written known few = tt
   functions_are g (f ∷ fs) [] there written known few = tt
@@ -447,10 +446,10 @@ module _ (explicit : Bool) (m : Module) (info : ModuleInfo) (accepted : IsTrue (
       let at = known_function m info accepted g f found in
       let is = accepted_at m info accepted g f at.0 at.1 in
       let all = and_parts (function_is_written f) (list_all function_is_written fs) written in
-      let spelled = and_parts (list_all (λ k. is_some (spelling_of m.types k.ty)) es) (list_all (list_all (λ k. is_some (spelling_of m.types k.ty))) ess) known in
+      let types = and_parts (list_all (λ k. resolution_is_written m.types k.ty) es) (list_all (list_all (λ k. resolution_is_written m.types k.ty)) ess) known in
       let counted = and_parts (nat_le (length f.expressions) (2 ^ 64)) (list_all (λ f. nat_le (length f.expressions) (2 ^ 64)) fs) few in (
-        function_is m g f found es is.callees is.ranges all.0 spelled.0 scalars (leb-true (length f.expressions) (2 ^ 64) counted.0) explicit,
-        functions_are (g + 1) fs ess (further m.functions g f fs there) all.1 spelled.1 counted.1,
+        function_is m g f found es is.callees is.ranges all.0 types.0 scalars (leb-true (length f.expressions) (2 ^ 64) counted.0) explicit,
+        functions_are (g + 1) fs ess (further m.functions g f fs there) all.1 types.1 counted.1,
       )
 
 pub is_program : (m : Module) (info : ModuleInfo) (explicit : Bool) → IsTrue (is_accepted m info) → IsTrue (is_written_so_far m info) → IsTrue (handles_are_counted m) → IsProgram (written_program m info explicit)

@@ -53,7 +53,8 @@ use Rattle.module_meaning.specs.StatementsFit.{labels_are_of, labels_differ, has
 use Rattle.module_meaning.specs.StatementsFit.{body_is_sound}
 use Rattle.module_meaning.specs.StatementsFit.{points_to_atomic as points_to_atomic_type}
 use Rattle.module_meaning.specs.OperandDemands.{operand_is}
-use Rattle.module_meaning.specs.Surroundings.{declared, types_known, type_of_values}
+use Rattle.module_meaning.specs.Surroundings.{declared, types_known}
+use Rattle.module_meaning.specs.Types.{type_of_values}
 use Rattle.shader_runs.specs.Premises.{IsRegular, AreRegular, CasesAreRegular, FallsFrom, ReturnFits}
 use Rattle.shader_runs.specs.Premises.{ResultFits, ActionFits, CallFits, ResultWanted, IsResult}
 use Rattle.shader_runs.specs.Premises.{AsksBy, EachAsks, IsNoName, handle_types}

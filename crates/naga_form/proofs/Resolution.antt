@@ -39,32 +39,32 @@ use Rattle.naga_form.proofs.Runs.{reads_as_shapes, module_fits}
 
 -- the arguments and locals of a function in range are its own
 module _ (m : Module) (callees : ℕ) (f : ir_function.Function) (ranges : function_in_range m callees f ≡ true) (es : List ExpressionInfo) where
-  leaf_stands : (h : ℕ) (e : ir.Expression) → slice_get f.expressions h ≡ Some e → LeafStands (function_shape m.types f es) (Some (expression_shape e))
+  leaf_stands : (h : ℕ) (e : ir.Expression) → slice_get f.expressions h ≡ Some e → LeafStands (function_shape m f es) (Some (expression_shape e))
   leaf_stands h (expression.FunctionArgument n) at =
-      subst (λ count. n < count) (sym (mapped_length (λ a. declared_type m.types a.ty) f.arguments.items)) (ltb-true n (length f.arguments.items) (names_are_in_range m callees f ranges h (expression.FunctionArgument n) at))
+      subst (λ count. n < count) (sym (mapped_length (λ a. declared_type m a.ty) f.arguments.items)) (ltb-true n (length f.arguments.items) (names_are_in_range m callees f ranges h (expression.FunctionArgument n) at))
   leaf_stands h (expression.LocalVariable v) at =
       subst (λ count. v < count) (sym (mapped_length (λ l. l.init) f.local_variables)) (ltb-true v (length f.local_variables) (names_are_in_range m callees f ranges h (expression.LocalVariable v) at))
   leaf_stands h (expression.Literal value) at = tt
   leaf_stands h (expression.Load pointer) at = tt
   leaf_stands h e at =
-      application_any (λ s. LeafStands (function_shape m.types f es) (Some s)) tt (application_of e)
+      application_any (λ s. LeafStands (function_shape m f es) (Some s)) tt (application_of e)
       (λ a is. operator_any
-      (λ s. LeafStands (function_shape m.types f es) (Some s)) a.operator a.operands
+      (λ s. LeafStands (function_shape m f es) (Some s)) a.operator a.operands
       (λ j l r. tt) tt)
 
-  leaves_are_own : (h : ℕ) → LeafStands (function_shape m.types f es) (expression_of (function_shape m.types f es) h)
-  leaves_are_own h = at_any m.types f es h (λ o. LeafStands (function_shape m.types f es) o) tt (leaf_stands h)
+  leaves_are_own : (h : ℕ) → LeafStands (function_shape m f es) (expression_of (function_shape m f es) h)
+  leaves_are_own h = at_any m f es h (λ o. LeafStands (function_shape m f es) o) tt (leaf_stands h)
 
 module _ (m : Module) (info : ModuleInfo) (accepted : IsTrue (is_accepted m info)) where
   leaves_stand : (g : ℕ) (fs : List ir_function.Function) (ess : List (List ExpressionInfo)) → ((i : ℕ) (f : ir_function.Function) → slice_get fs i ≡ Some f → slice_get m.functions (g + i) ≡ Some f) →
-      (behind : List Naming) → LeavesStand behind → LeavesStand (reverse_aux (namings_from (module_names m) g (function_shapes m.types fs ess)) behind)
+      (behind : List Naming) → LeavesStand behind → LeavesStand (reverse_aux (namings_from (module_names m) g (function_shapes m fs ess)) behind)
   leaves_stand g [] ess there behind all = all
   leaves_stand g (f ∷ fs) [] there behind all = all
   leaves_stand g (f ∷ fs) (es ∷ ess) there behind all =
       let here : g + 0 ≡ g = omega arith in
       let known = function_there m info accepted g f (subst (λ h. slice_get m.functions h ≡ Some f) here (there 0 f refl)) in
       let is = accepted_at m info accepted g f known.0 known.1 in
-      leaves_stand (g + 1) fs ess (further m.functions g f fs there) (function_naming (module_names m) m.types g f es ∷ behind) (leaves_are_own m is.callees f is.ranges es, all)
+      leaves_stand (g + 1) fs ess (further m.functions g f fs there) (function_naming (module_names m) m g f es ∷ behind) (leaves_are_own m is.callees f is.ranges es, all)
 
 pub resolves : (m : Module) (info : ModuleInfo) (explicit : Bool) → IsTrue (is_accepted m info) → IsTrue (is_written_so_far m info) → ScopesHold m info → NamesAreCounted m → ResolvesAs m info (written_program m info explicit)
 resolves m info explicit accepted written scope counted =

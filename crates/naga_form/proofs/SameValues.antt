@@ -1,7 +1,8 @@
 -- Values are of one type exactly where their types are told by the same numbers: so the words under
 -- the names of an accepted module tell types as the numbers do.
 --
--- The names are to be counted, which acceptance does not ask, and lengths to be numbers of 32 bits.
+-- Structs and overrides are to be told by their names, which acceptance does not ask, and lengths to
+-- be numbers of 32 bits.
 use Rattle.std.proofs.Common.{◌≡◌, ℕ, zero, suc, ◌<◌, Bool, true, false, List, [], ◌∷◌, refl, sym, ap, ◌∙◌}
 use Rattle.std.proofs.Common.{Option, Some, None, slice_get, length, arith, if◌then◌else◌, codes, ◌^◌}
 use Rattle.std.proofs.Common.{get_or, subst, ◌++◌, nat_eq}
@@ -10,7 +11,8 @@ use Rattle.std.specs.List.{list_all}
 use Rattle.std.specs.Str.{bytes_eq}
 use Rattle.std.specs.Option.{option_map, option_map_or, is_some, is_none}
 use Rattle.std.specs.Int.NonZero.{non_zero_u32_get}
-use Rattle.std.proofs.lemmas.Bool.{ltb-true, true≢false}
+use Rattle.std.proofs.lemmas.Bool.{ltb-true, true≢false, and_parts, and_from}
+use Rattle.std.specs.Prelude.{◌&&◌}
 use Rattle.std.proofs.lemmas.Slice.Eq.{bytes_eq-Decides}
 use Rattle.std.proofs.lemmas.Option.{slice_get_within}
 use Rattle.wgsl_words.specs.Words.{scalar_word, space_word}
@@ -29,7 +31,7 @@ use Rattle.naga_names.specs.declared.key.NameKey.TheVariants as key
 use Rattle.naga_names.specs.Reset.{labelled_items}
 use Rattle.naga_names.proofs.NamedItems.{Stands, type_stands, override_stands}
 use Rattle.naga_words.specs.Contexts.{Names, name_or_nothing}
-use Rattle.naga_words.specs.Spelling.{size_within, length_within}
+use Rattle.naga_words.specs.Spelling.{is_struct, size_within, length_within}
 use Rattle.wgsl_text.specs.Reading.{type_layout, ReadsType}
 use Rattle.wgsl_text.specs.Text.{tokens}
 use Rattle.wgsl_text.specs.Types.{TypeSpecifier, IsType}
@@ -42,8 +44,8 @@ use Rattle.naga_ir.specs.declared.image.ImageClass.{ImageClass}
 use Rattle.naga_ir.specs.declared.image.ImageClass.TheVariants as class
 use Rattle.naga_ir.specs.declared.image.ImageDimension.{ImageDimension}
 use Rattle.module_meaning.specs.InfoSizes.{type_is_fit, resolution_is_fit}
-use Rattle.module_meaning.specs.Names.{NamesAreCounted, module_names, wgsl_names}
-use Rattle.module_meaning.specs.Surroundings.{type_of_values, word_of_values, values_of, scalar_values}
+use Rattle.module_meaning.specs.Names.{TypesAreTold, module_names, name_in, wgsl_names}
+use Rattle.module_meaning.specs.Types.{type_of_values, word_of_values, values_of, scalar_values}
 use Rattle.module_meaning.specs.TypeIdentity.{identity, identity_code, word_of_unspelled_type, level, kind_number, truth_number, dimension_number, vector_number, cooperative_number, role_number, space_number, length_kind, length_number}
 use Rattle.module_meaning.specs.Types.{type_names, spelled_resolution, integer_words}
 use Rattle.module_meaning.proofs.TypeIdentity.{word_tells}
@@ -52,7 +54,7 @@ use Rattle.naga_form.specs.TypeTrees.{resolution_tree}
 use Rattle.naga_form.proofs.AlikeLaw.{form_apart, told_by_itself, each_named, by_itself, itself, itself_back}
 use Rattle.naga_form.proofs.AlikeNumbers.{AreTold, InnerIsTold, LengthIsTold, ResolutionIsTold, named_numbers, form_is_told, tree_numbers}
 use Rattle.naga_form.proofs.AlikeTypes.{form_read, form_is_read}
-use Rattle.naga_form.proofs.Names.{item_is_identifier, items_tell}
+use Rattle.naga_form.proofs.Names.{item_is_identifier}
 use Rattle.naga_form.proofs.TypeTrees.{resolution_is, type_row, inner_tree_row}
 use Rattle.wgsl_text.proofs.Text.{text-append}
 use Rattle.naga_form.proofs.TypedWords.{no_blank}
@@ -96,12 +98,38 @@ IsFit m (Handle h) = Unit {0}
 IsFit m (Value it) =
     (resolution_is_fit (Value it) ≡ true) × InnerIsCounted it × (length_within (length m.overrides) it ≡ true)
 
--- names are counted, and the types of the module are fit
+-- structs and overrides are told by their names, and the types of the module are fit
 pub record TypesAreCounted (m : Module) : Type 0 where
-  pub names : NamesAreCounted m
+  pub names : TypesAreTold m
   pub fits : list_all type_is_fit m.types ≡ true
   pub counted : (h : ℕ) (t : Type_) → slice_get m.types h ≡ Some t → InnerIsCounted t.inner
   pub within : (h : ℕ) (t : Type_) → slice_get m.types h ≡ Some t → length_within (length m.overrides) t.inner ≡ true
+
+-- ---- values
+abbrev pub word_in : ValueType → List ℕ
+word_in BooleanType = codes "bool"
+word_in (IntegerType w) = w
+word_in (PointerType w) = w
+word_in (OtherType w) = w
+
+scalar_word_in : (w : List ℕ) → word_in (scalar_values w) ≡ w
+scalar_word_in w = by (bytes_eq w (codes "bool")) refl (stands_in integer_words w)
+  where
+    by : (b : Bool) → bytes_eq w (codes "bool") ≡ b → (c : Bool) → word_in (if b then BooleanType else (if c then IntegerType w else OtherType w)) ≡ w
+    by true at c = sym ((bytes_eq-Decides w (codes "bool")).0 at)
+    by false at true = refl
+    by false at false = refl
+
+values_word : (it : TypeInner) (w : List ℕ) → word_in (values_of it w) ≡ w
+values_word (inner.Scalar s) w = scalar_word_in w
+values_word _ w = refl
+
+pub word_of_type : (m : Module) (r : TypeResolution) → word_in (type_of_values m r) ≡ word_of_values m r
+word_of_type m r = by (inner_of r m.types)
+  where
+    by : (o : Option TypeInner) → word_in (option_map_or (λ it. values_of it (word_of_values m r)) o (OtherType (word_of_values m r))) ≡ word_of_values m r
+    by None = refl
+    by (Some it) = values_word it (word_of_values m r)
 
 -- ---- names of structs and overrides
 module _ (m : Module) (are : TypesAreCounted m) where
@@ -111,6 +139,63 @@ module _ (m : Module) (are : TypesAreCounted m) where
   name_is : (o : Option (List ℕ)) → name_or_nothing o ≡ unwrap_or o []
   name_is None = refl
   name_is (Some w) = refl
+
+  same_name : (a b : NameKey) → name_or_nothing (module_names m a) ≡ name_or_nothing (module_names m b) → name_in (module_names m) a ≡ name_in (module_names m) b
+  same_name a b e = sym (name_is (module_names m a)) ∙ (e ∙ name_is (module_names m b))
+
+  -- a struct with this name
+  abbrev is_struct_at : ℕ → Bool
+  is_struct_at h = option_map_or (λ t. is_struct t.inner) (slice_get m.types h) false
+
+  abbrev is_struct_named : List ℕ → ℕ → Bool
+  is_struct_named w h = is_struct_at h && bytes_eq (names.struct_name h) w
+
+  struct_at : (h : ℕ) → is_struct_at h ≡ true → (t : Type_) × (slice_get m.types h ≡ Some t) × (is_struct t.inner ≡ true)
+  struct_at h is = by (slice_get m.types h) refl is
+    where
+      by : (o : Option Type_) → slice_get m.types h ≡ o → option_map_or (λ t. is_struct t.inner) o false ≡ true → (t : Type_) × (slice_get m.types h ≡ Some t) × (is_struct t.inner ≡ true)
+      by None at is = absurd cc
+      by (Some t) at is = (t, at, is)
+
+  -- the handle of what has this name
+  abbrev handle_named : List ℕ → ℕ
+  handle_named w =
+      unwrap_or (search_below (is_struct_named w) (length m.types))
+      (unwrap_or (search_below (λ o. bytes_eq (names.override_name o) w) (length m.overrides)) 0)
+
+  struct_handle : (h : ℕ) (t : Type_) → slice_get m.types h ≡ Some t → is_struct t.inner ≡ true → handle_named (names.struct_name h) ≡ h
+  struct_handle h t at is =
+      ap (λ x. unwrap_or x (unwrap_or (search_below (λ o. bytes_eq (names.override_name o) (names.struct_name h)) (length m.overrides)) 0))
+      (found_below (is_struct_named (names.struct_name h)) (length m.types) h (slice_get_within m.types h t at)
+      (and_from (is_struct_at h) (bytes_eq (names.struct_name h) (names.struct_name h))
+      (ap (λ o. option_map_or (λ t. is_struct t.inner) o false) at ∙ is)
+      ((bytes_eq-Decides (names.struct_name h) (names.struct_name h)).1 refl))
+      only)
+    where
+      only : (k : ℕ) → k < length m.types → is_struct_named (names.struct_name h) k ≡ true → k ≡ h
+      only k le named =
+          let parts = and_parts (is_struct_at k) (bytes_eq (names.struct_name k) (names.struct_name h)) named in
+          let u = struct_at k parts.0 in
+          are.names.structs k h u.0 t u.1 at u.2 is
+          (same_name (key.Type_ k) (key.Type_ h) ((bytes_eq-Decides (names.struct_name k) (names.struct_name h)).0 parts.1))
+
+  override_handle : (o : ℕ) → o < length m.overrides → handle_named (names.override_name o) ≡ o
+  override_handle o lt =
+      ap (λ x. unwrap_or x (unwrap_or (search_below (λ k. bytes_eq (names.override_name k) (names.override_name o)) (length m.overrides)) 0))
+      (none_below (is_struct_named (names.override_name o)) (length m.types) (λ h le. not_both h (is_struct_named (names.override_name o) h) refl))
+      ∙ ap (λ x. unwrap_or x 0)
+      (found_below (λ k. bytes_eq (names.override_name k) (names.override_name o)) (length m.overrides) o lt
+      ((bytes_eq-Decides (names.override_name o) (names.override_name o)).1 refl)
+      (λ k le at. are.names.overrides k o le lt
+      (same_name (key.Override k) (key.Override o) ((bytes_eq-Decides (names.override_name k) (names.override_name o)).0 at))))
+    where
+      not_both : (h : ℕ) (b : Bool) → is_struct_named (names.override_name o) h ≡ b → is_struct_named (names.override_name o) h ≡ false
+      not_both h true named =
+          let parts = and_parts (is_struct_at h) (bytes_eq (names.struct_name h) (names.override_name o)) named in
+          let t = struct_at h parts.0 in
+          absurd (are.names.apart h o t.0 t.1 t.2 lt
+          (same_name (key.Type_ h) (key.Override o) ((bytes_eq-Decides (names.struct_name h) (names.override_name o)).0 parts.1)))
+      not_both h false named = named
 
   -- an item within the list
   there : {X : Type 0} (xs : List X) (i : ℕ) → i < length xs → (x : X) × (slice_get xs i ≡ Some x)
@@ -123,51 +208,6 @@ module _ (m : Module) (are : TypesAreCounted m) where
 
   override_item : (o : ℕ) → o < length m.overrides → (label : List ℕ) × Stands (labelled_items wgsl_names m) (key.Override o, label)
   override_item o lt = let k = there m.overrides o lt in (_, override_stands wgsl_names m o k.0 k.1)
-
-  one_name : (a b : NameKey) (v w : List ℕ) → Stands (labelled_items wgsl_names m) (a, v) → Stands (labelled_items wgsl_names m) (b, w) → name_or_nothing (module_names m a) ≡ name_or_nothing (module_names m b) → a ≡ b
-  one_name a b v w s t e =
-      ap (λ item. item.0) (items_tell m are.names (a, v) (b, w) s t (sym (name_is (module_names m a)) ∙ (e ∙ name_is (module_names m b))))
-
-  types_tell : (h k : ℕ) → h < length m.types → k < length m.types → names.struct_name h ≡ names.struct_name k → h ≡ k
-  types_tell h k p q e =
-      let a = type_item h p in let b = type_item k q in
-      let same : key.Type_ h ≡ key.Type_ k = one_name (key.Type_ h) (key.Type_ k) a.0 b.0 a.1 b.1 e in cc
-
-  overrides_tell : (h k : ℕ) → h < length m.overrides → k < length m.overrides → names.override_name h ≡ names.override_name k → h ≡ k
-  overrides_tell h k p q e =
-      let a = override_item h p in let b = override_item k q in
-      let same : key.Override h ≡ key.Override k = one_name (key.Override h) (key.Override k) a.0 b.0 a.1 b.1 e in cc
-
-  types_apart : (h k : ℕ) → h < length m.types → k < length m.overrides → names.struct_name h ≡ names.override_name k → ⊥
-  types_apart h k p q e =
-      let a = type_item h p in let b = override_item k q in
-      let same : key.Type_ h ≡ key.Override k = one_name (key.Type_ h) (key.Override k) a.0 b.0 a.1 b.1 e in absurd (cc)
-
-  -- the handle of what has this name
-  abbrev handle_named : List ℕ → ℕ
-  handle_named w =
-      unwrap_or (search_below (λ h. bytes_eq (names.struct_name h) w) (length m.types))
-      (unwrap_or (search_below (λ o. bytes_eq (names.override_name o) w) (length m.overrides)) 0)
-
-  struct_handle : (h : ℕ) → h < length m.types → handle_named (names.struct_name h) ≡ h
-  struct_handle h lt =
-      ap (λ x. unwrap_or x (unwrap_or (search_below (λ o. bytes_eq (names.override_name o) (names.struct_name h)) (length m.overrides)) 0))
-      (found_below (λ k. bytes_eq (names.struct_name k) (names.struct_name h)) (length m.types) h lt
-      ((bytes_eq-Decides (names.struct_name h) (names.struct_name h)).1 refl)
-      (λ k le at. types_tell k h le lt ((bytes_eq-Decides (names.struct_name k) (names.struct_name h)).0 at)))
-
-  override_handle : (o : ℕ) → o < length m.overrides → handle_named (names.override_name o) ≡ o
-  override_handle o lt =
-      ap (λ x. unwrap_or x (unwrap_or (search_below (λ k. bytes_eq (names.override_name k) (names.override_name o)) (length m.overrides)) 0))
-      (none_below (λ h. bytes_eq (names.struct_name h) (names.override_name o)) (length m.types) (λ h le. not_both h le (bytes_eq (names.struct_name h) (names.override_name o)) refl))
-      ∙ ap (λ x. unwrap_or x 0)
-      (found_below (λ k. bytes_eq (names.override_name k) (names.override_name o)) (length m.overrides) o lt
-      ((bytes_eq-Decides (names.override_name o) (names.override_name o)).1 refl)
-      (λ k le at. overrides_tell k o le lt ((bytes_eq-Decides (names.override_name k) (names.override_name o)).0 at)))
-    where
-      not_both : (h : ℕ) → h < length m.types → (b : Bool) → bytes_eq (names.struct_name h) (names.override_name o) ≡ b → bytes_eq (names.struct_name h) (names.override_name o) ≡ false
-      not_both h le true at = absurd (types_apart h o le lt ((bytes_eq-Decides (names.struct_name h) (names.override_name o)).0 at))
-      not_both h le false at = at
 
   struct_identifier : (h : ℕ) → h < length m.types → IsIdentifier (names.struct_name h)
   struct_identifier h lt = let a = type_item h lt in subst IsIdentifier (sym (name_is (module_names m (key.Type_ h)))) (item_is_identifier m (key.Type_ h, a.0) a.1)
@@ -207,7 +247,7 @@ module _ (m : Module) (are : TypesAreCounted m) where
   are_told : AreTold handle_named names
   are_told = record {
     structs = λ h t at is. let lt = slice_get_within m.types h t at in
-        named_numbers handle_named (names.struct_name h) (struct_identifier h lt) ∙ ap (λ x. level 8 x 0 0 0 0) (struct_handle h lt);
+        named_numbers handle_named (names.struct_name h) (struct_identifier h lt) ∙ ap (λ x. level 8 x 0 0 0 0) (struct_handle h t at is);
     lengths = λ h t at. inner_told t.inner (are.within h t at);
   }
 
@@ -303,35 +343,9 @@ module _ (m : Module) (are : TypesAreCounted m) where
         kinds = (at ∙ sym bt, λ none. word_tells m.types a b e);
       }
 
-  -- ---- values
-  abbrev word_in : ValueType → List ℕ
-  word_in BooleanType = codes "bool"
-  word_in (IntegerType w) = w
-  word_in (PointerType w) = w
-  word_in (OtherType w) = w
-
-  scalar_word_in : (w : List ℕ) → word_in (scalar_values w) ≡ w
-  scalar_word_in w = by (bytes_eq w (codes "bool")) refl (stands_in integer_words w)
-    where
-      by : (b : Bool) → bytes_eq w (codes "bool") ≡ b → (c : Bool) → word_in (if b then BooleanType else (if c then IntegerType w else OtherType w)) ≡ w
-      by true at c = sym ((bytes_eq-Decides w (codes "bool")).0 at)
-      by false at true = refl
-      by false at false = refl
-
-  values_word : (it : TypeInner) (w : List ℕ) → word_in (values_of it w) ≡ w
-  values_word (inner.Scalar s) w = scalar_word_in w
-  values_word _ w = refl
-
-  word_of_type : (r : TypeResolution) → word_in (type_of_values m r) ≡ word_of_values m r
-  word_of_type r = by (inner_of r m.types)
-    where
-      by : (o : Option TypeInner) → word_in (option_map_or (λ it. values_of it (word_of_values m r)) o (OtherType (word_of_values m r))) ≡ word_of_values m r
-      by None = refl
-      by (Some it) = values_word it (word_of_values m r)
-
   -- where values are of one type, the types are told by the same numbers
   pub numbers_by_values : (a b : TypeResolution) → IsFit m a → IsFit m b → type_of_values m a ≡ type_of_values m b → type_identity m.types a ≡ type_identity m.types b
-  numbers_by_values a b p q e = numbers_by_words a b p q (sym (word_of_type a) ∙ (ap word_in e ∙ word_of_type b))
+  numbers_by_values a b p q e = numbers_by_words a b p q (sym (word_of_type m a) ∙ (ap word_in e ∙ word_of_type m b))
 
   -- ---- which values a type has, by its form
   abbrev values_numbered : ℕ → List ℕ → ValueType

@@ -8,7 +8,6 @@ use Rattle.indexmap.proofs.ReorderLemmas.{map-reverse}
 use Rattle.naga_ir.specs.declared.module.Module.{Module}
 use Rattle.naga_info.specs.declared.info.ModuleInfo.{ModuleInfo}
 use Rattle.module_meaning.specs.Accepted.{is_accepted}
-use Rattle.module_meaning.proofs.AcceptedSoFar.{accepted_so_far}
 use Rattle.naga_names.specs.Keys.{NameMap}
 use Rattle.shader_runs.specs.Program as shapes
 use Rattle.shader_runs.specs.Program.{expression_of, operands_of}
@@ -38,8 +37,8 @@ functions_of_namings names g (f ∷ fs) = ap (λ fs. f ∷ fs) (functions_of_nam
 -- the functions of the namings are those of the program of shapes
 pub namings_functions : (m : Module) (info : ModuleInfo) → functions_of (namings (module_names m) m info) ≡ (program_shape m info).functions
 namings_functions m info =
-    let listed = namings_from (module_names m) 0 (function_shapes m.types m.functions info.functions.items) in
-    functions_of-map (reverse listed) ∙ (map-reverse (λ n. n.function) listed ∙ ap reverse (functions_of_namings (module_names m) 0 (function_shapes m.types m.functions info.functions.items)))
+    let listed = namings_from (module_names m) 0 (function_shapes m m.functions info.functions.items) in
+    functions_of-map (reverse listed) ∙ (map-reverse (λ n. n.function) listed ∙ ap reverse (functions_of_namings (module_names m) 0 (function_shapes m m.functions info.functions.items)))
 
 -- operands stand before their expressions
 abbrev IsOrdered : List shapes.Function → Naming → Type 0
@@ -63,7 +62,7 @@ module _ (m : Module) (info : ModuleInfo) (accepted : IsTrue (is_accepted m info
   pub same_functions : functions_of (namings (module_names m) m info) ≡ (module_shape m info).functions
   same_functions =
       namings_functions m info
-      ∙ ap (λ p. p.functions) (sym (same_program m info (accepted_so_far m info accepted written) written))
+      ∙ ap (λ p. p.functions) (sym (same_program m info written))
 
   all_are_ordered : AllBehind IsOrdered (namings (module_names m) m info)
   all_are_ordered =

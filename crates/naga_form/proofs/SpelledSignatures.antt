@@ -1,6 +1,6 @@
 -- What the program of shapes of an accepted module spells: each signature is that of an expression.
 -- What is said of trees of constants, and of the initialisers of named ones, is a premise here.
-use Rattle.module_meaning.specs.Names.{NamesAreCounted}
+use Rattle.module_meaning.specs.Names.{TypesAreTold}
 use Rattle.naga_form.proofs.Signatures.{either_signature, only_signature}
 use Rattle.std.proofs.Common.{◌≡◌, ℕ, Bool, true, false, List, [], ◌∷◌, ◌++◌, refl, sym, ap, ◌∙◌, subst}
 use Rattle.std.proofs.Common.{Option, Some, None, slice_get, if◌then◌else◌}
@@ -211,11 +211,11 @@ module _ (m : ir_module.Module) (info : ModuleInfo) (of_trees : (f : Option ir_f
         by None at among = absurd (no_signature x among)
 
   -- ---- what the module spells
-  module _ (accepted : IsTrue (is_accepted m info)) (counted : NamesAreCounted m) (of_initialisers : (i : ℕ) (e : ConstantTree) → slice_get (module_shape m info).initialisers i ≡ Some e → (x : Signature) → IsOneOf x (constant_signatures (module_shape m info) e) → IsOfExpression m info x) where
+  module _ (accepted : IsTrue (is_accepted m info)) (told : TypesAreTold m) (of_initialisers : (i : ℕ) (e : ConstantTree) → slice_get (module_shape m info).initialisers i ≡ Some e → (x : Signature) → IsOneOf x (constant_signatures (module_shape m info) e) → IsOfExpression m info x) where
     -- each signature that is spelled is that of an expression
     pub of_spelled : (x : Signature) → IsSpelled (module_shape m info) x → IsOfExpression m info x
     of_spelled x (in_initialiser i e there among) = of_initialisers i e there x among
     of_spelled x (in_function place f there h among) =
-        let k = function_at m info accepted counted place f there in
+        let k = function_at m info accepted told place f there in
         spelled_at k.function k.known k.sound h x
         (subst (λ f. IsOneOf x (signatures_of p f (handle_type f h) (expression_of f h))) k.same among)

@@ -26,9 +26,9 @@ use Rattle.module_meaning.specs.AlikeTypes.{type_identity}
 use Rattle.module_meaning.specs.ExpressionShapes.{part_selector, selector}
 use Rattle.module_meaning.specs.ExpressionTypes.{wanted_type, LikeThis, is_wanted, only, if_any}
 use Rattle.module_meaning.specs.ModuleShapes.{same_step, points_so, takes_part, part_taken, parts_taken, part_words, is_numbered}
-use Rattle.module_meaning.specs.Names.{ItemsAreCounted}
+use Rattle.module_meaning.specs.Names.{ItemsAreTold}
 use Rattle.module_meaning.specs.OperandDemands.{operand_is, is_integer}
-use Rattle.module_meaning.specs.Surroundings.{type_of_values, word_of_values}
+use Rattle.module_meaning.specs.Types.{type_of_values, word_of_values}
 use Rattle.module_meaning.specs.TypeParts.{part_type, has_computed_parts, is_part_number}
 use Rattle.module_meaning.proofs.SideBySide.{zip_at}
 use Rattle.naga_form.proofs.AcceptedGroups.{IsSoundGroup, types_are_counted}
@@ -69,12 +69,12 @@ only_there true x zero y at = (refl, same_Some x y at)
 only_there true x (suc i) y at = absurd cc
 only_there false x i y at = absurd cc
 
-module _ (m : ir_module.Module) (info : ModuleInfo) (accepted : IsTrue (is_accepted m info)) (counted : ItemsAreCounted m) where
+module _ (m : ir_module.Module) (info : ModuleInfo) (accepted : IsTrue (is_accepted m info)) (told : ItemsAreTold m) where
   abbrev are : TypesAreCounted m
-  are = types_are_counted m info accepted counted.names
+  are = types_are_counted m info accepted told.types
 
   abbrev stand : PartsStand m
-  stand = parts_stand m info accepted counted
+  stand = parts_stand m info accepted told
 
   -- an expression of this type that takes a part of a pointer spelled so
   pub record IsTaking (whole : Bytes) (step : Step) (r : TypeResolution) : Type 0 where
@@ -252,7 +252,7 @@ module _ (m : ir_module.Module) (info : ModuleInfo) (accepted : IsTrue (is_accep
           let x : Signature = record { word = PartWord s; operands = value_at m info a.group.known i ∷ []; result = value_at m info a.group.known a.handle } in
           let y : Signature = record { word = PartWord t; operands = value_at m info b.group.known j ∷ []; result = value_at m info b.group.known b.handle } in
           sym (value_is m info a.group.known a.handle r a.known)
-          ∙ (signatures_agree m info accepted counted x y
+          ∙ (signatures_agree m info accepted told x y
           (record { function = a.function; group = a.group; sound = a.sound; handle = a.handle; expression = expression.AccessIndex i n; there = at; called = by_part i n s refl first; operands = refl; result = refl })
           (record { function = b.function; group = b.group; sound = b.sound; handle = b.handle; expression = expression.AccessIndex j q; there = bt; called = by_part j q t refl second; operands = refl; result = refl })
           (ap PartWord same)

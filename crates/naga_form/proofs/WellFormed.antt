@@ -52,12 +52,13 @@ use Rattle.module_meaning.specs.StatementsFit.{selection_fits, is_selection, is_
 use Rattle.module_meaning.specs.StatementsFit.{simple_is_sound, statement_is_sound, block_is_sound}
 use Rattle.module_meaning.specs.StatementsFit.{cases_are_sound, is_signed}
 use Rattle.module_meaning.specs.StatementsFit.{is_unsigned}
-use Rattle.module_meaning.specs.Surroundings.{declared, types_known, type_of_values, word_of_values}
-use Rattle.module_meaning.specs.Surroundings.{values_of, scalar_values}
+use Rattle.module_meaning.specs.Surroundings.{declared, types_known}
+use Rattle.module_meaning.specs.Types.{type_of_values, word_of_values}
+use Rattle.module_meaning.specs.Types.{values_of, scalar_values}
 use Rattle.module_meaning.specs.TypeIdentity.{identity, word_of_unspelled_type}
 use Rattle.module_meaning.specs.TypeParts.{known_inner, pointee_type, known_pointee}
 use Rattle.module_meaning.specs.Types.{type_names, spelled_resolution}
-use Rattle.module_meaning.proofs.FitsSoFar.{list_all_at}
+use Rattle.module_meaning.proofs.Lists.{list_all_at}
 use Rattle.module_meaning.proofs.Shapes.{operator_any}
 use Rattle.shader_runs.specs.Program as shapes
 use Rattle.shader_runs.specs.Program.{Load, Request, no_constant, expression_of, handle_type}

@@ -2,7 +2,7 @@
 -- override, a zero value, a composition or a splat of such, each constant of an accepted module has
 -- a tree. Acceptance doesn't ask that it is: a negation of a literal is not.
 use Rattle.module_meaning.specs.Writable.{AreWrittenOut, is_written_out, written_out_within, written_out_over}
-use Rattle.module_meaning.specs.Names.{NamesAreCounted}
+use Rattle.module_meaning.specs.Names.{TypesAreTold}
 use Rattle.std.proofs.Common.{◌≡◌, ℕ, zero, suc, ◌<◌, ◌≤◌, ◌+◌, Bool, true, false, List, [], ◌∷◌, refl, sym, ap, ◌∙◌, length}
 use Rattle.std.proofs.Common.{Option, Some, None, slice_get, arith, nat_lt, ◌&&◌, if◌then◌else◌}
 use Rattle.std.specs.List.{list_all}
@@ -28,8 +28,8 @@ use Rattle.module_meaning.specs.OperatorTable.{Operator, Splat}
 use Rattle.module_meaning.specs.Ranges.{module_ranges_fit, module_in_range, declarations_in_range, types_in_range, special_types_fit, constant_in_range, override_in_range, global_in_range, global_expression_in_range, expression_in_range, initialiser_before, all_placed, all_below, resolution_fits, is_below, function_in_range, entry_point_in_range}
 use Rattle.module_meaning.specs.Soundness.{module_is_sound}
 use Rattle.module_meaning.specs.Surroundings.{declared_over, constant_within, written_constant, constant_number, global_types_known}
-use Rattle.module_meaning.proofs.FitsSoFar.{list_all_at}
-use Rattle.module_meaning.proofs.FunctionsSoFar.{placed_at}
+use Rattle.module_meaning.proofs.Lists.{list_all_at}
+use Rattle.module_meaning.proofs.Lists.{placed_at}
 use Rattle.naga_form.proofs.AcceptedGroups.{IsSoundGroup, own_known, own_group, declarations_are}
 use Rattle.naga_form.proofs.ConstantInitialisers.{HaveTrees, named_stands}
 use Rattle.naga_form.proofs.ConstantTrees.{wanted_there}
@@ -91,7 +91,7 @@ module _ (m : Module) (info : ModuleInfo) where
         by None at out have = absurd cc
         by (Some e) at out have = over_there (tree_within levels inside g.expressions) (written_out_within levels g.expressions) h e at have named out
 
-  module _ (accepted : IsTrue (is_accepted m info)) (counted : NamesAreCounted m) where
+  module _ (accepted : IsTrue (is_accepted m info)) (told : TypesAreTold m) where
     -- ---- the module's own expressions stand behind the initialisers that they name
     ranges : module_ranges_fit m info ≡ true
     unfolding is_accepted
@@ -168,7 +168,7 @@ module _ (m : Module) (info : ModuleInfo) where
           constants_there (length m.global_expressions) h c at (ltb-true c.init (length m.global_expressions) own.1)
 
       -- so each initialiser of a named one has
-      pub have_trees : HaveTrees m info accepted counted
+      pub have_trees : HaveTrees m info accepted told
       have_trees i c named =
           let k = named_stands m.constants i c named in
           initialiser_there (written_constant m info) k.0 c k.1 (λ j d there lt. constant_has_tree j d there)

@@ -5,6 +5,7 @@ use Rattle.naga_ir.specs.declared.expression.Expression as ir
 use Rattle.naga_ir.specs.declared.module.Function as ir_function
 use Rattle.naga_ir.specs.declared.module.FunctionArgument.{FunctionArgument}
 use Rattle.naga_ir.specs.declared.module.FunctionResult.{FunctionResult}
+use Rattle.naga_ir.specs.declared.module.Module.{Module}
 use Rattle.naga_ir.specs.declared.types.Type_.{Type_}
 use Rattle.naga_names.specs.Keys.{NameMap}
 use Rattle.wgsl_text.specs.Functions.{Parameter, Result, NoResult, ResultOf, Local, Function}
@@ -49,14 +50,13 @@ result_form t (Some r) = ResultOf [] (type_form t r.ty)
 
 -- a function, with what is known of its expressions
 abbrev pub function_form :
-    (explicit : Bool) → NameMap → List Type_ → ℕ → ir_function.Function → List ExpressionInfo →
-    Function
-function_form explicit names types g f es =
-    let n : Naming = function_naming names types g f es in
-    let t : TypeNames = names_of types names in
+    (explicit : Bool) → NameMap → Module → ℕ → ir_function.Function → List ExpressionInfo → Function
+function_form explicit names m g f es =
+    let n : Naming = function_naming names m g f es in
+    let t : TypeNames = names_of m.types names in
     record {
       name = function_name names g;
-      parameters = parameters_form names types g 0 f.arguments.items;
+      parameters = parameters_form names m.types g 0 f.arguments.items;
       result = result_form t f.result;
       locals = locals_form n t f.expressions 0 f.local_variables;
       body = lines_form n (told_type explicit t es) f.expressions 0 f.body (at_start n.function);
@@ -64,9 +64,8 @@ function_form explicit names types g f es =
 
 -- the functions from this handle on, each with what is known of its expressions
 abbrev pub functions_form :
-    (explicit : Bool) → NameMap → List Type_ → ℕ → List ir_function.Function →
+    (explicit : Bool) → NameMap → Module → ℕ → List ir_function.Function →
     List (List ExpressionInfo) → List Function
-functions_form explicit names types g (f ∷ fs) (es ∷ ess) =
-    function_form explicit names types g f es
-    ∷ functions_form explicit names types (g + 1) fs ess
-functions_form explicit names types g _ _ = []
+functions_form explicit names m g (f ∷ fs) (es ∷ ess) =
+    function_form explicit names m g f es ∷ functions_form explicit names m (g + 1) fs ess
+functions_form explicit names m g _ _ = []

@@ -37,20 +37,22 @@ use Rattle.module_meaning.specs.Literals.{literal_value}
 use Rattle.module_meaning.specs.Meanings.{OperatorsAreConsistent, HasTypedMeaning, HasTypedWorld}
 use Rattle.module_meaning.specs.Meanings.{IsNeverStuck, NoRunIsStuck}
 use Rattle.module_meaning.specs.Writable.{IsWritable}
-use Rattle.module_meaning.specs.Names.{ItemsAreCounted, NamesAreCounted, module_names}
+use Rattle.module_meaning.specs.Names.{ItemsAreCounted, ItemsAreTold, NamesAreCounted}
+use Rattle.module_meaning.specs.Names.{TypesAreTold, module_names}
+use Rattle.module_meaning.specs.Ranges.{resolution_fits}
 use Rattle.module_meaning.specs.Part.{is_written_so_far}
 use Rattle.module_meaning.specs.Premises.{handles_are_counted, scope_holds, ScopesHold}
 use Rattle.module_meaning.specs.Resolution.{ResolvesAs}
 use Rattle.module_meaning.specs.ModuleShapes.{module_shape}
 use Rattle.module_meaning.specs.Shapes.{function_naming, outer_names, namings}
-use Rattle.module_meaning.specs.Spelled.{spelling_of}
 use Rattle.module_meaning.specs.TypeIdentity.{identity}
-use Rattle.module_meaning.specs.Types.{value_type, LocalsAreSpelled}
+use Rattle.module_meaning.specs.Types.{spelled_resolution, type_names, type_of_values}
 use Rattle.naga_form.specs.Literals.{LiteralsAreWritten}
 use Rattle.module_meaning.specs.OperatorTable.{Operator, TypeIsSound, asks, is_told, one_word}
 use Rattle.module_meaning.specs.OperatorTable.{operand_count, operator_word, run_word}
 use Rattle.naga_form.specs.Readable.{AreAlike, AreNamed, ResolutionIsWithin, handle_names, has_form}
 use Rattle.naga_form.specs.TypeTrees.{inner_tree, resolution_tree, type_tree}
+use Rattle.naga_form.specs.Types.{LocalsHaveForms}
 
 -- of an accepted module of the part that is written so far, and of what is written for it with the
 -- types of its `let`s told or not
@@ -93,14 +95,13 @@ BindsAsCounted =
     BindsAs m info explicit (written_program m info explicit)
 
 -- what is written of a function whose literals are all written so far, and the types of whose
--- locals are all spelled, is read as its shape is written, whatever is known of it
+-- locals all have forms, is read as its shape is written, whatever is known of it
 abbrev pub FunctionsAreRead : Type 0
 FunctionsAreRead =
-    (explicit : Bool) (names : NameMap) (types : List Type_) (g : ℕ) (f : Function)
-    (es : List ExpressionInfo) →
-    LiteralsAreWritten f.expressions → LocalsAreSpelled types f.local_variables →
-    function_read (function_form explicit names types g f es)
-    ≡ form_function (function_naming names types g f es)
+    (explicit : Bool) (m : Module) (g : ℕ) (f : Function) (es : List ExpressionInfo) →
+    LiteralsAreWritten f.expressions → LocalsHaveForms (type_names m) f.local_variables →
+    function_read (function_form explicit (module_names m) m g f es)
+    ≡ form_function (function_naming (module_names m) m g f es)
 
 -- what the program does is what the program of shapes says that is written for the module
 abbrev pub IsReadAsItsShapes : Type 0
@@ -120,28 +121,26 @@ ScopesAreChecked =
     IsTrue (is_written_so_far m info) →
     (IsTrue (scope_holds m info) ↔ ScopesHold m info)
 
--- the operators are typed consistently, so that some meaning gives each a value of its type
+-- The operators of every accepted module, written so far or not, are typed consistently, so that some
+-- meaning gives each a value of its type, where its structs, overrides and members are told apart by
+-- their names: what is spelled by a name is told by it.
 abbrev pub IsConsistent : Type 0
 IsConsistent =
-    (m : Module) (info : ModuleInfo) → IsTrue (is_accepted m info) →
-    IsTrue (is_written_so_far m info) → OperatorsAreConsistent m info
+    (m : Module) (info : ModuleInfo) → IsTrue (is_accepted m info) → ItemsAreTold m →
+    OperatorsAreConsistent m info
 
 abbrev pub HasAMeaning : Type 0
 HasAMeaning =
-    (m : Module) (info : ModuleInfo) → IsTrue (is_accepted m info) →
-    IsTrue (is_written_so_far m info) → HasTypedMeaning m info
-
--- the same of every accepted module, written so far or not, where its items are counted: what is
--- spelled by a name is told by it
-abbrev pub EveryIsConsistent : Type 0
-EveryIsConsistent =
-    (m : Module) (info : ModuleInfo) → IsTrue (is_accepted m info) → ItemsAreCounted m →
-    OperatorsAreConsistent m info
-
-abbrev pub EveryHasAMeaning : Type 0
-EveryHasAMeaning =
-    (m : Module) (info : ModuleInfo) → IsTrue (is_accepted m info) → ItemsAreCounted m →
+    (m : Module) (info : ModuleInfo) → IsTrue (is_accepted m info) → ItemsAreTold m →
     HasTypedMeaning m info
+
+-- names that are counted tell them apart, as those that a `reset` gives which succeeds
+abbrev pub CountedAreTold : Type 0
+CountedAreTold = (m : Module) → ItemsAreCounted m → ItemsAreTold m
+
+-- a module of the part that is written so far has none of them
+abbrev pub WrittenAreTold : Type 0
+WrittenAreTold = (m : Module) (info : ModuleInfo) → IsTrue (is_written_so_far m info) → ItemsAreTold m
 
 -- one world answers by the right types in every run of the module
 abbrev pub HasAWorld : Type 0
@@ -149,11 +148,12 @@ HasAWorld =
     (m : Module) (info : ModuleInfo) → IsTrue (is_accepted m info) →
     IsTrue (is_written_so_far m info) → HasTypedWorld m info
 
--- what holds of every accepted module, written so far or not, where its names are counted, it holds
--- nothing that no text is ever written for, and the rules of scope hold in it
+-- what holds of every accepted module, written so far or not, where its structs and overrides are told
+-- apart by their names, it holds nothing that no text is ever written for, and the rules of scope hold
+-- in it
 abbrev pub OfEveryWritable : (Module → ModuleInfo → Type 0) → Type 0
 OfEveryWritable Holds =
-    (m : Module) (info : ModuleInfo) → IsTrue (is_accepted m info) → NamesAreCounted m →
+    (m : Module) (info : ModuleInfo) → IsTrue (is_accepted m info) → TypesAreTold m →
     IsWritable m → ScopesHold m info → Holds m info
 
 -- one world answers by the right types
@@ -171,16 +171,18 @@ EveryIsNotStuck = OfEveryWritable NoRunIsStuck
 -- two types without a spelling have values of one type only where they are told by the same
 abbrev pub UnspelledAreTold : Type 0
 UnspelledAreTold =
-    (types : List Type_) (a b : TypeResolution) →
-    spelling_of types a ≡ None → spelling_of types b ≡ None →
-    value_type types a ≡ value_type types b → identity types a ≡ identity types b
+    (m : Module) (a b : TypeResolution) →
+    spelled_resolution (type_names m) a ≡ None → spelled_resolution (type_names m) b ≡ None →
+    type_of_values m a ≡ type_of_values m b → identity m.types a ≡ identity m.types b
 
--- and none has values of a type that is spelled
-abbrev pub SpelledAreTold : Type 0
-SpelledAreTold =
-    (types : List Type_) (a b : TypeResolution) (word : List ℕ) →
-    spelling_of types a ≡ Some word → spelling_of types b ≡ None →
-    value_type types a ≡ value_type types b → ⊥
+-- two types that an accepted module may know of its expressions have values of one type exactly where
+-- acceptance takes them for alike
+abbrev pub AlikeAreTold : Type 0
+AlikeAreTold =
+    (m : Module) (info : ModuleInfo) → IsTrue (is_accepted m info) → TypesAreTold m →
+    (a b : TypeResolution) → IsTrue (resolution_fits (length m.overrides) (length m.types) a) →
+    IsTrue (resolution_fits (length m.overrides) (length m.types) b) →
+    (type_of_values m a ≡ type_of_values m b) ↔ IsTrue (are_alike m.types a b)
 
 abbrev pub LiteralsAreTold : Type 0
 LiteralsAreTold = (a b : Literal) → literal_value a ≡ literal_value b → a ≡ b

@@ -6,7 +6,7 @@ use Rattle.naga_ir.specs.declared.expression.Literal.TheVariants as literal
 use Rattle.naga_ir.specs.declared.expression.Expression.{Expression}
 use Rattle.naga_ir.specs.declared.expression.Expression.TheVariants as expression
 use Rattle.std.specs.Option.{is_some, option_map_or}
-use Rattle.module_meaning.specs.Spelled.{literal_word}
+use Rattle.module_meaning.specs.Part.{is_written_literal}
 use Rattle.wgsl_text.specs.Token.{SuffixI, SuffixU, SuffixLi, SuffixLu}
 use Rattle.wgsl_text.specs.Literals.{Literal, Truth, Suffixed, LeastInteger, LeastLong}
 
@@ -32,7 +32,7 @@ literal_form _ = Truth false
 
 -- the expression is no literal, or one that is written so far
 abbrev pub literal_is_written : Expression → Bool
-literal_is_written (expression.Literal value) = is_some (literal_word value)
+literal_is_written (expression.Literal value) = is_written_literal value
 literal_is_written _ = true
 
 -- each literal among the expressions is one that is written so far

@@ -1,6 +1,8 @@
 -- Types as they are written.
-use Rattle.std.specs.Prelude.{ℕ, Bool, true, false, slice_get, List, [], Option, None, unwrap_or}
+use Rattle.std.specs.Prelude.{◌≡◌, ℕ, Bool, true, false, slice_get, List, [], Option, Some, None}
+use Rattle.std.specs.Prelude.{unwrap_or}
 use Rattle.std.specs.Option.{option_and_then}
+use Rattle.naga_ir.specs.declared.module.LocalVariable.{LocalVariable}
 use Rattle.naga_info.specs.declared.info.ExpressionInfo.{ExpressionInfo}
 use Rattle.naga_words.specs.Contexts.{Names as TypeNames}
 use Rattle.naga_form.specs.TypeTrees.{type_tree, resolution_tree}
@@ -15,3 +17,9 @@ abbrev pub told_type :
     (explicit : Bool) → TypeNames → List ExpressionInfo → ℕ → Option TypeSpecifier
 told_type true t es h = option_and_then (λ e. resolution_tree t e.ty) (slice_get es h)
 told_type false t es h = None
+
+-- the type of each local has a form
+abbrev pub LocalsHaveForms : TypeNames → List LocalVariable → Type 0
+LocalsHaveForms t locals =
+    (l : ℕ) (v : LocalVariable) → slice_get locals l ≡ Some v →
+    (tree : TypeSpecifier) × (type_tree t v.ty ≡ Some tree)

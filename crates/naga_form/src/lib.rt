@@ -7,10 +7,9 @@ pub mod types;
 ghost use Rattle.naga_form.specs.Laws.{IsAProgram, HasTheInterface, ResolvesAsMeant};
 ghost use Rattle.naga_form.specs.Laws.{BindsAsCounted, FunctionsAreRead, IsReadAsItsShapes};
 ghost use Rattle.naga_form.specs.Laws.{RunsAsTheModule, ScopesAreChecked, IsConsistent};
-ghost use Rattle.naga_form.specs.Laws.{EveryIsConsistent, EveryHasAMeaning};
-ghost use Rattle.naga_form.specs.Laws.{EveryHasAWorld, EveryIsNotStuck};
-ghost use Rattle.naga_form.specs.Laws.{HasAMeaning, HasAWorld, IsNotStuck, UnspelledAreTold};
-ghost use Rattle.naga_form.specs.Laws.{SpelledAreTold, LiteralsAreTold, WordsAreTold, WordsAreKept};
+ghost use Rattle.naga_form.specs.Laws.{HasAMeaning, CountedAreTold, WrittenAreTold, HasAWorld};
+ghost use Rattle.naga_form.specs.Laws.{EveryHasAWorld, IsNotStuck, EveryIsNotStuck, AlikeAreTold};
+ghost use Rattle.naga_form.specs.Laws.{UnspelledAreTold, LiteralsAreTold, WordsAreTold, WordsAreKept};
 ghost use Rattle.naga_form.specs.Laws.{OperandsAreTold, RequestsAreTold};
 
 /// The program that is written for an accepted module is one of the grammar, so that its text has
@@ -37,7 +36,7 @@ pub fn binds_as_counted()
 {}
 
 /// What is written of a function whose literals are all written so far, and the types of whose
-/// locals are all spelled, is read as its shape is written, whatever is known of it.
+/// locals all have forms, is read as its shape is written, whatever is known of it.
 pub fn functions_are_read()
     ensures { FunctionsAreRead }
 {}
@@ -59,19 +58,21 @@ pub fn scopes_are_checked()
     ensures { ScopesAreChecked }
 {}
 
-/// The operators of an accepted module are typed consistently, so that some meaning gives each a
-/// value of its handle's type: of every accepted module whose items are counted, and of one of the
-/// part that is written so far in any case.
+/// The operators of every accepted module, written so far or not, are typed consistently, so that
+/// some meaning gives each a value of its handle's type, where its structs, overrides and members
+/// are told apart by their names. They are where names are counted, as in each module that gets
+/// names, and in a module of the part that is written so far, which has none of them.
 pub fn has_a_typed_meaning()
     ensures consistent { IsConsistent }
     ensures meaning { HasAMeaning }
-    ensures every_consistent { EveryIsConsistent }
-    ensures every_meaning { EveryHasAMeaning }
+    ensures counted { CountedAreTold }
+    ensures written { WrittenAreTold }
 {}
 
 /// For each such meaning, one world answers by the right types in every run of the module: of a
-/// module of the part that is written so far, and of every accepted module whose names are counted,
-/// in which the rules of scope hold, and that holds nothing that no text is ever written for.
+/// module of the part that is written so far, and of every accepted module whose structs and
+/// overrides are told apart by their names, in which the rules of scope hold, and that holds nothing
+/// that no text is ever written for.
 pub fn has_a_typed_world()
     ensures written { HasAWorld }
     ensures every { EveryHasAWorld }
@@ -79,19 +80,19 @@ pub fn has_a_typed_world()
 
 /// No run of an accepted module is stuck, nor one of its program in a world that keeps the types,
 /// where the rules of scope hold in the module and it is of the part that is written so far. Nor is
-/// one of any other such module, whose names are counted and that holds nothing that no text is ever
-/// written for.
+/// one of any other such module, whose structs and overrides are told apart by their names and that
+/// holds nothing that no text is ever written for.
 pub fn is_never_stuck()
     ensures written { IsNotStuck }
     ensures every { EveryIsNotStuck }
 {}
 
-/// Two types that no text spells so far have values of one type only where they are told by the
-/// same, a struct by its handle and any other type by what it is, and never of a type that is
-/// spelled.
+/// Two types of an accepted module have values of one type exactly where acceptance takes them for
+/// alike. In any module, two types that no text spells have values of one type only where they are
+/// told by the same, a struct by its handle and any other type by what it is.
 pub fn tells_types_apart()
+    ensures alike { AlikeAreTold }
     ensures unspelled { UnspelledAreTold }
-    ensures spelled { SpelledAreTold }
 {}
 
 /// Different literals have different values.

@@ -10,7 +10,7 @@ use Rattle.std.proofs.lemmas.Grind.{get_or-set_at}
 use Rattle.std.proofs.lemmas.Option.{slice_get-map, slice_get_past}
 use Rattle.module_meaning.specs.Part.{names_nothing}
 use Rattle.naga_ir.specs.declared.module.Function as ir_function
-use Rattle.naga_ir.specs.declared.types.Type_.{Type_}
+use Rattle.naga_ir.specs.declared.module.Module.{Module}
 use Rattle.naga_info.specs.declared.info.ExpressionInfo.{ExpressionInfo}
 use Rattle.naga_names.specs.Keys.{NameMap}
 use Rattle.shader_runs.specs.World.{update}
@@ -67,9 +67,9 @@ pub no_and : (a b : Bool) → false ≡ (a && (false && b))
 no_and true b = refl
 no_and false b = refl
 
-module _ (types : List Type_) (f : ir_function.Function) (es : List ExpressionInfo) where
+module _ (m : Module) (f : ir_function.Function) (es : List ExpressionInfo) where
   abbrev of : Function
-  of = function_shape types f es
+  of = function_shape m f es
 
   -- it isn't, where it isn't new
   pub refused_old : (h : ℕ) (s : Handles) → is_new (s h) ≡ false → false ≡ may_emit of h s
@@ -88,12 +88,12 @@ module _ (types : List Type_) (f : ir_function.Function) (es : List ExpressionIn
       let at = sym (slice_get-map expression_shape f.expressions h) in
       λ i. sym new i && (sym (ap is_emittable (sym at) ∙ kind) i && (not (bound i) || (operands ∙ ap (λ e. usable_all of s (operands_of e)) at) i))
 
-module _ (names : NameMap) (types : List Type_) (g : ℕ) (f : ir_function.Function) (es : List ExpressionInfo) (unnamed : IsTrue (names_nothing f)) where
+module _ (names : NameMap) (m : Module) (g : ℕ) (f : ir_function.Function) (es : List ExpressionInfo) (unnamed : IsTrue (names_nothing f)) where
   abbrev own : Naming
-  own = function_naming names types g f es
+  own = function_naming names m g f es
 
   abbrev shape : Function
-  shape = function_shape types f es
+  shape = function_shape m f es
 
   -- an Emit of a handle gives it the cell that stands behind one
   pub emitted_is : (h : ℕ) (table : List Standing) (cell : Standing) → h < length table →
@@ -111,7 +111,7 @@ module _ (names : NameMap) (types : List Type_) (g : ℕ) (f : ir_function.Funct
       ap (λ c. handles_of (slice_set table h c)) is
       ∙ cell_emitted b (is_pure found) (usable_all shape s (operands_of found)) table h lt
       ∙ ap by at
-      ∙ ap (λ given. with_emitted_handle b (is_pure (expression_of shape h)) (usable_all shape s (operands_of (expression_of shape h))) (cond given [] (numbered_name h)) s h) (sym (none_is_given types f es unnamed h))
+      ∙ ap (λ given. with_emitted_handle b (is_pure (expression_of shape h)) (usable_all shape s (operands_of (expression_of shape h))) (cond given [] (numbered_name h)) s h) (sym (none_is_given m f es unnamed h))
 
   -- an Emit of a handle past the expressions changes nothing
   pub past_emitted : (k h : ℕ) (table : List Standing) → length table ≤ h → length table ≡ length f.expressions → handles_of table ≡ after_one own k h (handles_of table)
@@ -123,7 +123,7 @@ module _ (names : NameMap) (types : List Type_) (g : ℕ) (f : ir_function.Funct
 
   -- ---- the handles of a range in turn
   given_same : (h k : ℕ) → given_after shape h k ≡ k
-  given_same h k = ap (λ b. cond b (suc k) k) (none_is_given types f es unnamed h)
+  given_same h k = ap (λ b. cond b (suc k) k) (none_is_given m f es unnamed h)
 
   pub range_holds : (k i e : ℕ) (s s1 : Handles) → i < e → may_emit shape i s ≡ true → s1 ≡ after_one own k i s → may_emit_all own k (from (i + 1) (e - (i + 1))) s1 ≡ may_emit_all own k (from i (e - i)) s
   range_holds k i e s s1 lt may next =

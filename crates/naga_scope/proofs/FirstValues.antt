@@ -12,7 +12,7 @@ use Rattle.naga_ir.specs.declared.expression.Expression as ir
 use Rattle.naga_ir.specs.declared.expression.Expression.TheVariants as expression
 use Rattle.naga_ir.specs.declared.module.Function as ir_function
 use Rattle.naga_ir.specs.declared.module.LocalVariable.{LocalVariable}
-use Rattle.naga_ir.specs.declared.types.Type_.{Type_}
+use Rattle.naga_ir.specs.declared.module.Module.{Module}
 use Rattle.naga_info.specs.declared.info.ExpressionInfo.{ExpressionInfo}
 use Rattle.shader_runs.specs.Program.{Function, local_count}
 use Rattle.shader_runs.specs.Scope.{Standing, Handles, usable_as, usable_if, at_start, before_local}
@@ -47,9 +47,9 @@ and_true : (b : Bool) → (b && true) ≡ b
 and_true true = refl
 and_true false = refl
 
-module _ (types : List Type_) (f : ir_function.Function) (es : List ExpressionInfo) (i : ℕ) where
+module _ (m : Module) (f : ir_function.Function) (es : List ExpressionInfo) (i : ℕ) where
   abbrev shape : Function
-  shape = function_shape types f es
+  shape = function_shape m f es
 
   fewer : local_count (before_local shape i) ≡ min i (local_count shape)
   fewer = length-take i shape.first_values

@@ -6,17 +6,15 @@ use Rattle.std.specs.Prelude.{IsTrue}
 use Rattle.std.specs.List.{enumerate_from}
 use Rattle.std.proofs.lemmas.Bool.{and_parts, and_from}
 use Rattle.std.proofs.lemmas.List.{drop_all}
-use Rattle.module_meaning.specs.Part.{names_nothing}
+use Rattle.module_meaning.specs.Part.{block_is_written, names_nothing, statement_is_written}
 use Rattle.naga_ir.specs.StatementTree.{StatementTree, simple, BlockTree, no_statements, statement}
 use Rattle.naga_ir.specs.StatementViews.{tree_of, block_of}
 use Rattle.naga_ir.specs.declared.module.Function as ir_function
-use Rattle.naga_ir.specs.declared.module.FunctionResult.{FunctionResult}
 use Rattle.naga_ir.specs.declared.module.LocalVariable.{LocalVariable}
 use Rattle.naga_ir.specs.declared.statement.Range.{Range}
 use Rattle.naga_ir.specs.declared.statement.Statement.{Statement}
 use Rattle.naga_ir.specs.declared.statement.Statement.TheVariants as statement_variant
-use Rattle.naga_ir.specs.declared.types.Type_.{Type_}
-use Rattle.module_meaning.specs.FitsSoFar.{statement_fits, block_fits}
+use Rattle.naga_ir.specs.declared.module.Module.{Module}
 use Rattle.naga_info.specs.declared.info.ExpressionInfo.{ExpressionInfo}
 use Rattle.module_meaning.proofs.Fitting.{drop_first}
 use Rattle.naga_names.specs.Keys.{NameMap}
@@ -33,16 +31,16 @@ first_values_listed n [] = refl
 first_values_listed n (l ∷ ls) = ap (λ os. l.init ∷ os) (first_values_listed (n + 1) ls)
 
 -- ---- statements
--- no statement that is accepted so far holds a block
-pub accepted_flat : (types : List Type_) (es : List ExpressionInfo) (answer : Option FunctionResult) (b : BlockTree) → block_fits types es answer b ≡ true → IsTrue (is_flat b)
-accepted_flat types es answer no_statements fit = refl
-accepted_flat types es answer (statement st b) fit =
-    let parts = and_parts (statement_fits types es answer st) (block_fits types es answer b) fit in
-    and_from (holds_no_block st) (is_flat b) (by st parts.0) (accepted_flat types es answer b parts.1)
+-- no statement that is written so far holds a block
+pub written_flat : (b : BlockTree) → block_is_written b ≡ true → IsTrue (is_flat b)
+written_flat no_statements is = refl
+written_flat (statement st b) is =
+    let parts = and_parts (statement_is_written st) (block_is_written b) is in
+    and_from (holds_no_block st) (is_flat b) (by st parts.0) (written_flat b parts.1)
   where
-    by : (st : StatementTree) → statement_fits types es answer st ≡ true → IsTrue (holds_no_block st)
-    by (simple s) fit = refl
-    by _ fit = absurd (cc)
+    by : (st : StatementTree) → statement_is_written st ≡ true → IsTrue (holds_no_block st)
+    by (simple s) is = refl
+    by _ is = absurd (cc)
 
 -- each statement of such a body
 pub flat_at : (items : List Statement) (i : ℕ) (x : Statement) → i < length items → x ≡ slice_index_or items i x → IsTrue (is_flat (block_of items)) → IsTrue (holds_no_block (tree_of x))
@@ -63,17 +61,17 @@ others_hold n (statement_variant.Switch x cs) flat emits stores returns k s = ab
 others_hold n (statement_variant.Loop b c x) flat emits stores returns k s = absurd (cc)
 others_hold n _ flat emits stores returns k s = (refl, refl)
 
-module _ (names : NameMap) (types : List Type_) (g : ℕ) (f : ir_function.Function) (es : List ExpressionInfo) (unnamed : IsTrue (names_nothing f)) where
+module _ (names : NameMap) (m : Module) (g : ℕ) (f : ir_function.Function) (es : List ExpressionInfo) (unnamed : IsTrue (names_nothing f)) where
   abbrev own : Naming
-  own = function_naming names types g f es
+  own = function_naming names m g f es
 
   abbrev shape : Function
-  shape = function_shape types f es
+  shape = function_shape m f es
 
   lines_more : (i : ℕ) (items : List Statement) (x : Statement) (s : Handles) → i < length items → x ≡ slice_index_or items i x → fits_all own 0 (statements_shape (block_of (drop i items))) s ≡ (fits own 0 (statement_shape (tree_of x)) s && fits_all own 0 (statements_shape (block_of (drop (i + 1) items))) (after own 0 (statement_shape (tree_of x)) s))
   lines_more i items x s lt is =
       ap (λ xs. fits_all own 0 (statements_shape (block_of xs)) s) (drop_first i items x lt ∙ ap (λ y. y ∷ drop (i + 1) items) (sym is))
-      ∙ ap (λ k. fits own 0 (statement_shape (tree_of x)) s && fits_all own k (statements_shape (block_of (drop (i + 1) items))) (after own 0 (statement_shape (tree_of x)) s)) (none_given_by types f es unnamed (tree_of x) 0)
+      ∙ ap (λ k. fits own 0 (statement_shape (tree_of x)) s && fits_all own k (statements_shape (block_of (drop (i + 1) items))) (after own 0 (statement_shape (tree_of x)) s)) (none_given_by m f es unnamed (tree_of x) 0)
 
   pub lines_hold : (i : ℕ) (items : List Statement) (x : Statement) (s s1 : Handles) → i < length items → x ≡ slice_index_or items i x → fits own 0 (statement_shape (tree_of x)) s ≡ true → s1 ≡ after own 0 (statement_shape (tree_of x)) s → fits_all own 0 (statements_shape (block_of (drop (i + 1) items))) s1 ≡ fits_all own 0 (statements_shape (block_of (drop i items))) s
   lines_hold i items x s s1 lt is fit next =

@@ -3,7 +3,6 @@ use Rattle.std.proofs.Common.{◌≡◌, ℕ, zero, suc, List, [], ◌∷◌, No
 use Rattle.std.specs.Prelude.{IsSomeAnd, IsTrue, ◌↔◌, slice_get}
 use Rattle.naga_ir.specs.declared.module.Function as ir_function
 use Rattle.naga_ir.specs.declared.module.Module.{Module}
-use Rattle.naga_ir.specs.declared.types.Type_.{Type_}
 use Rattle.naga_info.specs.declared.info.ExpressionInfo.{ExpressionInfo}
 use Rattle.naga_info.specs.declared.info.ModuleInfo.{ModuleInfo}
 use Rattle.shader_runs.specs.Program.{operands_of}
@@ -18,33 +17,33 @@ use Rattle.naga_scope.specs.Plans.{IsPlan, IsPlanOf}
 use Rattle.naga_scope.specs.declared.points.Standing.{Standing}
 
 -- the check of a function decides whether the rules of scope hold in it
-pub check_is_the_rules : (types : List Type_) (f : ir_function.Function) (es : List ExpressionInfo) →
+pub check_is_the_rules : (m : Module) (f : ir_function.Function) (es : List ExpressionInfo) →
     OperandsStandBefore f.expressions →
-    (IsTrue (fits_function (function_naming (λ key. None) types 0 f es))
-    ↔ ScopeHolds (function_shape types f es))
-check_is_the_rules types f es ordered =
-    scope_check_is_the_rules (function_naming (λ key. None) types 0 f es)
-    (λ h. at_any types f es h (λ o. AllBelow h (operands_of o)) tt (ordered h))
+    (IsTrue (fits_function (function_naming (λ key. None) m 0 f es))
+    ↔ ScopeHolds (function_shape m f es))
+check_is_the_rules m f es ordered =
+    scope_check_is_the_rules (function_naming (λ key. None) m 0 f es)
+    (λ h. at_any m f es h (λ o. AllBelow h (operands_of o)) tt (ordered h))
 
 -- a function that there is, with what is known of it, has a shape
-pub shape_found : (types : List Type_) (fs : List ir_function.Function)
+pub shape_found : (m : Module) (fs : List ir_function.Function)
     (ess : List (List ExpressionInfo)) (g : ℕ) (f : ir_function.Function)
     (es : List ExpressionInfo) → slice_get fs g ≡ Some f → slice_get ess g ≡ Some es →
-    slice_get (function_shapes types fs ess) g ≡ Some (function_shape types f es)
-shape_found types [] ess g f es at known = absurd cc
-shape_found types (x ∷ fs) [] g f es at known = absurd cc
-shape_found types (x ∷ fs) (y ∷ ess) zero f es at known =
+    slice_get (function_shapes m fs ess) g ≡ Some (function_shape m f es)
+shape_found m [] ess g f es at known = absurd cc
+shape_found m (x ∷ fs) [] g f es at known = absurd cc
+shape_found m (x ∷ fs) (y ∷ ess) zero f es at known =
     let same : x ≡ f = cc in
     let alike : y ≡ es = cc in
-    λ i. Some (function_shape types (same i) (alike i))
-shape_found types (x ∷ fs) (y ∷ ess) (suc g) f es at known =
-    shape_found types fs ess g f es at known
+    λ i. Some (function_shape m (same i) (alike i))
+shape_found m (x ∷ fs) (y ∷ ess) (suc g) f es at known =
+    shape_found m fs ess g f es at known
 
 -- a plan of a function that there is
 pub plan_found : (m : Module) (info : ModuleInfo) (g : ℕ) (f : ir_function.Function)
     (es : List ExpressionInfo) (table : List Standing) → slice_get m.functions g ≡ Some f →
     slice_get info.functions.items g ≡ Some es → IsPlanOf m info g table →
-    IsPlan (function_shape m.types f es) table
+    IsPlan (function_shape m f es) table
 plan_found m info g f es table at known plan =
-    let found = shape_found m.types m.functions info.functions.items g f es at known in
+    let found = shape_found m m.functions info.functions.items g f es at known in
     subst (λ o. IsSomeAnd o (λ s. IsPlan s table)) found plan

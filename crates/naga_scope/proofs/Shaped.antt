@@ -8,7 +8,7 @@ use Rattle.module_meaning.specs.Part.{names_nothing}
 use Rattle.naga_ir.specs.declared.expression.Expression as ir
 use Rattle.naga_ir.specs.declared.expression.Expression.TheVariants as expression
 use Rattle.naga_ir.specs.declared.module.Function as ir_function
-use Rattle.naga_ir.specs.declared.types.Type_.{Type_}
+use Rattle.naga_ir.specs.declared.module.Module.{Module}
 use Rattle.naga_info.specs.declared.info.ExpressionInfo.{ExpressionInfo}
 use Rattle.naga_back.specs.Baking.{count_to_bind}
 use Rattle.shader_runs.specs.Program.{Expression, Load, Operator, Access, AccessIndex, Logical}
@@ -49,16 +49,16 @@ applied_count e is = by e (operator_of e) refl is
     by e (Some op) at is = sym (ap (λ o. option_map_or (λ op. count_to_bind e) o 2) at) ∙ each e
     by e None at is = absurd cc
 
-module _ (types : List Type_) (f : ir_function.Function) (es : List ExpressionInfo) (h : ℕ) (unnamed : IsTrue (names_nothing f)) where
+module _ (m : Module) (f : ir_function.Function) (es : List ExpressionInfo) (h : ℕ) (unnamed : IsTrue (names_nothing f)) where
   abbrev shape : Function
-  shape = function_shape types f es
+  shape = function_shape m f es
 
   -- how often the handle is used
   abbrev count : ℕ
   count = get_or (map (λ e. e.ref_count) es) h 0
 
   counted_from : (least : ℕ) → is_counted shape least h ≡ nat_le least count
-  counted_from least = ap (λ b. b || nat_le least count) (none_is_given types f es unnamed h)
+  counted_from least = ap (λ b. b || nat_le least count) (none_is_given m f es unnamed h)
 
   shape_of : (o : Option ir.Expression) → slice_get f.expressions h ≡ o → expression_of shape h ≡ option_map expression_shape o
   shape_of o at = slice_get-map expression_shape f.expressions h ∙ ap (option_map expression_shape) at

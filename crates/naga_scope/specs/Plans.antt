@@ -18,7 +18,7 @@ use Rattle.naga_scope.specs.declared.points.Standing.{Standing}
 -- the shape of the function with this handle, if there is one
 abbrev pub function_shape_at : Module → ModuleInfo → (handle : ℕ) → Option Function
 function_shape_at m info handle =
-    slice_get (function_shapes m.types m.functions info.functions.items) handle
+    slice_get (function_shapes m m.functions info.functions.items) handle
 
 -- the rules of scope hold in it, if there is one
 abbrev pub ScopeHoldsIn : Module → ModuleInfo → (handle : ℕ) → Type 0

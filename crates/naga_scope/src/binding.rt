@@ -6,7 +6,7 @@ ghost use Rattle.std.specs.Option.{option_map};
 ghost use Rattle.module_meaning.specs.Part.{names_nothing};
 ghost use Rattle.module_meaning.specs.ShapeKinds.{shape_kind};
 ghost use Rattle.module_meaning.specs.Shapes.{expression_shape, function_shape};
-ghost use Rattle.naga_ir.specs.declared.types.Type_.{Type_};
+ghost use Rattle.naga_ir.specs.declared.module.Module.{Module};
 ghost use Rattle.shader_runs.specs.Program.{binds};
 ghost use Rattle.shader_runs.specs.Scope.{is_emittable};
 
@@ -67,8 +67,8 @@ pub(crate) fn is_emittable(expression: Option<&Expression>) -> bool
 /// or an operator with two. It is for functions in which no front end named an expression.
 pub fn binds(function: &Function, info: &FunctionInfo, handle: Handle<Expression>) -> bool
     requires unnamed { IsTrue (names_nothing function.now) }
-    ensures { (types : List Type_) →
-        result ≡ binds (function_shape types function.now info.now) handle }
+    ensures { (m : Module) →
+        result ≡ binds (function_shape m function.now info.now) handle }
 {
     match expression_at(function, handle) {
         Some(expression) => {

@@ -5,7 +5,7 @@ ghost use Rattle.module_meaning.specs.Part.{names_nothing};
 ghost use Rattle.module_meaning.specs.Shapes.{function_shape, function_naming, statement_shape};
 ghost use Rattle.naga_info.specs.declared.info.ExpressionInfo.{ExpressionInfo};
 ghost use Rattle.naga_ir.specs.StatementViews.{tree_of};
-ghost use Rattle.naga_ir.specs.declared.types.Type_.{Type_};
+ghost use Rattle.naga_ir.specs.declared.module.Module.{Module};
 ghost use Rattle.naga_names.specs.Keys.{NameMap};
 ghost use Rattle.shader_runs.specs.Program.{from};
 ghost use Rattle.shader_runs.specs.Scope.{after, after_emit, at_start, before_local};
@@ -21,8 +21,8 @@ use naga_ir::{Expression, Function, Handle, LocalVariable, Place, Range, Stateme
 
 /// Whether the expression, if there is one, may be written at this point.
 fn is_usable_if(scope: &Scope, function: &Function, handle: Option<Handle<Expression>>) -> bool
-    ensures { (types : List Type_) (es : List ExpressionInfo) →
-        result ≡ usable_if (function_shape types function.now es) (handles_of scope.now) handle }
+    ensures { (m : Module) (es : List ExpressionInfo) →
+        result ≡ usable_if (function_shape m function.now es) (handles_of scope.now) handle }
 {
     match handle {
         Some(handle) => scope.is_usable(function, handle),
@@ -54,8 +54,8 @@ fn first_value_holds(
     handle: Handle<LocalVariable>,
     local: &LocalVariable,
 ) -> bool
-    ensures { (types : List Type_) (es : List ExpressionInfo) →
-        let shape = function_shape types function.now es in
+    ensures { (m : Module) (es : List ExpressionInfo) →
+        let shape = function_shape m function.now es in
         result ≡ usable_if (before_local shape handle) (handles_of scope.now) local.now.init }
 {
     is_usable_if(scope, function, local.init) && is_earlier(function, local.init, handle)
@@ -63,8 +63,8 @@ fn first_value_holds(
 
 /// Whether the first value of each local is in scope where it stands, at the start of the function.
 fn first_values_hold(scope: &Scope, function: &Function) -> bool
-    ensures { (types : List Type_) (es : List ExpressionInfo) →
-        let shape = function_shape types function.now es in
+    ensures { (m : Module) (es : List ExpressionInfo) →
+        let shape = function_shape m function.now es in
         handles_of scope.now ≡ at_start shape → result ≡ first_values_fit shape 0 shape.first_values }
 {
     for (handle, local) in function.local_variables.iter() {
@@ -80,12 +80,12 @@ fn first_values_hold(scope: &Scope, function: &Function) -> bool
 fn emit_holds(scope: &mut Scope, function: &Function, info: &FunctionInfo, range: Range) -> bool
     requires unnamed { IsTrue (names_nothing function.now) }
     requires size { length scope.old ≡ length function.now.expressions }
-    ensures fits { (names : NameMap) (types : List Type_) (g k : ℕ) →
-        let n = function_naming names types g function.now info.now in
+    ensures fits { (names : NameMap) (m : Module) (g k : ℕ) →
+        let n = function_naming names m g function.now info.now in
         result
         ≡ may_emit_all n k (from range.first (range.end - range.first)) (handles_of scope.old) }
-    ensures after { (names : NameMap) (types : List Type_) (g k : ℕ) → IsTrue result →
-        let n = function_naming names types g function.now info.now in
+    ensures after { (names : NameMap) (m : Module) (g k : ℕ) → IsTrue result →
+        let n = function_naming names m g function.now info.now in
         handles_of scope.new
         ≡ after_emit n k (from range.first (range.end - range.first)) (handles_of scope.old) }
     ensures size { length scope.new ≡ length scope.old }
@@ -111,11 +111,11 @@ fn statement_holds(
     requires flat { IsTrue (holds_no_block (tree_of statement.now)) }
     requires unnamed { IsTrue (names_nothing function.now) }
     requires size { length scope.old ≡ length function.now.expressions }
-    ensures fits { (names : NameMap) (types : List Type_) (g k : ℕ) →
-        let n = function_naming names types g function.now info.now in
+    ensures fits { (names : NameMap) (m : Module) (g k : ℕ) →
+        let n = function_naming names m g function.now info.now in
         result ≡ fits n k (statement_shape (tree_of statement.now)) (handles_of scope.old) }
-    ensures after { (names : NameMap) (types : List Type_) (g k : ℕ) → IsTrue result →
-        let n = function_naming names types g function.now info.now in
+    ensures after { (names : NameMap) (m : Module) (g k : ℕ) → IsTrue result →
+        let n = function_naming names m g function.now info.now in
         handles_of scope.new
         ≡ after n k (statement_shape (tree_of statement.now)) (handles_of scope.old) }
     ensures size { length scope.new ≡ length scope.old }
@@ -135,11 +135,11 @@ fn statement_holds(
 pub(crate) fn function_holds(scope: &mut Scope, function: &Function, info: &FunctionInfo) -> bool
     requires flat { IsTrue (is_flat function.now.body) }
     requires unnamed { IsTrue (names_nothing function.now) }
-    requires start { (types : List Type_) →
-        handles_of scope.old ≡ at_start (function_shape types function.now info.now) }
+    requires start { (m : Module) →
+        handles_of scope.old ≡ at_start (function_shape m function.now info.now) }
     requires size { length scope.old ≡ length function.now.expressions }
-    ensures scope { (names : NameMap) (types : List Type_) (g : ℕ) →
-        result ≡ fits_function (function_naming names types g function.now info.now) }
+    ensures scope { (names : NameMap) (m : Module) (g : ℕ) →
+        result ≡ fits_function (function_naming names m g function.now info.now) }
     ensures size { length scope.new ≡ length scope.old }
 {
     if !first_values_hold(scope, function) {

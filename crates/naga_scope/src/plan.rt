@@ -4,7 +4,7 @@ ghost use Rattle.std.specs.Prelude.{◌≡◌, ◌<◌, List, IfErr, IfOk, IsTru
 ghost use Rattle.module_meaning.specs.Accepted.{is_accepted};
 ghost use Rattle.module_meaning.specs.Part.{is_written_so_far, names_nothing};
 ghost use Rattle.module_meaning.specs.Shapes.{function_shape, OperandsStandBefore};
-ghost use Rattle.naga_ir.specs.declared.types.Type_.{Type_};
+ghost use Rattle.naga_ir.specs.declared.module.Module.{Module};
 ghost use Rattle.naga_scope.specs.Flat.{is_flat};
 ghost use Rattle.naga_scope.specs.Plans.{IsPlan, IsPlanOf, IsRefusalToPlan, IsRefusalToPlanOf};
 ghost use Rattle.naga_scope.specs.declared.plan.PlanError.TheVariants.{Memory};
@@ -84,10 +84,10 @@ impl Plan {
         requires ordered { OperandsStandBefore function.now.expressions }
         requires flat { IsTrue (is_flat function.now.body) }
         requires unnamed { IsTrue (names_nothing function.now) }
-        ensures ok { (types : List Type_) →
-            IfOk result (IsPlan (function_shape types function.now info.now)) }
-        ensures err { (types : List Type_) →
-            IfErr result (IsRefusalToPlan (function_shape types function.now info.now)) }
+        ensures ok { (m : Module) →
+            IfOk result (IsPlan (function_shape m function.now info.now)) }
+        ensures err { (m : Module) →
+            IfErr result (IsRefusalToPlan (function_shape m function.now info.now)) }
     {
         let mut scope = Scope::start(alloc, function)?;
         if !function_holds(&mut scope, function, info) {

@@ -8,7 +8,7 @@ ghost use Rattle.module_meaning.specs.Shapes.{expression_shape, function_shape};
 ghost use Rattle.module_meaning.specs.Shapes.{function_naming, OperandsStandBefore};
 ghost use Rattle.naga_info.specs.declared.info.ExpressionInfo.{ExpressionInfo};
 ghost use Rattle.naga_ir.specs.Operands.{expression_operands};
-ghost use Rattle.naga_ir.specs.declared.types.Type_.{Type_};
+ghost use Rattle.naga_ir.specs.declared.module.Module.{Module};
 ghost use Rattle.naga_names.specs.Keys.{NameMap};
 ghost use Rattle.shader_runs.specs.Program.{binds, operands_of};
 ghost use Rattle.shader_runs.specs.Scope.{all_constant, at_start, after_one, is_constant_leaf};
@@ -160,8 +160,8 @@ impl Scope {
     /// in scope everywhere, and all others are absent.
     pub fn start(alloc: Global, function: &Function) -> Result<Scope, AllocError>
         requires ordered { OperandsStandBefore function.now.expressions }
-        ensures start { (types : List Type_) (es : List ExpressionInfo) →
-            IfOk result (λ s. handles_of s ≡ at_start (function_shape types function.now es)) }
+        ensures start { (m : Module) (es : List ExpressionInfo) →
+            IfOk result (λ s. handles_of s ≡ at_start (function_shape m function.now es)) }
         ensures size { IfOk result (λ s. length s ≡ length function.now.expressions) }
         ensures counted { IfOk result
             (λ _. IsTrue (nat_le (length function.now.expressions) (2 ^ 64))) }
@@ -176,8 +176,8 @@ impl Scope {
     pub fn restart(&mut self, function: &Function)
         requires ordered { OperandsStandBefore function.now.expressions }
         requires size { length self.old ≡ length function.now.expressions }
-        ensures start { (types : List Type_) (es : List ExpressionInfo) →
-            handles_of self.new ≡ at_start (function_shape types function.now es) }
+        ensures start { (m : Module) (es : List ExpressionInfo) →
+            handles_of self.new ≡ at_start (function_shape m function.now es) }
         ensures size { length self.new ≡ length self.old }
     {
         for index in 0..function.expressions.len() {
@@ -197,8 +197,8 @@ impl Scope {
     /// Whether the expression with this handle is in scope here. A literal, and an argument or a
     /// local that there is, is so everywhere.
     pub fn is_usable(&self, function: &Function, handle: Handle<Expression>) -> bool
-        ensures { (types : List Type_) (es : List ExpressionInfo) →
-            result ≡ usable (function_shape types function.now es) (handles_of self.now) handle }
+        ensures { (m : Module) (es : List ExpressionInfo) →
+            result ≡ usable (function_shape m function.now es) (handles_of self.now) handle }
     {
         match expression_at(function, handle) {
             Some(expression) => match expression {
@@ -215,8 +215,8 @@ impl Scope {
 
     /// Whether each operand of the expression is in scope here.
     fn are_usable(&self, function: &Function, expression: &Expression) -> bool
-        ensures { (types : List Type_) (es : List ExpressionInfo) →
-            result ≡ usable_all (function_shape types function.now es) (handles_of self.now)
+        ensures { (m : Module) (es : List ExpressionInfo) →
+            result ≡ usable_all (function_shape m function.now es) (handles_of self.now)
             (expression_operands expression.now) }
     {
         for operand in expression.operands() {
@@ -229,8 +229,8 @@ impl Scope {
 
     /// Whether each operand of what the expression evaluates is in scope here.
     fn has_operands(&self, function: &Function, expression: Option<&Expression>) -> bool
-        ensures { (types : List Type_) (es : List ExpressionInfo) →
-            result ≡ usable_all (function_shape types function.now es) (handles_of self.now)
+        ensures { (m : Module) (es : List ExpressionInfo) →
+            result ≡ usable_all (function_shape m function.now es) (handles_of self.now)
             (operands_of (option_map (λ e. expression_shape e.now) expression.entry)) }
     {
         match expression {
@@ -251,8 +251,8 @@ impl Scope {
         handle: Handle<Expression>,
     ) -> bool
         requires unnamed { IsTrue (names_nothing function.now) }
-        ensures { (types : List Type_) →
-            result ≡ may_emit (function_shape types function.now info.now) handle
+        ensures { (m : Module) →
+            result ≡ may_emit (function_shape m function.now info.now) handle
             (handles_of self.now) }
     {
         let expression = expression_at(function, handle);
@@ -270,8 +270,8 @@ impl Scope {
         handle: Handle<Expression>,
     ) -> Standing
         requires unnamed { IsTrue (names_nothing function.now) }
-        ensures { (types : List Type_) →
-            let shape = function_shape types function.now info.now in
+        ensures { (m : Module) →
+            let shape = function_shape m function.now info.now in
             let evaluated = shape_at function.now.expressions handle in
             result ≡ emitted_standing (binds shape handle) (is_pure evaluated)
             (usable_all shape (handles_of self.now) (operands_of evaluated))
@@ -296,9 +296,9 @@ impl Scope {
     pub fn emit(&mut self, function: &Function, info: &FunctionInfo, handle: Handle<Expression>)
         requires unnamed { IsTrue (names_nothing function.now) }
         requires size { length self.old ≡ length function.now.expressions }
-        ensures handles { (names : NameMap) (types : List Type_) (g k : ℕ) →
+        ensures handles { (names : NameMap) (m : Module) (g k : ℕ) →
             handles_of self.new ≡
-            after_one (function_naming names types g function.now info.now) k handle
+            after_one (function_naming names m g function.now info.now) k handle
             (handles_of self.old) }
         ensures size { length self.new ≡ length self.old }
     {

@@ -1,21 +1,28 @@
 -- Each function of a module that is accepted and written so far can be written; and the texts of
 -- its parts, from what is written of them in turn.
 use Rattle.std.proofs.Common.{◌≡◌, ℕ, ◌+◌, ◌<◌, ◌≤◌, ◌==◌, zero, suc, add-one, arith, ne_eqb}
-use Rattle.std.proofs.Common.{true, false, Option, None, Some, refl, sym, ap, subst, ◌∙◌, codes}
+use Rattle.std.proofs.Common.{false, Option, None, Some, refl, sym, ap, subst, ◌∙◌, codes}
 use Rattle.std.proofs.Common.{List, [], ◌∷◌, ◌++◌, append_assoc, drop, length}
 use Rattle.std.proofs.Common.{slice_get, slice_index_or}
-use Rattle.std.specs.Prelude.{if◌then◌else◌, unwrap_or}
+use Rattle.std.specs.Prelude.{if◌then◌else◌, unwrap_or, IsTrue}
+use Rattle.std.specs.List.{list_all, zip}
 use Rattle.std.specs.Option.{option_map_or}
+use Rattle.std.proofs.lemmas.Bool.{and_parts}
 use Rattle.std.proofs.lemmas.List.{append-nil, drop_all}
 use Rattle.std.proofs.lemmas.Option.{slice_get_within, get_or_from_slice_get}
 use Rattle.naga_ir.specs.declared.module.Function.{Function}
 use Rattle.naga_ir.specs.declared.module.FunctionArgument.{FunctionArgument}
 use Rattle.naga_ir.specs.declared.module.FunctionResult.{FunctionResult}
 use Rattle.naga_ir.specs.declared.module.LocalVariable.{LocalVariable}
+use Rattle.naga_ir.specs.declared.module.Module.{Module}
 use Rattle.naga_info.specs.declared.info.ExpressionInfo.{ExpressionInfo}
 use Rattle.naga_info.specs.declared.info.ModuleInfo.{ModuleInfo}
-use Rattle.module_meaning.specs.FitsSoFar.{fits_so_far, function_fits}
+use Rattle.module_meaning.specs.Accepted.{is_accepted}
+use Rattle.module_meaning.specs.InfoSizes.{sizes_fit, type_is_fit}
 use Rattle.module_meaning.specs.Part.{function_is_written, is_written_so_far}
+use Rattle.module_meaning.specs.Part.{resolution_is_written}
+use Rattle.module_meaning.specs.Ranges.{all_placed, declarations_in_range, function_in_range}
+use Rattle.module_meaning.specs.Ranges.{module_in_range, module_ranges_fit}
 use Rattle.naga_form.specs.Expressions.{value_form}
 use Rattle.naga_form.specs.Statements.{lines_form}
 use Rattle.wgsl_text.specs.Functions.{Parameter, value_pieces, parameter_pieces}
@@ -25,14 +32,16 @@ use Rattle.naga_form.specs.Functions.{locals_form, parameter_form, parameters_fo
 use Rattle.naga_form.specs.Functions.{function_form}
 use Rattle.wgsl_text.proofs.Text.{text-append}
 use Rattle.naga_names.proofs.Refusal.{element}
-use Rattle.module_meaning.proofs.FitsSoFar.{fits_types_are_scalar, fits_functions_fit}
-use Rattle.module_meaning.proofs.FitsSoFar.{list_all_at, functions_fit_at}
+use Rattle.module_meaning.proofs.Lists.{list_all_at, placed_at}
+use Rattle.module_meaning.proofs.SideBySide.{zip_at}
+use Rattle.naga_form.proofs.AcceptedFunctions.{accepted_at, entry_points_known}
+use Rattle.naga_form.proofs.AgreeingUses.{in_left}
 use Rattle.wgsl_text.proofs.Functions.{value_text as value_row_text, locals_text as local_row_text}
 use Rattle.wgsl_text.proofs.Functions.{function_text as function_row_text}
 use Rattle.naga_names.specs.Keys.{names_in}
 use Rattle.shader_runs.specs.Scope.{Handles}
 use Rattle.module_meaning.specs.Names.{HasNamesOf, module_names}
-use Rattle.module_meaning.proofs.Part.{functions_are_written}
+use Rattle.module_meaning.proofs.Part.{written_so_far_parts}
 use Rattle.naga_scope.specs.declared.points.Standing.{Standing}
 use Rattle.naga_words.specs.declared.error.TypeTextError.{TypeTextError}
 use Rattle.naga_words.specs.declared.error.TypeTextError.TheVariants.{Sink, Memory, NoForm}
@@ -63,18 +72,42 @@ use Rattle.naga_wgsl_fns.specs.Functions.{text_of_function}
 known_is : (info : ModuleInfo) (g : ℕ) (es : List ExpressionInfo) → slice_get info.functions.items g ≡ Some es → known_of info g ≡ es
 known_is info g es at = ap (λ o. unwrap_or o []) at
 
-pub can_write : (t : FunctionText) (info : ModuleInfo) → fits_so_far t.shader.now info ≡ true → is_written_so_far t.shader.now info ≡ true → HasNamesOf t.shader.now (names_in t.names.now) → slice_get t.shader.now.functions t.handle ≡ Some t.function.now → slice_get info.functions.items t.handle ≡ Some t.info.now → CanWrite t
+-- all that an accepted module names is there
+names_are_there : (m : Module) (info : ModuleInfo) → IsTrue (is_accepted m info) → IsTrue (module_ranges_fit m info)
+unfolding is_accepted
+names_are_there m info accepted = (and_parts (module_ranges_fit m info) _ accepted).0
+
+-- so is what a function names, if it may call those before it
+function_names_there : (m : Module) (info : ModuleInfo) → IsTrue (module_ranges_fit m info) → (g : ℕ) (f : Function) → slice_get m.functions g ≡ Some f → IsTrue (function_in_range m g f)
+unfolding module_ranges_fit
+function_names_there m info fit g f here =
+    let one = and_parts (sizes_fit m info) _ fit in
+    let two = and_parts (list_all type_is_fit m.types) _ one.1 in
+    let three = and_parts (module_in_range m) _ two.1 in
+    let four = and_parts (declarations_in_range m) _ three.0 in
+    let five = and_parts (all_placed (function_in_range m) m.functions) _ four.1 in
+    let at : 0 + g ≡ g = omega arith in
+    sym (ap (λ n. function_in_range m n f) at) ∙ placed_at (function_in_range m) 0 m.functions g f five.0 here
+
+-- of each of its expressions one thing is known
+one_is_known : (m : Module) (info : ModuleInfo) → IsTrue (is_accepted m info) → (g : ℕ) (f : Function) (es : List ExpressionInfo) → slice_get m.functions g ≡ Some f → slice_get info.functions.items g ≡ Some es → length f.expressions ≡ length es
+one_is_known m info accepted g f es here known =
+    let both = zip_at m.functions info.functions.items g f es here known in
+    (accepted_at m info accepted g f es (in_left (zip m.functions info.functions.items) (entry_points_known m info) g (f, es) both)).size
+
+pub can_write : (t : FunctionText) (info : ModuleInfo) → IsTrue (is_accepted t.shader.now info) → IsTrue (is_written_so_far t.shader.now info) → HasNamesOf t.shader.now (names_in t.names.now) → slice_get t.shader.now.functions t.handle ≡ Some t.function.now → slice_get info.functions.items t.handle ≡ Some t.info.now → CanWrite t
 can_write t info accepted written named here known =
     let m = t.shader.now in
     let f = t.function.now in
-    let fit = functions_fit_at m.types m.functions info.functions.items t.handle f (fits_functions_fit m info accepted) here in
-    let same : fit.0 ≡ t.info.now = ap (λ o. unwrap_or o fit.0) (sym fit.1 ∙ known) in
+    let part = written_so_far_parts m info written in
     record {
       named = named;
       function = here;
-      scalars = fits_types_are_scalar m info accepted;
-      fits = ap (λ ks. function_fits m.types f ks) (sym same) ∙ fit.2;
-      written = list_all_at function_is_written m.functions t.handle f (functions_are_written m info written) here;
+      scalars = part.1;
+      ranges = function_names_there m info (names_are_there m info accepted) t.handle f here;
+      size = one_is_known m info accepted t.handle f t.info.now here known;
+      known = list_all_at (list_all (λ k. resolution_is_written m.types k.ty)) info.functions.items t.handle t.info.now part.3 known;
+      written = list_all_at function_is_written m.functions t.handle f part.2 here;
     }
 
 -- the text of a function that there is
@@ -82,7 +115,7 @@ pub text_of_function_at : (t : FunctionText) (info : ModuleInfo) → slice_get t
 unfolding function_text
 text_of_function_at t info here known =
     let m = t.shader.now in
-    let form = λ (f : Function) (es : List ExpressionInfo). text (function_pieces (function_form (tells_types t.flags) (module_names m) m.types t.handle f es)) in
+    let form = λ (f : Function) (es : List ExpressionInfo). text (function_pieces (function_form (tells_types t.flags) (module_names m) m t.handle f es)) in
     ap (λ o. option_map_or (λ f. form f (known_of info t.handle)) o []) here ∙ ap (form t.function.now) (known_is info t.handle t.info.now known)
 
 -- ---- the head

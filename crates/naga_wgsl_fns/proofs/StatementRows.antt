@@ -3,8 +3,8 @@ use Rattle.std.proofs.Common.{◌≡◌, ℕ, ◌+◌, ◌-◌, ◌<◌, ◌≤�
 use Rattle.std.proofs.Common.{[], ◌∷◌, ◌++◌, Option, None, Some, length, refl, sym, ap, ◌∙◌, arith}
 use Rattle.std.proofs.Common.{add-one, codes, replicate, drop, drop-cons, slice_index_or}
 use Rattle.std.proofs.Common.{append_assoc, IsTrue}
-use Rattle.std.specs.Prelude.{cond, slice_get}
-use Rattle.std.proofs.lemmas.Bool.{and_parts}
+use Rattle.std.specs.Prelude.{cond, nat_le, nat_lt, slice_get}
+use Rattle.std.proofs.lemmas.Bool.{and_parts, leb-true, ltb-true}
 use Rattle.std.proofs.lemmas.List.{append-nil, drop_all}
 use Rattle.naga_ir.specs.StatementTree.{BlockTree, StatementTree, emit, return, simple, statement}
 use Rattle.naga_ir.specs.StatementTree.{store, break, continue, kill, block, branch, switch, loop}
@@ -13,11 +13,9 @@ use Rattle.naga_ir.specs.StatementViews.{tree_of, block_of}
 use Rattle.naga_ir.specs.declared.statement.Range.{Range}
 use Rattle.naga_ir.specs.declared.statement.Statement.{Statement}
 use Rattle.naga_ir.specs.declared.expression.Expression as ir
-use Rattle.naga_ir.specs.declared.module.FunctionResult.{FunctionResult}
-use Rattle.naga_ir.specs.declared.types.Type_.{Type_}
-use Rattle.naga_info.specs.declared.info.ExpressionInfo.{ExpressionInfo}
 use Rattle.naga_back.specs.Indentation.{indentation}
-use Rattle.module_meaning.specs.FitsSoFar.{statement_fits, block_fits}
+use Rattle.module_meaning.specs.Part.{block_is_written, statement_is_written}
+use Rattle.module_meaning.specs.Ranges.{block_in_range, statement_in_range}
 use Rattle.shader_runs.specs.Program.{binds, from}
 use Rattle.shader_runs.specs.Scope.{Handles, Naming, after, after_all, after_emit, after_one}
 use Rattle.shader_runs.specs.Scope.{bound_name, given_after, given_by_all}
@@ -256,16 +254,30 @@ pub lets_none : (f : FunctionText) (table : List Standing) (level index last : �
 unfolding lets_text
 lets_none f table level index last past = ap (lets_text f table level) (range_none index last past)
 
--- a block that fits, by its first statement and the others
-pub fits_parts : (types : List Type_) (known : List ExpressionInfo) (answer : Option FunctionResult) (b rest : BlockTree) (st : StatementTree) → IsTrue (block_fits types known answer b) → b ≡ statement st rest
-    → (statement_fits types known answer st ≡ true) × (block_fits types known answer rest ≡ true)
-fits_parts types known answer b rest st fit is =
-    and_parts (statement_fits types known answer st) (block_fits types known answer rest) (ap (λ (c : BlockTree). block_fits types known answer c) (sym is) ∙ fit)
+-- a block in range, and a written one, by its first statement and the others
+pub range_parts : (callees expressions : ℕ) (b rest : BlockTree) (st : StatementTree) → IsTrue (block_in_range callees expressions b) → b ≡ statement st rest
+    → IsTrue (statement_in_range callees expressions st) × IsTrue (block_in_range callees expressions rest)
+range_parts callees expressions b rest st all is =
+    and_parts (statement_in_range callees expressions st) (block_in_range callees expressions rest) (ap (λ (c : BlockTree). block_in_range callees expressions c) (sym is) ∙ all)
 
--- no other statement fits
-pub no_other_statement : (types : List Type_) (known : List ExpressionInfo) (answer : Option FunctionResult) (st : Statement) → statement_fits types known answer (tree_of st) ≡ true
+pub written_parts : (b rest : BlockTree) (st : StatementTree) → IsTrue (block_is_written b) → b ≡ statement st rest → IsTrue (statement_is_written st) × IsTrue (block_is_written rest)
+written_parts b rest st all is =
+    and_parts (statement_is_written st) (block_is_written rest) (ap (λ (c : BlockTree). block_is_written c) (sym is) ∙ all)
+
+-- what a statement in range names lies in the expressions
+pub store_within : (callees expressions p v : ℕ) → IsTrue (statement_in_range callees expressions (simple (store p v))) → (p < expressions) × (v < expressions)
+store_within callees expressions p v range =
+    let parts = and_parts (nat_lt p expressions) (nat_lt v expressions) range in
+    (ltb-true p expressions parts.0, ltb-true v expressions parts.1)
+
+pub emit_within : (callees expressions first last : ℕ) → IsTrue (statement_in_range callees expressions (simple (emit first last))) → last ≤ expressions
+emit_within callees expressions first last range =
+    leb-true last expressions (and_parts (nat_le first last) (nat_le last expressions) range).1
+
+-- no other statement is written
+pub no_other_statement : (st : Statement) → IsTrue (statement_is_written (tree_of st))
     → ((range : Range) → st ≡ Statement.Emit range → ⊥) → ((p v : ℕ) → st ≡ Statement.Store p v → ⊥) → ((value : Option ℕ) → st ≡ Statement.Return value → ⊥) → ⊥
-no_other_statement types known answer (Statement.Emit range) fit emits stores returns = emits range refl
-no_other_statement types known answer (Statement.Store p v) fit emits stores returns = stores p v refl
-no_other_statement types known answer (Statement.Return value) fit emits stores returns = returns value refl
-no_other_statement types known answer _ fit emits stores returns = absurd cc
+no_other_statement (Statement.Emit range) is emits stores returns = emits range refl
+no_other_statement (Statement.Store p v) is emits stores returns = stores p v refl
+no_other_statement (Statement.Return value) is emits stores returns = returns value refl
+no_other_statement _ is emits stores returns = absurd cc

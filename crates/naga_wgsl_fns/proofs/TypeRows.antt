@@ -1,24 +1,20 @@
 -- What is said of a type's spelling, for types that have a form.
-use Rattle.std.proofs.Common.{◌≡◌, ℕ, ◌<◌, true, codes, List, [], ◌∷◌, ◌++◌, Option, Some, None}
+use Rattle.std.proofs.Common.{◌≡◌, ℕ, ◌<◌, true, false, codes, List, [], ◌∷◌, ◌++◌, Option, Some, None}
 use Rattle.std.proofs.Common.{refl, sym, ap, subst, ◌∙◌, ◌≤◌, arith, slice_get, length}
 use Rattle.std.specs.Prelude.{Bool, IsTrue, unwrap_or}
-use Rattle.std.specs.Option.{is_some, option_map}
+use Rattle.std.specs.Option.{option_map, option_map_or}
 use Rattle.std.specs.List.{list_all}
 use Rattle.std.proofs.lemmas.Option.{slice_get_within}
-use Rattle.naga_ir.specs.declared.types.AddressSpace.{AddressSpace}
 use Rattle.naga_ir.specs.declared.types.AddressSpace.TheVariants as space
 use Rattle.naga_ir.specs.declared.types.Type_.{Type_}
 use Rattle.naga_ir.specs.declared.types.TypeInner.{TypeInner}
 use Rattle.naga_ir.specs.declared.types.TypeInner.TheVariants as inner
-use Rattle.module_meaning.specs.Part.{is_scalar_type}
-use Rattle.naga_info.specs.Resolution.{inner_of}
-use Rattle.module_meaning.specs.Spelled.{word_of_type, word_at, pointer_spelling, spelling}
-use Rattle.module_meaning.specs.Spelled.{spelling_of}
-use Rattle.naga_info.proofs.Options.{map_some, then_some}
+use Rattle.module_meaning.specs.Part.{is_scalar_at, is_scalar_type, is_written_scalar}
+use Rattle.module_meaning.specs.Part.{resolution_is_written, type_is_written}
 use Rattle.wgsl_text.specs.Types.{TypeSpecifier, Named}
 use Rattle.wgsl_text.proofs.Text.{text-append}
 use Rattle.naga_form.proofs.TypeTrees.{only_text, lacks_unknown, type_row, inner_tree_row}
-use Rattle.module_meaning.proofs.FitsSoFar.{list_all_at}
+use Rattle.module_meaning.proofs.Lists.{list_all_at}
 use Rattle.naga_names.specs.Keys.{NameMap, names_in}
 use Rattle.naga_info.specs.declared.info.TypeResolution.{TypeResolution}
 use Rattle.naga_info.specs.declared.info.TypeResolution.TheVariants as resolution
@@ -33,15 +29,11 @@ use Rattle.naga_form.specs.TypeTrees.{type_tree, resolution_tree}
 use Rattle.naga_words.specs.declared.error.TypeTextError.{TypeTextError}
 use Rattle.wgsl_text.specs.Reading.{type_layout}
 use Rattle.module_meaning.specs.Names.{module_names}
-use Rattle.naga_form.proofs.WrittenTypes.{HasForm, word_has_form, resolution_has_form}
+use Rattle.naga_form.proofs.WrittenTypes.{HasForm, resolution_has_form, type_has_form}
 use Rattle.naga_words.specs.Output.{Follows, Goes, Lies, PartsFollow, PartsGo, PartsLie, OutputView}
 use Rattle.naga_words.specs.Output.{SpelledParts, Wrote, joined_texts}
 use Rattle.naga_wgsl_fns.specs.declared.functions.FunctionText.{FunctionText}
-use Rattle.naga_wgsl_fns.specs.Types.{annotation_text, has_word, resolution_text, type_text}
-
-some_is : {X : Type 0} (o : Option X) → IsTrue (is_some o) → (x : X) × (o ≡ Some x)
-some_is None has = absurd (cc)
-some_is (Some x) has = (x, refl)
+use Rattle.naga_wgsl_fns.specs.Types.{annotation_text, resolution_text, type_text}
 
 -- where each part is known, none is refused
 whole_word : (w : List ℕ) (ps : List Part) (t : List ℕ) (o : Option (List ℕ)) → known_text ps ≡ o → ((u : List ℕ) → known_text ps ≡ Some u → before_missing ps ≡ ps) → option_map (λ r. w ++ r) o ≡ Some t → before_missing (Word w ∷ ps) ≡ Word w ∷ ps
@@ -98,11 +90,11 @@ module _ (types : List Type_) where
   row_of names (resolution.Value i) = inner_tree_row text-append (names_of types names) (λ handle. true) i
 
   -- ---- what a context asks for
-  scalar_before : (i : TypeInner) (h : ℕ) → IsTrue (is_some (word_of_type i)) → end_of_base i ≤ h
+  scalar_before : (i : TypeInner) (h : ℕ) → IsTrue (is_written_scalar i) → end_of_base i ≤ h
   scalar_before (inner.Scalar s) h is = omega arith
   scalar_before _ h is = absurd (cc)
 
-  scalar_knows : (c : Context) (i : TypeInner) → IsTrue (is_some (word_of_type i)) → IsTrue (knows_override c i)
+  scalar_knows : (c : Context) (i : TypeInner) → IsTrue (is_written_scalar i) → IsTrue (knows_override c i)
   scalar_knows c (inner.Scalar s) is = refl
   scalar_knows c _ is = absurd (cc)
 
@@ -112,45 +104,38 @@ module _ (types : List Type_) where
     known = λ h t at. scalar_knows (names_context types names) t.inner (list_all_at is_scalar_type types h t scalars at);
   }
 
-  word_within : (ty : ℕ) (w : List ℕ) → word_at types ty ≡ Some w → ty < length types
-  word_within ty w e = let k = then_some (λ t. word_of_type t.inner) (slice_get types ty) w e in slice_get_within types ty k.0 k.1
+  pub scalar_within : (ty : ℕ) → IsTrue (is_scalar_at types ty) → ty < length types
+  scalar_within ty is = by (slice_get types ty) refl is
+    where
+      by : (o : Option Type_) → slice_get types ty ≡ o → option_map_or is_scalar_type o false ≡ true → ty < length types
+      by None at is = absurd (cc)
+      by (Some t) at is = slice_get_within types ty t at
 
-  pub has_word_within : (ty : ℕ) → IsTrue (has_word types ty) → ty < length types
-  has_word_within ty has = let w = some_is (word_at types ty) has in word_within ty w.0 w.1
+  inner_fits : (names : NameMap) (i : TypeInner) → IsTrue (type_is_written types i) → Fits (names_context types names) i
+  inner_fits names (inner.Scalar s) is = record { in_range = omega arith; knows = refl }
+  inner_fits names (inner.Pointer base space.Function) is = let lt = scalar_within base is in record { in_range = omega (arith, lt); knows = refl }
+  inner_fits names (inner.Pointer base _) is = absurd (cc)
+  inner_fits names _ is = absurd (cc)
 
-  pointer_fits : (names : NameMap) (base : ℕ) (a : AddressSpace) (o : Option (List ℕ)) → word_at types base ≡ o → (w : List ℕ) → pointer_spelling a o ≡ Some w → Fits (names_context types names) (inner.Pointer base a)
-  pointer_fits names base space.Function None at w e = absurd (cc)
-  pointer_fits names base space.Function (Some x) at w e = let lt = word_within base x at in record { in_range = omega (arith, lt); knows = refl }
-  pointer_fits names base _ o at w e = absurd (cc)
-
-  inner_fits : (names : NameMap) (i : TypeInner) (w : List ℕ) → spelling types i ≡ Some w → Fits (names_context types names) i
-  inner_fits names (inner.Scalar s) w e = record { in_range = omega arith; knows = refl }
-  inner_fits names (inner.Pointer base a) w e = pointer_fits names base a (word_at types base) refl w e
-  inner_fits names _ w e = absurd (cc)
-
-  spelled_fits : (names : NameMap) (r : TypeResolution) (w : List ℕ) → spelling_of types r ≡ Some w → FitsResolution (names_context types names) r
-  spelled_fits names (resolution.Handle h) w e =
-      let i = then_some (spelling types) (inner_of (resolution.Handle h) types) w e in
-      let k = map_some (λ y. y.inner) (slice_get types h) i.0 i.1 in
-      slice_get_within types h k.0 k.1
-  spelled_fits names (resolution.Value i) w e = inner_fits names i w e
-
-  pub resolution_fits : (names : NameMap) (r : TypeResolution) → IsTrue (is_some (spelling_of types r)) → FitsResolution (names_context types names) r
-  resolution_fits names r has = let w = some_is (spelling_of types r) has in spelled_fits names r w.0 w.1
+  pub resolution_fits : (names : NameMap) (r : TypeResolution) → IsTrue (resolution_is_written types r) → FitsResolution (names_context types names) r
+  resolution_fits names (resolution.Handle h) is = by (slice_get types h) refl is
+    where
+      by : (o : Option Type_) → slice_get types h ≡ o → option_map_or (type_is_written types) (option_map (λ t. t.inner) o) false ≡ true → h < length types
+      by None at is = absurd (cc)
+      by (Some t) at is = slice_get_within types h t at
+  resolution_fits names (resolution.Value i) is = inner_fits names i is
 
 -- ---- under the names of a function's module
-pub type_known : (f : FunctionText) (ty : ℕ) → IsTrue (has_word f.shader.now.types ty) → known_text (type_parts (names_context f.shader.now.types (names_in f.names.now)) ty) ≡ Some (type_text f ty)
+pub type_known : (f : FunctionText) (ty : ℕ) → IsTrue (is_scalar_at f.shader.now.types ty) → known_text (type_parts (names_context f.shader.now.types (names_in f.names.now)) ty) ≡ Some (type_text f ty)
 unfolding type_text
-type_known f ty has =
+type_known f ty scalar =
     let types = f.shader.now.types in
     let names = names_in f.names.now in
-    let w = some_is (word_at types ty) has in
-    known_of_tree types names (module_names f.shader.now) (type_parts (names_context types names) ty) (λ n. type_tree (names_of types n) ty) (type_row text-append (names_of types names) (λ handle. true) ty) (word_has_form types ty w.0 w.1)
+    known_of_tree types names (module_names f.shader.now) (type_parts (names_context types names) ty) (λ n. type_tree (names_of types n) ty) (type_row text-append (names_of types names) (λ handle. true) ty) (type_has_form types ty scalar)
 
-pub resolution_known : (f : FunctionText) → list_all is_scalar_type f.shader.now.types ≡ true → (r : TypeResolution) → IsTrue (is_some (spelling_of f.shader.now.types r)) → known_text (resolution_parts (names_context f.shader.now.types (names_in f.names.now)) r) ≡ Some (resolution_text f r)
+pub resolution_known : (f : FunctionText) → list_all is_scalar_type f.shader.now.types ≡ true → (r : TypeResolution) → IsTrue (resolution_is_written f.shader.now.types r) → known_text (resolution_parts (names_context f.shader.now.types (names_in f.names.now)) r) ≡ Some (resolution_text f r)
 unfolding resolution_text
-resolution_known f scalars r has =
+resolution_known f scalars r written =
     let types = f.shader.now.types in
     let names = names_in f.names.now in
-    let w = some_is (spelling_of types r) has in
-    known_of_tree types names (module_names f.shader.now) (resolution_parts (names_context types names) r) (λ n. resolution_tree (names_of types n) r) (row_of types names r) (resolution_has_form types scalars r w.0 w.1)
+    known_of_tree types names (module_names f.shader.now) (resolution_parts (names_context types names) r) (λ n. resolution_tree (names_of types n) r) (row_of types names r) (resolution_has_form types scalars r written)

@@ -1,10 +1,10 @@
 -- What the text of a function is made from, as the laws see it, and what it wants of its module.
 use Rattle.std.specs.Prelude.{◌≡◌, ℕ, Bool, List, Option, Some, IsTrue, slice_get, bit_and, ◌==◌}
+use Rattle.std.specs.Prelude.{length}
 use Rattle.std.specs.List.{list_all}
 use Rattle.naga_ir.specs.declared.expression.Expression.{Expression}
-use Rattle.module_meaning.specs.FitsSoFar.{function_fits}
-use Rattle.module_meaning.specs.Part.{is_scalar_type}
-use Rattle.module_meaning.specs.Part.{function_is_written}
+use Rattle.module_meaning.specs.Part.{function_is_written, is_scalar_type, resolution_is_written}
+use Rattle.module_meaning.specs.Ranges.{function_in_range}
 use Rattle.naga_names.specs.Keys.{names_in}
 use Rattle.shader_runs.specs.Scope.{Naming}
 use Rattle.module_meaning.specs.Names.{HasNamesOf, module_names}
@@ -24,7 +24,7 @@ tells_types flags = bit_and flags.0 1 == 1
 abbrev pub naming : FunctionText → Naming
 naming f =
     let m = f.shader.now in
-    function_naming (module_names m) m.types f.handle f.function.now f.info.now
+    function_naming (module_names m) m f.handle f.function.now f.info.now
 
 -- its expressions
 abbrev pub expressions : FunctionText → List Expression
@@ -39,11 +39,14 @@ abbrev pub let_annotation : FunctionText → (handle : ℕ) → Option TypeSpeci
 let_annotation f handle =
     told_type (tells_types f.flags) (type_names f.shader.now) f.info.now handle
 
--- It is a function of its module, accepted with what is known of it, one of those that are written
--- so far, and has its names.
+-- It is a function of its module, one of those that are written so far, and has its names. All that
+-- it names is there, if it may call the functions before it, and of each of its expressions one
+-- type is known, which is written so far.
 pub record CanWrite (f : FunctionText) : Type 0 where
   pub named : HasNamesOf f.shader.now (names_in f.names.now)
   pub function : slice_get f.shader.now.functions f.handle ≡ Some f.function.now
   pub scalars : IsTrue (list_all is_scalar_type f.shader.now.types)
-  pub fits : IsTrue (function_fits f.shader.now.types f.function.now f.info.now)
+  pub ranges : IsTrue (function_in_range f.shader.now f.handle f.function.now)
+  pub size : length f.function.now.expressions ≡ length f.info.now
+  pub known : IsTrue (list_all (λ k. resolution_is_written f.shader.now.types k.ty) f.info.now)
   pub written : IsTrue (function_is_written f.function.now)

@@ -35,7 +35,7 @@ known_of info handle = unwrap_or (slice_get info.functions.items handle) []
 abbrev pub text_of : Module → WriterFlags → (handle : ℕ) → ir.Function → List ExpressionInfo
     → List ℕ
 text_of m flags handle f known =
-    let form = function_form (tells_types flags) (module_names m) m.types handle f known in
+    let form = function_form (tells_types flags) (module_names m) m handle f known in
     text (function_pieces form)
 
 -- the same of the module's function with this handle; nothing, where there is none
@@ -48,7 +48,7 @@ text_of_function m info flags handle =
 abbrev pub form_of : FunctionText → Function
 form_of f =
     let m = f.shader.now in
-    function_form (tells_types f.flags) (module_names m) m.types f.handle f.function.now f.info.now
+    function_form (tells_types f.flags) (module_names m) m f.handle f.function.now f.info.now
 
 unfoldable pub function_text : FunctionText → List ℕ
 function_text f = text (function_pieces (form_of f))

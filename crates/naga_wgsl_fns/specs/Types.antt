@@ -1,19 +1,12 @@
 -- The texts of types.
-use Rattle.std.specs.Prelude.{ℕ, Bool, List, [], ◌++◌, Option, Some, None, codes, unwrap_or}
-use Rattle.std.specs.Option.{is_some}
-use Rattle.naga_ir.specs.declared.types.Type_.{Type_}
+use Rattle.std.specs.Prelude.{ℕ, List, [], ◌++◌, Option, Some, None, codes, unwrap_or}
 use Rattle.naga_info.specs.declared.info.TypeResolution.{TypeResolution}
-use Rattle.module_meaning.specs.Spelled.{word_at}
 use Rattle.naga_form.specs.Types.{type_form}
 use Rattle.naga_form.specs.TypeTrees.{resolution_tree}
 use Rattle.wgsl_text.specs.Types.{TypeSpecifier, Named}
 use Rattle.wgsl_text.specs.Reading.{type_layout}
 use Rattle.naga_wgsl_fns.specs.declared.functions.FunctionText.{FunctionText}
 use Rattle.naga_wgsl_fns.specs.FunctionText.{let_annotation, type_names_of}
-
--- Does the type have a word?
-abbrev pub has_word : List Type_ → ℕ → Bool
-has_word types ty = is_some (word_at types ty)
 
 -- the type with this handle
 unfoldable pub type_text : FunctionText → (ty : ℕ) → List ℕ

@@ -1,8 +1,7 @@
 //! Literals.
 
 ghost use Rattle.std.specs.Prelude.{◌++◌, IsTrue};
-ghost use Rattle.std.specs.Option.{is_some};
-ghost use Rattle.module_meaning.specs.Spelled.{literal_word};
+ghost use Rattle.module_meaning.specs.Part.{is_written_literal};
 ghost use Rattle.naga_words.specs.Output.{Writes};
 ghost use Rattle.naga_wgsl_fns.specs.Literals.{integer_text, literal_text, long_text};
 
@@ -15,7 +14,7 @@ use naga_words::{Output, TextSink};
 /// `i32(-2147483648)` and `i64(-9223372036854775807 - 1)`.
 #[tactic(auto, unfolding(crate::specs::Literals::literal_text, crate::specs::Literals::integer_text, crate::specs::Literals::long_text))]
 pub fn write_literal<W: TextSink>(literal: Literal, out: &mut Output<'_, W>)
-    requires { IsTrue (is_some (literal_word literal)) }
+    requires { IsTrue (is_written_literal literal) }
     ensures { Writes W.text W.failures out.old out.new (literal_text literal) }
 {
     match literal {

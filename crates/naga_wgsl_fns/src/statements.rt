@@ -1,8 +1,8 @@
 //! Blocks and statements.
 
 ghost use Rattle.std.specs.Prelude.{◌≡◌, ◌<◌, ◌-◌, ◌≤◌, IsTrue, length};
-ghost use Rattle.module_meaning.specs.FitsSoFar.{block_fits, statement_fits};
-ghost use Rattle.module_meaning.specs.Ranges.{is_below};
+ghost use Rattle.module_meaning.specs.Part.{block_is_written, statement_is_written};
+ghost use Rattle.module_meaning.specs.Ranges.{block_in_range, is_below, statement_in_range};
 ghost use Rattle.naga_back.specs.Indentation.{indentation};
 ghost use Rattle.module_meaning.specs.Shapes.{statement_shape};
 ghost use Rattle.naga_ir.specs.StatementViews.{tree_of};
@@ -36,8 +36,9 @@ impl FunctionText<'_> {
     )
         requires can { CanWrite self.now }
         requires size { length scope.old ≡ length self.now.function.now.expressions }
-        requires fits { IsTrue (block_fits self.now.shader.now.types self.now.info.now
-            self.now.function.now.result block.now) }
+        requires in_range { IsTrue (block_in_range self.now.handle
+            (length self.now.function.now.expressions) block.now) }
+        requires written { IsTrue (block_is_written block.now) }
         ensures { Writes W.text W.failures out.old out.new
             (block_text self.now scope.old level.0 block.now) }
     {
@@ -61,8 +62,9 @@ impl FunctionText<'_> {
     )
         requires can { CanWrite self.now }
         requires size { length scope.old ≡ length self.now.function.now.expressions }
-        requires fits { IsTrue (statement_fits self.now.shader.now.types self.now.info.now
-            self.now.function.now.result (tree_of statement.now)) }
+        requires in_range { IsTrue (statement_in_range self.now.handle
+            (length self.now.function.now.expressions) (tree_of statement.now)) }
+        requires written { IsTrue (statement_is_written (tree_of statement.now)) }
         ensures lines { Writes W.text W.failures out.old out.new
             (statement_text self.now scope.old level.0 (tree_of statement.now)) }
         ensures after { handles_of scope.new

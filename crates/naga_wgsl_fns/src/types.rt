@@ -1,12 +1,10 @@
 //! Types, spelled under the names of the module's items.
 
 ghost use Rattle.std.specs.Prelude.{◌≡◌, ◌<◌, IsTrue, length};
-ghost use Rattle.std.specs.Option.{is_some};
-ghost use Rattle.module_meaning.specs.Spelled.{spelling_of};
+ghost use Rattle.module_meaning.specs.Part.{is_scalar_at, resolution_is_written};
 ghost use Rattle.naga_words.specs.Output.{Writes};
 ghost use Rattle.naga_wgsl_fns.specs.FunctionText.{CanWrite, tells_types};
-ghost use Rattle.naga_wgsl_fns.specs.Types.{annotation_text, has_word, resolution_text, told_text};
-ghost use Rattle.naga_wgsl_fns.specs.Types.{type_text};
+ghost use Rattle.naga_wgsl_fns.specs.Types.{annotation_text, resolution_text, told_text, type_text};
 
 use crate::functions::FunctionText;
 use bitflags::Flags;
@@ -26,7 +24,7 @@ impl FunctionText<'_> {
         out: &mut Output<'_, W>,
     )
         requires can { CanWrite self.now }
-        requires word { IsTrue (has_word self.now.shader.now.types ty) }
+        requires scalar { IsTrue (is_scalar_at self.now.shader.now.types ty) }
         ensures { Writes W.text W.failures out.old out.new (type_text self.now ty) }
     {
         let context = WriterTypeContext {
@@ -45,7 +43,7 @@ impl FunctionText<'_> {
         out: &mut Output<'_, W>,
     )
         requires can { CanWrite self.now }
-        requires spelled { IsTrue (is_some (spelling_of self.now.shader.now.types ty.now)) }
+        requires written { IsTrue (resolution_is_written self.now.shader.now.types ty.now) }
         ensures { Writes W.text W.failures out.old out.new (annotation_text self.now ty.now) }
     {
         out.put(": ");
@@ -60,7 +58,7 @@ impl FunctionText<'_> {
         out: &mut Output<'_, W>,
     )
         requires can { CanWrite self.now }
-        requires spelled { IsTrue (is_some (spelling_of self.now.shader.now.types ty.now)) }
+        requires written { IsTrue (resolution_is_written self.now.shader.now.types ty.now) }
         ensures { Writes W.text W.failures out.old out.new (resolution_text self.now ty.now) }
     {
         let context = WriterTypeContext {

@@ -4,15 +4,13 @@ use Rattle.std.proofs.Common.{ap, drop, inl, inr, length, subst, sym}
 use Rattle.std.specs.Prelude.{IfErr, IsTrue, OnErr, OnOk, Result}
 use Rattle.naga_ir.specs.declared.module.Module.{Module}
 use Rattle.module_meaning.specs.Accepted.{is_accepted}
-use Rattle.module_meaning.specs.FitsSoFar.{fits_so_far}
-use Rattle.module_meaning.proofs.AcceptedSoFar.{accepted_so_far}
 use Rattle.module_meaning.specs.Part.{is_written_so_far}
 use Rattle.wgsl_text.specs.Declarations.{Program}
 use Rattle.naga_form.specs.Declarations.{written_program}
 use Rattle.naga_form.proofs.Resolution.{resolves}
 use Rattle.naga_form.proofs.Interface.{has_interface}
 use Rattle.naga_form.proofs.Programs.{is_program}
-use Rattle.module_meaning.proofs.FitsSoFar.{fits_functions_fit, functions_fit_length}
+use Rattle.naga_form.proofs.AcceptedFunctions.{functions_counted}
 use Rattle.naga_info.specs.declared.info.ModuleInfo.{ModuleInfo}
 use Rattle.naga_names.specs.Keys.{NameMap}
 use Rattle.wgsl_text.specs.Reading.{Reads, HasOneReading}
@@ -57,12 +55,12 @@ for_names m info (Memory e) before after is = tt
 for_names m info _ before after is = absurd is
 
 -- and so is a function in which the rules of scope don't hold
-pub for_scope : (m : Module) (info : ModuleInfo) → IsTrue (fits_so_far m info) →
-    IsTrue (is_written_so_far m info) → (error : Error) (before after : ℕ) →
-    TellsOfScope error → (i : ℕ) → (ScopeHoldsIn m info i → ⊥) → IsRefusal m info before after error
-for_scope m info fits written (Custom message) before after told i fails =
-    inr (told, λ rules. fails (scope_holds_in m info fits written rules i))
-for_scope m info fits written _ before after told i fails = absurd told
+pub for_scope : (m : Module) (info : ModuleInfo) → IsTrue (is_written_so_far m info) →
+    (error : Error) (before after : ℕ) → TellsOfScope error → (i : ℕ) →
+    (ScopeHoldsIn m info i → ⊥) → IsRefusal m info before after error
+for_scope m info written (Custom message) before after told i fails =
+    inr (told, λ rules. fails (scope_holds_in m info written rules i))
+for_scope m info written _ before after told i fails = absurd told
 
 -- so are a sink that failed and want of memory
 pub for_want : (m : Module) (info : ModuleInfo) (error : Error) (before after : ℕ) → IsWant before after error → IsRefusal m info before after error
@@ -92,9 +90,6 @@ scope_tells_of_module _ told = absurd told
 module _ (m : Module) (info : ModuleInfo) (flags : WriterFlags)
     (accepted : IsTrue (is_accepted m info)) (written : IsTrue (is_written_so_far m info))
     (names : NameMap) (has : HasAllNames m names) where
-  fits : IsTrue (fits_so_far m info)
-  fits = accepted_so_far m info accepted written
-
   -- a plan of each function
   abbrev AllPlanned : Type 0
   AllPlanned = (i : ℕ) → i < length m.functions → HasPlan m info i
@@ -108,7 +103,7 @@ module _ (m : Module) (info : ModuleInfo) (flags : WriterFlags)
   one : AllPlanned → HasOneReading Reads (written_text m info flags) program
   one planned =
       program_has_one_reading program (is_program m info explicit accepted
-      written (all_planned_counted m info fits planned))
+      written (all_planned_counted m info accepted planned))
 
   each : AllPlanned → (held now : List ℕ) → now ≡ held ++ written_text m info flags →
       (Q : Program → Type 0) → Q program → EachReading held now Q
@@ -130,16 +125,14 @@ module _ (m : Module) (info : ModuleInfo) (flags : WriterFlags)
     pub failures_ok : OnOk r (after ≡ before)
 
   same_text : module_lines m info flags ≡ written_text m info flags
-  same_text = written_lines m info flags fits
+  same_text = written_lines m info flags accepted
 
   module _ (held now : List ℕ) (before after : ℕ) where
     wrote : WroteFunctions m info flags held before now after →
         Concludes (Ok tt) held now before after
     wrote w =
         let appended = w.wrote.appended ∙ ap (λ t. held ++ t) same_text in
-        let rules = all_planned_hold m info fits written w.planned in
-        let fit = functions_fit_length m.types m.functions info.functions.items
-        (fits_functions_fit m info fits) in
+        let rules = all_planned_hold m info written w.planned in
         let reading = each w.planned held now appended in
         record {
           is_faithful = record {
@@ -155,7 +148,7 @@ module _ (m : Module) (info : ModuleInfo) (flags : WriterFlags)
               program = program;
               reading = one w.planned;
             };
-            interface = reading (HasInterfaceOf m) (has_interface m info explicit fit);
+            interface = reading (HasInterfaceOf m) (has_interface m info explicit (functions_counted m info accepted));
             runs = reading (RunsAs m info)
                 (runs_as m info explicit accepted written rules has.counted);
           };
@@ -190,7 +183,7 @@ module _ (m : Module) (info : ModuleInfo) (flags : WriterFlags)
         Concludes (Err e) held now before after
     met_no_plan e s = record {
       is_faithful = refused m info e held now before after
-          (for_scope m info fits written e before after s.told s.before.handle s.before.fails);
+          (for_scope m info written e before after s.told s.before.handle s.before.fails);
       resolved = tt;
       binds = tt;
       text_ok = tt;

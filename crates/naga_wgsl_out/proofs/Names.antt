@@ -21,7 +21,7 @@ use Rattle.module_meaning.specs.Names.{HasNamesOf}
 use Rattle.naga_form.proofs.Names.{name_is, function_item, argument_item, function_there}
 use Rattle.naga_form.proofs.Names.{argument_there}
 use Rattle.naga_names.proofs.Refusal.{element}
-use Rattle.module_meaning.proofs.FitsSoFar.{list_all_at}
+use Rattle.module_meaning.proofs.Lists.{list_all_at}
 use Rattle.naga_form.proofs.Fits.{local_item}
 use Rattle.naga_wgsl_out.specs.Refusals.{NamerIsFull, KeyIsOutOfRange, HasAllNames}
 

@@ -13,12 +13,13 @@ use Rattle.naga_info.specs.declared.info.ModuleInfo.{ModuleInfo}
 use Rattle.shader_runs.specs.Program as shapes
 use Rattle.shader_runs.specs.Program.{Function}
 use Rattle.shader_runs.specs.ScopeRules.{ScopeHolds}
-use Rattle.module_meaning.specs.FitsSoFar.{fits_so_far}
+use Rattle.module_meaning.specs.Accepted.{is_accepted}
 use Rattle.module_meaning.specs.Part.{is_written_so_far}
 use Rattle.module_meaning.specs.Premises.{EachScopeHolds, ScopesHold, handles_are_counted}
 use Rattle.module_meaning.specs.Shapes.{expression_shape, function_shapes}
-use Rattle.module_meaning.proofs.FitsSoFar.{fits_functions_fit, functions_fit_at}
 use Rattle.module_meaning.proofs.ModuleShapes.{same_program}
+use Rattle.naga_form.proofs.AcceptedFunctions.{functions_counted}
+use Rattle.naga_names.proofs.Refusal.{element}
 use Rattle.naga_scope.specs.Plans.{IsPlan, ScopeHoldsIn, function_shape_at}
 use Rattle.naga_scope.proofs.Planned.{plan_found}
 use Rattle.naga_wgsl_out.specs.Writing.{HasPlan}
@@ -46,12 +47,12 @@ each_from [] at = tt
 each_from (f ∷ fs) at = (at 0 (omega arith), each_from fs (λ i lt. at (suc i) (omega (arith, lt))))
 
 -- where the rules hold in a module, they hold in each function
-pub scope_holds_in : (m : Module) (info : ModuleInfo) → IsTrue (fits_so_far m info) →
-    IsTrue (is_written_so_far m info) → ScopesHold m info → (i : ℕ) → ScopeHoldsIn m info i
-scope_holds_in m info fits written rules i =
-    let own = function_shapes m.types m.functions info.functions.items in
+pub scope_holds_in : (m : Module) (info : ModuleInfo) → IsTrue (is_written_so_far m info) →
+    ScopesHold m info → (i : ℕ) → ScopeHoldsIn m info i
+scope_holds_in m info written rules i =
+    let own = function_shapes m m.functions info.functions.items in
     let of_part = subst (λ (p : shapes.Module). EachScopeHolds p.functions)
-    (same_program m info fits written) rules in
+    (same_program m info written) rules in
     each_at own (turned_back own [] of_part).0 i
 
 -- ---- functions with a plan
@@ -65,11 +66,11 @@ planned_holds m info i has = by (function_shape_at m info i) has.plan
 
 -- more shapes than functions there are none
 shapes_below : (m : Module) (info : ModuleInfo) (i : ℕ) →
-    i < length (function_shapes m.types m.functions info.functions.items) → i < length m.functions
+    i < length (function_shapes m m.functions info.functions.items) → i < length m.functions
 shapes_below m info i lt = by m.functions info.functions.items i lt
   where
     by : (fs : List ir_function.Function) (ess : List _) (i : ℕ) →
-        i < length (function_shapes m.types fs ess) → i < length fs
+        i < length (function_shapes m fs ess) → i < length fs
     by [] ess i lt = lt
     by (f ∷ fs) [] i lt = absurd (omega (arith, lt))
     by (f ∷ fs) (es ∷ ess) zero lt = omega arith
@@ -77,13 +78,12 @@ shapes_below m info i lt = by m.functions info.functions.items i lt
         let rest = by fs ess i (omega (arith, lt)) in omega (arith, rest)
 
 -- where each function has a plan, the rules of scope hold in the module
-pub all_planned_hold : (m : Module) (info : ModuleInfo) → IsTrue (fits_so_far m info) →
-    IsTrue (is_written_so_far m info) →
+pub all_planned_hold : (m : Module) (info : ModuleInfo) → IsTrue (is_written_so_far m info) →
     ((i : ℕ) → i < length m.functions → HasPlan m info i) → ScopesHold m info
-all_planned_hold m info fits written planned =
-    let own = function_shapes m.types m.functions info.functions.items in
+all_planned_hold m info written planned =
+    let own = function_shapes m m.functions info.functions.items in
     subst (λ (p : shapes.Module). EachScopeHolds p.functions)
-    (sym (same_program m info fits written))
+    (sym (same_program m info written))
     (turned own []
     (each_from own (λ i lt. planned_holds m info i (planned i (shapes_below m info i lt)))) tt)
 
@@ -96,7 +96,7 @@ all_pass test (x ∷ xs) at =
     (all_pass test xs (λ i y is. at (suc i) y is))
 
 -- and its handles are counted
-pub all_planned_counted : (m : Module) (info : ModuleInfo) → IsTrue (fits_so_far m info) →
+pub all_planned_counted : (m : Module) (info : ModuleInfo) → IsTrue (is_accepted m info) →
     ((i : ℕ) → i < length m.functions → HasPlan m info i) → IsTrue (handles_are_counted m)
 all_planned_counted m info accepted planned =
     all_pass (λ f. nat_le (length f.expressions) (2 ^ 64)) m.functions at
@@ -104,8 +104,9 @@ all_planned_counted m info accepted planned =
     at : (i : ℕ) (f : ir_function.Function) → slice_get m.functions i ≡ Some f →
         nat_le (length f.expressions) (2 ^ 64) ≡ true
     at i f is =
-        let fit = fits_functions_fit m info accepted in
-        let known = functions_fit_at m.types m.functions info.functions.items i f fit is in
-        let has = planned i (slice_get_within m.functions i f is) in
+        let within = slice_get_within m.functions i f is in
+        let counted = functions_counted m info accepted in
+        let known = element info.functions.items i (omega (arith, within, counted)) in
+        let has = planned i within in
         let plan = plan_found m info i f known.0 has.table is known.1 has.plan in
         ap (λ n. nat_le n (2 ^ 64)) (sym (length-map f.expressions expression_shape)) ∙ plan.counted

@@ -1,11 +1,10 @@
-use Rattle.module_meaning.proofs.AcceptedSoFar.{accepted_so_far}
 use Rattle.naga_form.proofs.FreeModules as every
 use Rattle.naga_form.proofs.Meanings.{has_world}
 use Rattle.naga_form.proofs.has_a_typed_world.Goals as goal
 
 pub returns-clause-written : goal.returns-clause-written
-returns-clause-written c = λ m info accepted written. has_world m info (accepted_so_far m info accepted written) written
+returns-clause-written c = λ m info accepted written. has_world m info written
 
 pub returns-clause-every : goal.returns-clause-every
-returns-clause-every c = λ m info accepted counted writable scopes.
-    every.has_world m info accepted counted writable.constants writable.cases scopes
+returns-clause-every c = λ m info accepted told writable scopes.
+    every.has_world m info accepted told writable.constants writable.cases scopes

@@ -1,12 +1,11 @@
-use Rattle.module_meaning.proofs.AcceptedSoFar.{accepted_so_far}
 use Rattle.naga_form.proofs.FreeModules as every
 use Rattle.naga_form.proofs.Meanings.{never_stuck}
 use Rattle.naga_form.proofs.is_never_stuck.Goals as goal
 
 pub returns-clause-written : goal.returns-clause-written
 returns-clause-written c = λ m info explicit accepted written.
-    never_stuck m info (accepted_so_far m info accepted written) written accepted explicit
+    never_stuck m info written accepted explicit
 
 pub returns-clause-every : goal.returns-clause-every
-returns-clause-every c = λ m info accepted counted writable scopes.
-    every.never_stuck m info accepted counted writable.constants writable.cases scopes
+returns-clause-every c = λ m info accepted told writable scopes.
+    every.never_stuck m info accepted told writable.constants writable.cases scopes

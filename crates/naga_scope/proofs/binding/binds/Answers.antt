@@ -4,21 +4,21 @@ use Rattle.naga_scope.proofs.Shaped.{emitted_binds, others_bind}
 use Rattle.naga_scope.proofs.binding.binds.Goals as goal
 
 pub returns-then-is_emittable : goal.returns-then-is_emittable
-returns-then-is_emittable c types =
+returns-then-is_emittable c m =
     let at = sym c.expression_at.ensures ∙ ap (option_map (λ e. e.now)) c.in-Some.is in
     ap₂ nat_le c.bake_ref_count.ensures c.count_of.ensures
-    ∙ emitted_binds types c.args.function.now c.args.info.now c.args.handle c.requires.unnamed
+    ∙ emitted_binds m c.args.function.now c.args.info.now c.args.handle c.requires.unnamed
     c.in-Some.expression.now at (sym c.is_emittable.ensures ∙ c.if-is_emittable.true)
 
 pub returns-else-is_emittable : goal.returns-else-is_emittable
-returns-else-is_emittable c types =
+returns-else-is_emittable c m =
     let at = sym c.expression_at.ensures ∙ ap (option_map (λ e. e.now)) c.in-Some.is in
     c.if-is_emittable.false
-    ∙ others_bind types c.args.function.now c.args.info.now c.args.handle c.requires.unnamed
+    ∙ others_bind m c.args.function.now c.args.info.now c.args.handle c.requires.unnamed
     (Some c.in-Some.expression.now) at (sym c.is_emittable.ensures ∙ c.if-is_emittable.false)
 
 pub returns-in-None : goal.returns-in-None
-returns-in-None c types =
+returns-in-None c m =
     let at = sym c.expression_at.ensures ∙ ap (option_map (λ e. e.now)) c.in-None.is in
-    others_bind types c.args.function.now c.args.info.now c.args.handle c.requires.unnamed None at
+    others_bind m c.args.function.now c.args.info.now c.args.handle c.requires.unnamed None at
     refl

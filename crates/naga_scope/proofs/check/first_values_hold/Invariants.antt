@@ -1,5 +1,5 @@
 use Rattle.std.proofs.Common.{◌≡◌, List}
-use Rattle.naga_ir.specs.declared.types.Type_.{Type_}
+use Rattle.naga_ir.specs.declared.module.Module.{Module}
 use Rattle.naga_info.specs.declared.info.ExpressionInfo.{ExpressionInfo}
 use Rattle.shader_runs.specs.Scope.{at_start, first_values_fit}
 use Rattle.module_meaning.specs.Shapes.{function_shape}
@@ -8,5 +8,5 @@ use Rattle.naga_scope.proofs.FirstValues.{all_fit}
 use Rattle.naga_scope.proofs.check.first_values_hold.Given as goal
 
 abbrev pub invariant-loop-handle : goal.invariant-loop-handle
-invariant-loop-handle l = (types : List Type_) (es : List ExpressionInfo) → handles_of l.scope ≡ at_start (function_shape types l.function es) →
-    all_fit (function_shape types l.function es) l.handle-iterator ≡ first_values_fit (function_shape types l.function es) 0 (function_shape types l.function es).first_values
+invariant-loop-handle l = (m : Module) (es : List ExpressionInfo) → handles_of l.scope ≡ at_start (function_shape m l.function es) →
+    all_fit (function_shape m l.function es) l.handle-iterator ≡ first_values_fit (function_shape m l.function es) 0 (function_shape m l.function es).first_values

@@ -1,6 +1,5 @@
 use Rattle.std.proofs.Common.{◌≡◌, ◌<◌, ◌∙◌, Some, arith, ap, length, subst, sym}
-use Rattle.module_meaning.proofs.AcceptedSoFar.{accepted_so_far}
-use Rattle.module_meaning.proofs.FitsSoFar.{fits_functions_fit, functions_fit_length}
+use Rattle.naga_form.proofs.AcceptedFunctions.{functions_counted}
 use Rattle.naga_words.proofs.Writing.{held_part_as, held_whole_as, never_formless, reason_given}
 use Rattle.naga_words.proofs.Writing.{same_sink, writes_as}
 use Rattle.std.proofs.lemmas.List.{length-map}
@@ -12,10 +11,8 @@ use Rattle.naga_wgsl_fns.proofs.functions.write_function.Goals as goal
 
 pub write_declaration-requires-clause-can : goal.write_declaration-requires-clause-can
 write_declaration-requires-clause-can g c =
-    let m = c.args.module.now in
-    let info = c.args.info.now in
-    can_write _ info (accepted_so_far m info c.requires.accepted c.requires.written) c.requires.written
-    c.requires.names c.index.ensures c.index-2.ensures
+    can_write _ c.args.info.now c.requires.accepted c.requires.written c.requires.names c.index.ensures
+    c.index-2.ensures
 
 pub write_declaration-requires-clause-start : goal.write_declaration-requires-clause-start
 write_declaration-requires-clause-start g c =
@@ -33,7 +30,7 @@ pub index-requires-2 : goal.index-requires-2
 index-requires-2 g c =
     let m = c.args.module.now in
     let info = c.args.info.now in
-    let same = functions_fit_length m.types m.functions info.functions.items (fits_functions_fit m info (accepted_so_far m info c.requires.accepted c.requires.written)) in
+    let same = functions_counted m info c.requires.accepted in
     let counted : length info.functions.items ≡ info.functions.len = sym info.functions.ok.0 in
     subst (λ n. c.args.handle < n) (same ∙ counted) c.requires.handle
 

@@ -1,23 +1,20 @@
 use Rattle.std.proofs.Common.{◌≡◌, ◌<◌, ◌∙◌, length, subst, sym}
 use Rattle.std.specs.Prelude.{IfErr, IfOk, IsSomeAnd}
-use Rattle.module_meaning.specs.Part.{names_nothing}
-use Rattle.module_meaning.proofs.FitsSoFar.{fits_functions_fit, list_all_at}
-use Rattle.module_meaning.proofs.FitsSoFar.{functions_fit_length, functions_fit_at}
-use Rattle.module_meaning.proofs.FitsSoFar.{function_fits_block}
-use Rattle.module_meaning.proofs.AcceptedSoFar.{accepted_so_far}
-use Rattle.module_meaning.proofs.Part.{functions_name_nothing}
-use Rattle.naga_form.proofs.Fits.{ordered_at}
+use Rattle.module_meaning.specs.Part.{function_is_written}
+use Rattle.module_meaning.proofs.Lists.{list_all_at}
+use Rattle.module_meaning.proofs.Part.{functions_are_written}
+use Rattle.naga_form.proofs.AcceptedFunctions.{accepted_at, function_there, functions_counted}
+use Rattle.naga_form.proofs.Ordered.{operands_stand_before}
+use Rattle.naga_form.proofs.PartFits.{function_parts}
 use Rattle.naga_scope.specs.Plans.{IsPlan, IsRefusalToPlan}
-use Rattle.naga_scope.proofs.Holding.{accepted_flat}
+use Rattle.naga_scope.proofs.Holding.{written_flat}
 use Rattle.naga_scope.proofs.Planned.{shape_found}
 use Rattle.naga_scope.proofs.plan.Plan.of.Goals as goal
 
 pub index-requires-2 : goal.index-requires-2
 index-requires-2 c =
-    let m = c.args.module.now in
     let info = c.args.info.now in
-    let fit = fits_functions_fit m info (accepted_so_far m info c.requires.accepted c.requires.written) in
-    let same = functions_fit_length m.types m.functions info.functions.items fit in
+    let same = functions_counted c.args.module.now info c.requires.accepted in
     let counted : length info.functions.items ≡ info.functions.len = sym info.functions.ok.0 in
     subst (λ n. c.args.handle < n) (same ∙ counted) c.requires.handle
 
@@ -27,25 +24,27 @@ of_function-requires c =
     let info = c.args.info.now in
     let f = c.index.result.now in
     let g = c.args.handle in
-    let fit = fits_functions_fit m info (accepted_so_far m info c.requires.accepted c.requires.written) in
-    let known = functions_fit_at m.types m.functions info.functions.items g f fit
-    c.index.ensures in
+    let known = function_there m info c.requires.accepted g f c.index.ensures in
+    let is = accepted_at m info c.requires.accepted g f known.0 known.1 in
+    let parts =
+    function_parts f
+    (list_all_at function_is_written m.functions g f
+    (functions_are_written m info c.requires.written) c.index.ensures) in
     record {
-      ordered = ordered_at m.types f known.0 known.2;
-      flat = accepted_flat m.types known.0 f.result f.body
-          (function_fits_block m.types f known.0 known.2);
-      unnamed = list_all_at names_nothing m.functions g f (functions_name_nothing m info c.requires.written) c.index.ensures;
+      ordered = operands_stand_before m is.callees f is.ranges;
+      flat = written_flat f.body parts.body;
+      unnamed = parts.unnamed;
     }
 
 pub returns : goal.returns
 returns c =
     let m = c.args.module.now in
     let r = c.of_function.result in
-    let found = shape_found m.types m.functions c.args.info.now.functions.items c.args.handle
+    let found = shape_found m m.functions c.args.info.now.functions.items c.args.handle
     c.index.result.now c.index-2.result.now c.index.ensures c.index-2.ensures in
     record {
       ok = subst (λ o. IfOk r (λ table. IsSomeAnd o (λ f. IsPlan f table))) (sym found)
-          (c.of_function.ensures.ok m.types);
+          (c.of_function.ensures.ok m);
       err = subst (λ o. IfErr r (λ e. IsSomeAnd o (λ f. IsRefusalToPlan f e))) (sym found)
-          (c.of_function.ensures.err m.types);
+          (c.of_function.ensures.err m);
     }

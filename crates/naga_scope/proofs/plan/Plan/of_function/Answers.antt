@@ -6,27 +6,27 @@ use Rattle.naga_scope.proofs.Planned.{check_is_the_rules}
 use Rattle.naga_scope.proofs.plan.Plan.of_function.Goals as goal
 
 pub function_holds-requires-clause-start : goal.function_holds-requires-clause-start
-function_holds-requires-clause-start c types = c.in_ok-scope.ensures.start types c.args.info.now
+function_holds-requires-clause-start c m = c.in_ok-scope.ensures.start m c.args.info.now
 
 pub returns-then-not-function_holds-clause-err : goal.returns-then-not-function_holds-clause-err
-returns-then-not-function_holds-clause-err c types rules =
+returns-then-not-function_holds-clause-err c m rules =
     let f = c.args.function.now in
     let es = c.args.info.now in
-    let holds = (check_is_the_rules types f es c.requires.ordered).1 rules in
-    let fails = sym (c.function_holds.ensures.scope (λ key. None) types 0)
+    let holds = (check_is_the_rules m f es c.requires.ordered).1 rules in
+    let fails = sym (c.function_holds.ensures.scope (λ key. None) m 0)
     ∙ c.if-not-function_holds.true in
     true≢false (sym holds ∙ fails)
 
 pub returns-clause-ok : goal.returns-clause-ok
-returns-clause-ok c types =
+returns-clause-ok c m =
     let f = c.args.function.now in
     let es = c.args.info.now in
-    let holds = sym (c.function_holds.ensures.scope (λ key. None) types 0)
+    let holds = sym (c.function_holds.ensures.scope (λ key. None) m 0)
     ∙ c.if-not-function_holds.false in
     let shaped = length-map f.expressions expression_shape in
     record {
-      in_scope = (check_is_the_rules types f es c.requires.ordered).0 holds;
-      starts = c.restart.ensures.start types es;
+      in_scope = (check_is_the_rules m f es c.requires.ordered).0 holds;
+      starts = c.restart.ensures.start m es;
       size = c.restart.ensures.size
           ∙ (c.function_holds.ensures.size ∙ (c.in_ok-scope.ensures.size ∙ sym shaped));
       counted = ap (λ n. nat_le n (2 ^ 64)) shaped ∙ c.in_ok-scope.ensures.counted;

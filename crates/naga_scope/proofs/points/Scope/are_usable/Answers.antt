@@ -5,25 +5,25 @@ use Rattle.naga_scope.specs.Standings.{handles_of}
 use Rattle.naga_scope.proofs.points.Scope.are_usable.Goals as goal
 
 pub returns-then-not-is_usable : goal.returns-then-not-is_usable
-returns-then-not-is_usable c types es =
-    let shape = function_shape types c.args.function.now es in
+returns-then-not-is_usable c m es =
+    let shape = function_shape m c.args.function.now es in
     let s = handles_of c.args.self.now in
-    sym (sym (c.loop-operand.invariant types es)
+    sym (sym (c.loop-operand.invariant m es)
     ∙ ap (usable_all shape s) c.in-Some.ensures.steps
     ∙ ap (λ b. b && usable_all shape s c.next.new.self)
-    (sym (c.is_usable.ensures types es) ∙ c.if-not-is_usable.true))
+    (sym (c.is_usable.ensures m es) ∙ c.if-not-is_usable.true))
 
 pub loop-operand-preserved : goal.loop-operand-preserved
-loop-operand-preserved c types es =
-    let shape = function_shape types c.args.function.now es in
+loop-operand-preserved c m es =
+    let shape = function_shape m c.args.function.now es in
     let s = handles_of c.args.self.now in
     sym (ap (usable_all shape s) c.in-Some.ensures.steps
     ∙ ap (λ b. b && usable_all shape s c.next.new.self)
-    (sym (c.is_usable.ensures types es) ∙ c.if-not-is_usable.false))
-    ∙ c.loop-operand.invariant types es
+    (sym (c.is_usable.ensures m es) ∙ c.if-not-is_usable.false))
+    ∙ c.loop-operand.invariant m es
 
 pub returns : goal.returns
-returns c types es =
-    let shape = function_shape types c.args.function.now es in
+returns c m es =
+    let shape = function_shape m c.args.function.now es in
     let s = handles_of c.args.self.now in
-    sym (ap (usable_all shape s) c.in-None.ensures.steps.0) ∙ c.loop-operand.invariant types es
+    sym (ap (usable_all shape s) c.in-None.ensures.steps.0) ∙ c.loop-operand.invariant m es

@@ -1,6 +1,6 @@
 use Rattle.std.proofs.Common.{◌≡◌, List}
 use Rattle.naga_ir.specs.Operands.{expression_operands}
-use Rattle.naga_ir.specs.declared.types.Type_.{Type_}
+use Rattle.naga_ir.specs.declared.module.Module.{Module}
 use Rattle.naga_info.specs.declared.info.ExpressionInfo.{ExpressionInfo}
 use Rattle.shader_runs.specs.Scope.{usable_all}
 use Rattle.module_meaning.specs.Shapes.{function_shape}
@@ -9,7 +9,7 @@ use Rattle.naga_scope.proofs.points.Scope.are_usable.Given as goal
 
 abbrev pub invariant-loop-operand : goal.invariant-loop-operand
 invariant-loop-operand l =
-    (types : List Type_) (es : List ExpressionInfo) →
-    let shape = function_shape types l.function es in
+    (m : Module) (es : List ExpressionInfo) →
+    let shape = function_shape m l.function es in
     usable_all shape (handles_of l.self) l.operand-iterator ≡
     usable_all shape (handles_of l.self) (expression_operands l.expression)

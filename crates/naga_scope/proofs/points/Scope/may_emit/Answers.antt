@@ -11,10 +11,10 @@ use Rattle.naga_scope.proofs.points.Scope.may_emit.Goals as goal
 use Rattle.naga_scope.proofs.points.Scope.may_emit.Goals.{then-is_new, else-is_new}
 
 pub returns-then-not-binds : goal.returns-then-not-binds
-returns-then-not-binds c types =
+returns-then-not-binds c m =
     let h = c.args.handle in
     let s = handles_of c.args.self.now in
-    let shape = function_shape types c.args.function.now c.args.info.now in
+    let shape = function_shape m c.args.function.now c.args.info.now in
     let found = shape_found (λ e. e.now) c.expression_at-expression.result _ c.expression_at-expression.ensures in
     let u = usable_all shape s (operands_of (shape_at c.args.function.now.expressions h)) in
     let same = ap not c.if-not-binds.true ∙ sym (ap (λ b. not b || u) c.if-not-binds.true) in
@@ -22,15 +22,15 @@ returns-then-not-binds c types =
       | then-is_new w ↦
           let new = sym (c.is_new.ensures (numbered_name h) ∙ ap (λ t. is_new (standing_of (numbered_name h) t)) c.standing.ensures) ∙ w.if-is_new.true in
           let kind = sym (w.is_emittable.ensures ∙ ap is_emittable found) ∙ (sym w.value-is ∙ c.if-is_emittable.true) in
-          same ∙ allowed_by types c.args.function.now c.args.info.now h s c.binds.result u new kind (c.binds.ensures types) refl
+          same ∙ allowed_by m c.args.function.now c.args.info.now h s c.binds.result u new kind (c.binds.ensures m) refl
       | else-is_new w ↦ absurd (true≢false (sym c.if-is_emittable.true ∙ (w.value-is ∙ w.if-is_new.false)))
     ]
 
 pub returns-else-not-binds : goal.returns-else-not-binds
-returns-else-not-binds c types =
+returns-else-not-binds c m =
     let h = c.args.handle in
     let s = handles_of c.args.self.now in
-    let shape = function_shape types c.args.function.now c.args.info.now in
+    let shape = function_shape m c.args.function.now c.args.info.now in
     let found = shape_found (λ e. e.now) c.expression_at-expression.result _ c.expression_at-expression.ensures in
     let u = c.has_operands.result in
     let same = sym (ap (λ b. not b || u) c.if-not-binds.false) in
@@ -38,16 +38,16 @@ returns-else-not-binds c types =
       | then-is_new w ↦
           let new = sym (c.is_new.ensures (numbered_name h) ∙ ap (λ t. is_new (standing_of (numbered_name h) t)) c.standing.ensures) ∙ w.if-is_new.true in
           let kind = sym (w.is_emittable.ensures ∙ ap is_emittable found) ∙ (sym w.value-is ∙ c.if-is_emittable.true) in
-          same ∙ allowed_by types c.args.function.now c.args.info.now h s c.binds.result u new kind (c.binds.ensures types) (c.has_operands.ensures types c.args.info.now ∙ ap (λ e. usable_all shape s (operands_of e)) found)
+          same ∙ allowed_by m c.args.function.now c.args.info.now h s c.binds.result u new kind (c.binds.ensures m) (c.has_operands.ensures m c.args.info.now ∙ ap (λ e. usable_all shape s (operands_of e)) found)
       | else-is_new w ↦ absurd (true≢false (sym c.if-is_emittable.true ∙ (w.value-is ∙ w.if-is_new.false)))
     ]
 
 pub returns-else-is_emittable : goal.returns-else-is_emittable
-returns-else-is_emittable c types =
+returns-else-is_emittable c m =
     let h = c.args.handle in
     let s = handles_of c.args.self.now in
     let found = shape_found (λ e. e.now) c.expression_at-expression.result _ c.expression_at-expression.ensures in
     elim c.if-is_new.branch [
-      | then-is_new w ↦ c.if-is_emittable.false ∙ refused_kind types c.args.function.now c.args.info.now h s (sym (w.is_emittable.ensures ∙ ap is_emittable found) ∙ (sym w.value-is ∙ c.if-is_emittable.false))
-      | else-is_new w ↦ c.if-is_emittable.false ∙ refused_old types c.args.function.now c.args.info.now h s (sym (c.is_new.ensures (numbered_name h) ∙ ap (λ t. is_new (standing_of (numbered_name h) t)) c.standing.ensures) ∙ w.if-is_new.false)
+      | then-is_new w ↦ c.if-is_emittable.false ∙ refused_kind m c.args.function.now c.args.info.now h s (sym (w.is_emittable.ensures ∙ ap is_emittable found) ∙ (sym w.value-is ∙ c.if-is_emittable.false))
+      | else-is_new w ↦ c.if-is_emittable.false ∙ refused_old m c.args.function.now c.args.info.now h s (sym (c.is_new.ensures (numbered_name h) ∙ ap (λ t. is_new (standing_of (numbered_name h) t)) c.standing.ensures) ∙ w.if-is_new.false)
     ]

@@ -1,6 +1,7 @@
-use Rattle.std.proofs.Common.{◌≡◌, ◌<◌, ◌&&◌, ◌∙◌, [], Some, ap, arith, length, slice_get, subst}
+use Rattle.std.proofs.Common.{◌≡◌, ◌<◌, ◌&&◌, ◌∙◌, Some, ap, arith, length, slice_get, subst}
 use Rattle.std.proofs.Common.{sym}
 use Rattle.std.specs.Option.{option_map}
+use Rattle.std.proofs.lemmas.List.{length-set}
 use Rattle.shader_runs.specs.Program.{operands_of}
 use Rattle.shader_runs.specs.Scope.{is_pure, all_constant}
 use Rattle.module_meaning.specs.Shapes.{expression_shape}
@@ -9,12 +10,15 @@ use Rattle.naga_scope.proofs.Constants.{IsStart, is_start_none, is_start_more, s
 use Rattle.naga_scope.proofs.points.Scope.restart.Goals as goal
 
 pub loop-index-init : goal.loop-index-init
-loop-index-init c types es =
-    is_start_none types c.args.function.now es c.self.inside.standings.items
-    (ap length c.self.view_is ∙ c.requires.size)
+loop-index-init c =
+    let size = ap length c.self.view_is ∙ c.requires.size in
+    record {
+      size = size;
+      starts = λ m es. is_start_none m c.args.function.now es c.self.inside.standings.items size;
+    }
 
 pub loop-index-preserved : goal.loop-index-preserved
-loop-index-preserved c types es =
+loop-index-preserved c =
     let i = c.loop-index.index in
     let f = c.args.function.now in
     let here : slice_get f.expressions i ≡ Some c.index-expression.result.now =
@@ -26,18 +30,20 @@ loop-index-preserved c types es =
     let cell = c.first_standing-standing.ensures
     ∙ (λ j. first_standing (is_pure (shape j) && all_constant
     (is_constant_by (c.deref.ensures.value j) f.expressions) (operands_of (shape j)))) in
-    is_start_more types f es c.requires.ordered table i c.first_standing-standing.result within
-    (c.loop-index.invariant types es) cell
+    record {
+      size = length-set table i c.first_standing-standing.result ∙ c.loop-index.invariant.size;
+      starts = λ m es.
+          is_start_more m f es c.requires.ordered table i c.first_standing-standing.result within
+          (c.loop-index.invariant.starts m es) cell;
+    }
 
 pub returns-clause-start : goal.returns-clause-start
-returns-clause-start c types es =
+returns-clause-start c m es =
     let f = c.args.function.now in
     let table = c.loop-index.self-inside.standings.items in
     let all : c.loop-index.index ≡ length f.expressions = omega (arith, c.len-index-end.ensures) in
-    start_handles types f es c.requires.ordered table
-    (subst (IsStart types f es table) all (c.loop-index.invariant types es))
+    start_handles m f es c.requires.ordered table
+    (subst (IsStart m f es table) all (c.loop-index.invariant.starts m es))
 
 pub returns-clause-size : goal.returns-clause-size
-returns-clause-size c =
-    let s = c.loop-index.invariant [] [] in
-    s.size ∙ sym c.requires.size
+returns-clause-size c = c.loop-index.invariant.size ∙ sym c.requires.size

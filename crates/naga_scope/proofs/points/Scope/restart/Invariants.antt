@@ -1,10 +1,15 @@
-use Rattle.std.proofs.Common.{List}
-use Rattle.naga_ir.specs.declared.types.Type_.{Type_}
+use Rattle.std.proofs.Common.{◌≡◌, ℕ, List, length}
+use Rattle.naga_ir.specs.declared.module.Function.{Function}
+use Rattle.naga_ir.specs.declared.module.Module.{Module}
 use Rattle.naga_info.specs.declared.info.ExpressionInfo.{ExpressionInfo}
 use Rattle.naga_scope.proofs.Constants.{IsStart}
+use Rattle.naga_scope.specs.declared.points.Standing.{Standing}
 use Rattle.naga_scope.proofs.points.Scope.restart.Given as goal
 
+-- the table keeps its size, and is that of the start up to the index
+pub record Restarts (function : Function) (table : List Standing) (index : ℕ) : Type 0 where
+  pub size : length table ≡ length function.expressions
+  pub starts : (m : Module) (es : List ExpressionInfo) → IsStart m function es table index
+
 abbrev pub invariant-loop-index : goal.invariant-loop-index
-invariant-loop-index l =
-    (types : List Type_) (es : List ExpressionInfo) → IsStart types l.function es
-    l.self-inside.standings.items l.index
+invariant-loop-index l = Restarts l.function l.self-inside.standings.items l.index

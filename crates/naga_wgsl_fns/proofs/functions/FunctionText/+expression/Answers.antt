@@ -1,12 +1,12 @@
 use Rattle.std.proofs.Common.{ap, arith, ◌<◌, length}
 use Rattle.module_meaning.specs.Applications.{application_of}
-use Rattle.naga_wgsl_fns.proofs.Wanted.{argument_within, literal_has_word, local_within}
+use Rattle.naga_wgsl_fns.proofs.Wanted.{argument_within, literal_is_written, local_within}
 use Rattle.naga_wgsl_fns.proofs.Wanted.{no_other_expression, operands_before, pointer_before}
 use Rattle.naga_wgsl_fns.proofs.functions.FunctionText.+expression.Goals as goal
 
 pub write_own-write_literal-requires : goal.write_own-write_literal-requires
 write_own-write_literal-requires g t c =
-    literal_has_word c.args.self.now c.requires.can c.args.handle c.index.result.now c.in-Literal.literal c.index.ensures c.in-Literal.is
+    literal_is_written c.args.self.now c.requires.can c.args.handle c.index.result.now c.in-Literal.literal c.index.ensures c.in-Literal.is
 
 pub write_own-write_argument_name-requires-clause-argument : goal.write_own-write_argument_name-requires-clause-argument
 write_own-write_argument_name-requires-clause-argument g t c =

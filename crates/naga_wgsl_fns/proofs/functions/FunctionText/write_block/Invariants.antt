@@ -1,5 +1,6 @@
 use Rattle.std.proofs.Common.{◌≡◌, drop, length, IsTrue}
-use Rattle.module_meaning.specs.FitsSoFar.{block_fits}
+use Rattle.module_meaning.specs.Part.{block_is_written}
+use Rattle.module_meaning.specs.Ranges.{block_in_range}
 use Rattle.naga_ir.specs.StatementViews.{block_of}
 use Rattle.naga_words.specs.Output.{output_view}
 use Rattle.naga_words.proofs.Writing.{Leaves}
@@ -11,5 +12,6 @@ invariant-loop-statement g l = record {
   leaves : Leaves (output_view g.W.TextSink.text g.W.TextSink.failures l.initial.out) (output_view g.W.TextSink.text g.W.TextSink.failures l.out) (block_text l.self l.initial.scope l.level.0 l.block)
       (block_text l.self l.scope l.level.0 (block_of (drop l.statement-index l.statement-items)));
   size : length l.scope ≡ length l.initial.scope;
-  fits : IsTrue (block_fits l.self.shader.now.types l.self.info.now l.self.function.now.result (block_of (drop l.statement-index l.statement-items)));
+  in_range : IsTrue (block_in_range l.self.handle (length l.self.function.now.expressions) (block_of (drop l.statement-index l.statement-items)));
+  written : IsTrue (block_is_written (block_of (drop l.statement-index l.statement-items)));
 }

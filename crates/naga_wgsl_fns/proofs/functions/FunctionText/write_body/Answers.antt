@@ -1,6 +1,17 @@
+use Rattle.naga_form.proofs.AcceptedFunctions.{ranges_are}
+use Rattle.naga_form.proofs.PartFits.{function_parts}
 use Rattle.naga_words.proofs.Writing.{writes_as, writes_then}
 use Rattle.naga_wgsl_fns.proofs.FunctionRows.{body_row}
 use Rattle.naga_wgsl_fns.proofs.functions.FunctionText.write_body.Goals as goal
+
+pub write_block-requires-clause-in_range : goal.write_block-requires-clause-in_range
+write_block-requires-clause-in_range g c =
+    let self = c.args.self.now in
+    (ranges_are self.shader.now self.handle self.function.now c.requires.can.ranges).1
+
+pub write_block-requires-clause-written : goal.write_block-requires-clause-written
+write_block-requires-clause-written g c =
+    (function_parts c.args.self.now.function.now c.requires.can.written).body
 
 pub returns : goal.returns
 returns g c =

@@ -1,13 +1,13 @@
 use Rattle.std.proofs.Common.{sym, ◌∙◌}
 use Rattle.naga_words.proofs.Writing.{writes_as, writes_nothing}
-use Rattle.naga_wgsl_fns.proofs.Wanted.{known_within_infos, spelled_at, told_row, untold_row}
+use Rattle.naga_wgsl_fns.proofs.Wanted.{known_within_infos, known_is_written, told_row, untold_row}
 use Rattle.naga_wgsl_fns.proofs.functions.FunctionText.write_told_type.Goals as goal
 
 pub index-requires : goal.index-requires
 index-requires g c = known_within_infos c.args.self.now c.requires.can c.args.handle c.requires.handle
 
-pub write_annotation-requires-clause-spelled : goal.write_annotation-requires-clause-spelled
-write_annotation-requires-clause-spelled g c = spelled_at c.args.self.now c.requires.can c.args.handle c.index.result.now c.index.ensures
+pub write_annotation-requires-clause-written : goal.write_annotation-requires-clause-written
+write_annotation-requires-clause-written g c = known_is_written c.args.self.now c.requires.can c.args.handle c.index.result.now c.index.ensures
 
 pub returns-then-tells_types : goal.returns-then-tells_types
 returns-then-tells_types g c =

@@ -13,12 +13,12 @@ write_resolution_in-requires-clause-order g c =
 pub write_resolution_in-requires-clause-fits : goal.write_resolution_in-requires-clause-fits
 write_resolution_in-requires-clause-fits g c =
     let self = c.args.self.now in
-    resolution_fits self.shader.now.types (names_in self.names.now) c.args.ty.now c.requires.spelled
+    resolution_fits self.shader.now.types (names_in self.names.now) c.args.ty.now c.requires.written
 
 pub returns : goal.returns
 returns g c =
     let self = c.args.self.now in
     let context = names_context self.shader.now.types (names_in self.names.now) in
     known_wrote (resolution_parts context c.args.ty.now) (resolution_text self c.args.ty.now)
-    (resolution_known self c.requires.can.scalars c.args.ty.now c.requires.spelled)
+    (resolution_known self c.requires.can.scalars c.args.ty.now c.requires.written)
     c.write_resolution_in.ensures

@@ -1,0 +1,30 @@
+-- Lists whose items all pass a test.
+use Rattle.std.proofs.Common.{◌≡◌, ℕ, zero, suc, ◌+◌, Bool, true, List, [], ◌∷◌, refl, sym, ap, ◌∙◌}
+use Rattle.std.proofs.Common.{Option, Some, None, slice_get, arith}
+use Rattle.std.specs.List.{list_all, enumerate_from}
+use Rattle.std.specs.Option.{is_some}
+use Rattle.std.proofs.lemmas.Bool.{and_parts}
+
+-- the item at an index passes
+pub list_all_at : {X : Type 0} (test : X → Bool) (xs : List X) (i : ℕ) (x : X) → list_all test xs ≡ true → slice_get xs i ≡ Some x → test x ≡ true
+list_all_at test [] i x all here = absurd cc
+list_all_at test (y ∷ ys) zero x all here =
+    let same : y ≡ x = cc
+    in ap test (sym same) ∙ (and_parts (test y) (list_all test ys) all).0
+list_all_at test (y ∷ ys) (suc i) x all here = list_all_at test ys i x (and_parts (test y) (list_all test ys) all).1 here
+
+-- the item at a handle passes, where each passes with its handle
+pub placed_at : {X : Type 0} (test : ℕ → X → Bool) (n : ℕ) (xs : List X) (h : ℕ) (x : X) → list_all (λ p. test p.0 p.1) (enumerate_from n xs) ≡ true → slice_get xs h ≡ Some x → test (n + h) x ≡ true
+placed_at test n [] h x all here = absurd cc
+placed_at test n (y ∷ xs) zero x all here =
+    let same : x ≡ y = cc
+    in let at : n + 0 ≡ n = omega arith
+    in (λ i. test (at i) (same i)) ∙ (and_parts (test n y) (list_all (λ p. test p.0 p.1) (enumerate_from (n + 1) xs)) all).0
+placed_at test n (y ∷ xs) (suc h) x all here =
+    let at : n + suc h ≡ (n + 1) + h = omega arith
+    in ap (λ k. test k x) at ∙ placed_at test (n + 1) xs h x (and_parts (test n y) (list_all (λ p. test p.0 p.1) (enumerate_from (n + 1) xs)) all).1 here
+
+-- there is an item
+pub some_word : (o : Option (List ℕ)) → is_some o ≡ true → (w : List ℕ) × (o ≡ Some w)
+some_word (Some w) is = (w, refl)
+some_word None is = absurd cc

@@ -1,0 +1,97 @@
+-- Structs, overrides and members are told apart by their names where names are counted, and where
+-- there are none of them.
+use Rattle.std.proofs.Common.{◌≡◌, ℕ, ◌<◌, true, [], length, Some, refl, ap, subst, arith, slice_get}
+use Rattle.std.specs.Prelude.{IsTrue, ◌==◌}
+use Rattle.std.specs.List.{list_all}
+use Rattle.std.proofs.lemmas.Bool.{and_parts, eqb-true}
+use Rattle.naga_info.specs.declared.info.ModuleInfo.{ModuleInfo}
+use Rattle.naga_ir.specs.declared.module.Module.{Module}
+use Rattle.naga_ir.specs.declared.types.StructMember.{StructMember}
+use Rattle.naga_ir.specs.declared.types.Type_.{Type_}
+use Rattle.naga_ir.specs.declared.types.TypeInner.{TypeInner}
+use Rattle.naga_ir.specs.declared.types.TypeInner.TheVariants as inner
+use Rattle.naga_names.specs.Reset.{LabelledItem, labelled_items, members_of}
+use Rattle.naga_names.specs.declared.key.NameKey.{NameKey}
+use Rattle.naga_names.specs.declared.key.NameKey.TheVariants as key
+use Rattle.naga_names.proofs.NamedItems.{Stands, type_stands, override_stands}
+use Rattle.naga_names.proofs.Refusal.{element}
+use Rattle.naga_words.specs.Spelling.{is_struct}
+use Rattle.module_meaning.specs.Names.{ItemsAreCounted, ItemsAreTold, NamesAreCounted}
+use Rattle.module_meaning.specs.Names.{TypesAreTold, module_names, name_in, wgsl_names}
+use Rattle.module_meaning.specs.Part.{is_scalar_type, is_written_scalar, is_written_so_far}
+use Rattle.module_meaning.proofs.Lists.{list_all_at}
+use Rattle.module_meaning.proofs.Part.{written_so_far_parts}
+use Rattle.naga_form.proofs.MemberNames.{member_names_tell}
+use Rattle.naga_form.proofs.Names.{items_tell}
+
+module _ (m : Module) where
+  -- ---- names that are counted
+  one_key : NamesAreCounted m → (a b : LabelledItem) → Stands (labelled_items wgsl_names m) a →
+      Stands (labelled_items wgsl_names m) b →
+      name_in (module_names m) a.0 ≡ name_in (module_names m) b.0 → a.0 ≡ b.0
+  one_key counted a b s t e = ap (λ item. item.0) (items_tell m counted a b s t e)
+
+  one_type : (h k : ℕ) → key.Type_ h ≡ key.Type_ k → h ≡ k
+  one_type h k e = cc
+
+  one_override : (o p : ℕ) → key.Override o ≡ key.Override p → o ≡ p
+  one_override o p e = cc
+
+  no_override : (h o : ℕ) → key.Type_ h ≡ key.Override o → ⊥
+  no_override h o e = cc
+
+  pub types_are_told : NamesAreCounted m → TypesAreTold m
+  types_are_told counted = record {
+    structs = λ h k t u at there is_t is_u e.
+        one_type h k
+        (one_key counted _ _ (type_stands wgsl_names m h t at) (type_stands wgsl_names m k u there) e);
+    overrides = λ o p lo lp e.
+        let a = element m.overrides o lo in let b = element m.overrides p lp in
+        one_override o p
+        (one_key counted _ _ (override_stands wgsl_names m o a.0 a.1)
+        (override_stands wgsl_names m p b.0 b.1) e);
+    apart = λ h o t at is lo e.
+        let b = element m.overrides o lo in
+        no_override h o
+        (one_key counted _ _ (type_stands wgsl_names m h t at)
+        (override_stands wgsl_names m o b.0 b.1) e);
+  }
+
+  pub items_are_told : ItemsAreCounted m → ItemsAreTold m
+  items_are_told counted = record {
+    types = types_are_told counted.names;
+    members = λ h t at i j a b x y e.
+        member_names_tell m counted.names counted.keys h t at i j a b x y e;
+  }
+
+  -- ---- types that are scalars
+  no_struct : (it : TypeInner) → is_written_scalar it ≡ true → is_struct it ≡ true → ⊥
+  no_struct (inner.Scalar s) scalar is = absurd (cc)
+  no_struct _ scalar is = absurd (cc)
+
+  no_member : (it : TypeInner) → is_written_scalar it ≡ true → (i : ℕ) (a : StructMember) →
+      slice_get (members_of it) i ≡ Some a → ⊥
+  no_member (inner.Scalar s) scalar i a at = absurd (cc)
+  no_member _ scalar i a at = absurd (cc)
+
+  -- a module of the part has none of them
+  pub written_are_told : (info : ModuleInfo) → IsTrue (is_written_so_far m info) → ItemsAreTold m
+  written_are_told info written = record {
+    types = record {
+      structs = λ h k t u at there is_t is_u e. absurd (no_struct t.inner (scalar h t at) is_t);
+      overrides = λ o p lo lp e. absurd (none o lo);
+      apart = λ h o t at is lo e. absurd (none o lo);
+    };
+    members = λ h t at i j a b x y e. absurd (no_member t.inner (scalar h t at) i a x);
+  }
+    where
+      scalar : (h : ℕ) (t : Type_) → slice_get m.types h ≡ Some t → is_written_scalar t.inner ≡ true
+      scalar h t at =
+          list_all_at is_scalar_type m.types h t (written_so_far_parts m info written).1 at
+
+      none : (o : ℕ) → o < length m.overrides → ⊥
+      none o lt =
+          let one = and_parts (length m.constants == 0) _ (written_so_far_parts m info written).0 in
+          let two = and_parts (length m.overrides == 0) _ one.1 in
+          let same = eqb-true (length m.overrides) 0 two.0 in
+          omega (arith, lt, same)
