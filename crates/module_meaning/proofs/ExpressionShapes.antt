@@ -246,6 +246,7 @@ same_shape d es h (expression.Load pointer) written plain =
         applied_or (Load pointer) (pointer ∷ []) (if b then Some AtomicLoad else None) ≡ Load pointer
     by true plain = absurd cc
     by false plain = refl
+same_shape d es h (expression.Unary op expr) written plain = refl
 same_shape d es h (expression.Binary op left right) written plain = refl
 same_shape d es h _ written plain = absurd cc
 

@@ -18,7 +18,7 @@ use Rattle.shader_runs.specs.Program.{operands_of}
 use Rattle.shader_runs.specs.Scope.{is_pure, is_constant_leaf}
 use Rattle.module_meaning.specs.ShapeKinds.{shape_kind}
 use Rattle.module_meaning.specs.Part.{expression_is_written}
-use Rattle.module_meaning.specs.Applications.{Application, operator_of, accepted_word}
+use Rattle.module_meaning.specs.Applications.{Application, operator_of, written_word}
 use Rattle.module_meaning.specs.OperatorTable.{Operator as TableOperator}
 use Rattle.module_meaning.specs.Shapes.{operator_shape, application_shape, expression_shape}
 use Rattle.module_meaning.proofs.Shapes.{operator_any, operator_operands}
@@ -34,6 +34,7 @@ applied_kind e is = by e (operator_of e) refl is
   where
     each : (e : ir.Expression) →
         option_map_or (λ op. kind_of e) (operator_of e) kind.Pure ≡ kind.Pure
+    each (expression.Unary op expr) = refl
     each (expression.Binary op left right) = refl
     each _ = refl
 
@@ -57,7 +58,7 @@ written_kind e written = by (operator_of e) refl written
   where
     by : (o : Option TableOperator) → operator_of e ≡ o →
         IsTrue
-        (option_map_or (λ a. is_some (accepted_word a.operator))
+        (option_map_or (λ a. is_some (written_word a.operator))
         (option_map (applied (expression_operands e)) o) false) →
         shape_kind (Some (application_shape (option_map (applied (expression_operands e)) o))) ≡
         kind_of e

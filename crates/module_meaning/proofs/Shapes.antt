@@ -1,11 +1,8 @@
 -- The shapes of what expressions apply: what holds of them all.
 use Rattle.std.proofs.Common.{◌≡◌, ℕ, true, false, List, [], ◌∷◌, Option, Some, None, refl}
 use Rattle.naga_ir.specs.declared.operators.BinaryOperator.TheVariants.{LogicalAnd, LogicalOr}
-use Rattle.std.specs.Prelude.{Bool, if◌then◌else◌, unwrap_or}
-use Rattle.std.proofs.lemmas.Option.{same_Some}
-use Rattle.module_meaning.specs.Applications.{Application, operator_is_accepted, accepted_word}
-use Rattle.module_meaning.specs.OperatorTable.{Operator as TableOperator, BinarySign, operator_word}
-use Rattle.module_meaning.specs.OperatorTable.{own_word, run_word}
+use Rattle.module_meaning.specs.Applications.{Application}
+use Rattle.module_meaning.specs.OperatorTable.{Operator as TableOperator, BinarySign, run_word}
 use Rattle.module_meaning.specs.Shapes.{operator_shape, application_shape}
 use Rattle.shader_runs.specs.Value.{ShortCircuit}
 use Rattle.shader_runs.specs.Program.{Expression, Operator, Logical, Result, Function, operands_of}
@@ -59,21 +56,3 @@ pub application_any : (P : Expression → Type 0) → P Result → (o : Option A
     P (application_shape o)
 application_any P none None some = none
 application_any P none (Some a) some = some a refl
-
--- ---- operators that are accepted so far
--- the word of one is what the runs call it
-pub accepted_is : (op : TableOperator) (w : List ℕ) → accepted_word op ≡ Some w → run_word op ≡ w
-accepted_is op w is = by (operator_is_accepted op) (operator_word op) is
-  where
-    by : (accepted : Bool) (o : Option (List ℕ)) → (if accepted then o else None) ≡ Some w →
-        unwrap_or o (own_word op) ≡ w
-    by true (Some v) e = same_Some v w e
-    by true None e = absurd (cc)
-    by false o e = absurd (cc)
-
--- none of them is a short circuit
-pub accepted_shape : (op : TableOperator) (xs : List ℕ) (w : List ℕ) → accepted_word op ≡ Some w →
-    operator_shape op xs ≡ Operator (run_word op) xs
-accepted_shape (BinarySign LogicalAnd) xs w is = absurd (cc)
-accepted_shape (BinarySign LogicalOr) xs w is = absurd (cc)
-accepted_shape op xs w is = refl

@@ -28,7 +28,7 @@ use Rattle.naga_ir.specs.declared.types.TypeInner.TheVariants as inner
 use Rattle.naga_info.specs.Resolution.{inner_of}
 use Rattle.naga_info.specs.declared.info.ModuleInfo.{ModuleInfo}
 use Rattle.naga_info.specs.declared.info.TypeResolution.{TypeResolution}
-use Rattle.module_meaning.specs.Applications.{application_of, accepted_word}
+use Rattle.module_meaning.specs.Applications.{application_of, written_word}
 
 -- nothing is declared but types and functions
 abbrev pub declares_functions : Module → Bool
@@ -80,15 +80,15 @@ is_written_literal (literal.I64 value) = true
 is_written_literal (literal.U64 value) = true
 is_written_literal _ = false
 
--- a literal of one of the scalar types, an argument, a
--- local, a load, or an operator that is accepted so far
+-- a literal of one of the scalar types, an argument, a local, a load, or an operator that is written
+-- so far
 abbrev pub expression_is_written : Expression → Bool
 expression_is_written (Literal value) = is_written_literal value
 expression_is_written (FunctionArgument number) = true
 expression_is_written (LocalVariable handle) = true
 expression_is_written (Load pointer) = true
 expression_is_written e =
-    option_map_or (λ applied. is_some (accepted_word applied.operator)) (application_of e) false
+    option_map_or (λ applied. is_some (written_word applied.operator)) (application_of e) false
 
 -- a literal, where there is an expression
 abbrev pub is_literal : Option Expression → Bool

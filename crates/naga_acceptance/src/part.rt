@@ -2,7 +2,7 @@
 
 ghost use Rattle.std.specs.Prelude.{◌≡◌, slice_get};
 ghost use Rattle.std.specs.List.{list_all};
-ghost use Rattle.std.specs.Option.{is_none, is_some};
+ghost use Rattle.std.specs.Option.{is_none};
 ghost use Rattle.naga_ir.specs.StatementViews.{tree_of};
 ghost use Rattle.module_meaning.specs.Part.{block_is_written, expression_is_written};
 ghost use Rattle.module_meaning.specs.Part.{function_is_written, is_literal, is_unbound};
@@ -12,20 +12,18 @@ ghost use Rattle.module_meaning.specs.Part.{is_written_literal, is_written_scala
 ghost use Rattle.module_meaning.specs.Part.{known_types_are_written, names_nothing};
 ghost use Rattle.module_meaning.specs.Part.{resolution_is_written, scalar_is_written};
 ghost use Rattle.module_meaning.specs.Part.{statement_is_written, type_is_written};
-ghost use Rattle.module_meaning.specs.Applications.{accepted_word};
-ghost use Rattle.module_meaning.specs.OperatorTable.{BinarySign};
 
 use crate::parts::{inner_at, inner_of};
 use naga_info::{ExpressionInfo, FunctionInfo, ModuleInfo, TypeResolution};
 use naga_ir::{
-    AddressSpace, Arena, BinaryOperator, Block, Expression, Function, FunctionArgument, Handle,
-    Literal, LocalVariable, Module, Scalar, ScalarKind, Statement, Type_, TypeInner, UniqueArena,
+    AddressSpace, Arena, Block, Expression, Function, FunctionArgument, Handle, Literal,
+    LocalVariable, Module, Scalar, ScalarKind, Statement, Type_, TypeInner, UniqueArena,
 };
 
 /// Whether the module holds nothing but what is written so far: the types `bool`, `i32`, `u32`,
 /// `i64` and `u64`, and functions without names of their expressions, whose arguments and result
 /// are bound to nothing, whose locals have a literal as first value or none, whose expressions are
-/// arguments, locals, literals of these types, loads, sums, differences and products, and whose
+/// arguments, locals, literals of these types, loads, operators with a sign, and whose
 /// statements are `Emit`s, `Store`s and `Return`s. And whether nothing else is known of these
 /// expressions' types than such a type, or a pointer to a local of one.
 #[tactic(auto, unfolding(module_meaning::specs::Part::is_written_so_far))]
@@ -198,10 +196,12 @@ fn expression_is_written(expression: &Expression) -> bool
     ensures { result ≡ expression_is_written expression.now }
 {
     match expression {
-        Expression::FunctionArgument(_) | Expression::LocalVariable(_) | Expression::Load { .. } =>
-            true,
+        Expression::FunctionArgument(_)
+        | Expression::LocalVariable(_)
+        | Expression::Load { .. }
+        | Expression::Unary { .. }
+        | Expression::Binary { .. } => true,
         Expression::Literal(literal) => is_written_literal(*literal),
-        Expression::Binary { op, .. } => operator_is_written(*op),
         _ => false,
     }
 }
@@ -212,15 +212,6 @@ fn is_written_literal(literal: Literal) -> bool
     match literal {
         Literal::Bool(_) | Literal::I32(_) | Literal::U32(_) | Literal::I64(_) | Literal::U64(_) =>
             true,
-        _ => false,
-    }
-}
-
-fn operator_is_written(op: BinaryOperator) -> bool
-    ensures { result ≡ is_some (accepted_word (BinarySign op)) }
-{
-    match op {
-        BinaryOperator::Add | BinaryOperator::Subtract | BinaryOperator::Multiply => true,
         _ => false,
     }
 }

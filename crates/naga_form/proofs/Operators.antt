@@ -119,6 +119,7 @@ is_notated None = true
 -- each expression that applies an operator has its operands
 pub notated : (e : ir.Expression) → is_notated (application_of e) ≡ true
 unfolding is_builtin builtin_words
+notated (expression.Unary op expr) = refl
 notated (expression.Binary op left right) = refl
 notated _ = refl
 

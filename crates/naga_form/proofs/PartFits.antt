@@ -11,8 +11,9 @@ use Rattle.naga_ir.specs.StatementTree.{BlockTree, no_statements, statement}
 use Rattle.naga_ir.specs.declared.expression.Expression as ir
 use Rattle.naga_ir.specs.declared.module.Function as ir_function
 use Rattle.naga_info.specs.declared.info.ExpressionInfo.{ExpressionInfo}
-use Rattle.module_meaning.specs.Applications.{application_of, operator_is_accepted, accepted_word}
-use Rattle.module_meaning.specs.OperatorTable.{Operator, BinarySign, operator_word, run_word}
+use Rattle.module_meaning.specs.Applications.{application_of, operator_is_written, written_word}
+use Rattle.module_meaning.specs.OperatorTable.{Operator, BinarySign, UnarySign}
+use Rattle.module_meaning.specs.OperatorTable.{operator_word, run_word}
 use Rattle.module_meaning.proofs.Shapes.{application_any, operator_any}
 use Rattle.module_meaning.specs.Part.{names_nothing}
 use Rattle.naga_names.specs.Reset.{LabelledItem, labelled_items, labels_of}
@@ -41,6 +42,7 @@ use Rattle.module_meaning.specs.Shapes.{function_shape, outer_names, function_na
 use Rattle.module_meaning.specs.Shapes.{statement_shape}
 use Rattle.naga_ir.specs.declared.expression.Expression.TheVariants as expression
 use Rattle.naga_ir.specs.declared.operators.BinaryOperator.TheVariants as operator
+use Rattle.naga_ir.specs.declared.operators.UnaryOperator.TheVariants as unary
 use Rattle.naga_ir.specs.declared.module.Module.{Module}
 use Rattle.naga_keywords.specs.Plain.{is_word}
 use Rattle.naga_names.specs.declared.key.NameKey.TheVariants as key
@@ -76,8 +78,8 @@ function_parts f written =
     record { unnamed = one.0; expressions = three.0; body = four.1 }
 
 -- the word of what is applied
-applied_word : (o : Option Application) → option_map_or (λ a. is_some (accepted_word a.operator)) o false ≡ true → (a : Application) → o ≡ Some a → (w : List ℕ) × (accepted_word a.operator ≡ Some w)
-applied_word o is a at = some_word (accepted_word a.operator) (sym (ap (λ o. option_map_or (λ a. is_some (accepted_word a.operator)) o false) at) ∙ is)
+applied_word : (o : Option Application) → option_map_or (λ a. is_some (written_word a.operator)) o false ≡ true → (a : Application) → o ≡ Some a → (w : List ℕ) × (written_word a.operator ≡ Some w)
+applied_word o is a at = some_word (written_word a.operator) (sym (ap (λ o. option_map_or (λ a. is_some (written_word a.operator)) o false) at) ∙ is)
 
 -- no constant is named
 pub no_constant_named : (f : ir_function.Function) → IsTrue (function_is_written f) → (h c : ℕ) → slice_get f.expressions h ≡ Some (expression.Constant c) → ⊥
@@ -117,12 +119,32 @@ operates_freely (c ∷ rest) =
     (not (nat_eq c 95) &&
     (not (nat_eq c 32) && (not (is_word (c ∷ rest)) || is_builtin (c ∷ rest))))
 
--- as is the word of each operator that is accepted so far
-accepted_freely : (op : Operator) →
-    (if operator_is_accepted op then operates_freely (run_word op) else true) ≡ true
+-- as is the word of each operator that is written so far
+written_freely : (op : Operator) →
+    (if operator_is_written op then operates_freely (run_word op) else true) ≡ true
 unfolding is_request is_builtin builtin_words
-accepted_freely (BinarySign operator.Add) = refl
-accepted_freely _ = refl
+written_freely (UnarySign unary.Negate) = refl
+written_freely (UnarySign unary.LogicalNot) = refl
+written_freely (UnarySign unary.BitwiseNot) = refl
+written_freely (BinarySign operator.Add) = refl
+written_freely (BinarySign operator.Subtract) = refl
+written_freely (BinarySign operator.Multiply) = refl
+written_freely (BinarySign operator.Divide) = refl
+written_freely (BinarySign operator.Modulo) = refl
+written_freely (BinarySign operator.Equal) = refl
+written_freely (BinarySign operator.NotEqual) = refl
+written_freely (BinarySign operator.Less) = refl
+written_freely (BinarySign operator.LessEqual) = refl
+written_freely (BinarySign operator.Greater) = refl
+written_freely (BinarySign operator.GreaterEqual) = refl
+written_freely (BinarySign operator.And) = refl
+written_freely (BinarySign operator.ExclusiveOr) = refl
+written_freely (BinarySign operator.InclusiveOr) = refl
+written_freely (BinarySign operator.LogicalAnd) = refl
+written_freely (BinarySign operator.LogicalOr) = refl
+written_freely (BinarySign operator.ShiftLeft) = refl
+written_freely (BinarySign operator.ShiftRight) = refl
+written_freely _ = refl
 
 none_listed : (i : ℕ) (ts : List ValueType) → ts ≡ [] → i < length ts → ⊥
 none_listed i ts e lt = let none : i < 0 = subst (λ ts. i < length ts) e lt in omega (arith, none)
@@ -177,10 +199,10 @@ module _ (m : Module) (g : ℕ) (f : ir_function.Function) (found : slice_get m.
       no_name (GivenKey k) is e = none_given k is
 
   operates : (op : Operator) (w : List ℕ) →
-      accepted_word op ≡ Some w → OperatesBy p own (run_word op)
+      written_word op ≡ Some w → OperatesBy p own (run_word op)
   operates op w e =
       by (run_word op)
-      (freely (operator_is_accepted op) (operates_freely (run_word op)) e (accepted_freely op))
+      (freely (operator_is_written op) (operates_freely (run_word op)) e (written_freely op))
     where
       freely : (accepted free : Bool) → (if accepted then operator_word op else None) ≡ Some w →
           (if accepted then free else true) ≡ true → free ≡ true

@@ -41,6 +41,7 @@ applied_count : (e : ir.Expression) → is_some (operator_of e) ≡ true → cou
 applied_count e is = by e (operator_of e) refl is
   where
     each : (e : ir.Expression) → option_map_or (λ op. count_to_bind e) (operator_of e) 2 ≡ 2
+    each (expression.Unary op expr) = refl
     each (expression.Binary op left right) = refl
     each _ = refl
 

@@ -46,6 +46,7 @@ pub(crate) fn shape_kind(expression: Option<&Expression>) -> ExpressionKind
             | Expression::FunctionArgument(_)
             | Expression::LocalVariable(_)
             | Expression::Load { .. }
+            | Expression::Unary { .. }
             | Expression::Binary { .. } => expression.kind(),
             _ => ExpressionKind::Result,
         },

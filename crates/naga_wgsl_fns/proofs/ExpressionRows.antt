@@ -6,14 +6,16 @@ use Rattle.std.specs.Prelude.{slice_get}
 use Rattle.naga_ir.specs.declared.expression.Expression as ir
 use Rattle.naga_ir.specs.declared.expression.Expression.TheVariants as expression
 use Rattle.naga_ir.specs.declared.operators.BinaryOperator as ir_operator
+use Rattle.naga_ir.specs.declared.operators.UnaryOperator as ir_unary
 use Rattle.shader_runs.specs.Program.{operands_of}
 use Rattle.shader_runs.specs.Premises.{AllBelow}
 use Rattle.shader_runs.specs.Scope.{Handles, Naming}
-use Rattle.wgsl_words.specs.Words.{operator_text}
-use Rattle.naga_form.proofs.Operators.{operator_row}
+use Rattle.wgsl_words.specs.Words.{operator_text, unary_text}
+use Rattle.naga_form.proofs.Operators.{operator_row, unary_row}
 use Rattle.module_meaning.specs.Names.{numbered_name}
 use Rattle.module_meaning.specs.Applications.{Application, application_of}
-use Rattle.naga_form.specs.Operators.{Infix, applied_form, notation, operator_form}
+use Rattle.naga_form.specs.Operators.{Infix, Prefix, applied_form, notation, operator_form}
+use Rattle.naga_form.specs.Operators.{unary_form}
 use Rattle.module_meaning.specs.Shapes.{application_shape, expression_shape, OperandsStandBefore}
 use Rattle.wgsl_text.specs.Literals.{Truth}
 use Rattle.wgsl_text.specs.Expressions.{Constant, Name, Dereference}
@@ -21,6 +23,7 @@ use Rattle.naga_form.specs.Expressions.{PlainForm, ValueForm, as_value, as_refer
 use Rattle.naga_form.specs.Expressions.{application_plain, own_plain, own_if, standing_plain}
 use Rattle.naga_form.specs.Expressions.{plain_below, plain_form, value_form}
 use Rattle.wgsl_text.proofs.Expressions.{name_text, binary_text as binary_row_text}
+use Rattle.wgsl_text.proofs.Expressions.{unary_text as unary_row_text}
 use Rattle.wgsl_text.proofs.Expressions.{address_text as address_row_text, dereference_text}
 use Rattle.naga_scope.specs.Standings.{handles_of, standing_of}
 use Rattle.naga_scope.specs.declared.points.Standing.{Standing}
@@ -166,6 +169,17 @@ reference_row f table handle can lt =
     by Barred = kind e
     by Everywhere = kind e
     by Inline = kind e
+
+pub prefix_row : (f : FunctionText) (table : List Standing) (op : ir_unary.UnaryOperator)
+    (operand : ℕ)
+    → applied_text f table (Prefix (unary_form op)) (operand ∷ []) ≡
+    joined_texts (unary_text op)
+    (joined_texts (codes "(") (joined_texts (value_text f table operand) (codes ")")))
+unfolding applied_text value_text joined_texts
+prefix_row f table op operand =
+    let form = value_form (naming f) (expressions f) (handles_of table) in
+    unary_row_text (unary_form op) (form operand)
+    ∙ ap (λ w. joined_texts w (joined_texts (codes "(") (joined_texts (expression_layout (form operand)) (codes ")")))) (sym (unary_row op))
 
 pub infix_row : (f : FunctionText) (table : List Standing) (op : ir_operator.BinaryOperator)
     (left right : ℕ)

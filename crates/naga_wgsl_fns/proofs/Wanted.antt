@@ -16,6 +16,7 @@ use Rattle.naga_ir.specs.declared.module.FunctionResult.{FunctionResult}
 use Rattle.naga_ir.specs.declared.module.LocalVariable.{LocalVariable}
 use Rattle.naga_ir.specs.declared.module.Module.{Module}
 use Rattle.naga_ir.specs.declared.operators.BinaryOperator.{BinaryOperator}
+use Rattle.naga_ir.specs.declared.operators.UnaryOperator.{UnaryOperator}
 use Rattle.naga_info.proofs.Options.{map_some}
 use Rattle.naga_info.specs.declared.info.ExpressionInfo.{ExpressionInfo}
 use Rattle.module_meaning.proofs.Lists.{list_all_at}
@@ -136,16 +137,17 @@ module _ (t : FunctionText) (can : CanWrite t) where
       subst (AllBelow h) (ap (λ a. a.operands) own.2) (each_below h (expression_operands e) (operands_below m g f can.ranges h e here))
 
   -- no other expression is written
-  pub no_other_expression : (h : ℕ) (e : Expression) → slice_get f.expressions h ≡ Some e → ((value : ir_literal.Literal) → e ≡ expression.Literal value → ⊥) → ((n : ℕ) → e ≡ expression.FunctionArgument n → ⊥) → ((v : ℕ) → e ≡ expression.LocalVariable v → ⊥) → ((p : ℕ) → e ≡ expression.Load p → ⊥) → ((op : BinaryOperator) (l r : ℕ) → e ≡ expression.Binary op l r → ⊥) → ⊥
-  no_other_expression h e here literal argument local load binary = by e (is_written h e here) literal argument local load binary
+  pub no_other_expression : (h : ℕ) (e : Expression) → slice_get f.expressions h ≡ Some e → ((value : ir_literal.Literal) → e ≡ expression.Literal value → ⊥) → ((n : ℕ) → e ≡ expression.FunctionArgument n → ⊥) → ((v : ℕ) → e ≡ expression.LocalVariable v → ⊥) → ((p : ℕ) → e ≡ expression.Load p → ⊥) → ((op : UnaryOperator) (x : ℕ) → e ≡ expression.Unary op x → ⊥) → ((op : BinaryOperator) (l r : ℕ) → e ≡ expression.Binary op l r → ⊥) → ⊥
+  no_other_expression h e here literal argument local load unary binary = by e (is_written h e here) literal argument local load unary binary
     where
-      by : (e : Expression) → IsTrue (expression_is_written e) → ((value : ir_literal.Literal) → e ≡ expression.Literal value → ⊥) → ((n : ℕ) → e ≡ expression.FunctionArgument n → ⊥) → ((v : ℕ) → e ≡ expression.LocalVariable v → ⊥) → ((p : ℕ) → e ≡ expression.Load p → ⊥) → ((op : BinaryOperator) (l r : ℕ) → e ≡ expression.Binary op l r → ⊥) → ⊥
-      by (expression.Literal v) is literal argument local load binary = literal v refl
-      by (expression.FunctionArgument n) is literal argument local load binary = argument n refl
-      by (expression.LocalVariable v) is literal argument local load binary = local v refl
-      by (expression.Load p) is literal argument local load binary = load p refl
-      by (expression.Binary op l r) is literal argument local load binary = binary op l r refl
-      by _ is literal argument local load binary = absurd cc
+      by : (e : Expression) → IsTrue (expression_is_written e) → ((value : ir_literal.Literal) → e ≡ expression.Literal value → ⊥) → ((n : ℕ) → e ≡ expression.FunctionArgument n → ⊥) → ((v : ℕ) → e ≡ expression.LocalVariable v → ⊥) → ((p : ℕ) → e ≡ expression.Load p → ⊥) → ((op : UnaryOperator) (x : ℕ) → e ≡ expression.Unary op x → ⊥) → ((op : BinaryOperator) (l r : ℕ) → e ≡ expression.Binary op l r → ⊥) → ⊥
+      by (expression.Literal v) is literal argument local load unary binary = literal v refl
+      by (expression.FunctionArgument n) is literal argument local load unary binary = argument n refl
+      by (expression.LocalVariable v) is literal argument local load unary binary = local v refl
+      by (expression.Load p) is literal argument local load unary binary = load p refl
+      by (expression.Unary op x) is literal argument local load unary binary = unary op x refl
+      by (expression.Binary op l r) is literal argument local load unary binary = binary op l r refl
+      by _ is literal argument local load unary binary = absurd cc
 
   -- ---- names of handles
   unnamed : IsTrue (names_nothing f)

@@ -1,17 +1,18 @@
 //! Expressions.
 
-ghost use Rattle.std.specs.Prelude.{[], ◌∷◌, ◌<◌, length};
-ghost use Rattle.naga_form.specs.Operators.{Infix, operator_form};
+ghost use Rattle.std.specs.Prelude.{[], ◌∷◌, ◌<◌, ◌≡◌, length};
+ghost use Rattle.naga_form.specs.Operators.{Infix, Prefix, operator_form, unary_form};
 ghost use Rattle.naga_words.specs.Output.{Writes};
 ghost use Rattle.naga_wgsl_fns.specs.FunctionText.{CanWrite};
 ghost use Rattle.naga_wgsl_fns.specs.Expressions.{address_text, applied_text, own_text};
 ghost use Rattle.naga_wgsl_fns.specs.Expressions.{pointed_text, reference_text, value_text};
+ghost use Rattle.wgsl_words.specs.Words.{unary_text};
 
 use crate::functions::FunctionText;
 use crate::literal::write_literal;
 use crate::names::write_bound_name;
 use naga_back::binary_operation_str;
-use naga_ir::{BinaryOperator, Expression, Handle, LocalVariable};
+use naga_ir::{BinaryOperator, Expression, Handle, LocalVariable, UnaryOperator};
 use naga_scope::{Scope, Standing};
 use naga_words::{Output, TextSink};
 
@@ -54,6 +55,7 @@ impl FunctionText<'_> {
             Expression::FunctionArgument(number) => self.write_argument_name(*number, out),
             Expression::LocalVariable(local) => self.write_address(*local, out),
             Expression::Load { pointer } => self.write_reference(scope, *pointer, out),
+            Expression::Unary { op, expr } => self.write_prefix(scope, *op, *expr, out),
             Expression::Binary { op, left, right } => {
                 self.write_infix(scope, *op, *left, *right, out)
             }
@@ -103,6 +105,27 @@ impl FunctionText<'_> {
         out.put(")");
     }
 
+    /// An operator before its operand.
+    #[cycle(expression)]
+    #[tactic(auto, using(naga_words::proofs::Writing::writes_then, crate::proofs::ExpressionRows::prefix_row))]
+    fn write_prefix<W: TextSink>(
+        &self,
+        scope: &Scope,
+        op: UnaryOperator,
+        operand: Handle<Expression>,
+        out: &mut Output<'_, W>,
+    )
+        requires can { CanWrite self.now }
+        requires operand { operand < length self.now.function.now.expressions }
+        ensures { Writes W.text W.failures out.old out.new
+            (applied_text self.now scope.now (Prefix (unary_form op)) (operand ∷ [])) }
+    {
+        out.put(unary_operation_str(op));
+        out.put("(");
+        self.write_value(scope, operand, out);
+        out.put(")");
+    }
+
     /// An operator between its operands.
     #[cycle(expression)]
     #[tactic(auto, using(naga_words::proofs::Writing::writes_then, crate::proofs::ExpressionRows::infix_row))]
@@ -139,5 +162,16 @@ impl FunctionText<'_> {
         out.put("(&");
         self.write_local_name(local, out);
         out.put(")");
+    }
+}
+
+/// The text of an operator before its operand.
+fn unary_operation_str(op: UnaryOperator) -> &'static str
+    ensures { result.now ≡ unary_text op }
+{
+    match op {
+        UnaryOperator::Negate => "-",
+        UnaryOperator::LogicalNot => "!",
+        UnaryOperator::BitwiseNot => "~",
     }
 }

@@ -10,6 +10,8 @@ use std::io::Write;
 use std::process::Abort;
 use std::test::Fail;
 
+mod operators;
+
 /// The program's status on these words.
 fn status<O: Write, E: Write>(
     alloc: Global,

@@ -22,6 +22,16 @@ write_own-write_reference-requires g t c κs within =
     let bound : c.args.handle < length c.args.self.now.function.now.expressions = c.requires.handle in
     (omega (arith, before, c.decreases), (within, (c.requires.can, omega (arith, before, bound))))
 
+pub write_own-write_prefix-requires : goal.write_own-write_prefix-requires
+write_own-write_prefix-requires g t c κs within =
+    let before =
+    operands_before c.args.self.now c.requires.can c.args.handle c.index.result.now _
+    c.index.ensures (ap application_of c.in-Unary.is) in
+    let bound : c.args.handle < length c.args.self.now.function.now.expressions = c.requires.handle in (
+      omega (arith, before.0, c.decreases),
+      (within, (c.requires.can, omega (arith, before.0, bound))),
+    )
+
 pub write_own-write_infix-requires : goal.write_own-write_infix-requires
 write_own-write_infix-requires g t c κs within =
     let before =
@@ -37,7 +47,7 @@ write_own-write_infix-requires g t c κs within =
 
 pub write_own-unreachable-requires : goal.write_own-unreachable-requires
 write_own-unreachable-requires g t c =
-    no_other_expression c.args.self.now c.requires.can c.args.handle c.index.result.now c.index.ensures c.in_default.not-Literal c.in_default.not-FunctionArgument c.in_default.not-LocalVariable c.in_default.not-Load c.in_default.not-Binary
+    no_other_expression c.args.self.now c.requires.can c.args.handle c.index.result.now c.index.ensures c.in_default.not-Literal c.in_default.not-FunctionArgument c.in_default.not-LocalVariable c.in_default.not-Load c.in_default.not-Unary c.in_default.not-Binary
 
 pub write_reference-write_local_name-requires-clause-local : goal.write_reference-write_local_name-requires-clause-local
 write_reference-write_local_name-requires-clause-local g t c =

@@ -17,3 +17,6 @@ decreases-write_reference g l = 4 * l.handle + 3
 
 abbrev pub decreases-write_infix : goal.decreases-write_infix
 decreases-write_infix g l = 4 * max l.left l.right + 2
+
+abbrev pub decreases-write_prefix : goal.decreases-write_prefix
+decreases-write_prefix g l = 4 * l.operand + 2

@@ -1,0 +1,239 @@
+use bitflags::Flags;
+use naga_wgsl_out::info::accepts;
+use naga_wgsl_out::ir::{BinaryOperator, Expression, Scalar, UnaryOperator};
+use naga_wgsl_out::wgsl::{WriterFlags, write_string};
+use sample_modules::Sample;
+use std::alloc::{AllocError, Global};
+use std::test::Fail;
+
+/// Operators between two arguments of these types, with the type of what they give, and the text
+/// of a function that returns it.
+const BETWEEN: &[(BinaryOperator, Scalar, Scalar, Scalar, &str)] = &[
+    (
+        BinaryOperator::Add,
+        Scalar::I32,
+        Scalar::I32,
+        Scalar::I32,
+        "fn f(x: i32, y: i32) -> i32 {\n    return (x + y);\n}\n\n",
+    ),
+    (
+        BinaryOperator::Subtract,
+        Scalar::I64,
+        Scalar::I64,
+        Scalar::I64,
+        "fn f(x: i64, y: i64) -> i64 {\n    return (x - y);\n}\n\n",
+    ),
+    (
+        BinaryOperator::Multiply,
+        Scalar::U64,
+        Scalar::U64,
+        Scalar::U64,
+        "fn f(x: u64, y: u64) -> u64 {\n    return (x * y);\n}\n\n",
+    ),
+    (
+        BinaryOperator::Divide,
+        Scalar::U32,
+        Scalar::U32,
+        Scalar::U32,
+        "fn f(x: u32, y: u32) -> u32 {\n    return (x / y);\n}\n\n",
+    ),
+    (
+        BinaryOperator::Modulo,
+        Scalar::I32,
+        Scalar::I32,
+        Scalar::I32,
+        "fn f(x: i32, y: i32) -> i32 {\n    return (x % y);\n}\n\n",
+    ),
+    (
+        BinaryOperator::Equal,
+        Scalar::I32,
+        Scalar::I32,
+        Scalar::BOOL,
+        "fn f(x: i32, y: i32) -> bool {\n    return (x == y);\n}\n\n",
+    ),
+    (
+        BinaryOperator::NotEqual,
+        Scalar::BOOL,
+        Scalar::BOOL,
+        Scalar::BOOL,
+        "fn f(x: bool, y: bool) -> bool {\n    return (x != y);\n}\n\n",
+    ),
+    (
+        BinaryOperator::Less,
+        Scalar::I32,
+        Scalar::I32,
+        Scalar::BOOL,
+        "fn f(x: i32, y: i32) -> bool {\n    return (x < y);\n}\n\n",
+    ),
+    (
+        BinaryOperator::LessEqual,
+        Scalar::U32,
+        Scalar::U32,
+        Scalar::BOOL,
+        "fn f(x: u32, y: u32) -> bool {\n    return (x <= y);\n}\n\n",
+    ),
+    (
+        BinaryOperator::Greater,
+        Scalar::I64,
+        Scalar::I64,
+        Scalar::BOOL,
+        "fn f(x: i64, y: i64) -> bool {\n    return (x > y);\n}\n\n",
+    ),
+    (
+        BinaryOperator::GreaterEqual,
+        Scalar::U64,
+        Scalar::U64,
+        Scalar::BOOL,
+        "fn f(x: u64, y: u64) -> bool {\n    return (x >= y);\n}\n\n",
+    ),
+    (
+        BinaryOperator::And,
+        Scalar::I32,
+        Scalar::I32,
+        Scalar::I32,
+        "fn f(x: i32, y: i32) -> i32 {\n    return (x & y);\n}\n\n",
+    ),
+    (
+        BinaryOperator::ExclusiveOr,
+        Scalar::U32,
+        Scalar::U32,
+        Scalar::U32,
+        "fn f(x: u32, y: u32) -> u32 {\n    return (x ^ y);\n}\n\n",
+    ),
+    (
+        BinaryOperator::InclusiveOr,
+        Scalar::BOOL,
+        Scalar::BOOL,
+        Scalar::BOOL,
+        "fn f(x: bool, y: bool) -> bool {\n    return (x | y);\n}\n\n",
+    ),
+    (
+        BinaryOperator::LogicalAnd,
+        Scalar::BOOL,
+        Scalar::BOOL,
+        Scalar::BOOL,
+        "fn f(x: bool, y: bool) -> bool {\n    return (x && y);\n}\n\n",
+    ),
+    (
+        BinaryOperator::LogicalOr,
+        Scalar::BOOL,
+        Scalar::BOOL,
+        Scalar::BOOL,
+        "fn f(x: bool, y: bool) -> bool {\n    return (x || y);\n}\n\n",
+    ),
+    (
+        BinaryOperator::ShiftLeft,
+        Scalar::I32,
+        Scalar::U32,
+        Scalar::I32,
+        "fn f(x: i32, y: u32) -> i32 {\n    return (x << y);\n}\n\n",
+    ),
+    (
+        BinaryOperator::ShiftRight,
+        Scalar::U64,
+        Scalar::U32,
+        Scalar::U64,
+        "fn f(x: u64, y: u32) -> u64 {\n    return (x >> y);\n}\n\n",
+    ),
+];
+
+/// Operators before an argument of this type, with the text of a function that returns what they
+/// give.
+const BEFORE: &[(UnaryOperator, Scalar, &str)] = &[
+    (
+        UnaryOperator::Negate,
+        Scalar::I32,
+        "fn f(x: i32) -> i32 {\n    return -(x);\n}\n\n",
+    ),
+    (
+        UnaryOperator::LogicalNot,
+        Scalar::BOOL,
+        "fn f(x: bool) -> bool {\n    return !(x);\n}\n\n",
+    ),
+    (
+        UnaryOperator::BitwiseNot,
+        Scalar::U64,
+        "fn f(x: u64) -> u64 {\n    return ~(x);\n}\n\n",
+    ),
+];
+
+/// A function of these arguments that returns what the operator gives of them.
+fn build_between(
+    sample: &mut Sample,
+    op: BinaryOperator,
+    left: Scalar,
+    right: Scalar,
+    result: Scalar,
+) -> Result<(), AllocError> {
+    let left_type = sample.scalar(left)?;
+    let right_type = sample.scalar(right)?;
+    let result_type = sample.scalar(result)?;
+    sample.label("f")?;
+    sample.argument("x", left_type)?;
+    sample.argument("y", right_type)?;
+    sample.returns(result_type);
+    let x = sample.expression(Expression::FunctionArgument(0), left_type)?;
+    let y = sample.expression(Expression::FunctionArgument(1), right_type)?;
+    let value = sample.binary(op, x, y, result_type)?;
+    sample.emit(value, value)?;
+    sample.end_with(value)
+}
+
+fn build_before(sample: &mut Sample, op: UnaryOperator, scalar: Scalar) -> Result<(), AllocError> {
+    let ty = sample.scalar(scalar)?;
+    sample.label("f")?;
+    sample.argument("x", ty)?;
+    sample.returns(ty);
+    let x = sample.expression(Expression::FunctionArgument(0), ty)?;
+    let value = sample.expression(Expression::Unary { op, expr: x }, ty)?;
+    sample.emit(value, value)?;
+    sample.end_with(value)
+}
+
+/// Whether the sample is accepted and has this text with either setting of the flags.
+fn is_written(alloc: Global, sample: &Sample, text: &str) -> bool {
+    if !accepts(&sample.module, &sample.info) {
+        return false;
+    }
+    is_text(alloc, sample, WriterFlags::empty(), text)
+        && is_text(alloc, sample, WriterFlags::EXPLICIT_TYPES, text)
+}
+
+fn is_text(alloc: Global, sample: &Sample, flags: WriterFlags, want: &str) -> bool {
+    match write_string(alloc, &sample.module, &sample.info, flags) {
+        Ok(text) => text.as_str() == want,
+        Err(_) => false,
+    }
+}
+
+fn between_gives(
+    alloc: Global,
+    case: &(BinaryOperator, Scalar, Scalar, Scalar, &str),
+) -> Result<bool, AllocError> {
+    let mut sample = Sample::new(alloc);
+    let built = build_between(&mut sample, case.0, case.1, case.2, case.3);
+    let given = is_written(alloc, &sample, case.4);
+    drop(sample);
+    built?;
+    Ok(given)
+}
+
+fn before_gives(alloc: Global, case: &(UnaryOperator, Scalar, &str)) -> Result<bool, AllocError> {
+    let mut sample = Sample::new(alloc);
+    let built = build_before(&mut sample, case.0, case.1);
+    let given = is_written(alloc, &sample, case.2);
+    drop(sample);
+    built?;
+    Ok(given)
+}
+
+#[test]
+fn operators_are_written(rt: HostRuntime) -> Result<(), Fail> {
+    for case in BETWEEN {
+        assert!(rt; between_gives(rt.alloc(), case)?, "{}", case.4);
+    }
+    for case in BEFORE {
+        assert!(rt; before_gives(rt.alloc(), case)?, "{}", case.2);
+    }
+    Ok(())
+}
