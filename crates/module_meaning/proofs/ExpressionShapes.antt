@@ -248,6 +248,7 @@ same_shape d es h (expression.Load pointer) written plain =
     by false plain = refl
 same_shape d es h (expression.Unary op expr) written plain = refl
 same_shape d es h (expression.Binary op left right) written plain = refl
+same_shape d es h (expression.Select condition accept reject) written plain = refl
 same_shape d es h _ written plain = absurd cc
 
 -- a store is no store to an atomic

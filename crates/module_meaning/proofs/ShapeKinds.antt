@@ -36,6 +36,7 @@ applied_kind e is = by e (operator_of e) refl is
         option_map_or (λ op. kind_of e) (operator_of e) kind.Pure ≡ kind.Pure
     each (expression.Unary op expr) = refl
     each (expression.Binary op left right) = refl
+    each (expression.Select condition accept reject) = refl
     each _ = refl
 
     by : (e : ir.Expression) (o : Option TableOperator) → operator_of e ≡ o → is_some o ≡ true →

@@ -23,7 +23,7 @@ use naga_ir::{
 /// Whether the module holds nothing but what is written so far: the types `bool`, `i32`, `u32`,
 /// `i64` and `u64`, and functions without names of their expressions, whose arguments and result
 /// are bound to nothing, whose locals have a literal as first value or none, whose expressions are
-/// arguments, locals, literals of these types, loads, operators with a sign, and whose
+/// arguments, locals, literals of these types, loads, operators with a sign and choices, and whose
 /// statements are `Emit`s, `Store`s and `Return`s. And whether nothing else is known of these
 /// expressions' types than such a type, or a pointer to a local of one.
 #[tactic(auto, unfolding(module_meaning::specs::Part::is_written_so_far))]
@@ -200,7 +200,8 @@ fn expression_is_written(expression: &Expression) -> bool
         | Expression::LocalVariable(_)
         | Expression::Load { .. }
         | Expression::Unary { .. }
-        | Expression::Binary { .. } => true,
+        | Expression::Binary { .. }
+        | Expression::Select { .. } => true,
         Expression::Literal(literal) => is_written_literal(*literal),
         _ => false,
     }

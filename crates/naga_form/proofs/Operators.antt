@@ -121,6 +121,7 @@ pub notated : (e : ir.Expression) → is_notated (application_of e) ≡ true
 unfolding is_builtin builtin_words
 notated (expression.Unary op expr) = refl
 notated (expression.Binary op left right) = refl
+notated (expression.Select condition accept reject) = refl
 notated _ = refl
 
 module _ (operand : ℕ → PlainForm) (all : (h : ℕ) → IsExpression (as_value (operand h))) where

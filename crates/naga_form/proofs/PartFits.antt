@@ -12,7 +12,7 @@ use Rattle.naga_ir.specs.declared.expression.Expression as ir
 use Rattle.naga_ir.specs.declared.module.Function as ir_function
 use Rattle.naga_info.specs.declared.info.ExpressionInfo.{ExpressionInfo}
 use Rattle.module_meaning.specs.Applications.{application_of, operator_is_written, written_word}
-use Rattle.module_meaning.specs.OperatorTable.{Operator, BinarySign, UnarySign}
+use Rattle.module_meaning.specs.OperatorTable.{Operator, BinarySign, UnarySign, Choice}
 use Rattle.module_meaning.specs.OperatorTable.{operator_word, run_word}
 use Rattle.module_meaning.proofs.Shapes.{application_any, operator_any}
 use Rattle.module_meaning.specs.Part.{names_nothing}
@@ -144,6 +144,7 @@ written_freely (BinarySign operator.LogicalAnd) = refl
 written_freely (BinarySign operator.LogicalOr) = refl
 written_freely (BinarySign operator.ShiftLeft) = refl
 written_freely (BinarySign operator.ShiftRight) = refl
+written_freely Choice = refl
 written_freely _ = refl
 
 none_listed : (i : ℕ) (ts : List ValueType) → ts ≡ [] → i < length ts → ⊥

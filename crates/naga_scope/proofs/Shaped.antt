@@ -43,6 +43,7 @@ applied_count e is = by e (operator_of e) refl is
     each : (e : ir.Expression) → option_map_or (λ op. count_to_bind e) (operator_of e) 2 ≡ 2
     each (expression.Unary op expr) = refl
     each (expression.Binary op left right) = refl
+    each (expression.Select condition accept reject) = refl
     each _ = refl
 
     by : (e : ir.Expression) (o : Option TableOperator) → operator_of e ≡ o → is_some o ≡ true →

@@ -47,7 +47,8 @@ pub(crate) fn shape_kind(expression: Option<&Expression>) -> ExpressionKind
             | Expression::LocalVariable(_)
             | Expression::Load { .. }
             | Expression::Unary { .. }
-            | Expression::Binary { .. } => expression.kind(),
+            | Expression::Binary { .. }
+            | Expression::Select { .. } => expression.kind(),
             _ => ExpressionKind::Result,
         },
         None => ExpressionKind::Result,

@@ -1,8 +1,10 @@
 -- The text of an expression by its kind and by where it stands, and from what is written of it in
 -- turn.
-use Rattle.std.proofs.Common.{◌≡◌, ℕ, zero, suc, ◌<◌, false, List, [], ◌∷◌, length, Option, Some}
+use Rattle.std.proofs.Common.{◌≡◌, ℕ, zero, suc, ◌<◌, Bool, true, false, List, [], ◌∷◌, length, Option, Some}
 use Rattle.std.proofs.Common.{None, codes, refl, sym, ap, ◌∙◌, subst, arith, get_or}
-use Rattle.std.specs.Prelude.{slice_get}
+use Rattle.std.specs.Prelude.{slice_get, if◌then◌else◌}
+use Rattle.std.specs.Option.{option_map_or}
+use Rattle.naga_ir.specs.Operands.{expression_operands}
 use Rattle.naga_ir.specs.declared.expression.Expression as ir
 use Rattle.naga_ir.specs.declared.expression.Expression.TheVariants as expression
 use Rattle.naga_ir.specs.declared.operators.BinaryOperator as ir_operator
@@ -14,16 +16,21 @@ use Rattle.wgsl_words.specs.Words.{operator_text, unary_text}
 use Rattle.naga_form.proofs.Operators.{operator_row, unary_row}
 use Rattle.module_meaning.specs.Names.{numbered_name}
 use Rattle.module_meaning.specs.Applications.{Application, application_of}
-use Rattle.naga_form.specs.Operators.{Infix, Prefix, applied_form, notation, operator_form}
+use Rattle.naga_form.specs.Operators.{Called, Infix, Prefix, applied_form, notation}
+use Rattle.naga_form.specs.Operators.{operator_form}
 use Rattle.naga_form.specs.Operators.{unary_form}
 use Rattle.module_meaning.specs.Shapes.{application_shape, expression_shape, OperandsStandBefore}
 use Rattle.wgsl_text.specs.Literals.{Truth}
-use Rattle.wgsl_text.specs.Expressions.{Constant, Name, Dereference}
+use Rattle.wgsl_text.specs.Expressions.{Constant, Name, Dereference, operands as arguments_of}
+use Rattle.wgsl_text.specs.Types.{Named as NamedType}
 use Rattle.naga_form.specs.Expressions.{PlainForm, ValueForm, as_value, as_reference, value_forms}
 use Rattle.naga_form.specs.Expressions.{application_plain, own_plain, own_if, standing_plain}
 use Rattle.naga_form.specs.Expressions.{plain_below, plain_form, value_form}
 use Rattle.wgsl_text.proofs.Expressions.{name_text, binary_text as binary_row_text}
 use Rattle.wgsl_text.proofs.Expressions.{unary_text as unary_row_text}
+use Rattle.wgsl_text.proofs.Expressions.{call_text as call_row_text}
+use Rattle.wgsl_text.proofs.Expressions.{argument_text as argument_row_text}
+use Rattle.wgsl_text.proofs.Expressions.{next_argument_text as next_argument_row_text}
 use Rattle.wgsl_text.proofs.Expressions.{address_text as address_row_text, dereference_text}
 use Rattle.naga_scope.specs.Standings.{handles_of, standing_of}
 use Rattle.naga_scope.specs.declared.points.Standing.{Standing}
@@ -36,9 +43,12 @@ use Rattle.wgsl_text.specs.Reading.{expression_layout}
 use Rattle.naga_wgsl_fns.specs.declared.functions.FunctionText.{FunctionText}
 use Rattle.naga_wgsl_fns.specs.FunctionText.{CanWrite, expressions, naming}
 use Rattle.naga_wgsl_fns.specs.Names.{name_of_argument, name_of_local}
-use Rattle.naga_wgsl_fns.specs.Expressions.{address_text, applied_text, own_form, own_text}
+use Rattle.naga_wgsl_fns.specs.Expressions.{address_text, applied_text, called_text, form_at}
+use Rattle.naga_wgsl_fns.specs.Expressions.{next_operand_text, operands_at, operands_left}
+use Rattle.naga_wgsl_fns.specs.Expressions.{operands_text, own_form, own_text}
 use Rattle.naga_wgsl_fns.specs.Expressions.{pointed_text, reference_text, value_text}
 use Rattle.naga_wgsl_fns.proofs.Wanted.{ordered}
+use Rattle.wgsl_text.proofs.Types.{named_text}
 
 -- ---- a handle's form by its operands' forms, where operands stand before it
 module _ (n : Naming) (es : List ir.Expression) (before : OperandsStandBefore es) (s : Handles) where
@@ -195,6 +205,53 @@ infix_row f table op left right =
     let form = value_form (naming f) (expressions f) (handles_of table) in
     binary_row_text (form left) (operator_form op) (form right)
     ∙ ap (λ w. joined_texts (codes "(") (joined_texts (expression_layout (form left)) (joined_texts (codes " ") (joined_texts w (joined_texts (codes " ") (joined_texts (expression_layout (form right)) (codes ")"))))))) (sym (operator_row op))
+
+-- ---- calls
+pub called_row : (f : FunctionText) (table : List Standing) (word : List ℕ) (handle : ℕ)
+    → called_text f table word handle ≡
+    joined_texts word (joined_texts (codes "(") (operands_text f table handle))
+unfolding called_text applied_text operands_text joined_texts
+called_row f table word handle =
+    call_row_text (NamedType word) (arguments_of (value_forms (form_at f table) (operands_at f handle)))
+    ∙ ap (λ w. joined_texts w (joined_texts (codes "(") (operands_left f table true (operands_at f handle)))) (named_text word)
+
+pub next_operand_row : (f : FunctionText) (table : List Standing) (first : Bool) (operand : ℕ)
+    → next_operand_text f table first operand ≡
+    joined_texts (if first then [] else codes ", ") (value_text f table operand)
+unfolding next_operand_text joined_texts
+next_operand_row f table first operand = refl
+
+-- the next operand, and those behind it
+pub operands_more : (f : FunctionText) (table : List Standing) (first : Bool) (operand : ℕ)
+    (more : List ℕ) →
+    operands_left f table first (operand ∷ more) ≡
+    joined_texts (next_operand_text f table first operand) (operands_left f table false more)
+unfolding next_operand_text value_text joined_texts
+operands_more f table true operand more =
+    argument_row_text (as_value (form_at f table operand)) (arguments_of (value_forms (form_at f table) more))
+operands_more f table false operand more =
+    next_argument_row_text (as_value (form_at f table operand)) (arguments_of (value_forms (form_at f table) more))
+
+pub operands_none : (f : FunctionText) (table : List Standing) (first : Bool) →
+    operands_left f table first [] ≡ codes ")"
+operands_none f table true = refl
+operands_none f table false = refl
+
+pub operands_start : (f : FunctionText) (table : List Standing) (handle : ℕ) →
+    operands_text f table handle ≡ operands_left f table true (operands_at f handle)
+unfolding operands_text
+operands_start f table handle = refl
+
+-- what a choice is made of
+pub own_select : (f : FunctionText) (table : List Standing) (handle : ℕ) (e : ir.Expression)
+    (condition accept reject : ℕ) → slice_get (expressions f) handle ≡ Some e →
+    e ≡ expression.Select condition accept reject →
+    called_text f table (codes "select") handle ≡ own_text f table handle
+unfolding called_text
+own_select f table handle e condition accept reject here is =
+    let there = here ∙ ap Some is in
+    ap (λ o. applied_text f table (Called (NamedType (codes "select"))) (option_map_or expression_operands o [])) there
+    ∙ sym (own_row f table handle ∙ ap (own_at f table) there)
 
 pub address_row : (f : FunctionText) (local : ℕ) → address_text f local ≡ joined_texts (codes "(&") (joined_texts (name_of_local f local) (codes ")"))
 unfolding address_text name_of_local joined_texts

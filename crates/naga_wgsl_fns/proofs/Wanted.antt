@@ -130,24 +130,28 @@ module _ (t : FunctionText) (can : CanWrite t) where
   pub pointer_before : (h : ℕ) (e : Expression) (p : ℕ) → slice_get f.expressions h ≡ Some e → e ≡ expression.Load p → p < h
   pointer_before h e p here is = (subst (λ e. AllBelow h (operands_of (Some (expression_shape e)))) is (ordered h e here)).0
 
+  pub all_before : (h : ℕ) (e : Expression) → slice_get f.expressions h ≡ Some e → AllBelow h (expression_operands e)
+  all_before h e here = each_below h (expression_operands e) (operands_below m g f can.ranges h e here)
+
   pub operands_before : (h : ℕ) (e : Expression) (a : Application) →
       slice_get f.expressions h ≡ Some e → application_of e ≡ Some a → AllBelow h a.operands
   operands_before h e a here is =
       let own = map_some (λ op. record { operator = op; operands = expression_operands e }) (operator_of e) a is in
-      subst (AllBelow h) (ap (λ a. a.operands) own.2) (each_below h (expression_operands e) (operands_below m g f can.ranges h e here))
+      subst (AllBelow h) (ap (λ a. a.operands) own.2) (all_before h e here)
 
   -- no other expression is written
-  pub no_other_expression : (h : ℕ) (e : Expression) → slice_get f.expressions h ≡ Some e → ((value : ir_literal.Literal) → e ≡ expression.Literal value → ⊥) → ((n : ℕ) → e ≡ expression.FunctionArgument n → ⊥) → ((v : ℕ) → e ≡ expression.LocalVariable v → ⊥) → ((p : ℕ) → e ≡ expression.Load p → ⊥) → ((op : UnaryOperator) (x : ℕ) → e ≡ expression.Unary op x → ⊥) → ((op : BinaryOperator) (l r : ℕ) → e ≡ expression.Binary op l r → ⊥) → ⊥
-  no_other_expression h e here literal argument local load unary binary = by e (is_written h e here) literal argument local load unary binary
+  pub no_other_expression : (h : ℕ) (e : Expression) → slice_get f.expressions h ≡ Some e → ((value : ir_literal.Literal) → e ≡ expression.Literal value → ⊥) → ((n : ℕ) → e ≡ expression.FunctionArgument n → ⊥) → ((v : ℕ) → e ≡ expression.LocalVariable v → ⊥) → ((p : ℕ) → e ≡ expression.Load p → ⊥) → ((op : UnaryOperator) (x : ℕ) → e ≡ expression.Unary op x → ⊥) → ((op : BinaryOperator) (l r : ℕ) → e ≡ expression.Binary op l r → ⊥) → ((c a r : ℕ) → e ≡ expression.Select c a r → ⊥) → ⊥
+  no_other_expression h e here literal argument local load unary binary select = by e (is_written h e here) literal argument local load unary binary select
     where
-      by : (e : Expression) → IsTrue (expression_is_written e) → ((value : ir_literal.Literal) → e ≡ expression.Literal value → ⊥) → ((n : ℕ) → e ≡ expression.FunctionArgument n → ⊥) → ((v : ℕ) → e ≡ expression.LocalVariable v → ⊥) → ((p : ℕ) → e ≡ expression.Load p → ⊥) → ((op : UnaryOperator) (x : ℕ) → e ≡ expression.Unary op x → ⊥) → ((op : BinaryOperator) (l r : ℕ) → e ≡ expression.Binary op l r → ⊥) → ⊥
-      by (expression.Literal v) is literal argument local load unary binary = literal v refl
-      by (expression.FunctionArgument n) is literal argument local load unary binary = argument n refl
-      by (expression.LocalVariable v) is literal argument local load unary binary = local v refl
-      by (expression.Load p) is literal argument local load unary binary = load p refl
-      by (expression.Unary op x) is literal argument local load unary binary = unary op x refl
-      by (expression.Binary op l r) is literal argument local load unary binary = binary op l r refl
-      by _ is literal argument local load unary binary = absurd cc
+      by : (e : Expression) → IsTrue (expression_is_written e) → ((value : ir_literal.Literal) → e ≡ expression.Literal value → ⊥) → ((n : ℕ) → e ≡ expression.FunctionArgument n → ⊥) → ((v : ℕ) → e ≡ expression.LocalVariable v → ⊥) → ((p : ℕ) → e ≡ expression.Load p → ⊥) → ((op : UnaryOperator) (x : ℕ) → e ≡ expression.Unary op x → ⊥) → ((op : BinaryOperator) (l r : ℕ) → e ≡ expression.Binary op l r → ⊥) → ((c a r : ℕ) → e ≡ expression.Select c a r → ⊥) → ⊥
+      by (expression.Literal v) is literal argument local load unary binary select = literal v refl
+      by (expression.FunctionArgument n) is literal argument local load unary binary select = argument n refl
+      by (expression.LocalVariable v) is literal argument local load unary binary select = local v refl
+      by (expression.Load p) is literal argument local load unary binary select = load p refl
+      by (expression.Unary op x) is literal argument local load unary binary select = unary op x refl
+      by (expression.Binary op l r) is literal argument local load unary binary select = binary op l r refl
+      by (expression.Select c a r) is literal argument local load unary binary select = select c a r refl
+      by _ is literal argument local load unary binary select = absurd cc
 
   -- ---- names of handles
   unnamed : IsTrue (names_nothing f)

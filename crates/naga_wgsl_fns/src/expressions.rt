@@ -4,7 +4,8 @@ ghost use Rattle.std.specs.Prelude.{[], ◌∷◌, ◌<◌, ◌≡◌, length};
 ghost use Rattle.naga_form.specs.Operators.{Infix, Prefix, operator_form, unary_form};
 ghost use Rattle.naga_words.specs.Output.{Writes};
 ghost use Rattle.naga_wgsl_fns.specs.FunctionText.{CanWrite};
-ghost use Rattle.naga_wgsl_fns.specs.Expressions.{address_text, applied_text, own_text};
+ghost use Rattle.naga_wgsl_fns.specs.Expressions.{address_text, applied_text, called_text};
+ghost use Rattle.naga_wgsl_fns.specs.Expressions.{next_operand_text, operands_text, own_text};
 ghost use Rattle.naga_wgsl_fns.specs.Expressions.{pointed_text, reference_text, value_text};
 ghost use Rattle.wgsl_words.specs.Words.{unary_text};
 
@@ -59,6 +60,7 @@ impl FunctionText<'_> {
             Expression::Binary { op, left, right } => {
                 self.write_infix(scope, *op, *left, *right, out)
             }
+            Expression::Select { .. } => self.write_called(scope, handle, "select", out),
             _ => unreachable!(),
         }
     }
@@ -150,6 +152,66 @@ impl FunctionText<'_> {
         out.put(" ");
         self.write_value(scope, right, out);
         out.put(")");
+    }
+
+    /// A word that is called with the operands of the expression with this handle.
+    #[cycle(expression)]
+    #[tactic(auto, using(naga_words::proofs::Writing::writes_then, crate::proofs::ExpressionRows::called_row))]
+    fn write_called<W: TextSink>(
+        &self,
+        scope: &Scope,
+        handle: Handle<Expression>,
+        word: &str,
+        out: &mut Output<'_, W>,
+    )
+        requires can { CanWrite self.now }
+        requires handle { handle < length self.now.function.now.expressions }
+        ensures { Writes W.text W.failures out.old out.new
+            (called_text self.now scope.now word.now handle) }
+    {
+        out.put(word);
+        out.put("(");
+        self.write_operands(scope, handle, out);
+    }
+
+    /// The operands of the expression with this handle, up to the `)` behind them.
+    #[cycle(expression)]
+    fn write_operands<W: TextSink>(
+        &self,
+        scope: &Scope,
+        handle: Handle<Expression>,
+        out: &mut Output<'_, W>,
+    )
+        requires can { CanWrite self.now }
+        requires handle { handle < length self.now.function.now.expressions }
+        ensures { Writes W.text W.failures out.old out.new
+            (operands_text self.now scope.now handle) }
+    {
+        let mut is_first = true;
+        for operand in self.function.expressions[handle].operands() {
+            self.write_next_operand(scope, is_first, operand, out);
+            is_first = false;
+        }
+        out.put(")");
+    }
+
+    /// An operand, and what stands between it and the one before.
+    #[cycle(expression)]
+    #[tactic(auto, using(naga_words::proofs::Writing::writes_then, crate::proofs::ExpressionRows::next_operand_row))]
+    fn write_next_operand<W: TextSink>(
+        &self,
+        scope: &Scope,
+        is_first: bool,
+        operand: Handle<Expression>,
+        out: &mut Output<'_, W>,
+    )
+        requires can { CanWrite self.now }
+        requires operand { operand < length self.now.function.now.expressions }
+        ensures { Writes W.text W.failures out.old out.new
+            (next_operand_text self.now scope.now is_first operand) }
+    {
+        out.put(if is_first { "" } else { ", " });
+        self.write_value(scope, operand, out);
     }
 
     /// A pointer to a local.

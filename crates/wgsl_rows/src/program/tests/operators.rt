@@ -157,6 +157,19 @@ const BEFORE: &[(UnaryOperator, Scalar, &str)] = &[
     ),
 ];
 
+/// Of two values of this type the second where a condition holds: the text of a function that
+/// returns it, in which the condition stands last.
+const CHOICES: &[(Scalar, &str)] = &[
+    (
+        Scalar::I32,
+        "fn f(x: i32, y: i32, b: bool) -> i32 {\n    return select(x, y, b);\n}\n\n",
+    ),
+    (
+        Scalar::BOOL,
+        "fn f(x: bool, y: bool, b: bool) -> bool {\n    return select(x, y, b);\n}\n\n",
+    ),
+];
+
 /// A function of these arguments that returns what the operator gives of them.
 fn build_between(
     sample: &mut Sample,
@@ -186,6 +199,29 @@ fn build_before(sample: &mut Sample, op: UnaryOperator, scalar: Scalar) -> Resul
     sample.returns(ty);
     let x = sample.expression(Expression::FunctionArgument(0), ty)?;
     let value = sample.expression(Expression::Unary { op, expr: x }, ty)?;
+    sample.emit(value, value)?;
+    sample.end_with(value)
+}
+
+fn build_choice(sample: &mut Sample, scalar: Scalar) -> Result<(), AllocError> {
+    let ty = sample.scalar(scalar)?;
+    let bool_type = sample.scalar(Scalar::BOOL)?;
+    sample.label("f")?;
+    sample.argument("x", ty)?;
+    sample.argument("y", ty)?;
+    sample.argument("b", bool_type)?;
+    sample.returns(ty);
+    let reject = sample.expression(Expression::FunctionArgument(0), ty)?;
+    let accept = sample.expression(Expression::FunctionArgument(1), ty)?;
+    let condition = sample.expression(Expression::FunctionArgument(2), bool_type)?;
+    let value = sample.expression(
+        Expression::Select {
+            condition,
+            accept,
+            reject,
+        },
+        ty,
+    )?;
     sample.emit(value, value)?;
     sample.end_with(value)
 }
@@ -225,6 +261,23 @@ fn before_gives(alloc: Global, case: &(UnaryOperator, Scalar, &str)) -> Result<b
     drop(sample);
     built?;
     Ok(given)
+}
+
+fn choice_gives(alloc: Global, case: &(Scalar, &str)) -> Result<bool, AllocError> {
+    let mut sample = Sample::new(alloc);
+    let built = build_choice(&mut sample, case.0);
+    let given = is_written(alloc, &sample, case.1);
+    drop(sample);
+    built?;
+    Ok(given)
+}
+
+#[test]
+fn choices_are_written(rt: HostRuntime) -> Result<(), Fail> {
+    for case in CHOICES {
+        assert!(rt; choice_gives(rt.alloc(), case)?, "{}", case.1);
+    }
+    Ok(())
 }
 
 #[test]

@@ -1,6 +1,14 @@
-use Rattle.std.proofs.Common.{ap, arith, ◌<◌, length}
+use Rattle.std.proofs.Common.{[], ap, arith, ◌<◌, ◌∙◌, length, subst, sym, true}
+use Rattle.std.specs.Option.{option_map_or}
+use Rattle.naga_ir.specs.Operands.{expression_operands}
+use Rattle.shader_runs.specs.Premises.{AllBelow}
 use Rattle.module_meaning.specs.Applications.{application_of}
-use Rattle.naga_wgsl_fns.proofs.Wanted.{argument_within, literal_is_written, local_within}
+use Rattle.naga_words.proofs.Writing.{leaves_as, leaves_last, leaves_more, leaves_start}
+use Rattle.naga_words.proofs.Writing.{writes_as}
+use Rattle.naga_wgsl_fns.specs.Expressions.{operands_left, operands_text}
+use Rattle.naga_wgsl_fns.proofs.ExpressionRows.{operands_more, operands_none, operands_start}
+use Rattle.naga_wgsl_fns.proofs.ExpressionRows.{own_select}
+use Rattle.naga_wgsl_fns.proofs.Wanted.{all_before, argument_within, literal_is_written, local_within}
 use Rattle.naga_wgsl_fns.proofs.Wanted.{no_other_expression, operands_before, pointer_before}
 use Rattle.naga_wgsl_fns.proofs.functions.FunctionText.+expression.Goals as goal
 
@@ -47,8 +55,61 @@ write_own-write_infix-requires g t c κs within =
 
 pub write_own-unreachable-requires : goal.write_own-unreachable-requires
 write_own-unreachable-requires g t c =
-    no_other_expression c.args.self.now c.requires.can c.args.handle c.index.result.now c.index.ensures c.in_default.not-Literal c.in_default.not-FunctionArgument c.in_default.not-LocalVariable c.in_default.not-Load c.in_default.not-Unary c.in_default.not-Binary
+    no_other_expression c.args.self.now c.requires.can c.args.handle c.index.result.now c.index.ensures c.in_default.not-Literal c.in_default.not-FunctionArgument c.in_default.not-LocalVariable c.in_default.not-Load c.in_default.not-Unary c.in_default.not-Binary c.in_default.not-Select
 
 pub write_reference-write_local_name-requires-clause-local : goal.write_reference-write_local_name-requires-clause-local
 write_reference-write_local_name-requires-clause-local g t c =
     local_within c.args.self.now c.requires.can c.args.handle c.index.result.now c.in-LocalVariable.local c.index.ensures c.in-LocalVariable.is
+
+pub write_own-returns-in-Select : goal.write_own-returns-in-Select
+write_own-returns-in-Select g t c =
+    writes_as
+    (own_select c.args.self.now c.args.scope.now c.args.handle c.index.result.now _ _ _
+    c.index.ensures c.in-Select.is)
+    c.write_called.ensures
+
+pub write_operands-loop-operand-init : goal.write_operands-loop-operand-init
+write_operands-loop-operand-init g t c =
+    let self = c.args.self.now in
+    let scope = c.args.scope.now in
+    let h = c.args.handle in
+    let items = c.into_iter-operand-iterator.ensures.into_iter_gives ∙ c.operands-operand-items.ensures in
+    let there = ap (λ o. option_map_or expression_operands o []) c.index.ensures in
+    record {
+      writes = leaves_as
+          (operands_start self scope h ∙ ap (operands_left self scope true) (there ∙ sym items))
+          (leaves_start _ (operands_text self scope h));
+      before = subst (AllBelow h) (sym items)
+          (all_before self c.requires.can h c.index.result.now c.index.ensures);
+    }
+
+pub write_operands-write_next_operand-requires : goal.write_operands-write_next_operand-requires
+write_operands-write_next_operand-requires g t c κs within =
+    let first = (subst (AllBelow c.args.handle) c.in-Some.ensures.steps c.loop-operand.invariant.before).0 in
+    let bound : c.args.handle < length c.args.self.now.function.now.expressions = c.requires.handle in
+    (omega (arith, first, c.decreases), (within, (c.requires.can, omega (arith, first, bound))))
+
+pub write_operands-loop-operand-preserved : goal.write_operands-loop-operand-preserved
+write_operands-loop-operand-preserved g t c =
+    let self = c.args.self.now in
+    let scope = c.args.scope.now in
+    let steps = c.in-Some.ensures.steps in
+    let first = c.loop-operand.is_first in
+    record {
+      writes = leaves_more _ _ _ _ _ _ _ c.loop-operand.invariant.writes
+          (ap (operands_left self scope first) steps
+          ∙ operands_more self scope first c.in-Some.operand c.next.new.self)
+          c.write_next_operand.ensures;
+      before = (subst (AllBelow c.args.handle) steps c.loop-operand.invariant.before).1;
+    }
+
+pub write_operands-returns : goal.write_operands-returns
+write_operands-returns g t c =
+    let self = c.args.self.now in
+    let scope = c.args.scope.now in
+    let first = c.loop-operand.is_first in
+    leaves_last _ _ _ _ _ c.loop-operand.invariant.writes
+    (writes_as
+    (sym (ap (operands_left self scope first) c.in-None.ensures.steps.0
+    ∙ operands_none self scope first))
+    c.put.ensures)

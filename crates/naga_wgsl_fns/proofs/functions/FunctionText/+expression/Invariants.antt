@@ -1,22 +1,49 @@
-use Rattle.std.proofs.Common.{◌+◌, ◌*◌, max}
+use Rattle.std.proofs.Common.{◌+◌, ◌*◌, ℕ, Bool, List, max}
+use Rattle.naga_words.specs.Output.{OutputView, output_view}
+use Rattle.naga_words.proofs.Writing.{Leaves}
+use Rattle.shader_runs.specs.Premises.{AllBelow}
+use Rattle.naga_scope.specs.declared.points.Standing.{Standing}
+use Rattle.naga_wgsl_fns.specs.Expressions.{operands_left, operands_text}
+use Rattle.naga_wgsl_fns.specs.declared.functions.FunctionText.{FunctionText}
 use Rattle.naga_wgsl_fns.proofs.functions.FunctionText.+expression.Given as goal
 
--- an expression's own form is made of the forms of those before it; its value may be its own form,
--- what it points at is its value, and a reference may be that
+-- An expression's own form is made of the forms of those before it, its operands; its value may be
+-- its own form, what it points at is its value, and a reference may be that.
+abbrev pub decreases-write_operands : goal.decreases-write_operands
+decreases-write_operands g l = 8 * l.handle
+
+abbrev pub decreases-write_called : goal.decreases-write_called
+decreases-write_called g l = 8 * l.handle + 1
+
 abbrev pub decreases-write_own : goal.decreases-write_own
-decreases-write_own g l = 4 * l.handle
+decreases-write_own g l = 8 * l.handle + 2
 
 abbrev pub decreases-write_value : goal.decreases-write_value
-decreases-write_value g l = 4 * l.handle + 1
+decreases-write_value g l = 8 * l.handle + 3
 
 abbrev pub decreases-write_dereference : goal.decreases-write_dereference
-decreases-write_dereference g l = 4 * l.handle + 2
+decreases-write_dereference g l = 8 * l.handle + 4
 
 abbrev pub decreases-write_reference : goal.decreases-write_reference
-decreases-write_reference g l = 4 * l.handle + 3
+decreases-write_reference g l = 8 * l.handle + 5
 
 abbrev pub decreases-write_infix : goal.decreases-write_infix
-decreases-write_infix g l = 4 * max l.left l.right + 2
+decreases-write_infix g l = 8 * max l.left l.right + 4
 
 abbrev pub decreases-write_prefix : goal.decreases-write_prefix
-decreases-write_prefix g l = 4 * l.operand + 2
+decreases-write_prefix g l = 8 * l.operand + 4
+
+abbrev pub decreases-write_next_operand : goal.decreases-write_next_operand
+decreases-write_next_operand g l = 8 * l.operand + 4
+
+-- what is left to be written of the operands, which stand before the expression
+pub record OperandsLeft (start now : OutputView) (f : FunctionText) (table : List Standing)
+    (handle : ℕ) (first : Bool) (left : List ℕ) : Type 0 where
+  pub writes : Leaves start now (operands_text f table handle) (operands_left f table first left)
+  pub before : AllBelow handle left
+
+abbrev pub invariant-write_operands-loop-operand : goal.invariant-write_operands-loop-operand
+invariant-write_operands-loop-operand g l =
+    OperandsLeft (output_view g.W.TextSink.text g.W.TextSink.failures l.initial.out)
+    (output_view g.W.TextSink.text g.W.TextSink.failures l.out) l.self l.scope l.fn.handle l.is_first
+    l.operand-iterator
