@@ -176,18 +176,18 @@ fn build_between(
     op: BinaryOperator,
     left: Scalar,
     right: Scalar,
-    result: Scalar,
+    given: Scalar,
 ) -> Result<(), AllocError> {
     let left_type = sample.scalar(left)?;
     let right_type = sample.scalar(right)?;
-    let result_type = sample.scalar(result)?;
+    let given_type = sample.scalar(given)?;
     sample.label("f")?;
     sample.argument("x", left_type)?;
     sample.argument("y", right_type)?;
-    sample.returns(result_type);
+    sample.returns(given_type);
     let x = sample.expression(Expression::FunctionArgument(0), left_type)?;
     let y = sample.expression(Expression::FunctionArgument(1), right_type)?;
-    let value = sample.binary(op, x, y, result_type)?;
+    let value = sample.binary(op, x, y, given_type)?;
     sample.emit(value, value)?;
     sample.end_with(value)
 }
