@@ -228,14 +228,14 @@ fn build_choice(sample: &mut Sample, scalar: Scalar) -> Result<(), AllocError> {
 
 /// Whether the sample is accepted and has this text with either setting of the flags.
 fn is_written(alloc: Global, sample: &Sample, text: &str) -> bool {
-    if !accepts(&sample.module, &sample.info) {
-        return false;
-    }
     is_text(alloc, sample, WriterFlags::empty(), text)
         && is_text(alloc, sample, WriterFlags::EXPLICIT_TYPES, text)
 }
 
 fn is_text(alloc: Global, sample: &Sample, flags: WriterFlags, want: &str) -> bool {
+    if !accepts(&sample.module, &sample.info) {
+        return false;
+    }
     match write_string(alloc, &sample.module, &sample.info, flags) {
         Ok(text) => text.as_str() == want,
         Err(_) => false,
